@@ -1,0 +1,10 @@
+pub mod Network
+pub mod Ranges
+pub mod Refusal
+pub mod Layout
+pub mod Spread
+pub mod Accept
+pub mod Reading
+pub mod FileView
+pub mod ReadNet
+pub mod Laws

@@ -1,0 +1,99 @@
+-- A network, its walks and distances, and the numbers that follow from its size.
+use Rattle.std.specs.Prelude.{◌≡◌, ◌≢◌, ℕ, ◌+◌, ◌-◌, ◌*◌, ◌<◌, ◌≤◌, Bool, ◌&&◌, ◌||◌, ◌==◌, IsTrue, List, [], ◌∷◌, length, filter, All, false}
+use Rattle.std.specs.List.{list_any, range_with_len}
+
+abbrev pub Edge : Type 0
+Edge = ℕ × ℕ
+
+-- a network as its owner sees it
+pub record Network : Type 0 where
+  pub nodes : ℕ
+  pub root : ℕ
+  pub capacity : ℕ
+  pub lease : ℕ
+  pub edges : List Edge
+
+-- the edge joins the two nodes, either way round
+abbrev pub is_between : ℕ → ℕ → Edge → Bool
+is_between v w e = (e.0 == v && e.1 == w) || (e.0 == w && e.1 == v)
+
+-- an edge joins the two nodes
+abbrev pub are_joined : List Edge → ℕ → ℕ → Bool
+are_joined edges v w = list_any (is_between v w) edges
+
+-- the neighbours of a node among n nodes, ascending
+abbrev pub neighbours_in : ℕ → List Edge → ℕ → List ℕ
+neighbours_in n edges v = filter (are_joined edges v) (range_with_len 0 n)
+
+abbrev pub neighbours_of : Network → ℕ → List ℕ
+neighbours_of net v = neighbours_in net.nodes net.edges v
+
+-- ws are the nodes of a walk from u to v, after u
+abbrev pub IsWalk : List Edge → ℕ → List ℕ → ℕ → Type 0
+IsWalk edges u [] v = u ≡ v
+IsWalk edges u (w ∷ ws) v = IsTrue (are_joined edges u w) × IsWalk edges w ws v
+
+-- the least length of a walk from the root
+pub record IsDistance (net : Network) (v distance : ℕ) : Type 0 where
+  pub walk : (ws : List ℕ) × IsWalk net.edges net.root ws v × (length ws ≡ distance)
+  pub least : (ws : List ℕ) → IsWalk net.edges net.root ws v → distance ≤ length ws
+
+-- p is a neighbour of v, and one nearer to the root
+pub record IsNearer (net : Network) (v p : ℕ) : Type 0 where
+  pub joined : IsTrue (are_joined net.edges v p)
+  pub distance : ℕ
+  pub of_nearer : IsDistance net p distance
+  pub of_node : IsDistance net v (distance + 1)
+
+-- the true parent is the neighbour of smallest id that is one nearer
+pub record IsTrueParent (net : Network) (v p : ℕ) : Type 0 where
+  pub nearer : IsNearer net v p
+  pub smallest : (q : ℕ) → IsNearer net v q → p ≤ q
+
+-- the edge has two ends, both below n
+pub record IsEdgeBelow (n : ℕ) (e : Edge) : Type 0 where
+  pub first : e.0 < n
+  pub second : e.1 < n
+  pub no_loop : e.0 ≢ e.1
+
+-- the edge is the other one, or the other one the other way round
+abbrev pub is_same_edge : Edge → Edge → Bool
+is_same_edge e f = is_between e.0 e.1 f
+
+-- no edge stands twice, either way round
+abbrev pub has_double_edge : List Edge → Bool
+has_double_edge [] = false
+has_double_edge (e ∷ es) = list_any (is_same_edge e) es || has_double_edge es
+
+-- each node has a walk from the root
+abbrev pub IsConnected : Network → Type 0
+IsConnected net = (v : ℕ) → v < net.nodes → (ws : List ℕ) × IsWalk net.edges net.root ws v
+
+-- the numbers and the edges are within the limits
+pub record IsWithinLimits (net : Network) : Type 0 where
+  pub two : 2 ≤ net.nodes
+  pub most : net.nodes ≤ 64
+  pub few_edges : length net.edges ≤ 256
+  pub root_in : net.root < net.nodes
+  pub some_capacity : 1 ≤ net.capacity
+  pub most_capacity : net.capacity ≤ 4096
+  pub most_lease : net.lease ≤ 65535
+  pub edges_in : All (IsEdgeBelow net.nodes) net.edges
+  pub no_double : has_double_edge net.edges ≡ false
+
+-- a network that can be served
+pub record IsAcceptedNetwork (net : Network) : Type 0 where
+  pub limits : IsWithinLimits net
+  pub connected : IsConnected net
+
+-- the modulus of a link's counters
+abbrev pub counter_of : Network → ℕ
+counter_of net = 2 * net.capacity + 3
+
+-- the modulus of the ring values
+abbrev pub ring_of : Network → ℕ
+ring_of net = 6 * (net.nodes - 1) + 1
+
+-- the sweeps after which the system is legitimate
+abbrev pub bound_of : Network → ℕ
+bound_of net = 4 * (net.capacity + 1) + 4 * (net.nodes + 1) + 48 * (net.nodes - 1) * (net.nodes - 1) + 1
