@@ -1,3 +1,4 @@
+pub mod At
 pub mod Network
 pub mod Ranges
 pub mod Refusal
