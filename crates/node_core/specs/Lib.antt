@@ -1,0 +1,4 @@
+pub mod Site
+pub mod State
+pub mod Machines
+pub mod Step

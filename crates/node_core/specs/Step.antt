@@ -1,0 +1,42 @@
+-- What a node does: it takes an item from a neighbour, it ticks, and its clients ask and leave.
+use Rattle.std.specs.Prelude.{◌≡◌, ℕ, Bool, ◌==◌, ◌&&◌, List, None, is_none, if◌then◌else◌}
+use Rattle.std.specs.List.{list_any}
+use Rattle.topology.specs.At.{at}
+use Rattle.link_model.specs.declared.item.Item.{Item}
+use Rattle.link_model.specs.declared.item.Item.TheVariants.{Frame, Noise}
+use Rattle.data_link.specs.Port.{port_after}
+use Rattle.bfs_tree.specs.Step.{new_distance, new_parent}
+use Rattle.lock_desk.specs.Desk.{desk_ticked}
+use Rattle.node_core.specs.Site.{Site}
+use Rattle.node_core.specs.State.{NodeState}
+use Rattle.node_core.specs.Machines.{tree_of, may_move, moved_value, is_node_privileged, payload_for}
+
+-- a frame from neighbour w is taken at that port, and what the node says to w before it may be staged; noise changes nothing
+abbrev pub taken : Site → ℕ → Item → NodeState → NodeState
+taken site w (Frame f) s = record s { port = at s.port w (port_after site.ranges.counter (s.port w) f (payload_for site s w)) }
+taken site w Noise s = s
+
+-- a node's copied distance of its neighbour w
+abbrev pub copied_distance : NodeState → ℕ → ℕ
+copied_distance s w = (s.port w).copy.distance
+
+-- first part of a tick: distance and parent follow from the copies
+abbrev pub recomputed : Site → NodeState → NodeState
+recomputed site s = record s {
+  distance = new_distance site.is_root site.ranges.nodes (copied_distance s) site.neighbours;
+  parent = new_parent site.is_root (copied_distance s) site.neighbours;
+}
+
+-- second and third part: the desk ends a loan or begins one
+abbrev pub desk_done : Site → NodeState → NodeState
+desk_done site s = record s { desk = desk_ticked site.lease (is_node_privileged site s) s.desk }
+
+-- last part: where the desk lends to nobody, each machine that may move does, all at once
+abbrev pub machines_moved : Site → NodeState → NodeState
+machines_moved site s = record s {
+  value = λ t. if is_none s.desk.lent && (list_any (λ u. u == t) (tree_of site s) && may_move site s t) then moved_value site s t else s.value t;
+}
+
+-- a tick
+abbrev pub ticked : Site → NodeState → NodeState
+ticked site s = machines_moved site (desk_done site (recomputed site s))

@@ -1,0 +1,120 @@
+-- One step: which events are refused, and what the others change.
+use Rattle.std.specs.Prelude.{ℕ, Bool, true, ◌&&◌, not, nat_lt, nat_le, if◌then◌else◌, is_some, List, [], ◌∷◌, ◌++◌, length, Option, Some, None}
+use Rattle.std.specs.List.{remove}
+use Rattle.topology.specs.At.{at}
+use Rattle.topology.specs.Network.{are_joined}
+use Rattle.topology.specs.Ranges.{ranges_of, parent_fits, payload_fits}
+use Rattle.link_model.specs.declared.item.Item.{Item}
+use Rattle.link_model.specs.declared.item.Item.TheVariants.{Frame}
+use Rattle.data_link.specs.Port.{PortState, frame_of}
+use Rattle.lock_desk.specs.Desk.{DeskState, ask_fault, asked, is_stranger, after_leave, loan_fits, with_loan}
+use Rattle.lock_desk.specs.declared.fault.AskFault.{AskFault}
+use Rattle.lock_desk.specs.declared.fault.AskFault.TheVariants as ask
+use Rattle.node_core.specs.State.{NodeState}
+use Rattle.node_core.specs.Step.{taken, ticked}
+use Rattle.run_model.specs.World.{World, item_fits, site, with_node, with_link}
+use Rattle.run_model.specs.declared.event.Event.{Event}
+use Rattle.run_model.specs.declared.event.Event.TheVariants.{Send, Take, Lose, Tick, Ask, Leave, Damage}
+use Rattle.run_model.specs.declared.event.Harm.{Harm}
+use Rattle.run_model.specs.declared.event.Harm.TheVariants as harm
+use Rattle.run_model.specs.declared.event.EventFault.{EventFault}
+use Rattle.run_model.specs.declared.event.EventFault.TheVariants.{NoNode, NoLink, NoItem, OutOfRange, Full, Twice, Stranger}
+
+-- the first of two refusals
+abbrev pub first_fault : Option EventFault → Option EventFault → Option EventFault
+first_fault (Some fault) later = Some fault
+first_fault None later = later
+
+-- a refusal, unless the test holds
+abbrev pub unless : Bool → EventFault → Option EventFault
+unless test fault = if test then None else Some fault
+
+abbrev pub node_fault : World → ℕ → Option EventFault
+node_fault w v = unless (nat_lt v w.net.nodes) NoNode
+
+-- both must be nodes, and they must be neighbours
+abbrev pub link_fault : World → ℕ → ℕ → Option EventFault
+link_fault w u v = first_fault (unless (nat_lt u w.net.nodes && nat_lt v w.net.nodes) NoNode) (unless (are_joined w.net.edges u v) NoLink)
+
+-- a link with room for one more item
+abbrev pub has_room : World → ℕ → ℕ → Bool
+has_room w u v = nat_lt (length (w.link u v)) w.net.capacity
+
+-- where a harm writes
+abbrev pub harm_place_fault : World → Harm → Option EventFault
+harm_place_fault w (harm.Own v d p) = node_fault w v
+harm_place_fault w (harm.Counters v u seq last) = link_fault w v u
+harm_place_fault w (harm.Staged v u payload) = link_fault w v u
+harm_place_fault w (harm.Copy v u payload) = link_fault w v u
+harm_place_fault w (harm.Value v u x) = link_fault w v u
+harm_place_fault w (harm.Desk v lent left served) = node_fault w v
+harm_place_fault w (harm.Item u v item) = link_fault w u v
+harm_place_fault w (harm.Empty u v) = link_fault w u v
+
+-- what a harm writes is in range
+abbrev pub harm_fits : World → Harm → Bool
+harm_fits w (harm.Own v d p) = nat_le d w.net.nodes && parent_fits w.net.nodes p
+harm_fits w (harm.Counters v u seq last) = nat_lt seq (ranges_of w.net).counter && nat_lt last (ranges_of w.net).counter
+harm_fits w (harm.Staged v u payload) = payload_fits (ranges_of w.net) payload
+harm_fits w (harm.Copy v u payload) = payload_fits (ranges_of w.net) payload
+harm_fits w (harm.Value v u x) = nat_lt x (ranges_of w.net).ring
+harm_fits w (harm.Desk v lent left served) = loan_fits w.net.lease (w.node v).desk lent left
+harm_fits w (harm.Item u v item) = item_fits (ranges_of w.net) item && has_room w u v
+harm_fits w (harm.Empty u v) = true
+
+-- the desk's refusals
+abbrev pub desk_fault : Option AskFault → Option EventFault
+desk_fault None = None
+desk_fault (Some ask.Full) = Some Full
+desk_fault (Some ask.Twice) = Some Twice
+
+-- the first refusal of an event that holds, if any
+abbrev pub refusal : World → Event → Option EventFault
+refusal w (Send u v) = link_fault w u v
+refusal w (Take u v) = link_fault w u v
+refusal w (Lose u v i) = first_fault (link_fault w u v) (unless (nat_lt i (length (w.link u v))) NoItem)
+refusal w (Tick v) = node_fault w v
+refusal w (Ask v t) = first_fault (node_fault w v) (desk_fault (ask_fault t (w.node v).desk))
+refusal w (Leave v t) = first_fault (node_fault w v) (unless (not (is_stranger t (w.node v).desk)) Stranger)
+refusal w (Damage h) = first_fault (harm_place_fault w h) (unless (harm_fits w h) OutOfRange)
+
+-- the port of v to u, the desk of v, or all else of v, written
+abbrev pub with_port : World → ℕ → ℕ → PortState → World
+with_port w v u p = with_node w v (record (w.node v) { port = at (w.node v).port u p })
+
+abbrev pub with_desk : World → ℕ → DeskState → World
+with_desk w v d = with_node w v (record (w.node v) { desk = d })
+
+-- one part is written
+abbrev pub harmed : World → Harm → World
+harmed w (harm.Own v d p) = with_node w v (record (w.node v) { distance = d; parent = p })
+harmed w (harm.Counters v u seq last) = with_port w v u (record ((w.node v).port u) { seq = seq; last = last })
+harmed w (harm.Staged v u payload) = with_port w v u (record ((w.node v).port u) { staged = payload })
+harmed w (harm.Copy v u payload) = with_port w v u (record ((w.node v).port u) { copy = payload })
+harmed w (harm.Value v u x) = with_node w v (record (w.node v) { value = at (w.node v).value u x })
+harmed w (harm.Desk v lent left served) = with_desk w v (with_loan (w.node v).desk lent left served)
+harmed w (harm.Item u v item) = with_link w u v (w.link u v ++ item ∷ [])
+harmed w (harm.Empty u v) = with_link w u v []
+
+-- the frame of u's port to v goes last on the link; on a full link it is lost
+abbrev pub sent : World → ℕ → ℕ → World
+sent w u v = if has_room w u v then with_link w u v (w.link u v ++ Frame (frame_of ((w.node u).port v)) ∷ []) else w
+
+-- the oldest of these items, those under way from u to v, is taken by v; of none, nothing
+abbrev pub handed_over : World → ℕ → ℕ → List Item → World
+handed_over w u v [] = w
+handed_over w u v (item ∷ rest) = with_link (with_node w v (taken (site w v) u item (w.node v))) u v rest
+
+-- what an event changes where it is not refused
+abbrev pub changed : World → Event → World
+changed w (Send u v) = sent w u v
+changed w (Take u v) = handed_over w u v (w.link u v)
+changed w (Lose u v i) = with_link w u v (remove (w.link u v) i)
+changed w (Tick v) = with_node w v (ticked (site w v) (w.node v))
+changed w (Ask v t) = with_desk w v (asked t (w.node v).desk)
+changed w (Leave v t) = with_desk w v (after_leave t (w.node v).desk)
+changed w (Damage h) = harmed w h
+
+-- the next world: a refused event changes nothing
+abbrev pub step : World → Event → World
+step w e = if is_some (refusal w e) then w else changed w e

@@ -1,0 +1,48 @@
+-- A world: a network, the state of each node, and the items under way on each directed link. It is read as functions of the nodes' ids.
+use Rattle.std.specs.Prelude.{ℕ, ◌<◌, ◌≤◌, Bool, true, ◌==◌, ◌&&◌, if◌then◌else◌, IsTrue, List, [], All, length}
+use Rattle.topology.specs.At.{at}
+use Rattle.topology.specs.Network.{Network, IsAcceptedNetwork, are_joined}
+use Rattle.topology.specs.Ranges.{ranges_of, frame_fits}
+use Rattle.topology.specs.declared.frame.Ranges.{Ranges}
+use Rattle.link_model.specs.declared.item.Item.{Item}
+use Rattle.link_model.specs.declared.item.Item.TheVariants.{Frame, Noise}
+use Rattle.node_core.specs.Site.{Site, site_of}
+use Rattle.node_core.specs.State.{NodeState, IsNodeInRange, default_node}
+
+-- The network stands in the world, since a later kind of event may change it. `link u v` holds what is under way from u to v, oldest first.
+pub record World : Type 0 where
+  pub net : Network
+  pub node : ℕ → NodeState
+  pub link : ℕ → ℕ → List Item
+
+-- an item is noise, or a frame whose fields are in range
+abbrev pub item_fits : Ranges → Item → Bool
+item_fits r (Frame f) = frame_fits r f
+item_fits r Noise = true
+
+-- Each node is in range, and each link of an edge holds at most as many items as its capacity, all in range. Every such world is a possible start.
+pub record IsWorldInRange (w : World) : Type 0 where
+  pub network : IsAcceptedNetwork w.net
+  pub nodes : (v : ℕ) → v < w.net.nodes → IsNodeInRange (site_of w.net v) (w.node v)
+  pub capacity : (u v : ℕ) → IsTrue (are_joined w.net.edges u v) → length (w.link u v) ≤ w.net.capacity
+  pub items : (u v : ℕ) → IsTrue (are_joined w.net.edges u v) → All (λ item. IsTrue (item_fits (ranges_of w.net) item)) (w.link u v)
+
+-- the world in which every node is as it starts and nothing is under way
+abbrev pub default_world : Network → World
+default_world net = record { net = net; node = λ v. default_node (ranges_of net); link = λ u v. [] }
+
+-- what v knows of the network, and what it is
+abbrev pub site : World → ℕ → Site
+site w v = site_of w.net v
+
+-- the world with another state of v
+abbrev pub with_node : World → ℕ → NodeState → World
+with_node w v s = record w { node = at w.node v s }
+
+-- a function of two ids, with x at u and v
+abbrev pub at_pair : {X : Type 0} → (ℕ → ℕ → X) → ℕ → ℕ → X → ℕ → ℕ → X
+at_pair f u v x i j = if (i == u) && (j == v) then x else f i j
+
+-- the world with other items on the link from u to v
+abbrev pub with_link : World → ℕ → ℕ → List Item → World
+with_link w u v items = record w { link = at_pair w.link u v items }
