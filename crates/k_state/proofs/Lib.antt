@@ -1,0 +1,7 @@
+pub mod Front
+pub mod MissingValue
+pub mod Steps
+pub mod Histories
+pub mod AnyRun
+pub mod Parallel
+mod Rows

@@ -1,0 +1,64 @@
+-- Small rings, and what holds of them
+use Rattle.std.proofs.Common.{◌≡◌, ℕ, [], ◌∷◌, refl, arith, rules, true, false}
+use Rattle.k_state.specs.Machine.{root_moved, is_privileged}
+use Rattle.k_state.specs.Ring.{Written, Further, Moved, Run, Done, Move_first, Change_first, IsParallel, IsGood, IsFresh, HasFront}
+use Rattle.k_state.proofs.Parallel.{joined}
+
+last_value_wraps : root_moved 7 6 ≡ 0
+last_value_wraps = refl
+
+special_where_equal : (is_privileged true 3 3 ≡ true) × (is_privileged true 3 4 ≡ false)
+special_where_equal = (refl, refl)
+
+other_where_different : (is_privileged false 3 3 ≡ false) × (is_privileged false 3 4 ≡ true)
+other_where_different = (refl, refl)
+
+good : IsGood 7 (2 ∷ 2 ∷ 2 ∷ 1 ∷ 1 ∷ 1 ∷ [])
+good = search rules
+
+good_across_zero : IsGood 7 (0 ∷ 6 ∷ 6 ∷ [])
+good_across_zero = search rules
+
+good_all_equal : IsGood 7 (3 ∷ 3 ∷ 3 ∷ [])
+good_all_equal = search rules
+
+not_good_back_again : IsGood 7 (2 ∷ 1 ∷ 2 ∷ []) → ⊥
+not_good_back_again h = grind arith
+
+not_good_two_below : IsGood 7 (2 ∷ 2 ∷ 0 ∷ []) → ⊥
+not_good_two_below h = grind arith
+
+not_good_one_above : IsGood 7 (2 ∷ 3 ∷ []) → ⊥
+not_good_one_above h = grind arith
+
+fresh : IsFresh (2 ∷ 5 ∷ 0 ∷ 5 ∷ [])
+fresh = search (rules, arith)
+
+not_fresh : IsFresh (2 ∷ 5 ∷ 2 ∷ []) → ⊥
+not_fresh h = h.1.0 refl
+
+front : HasFront 2 (2 ∷ 2 ∷ 5 ∷ 0 ∷ [])
+front = search (rules, arith)
+
+-- each item at once takes what stood at its left: the one value 2 goes on by one place
+parallel : IsParallel 2 (1 ∷ 1 ∷ []) (2 ∷ 1 ∷ [])
+parallel = search rules
+
+not_parallel_two_places : IsParallel 2 (1 ∷ 1 ∷ []) (2 ∷ 2 ∷ []) → ⊥
+not_parallel_two_places h = grind arith
+
+-- one head move, and the ring is good
+turns_good : Run 3 1 (0 ∷ 2 ∷ 0 ∷ []) (1 ∷ 0 ∷ 0 ∷ [])
+turns_good = Change_first Written (Move_first (Moved refl) Done)
+
+-- two values are too few for four items: two head moves lead back to a ring that is not good, and so may the next two
+half_round : (a b : ℕ) → root_moved 2 a ≡ b → Run 2 1 (a ∷ b ∷ a ∷ b ∷ []) (b ∷ a ∷ b ∷ a ∷ [])
+half_round a b e =
+    let moved : Run 2 1 (a ∷ a ∷ b ∷ a ∷ []) (b ∷ a ∷ b ∷ a ∷ []) = rw (← e) (Move_first (Moved refl) Done) in
+    Change_first (Further (Further Written)) (Change_first (Further Written) (Change_first Written moved))
+
+too_few_values : Run 2 2 (0 ∷ 1 ∷ 0 ∷ 1 ∷ []) (0 ∷ 1 ∷ 0 ∷ 1 ∷ [])
+too_few_values = joined 2 (half_round 0 1 refl) (half_round 1 0 refl)
+
+not_good_after_two_moves : IsGood 2 (0 ∷ 1 ∷ 0 ∷ 1 ∷ []) → ⊥
+not_good_after_two_moves h = grind arith

@@ -1,0 +1,67 @@
+-- The laws of the copying ring, for every modulus q.
+use Rattle.std.specs.Prelude.{◌≡◌, ℕ, ◌+◌, ◌<◌, ◌≤◌, ◌⊎◌, List, ◌∷◌, length}
+use Rattle.std.specs.List.{AllByRecursion}
+use Rattle.k_state.specs.Ring.{HasFront, IsFresh, IsFreshMoment, IsGood, IsHistory, IsParallel, IsRing, Run, Step, head_of, moves_until, tail_of}
+
+-- ---- a good ring
+
+-- a step keeps a good ring good
+abbrev pub GoodStays : Type 0
+GoodStays = (q moves : ℕ) (old new : List ℕ) → Step q moves old new → IsGood q old → IsGood q new
+
+-- a run keeps a good ring good
+abbrev pub GoodOutlastsRuns : Type 0
+GoodOutlastsRuns = (q moves : ℕ) (old new : List ℕ) → Run q moves old new → IsGood q old → IsGood q new
+
+-- where there are two values or more, the items of a good ring that equal its head stand in front
+abbrev pub GoodHasFront : Type 0
+GoodHasFront = (q : ℕ) (ring : List ℕ) → 1 < q → IsRing q ring → IsGood q ring → HasFront (head_of ring) ring
+
+-- ---- a value that stands nowhere else
+
+-- a step keeps the values below the modulus
+abbrev pub RingStays : Type 0
+RingStays = (q moves : ℕ) (old new : List ℕ) → Step q moves old new → IsRing q old → IsRing q new
+
+-- a value that stands nowhere else stands in front
+abbrev pub FreshHasFront : Type 0
+FreshHasFront = (ring : List ℕ) → IsFresh ring → HasFront (head_of ring) ring
+
+-- the items that are a stay in front until the head moves; then the ring is good, and every item but the head is a
+abbrev pub FrontStaysOrTurnsGood : Type 0
+FrontStaysOrTurnsGood =
+    (q a moves : ℕ) (old new : List ℕ) → Step q moves old new → HasFront a old
+    → ((moves ≡ 0) × HasFront a new) ⊎ ((moves ≡ 1) × IsGood q new × AllByRecursion (λ x. x ≡ a) (tail_of new))
+
+-- where the head makes as many moves as there were items, at most q, it holds before the last of them a value that stands nowhere else
+-- when the head first holds it
+abbrev pub SomeValueIsFresh : Type 0
+SomeValueIsFresh =
+    (q n : ℕ) (ring : ℕ → List ℕ) (moves : ℕ → ℕ) → IsHistory q n ring moves → IsRing q (ring 0) → length (ring 0) ≤ q
+    → length (ring 0) ≤ moves_until moves n → (k : ℕ) × (k ≤ n) × IsFreshMoment ring moves k
+
+-- ---- convergence
+
+-- a ring of at most q items is good after as many head moves as it had items
+abbrev pub TurnsGood : Type 0
+TurnsGood =
+    (q n : ℕ) (ring : ℕ → List ℕ) (moves : ℕ → ℕ) → IsHistory q n ring moves → IsRing q (ring 0) → length (ring 0) ≤ q
+    → length (ring 0) ≤ moves_until moves n → IsGood q (ring n)
+
+-- the same of a run
+abbrev pub RunTurnsGood : Type 0
+RunTurnsGood = (q moves : ℕ) (old new : List ℕ) → Run q moves old new → IsRing q old → length old ≤ q → length old ≤ moves → IsGood q new
+
+-- ---- many items at once
+
+-- a parallel step is a run without head moves
+abbrev pub ParallelIsRun : Type 0
+ParallelIsRun = (q left : ℕ) (xs ys : List ℕ) → IsParallel left xs ys → Run q 0 (left ∷ xs) (left ∷ ys)
+
+-- a step is a run
+abbrev pub StepIsRun : Type 0
+StepIsRun = (q moves : ℕ) (old new : List ℕ) → Step q moves old new → Run q moves old new
+
+-- two runs, one after the other, are a run
+abbrev pub RunsJoin : Type 0
+RunsJoin = (q m n : ℕ) (xs ys zs : List ℕ) → Run q m xs ys → Run q n ys zs → Run q (m + n) xs zs

@@ -1,0 +1,36 @@
+//! The laws of the copying ring, each the contract of a function that does nothing. A proof that
+//! needs one calls it and cites its clauses.
+ghost use Rattle.k_state.specs.Laws.{FreshHasFront, FrontStaysOrTurnsGood, GoodHasFront, GoodOutlastsRuns, GoodStays, ParallelIsRun, RingStays, RunTurnsGood, RunsJoin, SomeValueIsFresh, StepIsRun, TurnsGood};
+
+/// A good ring stays good, whatever changes and head moves follow. Links need it to stay stable, the
+/// token ring to keep its one token.
+pub fn good_law()
+    ensures stays { GoodStays }
+    ensures stays_in_runs { GoodOutlastsRuns }
+    ensures front { GoodHasFront }
+{}
+
+/// A head value that stands nowhere else: it is in front, stays in front until the head moves, and
+/// then the ring is good. Among the values that the head holds up to the last of as many moves as
+/// there were items, one is such a value. A link needs the moment itself: no frame carries that number.
+pub fn fresh_law()
+    ensures below { RingStays }
+    ensures front { FreshHasFront }
+    ensures front_stays_or_turns_good { FrontStaysOrTurnsGood }
+    ensures some_value { SomeValueIsFresh }
+{}
+
+/// A ring of at most as many items as there are values is good after as many head moves as it had
+/// items; over moments of time, and over a run.
+pub fn convergence_law()
+    ensures turns_good { TurnsGood }
+    ensures run_turns_good { RunTurnsGood }
+{}
+
+/// Many machines that copy at once are changes one after the other, from the right to the left: so
+/// one call that moves several machines is a run, and runs join.
+pub fn parallel_law()
+    ensures is_run { ParallelIsRun }
+    ensures step_is_run { StepIsRun }
+    ensures join { RunsJoin }
+{}
