@@ -4,7 +4,7 @@ use Rattle.k_state.specs.Machine.{root_moved, is_privileged}
 use Rattle.k_state.specs.Ring.{Written, Further, Moved, Run, Done, Move_first, Change_first, IsParallel, IsGood, IsFresh, HasFront}
 use Rattle.k_state.proofs.Parallel.{joined}
 
-last_value_wraps : root_moved 7 6 ≡ 0
+last_value_wraps : root_moved 6 7 ≡ 0
 last_value_wraps = refl
 
 special_where_equal : (is_privileged true 3 3 ≡ true) × (is_privileged true 3 4 ≡ false)
@@ -52,7 +52,7 @@ turns_good : Run 3 1 (0 ∷ 2 ∷ 0 ∷ []) (1 ∷ 0 ∷ 0 ∷ [])
 turns_good = Change_first Written (Move_first (Moved refl) Done)
 
 -- two values are too few for four items: two head moves lead back to a ring that is not good, and so may the next two
-half_round : (a b : ℕ) → root_moved 2 a ≡ b → Run 2 1 (a ∷ b ∷ a ∷ b ∷ []) (b ∷ a ∷ b ∷ a ∷ [])
+half_round : (a b : ℕ) → root_moved a 2 ≡ b → Run 2 1 (a ∷ b ∷ a ∷ b ∷ []) (b ∷ a ∷ b ∷ a ∷ [])
 half_round a b e =
     let moved : Run 2 1 (a ∷ a ∷ b ∷ a ∷ []) (b ∷ a ∷ b ∷ a ∷ []) = rw (← e) (Move_first (Moved refl) Done) in
     Change_first (Further (Further Written)) (Change_first (Further Written) (Change_first Written moved))

@@ -3,7 +3,7 @@ use Rattle.std.specs.Prelude.{ℕ, ◌+◌, ◌%◌, ◌==◌, Bool, true, false
 
 -- the special machine moves on to the next value
 abbrev pub root_moved : ℕ → ℕ → ℕ
-root_moved modulus x = (x + 1) % modulus
+root_moved x modulus = (x + 1) % modulus
 
 -- the special machine may move where it sees its own value, every other where it sees another
 abbrev pub is_privileged : Bool → ℕ → ℕ → Bool

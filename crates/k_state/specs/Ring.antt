@@ -25,8 +25,8 @@ but_last x (y ∷ ys) = x ∷ but_last y ys
 
 -- where the last item equals the head, the head goes on to the next value; the last item, if another than the head, may go
 pub data HeadMove (q : ℕ) : List ℕ → List ℕ → Type 0 where
-  Moved : {x : ℕ} {xs : List ℕ} → last_of x xs ≡ x → HeadMove q (x ∷ xs) (root_moved q x ∷ xs)
-  Dropped : {x y : ℕ} {ys : List ℕ} → last_of y ys ≡ x → HeadMove q (x ∷ y ∷ ys) (root_moved q x ∷ but_last y ys)
+  Moved : {x : ℕ} {xs : List ℕ} → last_of x xs ≡ x → HeadMove q (x ∷ xs) (root_moved x q ∷ xs)
+  Dropped : {x y : ℕ} {ys : List ℕ} → last_of y ys ≡ x → HeadMove q (x ∷ y ∷ ys) (root_moved x q ∷ but_last y ys)
 
 -- some changes, and then at most one head move; with the number of head moves, 0 or 1
 pub data Step (q : ℕ) : ℕ → List ℕ → List ℕ → Type 0 where
@@ -68,7 +68,7 @@ IsFrontThen P Q (x ∷ xs) = (P x × IsFrontThen P Q xs) ⊎ (Q x × AllByRecurs
 
 -- good: items that equal the head, and then only items that are one less, modulo q
 abbrev pub IsGood : ℕ → List ℕ → Type 0
-IsGood q ring = IsFrontThen (λ x. x ≡ head_of ring) (λ x. root_moved q x ≡ head_of ring) ring
+IsGood q ring = IsFrontThen (λ x. x ≡ head_of ring) (λ x. root_moved x q ≡ head_of ring) ring
 
 -- fresh: the head's value stands nowhere else
 abbrev pub IsFresh : List ℕ → Type 0

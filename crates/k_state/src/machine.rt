@@ -5,7 +5,7 @@ ghost use Rattle.k_state.specs.Machine.{is_privileged, root_moved};
 /// The special machine's next value: one more, modulo `modulus`.
 pub fn root_move(x: u16, modulus: u16) -> u16
     requires { x < modulus }
-    ensures { result ≡ root_moved modulus x }
+    ensures { result ≡ root_moved x modulus }
 {
     (x + 1) % modulus
 }
