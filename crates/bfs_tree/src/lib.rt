@@ -11,3 +11,7 @@
 //!
 //! Source: Dolev, Israeli, Moran, Self-stabilization of dynamic systems assuming only read/write atomicity, 1993.
 #![tactic(auto)]
+
+mod step;
+
+pub use step::recompute;
