@@ -1,5 +1,4 @@
-use Rattle.std.proofs.Common.{◌≡◌, ℕ, ◌∷◌, Some, refl, arith, sym, inl, inr, rules}
-use Rattle.bfs_tree.specs.Step.{new_distance, new_parent}
+use Rattle.std.proofs.Common.{arith}
 use Rattle.bfs_tree.proofs.Nearest.{contains_first, contains_rest, turned_nearer, turned_no_nearer, alone, searched}
 use Rattle.bfs_tree.proofs.step.recompute.Goals as goal
 use Rattle.bfs_tree.proofs.step.recompute.Goals.{then-distance-least, else-distance-least}
