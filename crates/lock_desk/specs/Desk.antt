@@ -49,14 +49,14 @@ borrows d t = is_ticket d.lent t
 abbrev pub lends : DeskState → Bool
 lends d = is_some d.lent
 
--- the ticket that the lock is lent to, if any, does not wait besides
-abbrev pub is_apart : List ℕ → Option ℕ → Bool
-is_apart tickets None = true
-is_apart tickets (Some t) = not (is_in tickets t)
-
 -- a ticket is a number below 65536
 abbrev pub is_number : ℕ → Bool
 is_number t = nat_lt t 65536
+
+-- the lock is lent to nobody, or to a ticket that does not wait
+abbrev pub may_be_lent : List ℕ → Option ℕ → Bool
+may_be_lent tickets None = true
+may_be_lent tickets (Some t) = is_number t && not (is_in tickets t)
 
 -- a loan has at most the lease left, and what is no loan has nothing left
 abbrev pub left_fits : ℕ → Option ℕ → ℕ → Bool
@@ -68,7 +68,7 @@ desk_fits lease d =
     nat_le (length d.waiting) 64
     && list_all is_number d.waiting
     && are_distinct d.waiting
-    && is_apart d.waiting d.lent
+    && may_be_lent d.waiting d.lent
     && left_fits lease d.lent d.left
 
 -- to ask is refused as Full where 64 tickets wait, and else as Twice where this ticket waits or borrows
@@ -148,7 +148,7 @@ desk_act old new = act_between old.lent new.lent
 
 -- a loan may be written at a desk where its ticket does not wait and what is left of it fits
 abbrev pub loan_fits : ℕ → DeskState → Option ℕ → ℕ → Bool
-loan_fits lease d lent left = is_apart d.waiting lent && left_fits lease lent left
+loan_fits lease d lent left = may_be_lent d.waiting lent && left_fits lease lent left
 
 -- the desk with another loan written
 abbrev pub with_loan : DeskState → Option ℕ → ℕ → Bool → DeskState

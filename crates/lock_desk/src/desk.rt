@@ -1,0 +1,223 @@
+//! The desk of one node.
+ghost use Rattle.std.specs.Prelude.{◌≡◌, false, true, None, Some, IsTrue, IfErr, IfOk, OnErr, OnOk, length, ◌≤◌};
+ghost use Rattle.std.specs.Vec.{vec_capacity};
+ghost use Rattle.lock_desk.specs.Desk.{DeskState, DeskView, no_desk, desk_fits, waits, without, ask_fault, asked, is_stranger, after_leave, desk_ticked, desk_act, ended, loan_looked_at, loan_begun, loan_fits, with_loan};
+
+use crate::{AskFault, DeskAct, OutOfRange, Stranger};
+use std::alloc::{AllocError, Allocator, Global};
+use std::marker::Model;
+
+/// The tickets that can wait at a desk.
+const PLACES: usize = 64;
+
+/// The tickets that wait for the lock at one node, and the loan of the lock to one of them.
+#[derive(Drop)]
+pub struct Desk<A: Allocator = Global> {
+    lease: u16,
+    waiting: Vec<u16, A>,
+    lent: Option<u16>,
+    left: u16,
+    served: bool,
+}
+
+impl<A: Allocator> Model for Desk<A> {
+    ghost use Rattle.std.specs.Prelude.{◌≤◌, IsTrue};
+    ghost use Rattle.std.specs.Vec.{vec_capacity};
+    ghost use Rattle.lock_desk.specs.Desk.{DeskView, desk_fits};
+
+    ghost Value = { DeskView };
+
+    ghost view = { λ d. record {
+      lease = d.lease;
+      state = record { waiting = d.waiting.items; lent = d.lent; left = d.left; served = d.served };
+    } };
+
+    ghost invariant = { λ d. (64 ≤ vec_capacity d.waiting)
+        × IsTrue (desk_fits d.lease (record { waiting = d.waiting.items; lent = d.lent; left = d.left; served = d.served })) };
+}
+
+/// Takes the ticket out of the list.
+fn take_out<A: Allocator>(tickets: &mut Vec<u16, A>, ticket: u16)
+    ensures rest { tickets.new.items ≡ without ticket tickets.old.items }
+    ensures room { vec_capacity tickets.new ≡ vec_capacity tickets.old }
+{
+    tickets.retain(move |waiting| *waiting != ticket)
+}
+
+impl<A: Allocator> Desk<A> {
+    /// A desk at which nobody asked, with loans of this many ticks; 0 is no limit. All places are reserved here.
+    pub fn new(alloc: A, lease: u16) -> Result<Desk<A>, AllocError>
+        ensures { IfOk result (λ desk. desk ≡ record { lease = lease; state = no_desk }) }
+    {
+        let waiting = Vec::with_capacity(alloc, PLACES)?;
+        Ok(Desk {
+            lease,
+            waiting,
+            lent: None,
+            left: 0,
+            served: false,
+        })
+    }
+
+    /// The ticks that a loan is for; 0 is no limit.
+    pub fn lease(&self) -> u16
+        ensures lease { result ≡ self.now.lease }
+        ensures fits { IsTrue (desk_fits self.now.lease self.now.state) }
+    {
+        self.lease
+    }
+
+    /// The ticket that the lock is lent to.
+    pub fn lent(&self) -> Option<u16>
+        ensures { result ≡ self.now.state.lent }
+    {
+        self.lent
+    }
+
+    /// How many tickets wait, at most 64.
+    pub fn waiting(&self) -> usize
+        ensures number { result ≡ length self.now.state.waiting }
+        ensures within { result ≤ 64 }
+    {
+        self.waiting.len()
+    }
+
+    /// The tickets that wait, in the order in which they asked.
+    pub fn tickets(&self) -> &[u16]
+        ensures { result.now ≡ self.now.state.waiting }
+    {
+        self.waiting.as_slice()
+    }
+
+    /// How many further ticks the loan outlasts where there is a lease; 0 where there is no loan.
+    pub fn left(&self) -> u16
+        ensures { result ≡ self.now.state.left }
+    {
+        self.left
+    }
+
+    /// Whether the desk lent the lock since its last full tick.
+    pub fn served(&self) -> bool
+        ensures { result ≡ self.now.state.served }
+    {
+        self.served
+    }
+
+    /// Whether the ticket waits.
+    fn waits(&self, ticket: u16) -> bool
+        ensures { result ≡ waits self.now.state ticket }
+    {
+        self.waiting.contains(&ticket)
+    }
+
+    /// Puts the ticket behind all others that wait. Refused as `Full` where 64 tickets wait, whichever they are, and else as
+    /// `Twice` where this one waits or the lock is lent to it; then nothing has changed.
+    pub fn ask(&mut self, ticket: u16) -> Result<(), AskFault>
+        ensures accepted { OnOk result (ask_fault ticket self.old.state ≡ None) }
+        ensures asked { OnOk result (self.new ≡ record self.old { state = asked ticket self.old.state }) }
+        ensures refused { IfErr result (λ fault. ask_fault ticket self.old.state ≡ Some fault) }
+        ensures unchanged { OnErr result (self.new ≡ self.old) }
+    {
+        if self.waiting.len() >= PLACES {
+            return Err(AskFault::Full);
+        }
+        if self.waits(ticket) || self.lent == Some(ticket) {
+            return Err(AskFault::Twice);
+        }
+        self.waiting.push_reserved(ticket);
+        Ok(())
+    }
+
+    /// Takes the ticket out of those that wait, or ends its loan. Refused where it does neither; then nothing has changed.
+    pub fn leave(&mut self, ticket: u16) -> Result<(), Stranger>
+        ensures gone { OnOk result (self.new ≡ record self.old { state = after_leave ticket self.old.state }) }
+        ensures known { OnOk result (is_stranger ticket self.old.state ≡ false) }
+        ensures refused { OnErr result (is_stranger ticket self.old.state ≡ true) }
+        ensures unchanged { OnErr result (self.new ≡ self.old) }
+    {
+        if self.waits(ticket) {
+            take_out(&mut self.waiting, ticket);
+            Ok(())
+        } else if self.lent == Some(ticket) {
+            self.end_loan();
+            Ok(())
+        } else {
+            Err(Stranger)
+        }
+    }
+
+    /// Ends the loan.
+    fn end_loan(&mut self)
+        ensures { self.new ≡ record self.old { state = ended self.old.state } }
+    {
+        self.lent = None;
+        self.left = 0;
+        self.served = true;
+    }
+
+    /// What a tick of the node does at its desk, in this order. A loan ends where the node has no privilege or its lease ran
+    /// out, and else has a tick less left. Where the node is privileged, lends to nobody, has not served and somebody waits,
+    /// the first who waits borrows. Where it now lends to nobody, `served` is cleared: the tick is a full one, and the node's
+    /// machines may move.
+    pub fn tick(&mut self, privileged: bool) -> DeskAct
+        ensures ticked { self.new ≡ record self.old { state = desk_ticked self.old.lease privileged self.old.state } }
+        ensures act { result ≡ desk_act self.old.state self.new.state }
+    {
+        let before = self.lent;
+        self.look_at_loan(privileged);
+        self.begin_loan(privileged);
+        if self.lent.is_none() {
+            self.served = false;
+        }
+        match (before, self.lent) {
+            (None, Some(ticket)) => DeskAct::Granted(ticket),
+            (Some(ticket), None) => DeskAct::Lost(ticket),
+            _ => DeskAct::Quiet,
+        }
+    }
+
+    /// Ends the loan, or counts one of its ticks.
+    fn look_at_loan(&mut self, privileged: bool)
+        ensures { self.new ≡ record self.old { state = loan_looked_at privileged self.old.lease self.old.state } }
+    {
+        if self.lent.is_none() {
+            return;
+        }
+        if !privileged || (self.lease > 0 && self.left == 0) {
+            self.end_loan();
+        } else if self.lease > 0 {
+            self.left -= 1;
+        }
+    }
+
+    /// Lends the lock to the first who waits, if it is to be lent.
+    fn begin_loan(&mut self, privileged: bool)
+        ensures { self.new ≡ record self.old { state = loan_begun privileged self.old.lease self.old.state } }
+    {
+        if privileged && self.lent.is_none() && !self.served && !self.waiting.is_empty() {
+            self.lent = Some(self.waiting.remove(0));
+            self.left = self.lease;
+        }
+    }
+
+    /// Writes a loan. Refused where its ticket waits, where more is left than the lease, or where anything is left of no loan;
+    /// then nothing has changed.
+    pub fn set_loan(&mut self, lent: Option<u16>, left: u16, served: bool) -> Result<(), OutOfRange>
+        ensures written { OnOk result (self.new ≡ record self.old { state = with_loan self.old.state lent left served }) }
+        ensures fits { OnOk result (IsTrue (loan_fits self.old.lease self.old.state lent left)) }
+        ensures refused { OnErr result (loan_fits self.old.lease self.old.state lent left ≡ false) }
+        ensures unchanged { OnErr result (self.new ≡ self.old) }
+    {
+        let apart = match lent {
+            Some(ticket) => !self.waits(ticket),
+            None => true
+        };
+        if !apart || left > self.lease || (lent.is_none() && left > 0) {
+            return Err(OutOfRange);
+        }
+        self.lent = lent;
+        self.left = left;
+        self.served = served;
+        Ok(())
+    }
+}
