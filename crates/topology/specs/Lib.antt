@@ -3,6 +3,7 @@ pub mod Network
 pub mod Ranges
 pub mod Refusal
 pub mod Layout
+pub mod Tree
 pub mod Spread
 pub mod Accept
 pub mod Reading

@@ -1,6 +1,7 @@
 //! A network that was accepted.
 ghost use Rattle.std.specs.Prelude.{◌≡◌, ℕ, ◌+◌, ◌<◌, ◌≤◌, IfOk, IfErr, IfSome, OnOk, IsNone, IsSome, IsTrue, ◌↔◌, ◌≢◌, Some, None, map, All, length, ℤ, pos, ◌≤ℤ◌, false};
 ghost use Rattle.topology.specs.Network.{Network, IsAcceptedNetwork, IsWithinLimits, IsDistance, IsNearer, IsTrueParent, IsEdgeBelow, neighbours_of, counter_of, ring_of, bound_of};
+ghost use Rattle.topology.specs.Tree.{distance_of, parent_of};
 ghost use Rattle.topology.specs.Refusal.{Values, value_fault, values_of, as_ends, has_bad_end};
 ghost use Rattle.topology.specs.Accept.{IsAccepted, IsRefused, IsNotJoined};
 ghost use Rattle.topology.specs.ReadNet.{IsReadFrom, IsUnread};
@@ -234,7 +235,8 @@ impl Net {
     /// The distance of a node from the root.
     pub fn distance(&self, v: u16) -> u16
         requires { v < self.now.nodes }
-        ensures { IsDistance self.now v result }
+        ensures walk { IsDistance self.now v result }
+        ensures computed { result ≡ distance_of self.now v }
     {
         self.depths[v as usize]
     }
@@ -245,6 +247,7 @@ impl Net {
         ensures root { v ≡ self.now.root → IsNone result }
         ensures some { IfSome result (IsTrueParent self.now v) }
         ensures other { v ≢ self.now.root → IsSome result }
+        ensures computed { result ≡ parent_of self.now v }
     {
         let distance = self.distance(v);
         for w in 0..self.nodes() {

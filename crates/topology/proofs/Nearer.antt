@@ -1,31 +1,11 @@
 -- A node other than the root has a neighbour that is one nearer.
-use Rattle.std.proofs.Common.{◌≡◌, ◌≢◌, ℕ, ◌+◌, ◌<◌, ◌≤◌, Bool, true, false, ◌||◌, ◌&&◌, List, [], ◌∷◌, ◌++◌, length, get_or, refl, ap, sym, arith, eqb, IsTrue, inl, inr, length-append}
-use Rattle.std.specs.List.{All, Any, list_any}
-use Rattle.std.proofs.lemmas.List.Folds.{Any-from_list_any}
-use Rattle.topology.specs.Network.{Network, Edge, are_joined, is_between, IsWalk, IsEdgeBelow, IsDistance, IsNearer, IsAcceptedNetwork}
-use Rattle.topology.proofs.SearchLemmas.{between_cases, IsWalk-push}
-
-or_comm : (a b : Bool) → (a || b) ≡ (b || a)
-or_comm true true = refl
-or_comm true false = refl
-or_comm false true = refl
-or_comm false false = refl
-
-joined_back : (edges : List Edge) (u v : ℕ) → are_joined edges u v ≡ are_joined edges v u
-joined_back [] u v = refl
-joined_back (e ∷ es) u v = rw (or_comm (eqb e.0 u && eqb e.1 v) (eqb e.0 v && eqb e.1 u), joined_back es u v)
-
-joined_below : (edges : List Edge) (n u v : ℕ) → All (IsEdgeBelow n) edges → IsTrue (are_joined edges u v) → u < n
-joined_below edges n u v inside joined =
-    let (k, e, h, same, passes) = Any-from_list_any (is_between u v) edges joined in
-    let b : IsEdgeBelow n e = rw same at (inside k e h) in
-    elim (between_cases u v e passes) [
-      | inl q ↦ omega (arith, q.0, b.first)
-      | inr q ↦ omega (arith, q.1, b.second)
-    ]
+use Rattle.std.proofs.Common.{◌≡◌, ◌≢◌, ℕ, ◌+◌, ◌<◌, List, [], ◌∷◌, ◌++◌, length, refl, ap, sym, arith, IsTrue, length-append}
+use Rattle.topology.specs.Network.{Network, Edge, are_joined, IsWalk, IsDistance, IsNearer, IsAcceptedNetwork}
+use Rattle.topology.proofs.SearchLemmas.{IsWalk-push}
+use Rattle.topology.proofs.Joined.{joined_back, joined_below}
 
 -- the last step of a walk
-last_step : (edges : List Edge) (u w : ℕ) (ws : List ℕ) (v : ℕ) → IsWalk edges u (w ∷ ws) v
+pub last_step : (edges : List Edge) (u w : ℕ) (ws : List ℕ) (v : ℕ) → IsWalk edges u (w ∷ ws) v
     → (p : ℕ) × (xs : List ℕ) × IsWalk edges u xs p × IsTrue (are_joined edges p v) × (length ws ≡ length xs)
 last_step edges u w [] v walk = (u, [], refl, rw (← walk.1) walk.0, refl)
 last_step edges u w (x ∷ xs) v walk =
