@@ -7,3 +7,5 @@ pub mod Tree
 pub mod Ring
 pub mod Legitimate
 pub mod Headline
+pub mod Project
+pub mod Laws

@@ -1,30 +1,43 @@
 -- The token ring: Dijkstra's ring of K-state machines, laid along the Euler tour of the true tree (Dijkstra 1974).
-use Rattle.std.specs.Prelude.{ℕ, List, [], ◌∷◌, ◌++◌}
-use Rattle.topology.specs.Network.{ring_of}
+use Rattle.std.specs.Prelude.{ℕ, List, [], ◌∷◌, flat_map}
+use Rattle.topology.specs.Network.{Network, ring_of}
 use Rattle.k_state.specs.Ring.{IsGood}
-use Rattle.euler_ring.specs.Tour.{tour, Stop}
+use Rattle.euler_ring.specs.Tour.{tour}
 use Rattle.run_model.specs.World.{World}
 
--- The tour comes from a to b and goes on to c. Its three values there: that of b's machine which comes in from a, what b has staged for c, and what
--- c has copied from b.
-abbrev pub values_at : World → ℕ → ℕ → ℕ → List ℕ
-values_at w a b c = (w.node b).value a ∷ ((w.node b).port c).staged.ring ∷ ((w.node c).port b).copy.ring ∷ []
+-- A leg of the tour comes from one node to another, and goes on to a third, which may be the first again.
+pub record Leg : Type 0 where
+  pub from : ℕ
+  pub here : ℕ
+  pub onward : ℕ
 
--- the values along a stretch of the tour, which goes on to `end` after its last pair
-abbrev pub values_along : World → ℕ → List (ℕ × ℕ) → List ℕ
-values_along w end [] = []
-values_along w end (p ∷ []) = values_at w p.0 p.1 end
-values_along w end (p ∷ q ∷ rest) = values_at w p.0 p.1 q.1 ++ values_along w end (q ∷ rest)
+-- the legs of a stretch of the tour, whose last pair goes on to `end`
+abbrev pub legs_to : ℕ → List (ℕ × ℕ) → List Leg
+legs_to end [] = []
+legs_to end (p ∷ []) = record { from = p.0; here = p.1; onward = end } ∷ []
+legs_to end (p ∷ q ∷ rest) = record { from = p.0; here = p.1; onward = q.1 } ∷ legs_to end (q ∷ rest)
 
--- where a closed tour goes on after its last pair: to its first node
-abbrev pub first_node : List (ℕ × ℕ) → ℕ
-first_node [] = 0
-first_node (p ∷ rest) = p.1
+-- the node to which the first pair of a closed tour comes, and so that to which its last pair goes on
+abbrev pub first_here : List (ℕ × ℕ) → ℕ
+first_here [] = 0
+first_here (p ∷ rest) = p.1
 
--- the values of all machines, staged slots and copies, in the order of the tour; the head is the special machine's
+-- the legs of the whole tour, which is closed
+abbrev pub legs : Network → List Leg
+legs net = legs_to (first_here (tour net)) (tour net)
+
+-- The three values of a leg: that of the machine which comes in, what is staged for the node that the tour goes on to, and what that node has copied.
+abbrev pub leg_values : World → Leg → List ℕ
+leg_values w leg =
+    (w.node leg.here).value leg.from
+    ∷ ((w.node leg.here).port leg.onward).staged.ring
+    ∷ ((w.node leg.onward).port leg.here).copy.ring
+    ∷ []
+
+-- the values of all machines, staged slots and copies in the order of the tour; the head is the special machine's
 abbrev pub token_ring : World → List ℕ
-token_ring w = values_along w (first_node (tour w.net)) (tour w.net)
+token_ring w = flat_map (leg_values w) (legs w.net)
 
--- the token ring is good: some values equal to the head's, and then only values one less, modulo K
+-- the token ring is good: some values equal to the head's, and then only values that are one less, modulo K
 abbrev pub IsTokenRingGood : World → Type 0
 IsTokenRingGood w = IsGood (ring_of w.net) (token_ring w)

@@ -1,0 +1,132 @@
+-- The plain laws of runs and sweeps, for every network, world and list of events.
+use Rattle.std.specs.Prelude.{◌≡◌, ℕ, ◌+◌, ◌<◌, ◌≤◌, Bool, true, false, IsTrue, IsFalse, is_some, zero, suc, List, [], ◌∷◌, ◌++◌, map}
+use Rattle.topology.specs.Network.{are_joined}
+use Rattle.data_link.specs.Edge.{EdgeState, IsEdgeInRange, edge_run}
+use Rattle.data_link.specs.Sweep.{is_out_served, is_back_served}
+use Rattle.run_model.specs.World.{World, IsWorldInRange}
+use Rattle.run_model.specs.Step.{refusal, step}
+use Rattle.run_model.specs.Run.{run, is_damage, IsUndamaged}
+use Rattle.run_model.specs.Sweep.{IsSweep, is_served}
+use Rattle.run_model.specs.Count.{Sweeps, StrictSweeps, IsGreatestCount, IsSweepCount}
+use Rattle.run_model.specs.Ring.{IsTokenRingGood}
+use Rattle.run_model.specs.Tree.{IsTreeReached}
+use Rattle.run_model.specs.Legitimate.{IsLegitimate, edge_of, is_privileged, is_lending}
+use Rattle.run_model.specs.Project.{edge_events}
+use Rattle.run_model.specs.declared.event.Event.{Event}
+
+-- ---- steps and runs
+
+-- a refused event changes nothing
+abbrev pub RefusedChangesNothing : Type 0
+RefusedChangesNothing = (w : World) (e : Event) → IsTrue (is_some (refusal w e)) → step w e ≡ w
+
+-- no event changes the network
+abbrev pub NetworkStays : Type 0
+NetworkStays = (w : World) (es : List Event) → (run w es).net ≡ w.net
+
+-- a run from a world in range leads to one in range
+abbrev pub RangesStay : Type 0
+RangesStay = (w : World) (es : List Event) → IsWorldInRange w → IsWorldInRange (run w es)
+
+-- the run of two lists is the run of the second from where the first led
+abbrev pub RunsJoin : Type 0
+RunsJoin = (w : World) (xs ys : List Event) → run w (xs ++ ys) ≡ run (run w xs) ys
+
+-- two lists are without damage where the first is, and the second from where the first led
+abbrev pub UndamagedJoins : Type 0
+UndamagedJoins = (w : World) (xs ys : List Event) → IsUndamaged w xs → IsUndamaged (run w xs) ys → IsUndamaged w (xs ++ ys)
+
+abbrev pub UndamagedSplits : Type 0
+UndamagedSplits = (w : World) (xs ys : List Event) → IsUndamaged w (xs ++ ys) → IsUndamaged w xs × IsUndamaged (run w xs) ys
+
+-- ---- one edge of a world
+
+-- a world in range has each edge in range
+abbrev pub EdgesAreInRange : Type 0
+EdgesAreInRange =
+    (w : World) (u v : ℕ) → IsWorldInRange w → IsTrue (are_joined w.net.edges u v) → IsEdgeInRange w.net.capacity (edge_of w u v)
+
+-- a run without damage is, for each edge, a run of that edge's own events
+abbrev pub EdgeRuns : Type 0
+EdgeRuns =
+    (w : World) (es : List Event) (u v : ℕ) → IsWorldInRange w → IsTrue (are_joined w.net.edges u v) → IsUndamaged w es
+    → edge_of (run w es) u v ≡ edge_run w.net.capacity (edge_of w u v) (edge_events w es u v)
+
+-- a stretch serves a link where the edge's own events do
+abbrev pub EdgeIsServed : Type 0
+EdgeIsServed =
+    (w : World) (es : List Event) (u v : ℕ) → IsWorldInRange w → IsTrue (are_joined w.net.edges u v) → IsUndamaged w es
+    → (is_served w es u v ≡ is_out_served w.net.capacity (edge_of w u v) (edge_events w es u v))
+    × (is_served w es v u ≡ is_back_served w.net.capacity (edge_of w u v) (edge_events w es u v))
+
+-- ---- sweeps
+
+-- more events before or behind a sweep leave it a sweep
+abbrev pub SweepGrows : Type 0
+SweepGrows =
+    (w : World) (front es back : List Event) → IsWorldInRange w → IsUndamaged w (front ++ es ++ back) → IsSweep (run w front) es
+    → IsSweep w (front ++ es ++ back)
+
+-- a list that holds r + s sweeps is one that holds r, and then one that holds s
+abbrev pub SweepsSplit : Type 0
+SweepsSplit =
+    (w : World) (r s : ℕ) (es : List Event) → Sweeps w (r + s) es
+    → (first rest : List Event) × (es ≡ first ++ rest) × Sweeps w r first × Sweeps (run w first) s rest
+
+-- and the other way round
+abbrev pub SweepsJoin : Type 0
+SweepsJoin =
+    (w : World) (r s : ℕ) (first rest : List Event) → Sweeps w r first → Sweeps (run w first) s rest → Sweeps w (r + s) (first ++ rest)
+
+-- a list that holds r sweeps holds any smaller number
+abbrev pub FewerSweeps : Type 0
+FewerSweeps = (w : World) (r s : ℕ) (es : List Event) → r ≤ s → Sweeps w s es → Sweeps w r es
+
+-- events behind a list that holds r sweeps change nothing of that
+abbrev pub SweepsGrow : Type 0
+SweepsGrow = (w : World) (r : ℕ) (es back : List Event) → Sweeps w r es → Sweeps w r (es ++ back)
+
+-- a list that holds r strict sweeps holds r sweeps
+abbrev pub StrictSweepsAreSweeps : Type 0
+StrictSweepsAreSweeps = (w : World) (r : ℕ) (es : List Event) → IsWorldInRange w → StrictSweeps w r es → Sweeps w r es
+
+-- ---- counting greedily
+
+-- no proper beginning of the stretch is a sweep
+abbrev pub IsEarliest : World → List Event → Type 0
+IsEarliest w first = (front back : List Event) → first ≡ front ++ back → IsSweep w front → back ≡ []
+
+-- Ending a sweep at the first event at which it is one loses none: if the list holds one sweep more than r, the rest behind the earliest sweep holds r.
+abbrev pub EarliestIsBest : Type 0
+EarliestIsBest =
+    (w : World) (r : ℕ) (first rest : List Event) → IsWorldInRange w → IsUndamaged w (first ++ rest) → IsSweep w first → IsEarliest w first
+    → Sweeps w (suc r) (first ++ rest) → Sweeps (run w first) r rest
+
+-- So the greatest count of a list is one more than that of the rest behind its earliest sweep,
+abbrev pub GreedyCount : Type 0
+GreedyCount =
+    (w : World) (r : ℕ) (first rest : List Event) → IsWorldInRange w → IsUndamaged w (first ++ rest) → IsSweep w first → IsEarliest w first
+    → IsGreatestCount (run w first) rest r → IsGreatestCount w (first ++ rest) (suc r)
+
+-- and 0 where no beginning of the list is a sweep.
+abbrev pub NoSweepCount : Type 0
+NoSweepCount =
+    (w : World) (es : List Event) → ((front back : List Event) → es ≡ front ++ back → ¬ IsSweep w front) → IsGreatestCount w es 0
+
+-- a list has one sweep count
+abbrev pub OneCount : Type 0
+OneCount = (w : World) (es : List Event) (r s : ℕ) → IsSweepCount w es r → IsSweepCount w es s → r ≡ s
+
+-- ---- privilege and loans
+
+-- where the tree is reached and the token ring is good, at most one node is privileged
+abbrev pub OnePrivileged : Type 0
+OnePrivileged =
+    (w : World) (u v : ℕ) → IsWorldInRange w → IsTreeReached w → IsTokenRingGood w → u < w.net.nodes → v < w.net.nodes
+    → IsTrue (is_privileged w u) → IsTrue (is_privileged w v) → u ≡ v
+
+-- in a legitimate world at most one node lends
+abbrev pub OneLending : Type 0
+OneLending =
+    (w : World) (u v : ℕ) → IsWorldInRange w → IsLegitimate w → u < w.net.nodes → v < w.net.nodes
+    → IsTrue (is_lending w u) → IsTrue (is_lending w v) → u ≡ v

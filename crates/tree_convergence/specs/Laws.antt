@@ -1,0 +1,78 @@
+-- Links become stable, payloads become fresh, and the tree is reached: each law for the number of sweeps that it uses.
+use Rattle.std.specs.Prelude.{◌≡◌, ℕ, ◌+◌, ◌*◌, ◌<◌, ◌⊎◌, Bool, true, false, IsTrue, List}
+use Rattle.topology.specs.Network.{are_joined}
+use Rattle.topology.specs.declared.frame.Payload.{Payload}
+use Rattle.data_link.specs.Edge.{IsStable}
+use Rattle.run_model.specs.World.{World, IsWorldInRange}
+use Rattle.run_model.specs.Step.{step}
+use Rattle.run_model.specs.Run.{run, is_damage, IsUndamaged}
+use Rattle.run_model.specs.Count.{Sweeps}
+use Rattle.run_model.specs.Tree.{IsTreeAtStage, IsTreeReached}
+use Rattle.run_model.specs.Legitimate.{AreLinksStable, edge_of}
+use Rattle.run_model.specs.Project.{present}
+use Rattle.run_model.specs.declared.event.Event.{Event}
+use Rattle.tree_convergence.specs.Present.{AlwaysPresent}
+
+-- ---- links
+
+-- an event that is no damage keeps every link stable
+abbrev pub LinksStayStable : Type 0
+LinksStayStable = (w : World) (e : Event) → IsWorldInRange w → is_damage w e ≡ false → AreLinksStable w → AreLinksStable (step w e)
+
+-- after 4(C + 1) sweeps every link is stable
+abbrev pub LinksTurnStable : Type 0
+LinksTurnStable = (w : World) (es : List Event) → IsWorldInRange w → IsUndamaged w es → Sweeps w (4 * (w.net.capacity + 1)) es → AreLinksStable (run w es)
+
+-- ---- payloads on a stable link
+
+-- an event leaves what u has staged for v, or stages what u then says of itself to v
+abbrev pub StagedIsPresent : Type 0
+StagedIsPresent =
+    (w : World) (e : Event) (u v : ℕ) → IsWorldInRange w → is_damage w e ≡ false → IsTrue (are_joined w.net.edges u v)
+    → (((step w e).node u).port v).staged ≡ ((w.node u).port v).staged ⊎ (((step w e).node u).port v).staged ≡ present w u v
+
+-- on a stable link an event leaves what v has copied from u, or copies what u then has staged for v
+abbrev pub CopyIsStaged : Type 0
+CopyIsStaged =
+    (w : World) (e : Event) (u v : ℕ) → IsWorldInRange w → is_damage w e ≡ false → IsTrue (are_joined w.net.edges u v) → IsStable w.net.capacity (edge_of w u v)
+    → (((step w e).node v).port u).copy ≡ ((w.node v).port u).copy ⊎ (((step w e).node v).port u).copy ≡ ((w.node u).port v).staged
+
+-- on a stable link, whatever holds of what u says of itself to v throughout three sweeps holds of what is staged and copied at their end
+abbrev pub PayloadsTurnFresh : Type 0
+PayloadsTurnFresh =
+    (test : Payload → Bool) (w : World) (es : List Event) (u v : ℕ) → IsWorldInRange w → IsUndamaged w es → IsTrue (are_joined w.net.edges u v)
+    → IsStable w.net.capacity (edge_of w u v) → Sweeps w 3 es → AlwaysPresent test w es u v
+    → (test (((run w es).node u).port v).staged ≡ true) × (test (((run w es).node v).port u).copy ≡ true)
+
+-- ---- the tree, on stable links
+
+-- every world in range is at stage 0
+abbrev pub StageZero : Type 0
+StageZero = (w : World) → IsWorldInRange w → IsTreeAtStage 0 w
+
+-- an event that is no damage keeps the stage
+abbrev pub StageStays : Type 0
+StageStays =
+    (k : ℕ) (w : World) (e : Event) → IsWorldInRange w → is_damage w e ≡ false → AreLinksStable w → IsTreeAtStage k w → IsTreeAtStage k (step w e)
+
+-- below stage n, four sweeps reach the next stage
+abbrev pub StageRises : Type 0
+StageRises =
+    (k : ℕ) (w : World) (es : List Event) → IsWorldInRange w → IsUndamaged w es → AreLinksStable w → k < w.net.nodes → IsTreeAtStage k w → Sweeps w 4 es
+    → IsTreeAtStage (k + 1) (run w es)
+
+-- at stage n, four sweeps reach the tree
+abbrev pub ParentsTurnTrue : Type 0
+ParentsTurnTrue =
+    (w : World) (es : List Event) → IsWorldInRange w → IsUndamaged w es → AreLinksStable w → IsTreeAtStage w.net.nodes w → Sweeps w 4 es
+    → IsTreeReached (run w es)
+
+-- so 4(n + 1) sweeps reach the tree on stable links,
+abbrev pub TreeIsReached : Type 0
+TreeIsReached =
+    (w : World) (es : List Event) → IsWorldInRange w → IsUndamaged w es → AreLinksStable w → Sweeps w (4 * (w.net.nodes + 1)) es
+    → IsTreeReached (run w es)
+
+-- and an event that is no damage keeps it reached
+abbrev pub TreeStays : Type 0
+TreeStays = (w : World) (e : Event) → IsWorldInRange w → is_damage w e ≡ false → AreLinksStable w → IsTreeReached w → IsTreeReached (step w e)
