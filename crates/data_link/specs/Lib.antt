@@ -1,1 +1,4 @@
 pub mod Port
+pub mod Edge
+pub mod Sweep
+pub mod Laws
