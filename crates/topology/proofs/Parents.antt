@@ -163,16 +163,17 @@ root_has_none net ok = elim (none_or_some (parent_of net net.root)) [
 pub distance_computed : (net : Network) (v d : ℕ) → IsAcceptedNetwork net → v < net.nodes → IsDistance net v d → d ≡ distance_of net v
 distance_computed net v d ok within dist = one_distance net v _ _ dist (distance_is net v ok within)
 
-pub parent_computed : (net : Network) (v p : ℕ) → IsAcceptedNetwork net → v < net.nodes → IsNearer net v p → ((q : ℕ) → q < p → ¬ IsNearer net v q) → Some p ≡ parent_of net v
-parent_computed net v p ok within near none_less =
-    let is : IsTrueParent net v p = record {
-      nearer = near;
-      smallest = λ q other. elim (cases_Bool (ltb q p)) [
-        | inl less ↦ absurd (none_less q (grind (arith, nat_tests)) other)
-        | inr not_less ↦ grind (arith, nat_tests)
-      ];
-    } in
-    sym ((parent_is_one net v p ok within).1 is)
+pub first_nearer : (net : Network) (v p : ℕ) → IsNearer net v p → ((q : ℕ) → q < p → ¬ IsNearer net v q) → IsTrueParent net v p
+first_nearer net v p near none_less = record {
+  nearer = near;
+  smallest = λ q other. elim (cases_Bool (ltb q p)) [
+    | inl less ↦ absurd (none_less q (grind (arith, nat_tests)) other)
+    | inr not_less ↦ grind (arith, nat_tests)
+  ];
+}
+
+pub parent_computed : (net : Network) (v p : ℕ) → IsAcceptedNetwork net → v < net.nodes → IsTrueParent net v p → Some p ≡ parent_of net v
+parent_computed net v p ok within is = sym ((parent_is_one net v p ok within).1 is)
 
 pub no_parent_computed : (net : Network) (v : ℕ) → IsAcceptedNetwork net → v < net.nodes → ((q : ℕ) → q < net.nodes → ¬ IsNearer net v q) → None ≡ parent_of net v
 no_parent_computed net v ok within none = elim (none_or_some (parent_of net v)) [

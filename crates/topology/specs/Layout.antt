@@ -1,20 +1,19 @@
 -- What a `Net` keeps beside its network: the neighbours and the distance of each node.
 use Rattle.std.specs.Prelude.{◌≡◌, ℕ, ◌<◌, List, map, length, Vec, slice_index}
 use Rattle.std.specs.List.{range_with_len}
-use Rattle.std.specs.declared.alloc.Global.{Global}
 use Rattle.topology.specs.declared.net.Net.TheInside.{Inside}
 use Rattle.topology.specs.Network.{Network, neighbours_of, IsDistance, IsAcceptedNetwork}
 
 -- the network that a `Net` keeps
-abbrev pub network_of : Inside → Network
+abbrev pub network_of : {A : Type 0} → Inside A → Network
 network_of n = record { nodes = n.nodes; root = n.root; capacity = n.capacity; lease = n.lease; edges = n.links.items }
 
 -- rows as lists
-abbrev pub rows_of : List (Vec ℕ Global) → List (List ℕ)
+abbrev pub rows_of : {A : Type 0} → List (Vec ℕ A) → List (List ℕ)
 rows_of rows = map (λ row. row.items) rows
 
 -- the kept lists and distances are those of the network
-pub record IsLaidOut (net : Network) (neighbours : List (Vec ℕ Global)) (distances : List ℕ) : Type 0 where
+pub record IsLaidOut {A : Type 0} (net : Network) (neighbours : List (Vec ℕ A)) (distances : List ℕ) : Type 0 where
   pub network : IsAcceptedNetwork net
   pub neighbours_are : rows_of neighbours ≡ map (neighbours_of net) (range_with_len 0 net.nodes)
   pub all_distances : length distances ≡ net.nodes

@@ -1,4 +1,18 @@
-//! Networks: connected undirected graphs with a root, read from TOML or made of values.
+//! Networks of the lock: connected undirected graphs with a root, read from TOML or made of values, with the distance and the true parent
+//! of each node, and the numbers that follow from the size: the counters' modulus, the ring's, and the sweeps after which the system is
+//! legitimate. Also the plain data that neighbours send each other, and their ranges.
+//!
+//! It is no general graph library: a [`Net`] never changes, has at most 64 nodes and 256 edges, and is refused if it is not connected.
+//!
+//! ```text
+//! let net = Net::read(alloc, "nodes = 2\nroot = 0\ncapacity = 1\nlease = 0\nedges = [[0, 1]]")?;
+//! net.parent(1)   // Some(0)
+//! net.bound()     // 69 sweeps
+//! ```
+//!
+//! A trap: a parent is by the nodes' true distances. What a node takes for its parent while the system settles stands in its state, not here.
+//!
+//! Distances are those of graph theory; the tree by distances with the smallest parents is that of Dolev, Israeli and Moran (1993).
 #![tactic(auto)]
 
 mod fault;

@@ -1,0 +1,159 @@
+//! How a network is made: read from TOML, made of values, or copied.
+ghost use Rattle.std.specs.Prelude.{◌≡◌, IfOk, IfErr, map, ℤ, pos, ◌≤ℤ◌, false};
+ghost use Rattle.topology.specs.Network.{Network, IsAcceptedNetwork, IsWithinLimits};
+ghost use Rattle.topology.specs.Refusal.{Values, as_ends, has_bad_end};
+ghost use Rattle.topology.specs.Accept.{IsAccepted, IsRefused, IsNotJoined};
+ghost use Rattle.topology.specs.ReadNet.{IsReadFrom, IsUnread};
+
+use crate::fault::NetFault;
+use crate::file::read_values;
+use crate::graph::{all_neighbours, copy_edges, copy_numbers, distances_from, has_unreached};
+use crate::net::Net;
+use crate::values::{has_bad_end, has_double, has_loop};
+use std::alloc::{AllocError, Allocator, Global};
+
+impl Net {
+    /// Reads a network from the five keys `nodes`, `root`, `capacity`, `lease` and `edges` of a TOML text; other keys are ignored.
+    ///
+    /// # Errors
+    /// The first [`NetFault`] that the text has, in their order; `Memory` where memory ran out on the way.
+    pub fn read(alloc: Global, text: &str) -> Result<Net, NetFault>
+        ensures ok { IfOk result (IsReadFrom text.now) }
+        ensures err { IfErr result (IsUnread text.now) }
+    {
+        let values = read_values(alloc, text)?;
+        Net::make(
+            alloc,
+            values.nodes,
+            values.root,
+            values.capacity,
+            values.lease,
+            values.edges.as_slice(),
+        )
+    }
+}
+
+impl<A: Allocator + Copy> Net<A> {
+    /// Makes a network of values, as a file would give them.
+    ///
+    /// # Errors
+    /// The first [`NetFault`] from `TooSmall` on that the values have, in their order; `Memory` where memory ran out on the way.
+    pub fn make(
+        alloc: A,
+        nodes: i64,
+        root: i64,
+        capacity: i64,
+        lease: i64,
+        edges: &[(i64, i64)],
+    ) -> Result<Net<A>, NetFault>
+        ensures ok { IfOk result (IsAccepted (record { nodes = nodes; root = root; capacity = capacity; lease = lease; edges = edges.now })) }
+        ensures err { IfErr result (IsRefused (record { nodes = nodes; root = root; capacity = capacity; lease = lease; edges = edges.now })) }
+    {
+        if nodes < 2 {
+            return Err(NetFault::TooSmall);
+        }
+        if nodes > 64 || edges.len() > 256 {
+            return Err(NetFault::TooBig);
+        }
+        if root < 0 || root >= nodes {
+            return Err(NetFault::BadRoot);
+        }
+        if capacity < 1 || capacity > 4096 {
+            return Err(NetFault::BadCapacity);
+        }
+        if lease < 0 || lease > 65535 {
+            return Err(NetFault::BadLease);
+        }
+        if has_bad_end(nodes, edges) {
+            return Err(NetFault::BadEdge);
+        }
+        if has_loop(edges) {
+            return Err(NetFault::LoopEdge);
+        }
+        if has_double(edges) {
+            return Err(NetFault::DoubleEdge);
+        }
+        let links = narrow_edges(alloc, nodes, edges)?;
+        let node_count = narrow(nodes);
+        let root_id = narrow(root);
+        let places = narrow(capacity);
+        let ticks = narrow(lease);
+        Net::join(alloc, node_count, root_id, places, ticks, links)
+    }
+
+    /// The network of values that are right one by one, unless the graph is not connected.
+    fn join(
+        alloc: A,
+        nodes: u16,
+        root: u16,
+        capacity: u16,
+        lease: u16,
+        links: Vec<(u16, u16), A>,
+    ) -> Result<Net<A>, NetFault>
+        requires { IsWithinLimits (record { nodes = nodes; root = root; capacity = capacity; lease = lease; edges = links.items }) }
+        ensures ok { IfOk result (λ net. (net ≡ record { nodes = nodes; root = root; capacity = capacity; lease = lease; edges = links.items }) × IsAcceptedNetwork net) }
+        ensures err { IfErr result (IsNotJoined (record { nodes = nodes; root = root; capacity = capacity; lease = lease; edges = links.items })) }
+    {
+        let rows = all_neighbours(alloc, nodes, links.as_slice())?;
+        let depths = distances_from(alloc, nodes, links.as_slice(), root)?;
+        if has_unreached(depths.as_slice()) {
+            return Err(NetFault::Apart);
+        }
+        Ok(Net {
+            nodes,
+            root,
+            capacity,
+            lease,
+            links,
+            rows,
+            depths,
+        })
+    }
+
+    /// An equal network.
+    ///
+    /// # Errors
+    /// Where memory runs out.
+    pub fn copy(&self, alloc: A) -> Result<Net<A>, AllocError>
+        ensures { IfOk result (λ net. net ≡ self.now) }
+    {
+        let links = copy_edges(alloc, self.links.as_slice())?;
+        let rows = all_neighbours(alloc, self.nodes, self.links.as_slice())?;
+        let depths = copy_numbers(alloc, self.depths.as_slice())?;
+        Ok(Net {
+            nodes: self.nodes,
+            root: self.root,
+            capacity: self.capacity,
+            lease: self.lease,
+            links,
+            rows,
+            depths,
+        })
+    }
+}
+
+/// A number that fits.
+fn narrow(number: i64) -> u16
+    requires low { pos 0 ≤ℤ number }
+    requires high { number ≤ℤ pos 65535 }
+    ensures { number ≡ pos result }
+{
+    number as u16
+}
+
+/// The edges with ends that are node ids.
+fn narrow_edges<A: Allocator + Copy>(
+    alloc: A,
+    nodes: i64,
+    edges: &[(i64, i64)],
+) -> Result<Vec<(u16, u16), A>, AllocError>
+    requires few { nodes ≤ℤ pos 64 }
+    requires ends_in { has_bad_end nodes edges.now ≡ false }
+    ensures { IfOk result (λ narrow. map as_ends narrow.items ≡ edges.now) }
+{
+    let mut narrow = Vec::new(alloc);
+    for edge in edges {
+        narrow.push((edge.0 as u16, edge.1 as u16))?;
+    }
+    Ok(narrow)
+}
