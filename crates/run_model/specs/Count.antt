@@ -1,5 +1,5 @@
 -- How many sweeps a run holds.
-use Rattle.std.specs.Prelude.{◌≡◌, ℕ, ◌×◌, Bool, if◌then◌else◌, zero, suc, List, [], ◌∷◌, ◌++◌}
+use Rattle.std.specs.Prelude.{◌≡◌, ℕ, if◌then◌else◌, zero, suc, List, [], ◌∷◌, ◌++◌}
 use Rattle.run_model.specs.World.{World}
 use Rattle.run_model.specs.Step.{step}
 use Rattle.run_model.specs.Run.{run, has_damage}

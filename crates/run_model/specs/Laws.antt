@@ -1,7 +1,8 @@
 -- The plain laws of runs and sweeps, for every network, world and list of events.
-use Rattle.std.specs.Prelude.{◌≡◌, ℕ, ◌+◌, ◌<◌, ◌≤◌, Bool, true, false, IsTrue, IsFalse, is_some, zero, suc, List, [], ◌∷◌, ◌++◌, map}
+use Rattle.std.specs.Prelude.{◌≡◌, ℕ, ◌+◌, ◌<◌, ◌≤◌, false, IsTrue, is_some, suc, List, [], ◌++◌}
 use Rattle.topology.specs.Network.{are_joined}
-use Rattle.data_link.specs.Edge.{EdgeState, IsEdgeInRange, edge_run}
+use Rattle.data_link.specs.Edge.{IsEdgeInRange, edge_step, edge_run}
+use Rattle.data_link.specs.Sweep as edge
 use Rattle.data_link.specs.Sweep.{is_out_served, is_back_served}
 use Rattle.run_model.specs.World.{World, IsWorldInRange}
 use Rattle.run_model.specs.Step.{refusal, step}
@@ -11,7 +12,7 @@ use Rattle.run_model.specs.Count.{Sweeps, StrictSweeps, IsGreatestCount, IsSweep
 use Rattle.run_model.specs.Ring.{IsTokenRingGood}
 use Rattle.run_model.specs.Tree.{IsTreeReached}
 use Rattle.run_model.specs.Legitimate.{IsLegitimate, edge_of, is_privileged, is_lending}
-use Rattle.run_model.specs.Project.{edge_events}
+use Rattle.run_model.specs.Project.{edge_event, edge_events}
 use Rattle.run_model.specs.declared.event.Event.{Event}
 
 -- ---- steps and runs
@@ -46,7 +47,13 @@ abbrev pub EdgesAreInRange : Type 0
 EdgesAreInRange =
     (w : World) (u v : ℕ) → IsWorldInRange w → IsTrue (are_joined w.net.edges u v) → IsEdgeInRange w.net.capacity (edge_of w u v)
 
--- a run without damage is, for each edge, a run of that edge's own events
+-- an event that is no damage is, for each edge, that edge's own event
+abbrev pub EdgeSteps : Type 0
+EdgeSteps =
+    (w : World) (e : Event) (u v : ℕ) → IsWorldInRange w → IsTrue (are_joined w.net.edges u v) → is_damage w e ≡ false
+    → edge_of (step w e) u v ≡ edge_step w.net.capacity (edge_of w u v) (edge_event w e u v)
+
+-- and so a run without damage is a run of the edge's own events
 abbrev pub EdgeRuns : Type 0
 EdgeRuns =
     (w : World) (es : List Event) (u v : ℕ) → IsWorldInRange w → IsTrue (are_joined w.net.edges u v) → IsUndamaged w es
@@ -55,9 +62,15 @@ EdgeRuns =
 -- a stretch serves a link where the edge's own events do
 abbrev pub EdgeIsServed : Type 0
 EdgeIsServed =
-    (w : World) (es : List Event) (u v : ℕ) → IsWorldInRange w → IsTrue (are_joined w.net.edges u v) → IsUndamaged w es
+    (w : World) (es : List Event) (u v : ℕ) → IsWorldInRange w → IsTrue (are_joined w.net.edges u v)
     → (is_served w es u v ≡ is_out_served w.net.capacity (edge_of w u v) (edge_events w es u v))
     × (is_served w es v u ≡ is_back_served w.net.capacity (edge_of w u v) (edge_events w es u v))
+
+-- and r sweeps are r sweeps of the edge's own events
+abbrev pub EdgeSweeps : Type 0
+EdgeSweeps =
+    (w : World) (r : ℕ) (es : List Event) (u v : ℕ) → IsWorldInRange w → IsTrue (are_joined w.net.edges u v) → Sweeps w r es
+    → edge.Sweeps w.net.capacity (edge_of w u v) r (edge_events w es u v)
 
 -- ---- sweeps
 

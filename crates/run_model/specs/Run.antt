@@ -1,5 +1,5 @@
 -- A run is the steps of a list of events, one after the other.
-use Rattle.std.specs.Prelude.{ℕ, Bool, true, false, ◌||◌, is_none, List, [], ◌∷◌, IsFalse}
+use Rattle.std.specs.Prelude.{Bool, false, ◌||◌, is_none, List, [], ◌∷◌, IsFalse}
 use Rattle.run_model.specs.World.{World}
 use Rattle.run_model.specs.Step.{refusal, step}
 use Rattle.run_model.specs.declared.event.Event.{Event}

@@ -7,10 +7,9 @@ use Rattle.topology.specs.Ranges.{ranges_of, parent_fits, payload_fits}
 use Rattle.link_model.specs.declared.item.Item.{Item}
 use Rattle.link_model.specs.declared.item.Item.TheVariants.{Frame}
 use Rattle.data_link.specs.Port.{PortState, frame_of}
-use Rattle.lock_desk.specs.Desk.{DeskState, ask_fault, asked, is_stranger, after_leave, loan_fits, with_loan}
+use Rattle.lock_desk.specs.Desk.{DeskState, is_number, ask_fault, asked, is_stranger, after_leave, loan_fits, with_loan}
 use Rattle.lock_desk.specs.declared.fault.AskFault.{AskFault}
 use Rattle.lock_desk.specs.declared.fault.AskFault.TheVariants as ask
-use Rattle.node_core.specs.State.{NodeState}
 use Rattle.node_core.specs.Step.{taken, ticked}
 use Rattle.run_model.specs.World.{World, item_fits, site, with_node, with_link}
 use Rattle.run_model.specs.declared.event.Event.{Event}
@@ -68,13 +67,17 @@ desk_fault None = None
 desk_fault (Some ask.Full) = Some Full
 desk_fault (Some ask.Twice) = Some Twice
 
+-- a ticket is a number below 65536; the type of tickets sees to that where an event is written
+abbrev pub ticket_fault : ℕ → Option EventFault
+ticket_fault t = unless (is_number t) OutOfRange
+
 -- the first refusal of an event that holds, if any
 abbrev pub refusal : World → Event → Option EventFault
 refusal w (Send u v) = link_fault w u v
 refusal w (Take u v) = link_fault w u v
 refusal w (Lose u v i) = first_fault (link_fault w u v) (unless (nat_lt i (length (w.link u v))) NoItem)
 refusal w (Tick v) = node_fault w v
-refusal w (Ask v t) = first_fault (node_fault w v) (desk_fault (ask_fault t (w.node v).desk))
+refusal w (Ask v t) = first_fault (node_fault w v) (first_fault (ticket_fault t) (desk_fault (ask_fault t (w.node v).desk)))
 refusal w (Leave v t) = first_fault (node_fault w v) (unless (not (is_stranger t (w.node v).desk)) Stranger)
 refusal w (Damage h) = first_fault (harm_place_fault w h) (unless (harm_fits w h) OutOfRange)
 

@@ -1,5 +1,5 @@
 -- How far the tree of distances and parents is right (Dolev, Israeli, Moran 1993).
-use Rattle.std.specs.Prelude.{◌≡◌, ℕ, ◌<◌, IsTrue, Option}
+use Rattle.std.specs.Prelude.{◌≡◌, ℕ, ◌<◌, IsTrue}
 use Rattle.topology.specs.Network.{are_joined}
 use Rattle.topology.specs.Tree.{distance_of, parent_of}
 use Rattle.topology.specs.declared.frame.Payload.{Payload}

@@ -64,9 +64,16 @@ pub enum Harm {
         served: bool,
     },
     /// One more item on a link, as the newest.
-    Item { from: u16, to: u16, item: Item },
+    Item {
+        from: u16,
+        to: u16,
+        item: Item,
+    },
     /// No item on a link any more.
-    Empty { from: u16, to: u16 },
+    Empty {
+        from: u16,
+        to: u16,
+    },
 }
 
 /// Why an event is refused, in the order in which the causes are looked for. A refused event changes nothing.
