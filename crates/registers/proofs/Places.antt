@@ -1,0 +1,84 @@
+-- What a write at one place does to all places.
+use Rattle.std.proofs.Common.{◌≡◌, ◌≢◌, ◌∙◌, ap, ℕ, ◌<◌, arith, refl, sym, rules, IsTrue, List, length, Contains, slice_set, slice_index_or, get_or-set_same, get_or-set_other}
+use Rattle.std.proofs.Math.Path.{fun_ext}
+use Rattle.std.proofs.lemmas.Grind.{common_steps}
+use Rattle.std.proofs.lemmas.List.{length-set}
+use Rattle.std.proofs.lemmas.List.Elements.{All-set, All-contains}
+use Rattle.topology.specs.At.{at}
+use Rattle.data_link.specs.Port.{PortState, PortView, default_port}
+use Rattle.registers.specs.Registers.{RegistersView, IsPortOf, IsRegisters, port_of, value_of}
+
+-- the registers with another port at place w, and with another value there
+abbrev pub with_port : RegistersView → ℕ → PortView → RegistersView
+with_port r w p = record r { ports = slice_set r.ports w p }
+
+abbrev pub with_value : RegistersView → ℕ → ℕ → RegistersView
+with_value r w x = record r { values = slice_set r.values w x }
+
+port_of-one : (r : RegistersView) (w : ℕ) (p : PortView) (i : ℕ) → w < length r.ports → port_of (with_port r w p) i ≡ at (port_of r) w p.state i
+port_of-one r w p i within = grind (arith, common_steps)
+
+pub port_of-with_port : (r : RegistersView) (w : ℕ) (p : PortView) → w < length r.ports → port_of (with_port r w p) ≡ at (port_of r) w p.state
+port_of-with_port r w p within = fun_ext (λ i. port_of-one r w p i within)
+
+value_of-one : (r : RegistersView) (w x i : ℕ) → w < length r.values → value_of (with_value r w x) i ≡ at (value_of r) w x i
+value_of-one r w x i within = grind (arith, common_steps)
+
+pub value_of-with_value : (r : RegistersView) (w x : ℕ) → w < length r.values → value_of (with_value r w x) ≡ at (value_of r) w x
+value_of-with_value r w x within = fun_ext (λ i. value_of-one r w x i within)
+
+other_port : (r : RegistersView) (w : ℕ) (p : PortView) (v : ℕ) → v ≢ w → port_of (with_port r w p) v ≡ port_of r v
+other_port r w p v ne = grind (arith, common_steps)
+
+other_value : (r : RegistersView) (w x v : ℕ) → v ≢ w → value_of (with_value r w x) v ≡ value_of r v
+other_value r w x v ne = grind (arith, common_steps)
+
+-- a neighbour is a node
+pub neighbour_is_node : (r : RegistersView) (w : ℕ) → IsRegisters r → Contains r.neighbours w → w < r.ranges.nodes
+neighbour_is_node r w ok near = All-contains (λ v. v < r.ranges.nodes) r.neighbours w ok.neighbours_in near
+
+-- another node than w, where w is in the list and it is not
+other_than : (ns : List ℕ) (w v : ℕ) → Contains ns w → ¬ Contains ns v → v ≢ w
+other_than ns w v near far e = far (rw e near)
+
+-- a port in range at a neighbour's place leaves registers
+pub registers-with_port : (r : RegistersView) (w : ℕ) (p : PortView) → IsRegisters r → Contains r.neighbours w → IsPortOf r.ranges p → IsRegisters (with_port r w p)
+registers-with_port r w p ok near fits = record {
+  most = ok.most;
+  ports = rw (length-set r.ports w p) ok.ports;
+  values = ok.values;
+  ports_fit = All-set (IsPortOf r.ranges) r.ports w p fits ok.ports_fit;
+  values_fit = ok.values_fit;
+  neighbours_in = ok.neighbours_in;
+  ascending = ok.ascending;
+  other_ports = λ v far. other_port r w p v (other_than r.neighbours w v near far) ∙ ok.other_ports v far;
+  other_values = ok.other_values;
+}
+
+-- and so does a value in range
+pub registers-with_value : (r : RegistersView) (w x : ℕ) → IsRegisters r → Contains r.neighbours w → x < r.ranges.ring → IsRegisters (with_value r w x)
+registers-with_value r w x ok near fits = record {
+  most = ok.most;
+  ports = ok.ports;
+  values = rw (length-set r.values w x) ok.values;
+  ports_fit = ok.ports_fit;
+  values_fit = All-set (λ y. y < r.ranges.ring) r.values w x fits ok.values_fit;
+  neighbours_in = ok.neighbours_in;
+  ascending = ok.ascending;
+  other_ports = ok.other_ports;
+  other_values = λ v far. other_value r w x v (other_than r.neighbours w v near far) ∙ ok.other_values v far;
+}
+
+-- what stands at a neighbour's place is its port, with these ranges
+pub port_read : (r : RegistersView) (w : ℕ) (was : PortView) → IsRegisters r → Contains r.neighbours w → was ≡ slice_index_or r.ports w was
+    → was ≡ record { ranges = r.ranges; state = port_of r w }
+port_read r w was ok near read = grind (arith, common_steps, neighbour_is_node, ok.ports_fit w was)
+
+-- it is changed, and no other
+pub port_changed : (r : RegistersView) (w : ℕ) (was new : PortView) (change : PortView → PortState) → IsRegisters r → Contains r.neighbours w
+    → was ≡ slice_index_or r.ports w was → new.state ≡ change was
+    → port_of (with_port r w new) ≡ at (port_of r) w (change (record { ranges = r.ranges; state = port_of r w }))
+port_changed r w was new change ok near read is =
+    let within : w < length r.ports = omega (arith, neighbour_is_node r w ok near, ok.ports) in
+    let same : new.state ≡ change (record { ranges = r.ranges; state = port_of r w }) = is ∙ ap change (port_read r w was ok near read) in
+    rw (← same) (port_of-with_port r w new within)

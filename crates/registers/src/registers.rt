@@ -1,0 +1,159 @@
+//! The registers of one node.
+ghost use Rattle.std.specs.Prelude.{◌≡◌, ◌↔◌, ◌<◌, ◌≤◌, ℕ, List, IsTrue, IfOk, IsOk, OnOk, OnErr, Contains, replicate};
+ghost use Rattle.std.specs.Vec.{vec_capacity};
+ghost use Rattle.topology.specs.At.{at};
+ghost use Rattle.topology.specs.Network.{neighbours_of};
+ghost use Rattle.topology.specs.Ranges.{frame_fits, payload_fits, ranges_of};
+ghost use Rattle.data_link.specs.Port.{PortState, counters_fit, default_port, frame_of, heard_of, port_after};
+ghost use Rattle.registers.specs.Registers.{RegistersView, IsRegisters, port_of, value_of};
+
+use data_link::{Heard, OutOfRange, Port};
+use std::alloc::{AllocError, Allocator, Global};
+use std::marker::Model;
+use topology::{Frame, Net, Payload, Ranges};
+
+/// What a node keeps of every other node: a port to it, and the value of the machine that comes in from it.
+#[derive(Drop)]
+pub struct Registers<A: Allocator = Global> {
+    ranges: Ranges,
+    neighbours: Vec<u16, A>,
+    ports: Vec<Port, A>,
+    values: Vec<u16, A>,
+}
+
+impl<A: Allocator> Model for Registers<A> {
+    ghost use Rattle.std.specs.Prelude.{◌≤◌};
+    ghost use Rattle.std.specs.Vec.{vec_capacity};
+    ghost use Rattle.registers.specs.Registers.{RegistersView, IsRegisters};
+
+    ghost Value = { RegistersView };
+
+    ghost view = { λ r. record { ranges = r.ranges; neighbours = r.neighbours.items; ports = r.ports.items; values = r.values.items } };
+
+    ghost invariant = { λ r. (r.ranges.nodes ≤ vec_capacity r.neighbours)
+        × IsRegisters (record { ranges = r.ranges; neighbours = r.neighbours.items; ports = r.ports.items; values = r.values.items }) };
+}
+
+impl<A: Allocator + Copy> Registers<A> {
+    /// The registers of a node that knows nothing yet. All places are reserved here, also for nodes that become neighbours later; `AllocError` comes only
+    /// where that memory is refused.
+    pub fn new(alloc: A, net: &Net, id: u16) -> Result<Registers<A>, AllocError>
+        requires { id < net.now.nodes }
+        ensures ranges { IfOk result (λ r. r.ranges ≡ ranges_of net.now) }
+        ensures neighbours { IfOk result (λ r. r.neighbours ≡ neighbours_of net.now id) }
+        ensures ports { IfOk result (λ r. port_of r ≡ (λ w. default_port (ranges_of net.now))) }
+        ensures values { IfOk result (λ r. value_of r ≡ (λ w. 0)) }
+    {
+        let neighbours = with_room(alloc, net.nodes(), net.neighbours(id))?;
+        let ports = default_ports(alloc, net)?;
+        let values = vec![in alloc; 0u16; usize::from(net.nodes())]?;
+        Ok(Registers {
+            ranges: net.ranges(),
+            neighbours,
+            ports,
+            values,
+        })
+    }
+}
+
+impl<A: Allocator> Registers<A> {
+    /// The ranges of all fields, those of the network.
+    pub fn ranges(&self) -> Ranges
+        ensures ranges { result ≡ self.now.ranges }
+        ensures registers { IsRegisters self.now }
+    {
+        self.ranges
+    }
+
+    /// The ids of the neighbours, ascending.
+    pub fn neighbours(&self) -> &[u16]
+        ensures neighbours { result.now ≡ self.now.neighbours }
+        ensures registers { IsRegisters self.now }
+    {
+        &self.neighbours
+    }
+
+    /// The number under which the payload for `port` goes out.
+    pub fn seq(&self, port: u16) -> u16
+        requires { port < self.now.ranges.nodes }
+        ensures seq { result ≡ (port_of self.now port).seq }
+    {
+        self.ports[port as usize].seq()
+    }
+
+    /// The last number that was accepted from `port`.
+    pub fn last(&self, port: u16) -> u16
+        requires { port < self.now.ranges.nodes }
+        ensures last { result ≡ (port_of self.now port).last }
+    {
+        self.ports[port as usize].last()
+    }
+
+    /// What the node says to `port`, until that neighbour has it.
+    pub fn staged_for(&self, port: u16) -> Payload
+        requires { port < self.now.ranges.nodes }
+        ensures staged { result ≡ (port_of self.now port).staged }
+    {
+        self.ports[port as usize].staged()
+    }
+
+    /// What `port` said last.
+    pub fn copy_of(&self, port: u16) -> Payload
+        requires { port < self.now.ranges.nodes }
+        ensures copy { result ≡ (port_of self.now port).copy }
+        ensures fits { IsTrue (payload_fits self.now.ranges result) }
+    {
+        self.ports[port as usize].copy()
+    }
+
+    /// The value of the machine that comes in from `port`.
+    pub fn value(&self, port: u16) -> u16
+        requires { port < self.now.ranges.nodes }
+        ensures value { result ≡ value_of self.now port }
+        ensures below { result < self.now.ranges.ring }
+    {
+        self.values[port as usize]
+    }
+
+    /// The frame to send to `port`.
+    pub fn frame_for(&self, port: u16) -> Frame
+        requires { port < self.now.ranges.nodes }
+        ensures frame { result ≡ frame_of (port_of self.now port) }
+        ensures fits { IsTrue (frame_fits self.now.ranges result) }
+    {
+        self.ports[port as usize].frame()
+    }
+
+    /// Takes a frame from the neighbour `port`; `present` is what the node had to say to it before the frame. No other port changes.
+    pub fn hear(&mut self, port: u16, frame: &Frame, present: Payload) -> Heard
+        requires neighbour { Contains self.old.neighbours port }
+        requires frame_fits { IsTrue (frame_fits self.old.ranges frame.now) }
+        requires present_fits { IsTrue (payload_fits self.old.ranges present) }
+        ensures port { port_of self.new ≡ at (port_of self.old) port (port_after self.old.ranges.counter (port_of self.old port) frame.now present) }
+        ensures rest { self.new ≡ record self.old { ports = self.new.ports } }
+        ensures heard { result ≡ heard_of (port_of self.old port) frame.now }
+    {
+        self.ports[port as usize].on_frame(frame, present)
+    }
+}
+
+/// The ids, with room for as many as there are nodes.
+fn with_room<A: Allocator>(alloc: A, nodes: u16, ids: &[u16]) -> Result<Vec<u16, A>, AllocError>
+    ensures ids { IfOk result (λ copied. copied.items ≡ ids.now) }
+    ensures room { IfOk result (λ copied. nodes ≤ vec_capacity copied) }
+{
+    let mut copied = Vec::with_capacity(alloc, usize::from(nodes))?;
+    copied.extend_from_slice(ids)?;
+    Ok(copied)
+}
+
+/// A port for each node, that knows nothing yet.
+fn default_ports<A: Allocator>(alloc: A, net: &Net) -> Result<Vec<Port, A>, AllocError>
+    ensures { IfOk result (λ ports. ports.items ≡ replicate net.now.nodes (record { ranges = ranges_of net.now; state = default_port (ranges_of net.now) })) }
+{
+    let mut ports = Vec::with_capacity(alloc, usize::from(net.nodes()))?;
+    for _ in 0..net.nodes() {
+        ports.push_reserved(Port::new(net));
+    }
+    Ok(ports)
+}
