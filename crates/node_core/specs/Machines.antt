@@ -1,5 +1,5 @@
 -- Dijkstra's machines at one node: one for each tree neighbour, placed on the Euler tour of the tree (Dijkstra 1974).
-use Rattle.std.specs.Prelude.{ℕ, Bool, false, ◌==◌, ◌&&◌, Option, Some, None, List, if◌then◌else◌}
+use Rattle.std.specs.Prelude.{ℕ, Bool, ◌==◌, List, if◌then◌else◌}
 use Rattle.std.specs.List.{list_any}
 use Rattle.topology.specs.declared.frame.Payload.{Payload}
 use Rattle.k_state.specs.Machine.{root_moved, is_privileged}

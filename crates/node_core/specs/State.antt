@@ -1,5 +1,5 @@
 -- The state of one node.
-use Rattle.std.specs.Prelude.{◌≡◌, ℕ, ◌<◌, ◌≤◌, Option, None, IsTrue, All}
+use Rattle.std.specs.Prelude.{ℕ, ◌<◌, ◌≤◌, Option, None, IsTrue, All}
 use Rattle.topology.specs.Ranges.{parent_fits}
 use Rattle.topology.specs.declared.frame.Ranges.{Ranges}
 use Rattle.data_link.specs.Port.{PortState, port_fits, default_port}

@@ -1,5 +1,5 @@
 -- What a node does: it takes an item from a neighbour, it ticks, and its clients ask and leave.
-use Rattle.std.specs.Prelude.{◌≡◌, ℕ, Bool, ◌==◌, ◌&&◌, List, None, is_none, if◌then◌else◌}
+use Rattle.std.specs.Prelude.{ℕ, ◌==◌, ◌&&◌, is_none, if◌then◌else◌}
 use Rattle.std.specs.List.{list_any}
 use Rattle.topology.specs.At.{at}
 use Rattle.link_model.specs.declared.item.Item.{Item}

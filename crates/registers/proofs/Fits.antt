@@ -1,6 +1,5 @@
 -- A port stays in range.
-use Rattle.std.proofs.Common.{◌≡◌, ℕ, ◌<◌, ◌+◌, ◌%◌, arith, refl, rules, IsTrue, true, false, Bool}
-use Rattle.std.proofs.lemmas.Grind.{common_steps}
+use Rattle.std.proofs.Common.{arith, rules, IsTrue}
 use Rattle.topology.specs.Ranges.{frame_fits, payload_fits}
 use Rattle.topology.specs.declared.frame.Frame.{Frame}
 use Rattle.topology.specs.declared.frame.Payload.{Payload}

@@ -1,11 +1,12 @@
 -- What a write at one place does to all places.
-use Rattle.std.proofs.Common.{◌≡◌, ◌≢◌, ◌∙◌, ap, ℕ, ◌<◌, arith, refl, sym, rules, IsTrue, List, length, Contains, slice_set, slice_index_or, get_or-set_same, get_or-set_other}
+use Rattle.std.proofs.Common.{◌≡◌, ◌≢◌, ◌∙◌, ◌↔◌, ap, Bool, Result, Ok, Err, IsOk, OnOk, OnErr, ℕ, ◌<◌, arith, refl, IsTrue, List, length, Contains, slice_set, slice_index_or}
 use Rattle.std.proofs.Math.Path.{fun_ext}
 use Rattle.std.proofs.lemmas.Grind.{common_steps}
 use Rattle.std.proofs.lemmas.List.{length-set}
 use Rattle.std.proofs.lemmas.List.Elements.{All-set, All-contains}
 use Rattle.topology.specs.At.{at}
-use Rattle.data_link.specs.Port.{PortState, PortView, default_port}
+use Rattle.topology.specs.declared.frame.Ranges.{Ranges}
+use Rattle.data_link.specs.Port.{PortState, PortView, port_fits}
 use Rattle.registers.specs.Registers.{RegistersView, IsPortOf, IsRegisters, port_of, value_of}
 
 -- the registers with another port at place w, and with another value there
@@ -76,9 +77,29 @@ port_read r w was ok near read = grind (arith, common_steps, neighbour_is_node, 
 
 -- it is changed, and no other
 pub port_changed : (r : RegistersView) (w : ℕ) (was new : PortView) (change : PortView → PortState) → IsRegisters r → Contains r.neighbours w
-    → was ≡ slice_index_or r.ports w was → new.state ≡ change was
+    → was ≡ slice_index_or r.ports w was → new ≡ record was { state = change was }
     → port_of (with_port r w new) ≡ at (port_of r) w (change (record { ranges = r.ranges; state = port_of r w }))
 port_changed r w was new change ok near read is =
     let within : w < length r.ports = omega (arith, neighbour_is_node r w ok near, ok.ports) in
-    let same : new.state ≡ change (record { ranges = r.ranges; state = port_of r w }) = is ∙ ap change (port_read r w was ok near read) in
+    let same : new.state ≡ change (record { ranges = r.ranges; state = port_of r w }) = ap (λ p. p.state) is ∙ ap change (port_read r w was ok near read) in
     rw (← same) (port_of-with_port r w new within)
+
+-- the same of a writer that may refuse
+pub port_changed_on_ok : {X E : Type 0} (r : RegistersView) (w : ℕ) (was new : PortView) (change : PortView → PortState) (result : Result X E) → IsRegisters r
+    → Contains r.neighbours w → was ≡ slice_index_or r.ports w was → OnOk result (new ≡ record was { state = change was })
+    → OnOk result (port_of (with_port r w new) ≡ at (port_of r) w (change (record { ranges = r.ranges; state = port_of r w })))
+port_changed_on_ok r w was new change (Ok x) ok near read is = port_changed r w was new change ok near read is
+port_changed_on_ok r w was new change (Err e) ok near read is = tt
+
+-- it leaves a port in range where it writes only what fits
+pub port_kept : {X E : Type 0} (r : Ranges) (was new : PortView) (change : PortView → PortState) (fits : Bool) (result : Result X E) → IsPortOf r was
+    → (IsOk result ↔ IsTrue fits) → OnOk result (new ≡ record was { state = change was }) → OnErr result (new ≡ was)
+    → (IsTrue fits → IsTrue (port_fits r (change was))) → IsPortOf r new
+port_kept r was new change fits (Ok x) ok variant is same good =
+    let fit : IsTrue (port_fits r (change was)) = good (variant.0 refl) in
+    rw is (record { same = ok.same; fits = fit })
+port_kept r was new change fits (Err e) ok variant is same good = rw same ok
+
+-- the same of values
+pub value_written : (r : RegistersView) (w x : ℕ) → IsRegisters r → Contains r.neighbours w → value_of (with_value r w x) ≡ at (value_of r) w x
+value_written r w x ok near = value_of-with_value r w x (omega (arith, neighbour_is_node r w ok near, ok.values))

@@ -135,6 +135,64 @@ impl<A: Allocator> Registers<A> {
     {
         self.ports[port as usize].on_frame(frame, present)
     }
+
+    /// Writes the value of the machine that comes in from the neighbour `port`, as a move of that machine does. No other value changes.
+    pub fn write_value(&mut self, port: u16, value: u16)
+        requires neighbour { Contains self.old.neighbours port }
+        requires below { value < self.old.ranges.ring }
+        ensures value { value_of self.new ≡ at (value_of self.old) port value }
+        ensures rest { self.new ≡ record self.old { values = self.new.values } }
+    {
+        self.values[port as usize] = value;
+    }
+
+    /// Writes the value of the machine that comes in from the neighbour `port`. `OutOfRange` comes exactly where it is not below the ring values' modulus.
+    pub fn set_value(&mut self, port: u16, value: u16) -> Result<(), OutOfRange>
+        requires { Contains self.old.neighbours port }
+        ensures variant { IsOk result ↔ (value < self.old.ranges.ring) }
+        ensures value { OnOk result (value_of self.new ≡ at (value_of self.old) port value) }
+        ensures rest { OnOk result (self.new ≡ record self.old { values = self.new.values }) }
+        ensures out_of_range { OnErr result (self.new ≡ self.old) }
+    {
+        if value >= self.ranges.ring {
+            return Err(OutOfRange);
+        }
+        self.values[port as usize] = value;
+        Ok(())
+    }
+
+    /// Writes both numbers of the neighbour `port`. `OutOfRange` comes exactly where one is not below the counters' modulus.
+    pub fn set_counters(&mut self, port: u16, seq: u16, last: u16) -> Result<(), OutOfRange>
+        requires { Contains self.old.neighbours port }
+        ensures variant { IsOk result ↔ IsTrue (counters_fit self.old.ranges seq last) }
+        ensures port { OnOk result (port_of self.new ≡ at (port_of self.old) port (record (port_of self.old port) { seq = seq; last = last })) }
+        ensures rest { OnOk result (self.new ≡ record self.old { ports = self.new.ports }) }
+        ensures out_of_range { OnErr result (self.new ≡ self.old) }
+    {
+        self.ports[port as usize].set_counters(seq, last)
+    }
+
+    /// Writes the staged payload for the neighbour `port`. `OutOfRange` comes exactly where a field of it is not in its range.
+    pub fn set_staged(&mut self, port: u16, payload: Payload) -> Result<(), OutOfRange>
+        requires { Contains self.old.neighbours port }
+        ensures variant { IsOk result ↔ IsTrue (payload_fits self.old.ranges payload) }
+        ensures port { OnOk result (port_of self.new ≡ at (port_of self.old) port (record (port_of self.old port) { staged = payload })) }
+        ensures rest { OnOk result (self.new ≡ record self.old { ports = self.new.ports }) }
+        ensures out_of_range { OnErr result (self.new ≡ self.old) }
+    {
+        self.ports[port as usize].set_staged(payload)
+    }
+
+    /// Writes the copy of what the neighbour `port` said last. `OutOfRange` comes exactly where a field of it is not in its range.
+    pub fn set_copy(&mut self, port: u16, payload: Payload) -> Result<(), OutOfRange>
+        requires { Contains self.old.neighbours port }
+        ensures variant { IsOk result ↔ IsTrue (payload_fits self.old.ranges payload) }
+        ensures port { OnOk result (port_of self.new ≡ at (port_of self.old) port (record (port_of self.old port) { copy = payload })) }
+        ensures rest { OnOk result (self.new ≡ record self.old { ports = self.new.ports }) }
+        ensures out_of_range { OnErr result (self.new ≡ self.old) }
+    {
+        self.ports[port as usize].set_copy(payload)
+    }
 }
 
 /// The ids, with room for as many as there are nodes.

@@ -1,4 +1,4 @@
-use Rattle.std.proofs.Common.{◌≡◌, ◌<◌, ap, length, rules, arith, slice_index_or, Contains, IsTrue}
+use Rattle.std.proofs.Common.{rules, Contains}
 use Rattle.data_link.specs.Port.{PortView, port_after}
 use Rattle.registers.specs.Registers.{IsPortOf}
 use Rattle.registers.proofs.Fits.{fits-port_after}
@@ -18,4 +18,4 @@ returns-clause-port g c =
     let near : Contains c.self.inside.neighbours.items c.args.port = search rules in
     let change = λ (p : PortView). port_after p.ranges.counter p.state c.args.frame.now c.args.present in
     rw (← c.self.view_is)
-    (port_changed _ c.args.port c.index_mut.result.now c.on_frame.new.self change c.self.invariant.1 near c.index_mut.ensures.value (ap (λ p. p.state) c.on_frame.ensures.port))
+    (port_changed _ c.args.port c.index_mut.result.now c.on_frame.new.self change c.self.invariant.1 near c.index_mut.ensures.value c.on_frame.ensures.port)
