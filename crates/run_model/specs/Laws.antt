@@ -86,10 +86,11 @@ SweepsSplit =
     (w : World) (r s : ℕ) (es : List Event) → Sweeps w (r + s) es
     → (first rest : List Event) × (es ≡ first ++ rest) × Sweeps w r first × Sweeps (run w first) s rest
 
--- and the other way round
+-- And the other way round. Behind its r sweeps the first list may go on; the next sweep then takes those events in, so there is to be no damage among them.
 abbrev pub SweepsJoin : Type 0
 SweepsJoin =
-    (w : World) (r s : ℕ) (first rest : List Event) → Sweeps w r first → Sweeps (run w first) s rest → Sweeps w (r + s) (first ++ rest)
+    (w : World) (r s : ℕ) (first rest : List Event) → IsWorldInRange w → IsUndamaged w first → Sweeps w r first → Sweeps (run w first) s rest
+    → Sweeps w (r + s) (first ++ rest)
 
 -- a list that holds r sweeps holds any smaller number
 abbrev pub FewerSweeps : Type 0

@@ -12,5 +12,6 @@
 #![tactic(auto)]
 
 mod event;
+pub mod laws;
 
 pub use event::{Event, EventFault, Harm};

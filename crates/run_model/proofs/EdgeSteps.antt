@@ -1,0 +1,84 @@
+-- An event of the world is one event of each edge.
+use Rattle.std.proofs.Common.{◌≡◌, ◌≢◌, ℕ, ◌<◌, ◌≤◌, List, [], ◌∷◌, true, false, length, refl, ◌∙◌, ap, inl, inr, arith}
+use Rattle.std.proofs.lemmas.Grind.{common_steps}
+use Rattle.std.proofs.lemmas.Bool.{cases_Bool, cond-false}
+use Rattle.std.specs.Prelude.{is_some}
+use Rattle.std.specs.List.{remove}
+use Rattle.topology.specs.Network.{are_joined}
+use Rattle.topology.specs.At.{at}
+use Rattle.topology.specs.Ranges.{ranges_of}
+use Rattle.topology.specs.declared.frame.Payload.{Payload}
+use Rattle.link_model.specs.declared.item.Item.{Item}
+use Rattle.link_model.specs.declared.item.Item.TheVariants.{Frame, Noise}
+use Rattle.data_link.specs.Port.{port_after}
+use Rattle.data_link.specs.Edge.{TakeOut, TakeBack, edge_step}
+use Rattle.run_model.specs.World.{World, with_node, with_link}
+use Rattle.run_model.specs.Step.{refusal, step, changed, handed_over}
+use Rattle.run_model.specs.Run.{is_damage}
+use Rattle.run_model.specs.Legitimate.{edge_of}
+use Rattle.run_model.specs.Project.{present, either_way, edge_event}
+use Rattle.run_model.specs.declared.event.Event.{Event}
+use Rattle.run_model.specs.declared.event.Event.TheVariants.{Send, Take, Lose, Tick, Ask, Leave, Damage}
+use Rattle.run_model.specs.declared.event.Harm.{Harm}
+use Rattle.run_model.proofs.Steps.{refused-stays}
+
+-- there is nothing to remove beyond the end
+remove-beyond : {X : Type 0} (xs : List X) (i : ℕ) → length xs ≤ i → remove xs i ≡ xs
+remove-beyond xs i l = grind (arith, common_steps)
+
+-- v takes an item of these, and p may be staged then
+abbrev handed_with : Payload → World → ℕ → ℕ → List Item → World
+handed_with p w u v [] = w
+handed_with p w u v (Noise ∷ rest) = with_link (with_node w v (w.node v)) u v rest
+handed_with p w u v (Frame f ∷ rest) =
+    with_link (with_node w v (record (w.node v) { port = at (w.node v).port u (port_after (ranges_of w.net).counter ((w.node v).port u) f p) })) u v rest
+
+-- it is what v says of itself that may be staged
+handed-present : (w : World) (u v : ℕ) (items : List Item) → handed_over w u v items ≡ handed_with (present w v u) w u v items
+handed-present w u v [] = refl
+handed-present w u v (Noise ∷ rest) = refl
+handed-present w u v (Frame f ∷ rest) = refl
+
+-- the same with any payloads
+takes-any : (w : World) (u v a b : ℕ) (p q r : Payload) → u ≢ v → (a ≡ u → b ≡ v → p ≡ q) → (a ≡ v → b ≡ u → p ≡ r)
+    → edge_of (handed_with p w a b (w.link a b)) u v ≡ edge_step w.net.capacity (edge_of w u v) (either_way u v a b (TakeOut q) (TakeBack r))
+takes-any w u v a b p q r apart out back = grind (arith, common_steps)
+
+module _ (w : World) (u v : ℕ) (apart : u ≢ v) (there : u < w.net.nodes) (here : v < w.net.nodes)
+    (joined : are_joined w.net.edges u v ≡ true) (back : are_joined w.net.edges v u ≡ true) where
+  sends : (a b : ℕ) → edge_of (step w (Send a b)) u v ≡ edge_step w.net.capacity (edge_of w u v) (edge_event w (Send a b) u v)
+  sends a b = grind (arith, common_steps)
+
+  takes : (a b : ℕ) → edge_of (step w (Take a b)) u v ≡ edge_step w.net.capacity (edge_of w u v) (edge_event w (Take a b) u v)
+  takes a b = elim (cases_Bool (is_some (refusal w (Take a b)))) [
+    | inl refused ↦ ap (λ x. edge_of x u v) (refused-stays w (Take a b) refused) ∙ grind (arith, common_steps)
+    | inr fine ↦
+        let moved : step w (Take a b) ≡ handed_with (present w b a) w a b (w.link a b)
+        = cond-false (is_some (refusal w (Take a b))) w (changed w (Take a b)) fine ∙ handed-present w a b (w.link a b) in
+        ap (λ x. edge_of x u v) moved
+        ∙ takes-any w u v a b (present w b a) (present w v u) (present w u v) apart (λ e f. rw (e, f)) (λ e f. rw (e, f))
+  ]
+
+  loses : (a b i : ℕ) → edge_of (step w (Lose a b i)) u v ≡ edge_step w.net.capacity (edge_of w u v) (edge_event w (Lose a b i) u v)
+  loses a b i = grind (arith, common_steps, remove-beyond)
+
+  ticks : (a : ℕ) → edge_of (step w (Tick a)) u v ≡ edge_step w.net.capacity (edge_of w u v) (edge_event w (Tick a) u v)
+  ticks a = grind (arith, common_steps)
+
+  asks : (a t : ℕ) → edge_of (step w (Ask a t)) u v ≡ edge_step w.net.capacity (edge_of w u v) (edge_event w (Ask a t) u v)
+  asks a t = grind (arith, common_steps)
+
+  leaves : (a t : ℕ) → edge_of (step w (Leave a t)) u v ≡ edge_step w.net.capacity (edge_of w u v) (edge_event w (Leave a t) u v)
+  leaves a t = grind (arith, common_steps)
+
+  damages : (h : Harm) → is_damage w (Damage h) ≡ false → edge_of (step w (Damage h)) u v ≡ edge_step w.net.capacity (edge_of w u v) (edge_event w (Damage h) u v)
+  damages h fine = ap (λ x. edge_of x u v) (refused-stays w (Damage h) (grind (arith, common_steps)))
+
+  pub one-event : (e : Event) → is_damage w e ≡ false → edge_of (step w e) u v ≡ edge_step w.net.capacity (edge_of w u v) (edge_event w e u v)
+  one-event (Send a b) fine = sends a b
+  one-event (Take a b) fine = takes a b
+  one-event (Lose a b i) fine = loses a b i
+  one-event (Tick a) fine = ticks a
+  one-event (Ask a t) fine = asks a t
+  one-event (Leave a t) fine = leaves a t
+  one-event (Damage h) fine = damages h fine

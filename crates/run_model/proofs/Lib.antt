@@ -1,0 +1,5 @@
+pub mod Steps
+pub mod Runs
+pub mod Splits
+pub mod EdgeSteps
+pub mod Edges

@@ -1,0 +1,29 @@
+//! What holds of runs and sweeps, for the crates above: each law is the contract of a function that does nothing.
+ghost use Rattle.run_model.specs.Laws.{RefusedChangesNothing, NetworkStays, RunsJoin, UndamagedJoins, UndamagedSplits, EdgeSteps, EdgeRuns, EdgeIsServed, EdgeSweeps, SweepsSplit, FewerSweeps, SweepsGrow};
+
+/// A refused event changes nothing, and no event changes the network; the run of two lists is the run of the second from where the
+/// first led, and is without damage where both are. Whoever speaks of a moment of a run needs these.
+pub fn runs()
+    ensures refused { RefusedChangesNothing }
+    ensures network { NetworkStays }
+    ensures join { RunsJoin }
+    ensures undamaged_joins { UndamagedJoins }
+    ensures undamaged_splits { UndamagedSplits }
+{}
+
+/// One edge of a world: an event that is no damage is one event of the edge, so a run is a run of the edge and a sweep is a sweep of
+/// it. By these the laws of one edge hold of every edge of a world.
+pub fn edges()
+    ensures steps { EdgeSteps }
+    ensures runs { EdgeRuns }
+    ensures served { EdgeIsServed }
+    ensures sweeps { EdgeSweeps }
+{}
+
+/// Lists that hold sweeps: r + s sweeps are r and then s, a list that holds some holds fewer, and events behind take none away. Convergence goes in
+/// stages, each with sweeps of its own.
+pub fn sweep_numbers()
+    ensures split { SweepsSplit }
+    ensures fewer { FewerSweeps }
+    ensures grow { SweepsGrow }
+{}
