@@ -1,3 +1,6 @@
 pub mod Ranges
 pub mod Stay
 pub mod Passing
+pub mod ClientLemmas
+pub mod TextLemmas
+pub mod Rows

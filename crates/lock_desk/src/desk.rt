@@ -118,7 +118,7 @@ impl<A: Allocator> Desk<A> {
         ensures refused { IfErr result (λ fault. ask_fault ticket self.old.state ≡ Some fault) }
         ensures unchanged { OnErr result (self.new ≡ self.old) }
     {
-        if self.waiting.len() >= PLACES {
+        if self.waiting() >= PLACES {
             return Err(AskFault::Full);
         }
         if self.waits(ticket) || self.lent == Some(ticket) {
@@ -208,11 +208,8 @@ impl<A: Allocator> Desk<A> {
         ensures refused { OnErr result (loan_fits self.old.lease self.old.state lent left ≡ false) }
         ensures unchanged { OnErr result (self.new ≡ self.old) }
     {
-        let apart = match lent {
-            Some(ticket) => !self.waits(ticket),
-            None => true
-        };
-        if !apart || left > self.lease || (lent.is_none() && left > 0) {
+        let waits = lent.is_some_and(|ticket| self.waits(ticket));
+        if waits || left > self.lease || (lent.is_none() && left > 0) {
             return Err(OutOfRange);
         }
         self.lent = lent;

@@ -1,4 +1,5 @@
 //! Laws of a desk, each the contract of a function that does nothing. The proofs above a desk rest on these alone.
+ghost use Rattle.lock_desk.specs.ClientText.{LinesMakeTheText, LinesAreLines};
 ghost use Rattle.lock_desk.specs.Laws.{LoansNeedPrivilege, LoansAreNotExchanged, OneLoanAStay, PassesOnlyServed, FullTicksClear, FirstComeFirstServed, TicksKeepRanges, AsksKeepRanges, LeavesKeepRanges, LoansKeepRanges};
 
 /// A loan begins and outlasts a tick only with privilege. So where at most one node is privileged, after each node's next
@@ -33,4 +34,11 @@ pub fn ranges_are_kept()
     ensures asks { AsksKeepRanges }
     ensures leaves { LeavesKeepRanges }
     ensures writes { LoansKeepRanges }
+{}
+
+/// The lines that a newline ended, each with its newline, and what stands after the last one are the text, and none has a
+/// newline in it. It shows that the definitions of a client's lines say what a reader of them expects.
+pub fn lines_make_the_text()
+    ensures text { LinesMakeTheText }
+    ensures lines { LinesAreLines }
 {}

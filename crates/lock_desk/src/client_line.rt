@@ -1,0 +1,14 @@
+//! What a client asks for.
+
+/// A line of a client.
+#[derive(Clone, Copy, Debug, PartialEq, Eq)]
+pub enum ClientLine {
+    /// `lock`: the client asks for the lock.
+    Lock,
+    /// `unlock`: it gives the lock back, or waits no longer.
+    Unlock,
+    /// `status`: it asks how the node stands.
+    Status,
+    /// Any other line.
+    Unknown,
+}
