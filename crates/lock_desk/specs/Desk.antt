@@ -7,7 +7,7 @@ use Rattle.lock_desk.specs.declared.act.DeskAct.{DeskAct}
 use Rattle.lock_desk.specs.declared.act.DeskAct.TheVariants.{Quiet, Granted, Lost}
 
 -- what a desk knows: the tickets that wait, in the order in which they asked; the ticket that the lock is lent to; how many
--- further ticks that loan outlasts where there is a lease; and whether it lent since its last full tick
+-- further ticks that loan outlasts where there is a lease; and whether a loan ended since the last full tick
 pub record DeskState : Type 0 where
   pub waiting : List ℕ
   pub lent : Option ℕ

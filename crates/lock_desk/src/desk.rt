@@ -96,7 +96,7 @@ impl<A: Allocator> Desk<A> {
         self.left
     }
 
-    /// Whether the desk lent the lock since its last full tick.
+    /// Whether a loan ended since the last full tick.
     pub fn served(&self) -> bool
         ensures { result ≡ self.now.state.served }
     {
