@@ -1,12 +1,12 @@
 -- The laws of one edge, for every capacity of its links and whatever payloads are handed in as present. Each is of the direction from near to far.
-use Rattle.std.specs.Prelude.{◌≡◌, ℕ, ◌+◌, ◌*◌, ◌<◌, ◌≤◌, ◌⊎◌, Bool, IsTrue, List, [], ◌∷◌, ◌++◌}
+use Rattle.std.specs.Prelude.{◌≡◌, ℕ, ◌+◌, ◌*◌, ◌<◌, ◌≤◌, ◌⊎◌, Bool, IsTrue, List, ◌∷◌, ◌++◌}
 use Rattle.std.specs.List.{AllByRecursion}
 use Rattle.topology.specs.declared.frame.Frame.{Frame}
 use Rattle.topology.specs.declared.frame.Payload.{Payload}
 use Rattle.link_model.specs.declared.item.Item.{Item}
 use Rattle.link_model.specs.declared.item.Item.TheVariants as item
 use Rattle.k_state.specs.Ring.{Step}
-use Rattle.data_link.specs.Edge.{EdgeState, EdgeEvent, SendOut, TakeOut, TakeBack, IsEdgeInRange, IsStable, edge_run, edge_step, edge_step_with, link_ring, modulus_of, moves, moves_in}
+use Rattle.data_link.specs.Edge.{EdgeState, EdgeEvent, TakeOut, TakeBack, IsEdgeInRange, IsStable, edge_run, edge_step, edge_step_with, link_ring, moves, moves_in}
 use Rattle.data_link.specs.Sweep.{IsStrictSweep, IsSweep, PresentPasses, Sweeps}
 
 -- ---- steps
@@ -25,6 +25,10 @@ RangeStays = (capacity : ℕ) (s : EdgeState) (e : EdgeEvent) → IsEdgeInRange 
 abbrev pub StableStays : Type 0
 StableStays = (capacity : ℕ) (s : EdgeState) (e : EdgeEvent) → IsEdgeInRange capacity s → IsStable capacity s → IsStable capacity (edge_step capacity s e)
 
+-- a run keeps it stable
+abbrev pub StableOutlastsRuns : Type 0
+StableOutlastsRuns = (capacity : ℕ) (s : EdgeState) (es : List EdgeEvent) → IsEdgeInRange capacity s → IsStable capacity s → IsStable capacity (edge_run capacity s es)
+
 -- a link is stable once near's number has moved 2C + 2 times
 abbrev pub StableAfterMoves : Type 0
 StableAfterMoves =
@@ -40,13 +44,12 @@ StrictSweepIsSweep = (capacity : ℕ) (s : EdgeState) (es : List EdgeEvent) → 
 -- two sweeps in a row hold a move of near's number
 abbrev pub TwoSweepsMove : Type 0
 TwoSweepsMove =
-    (capacity : ℕ) (s : EdgeState) (first second : List EdgeEvent) → IsEdgeInRange capacity s → IsSweep capacity s first
+    (capacity : ℕ) (s : EdgeState) (first second : List EdgeEvent) → IsSweep capacity s first
     → IsSweep capacity (edge_run capacity s first) second → 0 < moves_in capacity s (first ++ second)
 
 -- so 2k sweeps hold k moves
 abbrev pub SweepsMove : Type 0
-SweepsMove =
-    (capacity k r : ℕ) (s : EdgeState) (es : List EdgeEvent) → IsEdgeInRange capacity s → 2 * k ≤ r → Sweeps capacity s r es → k ≤ moves_in capacity s es
+SweepsMove = (capacity k r : ℕ) (s : EdgeState) (es : List EdgeEvent) → 2 * k ≤ r → Sweeps capacity s r es → k ≤ moves_in capacity s es
 
 -- and a link is stable after 4(C + 1) sweeps
 abbrev pub StableAfterSweeps : Type 0
@@ -71,7 +74,7 @@ CopyIsStaged =
 -- on a stable link far's copy is the payload of each frame as it is taken, whether its number is new or not
 abbrev pub TakenIsCopied : Type 0
 TakenIsCopied =
-    (capacity : ℕ) (s : EdgeState) (present : Payload) (f : Frame) (items : List Item) → IsEdgeInRange capacity s → IsStable capacity s → s.out ≡ item.Frame f ∷ items
+    (capacity : ℕ) (s : EdgeState) (present : Payload) (f : Frame) (items : List Item) → IsStable capacity s → s.out ≡ item.Frame f ∷ items
     → (edge_step capacity s (TakeOut present)).far.copy ≡ f.payload
 
 -- on a stable link, what holds of the staged payload, of far's copy and of each payload handed in goes on holding of both

@@ -2,7 +2,7 @@
 use Rattle.std.specs.Prelude.{◌≡◌, ℕ, ◌+◌, ◌<◌, Bool, true, false, ◌||◌, zero, suc, IsTrue, List, [], ◌∷◌, ◌++◌, map, drop, remove}
 use Rattle.topology.specs.declared.frame.Payload.{Payload}
 use Rattle.link_model.specs.declared.item.Item.{Item}
-use Rattle.data_link.specs.Edge.{EdgeState, EdgeEvent, SendOut, SendBack, TakeOut, TakeBack, LoseOut, LoseBack, Elsewhere, edge_step, edge_run, put_last}
+use Rattle.data_link.specs.Edge.{EdgeState, EdgeEvent, SendOut, SendBack, TakeOut, TakeBack, LoseOut, LoseBack, edge_step, edge_run, put_last}
 
 -- what an event does to one direction of an edge
 pub data LinkAct : Type 0 where

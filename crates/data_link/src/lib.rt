@@ -17,6 +17,7 @@
 
 mod fault;
 mod heard;
+pub mod laws;
 mod port;
 
 pub use fault::OutOfRange;

@@ -129,7 +129,7 @@ below-step q Stays r = r
 below-step q (Moves {xs = xs} m) r = below-move q (positive q xs r) m r
 below-step q (Changes c l) r = below-step q l (some-change c, All-change (λ x. x < q) c r.1)
 
-step-apart : (q x : ℕ) → 1 < q → x < q → (x + 1) % q ≢ x
+pub step-apart : (q x : ℕ) → 1 < q → x < q → (x + 1) % q ≢ x
 step-apart q x l b e =
     let z : x + 0 ≡ x = omega arith in
     steps_apart q x 0 1 (omega arith) l (ap (λ y. y % q) z ∙ (mod-eq_of_lt b ∙ sym e))

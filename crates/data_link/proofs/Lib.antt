@@ -1,0 +1,8 @@
+pub mod LinkSteps
+pub mod UnderWay
+pub mod Ranges
+pub mod Stable
+pub mod Marks
+pub mod Sweeping
+pub mod Refresh
+pub mod Strict
