@@ -1,1 +1,4 @@
+mod Ranges
+mod Ascending
+mod Masks
 mod Rows

@@ -1,8 +1,7 @@
 -- Small examples, by computation.
-use Rattle.std.proofs.Common.{◌≡◌, ℕ, List, [], ◌∷◌, Some, None, true, false, refl}
+use Rattle.std.proofs.Common.{◌≡◌, [], ◌∷◌, refl}
 use Rattle.topology.specs.Network.{Network}
-use Rattle.euler_ring.specs.Cycle.{next_after, source_for, special, tree_neighbours}
-use Rattle.euler_ring.specs.Tour.{Stop, tour, children_of}
+use Rattle.euler_ring.specs.Tour.{tour}
 
 -- the square 0-1, 0-2, 1-3, 2-3: node 3 is as far from 1 as from 2, and its parent is 1
 abbrev square : Network

@@ -1,2 +1,3 @@
 pub mod Cycle
+pub mod Mask
 pub mod Tour

@@ -1,10 +1,10 @@
 -- The Euler tour of the true tree: a closed walk that goes along each edge of the tree once in each direction. It is a recursion on the
 -- whole tree, which no node sees; a node knows only the order of its own tree neighbours (Cycle).
-use Rattle.std.specs.Prelude.{ℕ, zero, suc, List, [], ◌∷◌, ◌++◌, filter, nat_lt}
+use Rattle.std.specs.Prelude.{ℕ, zero, suc, List, [], ◌∷◌, ◌++◌, filter}
 use Rattle.std.specs.List.{range_with_len}
 use Rattle.topology.specs.Network.{Network}
 use Rattle.topology.specs.Tree.{parent_of}
-use Rattle.euler_ring.specs.Cycle.{is_named}
+use Rattle.euler_ring.specs.Cycle.{is_named, above, below}
 
 -- The tour comes from the first node to the second. On the token ring this is the second node's machine that comes in from the first.
 abbrev pub Stop : Type 0
@@ -16,7 +16,7 @@ children_of net v = filter (λ c. is_named (parent_of net c) v) (range_with_len 
 
 -- an ascending list in cyclic order after p, which is not on it: those above p, and then those below
 abbrev pub in_order_after : ℕ → List ℕ → List ℕ
-in_order_after p cs = filter (nat_lt p) cs ++ filter (λ c. nat_lt c p) cs
+in_order_after p cs = above p cs ++ below p cs
 
 -- from v to each of the children, on through what is below the child, and back to v
 abbrev pub through : (below : ℕ → ℕ → List Stop) → ℕ → List ℕ → List Stop

@@ -1,0 +1,9 @@
+use Rattle.std.proofs.Common.{sym, arith}
+use Rattle.euler_ring.proofs.Masks.{ids_none, ids_highest}
+use Rattle.euler_ring.proofs.mask.highest.Goals as goal
+
+pub returns-then-ids-eq0 : goal.returns-then-ids-eq0
+returns-then-ids-eq0 c = rw (c.if-ids-eq0.true, ids_none)
+
+pub returns : goal.returns
+returns c = sym (ids_highest c.args.ids (omega arith) (omega arith))

@@ -1,0 +1,122 @@
+ghost use Rattle.std.specs.Prelude.{◌≡◌, ◌<◌, ◌==◌, ℕ, IsTrue, Option, Some, None, All, Contains, length, slice_get};
+ghost use Rattle.std.specs.List.Sorted.{IsStrictlyIncreasing};
+ghost use Rattle.euler_ring.specs.Cycle.{is_named, is_on, tree_neighbours, next_after, source_for, special};
+
+use super::mask;
+use std::marker::Model;
+
+/// The tree neighbours of a node, ascending: the neighbours to which an edge of the tree leads, as far as the node knows.
+#[derive(Debug, Drop)]
+pub struct TreeNeighbours {
+    ids: u64,
+}
+
+impl Model for TreeNeighbours {
+    ghost use Rattle.std.specs.Prelude.{List, ℕ};
+    ghost use Rattle.euler_ring.specs.Mask.{ids_of};
+
+    ghost Value = { List ℕ };
+
+    ghost view = { λ s. ids_of s.ids };
+}
+
+impl TreeNeighbours {
+    /// How many there are.
+    pub fn len(&self) -> usize
+        ensures { result ≡ length self.now }
+    {
+        mask::count(self.ids)
+    }
+
+    /// Whether there is none.
+    pub fn is_empty(&self) -> bool
+        ensures { result ≡ (length self.now == 0) }
+    {
+        self.ids == 0
+    }
+
+    /// Whether the node is a tree neighbour.
+    pub fn contains(&self, id: u16) -> bool
+        ensures { result ≡ is_on self.now id }
+    {
+        id < 64 && mask::has(self.ids, id)
+    }
+
+    /// The i-th in ascending order, from 0.
+    pub fn get(&self, i: usize) -> u16
+        requires { i < length self.now }
+        ensures item { slice_get self.now i ≡ Some result }
+        ensures there { IsTrue (is_on self.now result) }
+    {
+        let mut rest = self.ids;
+        for _ in 0..i {
+            rest = mask::without_lowest(rest);
+        }
+        mask::lowest(rest).unwrap()
+    }
+
+    /// Where the tour goes on that came in from `t`: the next tree neighbour up, and after the largest the smallest.
+    pub fn next_after(&self, t: u16) -> u16
+        requires { IsTrue (is_on self.now t) }
+        ensures next { result ≡ next_after self.now t }
+        ensures there { IsTrue (is_on self.now result) }
+    {
+        mask::lowest(mask::above(self.ids, t))
+            .or(mask::lowest(self.ids))
+            .unwrap_or(t)
+    }
+
+    /// Where the tour came from that leaves towards `w`: the next tree neighbour down, and before the smallest the largest.
+    pub fn source_for(&self, w: u16) -> u16
+        requires { IsTrue (is_on self.now w) }
+        ensures source { result ≡ source_for self.now w }
+        ensures there { IsTrue (is_on self.now result) }
+    {
+        mask::highest(mask::below(self.ids, w))
+            .or(mask::highest(self.ids))
+            .unwrap_or(w)
+    }
+
+    /// The tree neighbour of the special machine, which is the root's for its smallest tree neighbour.
+    pub fn special(&self, is_root: bool) -> Option<u16>
+        ensures { result ≡ special is_root self.now }
+    {
+        if is_root {
+            mask::lowest(self.ids)
+        } else {
+            None
+        }
+    }
+}
+
+/// Whether the parent is this node.
+fn is_named(parent: Option<u16>, id: u16) -> bool
+    ensures { result ≡ is_named parent id }
+{
+    parent == Some(id)
+}
+
+/// A node's tree neighbours: its parent, where that is a neighbour, and each neighbour whose copied parent is the node.
+pub fn tree_neighbours<F: Fn(u16) -> Option<u16>>(
+    parent: Option<u16>,
+    id: u16,
+    neighbours: &[u16],
+    copied_parent: F,
+) -> TreeNeighbours
+    requires few { All (λ w. w < 64) neighbours.now }
+    requires ascending { IsStrictlyIncreasing neighbours.now }
+    requires readable { (w : ℕ) → Contains neighbours.now w → F.pre copied_parent w }
+    ensures found { (g : ℕ → Option ℕ) → ((w : ℕ) (p : Option ℕ) → Contains neighbours.now w → F.post copied_parent w p → p ≡ g w)
+        → result ≡ tree_neighbours parent id neighbours.now g }
+    ensures neighbours { (w : ℕ) → IsTrue (is_on result w) → Contains neighbours.now w }
+{
+    let mut ids = 0;
+    for &neighbour in neighbours {
+        let is_parent = is_named(parent, neighbour);
+        let is_child = is_named(copied_parent(neighbour), id);
+        if is_parent || is_child {
+            ids = mask::with(ids, neighbour);
+        }
+    }
+    TreeNeighbours { ids }
+}
