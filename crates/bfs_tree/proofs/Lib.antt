@@ -1,1 +1,2 @@
-pub mod Nearest
+mod Nearest
+mod Rounds

@@ -12,6 +12,7 @@
 //! Source: Dolev, Israeli, Moran, Self-stabilization of dynamic systems assuming only read/write atomicity, 1993.
 #![tactic(auto)]
 
+pub mod laws;
 mod step;
 
 pub use step::recompute;
