@@ -3,3 +3,7 @@ pub mod Runs
 pub mod Splits
 pub mod EdgeSteps
 pub mod Edges
+pub mod NodeRanges
+pub mod Ranges
+pub mod RunRanges
+pub mod EdgeRanges

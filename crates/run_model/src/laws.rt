@@ -1,5 +1,5 @@
 //! What holds of runs and sweeps, for the crates above: each law is the contract of a function that does nothing.
-ghost use Rattle.run_model.specs.Laws.{RefusedChangesNothing, NetworkStays, RunsJoin, UndamagedJoins, UndamagedSplits, EdgeSteps, EdgeRuns, EdgeIsServed, EdgeSweeps, SweepsSplit, FewerSweeps, SweepsGrow};
+ghost use Rattle.run_model.specs.Laws.{RefusedChangesNothing, NetworkStays, RunsJoin, UndamagedJoins, UndamagedSplits, RangesStay, EdgesAreInRange, EdgeSteps, EdgeRuns, EdgeIsServed, EdgeSweeps, SweepsSplit, FewerSweeps, SweepsGrow};
 
 /// A refused event changes nothing, and no event changes the network; the run of two lists is the run of the second from where the
 /// first led, and is without damage where both are. Whoever speaks of a moment of a run needs these.
@@ -11,9 +11,17 @@ pub fn runs()
     ensures undamaged_splits { UndamagedSplits }
 {}
 
+/// Every world in range leads to worlds in range alone: whatever holds of each world in range holds at each moment of a run.
+pub fn ranges()
+    ensures { RangesStay }
+{
+    lock_desk::laws::ranges_are_kept();
+}
+
 /// One edge of a world: an event that is no damage is one event of the edge, so a run is a run of the edge and a sweep is a sweep of
 /// it. By these the laws of one edge hold of every edge of a world.
 pub fn edges()
+    ensures in_range { EdgesAreInRange }
     ensures steps { EdgeSteps }
     ensures runs { EdgeRuns }
     ensures served { EdgeIsServed }

@@ -1,4 +1,5 @@
 use Rattle.run_model.proofs.Edges.{joined-apart, edge-steps, edge-runs, served-out, served-back, sweeps-edge}
+use Rattle.run_model.proofs.EdgeRanges.{edge-range}
 use Rattle.run_model.proofs.laws.edges.Goals as goal
 
 pub returns-clause-steps : goal.returns-clause-steps
@@ -13,3 +14,6 @@ returns-clause-served c = λ w es u v range joined.
 
 pub returns-clause-sweeps : goal.returns-clause-sweeps
 returns-clause-sweeps c = λ w r es u v range. sweeps-edge w r es u v range.network
+
+pub returns-clause-in_range : goal.returns-clause-in_range
+returns-clause-in_range c = edge-range

@@ -1,0 +1,156 @@
+-- What a node does keeps its state in range.
+use Rattle.std.proofs.Common.{◌≡◌, ℕ, ◌+◌, ◌<◌, ◌≤◌, min, List, [], ◌∷◌, Bool, true, false, ◌||◌, IsTrue, Option, Some, None, length, refl, sym, ◌∙◌, ap, subst, arith, inl, inr}
+use Rattle.std.proofs.lemmas.Grind.{common_steps}
+use Rattle.std.proofs.lemmas.Bool.{cases_Bool, cases_eq, cond-true, cond-false, cond_both, eq-eqb, ne_eqb}
+use Rattle.std.proofs.lemmas.Bool.Decides.{nat_tests}
+use Rattle.std.proofs.lemmas.List.Elements.{All-head, All-tail, All-filter, All-weaker}
+use Rattle.std.specs.Prelude.{◌==◌, ◌&&◌, ◌%◌, nat_lt, find, is_none, slice_index_or}
+use Rattle.std.specs.List.{All, list_any, filter}
+use Rattle.topology.specs.At.{at}
+use Rattle.topology.specs.Ranges.{parent_fits, payload_fits, frame_fits}
+use Rattle.topology.specs.declared.frame.Frame.{Frame as FrameOf}
+use Rattle.topology.specs.declared.frame.Payload.{Payload}
+use Rattle.topology.specs.declared.frame.Ranges.{Ranges}
+use Rattle.link_model.specs.declared.item.Item.{Item}
+use Rattle.link_model.specs.declared.item.Item.TheVariants.{Frame, Noise}
+use Rattle.data_link.specs.Port.{PortState, port_fits, port_acked, port_heard, port_after}
+use Rattle.k_state.specs.Machine.{root_moved}
+use Rattle.lock_desk.specs.Laws.{TicksKeepRanges}
+use Rattle.euler_ring.specs.Cycle.{is_named, largest, source_for}
+use Rattle.bfs_tree.specs.Step.{has_least_copy, new_distance, new_parent}
+use Rattle.node_core.specs.Site.{Site}
+use Rattle.node_core.specs.State.{NodeState, IsNodeInRange}
+use Rattle.node_core.specs.Machines.{tree_of, ring_for, payload_for, before, is_special, may_move, moved_value, is_node_privileged}
+use Rattle.node_core.specs.Step.{taken, copied_distance, recomputed, desk_done, machines_moved, ticked}
+use Rattle.run_model.specs.World.{item_fits}
+
+mod-below : (x q : ℕ) → 0 < q → x % q < q
+mod-below x q l = omega arith
+
+fits-from : (r : Ranges) (distance : ℕ) (parent : Option ℕ) (ring : ℕ) → distance ≤ r.nodes → IsTrue (parent_fits r.nodes parent) → ring < r.ring
+    → payload_fits r (record { distance = distance; parent = parent; ring = ring }) ≡ true
+fits-from r distance parent ring d p x = grind (arith, common_steps, nat_tests)
+
+-- ---- ports
+
+acked-fits : (r : Ranges) (p : PortState) (f : FrameOf) (present : Payload) → port_fits r p ≡ true → payload_fits r present ≡ true
+    → port_fits r (port_acked r.counter p f present) ≡ true
+acked-fits r p f present fits says = grind (arith, common_steps, nat_tests)
+
+heard-fits : (r : Ranges) (p : PortState) (f : FrameOf) → port_fits r p ≡ true → frame_fits r f ≡ true → port_fits r (port_heard p f) ≡ true
+heard-fits r p f fits sent = grind (arith, common_steps, nat_tests)
+
+after-fits : (r : Ranges) (p : PortState) (f : FrameOf) (present : Payload) → port_fits r p ≡ true → frame_fits r f ≡ true → payload_fits r present ≡ true
+    → port_fits r (port_after r.counter p f present) ≡ true
+after-fits r p f present fits sent says = heard-fits r (port_acked r.counter p f present) f (acked-fits r p f present fits says) sent
+
+-- ---- what is chosen among the neighbours is as they all are
+
+largest-is : (P : ℕ → Type 0) (d : ℕ) (ts : List ℕ) → P d → All P ts → P (largest d ts)
+largest-is P d [] p all = p
+largest-is P d (t ∷ ts) p all = largest-is P t ts (All-head P t ts all) (All-tail P t ts all)
+
+source-is : (P : ℕ → Type 0) (ts : List ℕ) (w : ℕ) → list_any (λ t. t == w) ts ≡ true → All P ts → P (source_for ts w)
+source-is P [] w there all = absurd (grind arith)
+source-is P (t ∷ ts) w there all =
+    largest-is P (largest t ts) (filter (λ x. nat_lt x w) (t ∷ ts)) (largest-is P t ts (All-head P t ts all) (All-tail P t ts all))
+    (All-filter (λ x. nat_lt x w) P (t ∷ ts) all)
+
+found-fits : (n : ℕ) (test : ℕ → Bool) (ws : List ℕ) → All (λ w. w < n) ws → parent_fits n (find test ws) ≡ true
+found-fits n test [] all = refl
+found-fits n test (w ∷ ws) all = let h = All-head (λ w. w < n) w ws all in let rest = found-fits n test ws (All-tail (λ w. w < n) w ws all) in grind (arith, common_steps, nat_tests)
+
+-- ---- what a node says of itself
+
+-- each neighbour is a node, and there is a ring value
+pub record IsSiteSound (site : Site) : Type 0 where
+  pub ring : 0 < site.ranges.ring
+  pub neighbours : All (λ w. w < site.ranges.nodes) site.neighbours
+
+ring-fits : (site : Site) (s : NodeState) (w : ℕ) → IsSiteSound site → IsNodeInRange site s → ring_for site s w < site.ranges.ring
+ring-fits site s w sound range = elim (cases_Bool (list_any (λ t. t == w) (tree_of site s))) [
+  | inl there ↦
+      let x = source-is (λ t. s.value t < site.ranges.ring) (tree_of site s) w there
+      (All-filter (λ t. is_named s.parent t || is_named (s.port t).copy.parent site.id) (λ t. s.value t < site.ranges.ring) site.neighbours range.values) in
+      rw (cond-true (list_any (λ t. t == w) (tree_of site s)) (s.value (source_for (tree_of site s) w)) 0 there) x
+  | inr out ↦ rw (cond-false (list_any (λ t. t == w) (tree_of site s)) (s.value (source_for (tree_of site s) w)) 0 out) sound.ring
+]
+
+pub payload-fits : (site : Site) (s : NodeState) (w : ℕ) → IsSiteSound site → IsNodeInRange site s → payload_fits site.ranges (payload_for site s w) ≡ true
+payload-fits site s w sound range =
+    fits-from site.ranges s.distance s.parent (ring_for site s w) range.distance range.parent (ring-fits site s w sound range)
+
+-- ---- a node takes an item
+
+pub at-fits : (r : Ranges) (ws : List ℕ) (port : ℕ → PortState) (u : ℕ) (p : PortState) → All (λ w. IsTrue (port_fits r (port w))) ws
+    → (port_fits r (port u) ≡ true → port_fits r p ≡ true) → All (λ w. IsTrue (port_fits r (at port u p w))) ws
+at-fits r ws port u p all new = All-weaker (λ w. IsTrue (port_fits r (port w))) (λ w. IsTrue (port_fits r (at port u p w))) (λ w old.
+    elim (cases_eq w u) [
+      | inl e ↦ rw (cond-true (w == u) p (port w) (eq-eqb w u e)) (new (subst (λ x. port_fits r (port x) ≡ true) e old))
+      | inr ne ↦ rw (cond-false (w == u) p (port w) (ne_eqb w u ne)) old
+    ]) ws all
+
+pub taken-range : (site : Site) (s : NodeState) (u : ℕ) (item : Item) → IsSiteSound site → IsNodeInRange site s → IsTrue (item_fits site.ranges item)
+    → IsNodeInRange site (taken site u item s)
+taken-range site s u Noise sound range fits = range
+taken-range site s u (Frame f) sound range fits = record {
+  distance = range.distance;
+  parent = range.parent;
+  ports = at-fits site.ranges site.neighbours s.port u (port_after site.ranges.counter (s.port u) f (payload_for site s u)) range.ports
+      (λ old. after-fits site.ranges (s.port u) f (payload_for site s u) old fits (payload-fits site s u sound range));
+  values = range.values;
+  desk = range.desk;
+}
+
+-- ---- a node ticks
+
+new-distance_fits : (is_root : Bool) (n : ℕ) (copied : ℕ → ℕ) (ws : List ℕ) → new_distance is_root n copied ws ≤ n
+new-distance_fits is_root n copied ws = grind (arith, common_steps)
+
+new-parent_fits : (is_root : Bool) (n : ℕ) (copied : ℕ → ℕ) (ws : List ℕ) → All (λ w. w < n) ws → parent_fits n (new_parent is_root copied ws) ≡ true
+new-parent_fits true n copied ws all = refl
+new-parent_fits false n copied ws all = found-fits n (has_least_copy copied ws) ws all
+
+recomputed-range : (site : Site) (s : NodeState) → IsSiteSound site → IsNodeInRange site s → IsNodeInRange site (recomputed site s)
+recomputed-range site s sound range = record {
+  distance = new-distance_fits site.is_root site.ranges.nodes (copied_distance s) site.neighbours;
+  parent = new-parent_fits site.is_root site.ranges.nodes (copied_distance s) site.neighbours sound.neighbours;
+  ports = range.ports;
+  values = range.values;
+  desk = range.desk;
+}
+
+copy-below : (r : Ranges) (p : PortState) → port_fits r p ≡ true → p.copy.ring < r.ring
+copy-below r p fits = grind (arith, common_steps, nat_tests)
+
+moved-below : (site : Site) (s : NodeState) (t : ℕ) → IsSiteSound site → IsTrue (port_fits site.ranges (s.port t)) → moved_value site s t < site.ranges.ring
+moved-below site s t sound fits = elim (cases_Bool (is_special site s t)) [
+  | inl e ↦ rw (cond-true (is_special site s t) (root_moved (s.value t) site.ranges.ring) (before s t) e) (mod-below (s.value t + 1) site.ranges.ring sound.ring)
+  | inr e ↦ rw (cond-false (is_special site s t) (root_moved (s.value t) site.ranges.ring) (before s t) e) (copy-below site.ranges (s.port t) fits)
+]
+
+machines-range : (site : Site) (s : NodeState) → IsSiteSound site → IsNodeInRange site s → IsNodeInRange site (machines_moved site s)
+machines-range site s sound range = record {
+  distance = range.distance;
+  parent = range.parent;
+  ports = range.ports;
+  values = λ k d l.
+      let t = slice_index_or site.neighbours k d in
+      cond_both (is_none s.desk.lent && (list_any (λ u. u == t) (tree_of site s) && may_move site s t)) (moved_value site s t) (s.value t) (λ x. x < site.ranges.ring)
+      (λ _. moved-below site s t sound (range.ports k d l)) (λ _. range.values k d l);
+  desk = range.desk;
+}
+
+module _ (ticks : TicksKeepRanges) where
+  desk-range : (site : Site) (s : NodeState) → IsNodeInRange site s → IsNodeInRange site (desk_done site s)
+  desk-range site s range = record {
+    distance = range.distance;
+    parent = range.parent;
+    ports = range.ports;
+    values = range.values;
+    desk = ticks site.lease (is_node_privileged site s) s.desk range.desk;
+  }
+
+  pub ticked-range : (site : Site) (s : NodeState) → IsSiteSound site → IsNodeInRange site s → IsNodeInRange site (ticked site s)
+  ticked-range site s sound range =
+      machines-range site (desk_done site (recomputed site s)) sound (desk-range site (recomputed site s) (recomputed-range site s sound range))

@@ -1,0 +1,113 @@
+-- Each event, and so each run, keeps a world in range.
+use Rattle.std.proofs.Common.{◌≡◌, ℕ, ◌<◌, ◌≤◌, List, [], ◌∷◌, ◌++◌, Bool, true, false, IsTrue, Option, None, length, refl, subst, arith, inl, inr}
+use Rattle.std.proofs.lemmas.Grind.{common_steps}
+use Rattle.std.proofs.lemmas.Bool.{cond_both, and_parts, ltb-true}
+use Rattle.std.proofs.lemmas.Bool.Decides.{nat_tests}
+use Rattle.std.proofs.lemmas.List.Elements.{All-nil, All-push}
+use Rattle.std.specs.Prelude.{◌==◌, nat_lt, nat_le, is_some, slice_index_or}
+use Rattle.topology.specs.At.{at}
+use Rattle.topology.specs.Network.{neighbours_of, ring_of}
+use Rattle.topology.specs.Ranges.{ranges_of, payload_fits, parent_fits}
+use Rattle.topology.specs.declared.frame.Payload.{Payload}
+use Rattle.topology.specs.declared.frame.Ranges.{Ranges}
+use Rattle.link_model.specs.declared.item.Item.{Item}
+use Rattle.data_link.specs.Port.{PortState, counters_fit, port_fits}
+use Rattle.lock_desk.specs.Laws.{TicksKeepRanges, AsksKeepRanges, LeavesKeepRanges, LoansKeepRanges}
+use Rattle.lock_desk.specs.declared.fault.AskFault.{AskFault}
+use Rattle.lock_desk.specs.Desk.{DeskState, desk_fits, is_number, ask_fault, asked, after_leave, loan_fits, with_loan}
+use Rattle.node_core.specs.State.{NodeState, IsNodeInRange}
+use Rattle.node_core.specs.Step.{ticked}
+use Rattle.run_model.specs.World.{World, IsWorldInRange, item_fits, site, with_node, with_link}
+use Rattle.run_model.specs.Step.{first_fault, unless, node_fault, link_fault, ticket_fault, desk_fault, refusal, step, changed, harmed, harm_fits, harm_place_fault, has_room}
+use Rattle.run_model.specs.Run.{run}
+use Rattle.run_model.specs.declared.event.Event.{Event}
+use Rattle.run_model.specs.declared.event.Event.TheVariants.{Send, Take, Lose, Tick, Ask, Leave, Damage}
+use Rattle.run_model.specs.declared.event.EventFault.TheVariants.{OutOfRange, NoItem, Stranger}
+use Rattle.run_model.specs.declared.event.Harm.{Harm}
+use Rattle.run_model.specs.declared.event.Harm.TheVariants as harm
+use Rattle.run_model.proofs.NodeRanges.{ticked-range}
+use Rattle.run_model.proofs.Ranges.{site-sound, node-range, link-range, port-range, desk-range, linked, neither, held, sent-range, handed-range, lost-range}
+
+counters-fit : (r : Ranges) (p : PortState) (seq last : ℕ) → counters_fit r seq last ≡ true → port_fits r p ≡ true
+    → port_fits r (record p { seq = seq; last = last }) ≡ true
+counters-fit r p seq last new old = grind (arith, common_steps, nat_tests)
+
+staged-fits : (r : Ranges) (p : PortState) (payload : Payload) → payload_fits r payload ≡ true → port_fits r p ≡ true
+    → port_fits r (record p { staged = payload }) ≡ true
+staged-fits r p payload new old = grind (arith, common_steps, nat_tests)
+
+copy-fits : (r : Ranges) (p : PortState) (payload : Payload) → payload_fits r payload ≡ true → port_fits r p ≡ true
+    → port_fits r (record p { copy = payload }) ≡ true
+copy-fits r p payload new old = grind (arith, common_steps, nat_tests)
+
+own-range : (w : World) (v d : ℕ) (p : Option ℕ) → IsWorldInRange w → harm_fits w (harm.Own v d p) ≡ true
+    → IsWorldInRange (with_node w v (record (w.node v) { distance = d; parent = p }))
+own-range w v d p range fits = node-range w v (record (w.node v) { distance = d; parent = p }) range (λ l.
+    let old = range.nodes v l in record {
+      distance = grind (arith, common_steps, nat_tests);
+      parent = (and_parts (nat_le d w.net.nodes) (parent_fits w.net.nodes p) fits).1;
+      ports = old.ports;
+      values = old.values;
+      desk = old.desk;
+    })
+
+value-range : (w : World) (v u x : ℕ) → IsWorldInRange w → nat_lt x (ring_of w.net) ≡ true
+    → IsWorldInRange (with_node w v (record (w.node v) { value = at (w.node v).value u x }))
+value-range w v u x range fits = node-range w v (record (w.node v) { value = at (w.node v).value u x }) range (λ l.
+    let old = range.nodes v l in record {
+      distance = old.distance;
+      parent = old.parent;
+      ports = old.ports;
+      values = λ k d i. let t = slice_index_or (neighbours_of w.net v) k d in cond_both (t == u) x ((w.node v).value t) (λ y. y < ring_of w.net) (λ _. ltb-true x (ring_of w.net) fits) (λ _. old.values k d i);
+      desk = old.desk;
+    })
+
+-- where a link has room, there is no harm in one item more
+room : (w : World) (u v : ℕ) (item : Item) → has_room w u v ≡ true → length (w.link u v ++ item ∷ []) ≤ w.net.capacity
+room w u v item h = grind (arith, common_steps, nat_tests)
+
+no-fault : (fault : Option AskFault) → is_some (desk_fault fault) ≡ false → fault ≡ None
+no-fault fault fine = grind arith
+
+module _ (ticks : TicksKeepRanges) (asks : AsksKeepRanges) (leaves : LeavesKeepRanges) (loans : LoansKeepRanges) where
+  harmed-range : (w : World) (h : Harm) → IsWorldInRange w → is_some (harm_place_fault w h) ≡ false → harm_fits w h ≡ true → IsWorldInRange (harmed w h)
+  harmed-range w (harm.Own v d p) range place fits = own-range w v d p range fits
+  harmed-range w (harm.Counters v u seq last) range place fits =
+      port-range w v u (record ((w.node v).port u) { seq = seq; last = last }) range (counters-fit (ranges_of w.net) ((w.node v).port u) seq last fits)
+  harmed-range w (harm.Staged v u payload) range place fits =
+      port-range w v u (record ((w.node v).port u) { staged = payload }) range (staged-fits (ranges_of w.net) ((w.node v).port u) payload fits)
+  harmed-range w (harm.Copy v u payload) range place fits =
+      port-range w v u (record ((w.node v).port u) { copy = payload }) range (copy-fits (ranges_of w.net) ((w.node v).port u) payload fits)
+  harmed-range w (harm.Value v u x) range place fits = value-range w v u x range fits
+  harmed-range w (harm.Desk v lent left served) range place fits =
+      desk-range w v (with_loan (w.node v).desk lent left served) range (λ old. loans w.net.lease left lent served (w.node v).desk old fits)
+  harmed-range w (harm.Item u v item) range place fits =
+      let parts = and_parts (item_fits (ranges_of w.net) item) (has_room w u v) fits in
+      link-range w u v (w.link u v ++ item ∷ []) range (room w u v item parts.1)
+      (All-push (λ item. IsTrue (item_fits (ranges_of w.net) item)) (w.link u v) item (range.items u v (linked w u v place).joined) parts.0)
+  harmed-range w (harm.Empty u v) range place fits = link-range w u v [] range (omega arith) (All-nil (λ item. IsTrue (item_fits (ranges_of w.net) item)))
+
+  changed-range : (w : World) (e : Event) → IsWorldInRange w → is_some (refusal w e) ≡ false → IsWorldInRange (changed w e)
+  changed-range w (Send u v) range fine = sent-range w u v range (linked w u v fine)
+  changed-range w (Take u v) range fine =
+      let l = linked w u v fine in handed-range w u v (w.link u v) range (range.capacity u v l.joined) (range.items u v l.joined)
+  changed-range w (Lose u v i) range fine =
+      lost-range w u v i range (linked w u v (neither (link_fault w u v) (unless (nat_lt i (length (w.link u v))) NoItem) fine).0)
+  changed-range w (Tick v) range fine =
+      node-range w v (ticked (site w v) (w.node v)) range (λ l. ticked-range ticks (site w v) (w.node v) (site-sound w.net v range.network) (range.nodes v l))
+  changed-range w (Ask v t) range fine =
+      let later = (neither (node_fault w v) (first_fault (ticket_fault t) (desk_fault (ask_fault t (w.node v).desk))) fine).1 in
+      let parts = neither (ticket_fault t) (desk_fault (ask_fault t (w.node v).desk)) later in
+      desk-range w v (asked t (w.node v).desk) range (λ old.
+      asks w.net.lease t (w.node v).desk (held (is_number t) OutOfRange parts.0) old (no-fault (ask_fault t (w.node v).desk) parts.1))
+  changed-range w (Leave v t) range fine = desk-range w v (after_leave t (w.node v).desk) range (leaves w.net.lease t (w.node v).desk)
+  changed-range w (Damage h) range fine =
+      let parts = neither (harm_place_fault w h) (unless (harm_fits w h) OutOfRange) fine in
+      harmed-range w h range parts.0 (held (harm_fits w h) OutOfRange parts.1)
+
+  pub step-range : (w : World) (e : Event) → IsWorldInRange w → IsWorldInRange (step w e)
+  step-range w e range = cond_both (is_some (refusal w e)) w (changed w e) IsWorldInRange (λ _. range) (changed-range w e range)
+
+  pub run-range : (w : World) (es : List Event) → IsWorldInRange w → IsWorldInRange (run w es)
+  run-range w [] range = range
+  run-range w (e ∷ es) range = run-range (step w e) es (step-range w e range)
