@@ -1,6 +1,6 @@
 use Rattle.run_model.proofs.RunRanges.{run-range}
 use Rattle.run_model.proofs.laws.ranges.Goals as goal
 
-pub returns : goal.returns-clause-stay
+pub returns : goal.returns
 returns c =
     let desk = c.ranges_are_kept.ensures in λ w es range. run-range desk.ticks desk.asks desk.leaves desk.writes w es range
