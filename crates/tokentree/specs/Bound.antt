@@ -1,0 +1,31 @@
+-- The text that `bound` prints of a network: eight lines, with one space between words.
+use Rattle.std.specs.Prelude.{ℕ, List, [], ◌∷◌, ◌++◌, length, map, Option, Some, None, codes, decimal}
+use Rattle.std.specs.List.{range_with_len}
+use Rattle.topology.specs.Network.{Network, counter_of, ring_of, bound_of}
+use Rattle.topology.specs.Tree.{distance_of, parent_of}
+
+-- a line of a word and a number
+abbrev pub number_line : List ℕ → ℕ → List ℕ
+number_line word number = word ++ (codes " " ++ (decimal number ++ codes "\n"))
+
+-- the words, each with a space before it
+abbrev pub spaced : List (List ℕ) → List ℕ
+spaced [] = []
+spaced (word ∷ words) = codes " " ++ (word ++ spaced words)
+
+-- a line of a word, and of a word for each of n nodes, by ascending id
+abbrev pub nodes_line : List ℕ → ℕ → (ℕ → List ℕ) → List ℕ
+nodes_line word n word_of = word ++ (spaced (map word_of (range_with_len 0 n)) ++ codes "\n")
+
+-- a parent's id, or `none`
+abbrev pub parent_word : Option ℕ → List ℕ
+parent_word None = codes "none"
+parent_word (Some parent) = decimal parent
+
+-- the eight lines
+abbrev pub bound_text : Network → List ℕ
+bound_text net =
+    number_line (codes "nodes") net.nodes ++ (number_line (codes "edges") (length net.edges) ++ (number_line (codes "capacity") net.capacity
+    ++ (number_line (codes "counter") (counter_of net) ++ (number_line (codes "ring") (ring_of net)
+    ++ (nodes_line (codes "distances") net.nodes (λ v. decimal (distance_of net v)) ++ (nodes_line (codes "parents") net.nodes (λ v. parent_word (parent_of net v))
+    ++ number_line (codes "sweeps") (bound_of net)))))))

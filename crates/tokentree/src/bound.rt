@@ -1,0 +1,76 @@
+//! `bound FILE`: what the lock's guarantee costs on a network.
+ghost use Rattle.std.specs.Prelude.{◌≡◌, ℕ, ◌++◌, IfOk, OnOk, string_bytes, codes, decimal};
+ghost use Rattle.tokentree.specs.Bound.{number_line, nodes_line, parent_word, bound_text};
+ghost use Rattle.topology.specs.Tree.{distance_of, parent_of};
+
+use crate::fault::Fault;
+use crate::network_file::read_network;
+use std::alloc::{AllocError, Global};
+use std::fmt::Write;
+use std::rt::Files;
+use topology::Net;
+
+/// Prints the text of the network of a file.
+///
+/// # Errors
+/// Where no network is read of the file, memory runs out, or standard output does not take the text.
+pub fn run<R: Files + Print + AllocGlobal>(rt: &R, path: &str) -> Result<(), Fault> {
+    let net = read_network(rt, path)?;
+    let text = bound_text(rt.alloc(), &net).map_err(|_| Fault::Memory)?;
+    rt.print(text.as_str()).map_err(|_| Fault::Output)
+}
+
+/// The eight lines of a network.
+pub fn bound_text(alloc: Global, net: &Net) -> Result<String, AllocError>
+    ensures { IfOk result (λ text. string_bytes text ≡ bound_text net.now) }
+{
+    let mut text = String::new(alloc);
+    push_number(&mut text, "nodes", u32::from(net.nodes()))?;
+    push_number(&mut text, "edges", net.edges().len() as u32)?;
+    push_number(&mut text, "capacity", u32::from(net.capacity()))?;
+    push_number(&mut text, "counter", u32::from(net.counter()))?;
+    push_number(&mut text, "ring", u32::from(net.ring()))?;
+    push_distances(&mut text, net)?;
+    push_parents(&mut text, net)?;
+    push_number(&mut text, "sweeps", net.bound())?;
+    Ok(text)
+}
+
+/// Adds a line of a word and a number.
+fn push_number(text: &mut String, word: &str, number: u32) -> Result<(), AllocError>
+    ensures { OnOk result (string_bytes text.new ≡ string_bytes text.old ++ number_line word.now number) }
+{
+    writeln!(text, "{word} {number}")
+}
+
+/// Adds the line of distances.
+fn push_distances(text: &mut String, net: &Net) -> Result<(), AllocError>
+    ensures { OnOk result (string_bytes text.new ≡ string_bytes text.old ++ nodes_line (codes "distances") net.now.nodes (λ v. decimal (distance_of net.now v))) }
+{
+    text.push_str("distances")?;
+    for v in 0..net.nodes() {
+        write!(text, " {}", net.distance(v))?;
+    }
+    text.push_str("\n")
+}
+
+/// Adds the line of true parents.
+fn push_parents(text: &mut String, net: &Net) -> Result<(), AllocError>
+    ensures { OnOk result (string_bytes text.new ≡ string_bytes text.old ++ nodes_line (codes "parents") net.now.nodes (λ v. parent_word (parent_of net.now v))) }
+{
+    text.push_str("parents")?;
+    for v in 0..net.nodes() {
+        push_parent(text, net.parent(v))?;
+    }
+    text.push_str("\n")
+}
+
+/// Adds a space, and a parent's id or `none`.
+fn push_parent(text: &mut String, parent: Option<u16>) -> Result<(), AllocError>
+    ensures { OnOk result (string_bytes text.new ≡ string_bytes text.old ++ (codes " " ++ parent_word parent)) }
+{
+    match parent {
+        Some(parent) => write!(text, " {parent}"),
+        None => text.push_str(" none"),
+    }
+}

@@ -1,0 +1,29 @@
+//! `tokentree`, the program of a self-stabilising lock over a spanning tree. Each command is a subcommand, and a module here.
+//!
+//! ```text
+//! $ tokentree bound two-nodes.toml
+//! nodes 2
+//! edges 1
+//! ...
+//! sweeps 69
+//! ```
+//!
+//! It keeps no state of its own and no lock by itself: what a command does stands in the crates below, this one reads words and files and prints.
+//!
+//! Statuses: 0 done, help too; 1 a file, memory or the output refused, with one line `tokentree: ..` on standard error; 2 the command line refused.
+//! The command line is looked at before any file.
+#![tactic(auto)]
+
+mod bound;
+mod commands;
+mod fault;
+mod network_file;
+
+use std::process::ExitCode;
+
+fn main(rt: HostRuntime) -> ExitCode {
+    commands::run(&rt)
+}
+
+#[cfg(test)]
+mod tests;
