@@ -6,3 +6,4 @@ pub mod Marks
 pub mod Sweeping
 pub mod Refresh
 pub mod Strict
+mod Rows

@@ -23,3 +23,6 @@ mod port;
 pub use fault::OutOfRange;
 pub use heard::Heard;
 pub use port::Port;
+
+#[cfg(test)]
+mod tests;
