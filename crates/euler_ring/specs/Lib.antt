@@ -1,3 +1,4 @@
 pub mod Cycle
 pub mod Mask
 pub mod Tour
+pub mod Laws
