@@ -1,10 +1,10 @@
 -- A world in range has each edge in range.
-use Rattle.std.proofs.Common.{◌≡◌, ℕ, ◌*◌, ◌+◌, ◌<◌, ◌≤◌, List, [], ◌∷◌, Bool, true, IsTrue, length, arith}
+use Rattle.std.proofs.Common.{◌≡◌, ℕ, List, true, IsTrue, arith}
 use Rattle.std.proofs.lemmas.Grind.{common_steps}
 use Rattle.std.proofs.lemmas.Bool.Decides.{nat_tests}
 use Rattle.std.proofs.lemmas.List.Elements.{All-weaker, recursion_from_All}
-use Rattle.std.specs.List.{All, AllByRecursion}
-use Rattle.topology.specs.Network.{Network, are_joined, counter_of}
+use Rattle.std.specs.List.{AllByRecursion}
+use Rattle.topology.specs.Network.{Network, are_joined}
 use Rattle.topology.specs.Ranges.{ranges_of}
 use Rattle.topology.proofs.Joined.{joined_back, joined_nodes}
 use Rattle.link_model.specs.declared.item.Item.{Item}
@@ -13,7 +13,7 @@ use Rattle.data_link.specs.Port.{PortState, port_fits}
 use Rattle.data_link.specs.Edge.{modulus_of, IsPortBelow, IsItemBelow, IsEdgeInRange}
 use Rattle.run_model.specs.World.{World, IsWorldInRange, item_fits}
 use Rattle.run_model.specs.Legitimate.{edge_of}
-use Rattle.run_model.proofs.Ranges.{IsLinked, AllFit, port-in_range}
+use Rattle.run_model.proofs.Ranges.{AllFit, port-in_range}
 
 port-below : (net : Network) (p : PortState) → port_fits (ranges_of net) p ≡ true → IsPortBelow (modulus_of net.capacity) p
 port-below net p fits = (grind (arith, common_steps, nat_tests), grind (arith, common_steps, nat_tests))

@@ -1,11 +1,11 @@
 -- What a node does keeps its state in range.
-use Rattle.std.proofs.Common.{◌≡◌, ℕ, ◌+◌, ◌<◌, ◌≤◌, min, List, [], ◌∷◌, Bool, true, false, ◌||◌, IsTrue, Option, Some, None, length, refl, sym, ◌∙◌, ap, subst, arith, inl, inr}
+use Rattle.std.proofs.Common.{◌≡◌, ℕ, ◌+◌, ◌<◌, ◌≤◌, List, [], ◌∷◌, Bool, true, false, IsTrue, Option, refl, subst, arith, inl, inr}
 use Rattle.std.proofs.lemmas.Grind.{common_steps}
 use Rattle.std.proofs.lemmas.Bool.{cases_Bool, cases_eq, cond-true, cond-false, cond_both, eq-eqb, ne_eqb}
 use Rattle.std.proofs.lemmas.Bool.Decides.{nat_tests}
 use Rattle.std.proofs.lemmas.List.Elements.{All-head, All-tail, All-filter, All-weaker}
-use Rattle.std.specs.Prelude.{◌==◌, ◌&&◌, ◌%◌, nat_lt, find, is_none, slice_index_or}
-use Rattle.std.specs.List.{All, list_any, filter}
+use Rattle.std.specs.Prelude.{◌==◌, ◌&&◌, ◌%◌, nat_lt, unwrap_or, find, is_none, slice_index_or}
+use Rattle.std.specs.List.{All, list_any}
 use Rattle.topology.specs.At.{at}
 use Rattle.topology.specs.Ranges.{parent_fits, payload_fits, frame_fits}
 use Rattle.topology.specs.declared.frame.Frame.{Frame as FrameOf}
@@ -16,7 +16,7 @@ use Rattle.link_model.specs.declared.item.Item.TheVariants.{Frame, Noise}
 use Rattle.data_link.specs.Port.{PortState, port_fits, port_acked, port_heard, port_after}
 use Rattle.k_state.specs.Machine.{root_moved}
 use Rattle.lock_desk.specs.Laws.{TicksKeepRanges}
-use Rattle.euler_ring.specs.Cycle.{is_named, largest, source_for}
+use Rattle.euler_ring.specs.Cycle.{is_on, is_tree_neighbour, highest, below, source_for}
 use Rattle.bfs_tree.specs.Step.{has_least_copy, new_distance, new_parent}
 use Rattle.node_core.specs.Site.{Site}
 use Rattle.node_core.specs.State.{NodeState, IsNodeInRange}
@@ -46,15 +46,15 @@ after-fits r p f present fits sent says = heard-fits r (port_acked r.counter p f
 
 -- ---- what is chosen among the neighbours is as they all are
 
-largest-is : (P : ℕ → Type 0) (d : ℕ) (ts : List ℕ) → P d → All P ts → P (largest d ts)
-largest-is P d [] p all = p
-largest-is P d (t ∷ ts) p all = largest-is P t ts (All-head P t ts all) (All-tail P t ts all)
+highest-is : (P : ℕ → Type 0) (d : ℕ) (ts : List ℕ) → P d → All P ts → P (unwrap_or (highest ts) d)
+highest-is P d [] p all = p
+highest-is P d (t ∷ ts) p all = highest-is P t ts (All-head P t ts all) (All-tail P t ts all)
 
-source-is : (P : ℕ → Type 0) (ts : List ℕ) (w : ℕ) → list_any (λ t. t == w) ts ≡ true → All P ts → P (source_for ts w)
+source-is : (P : ℕ → Type 0) (ts : List ℕ) (w : ℕ) → is_on ts w ≡ true → All P ts → P (source_for ts w)
 source-is P [] w there all = absurd (grind arith)
 source-is P (t ∷ ts) w there all =
-    largest-is P (largest t ts) (filter (λ x. nat_lt x w) (t ∷ ts)) (largest-is P t ts (All-head P t ts all) (All-tail P t ts all))
-    (All-filter (λ x. nat_lt x w) P (t ∷ ts) all)
+    highest-is P (unwrap_or (highest (t ∷ ts)) w) (below w (t ∷ ts)) (highest-is P t ts (All-head P t ts all) (All-tail P t ts all))
+    (All-filter (λ u. nat_lt u w) P (t ∷ ts) all)
 
 found-fits : (n : ℕ) (test : ℕ → Bool) (ws : List ℕ) → All (λ w. w < n) ws → parent_fits n (find test ws) ≡ true
 found-fits n test [] all = refl
@@ -71,7 +71,7 @@ ring-fits : (site : Site) (s : NodeState) (w : ℕ) → IsSiteSound site → IsN
 ring-fits site s w sound range = elim (cases_Bool (list_any (λ t. t == w) (tree_of site s))) [
   | inl there ↦
       let x = source-is (λ t. s.value t < site.ranges.ring) (tree_of site s) w there
-      (All-filter (λ t. is_named s.parent t || is_named (s.port t).copy.parent site.id) (λ t. s.value t < site.ranges.ring) site.neighbours range.values) in
+      (All-filter (is_tree_neighbour s.parent site.id (λ t. (s.port t).copy.parent)) (λ t. s.value t < site.ranges.ring) site.neighbours range.values) in
       rw (cond-true (list_any (λ t. t == w) (tree_of site s)) (s.value (source_for (tree_of site s) w)) 0 there) x
   | inr out ↦ rw (cond-false (list_any (λ t. t == w) (tree_of site s)) (s.value (source_for (tree_of site s) w)) 0 out) sound.ring
 ]

@@ -1,34 +1,27 @@
 -- A run from a world in range leads to one in range.
-use Rattle.std.proofs.Common.{◌≡◌, ℕ, ◌+◌, ◌<◌, ◌≤◌, suc, List, [], ◌∷◌, ◌++◌, Bool, true, false, IsTrue, Option, Some, None, length, take, drop, refl, sym, ◌∙◌, ap, subst, arith, inl, inr}
+use Rattle.std.proofs.Common.{◌≡◌, ℕ, ◌<◌, ◌≤◌, suc, List, [], ◌∷◌, ◌++◌, Bool, true, false, IsTrue, Option, Some, None, length, take, drop, refl, sym, subst, arith, inl, inr}
 use Rattle.std.proofs.lemmas.Grind.{common_steps}
-use Rattle.std.proofs.lemmas.Bool.{cases_Bool, cases_eq, cond-true, cond-false, cond_both, eq-eqb, ne_eqb, and_parts}
+use Rattle.std.proofs.lemmas.Bool.{cases_eq, cond-true, cond-false, cond_both, eq-eqb, ne_eqb}
 use Rattle.std.proofs.lemmas.Bool.Decides.{nat_tests}
-use Rattle.std.proofs.lemmas.List.Elements.{All-nil, All-head, All-tail, All-weaker, All-append, All-push, All-take, All-drop, All-contains, All-contains_itself}
-use Rattle.std.specs.Prelude.{◌==◌, ◌&&◌, nat_lt, is_some}
+use Rattle.std.proofs.lemmas.List.Elements.{All-head, All-tail, All-weaker, All-append, All-push, All-take, All-drop, All-contains, All-contains_itself}
+use Rattle.std.specs.Prelude.{◌==◌, ◌&&◌, is_some}
 use Rattle.std.specs.List.{All, Contains, remove}
 use Rattle.topology.specs.At.{at}
 use Rattle.topology.specs.Network.{Network, are_joined, neighbours_of, IsAcceptedNetwork}
-use Rattle.topology.specs.Ranges.{ranges_of, frame_fits, payload_fits, parent_fits}
-use Rattle.topology.proofs.Joined.{neighbours_are_joined, joined_back}
+use Rattle.topology.specs.Ranges.{ranges_of, frame_fits}
+use Rattle.topology.proofs.Joined.{neighbours_are_joined}
 use Rattle.topology.specs.declared.frame.Ranges.{Ranges}
 use Rattle.link_model.specs.declared.item.Item.{Item}
-use Rattle.link_model.specs.declared.item.Item.TheVariants.{Frame, Noise}
+use Rattle.link_model.specs.declared.item.Item.TheVariants.{Frame}
 use Rattle.data_link.specs.Port.{PortState, port_fits, frame_of}
-use Rattle.lock_desk.specs.Laws.{TicksKeepRanges, AsksKeepRanges, LeavesKeepRanges, LoansKeepRanges}
-use Rattle.lock_desk.specs.Desk.{DeskState, desk_fits, is_number, ask_fault, loan_fits}
-use Rattle.node_core.specs.Site.{Site, site_of}
+use Rattle.lock_desk.specs.Desk.{DeskState, desk_fits}
+use Rattle.node_core.specs.Site.{site_of}
 use Rattle.node_core.specs.State.{NodeState, IsNodeInRange}
-use Rattle.node_core.specs.Step.{taken, ticked}
-use Rattle.run_model.specs.World.{World, IsWorldInRange, item_fits, site, at_pair, with_node, with_link}
-use Rattle.run_model.specs.Step.{first_fault, unless, node_fault, link_fault, ticket_fault, desk_fault, refusal, step, changed, harmed, harm_fits, harm_place_fault, has_room, sent, handed_over, with_port, with_desk}
-use Rattle.run_model.specs.Run.{run}
-use Rattle.run_model.specs.declared.event.Event.{Event}
-use Rattle.run_model.specs.declared.event.Event.TheVariants.{Send, Take, Lose, Tick, Ask, Leave, Damage}
+use Rattle.node_core.specs.Step.{taken}
+use Rattle.run_model.specs.World.{World, IsWorldInRange, item_fits, site, with_node, with_link}
+use Rattle.run_model.specs.Step.{first_fault, unless, link_fault, has_room, sent, handed_over, with_port, with_desk}
 use Rattle.run_model.specs.declared.event.EventFault.{EventFault}
-use Rattle.run_model.specs.declared.event.Harm.{Harm}
-use Rattle.run_model.specs.declared.event.Harm.TheVariants as harm
-use Rattle.run_model.proofs.Steps.{step-network}
-use Rattle.run_model.proofs.NodeRanges.{IsSiteSound, at-fits, taken-range, ticked-range}
+use Rattle.run_model.proofs.NodeRanges.{IsSiteSound, at-fits, taken-range}
 
 pub site-sound : (net : Network) (v : ℕ) → IsAcceptedNetwork net → IsSiteSound (site_of net v)
 site-sound net v ok = record {

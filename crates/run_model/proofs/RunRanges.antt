@@ -1,5 +1,5 @@
 -- Each event, and so each run, keeps a world in range.
-use Rattle.std.proofs.Common.{◌≡◌, ℕ, ◌<◌, ◌≤◌, List, [], ◌∷◌, ◌++◌, Bool, true, false, IsTrue, Option, None, length, refl, subst, arith, inl, inr}
+use Rattle.std.proofs.Common.{◌≡◌, ℕ, ◌<◌, ◌≤◌, List, [], ◌∷◌, ◌++◌, true, false, IsTrue, Option, None, length, arith}
 use Rattle.std.proofs.lemmas.Grind.{common_steps}
 use Rattle.std.proofs.lemmas.Bool.{cond_both, and_parts, ltb-true}
 use Rattle.std.proofs.lemmas.Bool.Decides.{nat_tests}
@@ -14,15 +14,14 @@ use Rattle.link_model.specs.declared.item.Item.{Item}
 use Rattle.data_link.specs.Port.{PortState, counters_fit, port_fits}
 use Rattle.lock_desk.specs.Laws.{TicksKeepRanges, AsksKeepRanges, LeavesKeepRanges, LoansKeepRanges}
 use Rattle.lock_desk.specs.declared.fault.AskFault.{AskFault}
-use Rattle.lock_desk.specs.Desk.{DeskState, desk_fits, is_number, ask_fault, asked, after_leave, loan_fits, with_loan}
-use Rattle.node_core.specs.State.{NodeState, IsNodeInRange}
+use Rattle.lock_desk.specs.Desk.{is_number, ask_fault, asked, after_leave, with_loan}
 use Rattle.node_core.specs.Step.{ticked}
-use Rattle.run_model.specs.World.{World, IsWorldInRange, item_fits, site, with_node, with_link}
+use Rattle.run_model.specs.World.{World, IsWorldInRange, item_fits, site, with_node}
 use Rattle.run_model.specs.Step.{first_fault, unless, node_fault, link_fault, ticket_fault, desk_fault, refusal, step, changed, harmed, harm_fits, harm_place_fault, has_room}
 use Rattle.run_model.specs.Run.{run}
 use Rattle.run_model.specs.declared.event.Event.{Event}
 use Rattle.run_model.specs.declared.event.Event.TheVariants.{Send, Take, Lose, Tick, Ask, Leave, Damage}
-use Rattle.run_model.specs.declared.event.EventFault.TheVariants.{OutOfRange, NoItem, Stranger}
+use Rattle.run_model.specs.declared.event.EventFault.TheVariants.{OutOfRange, NoItem}
 use Rattle.run_model.specs.declared.event.Harm.{Harm}
 use Rattle.run_model.specs.declared.event.Harm.TheVariants as harm
 use Rattle.run_model.proofs.NodeRanges.{ticked-range}
