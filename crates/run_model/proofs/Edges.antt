@@ -45,10 +45,10 @@ edge-runs w (e ∷ es) u v ok joined fine =
 
 -- ---- what an edge's events do to its links
 
-act-out : (w : World) (e : Event) (u v : ℕ) → u ≢ v → act_out (edge_event w e u v) ≡ link_act u v e
+pub act-out : (w : World) (e : Event) (u v : ℕ) → u ≢ v → act_out (edge_event w e u v) ≡ link_act u v e
 act-out w e u v apart = grind (arith, common_steps)
 
-act-back : (w : World) (e : Event) (u v : ℕ) → u ≢ v → act_back (edge_event w e u v) ≡ link_act v u e
+pub act-back : (w : World) (e : Event) (u v : ℕ) → u ≢ v → act_back (edge_event w e u v) ≡ link_act v u e
 act-back w e u v apart = grind (arith, common_steps)
 
 acts-out : (w : World) (es : List Event) (u v : ℕ) → u ≢ v → map act_out (edge_events w es u v) ≡ map (link_act u v) es

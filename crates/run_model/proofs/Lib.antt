@@ -7,3 +7,6 @@ pub mod NodeRanges
 pub mod Ranges
 pub mod RunRanges
 pub mod EdgeRanges
+pub mod Serving
+pub mod Counts
+pub mod Strict

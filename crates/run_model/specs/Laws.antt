@@ -113,7 +113,7 @@ IsEarliest w first = (front back : List Event) → first ≡ front ++ back → I
 -- Ending a sweep at the first event at which it is one loses none: if the list holds one sweep more than r, the rest behind the earliest sweep holds r.
 abbrev pub EarliestIsBest : Type 0
 EarliestIsBest =
-    (w : World) (r : ℕ) (first rest : List Event) → IsWorldInRange w → IsUndamaged w (first ++ rest) → IsSweep w first → IsEarliest w first
+    (w : World) (r : ℕ) (first rest : List Event) → IsWorldInRange w → IsUndamaged w (first ++ rest) → IsEarliest w first
     → Sweeps w (suc r) (first ++ rest) → Sweeps (run w first) r rest
 
 -- So the greatest count of a list is one more than that of the rest behind its earliest sweep,

@@ -1,5 +1,5 @@
 //! What holds of runs and sweeps, for the crates above: each law is the contract of a function that does nothing.
-ghost use Rattle.run_model.specs.Laws.{RefusedChangesNothing, NetworkStays, RunsJoin, UndamagedJoins, UndamagedSplits, RangesStay, EdgesAreInRange, EdgeSteps, EdgeRuns, EdgeIsServed, EdgeSweeps, SweepsSplit, FewerSweeps, SweepsGrow};
+ghost use Rattle.run_model.specs.Laws.{RefusedChangesNothing, NetworkStays, RunsJoin, UndamagedJoins, UndamagedSplits, RangesStay, EdgesAreInRange, EdgeSteps, EdgeRuns, EdgeIsServed, EdgeSweeps, SweepGrows, SweepsSplit, SweepsJoin, FewerSweeps, SweepsGrow, StrictSweepsAreSweeps, EarliestIsBest, GreedyCount, NoSweepCount, OneCount};
 
 /// A refused event changes nothing, and no event changes the network; the run of two lists is the run of the second from where the
 /// first led, and is without damage where both are. Whoever speaks of a moment of a run needs these.
@@ -12,7 +12,7 @@ pub fn runs()
 {}
 
 /// Every world in range leads to worlds in range alone: whatever holds of each world in range holds at each moment of a run.
-pub fn ranges()
+pub fn in_range()
     ensures { RangesStay }
 {
     lock_desk::laws::ranges_are_kept();
@@ -28,10 +28,29 @@ pub fn edges()
     ensures sweeps { EdgeSweeps }
 {}
 
-/// Lists that hold sweeps: r + s sweeps are r and then s, a list that holds some holds fewer, and events behind take none away. Convergence goes in
-/// stages, each with sweeps of its own.
+/// Lists that hold sweeps: r + s sweeps are r and then s, and the other way round; a list that holds some holds fewer; events before
+/// or behind take none away. Convergence goes in stages, each with sweeps of its own.
 pub fn sweep_numbers()
+    ensures grows { SweepGrows }
     ensures split { SweepsSplit }
+    ensures join { SweepsJoin }
     ensures fewer { FewerSweeps }
     ensures grow { SweepsGrow }
+{}
+
+/// A sweep that counts the items that a link hands over, more than it can hold, is a sweep too.
+pub fn strict_sweeps()
+    ensures { StrictSweepsAreSweeps }
+{
+    data_link::laws::sweep_law();
+    in_range();
+}
+
+/// The greatest number of sweeps is found greedily: end each sweep at the first event at which it is one. A judge who reads a run event
+/// by event stands on this.
+pub fn sweep_counts()
+    ensures earliest { EarliestIsBest }
+    ensures greedy { GreedyCount }
+    ensures none { NoSweepCount }
+    ensures one { OneCount }
 {}

@@ -1,4 +1,6 @@
 use Rattle.std.proofs.Common.{refl, ◌+◌}
+use Rattle.run_model.proofs.Serving.{sweep-grows}
+use Rattle.run_model.proofs.Counts.{sweeps-join}
 use Rattle.run_model.proofs.Splits.{sweeps-split_sum, fewer-sweeps, sweeps-grow}
 use Rattle.run_model.proofs.laws.sweep_numbers.Goals as goal
 
@@ -10,3 +12,9 @@ returns-clause-fewer c = fewer-sweeps
 
 pub returns-clause-grow : goal.returns-clause-grow
 returns-clause-grow c = sweeps-grow
+
+pub returns-clause-grows : goal.returns-clause-grows
+returns-clause-grows c = λ w front es back range. sweep-grows w front es back range.network
+
+pub returns-clause-join : goal.returns-clause-join
+returns-clause-join c = λ w r s first rest range fine a b. sweeps-join w r s first rest range.network fine a b (r + s) refl

@@ -1,5 +1,5 @@
 use Rattle.run_model.proofs.RunRanges.{run-range}
-use Rattle.run_model.proofs.laws.ranges.Goals as goal
+use Rattle.run_model.proofs.laws.in_range.Goals as goal
 
 pub returns : goal.returns
 returns c =
