@@ -1,0 +1,6 @@
+mod Along
+mod Own
+mod Links
+mod Stages
+mod Parents
+mod Sums
