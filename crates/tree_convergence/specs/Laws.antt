@@ -1,5 +1,5 @@
 -- Links become stable, payloads become fresh, and the tree is reached: each law for the number of sweeps that it uses.
-use Rattle.std.specs.Prelude.{◌≡◌, ℕ, ◌+◌, ◌*◌, ◌<◌, ◌⊎◌, Bool, true, false, IsTrue, List}
+use Rattle.std.specs.Prelude.{◌≡◌, ℕ, ◌+◌, ◌*◌, ◌⊎◌, Bool, true, false, IsTrue, List}
 use Rattle.topology.specs.Network.{are_joined}
 use Rattle.topology.specs.declared.frame.Payload.{Payload}
 use Rattle.data_link.specs.Edge.{IsStable}
@@ -55,10 +55,10 @@ abbrev pub StageStays : Type 0
 StageStays =
     (k : ℕ) (w : World) (e : Event) → IsWorldInRange w → is_damage w e ≡ false → AreLinksStable w → IsTreeAtStage k w → IsTreeAtStage k (step w e)
 
--- below stage n, four sweeps reach the next stage
+-- four sweeps reach the next stage
 abbrev pub StageRises : Type 0
 StageRises =
-    (k : ℕ) (w : World) (es : List Event) → IsWorldInRange w → IsUndamaged w es → AreLinksStable w → k < w.net.nodes → IsTreeAtStage k w → Sweeps w 4 es
+    (k : ℕ) (w : World) (es : List Event) → IsWorldInRange w → IsUndamaged w es → AreLinksStable w → IsTreeAtStage k w → Sweeps w 4 es
     → IsTreeAtStage (k + 1) (run w es)
 
 -- at stage n, four sweeps reach the tree
