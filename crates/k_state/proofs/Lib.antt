@@ -5,3 +5,4 @@ pub mod Histories
 pub mod AnyRun
 pub mod Parallel
 mod Rows
+pub mod Boundary

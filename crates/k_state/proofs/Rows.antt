@@ -1,7 +1,7 @@
 -- Small rings, and what holds of them
-use Rattle.std.proofs.Common.{◌≡◌, ℕ, [], ◌∷◌, refl, arith, rules, true, false}
+use Rattle.std.proofs.Common.{◌≡◌, ℕ, [], ◌∷◌, refl, arith, rules, true, false, map}
 use Rattle.k_state.specs.Machine.{root_moved, is_privileged}
-use Rattle.k_state.specs.Ring.{Written, Further, Moved, Run, Done, Move_first, Change_first, IsParallel, IsGood, IsFresh, HasFront}
+use Rattle.k_state.specs.Ring.{Written, Further, Moved, Run, Done, Move_first, Change_first, IsParallel, IsGood, IsFresh, HasFront, is_privileged_at}
 use Rattle.k_state.proofs.Parallel.{joined}
 
 last_value_wraps : root_moved 6 7 ≡ 0
@@ -62,3 +62,14 @@ too_few_values = joined 2 (half_round 0 1 refl) (half_round 1 0 refl)
 
 not_good_after_two_moves : IsGood 2 (0 ∷ 1 ∷ 0 ∷ 1 ∷ []) → ⊥
 not_good_after_two_moves h = grind arith
+
+-- in a good ring the item behind the boundary alone is privileged, and the head where there is none
+privileged_at_boundary : map (is_privileged_at (2 ∷ 2 ∷ 1 ∷ 1 ∷ [])) (0 ∷ 1 ∷ 2 ∷ 3 ∷ []) ≡ false ∷ false ∷ true ∷ false ∷ []
+privileged_at_boundary = refl
+
+privileged_at_head : map (is_privileged_at (2 ∷ 2 ∷ 2 ∷ [])) (0 ∷ 1 ∷ 2 ∷ []) ≡ true ∷ false ∷ false ∷ []
+privileged_at_head = refl
+
+-- in another ring several may be
+privileged_everywhere : map (is_privileged_at (2 ∷ 0 ∷ 5 ∷ 2 ∷ [])) (0 ∷ 1 ∷ 2 ∷ 3 ∷ []) ≡ true ∷ true ∷ true ∷ true ∷ []
+privileged_everywhere = refl

@@ -1,7 +1,7 @@
 -- The laws of the copying ring, for every modulus q.
-use Rattle.std.specs.Prelude.{◌≡◌, ℕ, ◌+◌, ◌<◌, ◌≤◌, ◌⊎◌, List, ◌∷◌, length}
+use Rattle.std.specs.Prelude.{◌≡◌, ℕ, ◌+◌, ◌<◌, ◌≤◌, ◌⊎◌, IsTrue, List, ◌∷◌, length}
 use Rattle.std.specs.List.{AllByRecursion}
-use Rattle.k_state.specs.Ring.{HasFront, IsFresh, IsFreshMoment, IsGood, IsHistory, IsParallel, IsRing, Run, Step, head_of, moves_until, tail_of}
+use Rattle.k_state.specs.Ring.{HasFront, IsFresh, IsFreshMoment, IsGood, IsHistory, IsParallel, IsRing, Run, Step, Turn, head_of, is_privileged_at, moves_until, tail_of}
 
 -- ---- a good ring
 
@@ -65,3 +65,20 @@ StepIsRun = (q moves : ℕ) (old new : List ℕ) → Step q moves old new → Ru
 -- two runs, one after the other, are a run
 abbrev pub RunsJoin : Type 0
 RunsJoin = (q m n : ℕ) (xs ys zs : List ℕ) → Run q m xs ys → Run q n ys zs → Run q (m + n) xs zs
+
+-- ---- privilege in a good ring
+
+-- some item of a ring is privileged, good or not
+abbrev pub SomeItemIsPrivileged : Type 0
+SomeItemIsPrivileged = (ring : List ℕ) → 0 < length ring → (i : ℕ) × (i < length ring) × IsTrue (is_privileged_at ring i)
+
+-- at most one item of a good ring is privileged
+abbrev pub OneItemIsPrivileged : Type 0
+OneItemIsPrivileged =
+    (q i j : ℕ) (ring : List ℕ) → 1 < q → IsRing q ring → IsGood q ring → IsTrue (is_privileged_at ring i) → IsTrue (is_privileged_at ring j) → i ≡ j
+
+-- between two moves of the head of a good ring, each item is privileged at some moment
+abbrev pub PrivilegePasses : Type 0
+PrivilegePasses =
+    (q n i : ℕ) (ring : ℕ → List ℕ) (moves : ℕ → ℕ) → 1 < q → ((k : ℕ) → k < n → Turn q (moves k) (ring k) (ring (k + 1))) → IsRing q (ring 0) → IsGood q (ring 0)
+    → 2 ≤ moves_until moves n → i < length (ring 0) → (k : ℕ) × (k ≤ n) × (moves_until moves k ≡ 1) × IsTrue (is_privileged_at (ring k) i)

@@ -1,7 +1,7 @@
 -- The copying ring: a list of values below a modulus q. The first is the head's.
-use Rattle.std.specs.Prelude.{◌≡◌, ◌≢◌, ℕ, ◌+◌, ◌<◌, ◌⊎◌, zero, suc, List, [], ◌∷◌, length}
+use Rattle.std.specs.Prelude.{◌≡◌, ◌≢◌, ℕ, ◌+◌, ◌<◌, ◌⊎◌, Bool, true, false, zero, suc, List, [], ◌∷◌, length}
 use Rattle.std.specs.List.{AllByRecursion}
-use Rattle.k_state.specs.Machine.{root_moved}
+use Rattle.k_state.specs.Machine.{is_privileged, root_moved}
 
 -- ---- what may happen to a ring
 
@@ -95,3 +95,22 @@ pub record IsFreshMoment (ring : ℕ → List ℕ) (moves : ℕ → ℕ) (k : �
   pub early : moves_until moves k < length (ring 0)
   pub fresh : IsFresh (ring k)
   pub first : (j : ℕ) → j < k → head_of (ring j) ≢ head_of (ring k)
+
+-- ---- a ring whose items all stay in their places
+
+-- a parallel step, or the head's move; with the number of head moves, 0 or 1
+pub data Turn (q : ℕ) : ℕ → List ℕ → List ℕ → Type 0 where
+  Copies : {x : ℕ} {xs ys : List ℕ} → IsParallel x xs ys → Turn q zero (x ∷ xs) (x ∷ ys)
+  Goes_on : {x : ℕ} {xs : List ℕ} → last_of x xs ≡ x → Turn q (suc zero) (x ∷ xs) (root_moved x q ∷ xs)
+
+-- the item at place i behind `left` sees another value before it
+abbrev pub sees_another : ℕ → List ℕ → ℕ → Bool
+sees_another left [] i = false
+sees_another left (x ∷ xs) zero = is_privileged false x left
+sees_another left (x ∷ xs) (suc i) = sees_another x xs i
+
+-- the item at place i is privileged: the head where the last item has its value, every other where the item before it has another
+abbrev pub is_privileged_at : List ℕ → ℕ → Bool
+is_privileged_at [] i = false
+is_privileged_at (x ∷ xs) zero = is_privileged true x (last_of x xs)
+is_privileged_at (x ∷ xs) (suc i) = sees_another x xs i

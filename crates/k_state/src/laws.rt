@@ -1,6 +1,6 @@
 //! The laws of the copying ring, each the contract of a function that does nothing. A proof that
 //! needs one calls it and cites its clauses.
-ghost use Rattle.k_state.specs.Laws.{FreshHasFront, FrontStaysOrTurnsGood, GoodHasFront, GoodOutlastsRuns, GoodStays, ParallelIsRun, RingStays, RunTurnsGood, RunsJoin, SomeValueIsFresh, StepIsRun, TurnsGood};
+ghost use Rattle.k_state.specs.Laws.{FreshHasFront, FrontStaysOrTurnsGood, GoodHasFront, GoodOutlastsRuns, GoodStays, OneItemIsPrivileged, ParallelIsRun, PrivilegePasses, RingStays, RunTurnsGood, RunsJoin, SomeItemIsPrivileged, SomeValueIsFresh, StepIsRun, TurnsGood};
 
 /// A good ring stays good, whatever changes and head moves follow. Links need it to stay stable, the
 /// token ring to keep its one token.
@@ -33,4 +33,12 @@ pub fn parallel_law()
     ensures is_run { ParallelIsRun }
     ensures step_is_run { StepIsRun }
     ensures join { RunsJoin }
+{}
+
+/// Privilege: some item always has it, in a good ring only one, and between two head moves of a good
+/// ring whose items stay in their places it comes to each item.
+pub fn privilege_law()
+    ensures some { SomeItemIsPrivileged }
+    ensures one { OneItemIsPrivileged }
+    ensures passes { PrivilegePasses }
 {}
