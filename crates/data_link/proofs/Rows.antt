@@ -1,5 +1,5 @@
 -- Small edges with links of one place, whose numbers are 0 to 4, and what holds of them
-use Rattle.std.proofs.Common.{◌≡◌, ℕ, true, false, None, List, [], ◌∷◌, refl, ap, arith, rules}
+use Rattle.std.proofs.Common.{◌≡◌, ℕ, true, false, None, zero, suc, ◌++◌, List, [], ◌∷◌, refl, ap, arith, rules}
 use Rattle.std.proofs.lemmas.Grind.{common_steps}
 use Rattle.topology.specs.declared.frame.Frame.{Frame}
 use Rattle.topology.specs.declared.frame.Payload.{Payload}
@@ -128,3 +128,12 @@ round-sweep = record { out = refl; back = refl }
 -- leads back to it, and so does each further one
 round-again : run_with 2 1 two_numbers round ≡ two_numbers
 round-again = refl
+
+-- so no number of sweeps makes it stable
+abbrev rounds : ℕ → List EdgeEvent
+rounds zero = []
+rounds (suc n) = round ++ rounds n
+
+rounds-again : (n : ℕ) → run_with 2 1 two_numbers (rounds n) ≡ two_numbers
+rounds-again zero = refl
+rounds-again (suc n) = rounds-again n
