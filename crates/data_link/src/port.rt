@@ -6,6 +6,7 @@ ghost use Rattle.data_link.specs.Port.{counters_fit, default_port, frame_of, hea
 use crate::fault::OutOfRange;
 use crate::heard::Heard;
 use k_state::{copy_move, root_move};
+use std::alloc::Allocator;
 use std::marker::Model;
 use topology::{Frame, Net, Payload, Ranges};
 
@@ -33,7 +34,7 @@ impl Model for Port {
 
 impl Port {
     /// A port of a node that knows nothing yet: both numbers 0, the greatest distance, no parent.
-    pub fn new(net: &Net) -> Port
+    pub fn new<A: Allocator + Copy>(net: &Net<A>) -> Port
         ensures { result ≡ record { ranges = ranges_of net.now; state = default_port (ranges_of net.now) } }
     {
         let ranges = net.ranges();
