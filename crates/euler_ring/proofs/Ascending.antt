@@ -136,7 +136,7 @@ listed a (suc n) (t ∷ ts) h l = elim (cases_eq t a) [
 ]
 
 -- those above the first are the rest
-above_all : (t : ℕ) (ts : List ℕ) → IsFrom (t + 1) ts → above t ts ≡ ts
+pub above_all : (t : ℕ) (ts : List ℕ) → IsFrom (t + 1) ts → above t ts ≡ ts
 above_all t [] h = refl
 above_all t (x ∷ xs) h =
     let rest = above_all t xs (from-less (t + 1) (x + 1) xs (omega (arith, h.0)) h.1) in

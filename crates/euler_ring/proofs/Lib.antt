@@ -1,4 +1,9 @@
 mod Ranges
 mod Ascending
 mod Masks
+mod Circle
+mod Trees
+mod Chains
+mod Tours
+mod Lengths
 mod Rows

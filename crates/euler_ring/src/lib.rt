@@ -14,6 +14,7 @@
 //! Source: the Euler tour of a tree as a virtual ring (Dolev, Self-Stabilization, 2000).
 #![tactic(auto)]
 
+pub mod laws;
 mod mask;
 mod neighbours;
 
