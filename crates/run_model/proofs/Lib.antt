@@ -10,3 +10,6 @@ pub mod EdgeRanges
 pub mod Serving
 pub mod Counts
 pub mod Strict
+mod RowsTour
+mod RowsTwo
+mod RowsRound

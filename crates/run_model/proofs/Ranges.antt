@@ -3,22 +3,22 @@ use Rattle.std.proofs.Common.{◌≡◌, ℕ, ◌<◌, ◌≤◌, suc, List, [],
 use Rattle.std.proofs.lemmas.Grind.{common_steps}
 use Rattle.std.proofs.lemmas.Bool.{cases_eq, cond-true, cond-false, cond_both, eq-eqb, ne_eqb}
 use Rattle.std.proofs.lemmas.Bool.Decides.{nat_tests}
-use Rattle.std.proofs.lemmas.List.Elements.{All-head, All-tail, All-weaker, All-append, All-push, All-take, All-drop, All-contains, All-contains_itself}
+use Rattle.std.proofs.lemmas.List.Elements.{All-nil, All-head, All-tail, All-weaker, All-append, All-push, All-take, All-drop, All-contains, All-contains_itself}
 use Rattle.std.specs.Prelude.{◌==◌, ◌&&◌, is_some}
 use Rattle.std.specs.List.{All, Contains, remove}
 use Rattle.topology.specs.At.{at}
-use Rattle.topology.specs.Network.{Network, are_joined, neighbours_of, IsAcceptedNetwork}
+use Rattle.topology.specs.Network.{Network, are_joined, neighbours_of, ring_of, IsAcceptedNetwork}
 use Rattle.topology.specs.Ranges.{ranges_of, frame_fits}
 use Rattle.topology.proofs.Joined.{neighbours_are_joined}
 use Rattle.topology.specs.declared.frame.Ranges.{Ranges}
 use Rattle.link_model.specs.declared.item.Item.{Item}
 use Rattle.link_model.specs.declared.item.Item.TheVariants.{Frame}
-use Rattle.data_link.specs.Port.{PortState, port_fits, frame_of}
-use Rattle.lock_desk.specs.Desk.{DeskState, desk_fits}
+use Rattle.data_link.specs.Port.{PortState, port_fits, frame_of, default_port}
+use Rattle.lock_desk.specs.Desk.{DeskState, desk_fits, no_desk}
 use Rattle.node_core.specs.Site.{site_of}
 use Rattle.node_core.specs.State.{NodeState, IsNodeInRange}
 use Rattle.node_core.specs.Step.{taken}
-use Rattle.run_model.specs.World.{World, IsWorldInRange, item_fits, site, with_node, with_link}
+use Rattle.run_model.specs.World.{World, IsWorldInRange, item_fits, site, with_node, with_link, default_world}
 use Rattle.run_model.specs.Step.{first_fault, unless, link_fault, has_room, sent, handed_over, with_port, with_desk}
 use Rattle.run_model.specs.declared.event.EventFault.{EventFault}
 use Rattle.run_model.proofs.NodeRanges.{IsSiteSound, at-fits, taken-range}
@@ -28,6 +28,32 @@ site-sound net v ok = record {
   ring = omega arith;
   neighbours = All-weaker (Contains (neighbours_of net v)) (λ w. w < net.nodes) (λ w c. ((neighbours_are_joined net v w).0 c).0) (neighbours_of net v)
       (All-contains_itself (neighbours_of net v));
+}
+
+-- ---- where runs start
+
+all-same : (P : Type 0) → P → (ws : List ℕ) → All (λ w. P) ws
+all-same P p ws = λ k d l. p
+
+default-fits : (net : Network) → port_fits (ranges_of net) (default_port (ranges_of net)) ≡ true
+default-fits net = grind (arith, common_steps, nat_tests)
+
+no-desk_fits : (lease : ℕ) → desk_fits lease no_desk ≡ true
+no-desk_fits lease = grind (arith, common_steps, nat_tests)
+
+-- the default world is in range
+pub start-range : (net : Network) → IsAcceptedNetwork net → IsWorldInRange (default_world net)
+start-range net ok = record {
+  network = ok;
+  nodes = λ v l. record {
+    distance = omega arith;
+    parent = refl;
+    ports = all-same (port_fits (ranges_of net) (default_port (ranges_of net)) ≡ true) (default-fits net) (neighbours_of net v);
+    values = all-same (0 < ring_of net) (omega arith) (neighbours_of net v);
+    desk = no-desk_fits net.lease;
+  };
+  capacity = λ u v joined. omega arith;
+  items = λ u v joined. All-nil (λ item. IsTrue (item_fits (ranges_of net) item));
 }
 
 -- ---- one node, or one link, is written

@@ -1,10 +1,10 @@
 -- The plain laws of runs and sweeps, for every network, world and list of events.
 use Rattle.std.specs.Prelude.{◌≡◌, ℕ, ◌+◌, ◌<◌, ◌≤◌, false, IsTrue, is_some, suc, List, [], ◌++◌}
-use Rattle.topology.specs.Network.{are_joined}
+use Rattle.topology.specs.Network.{Network, IsAcceptedNetwork, are_joined}
 use Rattle.data_link.specs.Edge.{IsEdgeInRange, edge_step, edge_run}
 use Rattle.data_link.specs.Sweep as edge
 use Rattle.data_link.specs.Sweep.{is_out_served, is_back_served}
-use Rattle.run_model.specs.World.{World, IsWorldInRange}
+use Rattle.run_model.specs.World.{World, IsWorldInRange, default_world}
 use Rattle.run_model.specs.Step.{refusal, step}
 use Rattle.run_model.specs.Run.{run, is_damage, IsUndamaged}
 use Rattle.run_model.specs.Sweep.{IsSweep, is_served}
@@ -24,6 +24,10 @@ RefusedChangesNothing = (w : World) (e : Event) → IsTrue (is_some (refusal w e
 -- no event changes the network
 abbrev pub NetworkStays : Type 0
 NetworkStays = (w : World) (es : List Event) → (run w es).net ≡ w.net
+
+-- the default world of each accepted network is in range
+abbrev pub StartIsInRange : Type 0
+StartIsInRange = (net : Network) → IsAcceptedNetwork net → IsWorldInRange (default_world net)
 
 -- a run from a world in range leads to one in range
 abbrev pub RangesStay : Type 0

@@ -6,6 +6,7 @@ pub mod Count
 pub mod Tree
 pub mod Ring
 pub mod Legitimate
+pub mod Visited
 pub mod Headline
 pub mod Project
 pub mod Laws

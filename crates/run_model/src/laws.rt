@@ -1,5 +1,5 @@
 //! What holds of runs and sweeps, for the crates above: each law is the contract of a function that does nothing.
-ghost use Rattle.run_model.specs.Laws.{RefusedChangesNothing, NetworkStays, RunsJoin, UndamagedJoins, UndamagedSplits, RangesStay, EdgesAreInRange, EdgeSteps, EdgeRuns, EdgeIsServed, EdgeSweeps, SweepGrows, SweepsSplit, SweepsJoin, FewerSweeps, SweepsGrow, StrictSweepsAreSweeps, EarliestIsBest, GreedyCount, NoSweepCount, OneCount};
+ghost use Rattle.run_model.specs.Laws.{RefusedChangesNothing, NetworkStays, RunsJoin, UndamagedJoins, UndamagedSplits, StartIsInRange, RangesStay, EdgesAreInRange, EdgeSteps, EdgeRuns, EdgeIsServed, EdgeSweeps, SweepGrows, SweepsSplit, SweepsJoin, FewerSweeps, SweepsGrow, StrictSweepsAreSweeps, EarliestIsBest, GreedyCount, NoSweepCount, OneCount};
 
 /// A refused event changes nothing, and no event changes the network; the run of two lists is the run of the second from where the
 /// first led, and is without damage where both are. Whoever speaks of a moment of a run needs these.
@@ -9,6 +9,11 @@ pub fn runs()
     ensures join { RunsJoin }
     ensures undamaged_joins { UndamagedJoins }
     ensures undamaged_splits { UndamagedSplits }
+{}
+
+/// The world in which every node is as it starts and nothing is under way is in range, as each possible start is to be.
+pub fn start()
+    ensures { StartIsInRange }
 {}
 
 /// Every world in range leads to worlds in range alone: whatever holds of each world in range holds at each moment of a run.
