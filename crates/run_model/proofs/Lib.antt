@@ -13,3 +13,8 @@ pub mod Strict
 mod RowsTour
 mod RowsTwo
 mod RowsRound
+pub mod OneBoundary
+pub mod TreeLists
+pub mod TrueTree
+pub mod GoodRing
+pub mod Privileges

@@ -10,3 +10,4 @@ pub mod Visited
 pub mod Headline
 pub mod Project
 pub mod Laws
+pub mod Legs
