@@ -55,10 +55,10 @@ last-staged w a l (k ∷ ks) h = last-staged w a k ks h.1.1.1
 abbrev pub leg_may_move : World → Leg → Bool
 leg_may_move w l = is_privileged (is_special_leg w.net l) (machine_value w l) (seen_value w l)
 
-special-moves : (w : World) (l : Leg) → is_special_leg w.net l ≡ true → leg_may_move w l ≡ true → machine_value w l ≡ seen_value w l
+pub special-moves : (w : World) (l : Leg) → is_special_leg w.net l ≡ true → leg_may_move w l ≡ true → machine_value w l ≡ seen_value w l
 special-moves w l s h = eqb-true (machine_value w l) (seen_value w l) (subst (λ b. is_privileged b (machine_value w l) (seen_value w l) ≡ true) s h)
 
-other-moves : (w : World) (l : Leg) → is_special_leg w.net l ≡ false → leg_may_move w l ≡ true → Differs w l
+pub other-moves : (w : World) (l : Leg) → is_special_leg w.net l ≡ false → leg_may_move w l ≡ true → Differs w l
 other-moves w l s h e =
     let d : is_privileged false (machine_value w l) (seen_value w l) ≡ true = subst (λ b. is_privileged b (machine_value w l) (seen_value w l) ≡ true) s h in
     grind (arith, nat_tests)

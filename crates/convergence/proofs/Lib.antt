@@ -1,0 +1,5 @@
+mod Below
+mod Settled
+mod NodeEvents
+mod LegEvents
+mod RingEvents

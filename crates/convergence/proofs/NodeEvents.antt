@@ -1,0 +1,79 @@
+-- What an event does to the machines and the desk of one node: it ticks, or its machines keep their values and its desk begins no loan.
+use Rattle.std.proofs.Common.{◌≡◌, ℕ, ◌<◌, ◌⊎◌, inl, inr, Bool, true, false, cond, ◌==◌, ◌&&◌, List, [], ◌∷◌, Option, Some, None, refl, sym, ◌∙◌, ap, subst, arith}
+use Rattle.std.specs.Prelude.{is_some, is_none}
+use Rattle.std.specs.List.{list_any}
+use Rattle.std.proofs.lemmas.Bool.{cases_Bool, cases_eq, false≢true, cond-true, cond-false, eq-eqb, ne_eqb, both_ways}
+use Rattle.std.proofs.lemmas.Bool.Decides.{nat_tests}
+use Rattle.std.proofs.lemmas.Grind.{common_steps}
+use Rattle.topology.specs.At.{at}
+use Rattle.link_model.specs.declared.item.Item.{Item}
+use Rattle.link_model.specs.declared.item.Item.TheVariants.{Frame, Noise}
+use Rattle.k_state.specs.Machine.{root_moved, is_privileged}
+use Rattle.euler_ring.specs.Cycle.{special, is_named}
+use Rattle.node_core.specs.Site.{Site}
+use Rattle.node_core.specs.State.{NodeState}
+use Rattle.node_core.specs.Machines.{tree_of, before}
+use Rattle.node_core.specs.Step.{ticked, taken}
+use Rattle.run_model.specs.World.{World, site}
+use Rattle.run_model.specs.Step.{refusal, step, changed, handed_over}
+use Rattle.run_model.specs.Run.{is_damage}
+use Rattle.run_model.specs.declared.event.Event.{Event}
+use Rattle.run_model.specs.declared.event.EventFault.{EventFault}
+use Rattle.run_model.specs.declared.event.Event.TheVariants.{Send, Take, Lose, Tick, Ask, Leave, Damage}
+
+-- the machines of the node keep their values, and where it lends it lent before
+abbrev pub IsQuiet : World → World → ℕ → Type 0
+IsQuiet w new v =
+    ((new.node v).value ≡ (w.node v).value) × (is_some (new.node v).desk.lent ≡ true → is_some (w.node v).desk.lent ≡ true)
+
+-- the node ticks
+abbrev pub Ticks : World → World → ℕ → Type 0
+Ticks w new v = new.node v ≡ ticked (site w v) (w.node v)
+
+take-quiet : (w : World) (a c v : ℕ) (items : List Item) → IsQuiet w (handed_over w a c items) v
+take-quiet w a c v [] = (refl, λ h. h)
+take-quiet w a c v (Noise ∷ items) = grind (arith, nat_tests)
+take-quiet w a c v (Frame f ∷ items) = grind (arith, nat_tests)
+
+at_same : (f : ℕ → NodeState) (a v : ℕ) (s : NodeState) → v ≡ a → at f a s v ≡ s
+at_same f a v s e = cond-true (v == a) s (f v) (eq-eqb v a e)
+
+at_other : (f : ℕ → NodeState) (a v : ℕ) (s : NodeState) → (v ≡ a → ⊥) → at f a s v ≡ f v
+at_other f a v s ne = cond-false (v == a) s (f v) (ne_eqb v a ne)
+
+same_node : (w new : World) (v : ℕ) → new.node v ≡ w.node v → IsQuiet w new v
+same_node w new v e = (ap (λ (s : NodeState). s.value) e, λ h. ap (λ (s : NodeState). is_some s.desk.lent) (sym e) ∙ h)
+
+changed-quiet : (w : World) (e : Event) (v : ℕ) → is_damage w e ≡ false → refusal w e ≡ None → IsQuiet w (changed w e) v ⊎ Ticks w (changed w e) v
+changed-quiet w (Send a c) v d n = inl (grind (arith, nat_tests))
+changed-quiet w (Take a c) v d n = inl (take-quiet w a c v (w.link a c))
+changed-quiet w (Lose a c i) v d n = inl (refl, λ h. h)
+changed-quiet w (Tick a) v d n = elim (cases_eq v a) [
+  | inl e ↦ inr (at_same w.node a v (ticked (site w a) (w.node a)) e ∙ ap (λ x. ticked (site w x) (w.node x)) (sym e))
+  | inr ne ↦ inl (same_node w (changed w (Tick a)) v (at_other w.node a v (ticked (site w a) (w.node a)) ne))
+]
+changed-quiet w (Ask a t) v d n = inl (grind (arith, nat_tests))
+changed-quiet w (Leave a t) v d n = inl (grind (arith, nat_tests))
+changed-quiet w (Damage h) v d n = absurd (false≢true (sym d ∙ ap is_none n))
+
+not_refused : (o : Option EventFault) → is_some o ≡ false → o ≡ None
+not_refused None h = refl
+not_refused (Some f) h = absurd (false≢true (sym h))
+
+refused_same : (w : World) (e : Event) → is_some (refusal w e) ≡ true → step w e ≡ w
+refused_same w e h = cond-true (is_some (refusal w e)) w (changed w e) h
+
+accepted_changes : (w : World) (e : Event) → is_some (refusal w e) ≡ false → step w e ≡ changed w e
+accepted_changes w e h = cond-false (is_some (refusal w e)) w (changed w e) h
+
+pub quiet-or-ticks : (w : World) (e : Event) (v : ℕ) → is_damage w e ≡ false → IsQuiet w (step w e) v ⊎ Ticks w (step w e) v
+quiet-or-ticks w e v d = elim (cases_Bool (is_some (refusal w e))) [
+  | inl y ↦ inl (subst (λ x. IsQuiet w x v) (sym (refused_same w e y)) (refl, λ h. h))
+  | inr n ↦ subst (λ x. IsQuiet w x v ⊎ Ticks w x v) (sym (accepted_changes w e n)) (changed-quiet w e v d (not_refused (refusal w e) n))
+]
+
+-- a tick of a node that is there is not refused
+pub tick-ticks : (w : World) (v : ℕ) → v < w.net.nodes → Ticks w (step w (Tick v)) v
+tick-ticks w v l =
+    let r : is_some (refusal w (Tick v)) ≡ false = grind (arith, nat_tests) in
+    ap (λ (x : World). x.node v) (accepted_changes w (Tick v) r) ∙ at_same w.node v v (ticked (site w v) (w.node v)) refl
