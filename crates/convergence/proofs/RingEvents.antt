@@ -20,7 +20,7 @@ use Rattle.convergence.proofs.Below.{Below}
 use Rattle.convergence.proofs.Settled.{IsSettledOn, settled-event, settled-run, first-undamaged, rest-undamaged}
 use Rattle.convergence.proofs.LegEvents.{moved_leg, machine-event, staged-event, copied-event}
 
-head-goes-on : (q x : ℕ) → 1 < q → x < q → root_moved x q ≢ x
+pub head-goes-on : (q x : ℕ) → 1 < q → x < q → root_moved x q ≢ x
 head-goes-on q x l k e = below-other q x l k (below-is q x x k e)
 
 pub special-on : (net : Network) (w : World) (l : Leg) (c : Bool) → w.net ≡ net → is_special_leg net l ≡ c → is_special_leg w.net l ≡ c
