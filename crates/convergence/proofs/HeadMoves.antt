@@ -21,7 +21,7 @@ moves-join w [] ys = omega arith
 moves-join w (e ∷ xs) ys = omega (arith, moves-join (step w e) xs ys)
 
 -- the number of sweeps may be written in another way
-other-number : (w : World) (r s : ℕ) (es : List Event) → r ≡ s → Sweeps w r es → Sweeps w s es
+pub other-number : (w : World) (r s : ℕ) (es : List Event) → r ≡ s → Sweeps w r es → Sweeps w s es
 other-number w r s es e h = subst (λ k. Sweeps w k es) e h
 
 -- a list that is parted in two is without damage in each part, and its moves are those of the parts

@@ -49,7 +49,7 @@ IsLegTicked w new l =
     (machine_value new l ≡ (if is_none (new.node l.here).desk.lent && leg_may_move w l then moved_leg w l else machine_value w l))
     × (seen_value new l ≡ seen_value w l)
 
-tree-leg-on : (net : Network) (w : World) (l : Leg) → w.net ≡ net → IsTreeLeg net l → IsTreeLeg w.net l
+pub tree-leg-on : (net : Network) (w : World) (l : Leg) → w.net ≡ net → IsTreeLeg net l → IsTreeLeg w.net l
 tree-leg-on net w l e t = subst (λ n. IsTreeLeg n l) (sym e) t
 
 module _ (b : Below) where

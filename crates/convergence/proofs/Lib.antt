@@ -6,3 +6,5 @@ mod RingEvents
 mod LegPlaces
 mod Carried
 mod HeadMoves
+mod Desks
+mod Whole

@@ -1,6 +1,6 @@
 -- A settled world stays settled, and its network is the one of the start.
 use Rattle.std.proofs.Common.{◌≡◌, ℕ, Bool, true, false, ◌||◌, List, [], ◌∷◌, ◌++◌, refl, sym, ◌∙◌, ap, subst, arith}
-use Rattle.std.proofs.lemmas.Bool.{or_parts}
+use Rattle.std.proofs.lemmas.Bool.{or_parts, or_from}
 use Rattle.topology.specs.Network.{Network}
 use Rattle.run_model.specs.World.{World}
 use Rattle.run_model.specs.Step.{step}
@@ -18,6 +18,9 @@ first-undamaged w e es u = (or_parts (is_damage w e) (has_damage (step w e) es) 
 
 pub rest-undamaged : (w : World) (e : Event) (es : List Event) → IsUndamaged w (e ∷ es) → IsUndamaged (step w e) es
 rest-undamaged w e es u = (or_parts (is_damage w e) (has_damage (step w e) es) u).1
+
+pub one-undamaged : (w : World) (e : Event) → is_damage w e ≡ false → IsUndamaged w (e ∷ [])
+one-undamaged w e d = or_from (is_damage w e) false d refl
 
 module _ (b : Below) where
   pub settled-event : (net : Network) (w : World) (e : Event) → IsSettledOn net w → is_damage w e ≡ false → IsSettledOn net (step w e)
