@@ -19,7 +19,8 @@ use Rattle.run_model.specs.Run.{is_damage}
 use Rattle.run_model.specs.Sweep.{is_full_tick}
 use Rattle.run_model.specs.Ring.{Leg}
 use Rattle.run_model.specs.Project.{present}
-use Rattle.run_model.specs.Legs.{IsTreeLeg, true_tree_of, is_on_tree, is_special_leg, machine_value, staged_value, copied_value, seen_value}
+use Rattle.run_model.specs.Legs.{IsTreeLeg, is_on_tree, is_special_leg, machine_value, staged_value, copied_value, seen_value}
+use Rattle.euler_ring.specs.Laws.{true_neighbours}
 use Rattle.run_model.specs.declared.event.Event.{Event}
 use Rattle.run_model.specs.declared.event.Event.TheVariants.{Send, Take, Lose, Tick, Ask, Leave, Damage}
 use Rattle.run_model.proofs.TrueTree.{tree-is, tree-joined}
@@ -59,12 +60,12 @@ module _ (b : Below) where
       let v = l.here in
       let old = site w v in
       let same : new.net ≡ w.net = z.1 ∙ sym s.1 in
-      let own : tree_of (site new v) (new.node v) ≡ true_tree_of new.net v = tree-is b.back new v z.0.tree (subst (λ n. v < n.nodes) (sym same) tl.here_in) in
-      let own' : tree_of (site w v) (new.node v) ≡ true_tree_of w.net v = subst (λ n. tree_of (site_of n v) (new.node v) ≡ true_tree_of n v) same own in
-      let tree : tree_of old (ticked old (w.node v)) ≡ true_tree_of w.net v = subst (λ x. tree_of (site w v) x ≡ true_tree_of w.net v) ticks own' in
+      let own : tree_of (site new v) (new.node v) ≡ true_neighbours new.net v = tree-is b.back new v z.0.tree (subst (λ n. v < n.nodes) (sym same) tl.here_in) in
+      let own' : tree_of (site w v) (new.node v) ≡ true_neighbours w.net v = subst (λ n. tree_of (site_of n v) (new.node v) ≡ true_neighbours n v) same own in
+      let tree : tree_of old (ticked old (w.node v)) ≡ true_neighbours w.net v = subst (λ x. tree_of (site w v) x ≡ true_neighbours w.net v) ticks own' in
       let free = is_none (ticked old (w.node v)).desk.lent in (
         ap (λ (x : NodeState). x.value l.from) ticks
-        ∙ tick-value old (w.node v) l.from (true_tree_of w.net v) tree
+        ∙ tick-value old (w.node v) l.from (true_neighbours w.net v) tree
         ∙ ap (λ m. if free && (m && leg_may_move w l) then moved_leg w l else machine_value w l) tl.from
         ∙ ap (λ (x : NodeState). if is_none x.desk.lent && leg_may_move w l then moved_leg w l else machine_value w l) (sym ticks),
         ap (λ (x : NodeState). (x.port l.from).copy.ring) ticks,
@@ -105,7 +106,7 @@ module _ (b : Below) where
   present-is net w l s t =
       let tl = tree-leg-on net w l s.1 t in
       ap (λ ts. if list_any (λ u. u == l.onward) ts then (w.node l.here).value (source_for ts l.onward) else 0) (tree-is b.back w l.here s.0.tree tl.here_in)
-      ∙ ap (λ c. if c then (w.node l.here).value (source_for (true_tree_of w.net l.here) l.onward) else 0) tl.onward
+      ∙ ap (λ c. if c then (w.node l.here).value (source_for (true_neighbours w.net l.here) l.onward) else 0) tl.onward
       ∙ ap (w.node l.here).value tl.source
 
   pub leg-joined : (net : Network) (w : World) (l : Leg) → IsSettledOn net w → IsTreeLeg net l → are_joined w.net.edges l.here l.onward ≡ true

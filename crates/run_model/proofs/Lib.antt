@@ -18,3 +18,4 @@ pub mod TreeLists
 pub mod TrueTree
 pub mod GoodRing
 pub mod Privileges
+pub mod TourLegs

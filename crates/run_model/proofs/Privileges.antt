@@ -19,7 +19,8 @@ use Rattle.node_core.specs.Machines.{tree_of, may_move}
 use Rattle.run_model.specs.World.{World, site, IsWorldInRange}
 use Rattle.run_model.specs.Tree.{IsTreeReached}
 use Rattle.run_model.specs.Ring.{Leg, legs, token_ring, IsTokenRingGood}
-use Rattle.run_model.specs.Legs.{IsTour, EachTour, IsTreeLeg, is_on_tree, true_tree_of, IsAmong, machine_value, staged_value, copied_value, seen_value, coming_value}
+use Rattle.run_model.specs.Legs.{IsTour, EachTour, IsTreeLeg, is_on_tree, IsAmong, machine_value, staged_value, copied_value, seen_value, coming_value}
+use Rattle.euler_ring.specs.Laws.{true_neighbours}
 use Rattle.run_model.specs.Legitimate.{is_privileged, is_lending, IsLegitimate}
 use Rattle.run_model.specs.Laws.{OnePrivileged, OneLending}
 use Rattle.run_model.proofs.TreeLists.{passes-somewhere, somewhere-passes}

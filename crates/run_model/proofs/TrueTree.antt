@@ -9,7 +9,8 @@ use Rattle.node_core.specs.Machines.{tree_of}
 use Rattle.run_model.specs.World.{World, site}
 use Rattle.run_model.specs.Tree.{IsTreeReached}
 use Rattle.run_model.specs.Ring.{Leg}
-use Rattle.run_model.specs.Legs.{true_tree_of, is_on_tree, IsTreeLeg}
+use Rattle.run_model.specs.Legs.{is_on_tree, IsTreeLeg}
+use Rattle.euler_ring.specs.Laws.{true_neighbours}
 use Rattle.run_model.proofs.TreeLists.{passes-filter, filter-same}
 
 -- tree neighbours are joined
@@ -23,7 +24,7 @@ pub tree-neighbour : (net : Network) (v t : ℕ) → is_on_tree net v t ≡ true
 tree-neighbour net v t h = (passes-filter (λ u. is_named (parent_of net v) u || is_named (parent_of net u) v) t (neighbours_of net v) h).1
 
 module _ (back : JoinedBack) where
-  pub tree-is : (w : World) (v : ℕ) → IsTreeReached w → v < w.net.nodes → tree_of (site w v) (w.node v) ≡ true_tree_of w.net v
+  pub tree-is : (w : World) (v : ℕ) → IsTreeReached w → v < w.net.nodes → tree_of (site w v) (w.node v) ≡ true_neighbours w.net v
   tree-is w v t l =
       ap (λ p. filter (λ u. is_named p u || is_named ((w.node v).port u).copy.parent v) (neighbours_of w.net v)) (t.parent v l)
       ∙ filter-same (are_joined w.net.edges v) (λ u. is_named (parent_of w.net v) u || is_named ((w.node v).port u).copy.parent v)

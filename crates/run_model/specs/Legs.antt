@@ -1,23 +1,18 @@
 -- The legs of the tour one by one: the three values of a leg, what its machine sees, and how one leg follows another.
 use Rattle.std.specs.Prelude.{◌≡◌, ℕ, ◌-◌, ◌*◌, ◌<◌, ◌⊎◌, Bool, true, false, ◌==◌, IsTrue, IsFalse, List, [], ◌∷◌, length}
-use Rattle.std.specs.List.{list_any}
-use Rattle.topology.specs.Network.{Network, are_joined, neighbours_of, IsAcceptedNetwork}
-use Rattle.topology.specs.Tree.{parent_of}
-use Rattle.euler_ring.specs.Cycle.{tree_neighbours, next_after, source_for, special, is_named}
+use Rattle.topology.specs.Network.{Network, IsAcceptedNetwork}
+use Rattle.euler_ring.specs.Cycle.{is_on, next_after, source_for, special, is_named}
+use Rattle.euler_ring.specs.Laws.{true_neighbours}
 use Rattle.run_model.specs.World.{World}
 use Rattle.run_model.specs.Ring.{Leg, legs}
 
--- v's neighbours on the true tree: its true parent and its true children
-abbrev pub true_tree_of : Network → ℕ → List ℕ
-true_tree_of net v = tree_neighbours (parent_of net v) v (neighbours_of net v) (parent_of net)
-
 -- t is a neighbour of v on the true tree
 abbrev pub is_on_tree : Network → ℕ → ℕ → Bool
-is_on_tree net v t = list_any (λ u. u == t) (true_tree_of net v)
+is_on_tree net v t = is_on (true_neighbours net v) t
 
 -- the leg's machine is the special one: that of the root for its smallest neighbour on the true tree
 abbrev pub is_special_leg : Network → Leg → Bool
-is_special_leg net leg = is_named (special (leg.here == net.root) (true_tree_of net leg.here)) leg.from
+is_special_leg net leg = is_named (special (leg.here == net.root) (true_neighbours net leg.here)) leg.from
 
 -- the value of a leg's machine
 abbrev pub machine_value : World → Leg → ℕ
@@ -59,8 +54,8 @@ pub record IsTreeLeg (net : Network) (leg : Leg) : Type 0 where
   pub here_in : leg.here < net.nodes
   pub from : IsTrue (is_on_tree net leg.here leg.from)
   pub onward : IsTrue (is_on_tree net leg.here leg.onward)
-  pub next : leg.onward ≡ next_after (true_tree_of net leg.here) leg.from
-  pub source : source_for (true_tree_of net leg.here) leg.onward ≡ leg.from
+  pub next : leg.onward ≡ next_after (true_neighbours net leg.here) leg.from
+  pub source : source_for (true_neighbours net leg.here) leg.onward ≡ leg.from
 
 -- The legs of a network's tour: they are closed to a ring, they are legs of the true tree and there is one for each of its machines, the first alone is the
 -- special machine's, and there are two for each edge of the tree.
