@@ -1,13 +1,11 @@
 -- On a good token ring one boundary at most lies between two values, and one machine at most may move there.
-use Rattle.std.proofs.Common.{◌≡◌, ◌≢◌, ℕ, ◌+◌, ◌-◌, ◌%◌, ◌<◌, ◌≤◌, ◌⊎◌, inl, inr, Bool, true, false, cond, List, [], ◌∷◌, ◌++◌, refl, sym, ◌∙◌, ap, subst, arith}
+use Rattle.std.proofs.Common.{◌≡◌, ◌≢◌, ℕ, inl, inr, List, [], ◌∷◌, sym, ◌∙◌, ap, subst}
 use Rattle.std.specs.Prelude.{flat_map}
 use Rattle.std.specs.List.{AllByRecursion}
-use Rattle.std.proofs.lemmas.Grind.{common_steps}
-use Rattle.k_state.specs.Machine.{root_moved}
-use Rattle.k_state.specs.Ring.{IsFrontThen, last_of}
+use Rattle.k_state.specs.Ring.{IsFrontThen}
 use Rattle.run_model.specs.World.{World}
 use Rattle.run_model.specs.Ring.{Leg, leg_values}
-use Rattle.run_model.specs.Legs.{machine_value, staged_value, copied_value, seen_value, coming_value, IsFollowed, last_leg, IsAmong}
+use Rattle.run_model.specs.Legs.{machine_value, staged_value, copied_value, seen_value, coming_value, IsFollowed, IsAmong}
 
 -- the values of some legs
 abbrev pub values_of : World → List Leg → List ℕ
@@ -38,21 +36,32 @@ IsOnlyMover w ls m = (l : Leg) → IsAmong l ls → Differs w l → (l ≡ m) ×
 pub one-differs : (w : World) (a b : ℕ) (p : Leg) (ls : List Leg) → IsFollowed p ls → copied_value w p ≡ a → staged_value w p ≡ a
     → IsFrontThen (λ y. y ≡ a) (λ y. y ≡ b) (values_of w ls) → (m : Leg) × IsOnlyMover w ls m
 one-differs w a b p [] f c s h = (p, λ l i d. absurd i)
-one-differs w a b p (k ∷ ks) f c s (inr (x, all)) = (k, λ l i d. elim i [
-  | inl is ↦ (is, subst (λ l. coming_value w l ≡ seen_value w l) (sym is) (coming-is_staged w p k f.0 ∙ s ∙ sym (seen-is_copied w p k f.0 ∙ c)))
-  | inr j ↦ absurd (none-differs w b k ks f.1 all.1.0 all.1.1 l j d)
-])
-one-differs w a b p (k ∷ ks) f c s (inl (x, inr (y, all))) = (k, λ l i d. elim i [
-  | inl is ↦ absurd (subst (Differs w) is d (x ∙ sym (seen-is_copied w p k f.0 ∙ c)))
-  | inr j ↦ absurd (none-differs w b k ks f.1 all.0 all.1 l j d)
-])
-one-differs w a b p (k ∷ ks) f c s (inl (x, inl (y, inr (z, all)))) = (k, λ l i d. elim i [
-  | inl is ↦ absurd (subst (Differs w) is d (x ∙ sym (seen-is_copied w p k f.0 ∙ c)))
-  | inr j ↦ absurd (none-differs w b k ks f.1 z all l j d)
-])
+one-differs w a b p (k ∷ ks) f c s (inr (x, all)) = (
+  k,
+  λ l i d. elim i [
+    | inl is ↦ (is, subst (λ l. coming_value w l ≡ seen_value w l) (sym is) (coming-is_staged w p k f.0 ∙ s ∙ sym (seen-is_copied w p k f.0 ∙ c)))
+    | inr j ↦ absurd (none-differs w b k ks f.1 all.1.0 all.1.1 l j d)
+  ],
+)
+one-differs w a b p (k ∷ ks) f c s (inl (x, inr (y, all))) = (
+  k,
+  λ l i d. elim i [
+    | inl is ↦ absurd (subst (Differs w) is d (x ∙ sym (seen-is_copied w p k f.0 ∙ c)))
+    | inr j ↦ absurd (none-differs w b k ks f.1 all.0 all.1 l j d)
+  ],
+)
+one-differs w a b p (k ∷ ks) f c s (inl (x, inl (y, inr (z, all)))) = (
+  k,
+  λ l i d. elim i [
+    | inl is ↦ absurd (subst (Differs w) is d (x ∙ sym (seen-is_copied w p k f.0 ∙ c)))
+    | inr j ↦ absurd (none-differs w b k ks f.1 z all l j d)
+  ],
+)
 one-differs w a b p (k ∷ ks) f c s (inl (x, inl (y, inl (z, h)))) =
-    let r = one-differs w a b k ks f.1 z y h in
-    (r.0, λ l i d. elim i [
-      | inl is ↦ absurd (subst (Differs w) is d (x ∙ sym (seen-is_copied w p k f.0 ∙ c)))
-      | inr j ↦ r.1 l j d
-    ])
+    let r = one-differs w a b k ks f.1 z y h in (
+      r.0,
+      λ l i d. elim i [
+        | inl is ↦ absurd (subst (Differs w) is d (x ∙ sym (seen-is_copied w p k f.0 ∙ c)))
+        | inr j ↦ r.1 l j d
+      ],
+    )

@@ -1,8 +1,7 @@
 -- Privilege and loans in a world whose tree is reached and whose token ring is good.
-use Rattle.std.proofs.Common.{◌≡◌, ◌≢◌, ℕ, ◌+◌, ◌-◌, ◌*◌, ◌<◌, ◌≤◌, ◌⊎◌, inl, inr, Bool, true, false, ◌==◌, ◌&&◌, List, [], ◌∷◌, refl, sym, ◌∙◌, ap, subst, arith}
+use Rattle.std.proofs.Common.{◌≡◌, ℕ, ◌<◌, inl, inr, true, ◌==◌, List, [], ◌∷◌, refl, sym, ◌∙◌, ap, subst, arith}
 use Rattle.std.specs.List.{AllByRecursion, list_any}
 use Rattle.std.proofs.lemmas.List.Elements.{All-contains}
-use Rattle.std.proofs.lemmas.Bool.{and_parts, ltb-true}
 use Rattle.std.proofs.lemmas.Bool.Decides.{nat_tests}
 use Rattle.topology.specs.Network.{Network, are_joined, neighbours_of, ring_of, IsAcceptedNetwork}
 use Rattle.topology.specs.Ranges.{ranges_of, payload_fits}
@@ -13,15 +12,12 @@ use Rattle.data_link.specs.Port.{PortState, port_fits}
 use Rattle.k_state.specs.Machine as machine
 use Rattle.k_state.specs.Ring.{IsGood}
 use Rattle.euler_ring.specs.Cycle.{is_named, special}
-use Rattle.node_core.specs.State.{NodeState, IsNodeInRange}
-use Rattle.node_core.specs.Site.{site_of}
 use Rattle.node_core.specs.Machines.{tree_of, may_move}
 use Rattle.run_model.specs.World.{World, site, IsWorldInRange}
 use Rattle.run_model.specs.Tree.{IsTreeReached}
-use Rattle.run_model.specs.Ring.{Leg, legs, token_ring, IsTokenRingGood}
-use Rattle.run_model.specs.Legs.{IsTour, EachTour, IsTreeLeg, is_on_tree, IsAmong, machine_value, staged_value, copied_value, seen_value, coming_value}
-use Rattle.euler_ring.specs.Laws.{true_neighbours}
-use Rattle.run_model.specs.Legitimate.{is_privileged, is_lending, IsLegitimate}
+use Rattle.run_model.specs.Ring.{Leg, IsTokenRingGood}
+use Rattle.run_model.specs.Legs.{IsTour, EachTour, IsTreeLeg, is_on_tree, IsAmong, machine_value, seen_value}
+use Rattle.run_model.specs.Legitimate.{is_privileged}
 use Rattle.run_model.specs.Laws.{OnePrivileged, OneLending}
 use Rattle.run_model.proofs.TreeLists.{passes-somewhere, somewhere-passes}
 use Rattle.run_model.proofs.TrueTree.{tree-joined, tree-is}
@@ -77,7 +73,7 @@ module _ (back : JoinedBack) (nodes : JoinedAreNodes) (near : NeighboursAreJoine
       let e = tour.every v m.0 h on in
       let here : e.0.here < w.net.nodes = subst (λ x. x < w.net.nodes) (sym e.3) h in
       let may : may_move (site w e.0.here) (w.node e.0.here) e.0.from ≡ true =
-          ap (λ x. may_move (site w x) (w.node x) e.0.from) e.3 ∙ ap (may_move (site w v) (w.node v)) e.2 ∙ m.1 in
+      ap (λ x. may_move (site w x) (w.node x) e.0.from) e.3 ∙ ap (may_move (site w v) (w.node v)) e.2 ∙ m.1 in
       (e.0, e.1, e.3, sym (may-move-is w e.0 t here) ∙ may)
 
   -- and the other way round

@@ -1,13 +1,13 @@
 -- The legs of the tour, from what the tour's laws say of its stops.
-use Rattle.std.proofs.Common.{◌≡◌, ◌≢◌, ℕ, suc, ◌+◌, ◌*◌, ◌-◌, ◌<◌, ◌⊎◌, inl, inr, Bool, true, false, cond, ◌==◌, List, [], ◌∷◌, Option, Some, None, length, refl, sym, ◌∙◌, ap, subst, arith}
+use Rattle.std.proofs.Common.{◌≡◌, ℕ, inl, inr, true, false, ◌==◌, List, [], ◌∷◌, Some, length, refl, sym, ◌∙◌, ap, subst, arith}
 use Rattle.std.proofs.lemmas.Bool.{cases_Bool, eq-eqb, eqb-true, false≢true, false_from_ne_true}
 use Rattle.topology.specs.Network.{Network, IsAcceptedNetwork}
 use Rattle.topology.specs.Laws.{JoinedAreNodes}
 use Rattle.euler_ring.specs.Cycle.{is_on, is_named, next_after, source_for, special}
 use Rattle.euler_ring.specs.Tour.{Stop, tour}
-use Rattle.euler_ring.specs.Laws.{SourceOfNext, NextIsOn, IsTreeEdge, TrueNeighboursAre, TrueNeighboursAscend, GoesTo, IsStopOf, NoStopTwice, stop_after, true_neighbours, TourGoesRound, TourHasEachEdge, TourHasNoneTwice, TourLength}
+use Rattle.euler_ring.specs.Laws.{SourceOfNext, NextIsOn, IsTreeEdge, TrueNeighboursAre, TrueNeighboursAscend, GoesTo, IsStopOf, NoStopTwice, true_neighbours, TourGoesRound, TourHasEachEdge, TourHasNoneTwice, TourLength}
 use Rattle.run_model.specs.Ring.{Leg, legs, legs_to, first_here}
-use Rattle.run_model.specs.Legs.{IsTreeLeg, IsFollowed, IsAmong, last_leg, is_special_leg, is_on_tree, IsTour, EachTour}
+use Rattle.run_model.specs.Legs.{IsTreeLeg, IsFollowed, IsAmong, last_leg, is_special_leg, EachTour}
 use Rattle.run_model.proofs.TrueTree.{tree-joined}
 
 -- the leg of a stop, when these stops follow
@@ -110,7 +110,7 @@ module _ (joined : JoinedAreNodes) (source : SourceOfNext) (next : NextIsOn) (ar
   not-special net child l sp ne h = elim (cases_Bool (l.here == net.root)) [
     | inl y ↦ (let at : l.here ≡ net.root = eqb-true l.here net.root y in
         let named : is_named (special true (true_neighbours net net.root)) l.from ≡ true =
-            ap (λ v. is_named (special true (true_neighbours net v)) l.from) (sym at) ∙ ap (λ c. is_named (special c (true_neighbours net l.here)) l.from) (sym y) ∙ h in
+        ap (λ v. is_named (special true (true_neighbours net v)) l.from) (sym at) ∙ ap (λ c. is_named (special c (true_neighbours net l.here)) l.from) (sym y) ∙ h in
         let same : child ≡ l.from = eqb-true child l.from (ap (λ o. is_named o l.from) (sym sp) ∙ named) in
         ne (ap (λ x. (x, l.here)) (sym same) ∙ ap (λ x. (child, x)) at))
     | inr n ↦ false≢true (sym (none-special (true_neighbours net l.here) l.from) ∙ ap (λ c. is_named (special c (true_neighbours net l.here)) l.from) (sym n) ∙ h)
@@ -127,7 +127,9 @@ module _ (joined : JoinedAreNodes) (source : SourceOfNext) (next : NextIsOn) (ar
       let last = last-ends net stop stop r.rest g in
       let twice : NoStopTwice (stop ∷ r.rest) = subst NoStopTwice r.begins (once net a) in
       record {
-        first = first; others = others; are = whole;
+        first = first;
+        others = others;
+        are = whole;
         closed = ((from-stop net.root stop r.rest ∙ last.0, here-stop net.root stop r.rest ∙ last.1), legs-follow net stop stop r.rest g);
         tree = λ l i. tree-leg net l a (subst (λ ss. IsLegOf net ss l) (sym r.begins) (each-leg net stop (stop ∷ r.rest) g l (subst (IsAmong l) (sym (legs-begin net.root stop r.rest)) i)));
         first_special =

@@ -1,15 +1,14 @@
 -- Where the tree is reached, each node's own tree neighbours are those of the true tree.
-use Rattle.std.proofs.Common.{◌≡◌, ℕ, ◌<◌, ◌⊎◌, inl, inr, Bool, true, false, ◌==◌, ◌||◌, List, [], ◌∷◌, Option, refl, sym, ◌∙◌, ap, subst, arith}
-use Rattle.std.specs.List.{AllByRecursion, filter, list_any, All, range_with_len}
-use Rattle.topology.specs.Network.{Network, are_joined, neighbours_of, IsAcceptedNetwork}
+use Rattle.std.proofs.Common.{◌≡◌, ℕ, ◌<◌, true, ◌==◌, ◌||◌, ◌∙◌, ap}
+use Rattle.std.specs.List.{filter, list_any, range_with_len}
+use Rattle.topology.specs.Network.{Network, are_joined, neighbours_of}
 use Rattle.topology.specs.Tree.{parent_of}
-use Rattle.topology.specs.Laws.{JoinedBack, JoinedAreNodes}
+use Rattle.topology.specs.Laws.{JoinedBack}
 use Rattle.euler_ring.specs.Cycle.{is_named}
 use Rattle.node_core.specs.Machines.{tree_of}
 use Rattle.run_model.specs.World.{World, site}
 use Rattle.run_model.specs.Tree.{IsTreeReached}
-use Rattle.run_model.specs.Ring.{Leg}
-use Rattle.run_model.specs.Legs.{is_on_tree, IsTreeLeg}
+use Rattle.run_model.specs.Legs.{is_on_tree}
 use Rattle.euler_ring.specs.Laws.{true_neighbours}
 use Rattle.run_model.proofs.TreeLists.{passes-filter, filter-same}
 
@@ -28,5 +27,5 @@ module _ (back : JoinedBack) where
   tree-is w v t l =
       ap (λ p. filter (λ u. is_named p u || is_named ((w.node v).port u).copy.parent v) (neighbours_of w.net v)) (t.parent v l)
       ∙ filter-same (are_joined w.net.edges v) (λ u. is_named (parent_of w.net v) u || is_named ((w.node v).port u).copy.parent v)
-          (λ u. is_named (parent_of w.net v) u || is_named (parent_of w.net u) v) (range_with_len 0 w.net.nodes)
-          (λ u j. ap (λ p. is_named (parent_of w.net v) u || is_named p v) ((t.copied u v (back w.net.edges u v ∙ j)).parent))
+      (λ u. is_named (parent_of w.net v) u || is_named (parent_of w.net u) v) (range_with_len 0 w.net.nodes)
+      (λ u j. ap (λ p. is_named (parent_of w.net v) u || is_named p v) ((t.copied u v (back w.net.edges u v ∙ j)).parent))

@@ -1,5 +1,5 @@
 -- The legs of the tour one by one: the three values of a leg, what its machine sees, and how one leg follows another.
-use Rattle.std.specs.Prelude.{◌≡◌, ℕ, ◌-◌, ◌*◌, ◌<◌, ◌⊎◌, Bool, true, false, ◌==◌, IsTrue, IsFalse, List, [], ◌∷◌, length}
+use Rattle.std.specs.Prelude.{◌≡◌, ℕ, ◌-◌, ◌*◌, ◌<◌, ◌⊎◌, Bool, ◌==◌, IsTrue, IsFalse, List, [], ◌∷◌, length}
 use Rattle.topology.specs.Network.{Network, IsAcceptedNetwork}
 use Rattle.euler_ring.specs.Cycle.{is_on, next_after, source_for, special, is_named}
 use Rattle.euler_ring.specs.Laws.{true_neighbours}

@@ -13,5 +13,6 @@
 
 mod event;
 pub mod laws;
+pub mod ring_laws;
 
 pub use event::{Event, EventFault, Harm};
