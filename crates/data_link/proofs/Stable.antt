@@ -5,6 +5,7 @@ use Rattle.topology.specs.declared.frame.Payload.{Payload}
 use Rattle.k_state.specs.Machine.{root_moved}
 use Rattle.k_state.specs.Ring.{HasFront, IsFresh, Step, moves_until}
 use Rattle.k_state.specs.Laws.{FreshHasFront, FrontStaysOrTurnsGood, GoodHasFront, GoodStays, SomeValueIsFresh}
+use Rattle.k_state.proofs.Histories.{until-first}
 use Rattle.k_state.proofs.Steps.{step-apart}
 use Rattle.data_link.specs.Port.{PortState}
 use Rattle.data_link.specs.Edge.{EdgeState, EdgeEvent, IsEdgeInRange, IsStable, modulus_of, edge_step, edge_run, moves, moves_in, link_ring, payload_under}
@@ -46,10 +47,6 @@ abbrev pub moved_at : ℕ → EdgeState → List EdgeEvent → ℕ → ℕ
 moved_at capacity s [] k = 0
 moved_at capacity s (e ∷ es) zero = moves s e
 moved_at capacity s (e ∷ es) (suc k) = moved_at capacity (edge_step capacity s e) es k
-
-until-first : (m : ℕ → ℕ) (k : ℕ) → moves_until m (suc k) ≡ m 0 + moves_until (λ i. m (suc i)) k
-until-first m zero = omega arith
-until-first m (suc k) = omega (arith, until-first m k)
 
 none_left : (capacity : ℕ) (s : EdgeState) (k : ℕ) → moves_until (moved_at capacity s []) k ≡ 0
 none_left capacity s zero = refl

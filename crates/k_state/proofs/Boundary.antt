@@ -6,6 +6,7 @@ use Rattle.std.proofs.Math.Nat.{mod-lt}
 use Rattle.k_state.specs.Machine.{root_moved}
 use Rattle.k_state.specs.Ring.{IsFrontThen, IsGood, IsParallel, IsRing, Turn, Copies, Goes_on, is_privileged_at, last_of, moves_until, sees_another}
 use Rattle.k_state.proofs.Front.{All-last}
+use Rattle.k_state.proofs.Histories.{until-first}
 use Rattle.k_state.proofs.MissingValue.{steps_apart}
 use Rattle.k_state.proofs.Steps.{step-apart}
 
@@ -169,10 +170,6 @@ module _ (q : ℕ) (l : 1 < q) where
       ((omega arith, (mod-lt (x + 1) (omega arith), r.1.1)), refl, inr (refl, ap suc n, (ap (λ z. root_moved z q) h.0, all-less a xs (rw n at h.1))))
 
   -- ---- along time
-
-  until-first : (m : ℕ → ℕ) (k : ℕ) → moves_until m (suc k) ≡ m 0 + moves_until (λ i. m (suc i)) k
-  until-first m zero = omega arith
-  until-first m (suc k) = omega (arith, until-first m k)
 
   -- before the head moves, the boundary comes to each place
   reach : (t n : ℕ) (ring : ℕ → List ℕ) (moves : ℕ → ℕ) (a b : ℕ) → ((k : ℕ) → k < n → Turn q (moves k) (ring k) (ring (suc k))) → IsRing q (ring 0) → IsBoundary q a (suc b) (ring 0) → b ≤ t → suc t ≤ length (ring 0) →

@@ -4,12 +4,16 @@ use Rattle.std.specs.List.{AllByRecursion}
 use Rattle.std.proofs.lemmas.Bool.{cases_eq, cases_lt}
 use Rattle.k_state.specs.Ring.{Step, head_of, tail_of, moves_until, IsRing, IsGood, IsFreshMoment, HasFront}
 use Rattle.k_state.proofs.Front.{All-weaker}
-use Rattle.k_state.proofs.Steps.{Known, HasKnown, good-step, fresh-step, known-step, moves-step, start-known, fresh-from, fresh-front}
+use Rattle.k_state.proofs.Steps.{Known, HasKnown, good-step, front-step, known-step, moves-step, start-known, fresh-from, fresh-front}
 use Rattle.k_state.proofs.MissingValue.{In, missing, steps_apart}
 
 moves-mono : (moves : ℕ → ℕ) (j n : ℕ) → j ≤ n → moves_until moves j ≤ moves_until moves n
 moves-mono moves j zero l = let e : j ≡ 0 = omega arith in (rw e (omega arith))
 moves-mono moves j (suc n) l = elim (cases_eq j (suc n)) [ inl e ↦ (rw e (omega arith)) | inr ne ↦ omega (arith, moves-mono moves j n (omega arith)) ]
+
+pub until-first : (m : ℕ → ℕ) (k : ℕ) → moves_until m (suc k) ≡ m 0 + moves_until (λ i. m (suc i)) k
+until-first m zero = omega arith
+until-first m (suc k) = omega (arith, until-first m k)
 
 -- the first moment at which s moves have been made
 first_time : (moves : ℕ → ℕ) (n s : ℕ) → ((k : ℕ) → k < n → moves k ≤ 1) → s ≤ moves_until moves n →
@@ -61,7 +65,7 @@ module _ (q n : ℕ) (ring : ℕ → List ℕ) (moves : ℕ → ℕ) (start : Is
   after-run a k l h (suc m) le le' = elim (cases_eq k (suc m)) [
     | inl e ↦ inl (ap (moves_until moves) (sym e), subst (λ i. HasFront a (ring i)) e h)
     | inr ne ↦ elim (after-run a k l h m (omega arith) (omega arith)) [
-      | inl w ↦ elim (fresh-step q a (steps m (omega arith)) w.1) [ inl v ↦ inl (omega (arith, w.0, v.0), v.1) | inr g ↦ inr g ]
+      | inl w ↦ elim (front-step q a (steps m (omega arith)) w.1) [ inl v ↦ inl (omega (arith, w.0, v.0), v.1) | inr g ↦ inr g.1 ]
       | inr g ↦ inr (good-step q (steps m (omega arith)) g)
     ]
   ]

@@ -1,4 +1,4 @@
--- One step of the ring: which values stand in it, when the head's value stands nowhere else, and what is good
+-- One step of the ring: what keeps a good ring good, what it makes of a front, which values stand in the ring, and when the head's stands nowhere else
 use Rattle.std.proofs.Common.{◌≡◌, ◌≢◌, ℕ, ◌+◌, ◌%◌, ◌<◌, ◌≤◌, ◌⊎◌, inl, inr, suc, List, [], ◌∷◌, length, refl, sym, ◌∙◌, ap, subst, arith}
 use Rattle.std.specs.List.{AllByRecursion}
 use Rattle.std.proofs.Math.Nat.{mod-lt, mod-add-mod, mod-eq_of_lt}
@@ -32,24 +32,26 @@ good-step q Stays g = g
 good-step q (Moves m) g = good-move q m g
 good-step q (Changes c l) g = good-step q l (good-change q c g)
 
--- ---- from a value that stands nowhere else
+-- ---- items that are a, in front
 
-fresh-all : (q a x : ℕ) (xs : List ℕ) → x ≡ a → IsFrontThen (λ y. y ≡ a) (λ y. y ≢ a) (x ∷ xs) → last_of x xs ≡ x → AllByRecursion (λ y. (y + 1) % q ≡ (x + 1) % q) (x ∷ xs)
-fresh-all q a x xs i f e = elim (Front-last (λ y. y ≡ a) (λ y. y ≢ a) x xs f) [
-  | inl ps ↦ All-weaker (λ y. y ≡ a) (λ y. (y + 1) % q ≡ (x + 1) % q) (λ y j. ap (λ z. (z + 1) % q) (j ∙ sym i)) (x ∷ xs) ps
-  | inr ne ↦ absurd (ne (e ∙ i))
-]
+-- where the last item equals the head, all items do
+clear-all : (a x : ℕ) (xs : List ℕ) → x ≡ a → IsFrontThen (λ y. y ≡ a) (λ y. y ≢ a) (x ∷ xs) → last_of x xs ≡ x → AllByRecursion (λ y. y ≡ a) (x ∷ xs)
+clear-all a x xs i f e = elim (Front-last (λ y. y ≡ a) (λ y. y ≢ a) x xs f) [ inl ps ↦ ps | inr ne ↦ absurd (ne (e ∙ i)) ]
 
-fresh-move : (q a : ℕ) {xs ys : List ℕ} → HeadMove q xs ys → head_of xs ≡ a → IsFrontThen (λ y. y ≡ a) (λ y. y ≢ a) xs → IsGood q ys
-fresh-move q a (Moved {x = x} {xs = xs} e) i f = good-from_all q x xs (fresh-all q a x xs i f e).1
-fresh-move q a (Dropped {x = x} {y = y} {ys = ys} e) i f =
-    let h = fresh-all q a x (y ∷ ys) i f e in
-    good-from_all q x (but_last y ys) (All-but_last (λ z. (z + 1) % q ≡ (x + 1) % q) y ys h.1.0 h.1.1)
+clear-good : (q a x : ℕ) (xs : List ℕ) → x ≡ a → AllByRecursion (λ y. y ≡ a) xs → IsGood q ((x + 1) % q ∷ xs)
+clear-good q a x xs i ps = good-from_all q x xs (All-weaker (λ y. y ≡ a) (λ y. (y + 1) % q ≡ (x + 1) % q) (λ y j. ap (λ z. (z + 1) % q) (j ∙ sym i)) xs ps)
 
-pub fresh-step : (q a : ℕ) {n : ℕ} {xs ys : List ℕ} → Step q n xs ys → HasFront a xs → ((n ≡ 0) × HasFront a ys) ⊎ IsGood q ys
-fresh-step q a Stays h = inl (refl, h)
-fresh-step q a (Moves m) h = inr (fresh-move q a m h.0 h.1)
-fresh-step q a (Changes c l) h = fresh-step q a l (head-change c ∙ h.0, Front-change (λ y. y ≡ a) (λ y. y ≢ a) c h.1)
+front-move : (q a : ℕ) {xs ys : List ℕ} → HeadMove q xs ys → HasFront a xs → IsGood q ys × AllByRecursion (λ y. y ≡ a) (tail_of ys)
+front-move q a (Moved {x = x} {xs = xs} e) h = let w = clear-all a x xs h.0 h.1 e in (clear-good q a x xs h.0 w.1, w.1)
+front-move q a (Dropped {x = x} {y = y} {ys = ys} e) h =
+    let w = clear-all a x (y ∷ ys) h.0 h.1 e in
+    let rest = All-but_last (λ z. z ≡ a) y ys w.1.0 w.1.1 in
+    (clear-good q a x (but_last y ys) h.0 rest, rest)
+
+pub front-step : (q a : ℕ) {n : ℕ} {xs ys : List ℕ} → Step q n xs ys → HasFront a xs → ((n ≡ 0) × HasFront a ys) ⊎ ((n ≡ 1) × IsGood q ys × AllByRecursion (λ y. y ≡ a) (tail_of ys))
+front-step q a Stays h = inl (refl, h)
+front-step q a (Moves m) h = let w = front-move q a m h in inr (refl, w.0, w.1)
+front-step q a (Changes c l) h = front-step q a l (head-change c ∙ h.0, Front-change (λ y. y ≡ a) (λ y. y ≢ a) c h.1)
 
 -- ---- the values that stand in the ring, after t moves of a head that began at h
 
@@ -142,17 +144,3 @@ front-weaker P Q R f (x ∷ xs) (inr (q, h)) = inr (f x q, All-weaker Q R f xs h
 pub front-good : (q : ℕ) (ring : List ℕ) → 1 < q → IsRing q ring → IsGood q ring → HasFront (head_of ring) ring
 front-good q [] l r g = (refl, tt)
 front-good q (x ∷ xs) l r g = (refl, front-weaker (λ y. y ≡ x) (λ y. (y + 1) % q ≡ x) (λ y. y ≢ x) (λ y e i. step-apart q x l r.1.0 (ap (λ z. (z + 1) % q) (sym i) ∙ e)) (x ∷ xs) g)
-
-clear-all : (a x : ℕ) (xs : List ℕ) → x ≡ a → IsFrontThen (λ y. y ≡ a) (λ y. y ≢ a) (x ∷ xs) → last_of x xs ≡ x → AllByRecursion (λ y. y ≡ a) (x ∷ xs)
-clear-all a x xs i f e = elim (Front-last (λ y. y ≡ a) (λ y. y ≢ a) x xs f) [ inl ps ↦ ps | inr ne ↦ absurd (ne (e ∙ i)) ]
-
-clear-move : (q a : ℕ) {xs ys : List ℕ} → HeadMove q xs ys → HasFront a xs → AllByRecursion (λ y. y ≡ a) (tail_of ys)
-clear-move q a (Moved {x = x} {xs = xs} e) h = (clear-all a x xs h.0 h.1 e).1
-clear-move q a (Dropped {x = x} {y = y} {ys = ys} e) h =
-    let w = clear-all a x (y ∷ ys) h.0 h.1 e in
-    All-but_last (λ z. z ≡ a) y ys w.1.0 w.1.1
-
-pub front-step : (q a : ℕ) {n : ℕ} {xs ys : List ℕ} → Step q n xs ys → HasFront a xs → ((n ≡ 0) × HasFront a ys) ⊎ ((n ≡ 1) × IsGood q ys × AllByRecursion (λ y. y ≡ a) (tail_of ys))
-front-step q a Stays h = inl (refl, h)
-front-step q a (Moves m) h = inr (refl, fresh-move q a m h.0 h.1, clear-move q a m h)
-front-step q a (Changes c l) h = front-step q a l (head-change c ∙ h.0, Front-change (λ y. y ≡ a) (λ y. y ≢ a) c h.1)

@@ -1,5 +1,5 @@
 use Rattle.std.proofs.Common.{add-one}
-use Rattle.k_state.proofs.AnyRun.{becomes-run}
+use Rattle.k_state.proofs.Runs.{becomes-run}
 use Rattle.k_state.proofs.Histories.{good-history}
 use Rattle.k_state.proofs.laws.convergence_law.Goals as goal
 

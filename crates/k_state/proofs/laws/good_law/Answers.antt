@@ -1,5 +1,5 @@
 use Rattle.k_state.proofs.Steps.{good-step, front-good}
-use Rattle.k_state.proofs.AnyRun.{good-run}
+use Rattle.k_state.proofs.Runs.{good-run}
 use Rattle.k_state.proofs.laws.good_law.Goals as goal
 
 pub returns-clause-stays : goal.returns-clause-stays
