@@ -13,6 +13,8 @@ pub mod Strict
 mod RowsTour
 mod RowsTwo
 mod RowsRound
+mod RowsSweep
+mod RowsFaults
 pub mod OneBoundary
 pub mod TreeLists
 pub mod TrueTree

@@ -7,7 +7,7 @@ use Rattle.node_core.specs.State.{NodeState}
 use Rattle.euler_ring.specs.Tour.{tour}
 use Rattle.run_model.specs.Ring.{token_ring}
 
-abbrev square : Network
+abbrev pub square : Network
 square = record { nodes = 4; root = 0; capacity = 1; lease = 0; edges = (0, 1) ∷ (1, 2) ∷ (2, 3) ∷ (3, 0) ∷ [] }
 
 -- it comes to the root from 1, goes out to 3 and back, to 1, and by 1 out to 2 and back
