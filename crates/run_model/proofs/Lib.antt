@@ -9,6 +9,7 @@ pub mod RunRanges
 pub mod EdgeRanges
 pub mod Serving
 pub mod Counts
+pub mod Moments
 pub mod Strict
 mod RowsTour
 mod RowsTwo

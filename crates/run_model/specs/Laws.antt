@@ -1,5 +1,5 @@
 -- The plain laws of runs and sweeps, for every network, world and list of events.
-use Rattle.std.specs.Prelude.{◌≡◌, ℕ, ◌+◌, ◌<◌, ◌≤◌, false, IsTrue, is_some, suc, List, [], ◌++◌}
+use Rattle.std.specs.Prelude.{◌≡◌, ℕ, ◌+◌, ◌<◌, ◌≤◌, true, false, IsTrue, is_some, suc, List, [], ◌∷◌, ◌++◌, ◌||◌, if◌then◌else◌}
 use Rattle.topology.specs.Network.{Network, IsAcceptedNetwork, are_joined}
 use Rattle.data_link.specs.Edge.{IsEdgeInRange, edge_step, edge_run}
 use Rattle.data_link.specs.Sweep as edge
@@ -8,10 +8,12 @@ use Rattle.run_model.specs.World.{World, IsWorldInRange, default_world}
 use Rattle.run_model.specs.Step.{refusal, step}
 use Rattle.run_model.specs.Run.{run, is_damage, IsUndamaged}
 use Rattle.run_model.specs.Sweep.{IsSweep, is_served}
-use Rattle.run_model.specs.Count.{Sweeps, StrictSweeps, IsGreatestCount, IsSweepCount}
+use Rattle.run_model.specs.Count.{Sweeps, StrictSweeps, IsGreatestCount, after_damage, IsSweepCount}
+use Rattle.run_model.specs.Greedy.{IsEarliest, IsCounted}
 use Rattle.run_model.specs.Ring.{IsTokenRingGood}
 use Rattle.run_model.specs.Tree.{IsTreeReached}
 use Rattle.run_model.specs.Legitimate.{IsLegitimate, edge_of, is_privileged, is_lending}
+use Rattle.run_model.specs.Visited.{is_visited}
 use Rattle.run_model.specs.Project.{edge_event, edge_events}
 use Rattle.run_model.specs.declared.event.Event.{Event}
 
@@ -110,10 +112,6 @@ StrictSweepsAreSweeps = (w : World) (r : ℕ) (es : List Event) → IsWorldInRan
 
 -- ---- counting greedily
 
--- no proper beginning of the stretch is a sweep
-abbrev pub IsEarliest : World → List Event → Type 0
-IsEarliest w first = (front back : List Event) → first ≡ front ++ back → IsSweep w front → back ≡ []
-
 -- Ending a sweep at the first event at which it is one loses none: if the list holds one sweep more than r, the rest behind the earliest sweep holds r.
 abbrev pub EarliestIsBest : Type 0
 EarliestIsBest =
@@ -131,9 +129,59 @@ abbrev pub NoSweepCount : Type 0
 NoSweepCount =
     (w : World) (es : List Event) → ((front back : List Event) → es ≡ front ++ back → ¬ IsSweep w front) → IsGreatestCount w es 0
 
+-- So what is counted so far is the greatest count.
+abbrev pub CountedIsGreatest : Type 0
+CountedIsGreatest =
+    (w : World) (r : ℕ) (done rest : List Event) → IsWorldInRange w → IsUndamaged w (done ++ rest) → IsCounted w done rest r
+    → IsGreatestCount w (done ++ rest) r
+
+-- Counting starts with nothing,
+abbrev pub CountStarts : Type 0
+CountStarts = (w : World) → IsWorldInRange w → IsCounted w [] [] 0
+
+-- an event that finishes no sweep is one more of the unfinished stretch,
+abbrev pub CountStays : Type 0
+CountStays =
+    (w : World) (r : ℕ) (done rest : List Event) (e : Event) → IsCounted w done rest r → ¬ IsSweep (run w done) (rest ++ e ∷ [])
+    → IsCounted w done (rest ++ e ∷ []) r
+
+-- and one that finishes a sweep adds it to the count.
+abbrev pub CountRises : Type 0
+CountRises =
+    (w : World) (r : ℕ) (done rest : List Event) (e : Event) → IsWorldInRange w → IsCounted w done rest r → IsSweep (run w done) (rest ++ e ∷ [])
+    → IsCounted w (done ++ (rest ++ e ∷ [])) [] (suc r)
+
 -- a list has one sweep count
 abbrev pub OneCount : Type 0
 OneCount = (w : World) (es : List Event) (r s : ℕ) → IsSweepCount w es r → IsSweepCount w es s → r ≡ s
+
+-- ---- since the last damage
+
+-- the world right after the last damage of a run is in range, and leads to the run's end without damage
+abbrev pub MomentLeads : Type 0
+MomentLeads =
+    (w : World) (es : List Event) → IsWorldInRange w
+    → IsWorldInRange (after_damage w es).world
+    × IsUndamaged (after_damage w es).world (after_damage w es).rest
+    × (run (after_damage w es).world (after_damage w es).rest ≡ run w es)
+
+-- where one more event is no damage, that moment stays, and the event is one more since then
+abbrev pub MomentStays : Type 0
+MomentStays =
+    (w : World) (es : List Event) (e : Event) → is_damage (run w es) e ≡ false
+    → after_damage w (es ++ e ∷ []) ≡ record { world = (after_damage w es).world; rest = (after_damage w es).rest ++ e ∷ [] }
+
+-- where it is damage, the moment is the one right after it
+abbrev pub MomentMoves : Type 0
+MomentMoves =
+    (w : World) (es : List Event) (e : Event) → is_damage (run w es) e ≡ true
+    → after_damage w (es ++ e ∷ []) ≡ record { world = step (run w es) e; rest = [] }
+
+-- what the privilege has visited after one more event: damage begins anew, and any other event adds who is privileged then
+abbrev pub VisitsGoOn : Type 0
+VisitsGoOn =
+    (w : World) (es : List Event) (e : Event) (v : ℕ)
+    → is_visited w (es ++ e ∷ []) v ≡ ((if is_damage (run w es) e then false else is_visited w es v) || is_privileged (step (run w es) e) v)
 
 -- ---- privilege and loans
 

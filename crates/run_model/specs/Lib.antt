@@ -3,6 +3,7 @@ pub mod Step
 pub mod Run
 pub mod Sweep
 pub mod Count
+pub mod Greedy
 pub mod Tree
 pub mod Ring
 pub mod Legitimate

@@ -1,5 +1,5 @@
 //! What holds of runs and sweeps, for the crates above: each law is the contract of a function that does nothing.
-ghost use Rattle.run_model.specs.Laws.{RefusedChangesNothing, NetworkStays, RunsJoin, UndamagedJoins, UndamagedSplits, StartIsInRange, RangesStay, EdgesAreInRange, EdgeSteps, EdgeRuns, EdgeIsServed, EdgeSweeps, SweepGrows, SweepsSplit, SweepsJoin, FewerSweeps, SweepsGrow, StrictSweepsAreSweeps, EarliestIsBest, GreedyCount, NoSweepCount, OneCount};
+ghost use Rattle.run_model.specs.Laws.{RefusedChangesNothing, NetworkStays, RunsJoin, UndamagedJoins, UndamagedSplits, StartIsInRange, RangesStay, EdgesAreInRange, EdgeSteps, EdgeRuns, EdgeIsServed, EdgeSweeps, SweepGrows, SweepsSplit, SweepsJoin, FewerSweeps, SweepsGrow, StrictSweepsAreSweeps, EarliestIsBest, GreedyCount, NoSweepCount, CountedIsGreatest, CountStarts, CountStays, CountRises, OneCount, MomentLeads, MomentStays, MomentMoves, VisitsGoOn};
 
 /// A refused event changes nothing, and no event changes the network; the run of two lists is the run of the second from where the
 /// first led, and is without damage where both are. Whoever speaks of a moment of a run needs these.
@@ -51,11 +51,25 @@ pub fn strict_sweeps()
     in_range();
 }
 
-/// The greatest number of sweeps is found greedily: end each sweep at the first event at which it is one. A judge who reads a run event
-/// by event stands on this.
+/// The greatest number of sweeps is found greedily: end each sweep at the first event at which it is one. So whoever reads a run event
+/// by event keeps the count and the unfinished stretch alone.
 pub fn sweep_counts()
     ensures earliest { EarliestIsBest }
     ensures greedy { GreedyCount }
     ensures none { NoSweepCount }
+    ensures counted { CountedIsGreatest }
+    ensures starts { CountStarts }
+    ensures stays { CountStays }
+    ensures rises { CountRises }
     ensures one { OneCount }
 {}
+
+/// The moment after the last damage, and whom the privilege has visited since, as events come. Sweeps and visits are counted from there.
+pub fn moments()
+    ensures leads { MomentLeads }
+    ensures stays { MomentStays }
+    ensures moves { MomentMoves }
+    ensures visits { VisitsGoOn }
+{
+    lock_desk::laws::ranges_are_kept();
+}

@@ -1,4 +1,6 @@
-use Rattle.run_model.proofs.Counts.{earliest-best, greedy-count, no-sweep_count, one-count}
+use Rattle.run_model.proofs.Counts.{earliest-best, greedy-count, no-sweep_count, counted-greatest, nothing-unfinished, count-stays, count-rises, one-count}
+use Rattle.std.proofs.Common.{refl, arith, ◌<◌}
+use Rattle.run_model.specs.World.{World, IsWorldInRange}
 use Rattle.run_model.specs.Count.{after_damage}
 use Rattle.run_model.proofs.laws.sweep_counts.Goals as goal
 
@@ -13,3 +15,18 @@ returns-clause-none c = no-sweep_count
 
 pub returns-clause-one : goal.returns-clause-one
 returns-clause-one c = λ w es r s a b. one-count (after_damage w es).world (after_damage w es).rest r s a b
+
+pub returns-clause-counted : goal.returns-clause-counted
+returns-clause-counted c = λ w r done rest range fine count. counted-greatest w r done rest range.network fine count.sweeps count.unfinished
+
+some-node : (w : World) → IsWorldInRange w → 0 < w.net.nodes
+some-node w range = omega (arith, range.network.limits.two)
+
+pub returns-clause-starts : goal.returns-clause-starts
+returns-clause-starts c = λ w range. record { sweeps = refl; unfinished = nothing-unfinished w (some-node w range) }
+
+pub returns-clause-stays : goal.returns-clause-stays
+returns-clause-stays c = count-stays
+
+pub returns-clause-rises : goal.returns-clause-rises
+returns-clause-rises c = λ w r done rest e range count sweep. count-rises w r done rest e (some-node w range) count sweep
