@@ -2,3 +2,4 @@ pub mod Site
 pub mod State
 pub mod Machines
 pub mod Step
+pub mod View

@@ -1,5 +1,6 @@
 -- The state of one node.
-use Rattle.std.specs.Prelude.{ℕ, ◌<◌, ◌≤◌, Option, None, IsTrue, All}
+use Rattle.std.specs.Prelude.{ℕ, ◌<◌, ◌≤◌, Bool, ◌&&◌, nat_le, Option, None, IsTrue, All}
+use Rattle.topology.specs.At.{at}
 use Rattle.topology.specs.Ranges.{parent_fits}
 use Rattle.topology.specs.declared.frame.Ranges.{Ranges}
 use Rattle.data_link.specs.Port.{PortState, port_fits, default_port}
@@ -31,3 +32,11 @@ default_node ranges = record {
   value = λ w. 0;
   desk = no_desk;
 }
+
+-- a distance is at most the number of nodes, and a parent is none or a node
+abbrev pub own_fits : Ranges → ℕ → Option ℕ → Bool
+own_fits ranges distance parent = nat_le distance ranges.nodes && parent_fits ranges.nodes parent
+
+-- the state with another port to w
+abbrev pub with_port : NodeState → ℕ → PortState → NodeState
+with_port s w p = record s { port = at s.port w p }

@@ -1,1 +1,5 @@
 #![tactic(auto)]
+
+mod node;
+
+pub use node::Node;

@@ -1,0 +1,294 @@
+//! One node.
+ghost use Rattle.std.specs.Prelude.{◌≡◌, ◌↔◌, ◌<◌, ◌≤◌, ℕ, Bool, true, false, not, List, IsTrue, IfOk, IfErr, IsOk, OnOk, OnErr, Some, None, Contains, length};
+ghost use Rattle.topology.specs.At.{at};
+ghost use Rattle.topology.specs.Ranges.{frame_fits, payload_fits, parent_fits, ranges_of};
+ghost use Rattle.data_link.specs.Port.{counters_fit, frame_of};
+ghost use Rattle.lock_desk.specs.Desk.{ask_fault, asked, is_stranger, after_leave, loan_fits, with_loan};
+ghost use Rattle.node_core.specs.Site.{site_of};
+ghost use Rattle.node_core.specs.State.{IsNodeInRange, default_node, own_fits, with_port};
+ghost use Rattle.node_core.specs.View.{NodeView, site_in, state_of};
+
+use lock_desk::{AskFault, Desk, Stranger};
+use registers::{OutOfRange, Registers};
+use std::alloc::{AllocError, Allocator, Global};
+use std::marker::Model;
+use topology::{Frame, Net, Payload, Ranges};
+
+/// One node of the network, with all that it keeps.
+#[derive(Drop)]
+pub struct Node<A: Allocator = Global> {
+    id: u16,
+    is_root: bool,
+    distance: u16,
+    parent: Option<u16>,
+    registers: Registers<A>,
+    desk: Desk<A>,
+}
+
+impl<A: Allocator> Model for Node<A> {
+    ghost use Rattle.node_core.specs.View.{NodeView, IsOwnInRange};
+
+    ghost Value = { NodeView };
+
+    ghost view = { λ n. record { id = n.id; is_root = n.is_root; distance = n.distance; parent = n.parent; registers = n.registers; desk = n.desk } };
+
+    ghost invariant = { λ n. IsOwnInRange (record { id = n.id; is_root = n.is_root; distance = n.distance; parent = n.parent; registers = n.registers; desk = n.desk }) };
+}
+
+impl<A: Allocator + Copy> Node<A> {
+    /// A node that knows nothing yet: the greatest distance, no parent, zeros, and an empty desk. All memory that a node ever needs is reserved here;
+    /// `AllocError` comes only where that is refused.
+    pub fn new(alloc: A, net: &Net, id: u16) -> Result<Node<A>, AllocError>
+        requires { id < net.now.nodes }
+        ensures site { IfOk result (λ node. site_in node ≡ site_of net.now id) }
+        ensures state { IfOk result (λ node. state_of node ≡ default_node (ranges_of net.now)) }
+    {
+        let registers = Registers::new(alloc, net, id)?;
+        let desk = Desk::new(alloc, net.lease())?;
+        Ok(Node {
+            id,
+            is_root: id == net.root(),
+            distance: net.nodes(),
+            parent: None,
+            registers,
+            desk,
+        })
+    }
+}
+
+impl<A: Allocator> Node<A> {
+    /// The node's id.
+    pub fn id(&self) -> u16
+        ensures { result ≡ (site_in self.now).id }
+    {
+        self.id
+    }
+
+    /// Whether the node is the root.
+    pub fn is_root(&self) -> bool
+        ensures { result ≡ (site_in self.now).is_root }
+    {
+        self.is_root
+    }
+
+    /// The ranges of its fields.
+    pub fn ranges(&self) -> Ranges
+        ensures ranges { result ≡ (site_in self.now).ranges }
+        ensures in_range { IsNodeInRange (site_in self.now) (state_of self.now) }
+    {
+        let _lease = self.desk.lease();
+        self.registers.ranges()
+    }
+
+    /// How many ticks a loan is for; 0 is no limit.
+    pub fn lease(&self) -> u16
+        ensures { result ≡ (site_in self.now).lease }
+    {
+        self.desk.lease()
+    }
+
+    /// The ids of its neighbours, ascending.
+    pub fn neighbours(&self) -> &[u16]
+        ensures { result.now ≡ (site_in self.now).neighbours }
+    {
+        self.registers.neighbours()
+    }
+
+    /// Its distance from the root, as far as it knows: 0 to the number of nodes.
+    pub fn distance(&self) -> u16
+        ensures { result ≡ (state_of self.now).distance }
+    {
+        self.distance
+    }
+
+    /// The node that it takes for its parent on the tree, if any.
+    pub fn parent(&self) -> Option<u16>
+        ensures { result ≡ (state_of self.now).parent }
+    {
+        self.parent
+    }
+
+    /// The number under which the payload for `port` goes out.
+    pub fn seq(&self, port: u16) -> u16
+        requires { port < (site_in self.now).ranges.nodes }
+        ensures { result ≡ ((state_of self.now).port port).seq }
+    {
+        self.registers.seq(port)
+    }
+
+    /// The last number that was accepted from `port`.
+    pub fn last(&self, port: u16) -> u16
+        requires { port < (site_in self.now).ranges.nodes }
+        ensures { result ≡ ((state_of self.now).port port).last }
+    {
+        self.registers.last(port)
+    }
+
+    /// What it says to `port`, until that neighbour has it.
+    pub fn staged_for(&self, port: u16) -> Payload
+        requires { port < (site_in self.now).ranges.nodes }
+        ensures { result ≡ ((state_of self.now).port port).staged }
+    {
+        self.registers.staged_for(port)
+    }
+
+    /// What `port` said last.
+    pub fn copy_of(&self, port: u16) -> Payload
+        requires { port < (site_in self.now).ranges.nodes }
+        ensures { result ≡ ((state_of self.now).port port).copy }
+    {
+        self.registers.copy_of(port)
+    }
+
+    /// The value of the machine that comes in from `port`.
+    pub fn value(&self, port: u16) -> u16
+        requires { port < (site_in self.now).ranges.nodes }
+        ensures { result ≡ (state_of self.now).value port }
+    {
+        self.registers.value(port)
+    }
+
+    /// The ticket that the lock is lent to, if any.
+    pub fn lent(&self) -> Option<u16>
+        ensures { result ≡ (state_of self.now).desk.lent }
+    {
+        self.desk.lent()
+    }
+
+    /// How many further ticks the loan outlasts where there is a lease.
+    pub fn left(&self) -> u16
+        ensures { result ≡ (state_of self.now).desk.left }
+    {
+        self.desk.left()
+    }
+
+    /// Whether the desk lent the lock since its last full tick.
+    pub fn served(&self) -> bool
+        ensures { result ≡ (state_of self.now).desk.served }
+    {
+        self.desk.served()
+    }
+
+    /// How many tickets wait, at most 64.
+    pub fn waiting(&self) -> usize
+        ensures waiting { result ≡ length (state_of self.now).desk.waiting }
+        ensures most { result ≤ 64 }
+    {
+        self.desk.waiting()
+    }
+
+    /// The tickets that wait, in the order in which they asked.
+    pub fn tickets(&self) -> &[u16]
+        ensures { result.now ≡ (state_of self.now).desk.waiting }
+    {
+        self.desk.tickets()
+    }
+
+    /// The frame to send to `port`.
+    pub fn frame_for(&self, port: u16) -> Frame
+        requires { port < (site_in self.now).ranges.nodes }
+        ensures frame { result ≡ frame_of ((state_of self.now).port port) }
+        ensures fits { IsTrue (frame_fits (site_in self.now).ranges result) }
+    {
+        self.registers.frame_for(port)
+    }
+
+    /// A client's ticket asks for the lock. Refused as `Full` where 64 tickets wait, and else as `Twice` where this one waits or the lock is lent to it;
+    /// then nothing has changed.
+    pub fn ask(&mut self, ticket: u16) -> Result<(), AskFault>
+        ensures accepted { OnOk result (ask_fault ticket (state_of self.old).desk ≡ None) }
+        ensures asked { OnOk result (state_of self.new ≡ record (state_of self.old) { desk = asked ticket (state_of self.old).desk }) }
+        ensures refused { IfErr result (λ fault. ask_fault ticket (state_of self.old).desk ≡ Some fault) }
+        ensures unchanged { OnErr result (self.new ≡ self.old) }
+        ensures site { site_in self.new ≡ site_in self.old }
+    {
+        self.desk.ask(ticket)
+    }
+
+    /// A client's ticket gives the lock back, or waits no longer. Refused where it does neither; then nothing has changed.
+    pub fn leave(&mut self, ticket: u16) -> Result<(), Stranger>
+        ensures known { OnOk result (is_stranger ticket (state_of self.old).desk ≡ false) }
+        ensures left { OnOk result (state_of self.new ≡ record (state_of self.old) { desk = after_leave ticket (state_of self.old).desk }) }
+        ensures refused { OnErr result (is_stranger ticket (state_of self.old).desk ≡ true) }
+        ensures unchanged { OnErr result (self.new ≡ self.old) }
+        ensures site { site_in self.new ≡ site_in self.old }
+    {
+        self.desk.leave(ticket)
+    }
+
+    /// Writes the distance and the parent. `OutOfRange` comes exactly where the distance is above the number of nodes, or the parent is no node; then nothing
+    /// has changed.
+    pub fn set_own(&mut self, distance: u16, parent: Option<u16>) -> Result<(), OutOfRange>
+        ensures variant { IsOk result ↔ IsTrue (own_fits (site_in self.old).ranges distance parent) }
+        ensures ok { OnOk result (state_of self.new ≡ record (state_of self.old) { distance = distance; parent = parent }) }
+        ensures out_of_range { OnErr result (self.new ≡ self.old) }
+        ensures site { site_in self.new ≡ site_in self.old }
+    {
+        let nodes = self.registers.ranges().nodes;
+        if distance > nodes || parent.is_some_and(|id| id >= nodes) {
+            return Err(OutOfRange);
+        }
+        self.distance = distance;
+        self.parent = parent;
+        Ok(())
+    }
+
+    /// Writes both numbers of the neighbour `port`. `OutOfRange` comes exactly where one is not below the counters' modulus; then nothing has changed.
+    pub fn set_counters(&mut self, port: u16, seq: u16, last: u16) -> Result<(), OutOfRange>
+        requires { Contains (site_in self.old).neighbours port }
+        ensures variant { IsOk result ↔ IsTrue (counters_fit (site_in self.old).ranges seq last) }
+        ensures ok { OnOk result (state_of self.new ≡ with_port (state_of self.old) port (record ((state_of self.old).port port) { seq = seq; last = last })) }
+        ensures out_of_range { OnErr result (self.new ≡ self.old) }
+        ensures site { site_in self.new ≡ site_in self.old }
+    {
+        self.registers.set_counters(port, seq, last)
+    }
+
+    /// Writes the staged payload for the neighbour `port`. `OutOfRange` comes exactly where a field of it is not in its range; then nothing has changed.
+    pub fn set_staged(&mut self, port: u16, payload: Payload) -> Result<(), OutOfRange>
+        requires { Contains (site_in self.old).neighbours port }
+        ensures variant { IsOk result ↔ IsTrue (payload_fits (site_in self.old).ranges payload) }
+        ensures ok { OnOk result (state_of self.new ≡ with_port (state_of self.old) port (record ((state_of self.old).port port) { staged = payload })) }
+        ensures out_of_range { OnErr result (self.new ≡ self.old) }
+        ensures site { site_in self.new ≡ site_in self.old }
+    {
+        self.registers.set_staged(port, payload)
+    }
+
+    /// Writes the copy of what the neighbour `port` said last. `OutOfRange` comes exactly where a field of it is not in its range; then nothing has changed.
+    pub fn set_copy(&mut self, port: u16, payload: Payload) -> Result<(), OutOfRange>
+        requires { Contains (site_in self.old).neighbours port }
+        ensures variant { IsOk result ↔ IsTrue (payload_fits (site_in self.old).ranges payload) }
+        ensures ok { OnOk result (state_of self.new ≡ with_port (state_of self.old) port (record ((state_of self.old).port port) { copy = payload })) }
+        ensures out_of_range { OnErr result (self.new ≡ self.old) }
+        ensures site { site_in self.new ≡ site_in self.old }
+    {
+        self.registers.set_copy(port, payload)
+    }
+
+    /// Writes the value of the machine that comes in from the neighbour `port`. `OutOfRange` comes exactly where it is not below the ring values' modulus;
+    /// then nothing has changed.
+    pub fn set_value(&mut self, port: u16, value: u16) -> Result<(), OutOfRange>
+        requires { Contains (site_in self.old).neighbours port }
+        ensures variant { IsOk result ↔ (value < (site_in self.old).ranges.ring) }
+        ensures ok { OnOk result (state_of self.new ≡ record (state_of self.old) { value = at (state_of self.old).value port value }) }
+        ensures out_of_range { OnErr result (self.new ≡ self.old) }
+        ensures site { site_in self.new ≡ site_in self.old }
+    {
+        self.registers.set_value(port, value)
+    }
+
+    /// Writes the loan. `OutOfRange` comes exactly where its ticket waits, where more is left than the lease, or where anything is left of no loan; then
+    /// nothing has changed.
+    pub fn set_desk(&mut self, lent: Option<u16>, left: u16, served: bool) -> Result<(), OutOfRange>
+        ensures variant { IsOk result ↔ IsTrue (loan_fits (site_in self.old).lease (state_of self.old).desk lent left) }
+        ensures ok { OnOk result (state_of self.new ≡ record (state_of self.old) { desk = with_loan (state_of self.old).desk lent left served }) }
+        ensures out_of_range { OnErr result (self.new ≡ self.old) }
+        ensures site { site_in self.new ≡ site_in self.old }
+    {
+        match self.desk.set_loan(lent, left, served) {
+            Ok(()) => Ok(()),
+            Err(_refused) => Err(OutOfRange),
+        }
+    }
+}
