@@ -1,9 +1,9 @@
 -- Dijkstra's machines at one node: one for each tree neighbour, placed on the Euler tour of the tree (Dijkstra 1974).
-use Rattle.std.specs.Prelude.{ℕ, Bool, ◌==◌, List, if◌then◌else◌}
+use Rattle.std.specs.Prelude.{ℕ, Bool, List, if◌then◌else◌}
 use Rattle.std.specs.List.{list_any}
 use Rattle.topology.specs.declared.frame.Payload.{Payload}
 use Rattle.k_state.specs.Machine.{root_moved, is_privileged}
-use Rattle.euler_ring.specs.Cycle.{tree_neighbours, source_for, special, is_named}
+use Rattle.euler_ring.specs.Cycle.{tree_neighbours, source_for, special, is_named, is_on}
 use Rattle.node_core.specs.Site.{Site}
 use Rattle.node_core.specs.State.{NodeState}
 
@@ -33,7 +33,7 @@ is_node_privileged site s = list_any (may_move site s) (tree_of site s)
 
 -- the ring value for w: that of the machine which leaves towards w, and 0 where w is no tree neighbour
 abbrev pub ring_for : Site → NodeState → ℕ → ℕ
-ring_for site s w = if list_any (λ t. t == w) (tree_of site s) then s.value (source_for (tree_of site s) w) else 0
+ring_for site s w = if is_on (tree_of site s) w then s.value (source_for (tree_of site s) w) else 0
 
 -- what the node says of itself to w
 abbrev pub payload_for : Site → NodeState → ℕ → Payload

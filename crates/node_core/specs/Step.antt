@@ -1,6 +1,6 @@
 -- What a node does: it takes an item from a neighbour, it ticks, and its clients ask and leave.
-use Rattle.std.specs.Prelude.{ℕ, ◌==◌, ◌&&◌, is_none, if◌then◌else◌}
-use Rattle.std.specs.List.{list_any}
+use Rattle.std.specs.Prelude.{ℕ, ◌&&◌, is_none, if◌then◌else◌}
+use Rattle.euler_ring.specs.Cycle.{is_on}
 use Rattle.topology.specs.At.{at}
 use Rattle.link_model.specs.declared.item.Item.{Item}
 use Rattle.link_model.specs.declared.item.Item.TheVariants.{Frame, Noise}
@@ -34,7 +34,7 @@ desk_done site s = record s { desk = desk_ticked site.lease (is_node_privileged 
 -- last part: where the desk lends to nobody, each machine that may move does, all at once
 abbrev pub machines_moved : Site → NodeState → NodeState
 machines_moved site s = record s {
-  value = λ t. if is_none s.desk.lent && (list_any (λ u. u == t) (tree_of site s) && may_move site s t) then moved_value site s t else s.value t;
+  value = λ t. if is_none s.desk.lent && (is_on (tree_of site s) t && may_move site s t) then moved_value site s t else s.value t;
 }
 
 -- a tick

@@ -1,5 +1,6 @@
 #![tactic(auto)]
 
+mod machines;
 mod node;
 
 pub use node::Node;

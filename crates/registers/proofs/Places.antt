@@ -46,6 +46,7 @@ other_than ns w v near far e = far (rw e near)
 pub registers-with_port : (r : RegistersView) (w : ℕ) (p : PortView) → IsRegisters r → Contains r.neighbours w → IsPortOf r.ranges p → IsRegisters (with_port r w p)
 registers-with_port r w p ok near fits = record {
   most = ok.most;
+  some_values = ok.some_values;
   ports = rw (length-set r.ports w p) ok.ports;
   values = ok.values;
   ports_fit = All-set (IsPortOf r.ranges) r.ports w p fits ok.ports_fit;
@@ -60,6 +61,7 @@ registers-with_port r w p ok near fits = record {
 pub registers-with_value : (r : RegistersView) (w x : ℕ) → IsRegisters r → Contains r.neighbours w → x < r.ranges.ring → IsRegisters (with_value r w x)
 registers-with_value r w x ok near fits = record {
   most = ok.most;
+  some_values = ok.some_values;
   ports = ok.ports;
   values = rw (length-set r.values w x) ok.values;
   ports_fit = ok.ports_fit;

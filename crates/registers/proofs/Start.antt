@@ -43,6 +43,7 @@ default_fits net ok = record { same = refl; fits = search (rules, arith) }
 pub registers-start : (net : Network) (v : ℕ) → IsAcceptedNetwork net → IsRegisters (start_of net v)
 registers-start net v ok = record {
   most = ok.limits.most;
+  some_values = omega arith;
   ports = length-replicate net.nodes (default_view net);
   values = length-replicate net.nodes 0;
   ports_fit = All-replicate (IsPortOf (ranges_of net)) net.nodes (default_view net) (default_fits net ok);

@@ -25,10 +25,11 @@ pub record IsPortOf (ranges : Ranges) (p : PortView) : Type 0 where
   pub same : p.ranges ≡ ranges
   pub fits : IsTrue (port_fits ranges p.state)
 
--- One place for each node; each port and value is in its range; the neighbours are nodes, ascending; and the place of a node that is no neighbour is as at
+-- At most 64 nodes, and one place for each; each port and value is in its range; the neighbours are nodes, ascending; and the place of a node that is no neighbour is as at
 -- the start.
 pub record IsRegisters (r : RegistersView) : Type 0 where
   pub most : r.ranges.nodes ≤ 64
+  pub some_values : 0 < r.ranges.ring
   pub ports : length r.ports ≡ r.ranges.nodes
   pub values : length r.values ≡ r.ranges.nodes
   pub ports_fit : All (IsPortOf r.ranges) r.ports
