@@ -1,3 +1,5 @@
 pub mod Moves
 pub mod OnTree
+pub mod OwnRange
 pub mod Same
+pub mod Ticks

@@ -1,7 +1,9 @@
 -- What a node does: it takes an item from a neighbour, it ticks, and its clients ask and leave.
-use Rattle.std.specs.Prelude.{ℕ, ◌&&◌, is_none, if◌then◌else◌}
+use Rattle.std.specs.Prelude.{ℕ, Bool, true, ◌&&◌, is_none, if◌then◌else◌}
 use Rattle.euler_ring.specs.Cycle.{is_on}
 use Rattle.topology.specs.At.{at}
+use Rattle.topology.specs.Ranges.{frame_fits}
+use Rattle.topology.specs.declared.frame.Ranges.{Ranges}
 use Rattle.link_model.specs.declared.item.Item.{Item}
 use Rattle.link_model.specs.declared.item.Item.TheVariants.{Frame, Noise}
 use Rattle.data_link.specs.Port.{port_after}
@@ -10,6 +12,11 @@ use Rattle.lock_desk.specs.Desk.{desk_ticked}
 use Rattle.node_core.specs.Site.{Site}
 use Rattle.node_core.specs.State.{NodeState}
 use Rattle.node_core.specs.Machines.{tree_of, may_move, moved_value, is_node_privileged, payload_for}
+
+-- an item is noise, or a frame whose fields are in range
+abbrev pub item_fits : Ranges → Item → Bool
+item_fits r (Frame f) = frame_fits r f
+item_fits r Noise = true
 
 -- a frame from neighbour w is taken at that port, and what the node says to w before it may be staged; noise changes nothing
 abbrev pub taken : Site → ℕ → Item → NodeState → NodeState

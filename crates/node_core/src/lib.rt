@@ -2,5 +2,8 @@
 
 mod machines;
 mod node;
+mod own;
+mod ticked;
 
 pub use node::Node;
+pub use ticked::Ticked;

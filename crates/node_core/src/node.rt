@@ -1,13 +1,19 @@
 //! One node.
-ghost use Rattle.std.specs.Prelude.{◌≡◌, ◌↔◌, ◌<◌, ◌≤◌, ℕ, Bool, true, false, not, List, IsTrue, IfOk, IfErr, IsOk, OnOk, OnErr, Some, None, Contains, length};
+ghost use Rattle.std.specs.Prelude.{◌≡◌, ◌↔◌, ◌<◌, ◌≤◌, ℕ, Bool, true, false, not, List, IsTrue, IfOk, IfErr, IsOk, OnOk, OnErr, Some, None, is_none, Contains, length};
 ghost use Rattle.topology.specs.At.{at};
 ghost use Rattle.topology.specs.Ranges.{frame_fits, payload_fits, parent_fits, ranges_of};
 ghost use Rattle.data_link.specs.Port.{counters_fit, frame_of};
-ghost use Rattle.lock_desk.specs.Desk.{ask_fault, asked, is_stranger, after_leave, loan_fits, with_loan};
+ghost use Rattle.lock_desk.specs.Desk.{ask_fault, asked, desk_act, is_stranger, after_leave, loan_fits, with_loan};
 ghost use Rattle.node_core.specs.Site.{site_of};
 ghost use Rattle.node_core.specs.State.{IsNodeInRange, default_node, own_fits, with_port};
+ghost use Rattle.node_core.specs.Machines.{is_node_privileged, payload_for};
+ghost use Rattle.node_core.specs.Step.{desk_done, item_fits, machines_moved, recomputed, taken, ticked};
 ghost use Rattle.node_core.specs.View.{NodeView, site_in, state_of};
 
+use crate::machines::{move_machines, ring_for, some_may_move, tree};
+use crate::own::new_own;
+use crate::ticked::Ticked;
+use link_model::Item;
 use lock_desk::{AskFault, Desk, Stranger};
 use registers::{OutOfRange, Registers};
 use std::alloc::{AllocError, Allocator, Global};
@@ -26,7 +32,9 @@ pub struct Node<A: Allocator = Global> {
 }
 
 impl<A: Allocator> Model for Node<A> {
-    ghost use Rattle.node_core.specs.View.{NodeView, IsOwnInRange};
+    ghost use Rattle.node_core.specs.Machines.{is_node_privileged, payload_for};
+ghost use Rattle.node_core.specs.Step.{desk_done, item_fits, machines_moved, recomputed, taken, ticked};
+ghost use Rattle.node_core.specs.View.{NodeView, IsOwnInRange};
 
     ghost Value = { NodeView };
 
@@ -290,5 +298,78 @@ impl<A: Allocator> Node<A> {
             Ok(()) => Ok(()),
             Err(_refused) => Err(OutOfRange),
         }
+    }
+
+    /// What the node has to say to `port` now.
+    fn payload_for(&self, port: u16) -> Payload
+        ensures payload { result ≡ payload_for (site_in self.now) (state_of self.now) port }
+        ensures fits { IsTrue (payload_fits (site_in self.now).ranges result) }
+    {
+        let tree = tree(&self.registers, self.parent, self.id);
+        Payload {
+            distance: self.distance,
+            parent: self.parent,
+            ring: ring_for(&self.registers, &tree, port),
+        }
+    }
+
+    /// Takes an item that the neighbour `port` sent. Noise changes nothing. Of a frame, what the node had to say *before* it is staged where the frame
+    /// acknowledges the port's number; then its payload is copied where its number is new. No other port changes.
+    pub fn take(&mut self, port: u16, item: &Item)
+        requires neighbour { Contains (site_in self.old).neighbours port }
+        requires fits { IsTrue (item_fits (site_in self.old).ranges item.now) }
+        ensures state { state_of self.new ≡ taken (site_in self.old) port item.now (state_of self.old) }
+        ensures site { site_in self.new ≡ site_in self.old }
+    {
+        if let Item::Frame(frame) = item {
+            let present = self.payload_for(port);
+            let _heard = self.registers.hear(port, frame, present);
+        }
+    }
+
+    /// Whether one of its machines may move.
+    pub fn privileged(&self) -> bool
+        ensures { result ≡ is_node_privileged (site_in self.now) (state_of self.now) }
+    {
+        let tree = tree(&self.registers, self.parent, self.id);
+        some_may_move(&self.registers, &tree, self.is_root)
+    }
+
+    /// First part of a tick: distance and parent follow from the copies.
+    fn recompute(&mut self)
+        ensures state { state_of self.new ≡ recomputed (site_in self.old) (state_of self.old) }
+        ensures site { site_in self.new ≡ site_in self.old }
+    {
+        let (distance, parent) = new_own(&self.registers, self.is_root);
+        self.distance = distance;
+        self.parent = parent;
+    }
+
+    /// Second and last part of a tick: the desk ends a loan or begins one, and where it then lends to nobody, each machine that may move does.
+    fn serve(&mut self) -> Ticked
+        ensures state { state_of self.new ≡ machines_moved (site_in self.old) (desk_done (site_in self.old) (state_of self.old)) }
+        ensures site { site_in self.new ≡ site_in self.old }
+        ensures act { result.act ≡ desk_act (state_of self.old).desk (state_of self.new).desk }
+        ensures full { result.full ≡ is_none (state_of self.new).desk.lent }
+    {
+        let tree = tree(&self.registers, self.parent, self.id);
+        let act = self.desk.tick(some_may_move(&self.registers, &tree, self.is_root));
+        let full = self.desk.lent().is_none();
+        if full {
+            move_machines(&mut self.registers, &tree, self.is_root);
+        }
+        Ticked { act, full }
+    }
+
+    /// One tick, in this order: distance and parent follow from the copies; the desk ends a loan or begins one; and where it then lends to nobody, each
+    /// machine that may move does.
+    pub fn tick(&mut self) -> Ticked
+        ensures state { state_of self.new ≡ ticked (site_in self.old) (state_of self.old) }
+        ensures site { site_in self.new ≡ site_in self.old }
+        ensures act { result.act ≡ desk_act (state_of self.old).desk (state_of self.new).desk }
+        ensures full { result.full ≡ is_none (state_of self.new).desk.lent }
+    {
+        self.recompute();
+        self.serve()
     }
 }
