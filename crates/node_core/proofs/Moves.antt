@@ -1,10 +1,9 @@
 -- The machines move one after the other as they would all at once.
-use Rattle.std.proofs.Common.{◌≡◌, ◌≢◌, ℕ, ◌+◌, ◌<◌, ◌≤◌, Bool, true, false, ◌&&◌, ◌||◌, ◌==◌, IsTrue, List, Option, Contains, refl, sym, ap, ◌∙◌, arith, inl, inr, get_or, length, take, if◌then◌else◌, cond}
+use Rattle.std.proofs.Common.{◌≡◌, ℕ, ◌+◌, ◌<◌, ◌≤◌, Bool, true, false, ◌&&◌, ◌||◌, ◌==◌, List, Option, refl, sym, ap, ◌∙◌, arith, inl, inr, get_or, length, take, if◌then◌else◌}
 use Rattle.std.proofs.Math.Path.{fun_ext}
-use Rattle.std.specs.List.{list_any}
 use Rattle.std.specs.List.Sorted.{IsStrictlyIncreasing}
 use Rattle.std.proofs.lemmas.Grind.{common_steps, get_or_default_zero}
-use Rattle.std.proofs.lemmas.Bool.{cases_Bool, eq-eqb, eqb-true}
+use Rattle.std.proofs.lemmas.Bool.{cases_Bool}
 use Rattle.std.proofs.lemmas.List.{length-take, get_or-take, take_all}
 use Rattle.std.proofs.lemmas.List.Folds.{list_any_more}
 use Rattle.std.proofs.lemmas.List.Kept.{AllPairs-from_increasing}
@@ -65,8 +64,7 @@ pub same_machine : (old now : RegistersView) (chosen : Option ℕ) (t : ℕ) →
     → (machine_may_move now chosen t ≡ machine_may_move old chosen t) × (machine_moved now chosen t ≡ machine_moved old chosen t)
 same_machine old now chosen t rest same =
     let port : port_of now ≡ port_of old = ap port_of rest in
-    let modulus : now.ranges.ring ≡ old.ranges.ring = ap (λ r. r.ranges.ring) rest in
-    (
+    let modulus : now.ranges.ring ≡ old.ranges.ring = ap (λ r. r.ranges.ring) rest in (
       λ i. is_privileged (is_named chosen t) (same i) (port i t).copy.ring,
       λ i. if is_named chosen t then root_moved (same i) (modulus i) else (port i t).copy.ring,
     )

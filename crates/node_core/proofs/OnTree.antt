@@ -32,15 +32,15 @@ pub any_on : (ts ns : List ℕ) (q : ℕ → Bool) → ((w : ℕ) → IsTrue (is
     → list_any (λ w. is_on ts w && q w) ns ≡ list_any q ts
 any_on ts ns q inside = same_test _ _
     (λ some.
-        let (k, w, within, is, passes) = Any-from_list_any (λ w. is_on ts w && q w) ns some in
-        let (on, good) = both (is_on ts w) (q w) passes in
-        let (j, there, same) = Contains-from_on ts w on in
-        list_any_at q ts j w there (rw same good))
+    let (k, w, within, is, passes) = Any-from_list_any (λ w. is_on ts w && q w) ns some in
+    let (on, good) = both (is_on ts w) (q w) passes in
+    let (j, there, same) = Contains-from_on ts w on in
+    list_any_at q ts j w there (rw same good))
     (λ some.
-        let (j, t, there, is, passes) = Any-from_list_any q ts some in
-        let on = on-from_Contains ts t (j, there, is) in
-        let (k, within, same) = inside t on in
-        list_any_at (λ w. is_on ts w && q w) ns k t within (rw (same, on) passes))
+    let (j, t, there, is, passes) = Any-from_list_any q ts some in
+    let on = on-from_Contains ts t (j, there, is) in
+    let (k, within, same) = inside t on in
+    list_any_at (λ w. is_on ts w && q w) ns k t within (rw (same, on) passes))
 
 -- so a loop over all neighbours that finds one has its answer, and one that found none
 pub one_on : (ts ns : List ℕ) (q : ℕ → Bool) (k : ℕ) → ((w : ℕ) → IsTrue (is_on ts w) → Contains ns w) → k < length ns

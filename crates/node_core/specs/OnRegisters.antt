@@ -2,7 +2,7 @@
 use Rattle.std.specs.Prelude.{ℕ, Bool, ◌&&◌, IsTrue, List, Option, Contains, if◌then◌else◌}
 use Rattle.k_state.specs.Machine.{root_moved, is_privileged}
 use Rattle.registers.specs.Registers.{RegistersView, IsRegisters, port_of, value_of}
-use Rattle.euler_ring.specs.Cycle.{is_named, is_on, special}
+use Rattle.euler_ring.specs.Cycle.{is_named, is_on}
 
 -- the tree neighbours are neighbours of these registers
 pub record IsTreeWithin (r : RegistersView) (tree : List ℕ) : Type 0 where

@@ -21,7 +21,12 @@ pub fn tree<A: Allocator>(registers: &Registers<A>, parent: Option<u16>, id: u16
 }
 
 /// Whether a machine comes in from `t` that may move, where `chosen` is the special one's.
-fn may_move<A: Allocator>(registers: &Registers<A>, tree: &TreeNeighbours, chosen: Option<u16>, t: u16) -> bool
+fn may_move<A: Allocator>(
+    registers: &Registers<A>,
+    tree: &TreeNeighbours,
+    chosen: Option<u16>,
+    t: u16,
+) -> bool
     requires { t < registers.now.ranges.nodes }
     ensures { result ≡ (is_on tree.now t && machine_may_move registers.now chosen t) }
 {
@@ -45,7 +50,11 @@ fn moved_value<A: Allocator>(registers: &Registers<A>, chosen: Option<u16>, t: u
 }
 
 /// Whether one of the machines may move.
-pub fn some_may_move<A: Allocator>(registers: &Registers<A>, tree: &TreeNeighbours, is_root: bool) -> bool
+pub fn some_may_move<A: Allocator>(
+    registers: &Registers<A>,
+    tree: &TreeNeighbours,
+    is_root: bool,
+) -> bool
     requires { IsTreeWithin registers.now tree.now }
     ensures { result ≡ list_any (machine_may_move registers.now (special is_root tree.now)) tree.now }
 {
@@ -64,11 +73,19 @@ pub fn ring_for<A: Allocator>(registers: &Registers<A>, tree: &TreeNeighbours, w
     ensures value { result ≡ (if is_on tree.now w then value_of registers.now (source_for tree.now w) else 0) }
     ensures below { result < registers.now.ranges.ring }
 {
-    if tree.contains(w) { registers.value(tree.source_for(w)) } else { 0 }
+    if tree.contains(w) {
+        registers.value(tree.source_for(w))
+    } else {
+        0
+    }
 }
 
 /// Moves each machine that may move. Each reads its own value and its own port's copy alone, so the order is no matter.
-pub fn move_machines<A: Allocator>(registers: &mut Registers<A>, tree: &TreeNeighbours, is_root: bool)
+pub fn move_machines<A: Allocator>(
+    registers: &mut Registers<A>,
+    tree: &TreeNeighbours,
+    is_root: bool,
+)
     requires { IsTreeWithin registers.old tree.now }
     ensures values { value_of registers.new ≡ values_moved registers.old tree.now (special is_root tree.now) }
     ensures rest { registers.new ≡ record registers.old { values = registers.new.values } }

@@ -33,8 +33,8 @@ pub struct Node<A: Allocator = Global> {
 
 impl<A: Allocator> Model for Node<A> {
     ghost use Rattle.node_core.specs.Machines.{is_node_privileged, payload_for};
-ghost use Rattle.node_core.specs.Step.{desk_done, item_fits, machines_moved, recomputed, taken, ticked};
-ghost use Rattle.node_core.specs.View.{NodeView, IsOwnInRange};
+    ghost use Rattle.node_core.specs.Step.{desk_done, item_fits, machines_moved, recomputed, taken, ticked};
+    ghost use Rattle.node_core.specs.View.{NodeView, IsOwnInRange};
 
     ghost Value = { NodeView };
 
@@ -353,7 +353,9 @@ impl<A: Allocator> Node<A> {
         ensures full { result.full ≡ is_none (state_of self.new).desk.lent }
     {
         let tree = tree(&self.registers, self.parent, self.id);
-        let act = self.desk.tick(some_may_move(&self.registers, &tree, self.is_root));
+        let act = self
+            .desk
+            .tick(some_may_move(&self.registers, &tree, self.is_root));
         let full = self.desk.lent().is_none();
         if full {
             move_machines(&mut self.registers, &tree, self.is_root);

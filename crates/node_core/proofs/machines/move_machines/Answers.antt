@@ -17,7 +17,7 @@ loop-place-preserved g c =
       | then-may_move w ↦
           rw w.registers-is
           (moved_one_more old now w.write_value.new.self c.args.tree.now c.special-chosen.result c.loop-place.place t c.requires.registers c.loop-place.invariant within here
-            w.if-may_move.ensures (w.write_value.ensures.value ∙ ap (λ x. at (value_of now) t x) w.moved_value-moved.ensures.value) w.write_value.ensures.rest)
+          w.if-may_move.ensures (w.write_value.ensures.value ∙ ap (λ x. at (value_of now) t x) w.moved_value-moved.ensures.value) w.write_value.ensures.rest)
       | else-may_move w ↦
           rw w.registers-is
           (stayed_one_more old now c.args.tree.now c.special-chosen.result c.loop-place.place t c.requires.registers c.loop-place.invariant within here w.if-may_move.ensures)

@@ -1,7 +1,6 @@
-use Rattle.std.proofs.Common.{◌≡◌, ◌∙◌, ap, ℕ, if◌then◌else◌}
+use Rattle.std.proofs.Common.{◌∙◌, ap, if◌then◌else◌}
 use Rattle.registers.specs.Registers.{value_of}
 use Rattle.euler_ring.specs.Cycle.{is_on, source_for}
-use Rattle.topology.specs.declared.frame.Payload.{Payload}
 use Rattle.node_core.proofs.node.Node.payload_for.Goals as goal
 
 pub returns-clause-payload : goal.returns-clause-payload

@@ -1,4 +1,4 @@
-use Rattle.std.proofs.Common.{ap, refl, rules}
+use Rattle.std.proofs.Common.{ap, refl}
 use Rattle.node_core.proofs.OwnRange.{new_distance-le, new_parent-fits}
 use Rattle.node_core.proofs.Same.{same_state}
 use Rattle.node_core.proofs.node.Node.recompute.Goals as goal

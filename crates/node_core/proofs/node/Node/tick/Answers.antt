@@ -1,4 +1,4 @@
-use Rattle.std.proofs.Common.{◌≡◌, ◌∙◌}
+use Rattle.std.proofs.Common.{◌∙◌}
 use Rattle.node_core.specs.Step.{desk_done, machines_moved}
 use Rattle.node_core.proofs.node.Node.tick.Goals as goal
 
