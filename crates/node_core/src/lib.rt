@@ -3,6 +3,7 @@
 mod machines;
 mod node;
 mod own;
+mod status;
 mod ticked;
 
 pub use node::Node;

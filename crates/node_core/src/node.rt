@@ -1,5 +1,5 @@
 //! One node.
-ghost use Rattle.std.specs.Prelude.{◌≡◌, ◌↔◌, ◌<◌, ◌≤◌, ℕ, Bool, true, false, not, List, IsTrue, IfOk, IfErr, IsOk, OnOk, OnErr, Some, None, is_none, Contains, length};
+ghost use Rattle.std.specs.Prelude.{◌≡◌, ◌↔◌, ◌<◌, ◌≤◌, ℕ, Bool, true, false, not, List, IsTrue, IfOk, IfErr, IsOk, OnOk, OnErr, Some, None, is_none, Contains, length, take, drop};
 ghost use Rattle.topology.specs.At.{at};
 ghost use Rattle.topology.specs.Ranges.{frame_fits, payload_fits, parent_fits, ranges_of};
 ghost use Rattle.data_link.specs.Port.{counters_fit, frame_of};
@@ -8,11 +8,14 @@ ghost use Rattle.node_core.specs.Site.{site_of};
 ghost use Rattle.node_core.specs.State.{IsNodeInRange, default_node, own_fits, with_port};
 ghost use Rattle.node_core.specs.Machines.{is_node_privileged, payload_for};
 ghost use Rattle.node_core.specs.Step.{desk_done, item_fits, machines_moved, recomputed, taken, ticked};
+ghost use Rattle.node_core.specs.Status.{status_line};
 ghost use Rattle.node_core.specs.View.{NodeView, site_in, state_of};
 
 use crate::machines::{move_machines, ring_for, some_may_move, tree};
 use crate::own::new_own;
+use crate::status::{push_number, push_number_or_none};
 use crate::ticked::Ticked;
+use arrayvec::ArrayString;
 use link_model::Item;
 use lock_desk::{AskFault, Desk, Stranger};
 use registers::{OutOfRange, Registers};
@@ -373,5 +376,26 @@ impl<A: Allocator> Node<A> {
     {
         self.recompute();
         self.serve()
+    }
+
+    /// Writes the node's status line, with its newline, to the front of `line` and says how many bytes it has; the rest stays as it was. The line is
+    /// `node V distance D parent P token T lent L waiting W`: T is `yes` where the node is privileged and else `no`, P and L may be `none`.
+    pub fn status(&self, line: &mut [u8; 96]) -> usize
+        ensures text { take result line.new ≡ status_line (site_in self.now) (state_of self.now) }
+        ensures rest { drop result line.new ≡ drop result line.old }
+        ensures within { result ≤ 96 }
+    {
+        let mut text = ArrayString::<96>::new();
+        push_number(&mut text, "node ", self.id);
+        push_number(&mut text, " distance ", self.distance);
+        push_number_or_none(&mut text, " parent ", self.parent);
+        text.push_str(" token ");
+        text.push_str(if self.privileged() { "yes" } else { "no" });
+        push_number_or_none(&mut text, " lent ", self.desk.lent());
+        push_number(&mut text, " waiting ", self.desk.waiting() as u16);
+        text.push_str("\n");
+        let count = text.len();
+        line[..count].copy_from_slice(text.as_bytes());
+        count
     }
 }

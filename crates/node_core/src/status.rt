@@ -1,0 +1,34 @@
+//! The line of text that shows a node.
+ghost use Rattle.std.specs.Prelude.{◌≡◌, ◌≤◌, ◌+◌, ◌++◌, length, decimal};
+ghost use Rattle.arrayvec.specs.ArrayString.{array_string_len};
+ghost use Rattle.node_core.specs.Status.{number_or_none};
+
+use arrayvec::ArrayString;
+use itoa::Buffer;
+
+
+/// Adds a name and a number.
+pub fn push_number(text: &mut ArrayString<96>, name: &str, number: u16)
+    requires { array_string_len text.old + length name.now + 5 ≤ 96 }
+    ensures bytes { text.new.bytes ≡ text.old.bytes ++ name.now ++ decimal number }
+    ensures short { array_string_len text.new ≤ array_string_len text.old + length name.now + 5 }
+{
+    text.push_str(name);
+    let mut digits = Buffer::new();
+    text.push_str(digits.format(number));
+}
+
+/// Adds a name, and a number or `none`.
+pub fn push_number_or_none(text: &mut ArrayString<96>, name: &str, number: Option<u16>)
+    requires { array_string_len text.old + length name.now + 5 ≤ 96 }
+    ensures bytes { text.new.bytes ≡ text.old.bytes ++ name.now ++ number_or_none number }
+    ensures short { array_string_len text.new ≤ array_string_len text.old + length name.now + 5 }
+{
+    match number {
+        Some(number) => push_number(text, name, number),
+        None => {
+            text.push_str(name);
+            text.push_str("none");
+        }
+    }
+}
