@@ -71,5 +71,5 @@ pub fn moments()
     ensures moves { MomentMoves }
     ensures visits { VisitsGoOn }
 {
-    lock_desk::laws::ranges_are_kept();
+    in_range();
 }
