@@ -1,0 +1,79 @@
+//! The line of one frame.
+ghost use Rattle.std.specs.Prelude.{◌≡◌, ◌≢◌, [], ◌∷◌, ◌++◌, IsTrue, IfSome, IfNone, Some};
+ghost use Rattle.topology.specs.Ranges.{ranges_of, frame_fits};
+ghost use Rattle.topology.specs.declared.frame.Frame.{Frame};
+ghost use Rattle.frame_codec.specs.Spelling.{spelling, newline};
+ghost use Rattle.frame_codec.specs.Reading.{candidate, frame_of, parent_of};
+
+use crate::digits::{digits, number_at};
+use topology::{Frame, Net, Payload, Ranges};
+
+/// What stands for no parent.
+const NO_PARENT: u16 = 0xffff;
+
+#[tactic(auto, unfolding(crate::specs::Spelling::spelling))]
+/// The line of a frame, with its newline.
+pub fn encode(frame: &Frame) -> [u8; 22]
+    ensures { result ≡ spelling frame.now ++ newline ∷ [] }
+{
+    let [a, b, c, d] = digits(frame.seq);
+    let [e, f, g, h] = digits(frame.ack);
+    let [i, j, k, l] = digits(frame.payload.distance);
+    let [m, n, o, p] = digits(frame.payload.parent.unwrap_or(NO_PARENT));
+    let [q, r, s, t] = digits(frame.payload.ring);
+    [
+        b'F', a, b, c, d, e, f, g, h, i, j, k, l, m, n, o, p, q, r, s, t, b'\n',
+    ]
+}
+
+/// The frame of a line without its newline: a frame exactly where the line is the frame's spelling and the frame is in range on the network.
+pub fn decode(line: &[u8], net: &Net) -> Option<Frame>
+    ensures found { IfSome result (λ f. (line.now ≡ spelling f) × IsTrue (frame_fits (ranges_of net.now) f)) }
+    ensures only { (f : Frame) → line.now ≡ spelling f → IsTrue (frame_fits (ranges_of net.now) f) → result ≡ Some f }
+    ensures exact { result ≡ frame_of (ranges_of net.now) line.now }
+{
+    read_line(line, &net.ranges())
+}
+
+/// The frame of a line, by the ranges of its fields.
+pub(crate) fn read_line(line: &[u8], ranges: &Ranges) -> Option<Frame>
+    ensures { result ≡ frame_of ranges.now line.now }
+{
+    let frame = spelled_frame(line)?;
+    if ranges.fits(&frame) {
+        Some(frame)
+    } else {
+        None
+    }
+}
+
+#[tactic(auto, unfolding(crate::specs::Spelling::spelling), using(crate::proofs::Readings::fields))]
+/// The frame that a line spells, in range or not.
+fn spelled_frame(line: &[u8]) -> Option<Frame>
+    ensures some { IfSome result (λ f. (line.now ≡ spelling f) × (f ≡ candidate line.now)) }
+    ensures none { IfNone result ((f : Frame) → line.now ≢ spelling f) }
+{
+    if line.len() != 21 || line[0] != b'F' {
+        return None;
+    }
+    Some(Frame {
+        seq: number_at(line, 1)?,
+        ack: number_at(line, 5)?,
+        payload: Payload {
+            distance: number_at(line, 9)?,
+            parent: parent_of(number_at(line, 13)?),
+            ring: number_at(line, 17)?,
+        },
+    })
+}
+
+/// The parent that a number stands for.
+fn parent_of(number: u16) -> Option<u16>
+    ensures { result ≡ parent_of number }
+{
+    if number == NO_PARENT {
+        None
+    } else {
+        Some(number)
+    }
+}
