@@ -1,12 +1,14 @@
 -- Laws of frame lines.
-use Rattle.std.specs.Prelude.{◌≡◌, ℕ, ◌^◌, ◌<◌, IsTrue, ◌↔◌, List, Some}
+use Rattle.std.specs.Prelude.{◌≡◌, ℕ, ◌^◌, ◌<◌, IsTrue, ◌↔◌, List, [], ◌∷◌, ◌++◌, flat_map, Some}
+use Rattle.std.specs.List.{AllByRecursion, concat}
 use Rattle.topology.specs.Ranges.{frame_fits}
 use Rattle.topology.specs.declared.frame.Frame.{Frame}
 use Rattle.topology.specs.declared.frame.Ranges.{Ranges}
-use Rattle.frame_codec.specs.Spelling.{spelling}
+use Rattle.frame_codec.specs.Spelling.{spelling, newline}
 use Rattle.frame_codec.specs.Reading.{frame_of}
+use Rattle.frame_codec.specs.Lines.{lines_after, half_after, good_lines, frames_of_pieces, HasNoNewline}
 
--- the ranges have 16 bits
+-- the ranges are numbers of 16 bits
 pub record AreNarrow (r : Ranges) : Type 0 where
   pub nodes : r.nodes < 2 ^ 16
   pub counter : r.counter < 2 ^ 16
@@ -16,3 +18,21 @@ pub record AreNarrow (r : Ranges) : Type 0 where
 abbrev pub OneReading : Type 0
 OneReading = (r : Ranges) → AreNarrow r → (line : List ℕ) (f : Frame)
     → (frame_of r line ≡ Some f) ↔ ((line ≡ spelling f) × IsTrue (frame_fits r f))
+
+-- a text is its lines, each with its newline, and then its half line, and no other newline stands in it
+pub record IsItsLines (text : List ℕ) : Type 0 where
+  pub whole : text ≡ flat_map (λ line. line ++ newline ∷ []) (lines_after [] text) ++ half_after [] text
+  pub lines : AllByRecursion HasNoNewline (lines_after [] text)
+  pub half : HasNoNewline (half_after [] text)
+
+abbrev pub TextIsItsLines : Type 0
+TextIsItsLines = (text : List ℕ) → IsItsLines text
+
+-- in whatever pieces a stream comes, a new reader gives the good lines of the whole
+abbrev pub AnyCutting : Type 0
+AnyCutting = (r : Ranges) (pieces : List (List ℕ)) → frames_of_pieces r [] pieces ≡ good_lines r (concat pieces)
+
+-- whatever stands before a newline, what follows is read as from the start
+abbrev pub JunkEndsAtNewline : Type 0
+JunkEndsAtNewline = (r : Ranges) (junk text : List ℕ)
+    → good_lines r (junk ++ newline ∷ text) ≡ good_lines r (junk ++ newline ∷ []) ++ good_lines r text

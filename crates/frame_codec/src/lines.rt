@@ -14,13 +14,16 @@ pub(crate) fn split_line(text: &[u8]) -> Option<(&[u8], &[u8])>
     ensures some { IfSome result (λ parts. (text.now ≡ parts.0.now ++ newline ∷ parts.1.now) × HasNoNewline parts.0.now) }
     ensures none { IfNone result (HasNoNewline text.now) }
 {
+    if let [b'\n', after @ ..] = text {
+        return Some((&[], after));
+    }
     match memchr(b'\n', text) {
         Some(end) => Some((&text[..end], &text[end + 1..])),
         None => None,
     }
 }
 
-#[tactic(auto, using(crate::proofs::Cutting::half_grows))]
+#[tactic(auto, using(crate::proofs::OneLine::half_grows))]
 /// Puts the good lines of a text into room that is there, and gives the half line that is left.
 pub(crate) fn read_lines<'a, A: Allocator>(
     text: &'a [u8],

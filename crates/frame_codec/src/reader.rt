@@ -4,7 +4,7 @@ ghost use Rattle.std.specs.Option.{option_to_list};
 ghost use Rattle.topology.specs.Ranges.{ranges_of};
 ghost use Rattle.topology.specs.declared.frame.Frame.{Frame};
 ghost use Rattle.frame_codec.specs.Reading.{frame_of};
-ghost use Rattle.frame_codec.specs.Lines.{frames_after, half_after, good_lines, kept, IsReadTo, HasNoNewline};
+ghost use Rattle.frame_codec.specs.Lines.{frames_after, half_after, good_lines, kept, ReadsOn};
 
 use crate::frame_line::read_line;
 use crate::lines::{put, read_lines, split_line};
@@ -45,19 +45,16 @@ impl LineReader {
     pub fn push(&mut self, byte: u8, net: &Net) -> Option<Frame>
         ensures frame { option_to_list result ≡ frames_after (ranges_of net.now) self.old (byte ∷ []) }
         ensures half { self.new ≡ kept (half_after self.old (byte ∷ [])) }
+        ensures any_cutting { ReadsOn (ranges_of net.now) self.old self.new (byte ∷ []) (option_to_list result) }
     {
-        if byte == b'\n' {
-            return self.end_line(&net.ranges());
-        }
-        self.keep(&[byte]);
-        None
+        self.read_byte(byte, &net.ranges())
     }
 
-    /// Forgets the line that has not ended.
+    /// Forgets the line that has not ended: what comes next is read as from the start.
     pub fn drop_half(&mut self)
         ensures { self.new ≡ [] }
     {
-        self.length = 0;
+        *self = LineReader::new();
     }
 
     /// Reads a piece of the stream, and puts the frames of the good lines that end in it at the end of `out`.
@@ -70,12 +67,25 @@ impl LineReader {
     ) -> Result<(), AllocError>
         ensures frames { OnOk result (out.new.items ≡ out.old.items ++ frames_after (ranges_of net.now) self.old piece.now) }
         ensures half { OnOk result (self.new ≡ kept (half_after self.old piece.now)) }
+        ensures any_cutting { OnOk result ((frames : List Frame) × (out.new.items ≡ out.old.items ++ frames) × ReadsOn (ranges_of net.now) self.old self.new piece.now frames) }
         ensures refused { OnErr result ((self.new ≡ self.old) × (out.new.items ≡ out.old.items)) }
         ensures refused_only { OnErr result (vec_capacity out.old < vec_len out.old + (length self.old + length piece.now) / 22) }
     {
         out.reserve(self.most_frames(piece))?;
         self.read(piece, &net.ranges(), out);
         Ok(())
+    }
+
+    /// Reads one byte.
+    fn read_byte(&mut self, byte: u8, ranges: &Ranges) -> Option<Frame>
+        ensures frame { option_to_list result ≡ frames_after ranges.now self.old (byte ∷ []) }
+        ensures half { self.new ≡ kept (half_after self.old (byte ∷ [])) }
+    {
+        if byte == b'\n' {
+            return self.end_line(ranges);
+        }
+        self.keep(&[byte]);
+        None
     }
 
     /// The most good lines that can end in a piece: each takes 22 bytes, of which the first may have some already.
@@ -85,7 +95,7 @@ impl LineReader {
         (self.length + piece.len()) / 22
     }
 
-    #[tactic(auto, using(crate::proofs::Cutting::half_step, crate::proofs::Cutting::no_frames, crate::proofs::Cutting::half_grows))]
+    #[tactic(auto, using(crate::proofs::OneLine::half_step, crate::proofs::OneLine::half_grows))]
     /// Reads a piece of the stream into room that is there.
     fn read<A: Allocator>(&mut self, piece: &[u8], ranges: &Ranges, out: &mut Vec<Frame, A>)
         requires { vec_len out.old + (length self.old + length piece.now) / 22 ≤ vec_capacity out.old }

@@ -1,8 +1,7 @@
-use Rattle.std.proofs.Common.{◌≡◌, ◌+◌, ◌/◌, ◌≤◌, [], ◌++◌, length, sym, ◌∙◌, ap, arith, append-nil, append_assoc}
-use Rattle.std.specs.Option.{option_len, option_to_list}
+use Rattle.std.proofs.Common.{◌≡◌, [], ◌++◌, refl, sym, ◌∙◌, arith, append-nil}
+use Rattle.std.specs.Option.{option_to_list}
 use Rattle.frame_codec.specs.Lines.{good_lines}
-use Rattle.frame_codec.specs.Reading.{frame_of}
-use Rattle.frame_codec.proofs.Cutting.{frames_step, half_step, room_step, no_frames}
+use Rattle.frame_codec.proofs.OneLine.{frames_step, half_step, room_step, no_frames, put_after}
 use Rattle.frame_codec.proofs.lines.read_lines.Goals as goal
 
 pub put-requires : goal.put-requires
@@ -19,12 +18,11 @@ loop-line-preserved g c =
     let after = c.in-Some.after.now in
     let rest = c.loop-line.rest.now in
     let room = room_step r [] line after rest whole one in
-    let frames : good_lines r rest ≡ option_to_list (frame_of r line) ++ good_lines r after = frames_step r [] line after rest whole one in
-    let placed : c.put.new.out.items ≡ c.loop-line.out.items ++ option_to_list (frame_of r line) =
-      c.put.ensures.items ∙ ap (λ read. c.loop-line.out.items ++ option_to_list read) c.read_line.ensures in
     record {
-      frames = rw placed (append_assoc c.loop-line.out.items (option_to_list (frame_of r line)) (good_lines r after)
-        ∙ ap (λ fs. c.loop-line.out.items ++ fs) (sym frames) ∙ c.loop-line.invariant.frames);
+      frames =
+          put_after c.loop-line.out.items c.put.new.out.items (c.put.new.out.items ++ good_lines r after) (option_to_list c.read_line.result)
+            (good_lines r after) (good_lines r rest) c.put.ensures.items refl (rw c.read_line.ensures (frames_step r [] line after rest whole one))
+          ∙ c.loop-line.invariant.frames;
       half = sym (half_step r [] line after rest whole one) ∙ c.loop-line.invariant.half;
       room = rw (c.put.ensures.room.0, c.put.ensures.room.1, c.read_line.ensures) (omega (arith, room, c.loop-line.invariant.room));
     }

@@ -1,6 +1,6 @@
 use Rattle.std.proofs.Common.{arith}
 use Rattle.std.proofs.lemmas.Grind.{common_steps}
-use Rattle.frame_codec.proofs.Cutting.{too_long_unread}
+use Rattle.frame_codec.proofs.TooLong.{too_long_unread}
 use Rattle.frame_codec.proofs.reader.LineReader.end_line.Goals.{then-self-gt21, else-self-gt21}
 use Rattle.frame_codec.proofs.reader.LineReader.end_line.Goals as goal
 

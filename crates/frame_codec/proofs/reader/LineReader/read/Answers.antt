@@ -2,7 +2,8 @@ use Rattle.std.proofs.Common.{◌≡◌, ◌+◌, ◌/◌, ◌≤◌, List, [], 
 use Rattle.std.specs.Option.{option_len, option_to_list}
 use Rattle.frame_codec.specs.Lines.{good_lines, frames_after, kept}
 use Rattle.frame_codec.specs.Reading.{frame_of}
-use Rattle.frame_codec.proofs.Cutting.{frames_step, room_step, no_frames, kept_frame, put_after}
+use Rattle.frame_codec.proofs.OneLine.{frames_step, room_step, no_frames, put_after}
+use Rattle.frame_codec.proofs.TooLong.{kept_frame}
 use Rattle.frame_codec.proofs.reader.LineReader.read.Goals as goal
 
 pub put-requires : goal.put-requires

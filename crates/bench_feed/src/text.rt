@@ -1,0 +1,75 @@
+//! The texts that are read.
+use frame_codec::encode;
+use rand_core::utils::NextWord;
+use rand_pcg::Pcg32;
+use std::alloc::{AllocError, Global};
+use topology::{Frame, Payload};
+
+/// What a text is made of.
+#[derive(Clone, Copy, Debug, PartialEq, Eq)]
+pub enum Kind {
+    /// Good lines.
+    Good,
+    /// Any bytes.
+    Noise,
+    /// Bytes with no newline among them.
+    Flat,
+    /// Newlines alone.
+    Empty,
+    /// Lines of one byte.
+    Short,
+}
+
+impl Kind {
+    /// The kind of that name.
+    pub fn named(name: &str) -> Option<Kind> {
+        match name {
+            "good" => Some(Kind::Good),
+            "noise" => Some(Kind::Noise),
+            "flat" => Some(Kind::Flat),
+            "empty" => Some(Kind::Empty),
+            "short" => Some(Kind::Short),
+            _ => None,
+        }
+    }
+}
+
+/// A text of that many times 22 bytes.
+pub fn make_text(alloc: Global, kind: Kind, lines: u32) -> Result<Vec<u8>, AllocError> {
+    let mut text = Vec::new(alloc);
+    let mut draws = Pcg32::new(1, 1);
+    for _ in 0..lines {
+        text.extend_from_slice(&any_bytes(kind, &mut draws))?;
+    }
+    Ok(text)
+}
+
+/// As many bytes as a line has.
+fn any_bytes(kind: Kind, draws: &mut Pcg32) -> [u8; 22] {
+    match kind {
+        Kind::Good => encode(&any_frame(draws.next_word())),
+        Kind::Noise => {
+            let mut bytes = [0; 22];
+            for byte in &mut bytes {
+                *byte = (draws.next_word() >> 24) as u8;
+            }
+            bytes
+        }
+        Kind::Flat => [b'F'; 22],
+        Kind::Empty => [b'\n'; 22],
+        Kind::Short => *b"F\nF\nF\nF\nF\nF\nF\nF\nF\nF\nF\n",
+    }
+}
+
+/// A frame in range on a line of three nodes with capacity 1.
+fn any_frame(draw: u32) -> Frame {
+    Frame {
+        seq: (draw % 5) as u16,
+        ack: (draw / 5 % 5) as u16,
+        payload: Payload {
+            distance: (draw / 25 % 4) as u16,
+            parent: if draw % 2 == 0 { None } else { Some(1) },
+            ring: (draw / 100 % 13) as u16,
+        },
+    }
+}
