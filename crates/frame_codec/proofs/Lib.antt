@@ -4,3 +4,4 @@ pub mod OneLine
 pub mod Cutting
 pub mod Pieces
 pub mod WholeText
+mod Rows

@@ -1,9 +1,8 @@
 -- A reader that gets a stream in pieces gives the good lines of the whole.
-use Rattle.std.proofs.Common.{◌≡◌, ◌≢◌, ℕ, ◌+◌, ◌/◌, ◌<◌, ◌≤◌, List, [], ◌∷◌, ◌++◌, length, Option, None, Some, refl, ap, sym, ◌∙◌, arith, append_assoc, append-nil, length-append, suc}
+use Rattle.std.proofs.Common.{◌≡◌, ℕ, List, [], ◌∷◌, ◌++◌, refl, ap, sym, ◌∙◌}
 use Rattle.std.specs.List.{concat}
-use Rattle.topology.specs.declared.frame.Frame.{Frame}
 use Rattle.topology.specs.declared.frame.Ranges.{Ranges}
-use Rattle.frame_codec.specs.Lines.{half_after, frames_after, good_lines, kept, IsReadTo, ReadsOn, frames_of_pieces}
+use Rattle.frame_codec.specs.Lines.{half_after, frames_after, good_lines, kept, ReadsOn, frames_of_pieces}
 use Rattle.frame_codec.proofs.Cutting.{half_cut, frames_cut}
 use Rattle.frame_codec.proofs.TooLong.{kept_frames, kept_half}
 
@@ -12,9 +11,9 @@ pub reads_on : (r : Ranges) (old new piece : List ℕ) → new ≡ kept (half_af
 reads_on r old new piece is text read =
     let half = half_after [] text in
     let then_kept : new ≡ kept (half_after [] (text ++ piece)) =
-      is ∙ ap (λ h. kept (half_after h piece)) read ∙ kept_half r half piece ∙ ap kept (sym (half_cut [] text piece)) in
+    is ∙ ap (λ h. kept (half_after h piece)) read ∙ kept_half r half piece ∙ ap kept (sym (half_cut [] text piece)) in
     let then_frames : frames_after r half piece ≡ frames_after r old piece =
-      sym (kept_frames r half piece) ∙ ap (λ h. frames_after r h piece) (sym read) in
+    sym (kept_frames r half piece) ∙ ap (λ h. frames_after r h piece) (sym read) in
     (then_kept, frames_cut r [] text piece ∙ ap (λ fs. good_lines r text ++ fs) then_frames)
 
 -- a stream in pieces

@@ -1,16 +1,15 @@
 -- A line is read as a frame exactly where it is the frame's spelling and the frame is in range.
-use Rattle.std.proofs.Common.{◌≡◌, ◌≢◌, ℕ, ◌+◌, ◌*◌, ◌/◌, ◌%◌, ◌^◌, ◌<◌, ◌≤◌, ◌&&◌, Bool, true, false, List, [], ◌∷◌, ◌++◌, length, take, drop, slice_index, Option, None, Some, IfSome, IsTrue, refl, ap, sym, ◌∙◌, arith, rules, append_assoc, nat_lt, if◌then◌else◌}
+use Rattle.std.proofs.Common.{◌≡◌, ◌≢◌, ℕ, ◌+◌, ◌*◌, ◌/◌, ◌%◌, ◌^◌, ◌<◌, ◌&&◌, Bool, true, List, ◌∷◌, ◌++◌, length, take, drop, slice_index, Option, None, Some, IfSome, IsTrue, refl, ap, sym, ◌∙◌, arith, if◌then◌else◌}
 use Rattle.std.proofs.lemmas.Grind.{common_steps}
 use Rattle.std.proofs.lemmas.Slice.Eq.{bytes_eq-Decides}
 use Rattle.std.proofs.lemmas.List.{take-append-drop, drop-drop}
 use Rattle.std.specs.Str.{bytes_eq}
-use Rattle.topology.specs.Ranges.{frame_fits, payload_fits, parent_fits}
+use Rattle.topology.specs.Ranges.{frame_fits, parent_fits}
 use Rattle.topology.specs.declared.frame.Frame.{Frame}
-use Rattle.topology.specs.declared.frame.Payload.{Payload}
 use Rattle.topology.specs.declared.frame.Ranges.{Ranges}
-use Rattle.frame_codec.specs.Spelling.{digit, digits, parent_number, spelling}
+use Rattle.frame_codec.specs.Spelling.{digit, parent_number, spelling}
 use Rattle.frame_codec.specs.Laws.{AreNarrow}
-use Rattle.frame_codec.specs.Reading.{digit_value, number_from, parent_of, candidate, frame_of}
+use Rattle.frame_codec.specs.Reading.{digit_value, parent_of, candidate, frame_of}
 
 module _ (line : List ℕ) where
   -- the field from an index on, and what follows it
@@ -24,7 +23,7 @@ module _ (line : List ℕ) where
       let first : line ≡ slice_index line 0 ∷ drop 1 line = grind (arith, common_steps) in
       let last : drop 17 line ≡ take 4 (drop 17 line) = grind (arith, common_steps) in
       first ∙ ap (λ xs. slice_index line 0 ∷ xs) (cut 1 ∙ ap (λ xs. take 4 (drop 1 line) ++ xs) (cut 5 ∙ ap (λ xs. take 4 (drop 5 line) ++ xs)
-        (cut 9 ∙ ap (λ xs. take 4 (drop 9 line) ++ xs) (cut 13 ∙ ap (λ xs. take 4 (drop 13 line) ++ xs) last))))
+      (cut 9 ∙ ap (λ xs. take 4 (drop 9 line) ++ xs) (cut 13 ∙ ap (λ xs. take 4 (drop 13 line) ++ xs) last))))
 
 -- the value of a digit
 value_of : (d : ℕ) → d < 16 → digit_value (digit d) ≡ d
@@ -36,7 +35,7 @@ number_of : (n : ℕ) → n < 2 ^ 16 →
     + 16 * digit_value (digit (n / 16 % 16)) + digit_value (digit (n % 16)) ≡ n
 number_of n h =
     rw (value_of (n / 4096 % 16) (omega arith), value_of (n / 256 % 16) (omega arith), value_of (n / 16 % 16) (omega arith), value_of (n % 16) (omega arith))
-      (omega arith)
+    (omega arith)
 
 pub number_again : (n : ℕ) → parent_number (parent_of n) ≡ n
 number_again n = grind (arith, common_steps)
@@ -94,9 +93,9 @@ reads r narrow line f e fits =
     let c = narrow.counter in
     let x = narrow.ring in
     let parent : (parent_number f.payload.parent < 2 ^ 16) × (parent_of (parent_number f.payload.parent) ≡ f.payload.parent)
-      = parent_back r.nodes f.payload.parent n (grind arith) in
+    = parent_back r.nodes f.payload.parent n (grind arith) in
     let back : candidate (spelling f) ≡ f =
-      candidate_of f.seq f.ack f.payload.distance f.payload.ring f.payload.parent (grind arith) (grind arith) (grind arith) (grind arith) parent.0 parent.1 in
+    candidate_of f.seq f.ack f.payload.distance f.payload.ring f.payload.parent (grind arith) (grind arith) (grind arith) (grind arith) parent.0 parent.1 in
     rw (read_as r line f e (sym back ∙ ap candidate (sym e)), fits) refl
 
 pub found : (r : Ranges) (line : List ℕ) (read : Option Frame) → read ≡ frame_of r line

@@ -1,9 +1,9 @@
 -- A half line that is too long for a frame begins no good line, whichever bytes it has.
-use Rattle.std.proofs.Common.{◌≡◌, ◌≢◌, ℕ, ◌+◌, ◌/◌, ◌<◌, ◌≤◌, List, [], ◌∷◌, ◌++◌, length, Option, None, Some, refl, ap, sym, ◌∙◌, arith, append_assoc, append-nil, length-append, suc}
+use Rattle.std.proofs.Common.{◌≡◌, ℕ, ◌<◌, List, [], ◌∷◌, ◌++◌, length, Option, None, Some, refl, ap, sym, ◌∙◌, arith}
 use Rattle.std.proofs.lemmas.Grind.{common_steps}
 use Rattle.topology.specs.declared.frame.Frame.{Frame}
 use Rattle.topology.specs.declared.frame.Ranges.{Ranges}
-use Rattle.frame_codec.specs.Spelling.{spelling, newline}
+use Rattle.frame_codec.specs.Spelling.{spelling}
 use Rattle.frame_codec.specs.Reading.{frame_of}
 use Rattle.frame_codec.specs.Lines.{half_after, frames_after, too_long, kept}
 use Rattle.frame_codec.proofs.Readings.{spells}
@@ -38,8 +38,13 @@ module _ (r : Ranges) where
   long_frames : (half other text : List ℕ) → 21 < length half → 21 < length other → frames_after r half text ≡ frames_after r other text
   long_frames half other [] h o = refl
   long_frames half other (b ∷ text) h o =
-      grind (arith, common_steps, too_long_unread r half h, too_long_unread r other o,
-        long_frames (half ++ b ∷ []) (other ++ b ∷ []) text (longer half b h) (longer other b o))
+      grind (
+        arith,
+        common_steps,
+        too_long_unread r half h,
+        too_long_unread r other o,
+        long_frames (half ++ b ∷ []) (other ++ b ∷ []) text (longer half b h) (longer other b o),
+      )
 
   long_half : (half other text : List ℕ) → 21 < length half → 21 < length other → kept (half_after half text) ≡ kept (half_after other text)
   long_half half other [] h o = grind (arith, common_steps)

@@ -11,19 +11,20 @@ use topology::{Frame, Net, Payload, Ranges};
 /// What stands for no parent.
 const NO_PARENT: u16 = 0xffff;
 
-#[tactic(auto, unfolding(crate::specs::Spelling::spelling))]
 /// The line of a frame, with its newline.
+#[tactic(auto, unfolding(crate::specs::Spelling::spelling))]
 pub fn encode(frame: &Frame) -> [u8; 22]
     ensures { result ≡ spelling frame.now ++ newline ∷ [] }
 {
-    let [a, b, c, d] = digits(frame.seq);
-    let [e, f, g, h] = digits(frame.ack);
-    let [i, j, k, l] = digits(frame.payload.distance);
-    let [m, n, o, p] = digits(frame.payload.parent.unwrap_or(NO_PARENT));
-    let [q, r, s, t] = digits(frame.payload.ring);
-    [
-        b'F', a, b, c, d, e, f, g, h, i, j, k, l, m, n, o, p, q, r, s, t, b'\n',
-    ]
+    let parent = frame.payload.parent.unwrap_or(NO_PARENT);
+    let mut line = [b'\n'; 22];
+    line[0] = b'F';
+    line[1..5].copy_from_slice(&digits(frame.seq));
+    line[5..9].copy_from_slice(&digits(frame.ack));
+    line[9..13].copy_from_slice(&digits(frame.payload.distance));
+    line[13..17].copy_from_slice(&digits(parent));
+    line[17..21].copy_from_slice(&digits(frame.payload.ring));
+    line
 }
 
 /// The frame of a line without its newline: a frame exactly where the line is the frame's spelling and the frame is in range on the network.
@@ -47,8 +48,8 @@ pub(crate) fn read_line(line: &[u8], ranges: &Ranges) -> Option<Frame>
     }
 }
 
-#[tactic(auto, unfolding(crate::specs::Spelling::spelling), using(crate::proofs::Readings::fields))]
 /// The frame that a line spells, in range or not.
+#[tactic(auto, unfolding(crate::specs::Spelling::spelling), using(crate::proofs::Readings::fields))]
 fn spelled_frame(line: &[u8]) -> Option<Frame>
     ensures some { IfSome result (λ f. (line.now ≡ spelling f) × (f ≡ candidate line.now)) }
     ensures none { IfNone result ((f : Frame) → line.now ≢ spelling f) }

@@ -22,9 +22,5 @@ pub fn decode_hello(line: &[u8], net: &Net) -> Option<u16>
         return None;
     }
     let id = number_at(line, 1)?;
-    if id < net.nodes() {
-        Some(id)
-    } else {
-        None
-    }
+    if id < net.nodes() { Some(id) } else { None }
 }

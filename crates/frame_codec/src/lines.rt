@@ -23,8 +23,8 @@ pub(crate) fn split_line(text: &[u8]) -> Option<(&[u8], &[u8])>
     }
 }
 
-#[tactic(auto, using(crate::proofs::OneLine::half_grows))]
 /// Puts the good lines of a text into room that is there, and gives the half line that is left.
+#[tactic(auto, using(crate::proofs::OneLine::half_grows))]
 pub(crate) fn read_lines<'a, A: Allocator>(
     text: &'a [u8],
     ranges: &Ranges,

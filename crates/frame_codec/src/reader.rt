@@ -95,8 +95,8 @@ impl LineReader {
         (self.length + piece.len()) / 22
     }
 
-    #[tactic(auto, using(crate::proofs::OneLine::half_step, crate::proofs::OneLine::half_grows))]
     /// Reads a piece of the stream into room that is there.
+    #[tactic(auto, using(crate::proofs::OneLine::half_step, crate::proofs::OneLine::half_grows))]
     fn read<A: Allocator>(&mut self, piece: &[u8], ranges: &Ranges, out: &mut Vec<Frame, A>)
         requires { vec_len out.old + (length self.old + length piece.now) / 22 ≤ vec_capacity out.old }
         ensures frames { out.new.items ≡ out.old.items ++ frames_after ranges.now self.old piece.now }

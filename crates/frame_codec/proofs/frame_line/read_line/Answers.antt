@@ -1,5 +1,4 @@
-use Rattle.std.proofs.Common.{rules, arith, sym, ◌∙◌, refl}
-use Rattle.std.proofs.lemmas.Grind.{common_steps}
+use Rattle.std.proofs.Common.{sym, ◌∙◌, refl}
 use Rattle.frame_codec.proofs.Readings.{unread, read_as}
 use Rattle.frame_codec.proofs.frame_line.read_line.Goals as goal
 

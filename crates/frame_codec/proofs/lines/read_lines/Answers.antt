@@ -21,7 +21,7 @@ loop-line-preserved g c =
     record {
       frames =
           put_after c.loop-line.out.items c.put.new.out.items (c.put.new.out.items ++ good_lines r after) (option_to_list c.read_line.result)
-            (good_lines r after) (good_lines r rest) c.put.ensures.items refl (rw c.read_line.ensures (frames_step r [] line after rest whole one))
+          (good_lines r after) (good_lines r rest) c.put.ensures.items refl (rw c.read_line.ensures (frames_step r [] line after rest whole one))
           ∙ c.loop-line.invariant.frames;
       half = sym (half_step r [] line after rest whole one) ∙ c.loop-line.invariant.half;
       room = rw (c.put.ensures.room.0, c.put.ensures.room.1, c.read_line.ensures) (omega (arith, room, c.loop-line.invariant.room));
@@ -31,5 +31,5 @@ pub returns-clause-frames : goal.returns-clause-frames
 returns-clause-frames g c =
     let none = no_frames c.args.ranges.now [] c.loop-line.rest.now c.in_default.ensures.none in
     let last : c.loop-line.out.items ++ [] ≡ c.args.out.now.items ++ good_lines c.args.ranges.now c.args.text.now =
-      rw none at c.loop-line.invariant.frames in
+    rw none at c.loop-line.invariant.frames in
     sym (append-nil c.loop-line.out.items) ∙ last

@@ -7,7 +7,8 @@ abbrev pub invariant-loop-line : goal.invariant-loop-line
 invariant-loop-line g l = record {
   frames : l.out.items ++ good_lines l.ranges l.rest ≡ l.fn.out.items ++ good_lines l.ranges l.fn.text;
   half : half_after [] l.rest ≡ half_after [] l.fn.text;
-  room : vec_len l.out + length l.rest / 22 ≤ vec_capacity l.out }
+  room : vec_len l.out + length l.rest / 22 ≤ vec_capacity l.out;
+}
 
 abbrev pub decreases-loop-line : goal.decreases-loop-line
 decreases-loop-line g l = length l.rest

@@ -8,6 +8,8 @@ pub returns-clause-any_cutting : goal.returns-clause-any_cutting
 returns-clause-any_cutting g c =
     let r = ranges_of c.args.net.now in
     let reader = c.args.self.now in
-    let piece = c.args.piece.now in
-    (frames_after r reader piece, rw (c.read.ensures.frames, c.reserve.ensures.items, c.ranges-2.ensures) refl,
-     reads_on r reader c.read.new.self piece c.read.ensures.half)
+    let piece = c.args.piece.now in (
+      frames_after r reader piece,
+      rw (c.read.ensures.frames, c.reserve.ensures.items, c.ranges-2.ensures) refl,
+      reads_on r reader c.read.new.self piece c.read.ensures.half,
+    )

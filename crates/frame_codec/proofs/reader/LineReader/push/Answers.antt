@@ -1,6 +1,5 @@
-use Rattle.std.proofs.Common.{◌≡◌, [], ◌∷◌, ◌∙◌, ap}
+use Rattle.std.proofs.Common.{[], ◌∷◌}
 use Rattle.topology.specs.Ranges.{ranges_of}
-use Rattle.frame_codec.specs.Lines.{frames_after}
 use Rattle.frame_codec.proofs.Pieces.{reads_on}
 use Rattle.frame_codec.proofs.reader.LineReader.push.Goals as goal
 

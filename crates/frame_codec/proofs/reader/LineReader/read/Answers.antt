@@ -1,6 +1,6 @@
-use Rattle.std.proofs.Common.{◌≡◌, ◌+◌, ◌/◌, ◌≤◌, List, [], ◌++◌, length, sym, ◌∙◌, ap, arith, append-nil, append_assoc}
-use Rattle.std.specs.Option.{option_len, option_to_list}
-use Rattle.frame_codec.specs.Lines.{good_lines, frames_after, kept}
+use Rattle.std.proofs.Common.{◌≡◌, ◌++◌, sym, ◌∙◌, ap, arith, append-nil}
+use Rattle.std.specs.Option.{option_to_list}
+use Rattle.frame_codec.specs.Lines.{good_lines, frames_after}
 use Rattle.frame_codec.specs.Reading.{frame_of}
 use Rattle.frame_codec.proofs.OneLine.{frames_step, room_step, no_frames, put_after}
 use Rattle.frame_codec.proofs.TooLong.{kept_frame}
@@ -26,10 +26,10 @@ returns-in-Some-clause-frames g c =
     let line = c.in-Some.line.now in
     let rest = c.in-Some.rest.now in
     let read : c.end_line.result ≡ frame_of r (half ++ line) =
-      c.end_line.ensures.frame ∙ ap (frame_of r) c.keep.ensures ∙ kept_frame r (half ++ line) in
+    c.end_line.ensures.frame ∙ ap (frame_of r) c.keep.ensures ∙ kept_frame r (half ++ line) in
     put_after c.args.out.now.items c.put.new.out.items c.read_lines-half.new.out.items (option_to_list c.end_line.result) (good_lines r rest)
-      (frames_after r half c.args.piece.now) c.put.ensures.items c.read_lines-half.ensures.frames
-      (rw read (frames_step r half line rest c.args.piece.now whole one))
+    (frames_after r half c.args.piece.now) c.put.ensures.items c.read_lines-half.ensures.frames
+    (rw read (frames_step r half line rest c.args.piece.now whole one))
 
 pub returns-in-None-clause-frames : goal.returns-in-None-clause-frames
 returns-in-None-clause-frames g c =

@@ -1,0 +1,103 @@
+-- Lines that are frames, lines that are none, and a stream that a reader takes apart.
+use Rattle.std.proofs.Common.{◌≡◌, ℕ, codes, List, [], ◌∷◌, ◌++◌, Option, None, Some, refl}
+use Rattle.topology.specs.Ranges.{ranges_of}
+use Rattle.topology.specs.declared.frame.Frame.{Frame}
+use Rattle.topology.specs.declared.frame.Ranges.{Ranges}
+use Rattle.frame_codec.specs.Spelling.{spelling, hello, newline}
+use Rattle.frame_codec.specs.Reading.{frame_of}
+use Rattle.frame_codec.specs.Lines.{lines_after, half_after, good_lines, frames_of_pieces, kept, too_long}
+
+abbrev frame : ℕ → ℕ → ℕ → Option ℕ → ℕ → Frame
+frame seq ack distance parent ring = record { seq = seq; ack = ack; payload = record { distance = distance; parent = parent; ring = ring } }
+
+-- on a line of three nodes with capacity 1 the counters are below 5 and the ring values below 13
+abbrev line : Ranges
+line = ranges_of (record { nodes = 3; root = 0; capacity = 1; lease = 0; edges = (0, 1) ∷ (1, 2) ∷ [] })
+
+-- on 64 nodes with capacity 4096 the counters are below 8195 and the ring values below 379
+abbrev large : Ranges
+large = record { nodes = 64; counter = 8195; ring = 379 }
+
+abbrev first : Frame
+first = frame 0 0 1 (Some 0) 12
+
+spelled : spelling first ≡ codes "F0000000000010000000c"
+unfolding spelling
+spelled = refl
+
+is_read : frame_of line (codes "F0000000000010000000c") ≡ Some first
+unfolding frame_of spelling
+is_read = refl
+
+no_parent : frame_of line (codes "F000400030000ffff0000") ≡ Some (frame 4 3 0 None 0)
+unfolding frame_of spelling
+no_parent = refl
+
+greatest : frame_of large (codes "F200220020040003f017a") ≡ Some (frame 8194 8194 64 (Some 63) 378)
+unfolding frame_of spelling
+greatest = refl
+
+-- each of these breaks one rule
+ring_value_13 : frame_of line (codes "F0000000000010000000d") ≡ None
+unfolding frame_of spelling
+ring_value_13 = refl
+
+upper_case : frame_of line (codes "F0000000000010000000C") ≡ None
+unfolding frame_of spelling
+upper_case = refl
+
+number_5 : frame_of line (codes "F00050000000100000000") ≡ None
+unfolding frame_of spelling
+number_5 = refl
+
+distance_4 : frame_of line (codes "F00000000000400000000") ≡ None
+unfolding frame_of spelling
+distance_4 = refl
+
+parent_3 : frame_of line (codes "F00000000000000030000") ≡ None
+unfolding frame_of spelling
+parent_3 = refl
+
+small_letter : frame_of line (codes "f0000000000010000000c") ≡ None
+unfolding frame_of spelling
+small_letter = refl
+
+number_8195 : frame_of large (codes "F200320020040003f017a") ≡ None
+unfolding frame_of spelling
+number_8195 = refl
+
+empty_line : frame_of line [] ≡ None
+unfolding frame_of spelling
+empty_line = refl
+
+carriage_return : frame_of line (codes "F0000000000010000000c" ++ 13 ∷ []) ≡ None
+unfolding frame_of spelling
+carriage_return = refl
+
+-- junk spoils the line that it joins, and no other
+abbrev stream : List ℕ
+stream = codes "xyzF0000000000010000000c" ++ newline ∷ (codes "F0000000000010000000c" ++ newline ∷ [])
+
+one_good_line : good_lines line stream ≡ first ∷ []
+unfolding frame_of spelling
+one_good_line = refl
+
+half_line : good_lines line (codes "F0000000000010000000c") ≡ []
+half_line = refl
+
+lines : lines_after (codes "ab") (codes "c" ++ newline ∷ codes "d") ≡ codes "abc" ∷ []
+lines = refl
+
+half : half_after (codes "ab") (codes "c" ++ newline ∷ codes "d") ≡ codes "d"
+half = refl
+
+-- of 22 bytes a reader keeps no more than that they are too many
+too_many : kept (codes "F0000000000010000000cF") ≡ too_long
+too_many = refl
+
+in_two_pieces : frames_of_pieces line [] (codes "F00000000000" ∷ (codes "10000000c" ++ newline ∷ []) ∷ []) ≡ first ∷ []
+unfolding frame_of spelling
+in_two_pieces = refl
+
+spelled_hello : hello 2 ≡ codes "H0002"
+spelled_hello = refl

@@ -1,0 +1,166 @@
+use crate::*;
+use linked_list_allocator::LocalHeap;
+use std::alloc::{AllocError, Global};
+use std::test::Fail;
+use topology::{Frame, Net, NetFault, Payload};
+
+/// Three nodes in a line, with capacity 1: counters are below 5 and ring values below 13.
+fn line_of_three(alloc: Global) -> Result<Net, NetFault> {
+    Net::make(alloc, 3, 0, 1, 0, &[(0, 1), (1, 2)])
+}
+
+/// Node 0 with 63 neighbours, with capacity 4096.
+fn star_of_64(alloc: Global) -> Result<Net, Fail> {
+    let mut edges = Vec::new(alloc);
+    for leaf in 1..64i64 {
+        edges.push((0i64, leaf))?;
+    }
+    Ok(Net::make(alloc, 64, 0, 4096, 0, &edges)?)
+}
+
+fn frame(seq: u16, ack: u16, distance: u16, parent: Option<u16>, ring: u16) -> Frame {
+    Frame {
+        seq,
+        ack,
+        payload: Payload {
+            distance,
+            parent,
+            ring,
+        },
+    }
+}
+
+/// A line of junk that a good line joins, and then a good line.
+const STREAM: &[u8; 47] = b"xyzF0000000000010000000c\nF0000000000010000000c\n";
+
+#[test]
+fn lines_of_three_nodes(rt: HostRuntime) -> Result<(), Fail> {
+    let net = line_of_three(rt.alloc())?;
+    let first = frame(0, 0, 1, Some(0), 12);
+    assert_eq!(rt; &encode(&first), b"F0000000000010000000c\n");
+    assert_eq!(rt; decode(b"F0000000000010000000c", &net), Some(first));
+    let second = frame(4, 3, 0, None, 0);
+    assert_eq!(rt; &encode(&second), b"F000400030000ffff0000\n");
+    assert_eq!(rt; decode(b"F000400030000ffff0000", &net), Some(second));
+    Ok(())
+}
+
+#[test]
+fn lines_that_are_noise(rt: HostRuntime) -> Result<(), Fail> {
+    let net = line_of_three(rt.alloc())?;
+    let lines: [&[u8]; 10] = [
+        b"F0000000000010000000d",
+        b"F0000000000010000000C",
+        b"F00050000000100000000",
+        b"F00000000000400000000",
+        b"F00000000000000030000",
+        b"f0000000000010000000c",
+        b"F0000000000010000000c\r",
+        b"F0000000000010000000",
+        b"F0000000000010000000c0",
+        b"",
+    ];
+    for (at, line) in lines.iter().enumerate() {
+        assert_eq!(rt; decode(line, &net), None, "line {at}");
+    }
+    Ok(())
+}
+
+#[test]
+fn each_field_at_its_greatest(rt: HostRuntime) -> Result<(), Fail> {
+    let net = star_of_64(rt.alloc())?;
+    let greatest = frame(8194, 8194, 64, Some(63), 378);
+    assert_eq!(rt; &encode(&greatest), b"F200220020040003f017a\n");
+    assert_eq!(rt; decode(b"F200220020040003f017a", &net), Some(greatest));
+    assert_eq!(rt; decode(b"F200320020040003f017a", &net), None);
+    Ok(())
+}
+
+#[test]
+fn hellos(rt: HostRuntime) -> Result<(), Fail> {
+    let net = line_of_three(rt.alloc())?;
+    assert_eq!(rt; &encode_hello(2), b"H0002\n");
+    assert_eq!(rt; decode_hello(b"H0002", &net), Some(2));
+    let others: [&[u8]; 4] = [b"H0003", b"H002", b"h0002", b""];
+    for (at, line) in others.iter().enumerate() {
+        assert_eq!(rt; decode_hello(line, &net), None, "line {at}");
+    }
+    Ok(())
+}
+
+#[test]
+fn every_cut_gives_the_same_frame(rt: HostRuntime) -> Result<(), Fail> {
+    let net = line_of_three(rt.alloc())?;
+    for cut in 0..=STREAM.len() {
+        let (front, back) = STREAM.split_at(cut);
+        let mut reader = LineReader::new();
+        let mut frames = Vec::new(rt.alloc());
+        reader.feed(front, &net, &mut frames)?;
+        reader.feed(back, &net, &mut frames)?;
+        assert_eq!(rt;
+            frames.as_slice(),
+            [frame(0, 0, 1, Some(0), 12)].as_slice(),
+            "cut at {cut}"
+        );
+    }
+    Ok(())
+}
+
+#[test]
+fn bytes_one_by_one(rt: HostRuntime) -> Result<(), Fail> {
+    let net = line_of_three(rt.alloc())?;
+    let mut reader = LineReader::new();
+    for (at, byte) in STREAM.iter().enumerate() {
+        let read = reader.push(*byte, &net);
+        assert_eq!(rt; read.is_some(), at == 46, "byte {at}");
+    }
+    Ok(())
+}
+
+#[test]
+fn a_dropped_half_line_spoils_nothing(rt: HostRuntime) -> Result<(), Fail> {
+    let net = line_of_three(rt.alloc())?;
+    let mut reader = LineReader::new();
+    let mut frames = Vec::new(rt.alloc());
+    reader.feed(b"F000000000", &net, &mut frames)?;
+    reader.drop_half();
+    reader.feed(b"0010000000c\nF0000000000010000000c\n", &net, &mut frames)?;
+    assert_eq!(rt; frames.as_slice(), [frame(0, 0, 1, Some(0), 12)].as_slice());
+    Ok(())
+}
+
+#[test]
+fn a_refused_growth_reads_nothing(rt: HostRuntime) -> Result<(), Fail> {
+    let net = line_of_three(rt.alloc())?;
+    let mut refused = 0u32;
+    for units in 1..100usize {
+        let heap = LocalHeap::new(rt.alloc(), units * 16)?;
+        let mut frames = Vec::new(&heap);
+        let mut reader = LineReader::new();
+        reader.feed(b"F00000000", &net, &mut frames)?;
+        match reader.feed(b"00010000000c\nF000400030000ffff0000\n", &net, &mut frames) {
+            Ok(()) => {
+                let both = [frame(0, 0, 1, Some(0), 12), frame(4, 3, 0, None, 0)];
+                assert_eq!(rt; frames.as_slice(), both.as_slice());
+                assert!(rt; refused > 0);
+                return Ok(());
+            }
+            Err(AllocError) => {
+                refused = refused.wrapping_add(1);
+                assert!(rt; frames.is_empty());
+                let mut ample = Vec::new(rt.alloc());
+                reader.feed(b"00010000000c\n", &net, &mut ample)?;
+                assert_eq!(rt; ample.as_slice(), [frame(0, 0, 1, Some(0), 12)].as_slice());
+            }
+        }
+    }
+    panic!(rt; "always refused")
+}
+
+#[test]
+fn the_laws_are_called(_rt: HostRuntime) {
+    laws::one_reading();
+    laws::text_is_its_lines();
+    laws::any_cutting();
+    laws::junk_ends_at_newline();
+}
