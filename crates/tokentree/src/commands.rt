@@ -1,4 +1,7 @@
 //! The command line.
+ghost use Rattle.std.specs.Prelude.{◌≡◌};
+ghost use Rattle.std.specs.Process.{exit_status};
+
 use crate::bound;
 use crate::fault::Fault;
 use clap::{Arg, ArgAction, Command};
@@ -84,7 +87,9 @@ pub fn run_words<R: Files + Print + Eprint + AllocGlobal, S: AsStr>(
 }
 
 /// Shows a fault, and ends with status 1.
-fn fails<R: Eprint>(rt: &R, fault: Fault) -> ExitCode {
+fn fails<R: Eprint>(rt: &R, fault: Fault) -> ExitCode
+    ensures { exit_status result ≡ 1 }
+{
     let _ = eprintln!(rt; "tokentree: {fault}");
     ExitCode::FAILURE
 }

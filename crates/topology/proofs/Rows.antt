@@ -1,13 +1,13 @@
 -- Small networks for which the definitions give what one sees on paper, and some that they refuse.
-use Rattle.std.proofs.Common.{◌≡◌, ℕ, ◌<◌, ◌∷◌, [], List, refl, arith, rules, true, false, pos, ℤ, zero, suc, inl, inr}
+use Rattle.std.proofs.Common.{◌≡◌, ℕ, ◌∷◌, [], List, refl, arith, true, false, pos, ℤ, zero, suc, inl, inr}
 use Rattle.std.specs.Prelude.{Option, Some, None, negsuc, All, ◌⊎◌}
 use Rattle.std.proofs.lemmas.Bool.Decides.{nat_tests}
-use Rattle.toml.specs.Data.{Items, no_items, item, integer, boolean}
+use Rattle.toml.specs.Data.{no_items, item, integer, boolean}
 use Rattle.topology.specs.declared.frame.Payload.{Payload}
 use Rattle.topology.specs.declared.frame.Frame.{Frame}
 use Rattle.topology.specs.declared.fault.NetFault.TheVariants.{TooSmall, TooBig, BadRoot, BadCapacity, BadLease, BadEdge, LoopEdge, DoubleEdge}
 use Rattle.topology.specs.At.{at}
-use Rattle.topology.specs.Network.{Network, Edge, are_joined, neighbours_of, IsWalk, IsDistance, IsConnected, IsEdgeBelow, IsAcceptedNetwork, counter_of, ring_of, bound_of}
+use Rattle.topology.specs.Network.{Network, neighbours_of, IsWalk, IsConnected, IsEdgeBelow, IsAcceptedNetwork, counter_of, ring_of, bound_of}
 use Rattle.topology.specs.Ranges.{ranges_of, payload_fits, frame_fits}
 use Rattle.topology.specs.Tree.{reaches, distance_of, parent_of}
 use Rattle.topology.specs.Refusal.{Values, Ends, value_fault}
