@@ -1,0 +1,171 @@
+-- The lines of an events text: which event a line spells.
+use Rattle.std.specs.Prelude.{ℕ, suc, Bool, true, false, ◌&&◌, ◌==◌, if◌then◌else◌, nat_lt, List, [], ◌∷◌, Option, Some, None, codes}
+use Rattle.std.specs.List.{list_all}
+use Rattle.std.specs.Option.{option_and_then, option_map}
+use Rattle.std.specs.Char.{is_ascii_digit}
+use Rattle.std.specs.Str.{bytes_eq}
+use Rattle.std.specs.Str.Parse.{digits_value}
+use Rattle.topology.specs.declared.frame.Payload.{Payload}
+use Rattle.link_model.specs.declared.item.Item.TheVariants as item
+use Rattle.run_model.specs.declared.event.Event.{Event}
+use Rattle.run_model.specs.declared.event.Event.TheVariants.{Send, Take, Lose, Tick, Ask, Leave, Damage}
+use Rattle.run_model.specs.declared.event.Harm.{Harm}
+use Rattle.run_model.specs.declared.event.Harm.TheVariants as harm
+
+abbrev pub Word : Type 0
+Word = List ℕ
+
+-- the byte that parts words
+abbrev pub is_space : ℕ → Bool
+is_space byte = byte == 32
+
+-- a byte in front of the first word
+abbrev pub onto_first : ℕ → List Word → List Word
+onto_first byte [] = (byte ∷ []) ∷ []
+onto_first byte (word ∷ words) = (byte ∷ word) ∷ words
+
+-- the words of a line: what stands between its spaces, so that two spaces have an empty word between them
+abbrev pub words : List ℕ → List Word
+words [] = [] ∷ []
+words (byte ∷ bytes) = if is_space byte then [] ∷ words bytes else onto_first byte (words bytes)
+
+-- how long the first word is
+abbrev pub word_len : List ℕ → ℕ
+word_len [] = 0
+word_len (byte ∷ bytes) = if is_space byte then 0 else suc (word_len bytes)
+
+-- at least one byte, each a decimal digit
+abbrev pub are_digits : Word → Bool
+are_digits [] = false
+are_digits (digit ∷ digits) = list_all is_ascii_digit (digit ∷ digits)
+
+-- the number below 65536 that decimal digits spell
+abbrev pub small_number : Word → Option ℕ
+small_number word = if are_digits word && nat_lt (digits_value 10 word) 65536 then Some (digits_value 10 word) else None
+
+-- a zero in front of other bytes
+abbrev pub has_leading_zero : Word → Bool
+has_leading_zero [] = false
+has_leading_zero (digit ∷ []) = false
+has_leading_zero (digit ∷ other ∷ digits) = digit == 48
+
+-- a word is a number where it is digits below 65536 with no leading zero
+abbrev pub number : Word → Option ℕ
+number word = if has_leading_zero word then None else small_number word
+
+-- a word is a number or `none`
+abbrev pub number_or_none : Word → Option (Option ℕ)
+number_or_none word = if bytes_eq word (codes "none") then Some None else option_map (λ n. Some n) (number word)
+
+-- a word is `yes` or `no`
+abbrev pub yes_or_no : Word → Option Bool
+yes_or_no word = if bytes_eq word (codes "yes") then Some true else if bytes_eq word (codes "no") then Some false else None
+
+abbrev pub first_word : List Word → Option Word
+first_word [] = None
+first_word (word ∷ words) = Some word
+
+abbrev pub other_words : List Word → List Word
+other_words [] = []
+other_words (word ∷ words) = words
+
+-- the next word is read, and the others are read with what it says
+abbrev pub reads : {X Y : Type 0} → (Word → Option X) → (X → List Word → Option Y) → List Word → Option Y
+reads read others words = option_and_then (λ x. others x (other_words words)) (option_and_then read (first_word words))
+
+-- no word is left
+abbrev pub ends : {Y : Type 0} → Y → List Word → Option Y
+ends y [] = Some y
+ends y (word ∷ words) = None
+
+-- a payload, D P X: a distance, a parent and a ring value
+abbrev pub payload_of : List Word → Option Payload
+payload_of = reads number (λ d. reads number_or_none (λ p. reads number (λ x words. Some (record { distance = d; parent = p; ring = x }))))
+
+-- the next three words are read as a payload, and the others are read with it
+abbrev pub reads_payload : {Y : Type 0} → (Payload → List Word → Option Y) → List Word → Option Y
+reads_payload others words =
+    option_and_then (λ payload. others payload (other_words (other_words (other_words words)))) (payload_of words)
+
+-- the words behind `send`, `take`, `lose`, `tick`, `ask` and `leave`
+abbrev pub send_of : List Word → Option Event
+send_of = reads number (λ u. reads number (λ v. ends (Send u v)))
+
+abbrev pub take_of : List Word → Option Event
+take_of = reads number (λ u. reads number (λ v. ends (Take u v)))
+
+abbrev pub lose_of : List Word → Option Event
+lose_of = reads number (λ u. reads number (λ v. reads number (λ i. ends (Lose u v i))))
+
+abbrev pub tick_of : List Word → Option Event
+tick_of = reads number (λ v. ends (Tick v))
+
+abbrev pub ask_of : List Word → Option Event
+ask_of = reads number (λ v. reads number (λ t. ends (Ask v t)))
+
+abbrev pub leave_of : List Word → Option Event
+leave_of = reads number (λ v. reads number (λ t. ends (Leave v t)))
+
+-- the words behind `harm own`, `harm counters`, and so on
+abbrev pub own_of : List Word → Option Harm
+own_of = reads number (λ v. reads number (λ d. reads number_or_none (λ p. ends (harm.Own v d p))))
+
+abbrev pub counters_of : List Word → Option Harm
+counters_of = reads number (λ v. reads number (λ w. reads number (λ seq. reads number (λ last. ends (harm.Counters v w seq last)))))
+
+abbrev pub staged_of : List Word → Option Harm
+staged_of = reads number (λ v. reads number (λ w. reads_payload (λ payload. ends (harm.Staged v w payload))))
+
+abbrev pub copy_of : List Word → Option Harm
+copy_of = reads number (λ v. reads number (λ w. reads_payload (λ payload. ends (harm.Copy v w payload))))
+
+abbrev pub value_of : List Word → Option Harm
+value_of = reads number (λ v. reads number (λ w. reads number (λ x. ends (harm.Value v w x))))
+
+abbrev pub desk_of : List Word → Option Harm
+desk_of = reads number (λ v. reads number_or_none (λ lent. reads number (λ left. reads yes_or_no (λ served. ends (harm.Desk v lent left served)))))
+
+abbrev pub frame_of : List Word → Option Harm
+frame_of =
+    reads number (λ u. reads number (λ v. reads number (λ seq. reads number (λ ack. reads_payload (λ payload.
+    ends (harm.Item u v (item.Frame (record { seq = seq; ack = ack; payload = payload }))))))))
+
+abbrev pub junk_of : List Word → Option Harm
+junk_of = reads number (λ u. reads number (λ v. ends (harm.Item u v item.Noise)))
+
+abbrev pub empty_of : List Word → Option Harm
+empty_of = reads number (λ u. reads number (λ v. ends (harm.Empty u v)))
+
+-- the harm that its part and the words behind it name
+abbrev pub harm_of : Word → List Word → Option Harm
+harm_of part words =
+    if bytes_eq part (codes "own") then own_of words
+    else if bytes_eq part (codes "counters") then counters_of words
+    else if bytes_eq part (codes "staged") then staged_of words
+    else if bytes_eq part (codes "copy") then copy_of words
+    else if bytes_eq part (codes "value") then value_of words
+    else if bytes_eq part (codes "desk") then desk_of words
+    else if bytes_eq part (codes "frame") then frame_of words
+    else if bytes_eq part (codes "junk") then junk_of words
+    else if bytes_eq part (codes "empty") then empty_of words
+    else None
+
+-- the harm that the words behind `harm` name
+abbrev pub damage_of : List Word → Option Event
+damage_of words = option_map (λ h. Damage h) (option_and_then (λ part. harm_of part (other_words words)) (first_word words))
+
+-- the event that a verb and the words behind it name
+abbrev pub event_of : Word → List Word → Option Event
+event_of verb words =
+    if bytes_eq verb (codes "send") then send_of words
+    else if bytes_eq verb (codes "take") then take_of words
+    else if bytes_eq verb (codes "tick") then tick_of words
+    else if bytes_eq verb (codes "lose") then lose_of words
+    else if bytes_eq verb (codes "ask") then ask_of words
+    else if bytes_eq verb (codes "leave") then leave_of words
+    else if bytes_eq verb (codes "harm") then damage_of words
+    else None
+
+-- the event that a line spells, if any
+abbrev pub line_event : List ℕ → Option Event
+line_event line = option_and_then (λ verb. event_of verb (other_words (words line))) (first_word (words line))
