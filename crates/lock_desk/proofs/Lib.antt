@@ -1,6 +1,6 @@
 pub mod Ranges
 pub mod Stay
 pub mod Passing
+pub mod LineLemmas
 pub mod ClientLemmas
-pub mod TextLemmas
 pub mod Rows

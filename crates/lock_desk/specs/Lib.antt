@@ -1,3 +1,4 @@
 pub mod Desk
 pub mod Laws
+pub mod Lines
 pub mod ClientText

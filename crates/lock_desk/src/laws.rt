@@ -1,5 +1,5 @@
 //! Laws of a desk, each the contract of a function that does nothing. The proofs above a desk rest on these alone.
-ghost use Rattle.lock_desk.specs.ClientText.{LinesMakeTheText, LinesAreLines};
+ghost use Rattle.lock_desk.specs.Lines.{LinesMakeTheText, LinesAreLines, LinesGrow};
 ghost use Rattle.lock_desk.specs.Laws.{LoansNeedPrivilege, LoansAreNotExchanged, OneLoanAStay, PassesOnlyServed, FullTicksClear, FirstComeFirstServed, TicksKeepRanges, AsksKeepRanges, LeavesKeepRanges, LoansKeepRanges};
 
 /// A loan begins and outlasts a tick only with privilege. So where at most one node is privileged, after each node's next
@@ -37,8 +37,10 @@ pub fn ranges_are_kept()
 {}
 
 /// The lines that a newline ended, each with its newline, and what stands after the last one are the text, and none has a
-/// newline in it. It shows that the definitions of a client's lines say what a reader of them expects.
+/// newline in it; a further newline ends the half line, and other bytes go on with it. It shows that the definitions of lines
+/// say what a reader of them expects, and serves whoever reads lines in pieces.
 pub fn lines_make_the_text()
     ensures text { LinesMakeTheText }
     ensures lines { LinesAreLines }
+    ensures grow { LinesGrow }
 {}

@@ -1,1 +1,3 @@
 pub mod EventLine
+pub mod EventsText
+pub mod LineReader
