@@ -11,7 +11,7 @@ use Rattle.std.proofs.lemmas.List.Kept.{IsStrictlyIncreasing-filter}
 use Rattle.std.proofs.lemmas.Map.Views.{list_any-from_Contains, Contains-from_any}
 use Rattle.std.proofs.lemmas.Cmp.{nat_eq_equiv}
 use Rattle.topology.specs.Network.{Network, Edge, are_joined, is_between, neighbours_of, IsEdgeBelow, IsAcceptedNetwork}
-use Rattle.topology.proofs.SearchLemmas.{between_cases}
+use Rattle.topology.proofs.SearchByLevels.{between_cases}
 
 or_comm : (a b : Bool) → (a || b) ≡ (b || a)
 or_comm true true = refl

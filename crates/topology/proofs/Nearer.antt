@@ -1,7 +1,7 @@
 -- A node other than the root has a neighbour that is one nearer.
 use Rattle.std.proofs.Common.{◌≡◌, ◌≢◌, ℕ, ◌+◌, ◌<◌, List, [], ◌∷◌, ◌++◌, length, refl, ap, sym, arith, IsTrue, length-append}
 use Rattle.topology.specs.Network.{Network, Edge, are_joined, IsWalk, IsDistance, IsNearer, IsAcceptedNetwork}
-use Rattle.topology.proofs.SearchLemmas.{IsWalk-push}
+use Rattle.topology.proofs.SearchByLevels.{IsWalk-push}
 use Rattle.topology.proofs.Joined.{joined_back, joined_below}
 
 -- the last step of a walk

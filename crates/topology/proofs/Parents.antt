@@ -7,11 +7,11 @@ use Rattle.std.proofs.lemmas.Bool.Decides.{nat_tests}
 use Rattle.topology.specs.Network.{Network, are_joined, IsWalk, IsDistance, IsNearer, IsTrueParent, IsAcceptedNetwork}
 use Rattle.topology.specs.Tree.{distance_of, is_one_nearer, parent_of}
 use Rattle.topology.specs.Laws.{IsTree}
-use Rattle.topology.proofs.SearchLemmas.{IsWalk-push}
-use Rattle.topology.proofs.SpreadLemmas.{same_or_not}
+use Rattle.topology.proofs.SearchByLevels.{IsWalk-push}
+use Rattle.topology.proofs.OneRound.{same_or_not}
 use Rattle.topology.proofs.Joined.{joined_back, joined_below}
 use Rattle.topology.proofs.Nearer.{has_nearer}
-use Rattle.topology.proofs.NetLemmas.{one_distance, root_distance}
+use Rattle.topology.proofs.LaidOut.{one_distance, root_distance}
 use Rattle.topology.proofs.Reached.{least_is_distance, each_distance, reaches_by}
 
 -- only the root's distance is 0

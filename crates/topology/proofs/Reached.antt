@@ -6,11 +6,11 @@ use Rattle.std.proofs.lemmas.Bool.Decides.{nat_tests}
 use Rattle.std.proofs.lemmas.Map.Steps.{length-le_from_distinct_below}
 use Rattle.topology.specs.Network.{Network, IsWalk, IsDistance, IsEdgeBelow, IsAcceptedNetwork}
 use Rattle.topology.specs.Tree.{reaches, least_below}
-use Rattle.topology.proofs.SearchLemmas.{IsWalk-push}
-use Rattle.topology.proofs.SpreadLemmas.{same_or_not}
+use Rattle.topology.proofs.SearchByLevels.{IsWalk-push}
+use Rattle.topology.proofs.OneRound.{same_or_not}
 use Rattle.topology.proofs.Joined.{joined_back, joined_below, from_neighbour, to_neighbour}
 use Rattle.topology.proofs.Nearer.{last_step, has_nearer}
-use Rattle.topology.proofs.NetLemmas.{one_distance, root_distance}
+use Rattle.topology.proofs.LaidOut.{one_distance, root_distance}
 
 -- steps that lead to a node make a walk
 pub walk_of : (net : Network) (k v : ℕ) → reaches net k v ≡ true → (ws : List ℕ) × IsWalk net.edges net.root ws v × (length ws ≡ k)
