@@ -1,2 +1,3 @@
 mod Nearest
 mod Rounds
+mod Rows

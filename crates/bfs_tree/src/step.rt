@@ -1,7 +1,15 @@
 ghost use Rattle.std.specs.Prelude.{◌≡◌, ℕ, Contains};
 ghost use Rattle.bfs_tree.specs.Step.{new_distance, new_parent};
 
-/// One step: a node's own distance and its parent, from its copies of its neighbours' distances.
+/// One step of a node of a network of `n` nodes: its own distance, 0 to `n`, and its parent, from its copies of its neighbours' distances.
+///
+/// The root is at distance 0 and has no parent. Any other node is one further than its least copy, and at most at `n`; its parent is the first of
+/// `neighbours` with that copy, so the one of smallest id where they ascend, and none where there are no neighbours.
+///
+/// `copied` gives a neighbour's copied distance, and is called for neighbours alone: copies stay where a node keeps them. What `copied` gives is to be
+/// a function of the neighbour, as it is where it reads a field; the clause names that function.
+///
+/// Source of the rule: Dolev, Israeli, Moran (1993). That the smallest id wins a tie is this project's.
 pub fn recompute<F: Fn(u16) -> u16>(
     is_root: bool,
     n: u16,
@@ -9,8 +17,8 @@ pub fn recompute<F: Fn(u16) -> u16>(
     copied: F,
 ) -> (u16, Option<u16>)
     requires readable { (w : ℕ) → Contains neighbours.now w → F.pre copied w }
-    ensures { (g : ℕ → ℕ) → ((w d : ℕ) → Contains neighbours.now w → F.post copied w d → d ≡ g w)
-        → result ≡ (new_distance is_root n g neighbours.now, new_parent is_root g neighbours.now) }
+    ensures { (distance : ℕ → ℕ) → ((w d : ℕ) → Contains neighbours.now w → F.post copied w d → d ≡ distance w)
+        → result ≡ (new_distance is_root n distance neighbours.now, new_parent is_root distance neighbours.now) }
 {
     if is_root {
         return (0, None);
@@ -28,4 +36,29 @@ pub fn recompute<F: Fn(u16) -> u16>(
         }
     }
     (n.min(least.saturating_add(1)), Some(parent))
+}
+
+#[cfg(test)]
+mod tests {
+    use super::recompute;
+    use std::test::Fail;
+
+    #[test]
+    fn steps_by_hand(rt: HostRuntime) -> Result<(), Fail> {
+        for (is_root, copies, want) in [
+            (false, [1, 1], (2, Some(1))),
+            (false, [4, 4], (4, Some(1))),
+            (false, [3, 0], (1, Some(2))),
+            (true, [1, 1], (0, None)),
+        ] {
+            let found = recompute(
+                is_root,
+                4,
+                &[1, 2],
+                |w| if w == 1 { copies[0] } else { copies[1] },
+            );
+            assert_eq!(rt; found, want, "with copies {copies:?}");
+        }
+        Ok(())
+    }
 }

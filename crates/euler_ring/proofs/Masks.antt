@@ -1,5 +1,5 @@
 -- The ids of a mask, ascending: what its bits say of the list.
-use Rattle.std.proofs.Common.{◌≡◌, ◌≢◌, ℕ, ◌+◌, ◌-◌, ◌*◌, ◌/◌, ◌%◌, ◌^◌, ◌<◌, ◌≤◌, ◌==◌, ◌&&◌, ◌||◌, ◌⊎◌, zero, suc, Bool, true, false, List, [], ◌∷◌, length, Some, None, nat_lt, refl, sym, ◌∙◌, ap, subst, arith, inl, inr, bit_and, bit_or, w64, add-one, drop, take, get_or, IsTrue, Contains}
+use Rattle.std.proofs.Common.{◌≡◌, ◌≢◌, ℕ, ◌+◌, ◌-◌, ◌*◌, ◌/◌, ◌%◌, ◌^◌, ◌<◌, ◌≤◌, ◌==◌, ◌&&◌, ◌⊎◌, zero, suc, Bool, true, false, List, [], ◌∷◌, length, Option, Some, None, nat_lt, refl, sym, ◌∙◌, ap, subst, arith, inl, inr, bit_and, bit_or, w64, add-one, drop, take, get_or, IsTrue, Contains}
 use Rattle.std.specs.Prelude.{filter, count_ones, All}
 use Rattle.std.specs.Int.{bit_at, bit_not, trailing_zeros, leading_zeros}
 use Rattle.std.specs.Int.Count.{ones_step}
@@ -10,11 +10,10 @@ use Rattle.std.proofs.lemmas.Bool.{cases_Bool, cases_eq, cases_lt}
 use Rattle.std.proofs.lemmas.Bool.Decides.{nat_tests}
 use Rattle.std.proofs.lemmas.Nat.{leading_top, ones-le, zero_from_ones}
 use Rattle.std.proofs.lemmas.Nat.Bits.{bit_at-suc, bit_at-zero, bit_at_lowest, bit_at_and, bit_at-lt, bit_at_not, bit_at_ones, bit_at_ones_above, bit_at_above, bit_at_cat_high, bit_at_mask_inside, bit_at_mask_below, bit_at-trailing_zeros, ones_shr, ones_shl, bit_at_set_same, bit_at_set_other}
-use Rattle.euler_ring.specs.Cycle.{lowest, highest, above, below}
+use Rattle.euler_ring.specs.Cycle.{is_named, is_on, is_tree_neighbour, lowest, highest, above, below}
 use Rattle.euler_ring.specs.Mask.{has_id, ids_of}
 use Rattle.std.proofs.lemmas.List.{append-nil}
 use Rattle.std.proofs.lemmas.List.Elements.{filter_more, Contains-get_or}
-use Rattle.euler_ring.specs.Cycle.{is_on}
 use Rattle.euler_ring.proofs.Ranges.{filter_range, filter_filter, none_passes, lowest_passes, highest_passes}
 use Rattle.euler_ring.proofs.Ascending.{IsFrom, from-filter, from-range, on-kept, on-push, listed, above_first, lowest_none, lowest_on}
 
@@ -206,9 +205,11 @@ on_among ids ns h w on =
     let e = on_ids ids w in
     h w (on_below ids w on) (grind (arith, nat_tests))
 
--- what two tests say of an `||`
-pub either : (a b x y : Bool) → a ≡ x → b ≡ y → (a ≡ true) ⊎ ((a ≡ false) × (b ≡ true)) → (x || y) ≡ true
-either a b x y is_x is_y h = grind arith
+-- what the code's two tests say of a neighbour w, whose copied parent is o
+pub passes : (parent : Option ℕ) (v : ℕ) (copied : ℕ → Option ℕ) (w : ℕ) (a b : Bool) (o : Option ℕ) → a ≡ is_named parent w → b ≡ is_named o v → o ≡ copied w →
+    (a ≡ true) ⊎ ((a ≡ false) × (b ≡ true)) → is_tree_neighbour parent v copied w ≡ true
+passes parent v copied w a b o is_a is_b read h = let same = is_b ∙ ap (λ p. is_named p v) read in grind arith
 
-pub neither : (a b x y : Bool) → a ≡ x → b ≡ y → a ≡ false → b ≡ false → (x || y) ≡ false
-neither a b x y is_x is_y no_a no_b = grind arith
+pub fails : (parent : Option ℕ) (v : ℕ) (copied : ℕ → Option ℕ) (w : ℕ) (a b : Bool) (o : Option ℕ) → a ≡ is_named parent w → b ≡ is_named o v → o ≡ copied w →
+    a ≡ false → b ≡ false → is_tree_neighbour parent v copied w ≡ false
+fails parent v copied w a b o is_a is_b read no_a no_b = let same = is_b ∙ ap (λ p. is_named p v) read in grind arith

@@ -1,7 +1,65 @@
--- Small examples, by computation.
-use Rattle.std.proofs.Common.{◌≡◌, [], ◌∷◌, refl}
+-- Small examples, by computation: some that hold, and some that do not.
+use Rattle.std.proofs.Common.{◌≡◌, ℕ, ◌==◌, List, [], ◌∷◌, Option, Some, None, true, false, if◌then◌else◌, refl, arith}
 use Rattle.topology.specs.Network.{Network}
+use Rattle.euler_ring.specs.Cycle.{next_after, source_for, special, tree_neighbours}
 use Rattle.euler_ring.specs.Tour.{tour}
+
+-- ---- round a node with the tree neighbours 1, 4 and 9
+
+abbrev three : List ℕ
+three = 1 ∷ 4 ∷ 9 ∷ []
+
+up : next_after three 1 ≡ 4
+up = refl
+
+up_again : next_after three 4 ≡ 9
+up_again = refl
+
+and_round : next_after three 9 ≡ 1
+and_round = refl
+
+down : source_for three 9 ≡ 4
+down = refl
+
+and_round_the_other_way : source_for three 1 ≡ 9
+and_round_the_other_way = refl
+
+-- after the first child it does not turn back to where it came from
+not_back : ¬ (next_after three 4 ≡ 1)
+not_back e = grind arith
+
+-- the least and the greatest id follow each other
+least_and_greatest : next_after (0 ∷ 63 ∷ []) 0 ≡ 63
+least_and_greatest = refl
+
+greatest_and_least : next_after (0 ∷ 63 ∷ []) 63 ≡ 0
+greatest_and_least = refl
+
+-- a single tree neighbour comes after itself
+alone : next_after (5 ∷ []) 5 ≡ 5
+alone = refl
+
+the_roots_smallest : special true three ≡ Some 1
+the_roots_smallest = refl
+
+no_other_nodes : special false three ≡ None
+no_other_nodes = refl
+
+none_of_a_root_alone : special true [] ≡ None
+none_of_a_root_alone = refl
+
+-- ---- the tree neighbours of node 4 among 1, 2, 5 and 7: node 1 names it as its parent, and node 5 names another
+
+abbrev copies : ℕ → Option ℕ
+copies w = if w == 1 then Some 4 else if w == 5 then Some 2 else None
+
+parent_and_child : tree_neighbours (Some 2) 4 (1 ∷ 2 ∷ 5 ∷ 7 ∷ []) copies ≡ 1 ∷ 2 ∷ []
+parent_and_child = refl
+
+a_parent_that_is_no_neighbour : tree_neighbours (Some 9) 4 (1 ∷ 2 ∷ 5 ∷ 7 ∷ []) copies ≡ 1 ∷ []
+a_parent_that_is_no_neighbour = refl
+
+-- ---- tours
 
 -- the square 0-1, 0-2, 1-3, 2-3: node 3 is as far from 1 as from 2, and its parent is 1
 abbrev square : Network
@@ -9,3 +67,24 @@ square = record { nodes = 4; root = 0; capacity = 1; lease = 0; edges = (0, 1) �
 
 square_tour : tour square ≡ (1, 0) ∷ (0, 2) ∷ (2, 0) ∷ (0, 1) ∷ (1, 3) ∷ (3, 1) ∷ []
 square_tour = refl
+
+-- it does not turn back to the root before it was at node 3
+square_tour_goes_down : ¬ (tour square ≡ (1, 0) ∷ (0, 2) ∷ (2, 0) ∷ (0, 1) ∷ [])
+square_tour_goes_down e = grind arith
+
+-- the line 0-1-2 from its middle, and from its end
+abbrev line_from : ℕ → Network
+line_from root = record { nodes = 3; root = root; capacity = 1; lease = 0; edges = (0, 1) ∷ (1, 2) ∷ [] }
+
+from_the_middle : tour (line_from 1) ≡ (0, 1) ∷ (1, 2) ∷ (2, 1) ∷ (1, 0) ∷ []
+from_the_middle = refl
+
+from_the_end : tour (line_from 2) ≡ (1, 2) ∷ (2, 1) ∷ (1, 0) ∷ (0, 1) ∷ []
+from_the_end = refl
+
+-- node 3 hangs below the root 2 and has the children 0, 1 and 4: after its parent come 4, then 0 and 1
+abbrev bent : Network
+bent = record { nodes = 5; root = 2; capacity = 1; lease = 0; edges = (2, 3) ∷ (3, 1) ∷ (3, 4) ∷ (3, 0) ∷ [] }
+
+after_the_parent_up_and_round : tour bent ≡ (3, 2) ∷ (2, 3) ∷ (3, 4) ∷ (4, 3) ∷ (3, 0) ∷ (0, 3) ∷ (3, 1) ∷ (1, 3) ∷ []
+after_the_parent_up_and_round = refl

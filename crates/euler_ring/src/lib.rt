@@ -19,3 +19,6 @@ mod mask;
 mod neighbours;
 
 pub use neighbours::{TreeNeighbours, tree_neighbours};
+
+#[cfg(test)]
+mod tests;

@@ -1,9 +1,9 @@
-use Rattle.std.proofs.Common.{◌≡◌, ◌<◌, ◌∙◌, ap, take}
+use Rattle.std.proofs.Common.{◌≡◌, ◌<◌, take}
 use Rattle.std.proofs.lemmas.List.{take_all}
 use Rattle.std.proofs.lemmas.List.Elements.{Contains-get_or, All-filter}
-use Rattle.euler_ring.specs.Cycle.{is_named, tree_neighbours}
+use Rattle.euler_ring.specs.Cycle.{tree_neighbours}
 use Rattle.euler_ring.proofs.Ascending.{from_increasing, from-filter}
-use Rattle.euler_ring.proofs.Masks.{passed_more, passed_over, has_none, none_among, among_more, on_among, ids_are, either, neither}
+use Rattle.euler_ring.proofs.Masks.{passed_more, passed_over, has_none, none_among, among_more, on_among, ids_are, passes, fails}
 use Rattle.euler_ring.proofs.neighbours.tree_neighbours.Goals as goal
 use Rattle.euler_ring.proofs.neighbours.tree_neighbours.Goals.{then-is_parent, else-is_parent+else-is_child}
 
@@ -12,20 +12,20 @@ loop-neighbour-init g c = record { passed = λ copied keeps i less. has_none i; 
 
 pub loop-neighbour-preserved : goal.loop-neighbour-preserved
 loop-neighbour-preserved g c =
-    let invariant = c.loop-neighbour.invariant in
+    let so_far = c.loop-neighbour.invariant in
     let inside = c.loop-neighbour-test.true in
+    let there = Contains-get_or c.args.neighbours.now c.loop-neighbour.neighbour-index 0 inside in
     elim c.if-is_parent.branch [
       | then-is_parent k ↦ rw k.ids-is (record {
-        passed = λ copied keeps.
-            let child = c.is_named-is_child.ensures ∙ ap (λ p. is_named p c.args.id) (keeps _ _ (Contains-get_or _ _ 0 inside) c.copied_parent.ensures) in
-            passed_more _ _ _ _ _ inside (invariant.passed copied keeps) (either _ _ _ _ c.is_named-is_parent.ensures child k.then-is_parent.either) k.with-ids.ensures.same k.with-ids.ensures.others;
-        among = among_more _ _ _ _ inside invariant.among k.with-ids.ensures.others;
+        passed = λ copied keeps. passed_more _ _ _ _ _ inside (so_far.passed copied keeps)
+            (passes _ _ copied _ _ _ _ c.is_named-is_parent.ensures c.is_named-is_child.ensures (keeps _ _ there c.copied_parent.ensures) k.then-is_parent.either)
+            k.with-ids.ensures.same k.with-ids.ensures.others;
+        among = among_more _ _ _ _ inside so_far.among k.with-ids.ensures.others;
       })
       | else-is_parent+else-is_child k ↦ rw k.ids-is (record {
-        passed = λ copied keeps.
-            let child = c.is_named-is_child.ensures ∙ ap (λ p. is_named p c.args.id) (keeps _ _ (Contains-get_or _ _ 0 inside) c.copied_parent.ensures) in
-            passed_over _ _ _ _ inside (invariant.passed copied keeps) (neither _ _ _ _ c.is_named-is_parent.ensures child k.if-is_parent.false k.if-is_child.false);
-        among = invariant.among;
+        passed = λ copied keeps. passed_over _ _ _ _ inside (so_far.passed copied keeps)
+            (fails _ _ copied _ _ _ _ c.is_named-is_parent.ensures c.is_named-is_child.ensures (keeps _ _ there c.copied_parent.ensures) k.if-is_parent.false k.if-is_child.false);
+        among = so_far.among;
       })
     ]
 
