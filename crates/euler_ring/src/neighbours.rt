@@ -5,7 +5,9 @@ ghost use Rattle.euler_ring.specs.Cycle.{is_named, is_on, tree_neighbours, next_
 use super::mask;
 use std::marker::Model;
 
-/// The tree neighbours of a node, ascending: the neighbours to which an edge of the tree leads, as far as the node knows.
+/// The tree neighbours of a node: the neighbours to which an edge of the tree leads, as far as the node knows. Contracts see them as an ascending list.
+///
+/// They are kept as the bits of one word, so what comes next is found without going through them.
 #[derive(Debug, Drop)]
 pub struct TreeNeighbours {
     ids: u64,
@@ -55,7 +57,7 @@ impl TreeNeighbours {
         mask::lowest(rest).unwrap()
     }
 
-    /// Where the tour goes on that came in from `t`: the next tree neighbour up, and after the largest the smallest.
+    /// Where the tour goes on that came in from the tree neighbour `t`: the next one up, and after the largest the smallest. Of a single one it is `t` itself.
     pub fn next_after(&self, t: u16) -> u16
         requires { IsTrue (is_on self.now t) }
         ensures next { result ≡ next_after self.now t }
@@ -66,7 +68,7 @@ impl TreeNeighbours {
             .unwrap_or(t)
     }
 
-    /// Where the tour came from that leaves towards `w`: the next tree neighbour down, and before the smallest the largest.
+    /// Where the tour came in from that leaves towards the tree neighbour `w`: the next one down, and before the smallest the largest.
     pub fn source_for(&self, w: u16) -> u16
         requires { IsTrue (is_on self.now w) }
         ensures source { result ≡ source_for self.now w }
@@ -77,7 +79,7 @@ impl TreeNeighbours {
             .unwrap_or(w)
     }
 
-    /// The tree neighbour of the special machine, which is the root's for its smallest tree neighbour.
+    /// The tree neighbour from which the special machine comes in: the smallest, at the root; none at another node, or where there is none.
     pub fn special(&self, is_root: bool) -> Option<u16>
         ensures { result ≡ special is_root self.now }
     {
@@ -96,7 +98,10 @@ fn is_named(parent: Option<u16>, id: u16) -> bool
     parent == Some(id)
 }
 
-/// A node's tree neighbours: its parent, where that is a neighbour, and each neighbour whose copied parent is the node.
+/// A node's tree neighbours, from what it believes: its parent, where that is a neighbour, and each neighbour whose copied parent is the node `id`.
+///
+/// `neighbours` ascend and are below 64, as those of an accepted network. `copied_parent` gives a neighbour's copied parent, and is called for neighbours
+/// alone. What it gives is to be a function of the neighbour, as it is where it reads a field; the clause names that function.
 pub fn tree_neighbours<F: Fn(u16) -> Option<u16>>(
     parent: Option<u16>,
     id: u16,
@@ -106,8 +111,8 @@ pub fn tree_neighbours<F: Fn(u16) -> Option<u16>>(
     requires few { All (λ w. w < 64) neighbours.now }
     requires ascending { IsStrictlyIncreasing neighbours.now }
     requires readable { (w : ℕ) → Contains neighbours.now w → F.pre copied_parent w }
-    ensures found { (g : ℕ → Option ℕ) → ((w : ℕ) (p : Option ℕ) → Contains neighbours.now w → F.post copied_parent w p → p ≡ g w)
-        → result ≡ tree_neighbours parent id neighbours.now g }
+    ensures found { (parent_of : ℕ → Option ℕ) → ((w : ℕ) (p : Option ℕ) → Contains neighbours.now w → F.post copied_parent w p → p ≡ parent_of w)
+        → result ≡ tree_neighbours parent id neighbours.now parent_of }
     ensures neighbours { (w : ℕ) → IsTrue (is_on result w) → Contains neighbours.now w }
 {
     let mut ids = 0;
