@@ -1,9 +1,10 @@
 mod Ranges
 mod Ascending
 mod Masks
+mod Growing
 mod Circle
 mod Trees
 mod Chains
-mod Tours
 mod Lengths
+mod Tours
 mod Rows

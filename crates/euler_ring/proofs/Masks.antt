@@ -1,5 +1,5 @@
 -- The ids of a mask, ascending: what its bits say of the list.
-use Rattle.std.proofs.Common.{◌≡◌, ◌≢◌, ℕ, ◌+◌, ◌-◌, ◌*◌, ◌/◌, ◌%◌, ◌^◌, ◌<◌, ◌≤◌, ◌==◌, ◌&&◌, ◌⊎◌, zero, suc, Bool, true, false, List, [], ◌∷◌, length, Option, Some, None, nat_lt, refl, sym, ◌∙◌, ap, subst, arith, inl, inr, bit_and, bit_or, w64, add-one, drop, take, get_or, IsTrue, Contains}
+use Rattle.std.proofs.Common.{◌≡◌, ◌≢◌, ℕ, ◌+◌, ◌-◌, ◌*◌, ◌/◌, ◌%◌, ◌^◌, ◌<◌, ◌≤◌, ◌==◌, ◌&&◌, zero, suc, Bool, true, false, List, [], ◌∷◌, length, Some, None, nat_lt, refl, sym, ◌∙◌, ap, subst, arith, inl, inr, bit_and, bit_or, w64, add-one, drop}
 use Rattle.std.specs.Prelude.{filter, count_ones, All}
 use Rattle.std.specs.Int.{bit_at, bit_not, trailing_zeros, leading_zeros}
 use Rattle.std.specs.Int.Count.{ones_step}
@@ -10,12 +10,10 @@ use Rattle.std.proofs.lemmas.Bool.{cases_Bool, cases_eq, cases_lt}
 use Rattle.std.proofs.lemmas.Bool.Decides.{nat_tests}
 use Rattle.std.proofs.lemmas.Nat.{leading_top, ones-le, zero_from_ones}
 use Rattle.std.proofs.lemmas.Nat.Bits.{bit_at-suc, bit_at-zero, bit_at_lowest, bit_at_and, bit_at-lt, bit_at_not, bit_at_ones, bit_at_ones_above, bit_at_above, bit_at_cat_high, bit_at_mask_inside, bit_at_mask_below, bit_at-trailing_zeros, ones_shr, ones_shl, bit_at_set_same, bit_at_set_other}
-use Rattle.euler_ring.specs.Cycle.{is_named, is_on, is_tree_neighbour, lowest, highest, above, below}
+use Rattle.euler_ring.specs.Cycle.{is_on, lowest, highest, above, below}
 use Rattle.euler_ring.specs.Mask.{has_id, ids_of}
-use Rattle.std.proofs.lemmas.List.{append-nil}
-use Rattle.std.proofs.lemmas.List.Elements.{filter_more, Contains-get_or}
 use Rattle.euler_ring.proofs.Ranges.{filter_range, filter_filter, none_passes, lowest_passes, highest_passes}
-use Rattle.euler_ring.proofs.Ascending.{IsFrom, from-filter, from-range, on-kept, on-push, listed, above_first, lowest_none, lowest_on}
+use Rattle.euler_ring.proofs.Ascending.{IsFrom, from-filter, from-range, on-kept, listed, above_first, lowest_none, lowest_on}
 
 -- ---- bits
 
@@ -165,51 +163,3 @@ ids_empty ids l =
       | inl e ↦ (let none : length (ids_of ids) ≡ 0 = ap length (ap ids_of e ∙ ids_none) in grind (arith, nat_tests))
       | inr ne ↦ (let some : length (ids_of ids) ≢ 0 = λ z. ne (zero_from_ones ids (count ∙ z)) in grind (arith, nat_tests))
     ]
-
--- ---- a mask that is made one neighbour after the other: its bits are those of the first k that pass a test
-
-abbrev pub HasPassed : ℕ → (ℕ → Bool) → List ℕ → Type 0
-HasPassed ids test seen = (i : ℕ) → i < 64 → has_id ids i ≡ is_on (filter test seen) i
-
-pub passed_more : (ids new : ℕ) (test : ℕ → Bool) (ns : List ℕ) (k : ℕ) → k < length ns → HasPassed ids test (take k ns) → test (get_or ns k 0) ≡ true → has_id new (get_or ns k 0) ≡ true →
-    ((i : ℕ) → i < 64 → i ≢ get_or ns k 0 → has_id new i ≡ has_id ids i) → HasPassed new test (take (k + 1) ns)
-passed_more ids new test ns k l h passes same others = λ i less.
-    let more = filter_more test ns k 0 l in
-    let push = on-push (filter test (take k ns)) (get_or ns k 0) i in
-    let so_far = h i less in
-    elim (cases_eq i (get_or ns k 0)) [
-      | inl e ↦ (let there : has_id new i ≡ true = ap (has_id new) e ∙ same in rw (more, passes, push) (grind (arith, nat_tests)))
-      | inr ne ↦ (let kept = others i less ne in rw (more, passes, push) (grind (arith, nat_tests)))
-    ]
-
-pub passed_over : (ids : ℕ) (test : ℕ → Bool) (ns : List ℕ) (k : ℕ) → k < length ns → HasPassed ids test (take k ns) → test (get_or ns k 0) ≡ false → HasPassed ids test (take (k + 1) ns)
-passed_over ids test ns k l h fails = λ i less.
-    let more = filter_more test ns k 0 l in
-    rw (more, fails, append-nil) (h i less)
-
--- each id of the mask is on the list
-abbrev pub AreAmong : ℕ → List ℕ → Type 0
-AreAmong ids ns = (i : ℕ) → i < 64 → has_id ids i ≡ true → Contains ns i
-
-pub none_among : (ns : List ℕ) → AreAmong 0 ns
-none_among ns = λ i less on. absurd (let off = has_none i in grind arith)
-
-pub among_more : (ids new : ℕ) (ns : List ℕ) (k : ℕ) → k < length ns → AreAmong ids ns → ((i : ℕ) → i < 64 → i ≢ get_or ns k 0 → has_id new i ≡ has_id ids i) → AreAmong new ns
-among_more ids new ns k l h others = λ i less on. elim (cases_eq i (get_or ns k 0)) [
-  | inl e ↦ subst (Contains ns) (sym e) (Contains-get_or ns k 0 l)
-  | inr ne ↦ h i less (sym (others i less ne) ∙ on)
-]
-
-pub on_among : (ids : ℕ) (ns : List ℕ) → AreAmong ids ns → (w : ℕ) → IsTrue (is_on (ids_of ids) w) → Contains ns w
-on_among ids ns h w on =
-    let e = on_ids ids w in
-    h w (on_below ids w on) (grind (arith, nat_tests))
-
--- what the code's two tests say of a neighbour w, whose copied parent is o
-pub passes : (parent : Option ℕ) (v : ℕ) (copied : ℕ → Option ℕ) (w : ℕ) (a b : Bool) (o : Option ℕ) → a ≡ is_named parent w → b ≡ is_named o v → o ≡ copied w →
-    (a ≡ true) ⊎ ((a ≡ false) × (b ≡ true)) → is_tree_neighbour parent v copied w ≡ true
-passes parent v copied w a b o is_a is_b read h = let same = is_b ∙ ap (λ p. is_named p v) read in grind arith
-
-pub fails : (parent : Option ℕ) (v : ℕ) (copied : ℕ → Option ℕ) (w : ℕ) (a b : Bool) (o : Option ℕ) → a ≡ is_named parent w → b ≡ is_named o v → o ≡ copied w →
-    a ≡ false → b ≡ false → is_tree_neighbour parent v copied w ≡ false
-fails parent v copied w a b o is_a is_b read no_a no_b = let same = is_b ∙ ap (λ p. is_named p v) read in grind arith

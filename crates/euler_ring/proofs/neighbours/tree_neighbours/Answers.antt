@@ -3,7 +3,8 @@ use Rattle.std.proofs.lemmas.List.{take_all}
 use Rattle.std.proofs.lemmas.List.Elements.{Contains-get_or, All-filter}
 use Rattle.euler_ring.specs.Cycle.{tree_neighbours}
 use Rattle.euler_ring.proofs.Ascending.{from_increasing, from-filter}
-use Rattle.euler_ring.proofs.Masks.{passed_more, passed_over, has_none, none_among, among_more, on_among, ids_are, passes, fails}
+use Rattle.euler_ring.proofs.Masks.{has_none, ids_are}
+use Rattle.euler_ring.proofs.Growing.{passed_more, passed_over, none_among, among_more, on_among, passes, fails}
 use Rattle.euler_ring.proofs.neighbours.tree_neighbours.Goals as goal
 use Rattle.euler_ring.proofs.neighbours.tree_neighbours.Goals.{then-is_parent, else-is_parent+else-is_child}
 

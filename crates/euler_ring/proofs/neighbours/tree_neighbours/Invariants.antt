@@ -1,6 +1,6 @@
 use Rattle.std.proofs.Common.{◌≡◌, ℕ, Option, Contains, take}
 use Rattle.euler_ring.specs.Cycle.{is_tree_neighbour}
-use Rattle.euler_ring.proofs.Masks.{HasPassed, AreAmong}
+use Rattle.euler_ring.proofs.Growing.{HasPassed, AreAmong}
 use Rattle.euler_ring.proofs.neighbours.tree_neighbours.Given as goal
 
 -- by any reading of the copies that the closure keeps to, the bits are the tree neighbours so far
