@@ -11,29 +11,29 @@ use Rattle.run_model.specs.declared.event.Event.{Event}
 use Rattle.run_model.proofs.Runs.{run-network, runs-join, undamaged-joins, undamaged-splits}
 use Rattle.run_model.proofs.Splits.{fewer-sweeps}
 use Rattle.run_model.proofs.Serving.{sweep-late}
-use Rattle.topology.specs.Network.{IsAcceptedNetwork}
+use Rattle.run_model.proofs.Joined.{AreEdges}
 
 -- undamaged events before some sweeps belong to the first of them
-pub sweeps-late : (w : World) (r : ℕ) (front es : List Event) → IsAcceptedNetwork w.net → IsUndamaged w front → Sweeps (run w front) r es → Sweeps w r (front ++ es)
-sweeps-late w zero front es ok fine s = tt
-sweeps-late w (suc r) front es ok fine (first, rest, e, sweep, s) = (
+pub sweeps-late : (w : World) (r : ℕ) (front es : List Event) → AreEdges w.net → IsUndamaged w front → Sweeps (run w front) r es → Sweeps w r (front ++ es)
+sweeps-late w zero front es edges fine s = tt
+sweeps-late w (suc r) front es edges fine (first, rest, e, sweep, s) = (
   front ++ first,
   rest,
   ap (λ l. front ++ l) e ∙ sym (append_assoc front first rest),
-  sweep-late w front first ok (undamaged-joins w front first fine sweep.undamaged) sweep,
+  sweep-late w front first edges (undamaged-joins w front first fine sweep.undamaged) sweep,
   subst (λ x. Sweeps x r rest) (sym (runs-join w front first)) s,
 )
 
-pub sweeps-join : (w : World) (r s : ℕ) (first rest : List Event) → IsAcceptedNetwork w.net → IsUndamaged w first → Sweeps w r first → Sweeps (run w first) s rest
+pub sweeps-join : (w : World) (r s : ℕ) (first rest : List Event) → AreEdges w.net → IsUndamaged w first → Sweeps w r first → Sweeps (run w first) s rest
     → (n : ℕ) → n ≡ r + s → Sweeps w n (first ++ rest)
-sweeps-join w zero s first rest ok fine a b n k = subst (λ m. Sweeps w m (first ++ rest)) (omega arith) (sweeps-late w s first rest ok fine b)
-sweeps-join w (suc r) s first rest ok fine a b zero k = absurd (omega arith)
-sweeps-join w (suc r) s first rest ok fine (one, others, e, sweep, a) b (suc n) k = (
+sweeps-join w zero s first rest edges fine a b n k = subst (λ m. Sweeps w m (first ++ rest)) (omega arith) (sweeps-late w s first rest edges fine b)
+sweeps-join w (suc r) s first rest edges fine a b zero k = absurd (omega arith)
+sweeps-join w (suc r) s first rest edges fine (one, others, e, sweep, a) b (suc n) k = (
   one,
   others ++ rest,
   ap (λ l. l ++ rest) e ∙ append_assoc one others rest,
   sweep,
-  sweeps-join (run w one) r s others rest (subst IsAcceptedNetwork (sym (run-network w one)) ok)
+  sweeps-join (run w one) r s others rest (subst AreEdges (sym (run-network w one)) edges)
       (undamaged-splits w one others (subst (IsUndamaged w) e fine)).1 a
       (subst (λ x. Sweeps x s rest) (ap (run w) e ∙ runs-join w one others) b) n (omega arith),
 )
@@ -52,22 +52,22 @@ two-beginnings (x ∷ a) b (y ∷ c) d e = elim (two-beginnings a b c d cc) [
 ]
 
 -- the rest behind the earliest sweep holds all the other sweeps
-pub earliest-best : (w : World) (r : ℕ) (first rest : List Event) → IsAcceptedNetwork w.net → IsUndamaged w (first ++ rest) → IsEarliest w first
+pub earliest-best : (w : World) (r : ℕ) (first rest : List Event) → AreEdges w.net → IsUndamaged w (first ++ rest) → IsEarliest w first
     → Sweeps w (suc r) (first ++ rest) → Sweeps (run w first) r rest
-earliest-best w r first rest ok fine earliest (other, behind, e, sweep, s) = elim (two-beginnings first rest other behind e) [
+earliest-best w r first rest edges fine earliest (other, behind, e, sweep, s) = elim (two-beginnings first rest other behind e) [
   | Shorter event mid f g ↦ absurd (let none = earliest other (event ∷ mid) f sweep in cc)
   | Longer mid f g ↦
       let after : Sweeps (run (run w first) mid) r behind = subst (λ x. Sweeps x r behind) (ap (run w) f ∙ runs-join w first mid) s in
       subst (Sweeps (run w first) r) (sym g)
-      (sweeps-late (run w first) r mid behind (subst IsAcceptedNetwork (sym (run-network w first)) ok)
+      (sweeps-late (run w first) r mid behind (subst AreEdges (sym (run-network w first)) edges)
       (undamaged-splits (run w first) mid behind (subst (IsUndamaged (run w first)) g (undamaged-splits w first rest fine).1)).0 after)
 ]
 
-pub greedy-count : (w : World) (r : ℕ) (first rest : List Event) → IsAcceptedNetwork w.net → IsUndamaged w (first ++ rest) → IsSweep w first → IsEarliest w first
+pub greedy-count : (w : World) (r : ℕ) (first rest : List Event) → AreEdges w.net → IsUndamaged w (first ++ rest) → IsSweep w first → IsEarliest w first
     → IsGreatestCount (run w first) rest r → IsGreatestCount w (first ++ rest) (suc r)
-greedy-count w r first rest ok fine sweep earliest count = record {
+greedy-count w r first rest edges fine sweep earliest count = record {
   held = (first, rest, refl, sweep, count.held);
-  no_more = λ s. count.no_more (earliest-best w (suc r) first rest ok fine earliest s);
+  no_more = λ s. count.no_more (earliest-best w (suc r) first rest edges fine earliest s);
 }
 
 pub no-sweep_count : (w : World) (es : List Event) → ((front back : List Event) → es ≡ front ++ back → ¬ IsSweep w front) → IsGreatestCount w es 0
@@ -76,16 +76,16 @@ no-sweep_count w es none = record { held = tt; no_more = λ s. none s.0 s.1 s.2 
 -- ---- event by event
 
 -- what is counted so far is the greatest count
-pub counted-greatest : (w : World) (r : ℕ) (done rest : List Event) → IsAcceptedNetwork w.net → IsUndamaged w (done ++ rest) → EarliestSweeps w r done
+pub counted-greatest : (w : World) (r : ℕ) (done rest : List Event) → AreEdges w.net → IsUndamaged w (done ++ rest) → EarliestSweeps w r done
     → IsUnfinished (run w done) rest → IsGreatestCount w (done ++ rest) r
-counted-greatest w zero done rest ok fine none unfinished =
+counted-greatest w zero done rest edges fine none unfinished =
     subst (λ l. IsGreatestCount w (l ++ rest) 0) (sym none) (no-sweep_count w rest (subst (λ l. IsUnfinished (run w l) rest) none unfinished))
-counted-greatest w (suc r) done rest ok fine (first, others, e, sweep, earliest, later) unfinished =
+counted-greatest w (suc r) done rest edges fine (first, others, e, sweep, earliest, later) unfinished =
     let split : done ++ rest ≡ first ++ (others ++ rest) = ap (λ l. l ++ rest) e ∙ append_assoc first others rest in
     let all = subst (IsUndamaged w) split fine in
     subst (λ l. IsGreatestCount w l (suc r)) (sym split)
-    (greedy-count w r first (others ++ rest) ok all sweep earliest
-    (counted-greatest (run w first) r others rest (subst IsAcceptedNetwork (sym (run-network w first)) ok) (undamaged-splits w first (others ++ rest) all).1 later
+    (greedy-count w r first (others ++ rest) edges all sweep earliest
+    (counted-greatest (run w first) r others rest (subst AreEdges (sym (run-network w first)) edges) (undamaged-splits w first (others ++ rest) all).1 later
     (subst (λ x. IsUnfinished x rest) (ap (run w) e ∙ runs-join w first others) unfinished)))
 
 -- no events are no sweep, since there is a node

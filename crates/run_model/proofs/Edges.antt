@@ -1,9 +1,7 @@
 -- A run of the world is a run of each edge.
-use Rattle.std.proofs.Common.{◌≡◌, ◌≢◌, ℕ, zero, suc, List, [], ◌∷◌, ◌++◌, false, IsTrue, map, refl, sym, ◌∙◌, ap, subst, arith}
+use Rattle.std.proofs.Common.{◌≡◌, ◌≢◌, ℕ, zero, suc, List, [], ◌∷◌, ◌++◌, false, map, refl, sym, ◌∙◌, ap, subst, arith}
 use Rattle.std.proofs.lemmas.Grind.{common_steps}
-use Rattle.std.proofs.lemmas.Bool.{or_parts, both_ways}
-use Rattle.topology.specs.Network.{Network, are_joined, IsAcceptedNetwork}
-use Rattle.topology.proofs.Joined.{joined_back, joined_nodes, not_to_itself}
+use Rattle.std.proofs.lemmas.Bool.{or_parts}
 use Rattle.link_model.specs.declared.item.Item.TheVariants.{Frame}
 use Rattle.data_link.specs.Port.{frame_of}
 use Rattle.data_link.specs.Edge.{EdgeState, EdgeEvent, SendOut, SendBack, TakeOut, TakeBack, LoseOut, LoseBack, Elsewhere, edge_step, edge_run}
@@ -17,31 +15,25 @@ use Rattle.run_model.specs.Count.{Sweeps}
 use Rattle.run_model.specs.Legitimate.{edge_of}
 use Rattle.run_model.specs.Project.{edge_event, edge_events}
 use Rattle.run_model.specs.declared.event.Event.{Event}
+use Rattle.run_model.proofs.Joined.{IsEdge}
 use Rattle.run_model.proofs.Steps.{step-network}
 use Rattle.run_model.proofs.Runs.{run-network}
 use Rattle.run_model.proofs.EdgeSteps.{one-event}
 
--- joined nodes are not one
-pub joined-apart : (net : Network) (u v : ℕ) → IsAcceptedNetwork net → IsTrue (are_joined net.edges u v) → u ≢ v
-joined-apart net u v ok joined same =
-    both_ways (are_joined net.edges v v) (not_to_itself net.edges net.nodes v ok.limits.edges_in) (subst (λ x. IsTrue (are_joined net.edges x v)) same joined)
-
-pub edge-steps : (w : World) (e : Event) (u v : ℕ) → IsAcceptedNetwork w.net → IsTrue (are_joined w.net.edges u v) → is_damage w e ≡ false
+pub edge-steps : (w : World) (e : Event) (u v : ℕ) → IsEdge w.net u v → is_damage w e ≡ false
     → edge_of (step w e) u v ≡ edge_step w.net.capacity (edge_of w u v) (edge_event w e u v)
-edge-steps w e u v ok joined fine =
-    let nodes = joined_nodes w.net u v ok joined in
-    one-event w u v (joined-apart w.net u v ok joined) nodes.0 nodes.1 joined (rw (joined_back w.net.edges v u) joined) e fine
+edge-steps w e u v pair fine = one-event w u v pair.apart pair.first pair.second pair.joined pair.back e fine
 
-pub edge-runs : (w : World) (es : List Event) (u v : ℕ) → IsAcceptedNetwork w.net → IsTrue (are_joined w.net.edges u v) → IsUndamaged w es
+pub edge-runs : (w : World) (es : List Event) (u v : ℕ) → IsEdge w.net u v → IsUndamaged w es
     → edge_of (run w es) u v ≡ edge_run w.net.capacity (edge_of w u v) (edge_events w es u v)
-edge-runs w [] u v ok joined fine = refl
-edge-runs w (e ∷ es) u v ok joined fine =
+edge-runs w [] u v pair fine = refl
+edge-runs w (e ∷ es) u v pair fine =
     let parts = or_parts (is_damage w e) (has_damage (step w e) es) fine in
     let same = sym (step-network w e) in
-    let later = edge-runs (step w e) es u v (subst IsAcceptedNetwork same ok) (subst (λ net. IsTrue (are_joined net.edges u v)) same joined) parts.1 in
+    let later = edge-runs (step w e) es u v (subst (λ net. IsEdge net u v) same pair) parts.1 in
     later
     ∙ ap (λ net. edge_run net.capacity (edge_of (step w e) u v) (edge_events (step w e) es u v)) (step-network w e)
-    ∙ ap (λ s. edge_run w.net.capacity s (edge_events (step w e) es u v)) (edge-steps w e u v ok joined parts.0)
+    ∙ ap (λ s. edge_run w.net.capacity s (edge_events (step w e) es u v)) (edge-steps w e u v pair parts.0)
 
 -- ---- what an edge's events do to its links
 
@@ -77,12 +69,12 @@ out-after capacity s (LoseBack i) = refl
 out-after capacity s Elsewhere = refl
 
 -- what an event does to the items from u to v
-pub link-after : (w : World) (e : Event) (u v : ℕ) → IsAcceptedNetwork w.net → IsTrue (are_joined w.net.edges u v) → is_damage w e ≡ false
+pub link-after : (w : World) (e : Event) (u v : ℕ) → IsEdge w.net u v → is_damage w e ≡ false
     → (step w e).link u v ≡ list_after w.net.capacity (Frame (frame_of ((w.node u).port v))) (link_act u v e) (w.link u v)
-link-after w e u v ok joined fine =
-    ap (λ s. s.out) (edge-steps w e u v ok joined fine)
+link-after w e u v pair fine =
+    ap (λ s. s.out) (edge-steps w e u v pair fine)
     ∙ out-after w.net.capacity (edge_of w u v) (edge_event w e u v)
-    ∙ ap (λ act. list_after w.net.capacity (Frame (frame_of ((w.node u).port v))) act (w.link u v)) (act-out w e u v (joined-apart w.net u v ok joined))
+    ∙ ap (λ act. list_after w.net.capacity (Frame (frame_of ((w.node u).port v))) act (w.link u v)) (act-out w e u v pair.apart)
 
 -- ---- sweeps of the world are sweeps of each edge
 
@@ -90,24 +82,23 @@ edge-events_join : (w : World) (xs ys : List Event) (u v : ℕ) → edge_events 
 edge-events_join w [] ys u v = refl
 edge-events_join w (e ∷ xs) ys u v = ap (λ l. edge_event w e u v ∷ l) (edge-events_join (step w e) xs ys u v)
 
-pub sweep-edge : (w : World) (es : List Event) (u v : ℕ) → IsAcceptedNetwork w.net → IsTrue (are_joined w.net.edges u v) → IsSweep w es
+pub sweep-edge : (w : World) (es : List Event) (u v : ℕ) → IsEdge w.net u v → IsSweep w es
     → edge.IsSweep w.net.capacity (edge_of w u v) (edge_events w es u v)
-sweep-edge w es u v ok joined sweep =
-    let apart = joined-apart w.net u v ok joined in record {
-      out = sym (served-out w es u v apart) ∙ sweep.served u v joined;
-      back = sym (served-back w es u v apart) ∙ sweep.served v u (rw (joined_back w.net.edges v u) joined);
-    }
+sweep-edge w es u v pair sweep = record {
+  out = sym (served-out w es u v pair.apart) ∙ sweep.served u v pair.joined;
+  back = sym (served-back w es u v pair.apart) ∙ sweep.served v u pair.back;
+}
 
-pub sweeps-edge : (w : World) (r : ℕ) (es : List Event) (u v : ℕ) → IsAcceptedNetwork w.net → IsTrue (are_joined w.net.edges u v) → Sweeps w r es
+pub sweeps-edge : (w : World) (r : ℕ) (es : List Event) (u v : ℕ) → IsEdge w.net u v → Sweeps w r es
     → edge.Sweeps w.net.capacity (edge_of w u v) r (edge_events w es u v)
-sweeps-edge w zero es u v ok joined s = tt
-sweeps-edge w (suc r) es u v ok joined (first, rest, e, sweep, s) =
+sweeps-edge w zero es u v pair s = tt
+sweeps-edge w (suc r) es u v pair (first, rest, e, sweep, s) =
     let same = sym (run-network w first) in
-    let later = sweeps-edge (run w first) r rest u v (subst IsAcceptedNetwork same ok) (subst (λ net. IsTrue (are_joined net.edges u v)) same joined) s in (
+    let later = sweeps-edge (run w first) r rest u v (subst (λ net. IsEdge net u v) same pair) s in (
       edge_events w first u v,
       edge_events (run w first) rest u v,
       ap (λ l. edge_events w l u v) e ∙ edge-events_join w first rest u v,
-      sweep-edge w first u v ok joined sweep,
-      subst (λ s. edge.Sweeps w.net.capacity s r (edge_events (run w first) rest u v)) (edge-runs w first u v ok joined sweep.undamaged)
+      sweep-edge w first u v pair sweep,
+      subst (λ s. edge.Sweeps w.net.capacity s r (edge_events (run w first) rest u v)) (edge-runs w first u v pair sweep.undamaged)
           (subst (λ net. edge.Sweeps net.capacity (edge_of (run w first) u v) r (edge_events (run w first) rest u v)) (run-network w first) later),
     )

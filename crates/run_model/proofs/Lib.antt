@@ -2,6 +2,7 @@ pub mod Steps
 pub mod Runs
 pub mod Splits
 pub mod EdgeSteps
+pub mod Joined
 pub mod Edges
 pub mod NodeRanges
 pub mod Ranges

@@ -9,7 +9,7 @@ use Rattle.std.specs.List.{All, Contains, remove}
 use Rattle.topology.specs.At.{at}
 use Rattle.topology.specs.Network.{Network, are_joined, neighbours_of, ring_of, IsAcceptedNetwork}
 use Rattle.topology.specs.Ranges.{ranges_of, frame_fits}
-use Rattle.topology.proofs.Joined.{neighbours_are_joined}
+use Rattle.topology.specs.Laws.{NeighboursAreJoined}
 use Rattle.topology.specs.declared.frame.Ranges.{Ranges}
 use Rattle.link_model.specs.declared.item.Item.{Item}
 use Rattle.link_model.specs.declared.item.Item.TheVariants.{Frame}
@@ -23,10 +23,10 @@ use Rattle.run_model.specs.Step.{first_fault, unless, link_fault, has_room, sent
 use Rattle.run_model.specs.declared.event.EventFault.{EventFault}
 use Rattle.run_model.proofs.NodeRanges.{IsSiteSound, at-fits, taken-range}
 
-pub site-sound : (net : Network) (v : ℕ) → IsAcceptedNetwork net → IsSiteSound (site_of net v)
-site-sound net v ok = record {
+pub site-sound : NeighboursAreJoined → (net : Network) (v : ℕ) → IsAcceptedNetwork net → IsSiteSound (site_of net v)
+site-sound near net v ok = record {
   ring = omega arith;
-  neighbours = All-weaker (Contains (neighbours_of net v)) (λ w. w < net.nodes) (λ w c. ((neighbours_are_joined net v w).0 c).0) (neighbours_of net v)
+  neighbours = All-weaker (Contains (neighbours_of net v)) (λ w. w < net.nodes) (λ w c. ((near net v w).0 c).0) (neighbours_of net v)
       (All-contains_itself (neighbours_of net v));
 }
 
@@ -133,28 +133,28 @@ frame-fits : (r : Ranges) (p : PortState) → port_fits r p ≡ true → frame_f
 frame-fits r p fits = grind (arith, common_steps, nat_tests)
 
 -- the port of a node to a neighbour is in range
-pub port-in_range : (w : World) (u v : ℕ) → IsWorldInRange w → IsLinked w u v → port_fits (ranges_of w.net) ((w.node u).port v) ≡ true
-port-in_range w u v range l =
+pub port-in_range : NeighboursAreJoined → (w : World) (u v : ℕ) → IsWorldInRange w → IsLinked w u v → port_fits (ranges_of w.net) ((w.node u).port v) ≡ true
+port-in_range near w u v range l =
     All-contains (λ x. IsTrue (port_fits (ranges_of w.net) ((w.node u).port x))) (neighbours_of w.net u) v (range.nodes u l.first).ports
-    ((neighbours_are_joined w.net u v).1 (l.second, l.joined))
+    ((near w.net u v).1 (l.second, l.joined))
 
-pub sent-range : (w : World) (u v : ℕ) → IsWorldInRange w → IsLinked w u v → IsWorldInRange (sent w u v)
-sent-range w u v range l =
+pub sent-range : NeighboursAreJoined → (w : World) (u v : ℕ) → IsWorldInRange w → IsLinked w u v → IsWorldInRange (sent w u v)
+sent-range near w u v range l =
     let frame = Frame (frame_of ((w.node u).port v)) in
     cond_both (has_room w u v) (with_link w u v (w.link u v ++ frame ∷ [])) w IsWorldInRange
     (λ room. link-range w u v (w.link u v ++ frame ∷ []) range (grind (arith, common_steps, nat_tests))
     (All-push (λ item. IsTrue (item_fits (ranges_of w.net) item)) (w.link u v) frame (range.items u v l.joined)
-    (frame-fits (ranges_of w.net) ((w.node u).port v) (port-in_range w u v range l))))
+    (frame-fits (ranges_of w.net) ((w.node u).port v) (port-in_range near w u v range l))))
     (λ _. range)
 
-pub handed-range : (w : World) (u v : ℕ) (items : List Item) → IsWorldInRange w → length items ≤ w.net.capacity → AllFit w items
+pub handed-range : NeighboursAreJoined → (w : World) (u v : ℕ) (items : List Item) → IsWorldInRange w → length items ≤ w.net.capacity → AllFit w items
     → IsWorldInRange (handed_over w u v items)
-handed-range w u v [] range few fit = range
-handed-range w u v (item ∷ rest) range few fit =
+handed-range near w u v [] range few fit = range
+handed-range near w u v (item ∷ rest) range few fit =
     let P = λ (item : Item). IsTrue (item_fits (ranges_of w.net) item) in
     let s = taken (site w v) u item (w.node v) in
     link-range (with_node w v s) u v rest
-    (node-range w v s range (λ l. taken-range (site w v) (w.node v) u item (site-sound w.net v range.network) (range.nodes v l) (All-head P item rest fit)))
+    (node-range w v s range (λ l. taken-range (site w v) (w.node v) u item (site-sound near w.net v range.network) (range.nodes v l) (All-head P item rest fit)))
     (omega arith) (All-tail P item rest fit)
 
 length-remove : {X : Type 0} (xs : List X) (i : ℕ) → length (remove xs i) ≤ length xs

@@ -7,6 +7,7 @@ use Rattle.std.proofs.lemmas.List.Elements.{All-nil, All-push}
 use Rattle.std.specs.Prelude.{◌==◌, nat_lt, nat_le, is_some, slice_index_or}
 use Rattle.topology.specs.At.{at}
 use Rattle.topology.specs.Network.{neighbours_of, ring_of}
+use Rattle.topology.specs.Laws.{NeighboursAreJoined}
 use Rattle.topology.specs.Ranges.{ranges_of, payload_fits, parent_fits}
 use Rattle.topology.specs.declared.frame.Payload.{Payload}
 use Rattle.topology.specs.declared.frame.Ranges.{Ranges}
@@ -68,7 +69,7 @@ room w u v item h = grind (arith, common_steps, nat_tests)
 no-fault : (fault : Option AskFault) → is_some (desk_fault fault) ≡ false → fault ≡ None
 no-fault fault fine = grind arith
 
-module _ (ticks : TicksKeepRanges) (asks : AsksKeepRanges) (leaves : LeavesKeepRanges) (loans : LoansKeepRanges) where
+module _ (ticks : TicksKeepRanges) (asks : AsksKeepRanges) (leaves : LeavesKeepRanges) (loans : LoansKeepRanges) (near : NeighboursAreJoined) where
   harmed-range : (w : World) (h : Harm) → IsWorldInRange w → is_some (harm_place_fault w h) ≡ false → harm_fits w h ≡ true → IsWorldInRange (harmed w h)
   harmed-range w (harm.Own v d p) range place fits = own-range w v d p range fits
   harmed-range w (harm.Counters v u seq last) range place fits =
@@ -87,13 +88,13 @@ module _ (ticks : TicksKeepRanges) (asks : AsksKeepRanges) (leaves : LeavesKeepR
   harmed-range w (harm.Empty u v) range place fits = link-range w u v [] range (omega arith) (All-nil (λ item. IsTrue (item_fits (ranges_of w.net) item)))
 
   changed-range : (w : World) (e : Event) → IsWorldInRange w → is_some (refusal w e) ≡ false → IsWorldInRange (changed w e)
-  changed-range w (Send u v) range fine = sent-range w u v range (linked w u v fine)
+  changed-range w (Send u v) range fine = sent-range near w u v range (linked w u v fine)
   changed-range w (Take u v) range fine =
-      let l = linked w u v fine in handed-range w u v (w.link u v) range (range.capacity u v l.joined) (range.items u v l.joined)
+      let l = linked w u v fine in handed-range near w u v (w.link u v) range (range.capacity u v l.joined) (range.items u v l.joined)
   changed-range w (Lose u v i) range fine =
       lost-range w u v i range (linked w u v (neither (link_fault w u v) (unless (nat_lt i (length (w.link u v))) NoItem) fine).0)
   changed-range w (Tick v) range fine =
-      node-range w v (ticked (site w v) (w.node v)) range (λ l. ticked-range ticks (site w v) (w.node v) (site-sound w.net v range.network) (range.nodes v l))
+      node-range w v (ticked (site w v) (w.node v)) range (λ l. ticked-range ticks (site w v) (w.node v) (site-sound near w.net v range.network) (range.nodes v l))
   changed-range w (Ask v t) range fine =
       let later = (neither (node_fault w v) (first_fault (ticket_fault t) (desk_fault (ask_fault t (w.node v).desk))) fine).1 in
       let parts = neither (ticket_fault t) (desk_fault (ask_fault t (w.node v).desk)) later in

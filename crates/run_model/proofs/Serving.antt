@@ -2,7 +2,7 @@
 use Rattle.std.proofs.Common.{◌≡◌, ℕ, ◌<◌, suc, List, [], ◌∷◌, ◌++◌, true, IsTrue, length, map, refl, sym, ap, subst, arith}
 use Rattle.std.proofs.lemmas.Bool.{or_left, or_right, or_parts}
 use Rattle.std.proofs.lemmas.List.{map-append}
-use Rattle.topology.specs.Network.{are_joined, IsAcceptedNetwork}
+use Rattle.topology.specs.Network.{are_joined}
 use Rattle.link_model.specs.declared.item.Item.{Item}
 use Rattle.link_model.specs.declared.item.Item.TheVariants.{Frame}
 use Rattle.data_link.specs.Port.{frame_of}
@@ -13,6 +13,7 @@ use Rattle.run_model.specs.Step.{step}
 use Rattle.run_model.specs.Run.{run, is_damage, has_damage, IsUndamaged}
 use Rattle.run_model.specs.Sweep.{is_full_tick, has_full_tick, link_act, is_served, IsSweep}
 use Rattle.run_model.specs.declared.event.Event.{Event}
+use Rattle.run_model.proofs.Joined.{IsEdge, AreEdges}
 use Rattle.run_model.proofs.Steps.{step-network}
 use Rattle.run_model.proofs.Runs.{run-network, undamaged-splits}
 use Rattle.run_model.proofs.Edges.{link-after}
@@ -74,30 +75,30 @@ abbrev pub IsBeside : List Origin → List Item → Type 0
 IsBeside origins items = IsMarked (λ item. Unit {0}) origins items
 
 -- a stretch hands over what its end does, counted on its own
-hands-late : (w : World) (i : ℕ) (xs ys : List Event) (u v : ℕ) (origins : List Origin) → IsAcceptedNetwork w.net → IsTrue (are_joined w.net.edges u v)
+hands-late : (w : World) (i : ℕ) (xs ys : List Event) (u v : ℕ) (origins : List Origin) → IsEdge w.net u v
     → IsUndamaged w xs → IsBeside origins (w.link u v) → is_served (run w xs) ys u v ≡ true
     → hands_over_sent w.net.capacity i (map (link_act u v) (xs ++ ys)) origins ≡ true
-hands-late w i [] ys u v origins ok joined fine e h =
+hands-late w i [] ys u v origins pair fine e h =
     more-sent w.net.capacity 0 i (map (link_act u v) ys) (map (λ item. Before) (w.link u v)) origins
     (subst (λ l. IsMarked IsSent l origins) (sym (fresh-marks (w.link u v) origins (marked-length (λ item. Unit {0}) origins (w.link u v) e))) (marked-start IsSent origins)) h
-hands-late w i (event ∷ xs) ys u v origins ok joined fine e h =
+hands-late w i (event ∷ xs) ys u v origins pair fine e h =
     let parts = or_parts (is_damage w event) (has_damage (step w event) xs) fine in
     let same = sym (step-network w event) in
     let capacity = w.net.capacity in
     let act = link_act u v event in
     let later = list_after capacity (Sent i) act origins in
     let beside : IsBeside later ((step w event).link u v)
-    = subst (IsBeside later) (sym (link-after w event u v ok joined parts.0))
+    = subst (IsBeside later) (sym (link-after w event u v pair parts.0))
     (marked-after (λ item. Unit {0}) capacity i (Frame (frame_of ((w.node u).port v))) act origins (w.link u v) tt e) in
     or_right (takes_sent act origins) (hands_over_sent capacity (suc i) (map (link_act u v) (xs ++ ys)) later)
     (subst (λ net. hands_over_sent net.capacity (suc i) (map (link_act u v) (xs ++ ys)) later ≡ true) (step-network w event)
-    (hands-late (step w event) (suc i) xs ys u v later (subst IsAcceptedNetwork same ok) (subst (λ net. IsTrue (are_joined net.edges u v)) same joined) parts.1 beside h))
+    (hands-late (step w event) (suc i) xs ys u v later (subst (λ net. IsEdge net u v) same pair) parts.1 beside h))
 
 -- a stretch serves a link that its end serves
-pub served-late : (w : World) (xs ys : List Event) (u v : ℕ) → IsAcceptedNetwork w.net → IsTrue (are_joined w.net.edges u v) → IsUndamaged w xs
+pub served-late : (w : World) (xs ys : List Event) (u v : ℕ) → IsEdge w.net u v → IsUndamaged w xs
     → is_served (run w xs) ys u v ≡ true → is_served w (xs ++ ys) u v ≡ true
-served-late w xs ys u v ok joined fine h =
-    hands-late w 0 xs ys u v (map (λ item. Before) (w.link u v)) ok joined fine (marked-start (λ item. Unit {0}) (w.link u v)) h
+served-late w xs ys u v pair fine h =
+    hands-late w 0 xs ys u v (map (λ item. Before) (w.link u v)) pair fine (marked-start (λ item. Unit {0}) (w.link u v)) h
 
 -- and one that its beginning serves
 pub served-early : (w : World) (xs ys : List Event) (u v : ℕ) → is_served w xs u v ≡ true → is_served w (xs ++ ys) u v ≡ true
@@ -114,18 +115,18 @@ sweep-early w xs ys fine sweep = record {
   served = λ u v joined. served-early w xs ys u v (sweep.served u v joined);
 }
 
-pub sweep-late : (w : World) (xs ys : List Event) → IsAcceptedNetwork w.net → IsUndamaged w (xs ++ ys) → IsSweep (run w xs) ys → IsSweep w (xs ++ ys)
-sweep-late w xs ys ok fine sweep =
+pub sweep-late : (w : World) (xs ys : List Event) → AreEdges w.net → IsUndamaged w (xs ++ ys) → IsSweep (run w xs) ys → IsSweep w (xs ++ ys)
+sweep-late w xs ys edges fine sweep =
     let same = sym (run-network w xs) in record {
       undamaged = fine;
       ticked = λ v l. ticked-late w xs ys v (sweep.ticked v (subst (λ net. v < net.nodes) same l));
       served = λ u v joined.
-          served-late w xs ys u v ok joined (undamaged-splits w xs ys fine).0
+          served-late w xs ys u v (edges u v joined) (undamaged-splits w xs ys fine).0
           (sweep.served u v (subst (λ net. IsTrue (are_joined net.edges u v)) same joined));
     }
 
 -- more events before or behind a sweep leave it a sweep
-pub sweep-grows : (w : World) (front es back : List Event) → IsAcceptedNetwork w.net → IsUndamaged w (front ++ es ++ back) → IsSweep (run w front) es
+pub sweep-grows : (w : World) (front es back : List Event) → AreEdges w.net → IsUndamaged w (front ++ es ++ back) → IsSweep (run w front) es
     → IsSweep w (front ++ es ++ back)
-sweep-grows w front es back ok fine sweep =
-    sweep-early w (front ++ es) back fine (sweep-late w front es ok (undamaged-splits w (front ++ es) back fine).0 sweep)
+sweep-grows w front es back edges fine sweep =
+    sweep-early w (front ++ es) back fine (sweep-late w front es edges (undamaged-splits w (front ++ es) back fine).0 sweep)

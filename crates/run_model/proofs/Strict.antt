@@ -1,8 +1,8 @@
 -- A strict sweep is a sweep: on each link it hands over more items than were there.
-use Rattle.std.proofs.Common.{◌≡◌, ℕ, zero, suc, List, [], ◌∷◌, IsTrue, refl, sym, ◌∙◌, ap, subst, arith}
+use Rattle.std.proofs.Common.{◌≡◌, ℕ, zero, suc, List, [], ◌∷◌, refl, sym, ◌∙◌, ap, subst, arith}
 use Rattle.std.proofs.lemmas.Bool.{or_parts}
-use Rattle.topology.specs.Network.{are_joined, IsAcceptedNetwork}
-use Rattle.topology.proofs.Joined.{joined_back}
+use Rattle.topology.specs.Network.{Network, IsAcceptedNetwork}
+use Rattle.topology.specs.Laws.{NeighboursAreJoined}
 use Rattle.data_link.specs.Laws.{StrictSweepIsSweep}
 use Rattle.data_link.specs.Sweep as edge
 use Rattle.data_link.specs.Sweep.{act_out, act_back, takes_item, handed_out, handed_back}
@@ -15,48 +15,49 @@ use Rattle.run_model.specs.Legitimate.{edge_of}
 use Rattle.run_model.specs.Project.{edge_events}
 use Rattle.run_model.specs.Laws.{RangesStay}
 use Rattle.run_model.specs.declared.event.Event.{Event}
+use Rattle.run_model.proofs.Joined.{IsEdge, AreEdges}
 use Rattle.run_model.proofs.Steps.{step-network}
-use Rattle.run_model.proofs.Edges.{joined-apart, act-out, act-back, edge-steps, served-out}
+use Rattle.run_model.proofs.Edges.{act-out, act-back, edge-steps, served-out}
 use Rattle.run_model.proofs.EdgeRanges.{edge-range}
 
 -- what a stretch hands over on a link is what the edge's own events do
-handed-out : (w : World) (es : List Event) (u v : ℕ) → IsAcceptedNetwork w.net → IsTrue (are_joined w.net.edges u v) → IsUndamaged w es
+handed-out : (w : World) (es : List Event) (u v : ℕ) → IsEdge w.net u v → IsUndamaged w es
     → handed_out w.net.capacity (edge_of w u v) (edge_events w es u v) ≡ handed_in w es u v
-handed-out w [] u v ok joined fine = refl
-handed-out w (e ∷ es) u v ok joined fine =
+handed-out w [] u v pair fine = refl
+handed-out w (e ∷ es) u v pair fine =
     let parts = or_parts (is_damage w e) (has_damage (step w e) es) fine in
     let same = sym (step-network w e) in
-    let later = handed-out (step w e) es u v (subst IsAcceptedNetwork same ok) (subst (λ net. IsTrue (are_joined net.edges u v)) same joined) parts.1 in
-    let moved = ap (λ s. handed_out w.net.capacity s (edge_events (step w e) es u v)) (sym (edge-steps w e u v ok joined parts.0)) in
+    let later = handed-out (step w e) es u v (subst (λ net. IsEdge net u v) same pair) parts.1 in
+    let moved = ap (λ s. handed_out w.net.capacity s (edge_events (step w e) es u v)) (sym (edge-steps w e u v pair parts.0)) in
     let kept = ap (λ net. handed_out net.capacity (edge_of (step w e) u v) (edge_events (step w e) es u v)) same in
-    let now = ap (λ act. takes_item act (w.link u v)) (act-out w e u v (joined-apart w.net u v ok joined)) in
+    let now = ap (λ act. takes_item act (w.link u v)) (act-out w e u v pair.apart) in
     omega (arith, now, moved, kept, later)
 
-handed-back : (w : World) (es : List Event) (u v : ℕ) → IsAcceptedNetwork w.net → IsTrue (are_joined w.net.edges u v) → IsUndamaged w es
+handed-back : (w : World) (es : List Event) (u v : ℕ) → IsEdge w.net u v → IsUndamaged w es
     → handed_back w.net.capacity (edge_of w u v) (edge_events w es u v) ≡ handed_in w es v u
-handed-back w [] u v ok joined fine = refl
-handed-back w (e ∷ es) u v ok joined fine =
+handed-back w [] u v pair fine = refl
+handed-back w (e ∷ es) u v pair fine =
     let parts = or_parts (is_damage w e) (has_damage (step w e) es) fine in
     let same = sym (step-network w e) in
-    let later = handed-back (step w e) es u v (subst IsAcceptedNetwork same ok) (subst (λ net. IsTrue (are_joined net.edges u v)) same joined) parts.1 in
-    let moved = ap (λ s. handed_back w.net.capacity s (edge_events (step w e) es u v)) (sym (edge-steps w e u v ok joined parts.0)) in
+    let later = handed-back (step w e) es u v (subst (λ net. IsEdge net u v) same pair) parts.1 in
+    let moved = ap (λ s. handed_back w.net.capacity s (edge_events (step w e) es u v)) (sym (edge-steps w e u v pair parts.0)) in
     let kept = ap (λ net. handed_back net.capacity (edge_of (step w e) u v) (edge_events (step w e) es u v)) same in
-    let now = ap (λ act. takes_item act (w.link v u)) (act-back w e u v (joined-apart w.net u v ok joined)) in
+    let now = ap (λ act. takes_item act (w.link v u)) (act-back w e u v pair.apart) in
     omega (arith, now, moved, kept, later)
 
-module _ (strict : StrictSweepIsSweep) (stay : RangesStay) where
+module _ (strict : StrictSweepIsSweep) (near : NeighboursAreJoined) (edges : (net : Network) → IsAcceptedNetwork net → AreEdges net) (stay : RangesStay) where
   strict-sweep : (w : World) (es : List Event) → IsWorldInRange w → IsStrictSweep w es → IsSweep w es
   strict-sweep w es range sweep = record {
     undamaged = sweep.undamaged;
     ticked = sweep.ticked;
     served = λ u v joined.
-        let back : IsTrue (are_joined w.net.edges v u) = rw (joined_back w.net.edges v u) joined in
+        let pair = edges w.net range.network u v joined in
         let one : edge.IsStrictSweep w.net.capacity (edge_of w u v) (edge_events w es u v) = record {
-          out = omega (arith, sweep.handed u v joined, handed-out w es u v range.network joined sweep.undamaged);
-          back = omega (arith, sweep.handed v u back, handed-back w es u v range.network joined sweep.undamaged);
+          out = omega (arith, sweep.handed u v joined, handed-out w es u v pair sweep.undamaged);
+          back = omega (arith, sweep.handed v u pair.back, handed-back w es u v pair sweep.undamaged);
         } in
-        served-out w es u v (joined-apart w.net u v range.network joined)
-        ∙ (strict w.net.capacity (edge_of w u v) (edge_events w es u v) (edge-range w u v range joined) one).out;
+        served-out w es u v pair.apart
+        ∙ (strict w.net.capacity (edge_of w u v) (edge_events w es u v) (edge-range near w u v range pair) one).out;
   }
 
   pub strict-sweeps : (w : World) (r : ℕ) (es : List Event) → IsWorldInRange w → StrictSweeps w r es → Sweeps w r es

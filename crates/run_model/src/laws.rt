@@ -21,6 +21,7 @@ pub fn in_range()
     ensures { RangesStay }
 {
     lock_desk::laws::ranges_are_kept();
+    topology::laws::neighbours();
 }
 
 /// One edge of a world: an event that is no damage is one event of the edge, so a run is a run of the edge and a sweep is a sweep of
@@ -31,7 +32,10 @@ pub fn edges()
     ensures runs { EdgeRuns }
     ensures served { EdgeIsServed }
     ensures sweeps { EdgeSweeps }
-{}
+{
+    topology::laws::joined();
+    topology::laws::neighbours();
+}
 
 /// Lists that hold sweeps: r + s sweeps are r and then s, and the other way round; a list that holds some holds fewer; events before
 /// or behind take none away. Convergence goes in stages, each with sweeps of its own.
@@ -41,12 +45,16 @@ pub fn sweep_numbers()
     ensures join { SweepsJoin }
     ensures fewer { FewerSweeps }
     ensures grow { SweepsGrow }
-{}
+{
+    topology::laws::joined();
+}
 
 /// A sweep that counts the items that a link hands over, more than it can hold, is a sweep too.
 pub fn strict_sweeps()
     ensures { StrictSweepsAreSweeps }
 {
+    topology::laws::joined();
+    topology::laws::neighbours();
     data_link::laws::sweep_law();
     in_range();
 }
@@ -62,7 +70,9 @@ pub fn sweep_counts()
     ensures stays { CountStays }
     ensures rises { CountRises }
     ensures one { OneCount }
-{}
+{
+    topology::laws::joined();
+}
 
 /// The moment after the last damage, and whom the privilege has visited since, as events come. Sweeps and visits are counted from there.
 pub fn moments()

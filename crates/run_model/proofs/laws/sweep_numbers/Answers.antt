@@ -1,4 +1,5 @@
 use Rattle.std.proofs.Common.{refl, ◌+◌}
+use Rattle.run_model.proofs.Joined.{are-edges}
 use Rattle.run_model.proofs.Serving.{sweep-grows}
 use Rattle.run_model.proofs.Counts.{sweeps-join}
 use Rattle.run_model.proofs.Splits.{sweeps-split_sum, fewer-sweeps, sweeps-grow}
@@ -14,7 +15,11 @@ pub returns-clause-grow : goal.returns-clause-grow
 returns-clause-grow c = sweeps-grow
 
 pub returns-clause-grows : goal.returns-clause-grows
-returns-clause-grows c = λ w front es back range. sweep-grows w front es back range.network
+returns-clause-grows c =
+    let known = c.joined.ensures in λ w front es back range.
+    sweep-grows w front es back (are-edges known.back known.nodes known.not_to_itself w.net range.network)
 
 pub returns-clause-join : goal.returns-clause-join
-returns-clause-join c = λ w r s first rest range fine a b. sweeps-join w r s first rest range.network fine a b (r + s) refl
+returns-clause-join c =
+    let known = c.joined.ensures in λ w r s first rest range fine a b.
+    sweeps-join w r s first rest (are-edges known.back known.nodes known.not_to_itself w.net range.network) fine a b (r + s) refl
