@@ -1,3 +1,4 @@
 pub mod WordLemmas
 pub mod NumberLemmas
 pub mod ReaderLemmas
+pub mod Rows
