@@ -6,7 +6,7 @@ use Rattle.topology.specs.Network.{are_joined}
 use Rattle.topology.specs.Ranges.{ranges_of, parent_fits, payload_fits}
 use Rattle.link_model.specs.declared.item.Item.{Item}
 use Rattle.link_model.specs.declared.item.Item.TheVariants.{Frame}
-use Rattle.data_link.specs.Port.{PortState, frame_of}
+use Rattle.data_link.specs.Port.{PortState, frame_of, counters_fit}
 use Rattle.lock_desk.specs.Desk.{DeskState, is_number, ask_fault, asked, is_stranger, after_leave, loan_fits, with_loan}
 use Rattle.lock_desk.specs.declared.fault.AskFault.{AskFault}
 use Rattle.lock_desk.specs.declared.fault.AskFault.TheVariants as ask
@@ -28,6 +28,7 @@ first_fault None later = later
 abbrev pub unless : Bool → EventFault → Option EventFault
 unless test fault = if test then None else Some fault
 
+-- the node must be there
 abbrev pub node_fault : World → ℕ → Option EventFault
 node_fault w v = unless (nat_lt v w.net.nodes) NoNode
 
@@ -35,11 +36,11 @@ node_fault w v = unless (nat_lt v w.net.nodes) NoNode
 abbrev pub link_fault : World → ℕ → ℕ → Option EventFault
 link_fault w u v = first_fault (unless (nat_lt u w.net.nodes && nat_lt v w.net.nodes) NoNode) (unless (are_joined w.net.edges u v) NoLink)
 
--- a link with room for one more item
+-- the link has room for one more item
 abbrev pub has_room : World → ℕ → ℕ → Bool
 has_room w u v = nat_lt (length (w.link u v)) w.net.capacity
 
--- where a harm writes
+-- a harm writes at a node, or at a port, value or link of two neighbours, which must be there
 abbrev pub harm_place_fault : World → Harm → Option EventFault
 harm_place_fault w (harm.Own v d p) = node_fault w v
 harm_place_fault w (harm.Counters v u seq last) = link_fault w v u
@@ -50,10 +51,10 @@ harm_place_fault w (harm.Desk v lent left served) = node_fault w v
 harm_place_fault w (harm.Item u v item) = link_fault w u v
 harm_place_fault w (harm.Empty u v) = link_fault w u v
 
--- what a harm writes is in range
+-- what a harm writes is in range; an item needs room on its link too
 abbrev pub harm_fits : World → Harm → Bool
 harm_fits w (harm.Own v d p) = nat_le d w.net.nodes && parent_fits w.net.nodes p
-harm_fits w (harm.Counters v u seq last) = nat_lt seq (ranges_of w.net).counter && nat_lt last (ranges_of w.net).counter
+harm_fits w (harm.Counters v u seq last) = counters_fit (ranges_of w.net) seq last
 harm_fits w (harm.Staged v u payload) = payload_fits (ranges_of w.net) payload
 harm_fits w (harm.Copy v u payload) = payload_fits (ranges_of w.net) payload
 harm_fits w (harm.Value v u x) = nat_lt x (ranges_of w.net).ring
@@ -61,7 +62,7 @@ harm_fits w (harm.Desk v lent left served) = loan_fits w.net.lease (w.node v).de
 harm_fits w (harm.Item u v item) = item_fits (ranges_of w.net) item && has_room w u v
 harm_fits w (harm.Empty u v) = true
 
--- the desk's refusals
+-- a desk's refusals of a ticket, as refusals of the event
 abbrev pub desk_fault : Option AskFault → Option EventFault
 desk_fault None = None
 desk_fault (Some ask.Full) = Some Full
@@ -81,14 +82,15 @@ refusal w (Ask v t) = first_fault (node_fault w v) (first_fault (ticket_fault t)
 refusal w (Leave v t) = first_fault (node_fault w v) (unless (not (is_stranger t (w.node v).desk)) Stranger)
 refusal w (Damage h) = first_fault (harm_place_fault w h) (unless (harm_fits w h) OutOfRange)
 
--- the port of v to u, the desk of v, or all else of v, written
+-- the world with another port of v to u
 abbrev pub with_port : World → ℕ → ℕ → PortState → World
 with_port w v u p = with_node w v (record (w.node v) { port = at (w.node v).port u p })
 
+-- the world with another desk at v
 abbrev pub with_desk : World → ℕ → DeskState → World
 with_desk w v d = with_node w v (record (w.node v) { desk = d })
 
--- one part is written
+-- the world with that one part written
 abbrev pub harmed : World → Harm → World
 harmed w (harm.Own v d p) = with_node w v (record (w.node v) { distance = d; parent = p })
 harmed w (harm.Counters v u seq last) = with_port w v u (record ((w.node v).port u) { seq = seq; last = last })
