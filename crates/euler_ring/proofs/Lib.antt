@@ -6,5 +6,6 @@ mod Circle
 mod Trees
 mod Chains
 mod Lengths
+mod Below
 mod Tours
 mod Rows

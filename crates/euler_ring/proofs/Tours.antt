@@ -1,5 +1,5 @@
 -- The tour of the true tree: it goes round, along each edge of the tree once in each direction.
-use Rattle.std.proofs.Common.{◌≡◌, ◌≢◌, ℕ, ◌+◌, ◌-◌, ◌*◌, ◌<◌, ◌≤◌, zero, suc, true, false, List, [], ◌∷◌, ◌++◌, length, Some, None, inl, inr, refl, sym, ◌∙◌, ap, subst, arith, IsTrue}
+use Rattle.std.proofs.Common.{◌≡◌, ◌≢◌, ℕ, ◌+◌, ◌-◌, ◌*◌, ◌<◌, ◌≤◌, zero, suc, true, false, List, [], ◌∷◌, ◌++◌, length, Some, inl, inr, refl, sym, ◌∙◌, ap, subst, arith, IsTrue}
 use Rattle.std.specs.Prelude.{◌↔◌}
 use Rattle.std.specs.List.{AllByRecursion}
 use Rattle.std.proofs.lemmas.Bool.{cases_eq}
@@ -11,95 +11,20 @@ use Rattle.euler_ring.specs.Cycle.{is_on, next_after, source_for, lowest}
 use Rattle.euler_ring.specs.Tour.{Stop, children_of, in_order_after, through, tour_below, tour_of_children, tour}
 use Rattle.euler_ring.specs.Laws.{true_neighbours, IsTreeEdge, stop_after, IsStopOf, NoStopTwice, IsRound}
 use Rattle.euler_ring.proofs.Ascending.{IsFrom, not_on}
-use Rattle.euler_ring.proofs.Circle.{IsCycle, source_of_next}
+use Rattle.euler_ring.proofs.Circle.{source_of_next}
 use Rattle.euler_ring.proofs.Chains.{IsChain, chain-append, goes_to, in-left, in-right, in-either, none_twice}
 use Rattle.euler_ring.proofs.Lengths.{edges_length}
+use Rattle.euler_ring.proofs.Below.{IsEdge, through-has, parent_node, through-chain, below-chain, through-edges, below-edges, not_root, below-off-root}
 use Rattle.euler_ring.proofs.Trees as trees
-
--- through the children leads to each of them, through what is below it, and back
-through-has : (below : ℕ → ℕ → List Stop) (v : ℕ) (cs : List ℕ) (c : ℕ) → is_on cs c ≡ true →
-    IsStopOf (through below v cs) (v, c) × IsStopOf (through below v cs) (c, v) × ((s : Stop) → IsStopOf (below c v) s → IsStopOf (through below v cs) s)
-through-has below v [] c on = absurd (grind arith)
-through-has below v (x ∷ xs) c on = elim (cases_eq x c) [
-  | inl e ↦ subst (λ y. IsStopOf (through below v (x ∷ xs)) (v, y) × IsStopOf (through below v (x ∷ xs)) (y, v) × ((s : Stop) → IsStopOf (below y v) s → IsStopOf (through below v (x ∷ xs)) s)) e (
-    inl refl,
-    inr (in-right (below x v) ((x, v) ∷ through below v xs) (x, v) (inl refl)),
-    λ s i. inr (in-left (below x v) ((x, v) ∷ through below v xs) s i),
-  )
-  | inr ne ↦ (
-      let has = through-has below v xs c (grind (arith, nat_tests)) in
-      let on' : (s : Stop) → IsStopOf (through below v xs) s → IsStopOf (through below v (x ∷ xs)) s = λ s i. inr (in-right (below x v) ((x, v) ∷ through below v xs) s (inr i)) in
-      (on' (v, c) has.0, on' (c, v) has.1, λ s i. on' s (has.2 s i)))
-]
 
 module _ (net : Network) (tree : IsTree net) (back : (v w : ℕ) → are_joined net.edges v w ≡ are_joined net.edges w v)
     (nodes : (v w : ℕ) → IsTrue (are_joined net.edges v w) → (v < net.nodes) × (w < net.nodes)) (two : 2 ≤ net.nodes) (root_in : net.root < net.nodes) where
-  parent_node : (v p : ℕ) → parent_of net v ≡ Some p → v < net.nodes
-  parent_node v p e = (nodes v p (tree.parent_joined v p e)).0
-
-  -- ---- each stop follows from the one before
-
-  through-chain : (depth v p m : ℕ) (cs : List ℕ) → net.nodes ≤ distance_of net v + suc depth → AllByRecursion (λ c. parent_of net c ≡ Some v) cs → IsCycle (next_after (true_neighbours net v)) m cs p →
-      ((v p : ℕ) → net.nodes ≤ distance_of net v + depth → parent_of net v ≡ Some p → IsChain (stop_after net) (p, v) (tour_below depth net v p) (v, p)) →
-      IsChain (stop_after net) (m, v) (through (tour_below depth net) v cs) (v, p)
-  through-chain depth v p m [] l ps cycle each = ap (λ x. (v, x)) cycle
-  through-chain depth v p m (c ∷ cs) l ps cycle each = (
-    ap (λ x. (v, x)) cycle.0,
-    chain-append (stop_after net) (v, c) (tour_below depth net c v) (c, v) (through (tour_below depth net) v cs) (v, p)
-        (each c v (omega (arith, l, tree.parent_nearer c v ps.0)) ps.0) (through-chain depth v p c cs l ps.1 cycle.1 each),
-  )
-
-  below-chain : (depth v p : ℕ) → net.nodes ≤ distance_of net v + depth → parent_of net v ≡ Some p → IsChain (stop_after net) (p, v) (tour_below depth net v p) (v, p)
-  below-chain zero v p l e = absurd (omega (arith, l, tree.below v (parent_node v p e)))
-  below-chain (suc depth) v p l e =
-      through-chain depth v p p (in_order_after p (children_of net v)) l (trees.order-children net tree back nodes v p) (trees.round-node net tree back nodes v p e)
-      (λ u m k f. below-chain depth u m k f)
-
-  -- ---- every stop is an edge of the tree
-
-  abbrev pub IsEdge : Stop → Type 0
-  IsEdge s = IsTreeEdge net s.0 s.1
-
-  through-edges : (depth v : ℕ) (cs : List ℕ) → AllByRecursion (λ c. parent_of net c ≡ Some v) cs → ((u m : ℕ) (s : Stop) → IsStopOf (tour_below depth net u m) s → IsEdge s) →
-      (s : Stop) → IsStopOf (through (tour_below depth net) v cs) s → IsEdge s
-  through-edges depth v [] ps each s i = absurd i
-  through-edges depth v (c ∷ cs) ps each s (inl e) = subst IsEdge (sym e) (inr ps.0)
-  through-edges depth v (c ∷ cs) ps each s (inr i) = elim (in-either (tour_below depth net c v) ((c, v) ∷ through (tour_below depth net) v cs) s i) [
-    | inl below ↦ each c v s below
-    | inr (inl e) ↦ subst IsEdge (sym e) (inl ps.0)
-    | inr (inr rest) ↦ through-edges depth v cs ps.1 each s rest
-  ]
-
-  below-edges : (depth v p : ℕ) (s : Stop) → IsStopOf (tour_below depth net v p) s → IsEdge s
-  below-edges zero v p s i = absurd i
-  below-edges (suc depth) v p s i = through-edges depth v (in_order_after p (children_of net v)) (trees.order-children net tree back nodes v p) (λ u m t k. below-edges depth u m t k) s i
-
-  -- ---- below a node other than the root the tour does not come to the root
-
-  not_root : (v c : ℕ) → parent_of net c ≡ Some v → c ≢ net.root
-  not_root v c e = λ is. let none : None ≡ Some v = sym tree.root_parent ∙ ap (parent_of net) (sym is) ∙ e in cc
-
-  through-off-root : (depth v : ℕ) (cs : List ℕ) → v ≢ net.root → AllByRecursion (λ c. parent_of net c ≡ Some v) cs →
-      ((u m : ℕ) (s : Stop) → u ≢ net.root → IsStopOf (tour_below depth net u m) s → s.1 ≢ net.root) → (s : Stop) → IsStopOf (through (tour_below depth net) v cs) s → s.1 ≢ net.root
-  through-off-root depth v [] ne ps each s i = absurd i
-  through-off-root depth v (c ∷ cs) ne ps each s (inl e) = subst (λ x. x.1 ≢ net.root) (sym e) (not_root v c ps.0)
-  through-off-root depth v (c ∷ cs) ne ps each s (inr i) = elim (in-either (tour_below depth net c v) ((c, v) ∷ through (tour_below depth net) v cs) s i) [
-    | inl below ↦ each c v s (not_root v c ps.0) below
-    | inr (inl e) ↦ subst (λ x. x.1 ≢ net.root) (sym e) ne
-    | inr (inr rest) ↦ through-off-root depth v cs ne ps.1 each s rest
-  ]
-
-  below-off-root : (depth v p : ℕ) (s : Stop) → v ≢ net.root → IsStopOf (tour_below depth net v p) s → s.1 ≢ net.root
-  below-off-root zero v p s ne i = absurd i
-  below-off-root (suc depth) v p s ne i =
-      through-off-root depth v (in_order_after p (children_of net v)) ne (trees.order-children net tree back nodes v p) (λ u m t k j. below-off-root depth u m t k j) s i
-
   -- the tour comes from t to the root at its beginning alone
   through-without : (t : ℕ) (cs : List ℕ) → t ≢ net.root → AllByRecursion (λ c. parent_of net c ≡ Some net.root) cs → is_on cs t ≡ false → ¬ IsStopOf (through (tour_below net.nodes net) net.root cs) (t, net.root)
   through-without t [] ne ps off i = absurd i
   through-without t (c ∷ cs) ne ps off (inl e) = ne (ap (λ x. x.0) e)
   through-without t (c ∷ cs) ne ps off (inr i) = elim (in-either (tour_below net.nodes net c net.root) ((c, net.root) ∷ through (tour_below net.nodes net) net.root cs) (t, net.root) i) [
-    | inl below ↦ below-off-root net.nodes c net.root (t, net.root) (not_root net.root c ps.0) below refl
+    | inl below ↦ below-off-root net tree back nodes net.nodes c net.root (t, net.root) (not_root net tree back nodes net.root c ps.0) below refl
     | inr (inl e) ↦ (let same : t ≡ c = ap (λ x. x.0) e in absurd (grind (arith, nat_tests)))
     | inr (inr rest) ↦ through-without t cs ne ps.1 (grind (arith, nat_tests)) rest
   ]
@@ -110,10 +35,10 @@ module _ (net : Network) (tree : IsTree net) (back : (v w : ℕ) → are_joined 
   flipped v w (inl e) = inr e
   flipped v w (inr e) = inl e
 
-  came_from : (s : Stop) → IsEdge s → source_for (true_neighbours net s.1) (next_after (true_neighbours net s.1) s.0) ≡ s.0
+  came_from : (s : Stop) → IsEdge net s → source_for (true_neighbours net s.1) (next_after (true_neighbours net s.1) s.0) ≡ s.0
   came_from s e = source_of_next (true_neighbours net s.1) s.0 (trees.true-from net tree back nodes s.1) (trees.of-edge net tree back nodes s.1 s.0 (flipped s.0 s.1 e))
 
-  one_before : (a b : Stop) → IsEdge a → IsEdge b → stop_after net a ≡ stop_after net b → a ≡ b
+  one_before : (a b : Stop) → IsEdge net a → IsEdge net b → stop_after net a ≡ stop_after net b → a ≡ b
   one_before a b ea eb same =
       let here : a.1 ≡ b.1 = ap (λ x. x.0) same in
       let onward : next_after (true_neighbours net a.1) a.0 ≡ next_after (true_neighbours net b.1) b.0 = ap (λ x. x.1) same in
@@ -175,8 +100,8 @@ module _ (net : Network) (tree : IsTree net) (back : (v w : ℕ) → are_joined 
     tour-chain =
         let far = tree.below net.root root_in in
         chain-append (stop_after net) (t, net.root) (through (tour_below net.nodes net) net.root others) (net.root, t) (tour_below net.nodes net t net.root) (t, net.root)
-        (through-chain net.nodes net.root t t others (omega (arith, tree.root)) the_others (trees.round-root net tree back nodes t others cs) (λ v p l e. below-chain net.nodes v p (omega arith) e))
-        (below-chain net.nodes t net.root (omega arith) first)
+        (through-chain net tree back nodes net.nodes net.root t t others (omega (arith, tree.root)) the_others (trees.round-root net tree back nodes t others cs) (λ v p l e. below-chain net tree back nodes net.nodes v p (omega arith) e))
+        (below-chain net tree back nodes net.nodes t net.root (omega arith) first)
 
     pub round : IsRound net
     round = record {
@@ -188,12 +113,12 @@ module _ (net : Network) (tree : IsTree net) (back : (v w : ℕ) → are_joined 
     }
 
     -- each stop is an edge
-    pub tour-edges : (s : Stop) → IsStopOf ((t, net.root) ∷ rest) s → IsEdge s
-    tour-edges s (inl e) = subst IsEdge (sym e) (inl first)
+    pub tour-edges : (s : Stop) → IsStopOf ((t, net.root) ∷ rest) s → IsEdge net s
+    tour-edges s (inl e) = subst (IsEdge net) (sym e) (inl first)
     tour-edges s (inr i) = elim (in-either (through (tour_below net.nodes net) net.root others) ((net.root, t) ∷ tour_below net.nodes net t net.root) s i) [
-      | inl along ↦ through-edges net.nodes net.root others the_others (λ u m x k. below-edges net.nodes u m x k) s along
-      | inr (inl e) ↦ subst IsEdge (sym e) (inr first)
-      | inr (inr below) ↦ below-edges net.nodes t net.root s below
+      | inl along ↦ through-edges net tree back nodes net.nodes net.root others the_others (λ u m x k. below-edges net tree back nodes net.nodes u m x k) s along
+      | inr (inl e) ↦ subst (IsEdge net) (sym e) (inr first)
+      | inr (inr below) ↦ below-edges net tree back nodes net.nodes t net.root s below
     ]
 
     -- and no stop stands twice
@@ -201,13 +126,13 @@ module _ (net : Network) (tree : IsTree net) (back : (v w : ℕ) → are_joined 
     first-once i = elim (in-either (through (tour_below net.nodes net) net.root others) ((net.root, t) ∷ tour_below net.nodes net t net.root) (t, net.root) i) [
       | inl along ↦ (
           let from = subst (IsFrom 0) cs (trees.children-from net tree back nodes net.root) in
-          through-without t others (not_root net.root t first) the_others (not_on (t + 1) others t from.1 (omega arith)) along)
-      | inr (inl e) ↦ not_root net.root t first (ap (λ x. x.0) e)
-      | inr (inr below) ↦ below-off-root net.nodes t net.root (t, net.root) (not_root net.root t first) below refl
+          through-without t others (not_root net tree back nodes net.root t first) the_others (not_on (t + 1) others t from.1 (omega arith)) along)
+      | inr (inl e) ↦ not_root net tree back nodes net.root t first (ap (λ x. x.0) e)
+      | inr (inr below) ↦ below-off-root net tree back nodes net.nodes t net.root (t, net.root) (not_root net tree back nodes net.root t first) below refl
     ]
 
     pub tour-none-twice : NoStopTwice ((t, net.root) ∷ rest)
-    tour-none-twice = none_twice (stop_after net) IsEdge one_before (t, net.root) rest (t, net.root) tour-chain tour-edges first-once
+    tour-none-twice = none_twice (stop_after net) (IsEdge net) one_before (t, net.root) rest (t, net.root) tour-chain tour-edges first-once
 
     -- ---- each edge is a stop
 
@@ -244,7 +169,7 @@ module _ (net : Network) (tree : IsTree net) (back : (v w : ℕ) → are_joined 
     -- from a node to its child
     within-child : (depth p g v : ℕ) → net.nodes ≤ distance_of net p + depth → ((s : Stop) → IsStopOf (tour_below depth net p g) s → IsStopOf ((t, net.root) ∷ rest) s) →
         parent_of net p ≡ Some g → parent_of net v ≡ Some p → IsWithin v p
-    within-child zero p g v deep all up down = absurd (omega (arith, deep, tree.below p (parent_node p g up)))
+    within-child zero p g v deep all up down = absurd (omega (arith, deep, tree.below p (parent_node net tree back nodes p g up)))
     within-child (suc depth) p g v deep all up down =
         let one = tree.parent_nearer v p down in
         let two' = tree.parent_nearer p g up in
