@@ -1,7 +1,7 @@
 -- While the head stands, its value passes one leg of the tour in four sweeps: three for the payload, one for the next machine's tick.
-use Rattle.std.proofs.Common.{◌≡◌, ◌≢◌, ℕ, zero, suc, ◌+◌, ◌*◌, ◌-◌, ◌<◌, ◌≤◌, ◌⊎◌, inl, inr, Bool, true, false, cond, ◌==◌, ◌||◌, List, [], ◌∷◌, ◌++◌, length, refl, sym, ◌∙◌, ap, subst, arith}
+use Rattle.std.proofs.Common.{◌≡◌, ◌≢◌, ℕ, zero, suc, ◌<◌, ◌≤◌, ◌⊎◌, inl, inr, Bool, true, false, ◌==◌, List, [], ◌∷◌, length, refl, sym, ◌∙◌, ap, subst, arith}
 use Rattle.std.specs.Prelude.{if◌then◌else◌}
-use Rattle.std.proofs.lemmas.Bool.{eq-eqb, ne_eqb, eqb-true, eqb-false, cases_eq, cases_Bool, or_cases, false≢true}
+use Rattle.std.proofs.lemmas.Bool.{eq-eqb, eqb-true, cases_eq, cases_Bool, or_cases, false≢true}
 use Rattle.std.proofs.lemmas.Bool.Decides.{nat_tests}
 use Rattle.topology.specs.Network.{Network, ring_of}
 use Rattle.topology.specs.declared.frame.Payload.{Payload}
@@ -9,18 +9,18 @@ use Rattle.k_state.specs.Machine.{root_moved, is_privileged}
 use Rattle.run_model.specs.World.{World}
 use Rattle.run_model.specs.Step.{step}
 use Rattle.run_model.specs.Run.{run, is_damage, IsUndamaged}
-use Rattle.run_model.specs.Sweep.{is_full_tick, has_full_tick, IsSweep}
+use Rattle.run_model.specs.Sweep.{is_full_tick, has_full_tick}
 use Rattle.run_model.specs.Count.{Sweeps}
 use Rattle.run_model.specs.Project.{present}
 use Rattle.run_model.specs.Ring.{Leg}
-use Rattle.run_model.specs.Legs.{IsTour, IsTreeLeg, IsAmong, last_leg, is_special_leg, machine_value, staged_value, copied_value, seen_value}
+use Rattle.run_model.specs.Legs.{IsTour, IsTreeLeg, IsAmong, machine_value, staged_value, copied_value, seen_value}
 use Rattle.run_model.specs.declared.event.Event.{Event}
 use Rattle.run_model.proofs.OneBoundary.{seen-is_copied}
 use Rattle.run_model.proofs.GoodRing.{leg_may_move}
 use Rattle.tree_convergence.specs.Present.{AlwaysPresent}
 use Rattle.convergence.specs.Moves.{head_move, head_moves}
-use Rattle.convergence.proofs.Below.{Below}
-use Rattle.convergence.proofs.Settled.{IsSettledOn, settled-event, settled-run, first-undamaged, rest-undamaged}
+use Rattle.convergence.specs.Below.{Below}
+use Rattle.convergence.proofs.Settled.{IsSettledOn, settled-event, first-undamaged, rest-undamaged}
 use Rattle.convergence.proofs.LegEvents.{moved_leg, staged-event, copied-event, full-tick, present-is, leg-joined}
 use Rattle.convergence.proofs.RingEvents.{plain-event, head-move-is, first-sees, special-on, head-goes-on, head-in, two-values-at-least}
 use Rattle.convergence.proofs.LegPlaces.{leg_at, among-at, among-later, followed-at, last-at}
@@ -112,9 +112,10 @@ module _ (b : Below) (net : Network) (tour : IsTour net) where
       → AlwaysPresent (says a) w es (leg j).here (leg j).onward
   says-always a w [] j s u z l c = says-now a w j s l c
   says-always a w (e ∷ es) j s u z l c =
-      let d = first-undamaged w e es u in
-      (says-now a w j s l c,
-        says-always a (step w e) es j (settled-event b net w e s d) (rest-undamaged w e es u) (omega (arith, z)) l (carried-event a w e j s d (omega (arith, z)) l c))
+      let d = first-undamaged w e es u in (
+        says-now a w j s l c,
+        says-always a (step w e) es j (settled-event b net w e s d) (rest-undamaged w e es u) (omega (arith, z)) l (carried-event a w e j s d (omega (arith, z)) l c),
+      )
 
   pub sent-in_three : (a : ℕ) (w : World) (es : List Event) (j : ℕ) → IsSettledOn net w → IsUndamaged w es → head_moves w es ≡ 0 → j ≤ end → IsCarried leg a w j
       → Sweeps w 3 es → IsSent leg a (run w es) j
@@ -153,10 +154,10 @@ module _ (b : Below) (net : Network) (tour : IsTour net) where
       let sp = special-on net w l true s.1 tour.first_special in
       let may : leg_may_move w l ≡ true = subst (λ c. is_privileged c (machine_value w l) (seen_value w l) ≡ true) (sym sp) (eq-eqb (machine_value w l) (seen_value w l) same) in
       let moved : machine_value (step w e) l ≡ root_moved (machine_value w l) (ring_of net) =
-          full-tick b net w e l s d (tour.tree l (inl refl)) h
-          ∙ ap (λ c. if c then moved_leg w l else machine_value w l) may
-          ∙ ap (λ c. if c then root_moved (machine_value w l) (ring_of w.net) else seen_value w l) sp
-          ∙ ap (λ n. root_moved (machine_value w l) (ring_of n)) s.1 in
+      full-tick b net w e l s d (tour.tree l (inl refl)) h
+      ∙ ap (λ c. if c then moved_leg w l else machine_value w l) may
+      ∙ ap (λ c. if c then root_moved (machine_value w l) (ring_of w.net) else seen_value w l) sp
+      ∙ ap (λ n. root_moved (machine_value w l) (ring_of n)) s.1 in
       head-goes-on (ring_of net) (machine_value w l) (two-values-at-least b net tour w s) (head-in b net tour w s) (sym moved ∙ head-stands w e s d z)
 
   further : (a : ℕ) (w : World) (j : ℕ) → IsSent leg a w j → machine_value w (leg (suc j)) ≡ a → IsCarried leg a w (suc j)

@@ -1,9 +1,9 @@
 -- A privileged machine stays privileged until it moves, and a node that lends moves none: so a loan with privilege keeps it.
-use Rattle.std.proofs.Common.{◌≡◌, ◌≢◌, ℕ, zero, suc, ◌+◌, ◌*◌, ◌-◌, ◌<◌, ◌≤◌, ◌⊎◌, inl, inr, Bool, true, false, cond, ◌==◌, ◌&&◌, List, [], ◌∷◌, ◌++◌, Option, Some, None, length, refl, sym, ◌∙◌, ap, subst, arith}
+use Rattle.std.proofs.Common.{◌≡◌, ℕ, ◌<◌, inl, inr, true, false, ◌==◌, ◌&&◌, List, [], ◌∷◌, Option, Some, None, refl, sym, ◌∙◌, ap, subst}
 use Rattle.std.specs.Prelude.{is_some, is_none, if◌then◌else◌}
 use Rattle.std.specs.List.{list_any}
-use Rattle.std.proofs.lemmas.Bool.{and_parts, or_cases, false≢true, eqb-true}
-use Rattle.topology.specs.Network.{Network, ring_of, are_joined}
+use Rattle.std.proofs.lemmas.Bool.{and_parts, or_cases, false≢true}
+use Rattle.topology.specs.Network.{Network, are_joined}
 use Rattle.topology.specs.declared.frame.Payload.{Payload}
 use Rattle.k_state.specs.Machine as machine
 use Rattle.lock_desk.specs.Laws.{LoansNeedPrivilege}
@@ -16,7 +16,7 @@ use Rattle.run_model.specs.Step.{step}
 use Rattle.run_model.specs.Run.{run, is_damage, IsUndamaged}
 use Rattle.run_model.specs.Sweep.{is_full_tick, has_full_tick}
 use Rattle.run_model.specs.Ring.{Leg, IsTokenRingGood}
-use Rattle.run_model.specs.Legs.{IsTour, IsTreeLeg, IsAmong, is_special_leg, machine_value, seen_value, coming_value}
+use Rattle.run_model.specs.Legs.{IsTour, IsTreeLeg, is_special_leg, machine_value, seen_value, coming_value}
 use Rattle.run_model.specs.Legitimate.{is_privileged, is_lending}
 use Rattle.run_model.specs.declared.event.Event.{Event}
 use Rattle.run_model.specs.declared.event.Event.TheVariants.{Send, Take, Lose, Tick, Ask, Leave, Damage}
@@ -24,9 +24,9 @@ use Rattle.run_model.proofs.TreeLists.{passes-somewhere, somewhere-passes}
 use Rattle.run_model.proofs.TrueTree.{tree-joined}
 use Rattle.run_model.proofs.GoodRing.{leg_may_move}
 use Rattle.run_model.proofs.Privileges.{privileged-leg, leg-privileged, only-one}
-use Rattle.convergence.proofs.Below.{Below}
-use Rattle.convergence.proofs.Settled.{IsSettledOn, settled-event, settled-run, first-undamaged, rest-undamaged, one-undamaged}
-use Rattle.convergence.proofs.NodeEvents.{IsQuiet, Ticks, quiet-or-ticks}
+use Rattle.convergence.specs.Below.{Below}
+use Rattle.convergence.proofs.Settled.{IsSettledOn, settled-event, first-undamaged, rest-undamaged, one-undamaged}
+use Rattle.convergence.proofs.NodeEvents.{quiet-or-ticks}
 use Rattle.convergence.proofs.LegEvents.{tree-leg-on}
 use Rattle.convergence.proofs.RingEvents.{good-run}
 
@@ -68,7 +68,7 @@ module _ (b : Below) (net : Network) (tour : IsTour net) where
       ]
 
   -- a privileged node whose machines keep their values stays privileged
-  privilege-stays : (w : World) (e : Event) (v : ℕ) → IsSettledOn net w → is_damage w e ≡ false → IsTokenRingGood w → v < net.nodes
+  pub privilege-stays : (w : World) (e : Event) (v : ℕ) → IsSettledOn net w → is_damage w e ≡ false → IsTokenRingGood w → v < net.nodes
       → ((step w e).node v).value ≡ (w.node v).value → is_privileged w v ≡ true → is_privileged (step w e) v ≡ true
   privilege-stays w e v s d g h same p =
       let new = step w e in
@@ -81,10 +81,10 @@ module _ (b : Below) (net : Network) (tour : IsTour net) where
       let seen = seen-stays w e l s d (subst (λ n. IsTreeLeg n l) s.1 t) one.1 in
       let value : machine_value new l ≡ machine_value w l = ap (λ y. (new.node y).value l.from) x.2 ∙ ap (λ f. f l.from) same ∙ ap (λ y. (w.node y).value l.from) (sym x.2) in
       let may : leg_may_move new l ≡ true =
-          ap (λ n. machine.is_privileged (is_special_leg n l) (machine_value new l) (seen_value new l)) (z.1 ∙ sym s.1)
-          ∙ ap (λ y. machine.is_privileged (is_special_leg w.net l) y (seen_value new l)) value
-          ∙ ap (λ y. machine.is_privileged (is_special_leg w.net l) (machine_value w l) y) seen
-          ∙ x.3 in
+      ap (λ n. machine.is_privileged (is_special_leg n l) (machine_value new l) (seen_value new l)) (z.1 ∙ sym s.1)
+      ∙ ap (λ y. machine.is_privileged (is_special_leg w.net l) y (seen_value new l)) value
+      ∙ ap (λ y. machine.is_privileged (is_special_leg w.net l) (machine_value w l) y) seen
+      ∙ x.3 in
       ap (is_privileged new) (sym x.2) ∙ leg-privileged b.back b.nodes b.near new l z.0.tree (subst (λ n. IsTreeLeg n l) (s.1 ∙ sym z.1) t) may
 
   pub loan-event : (w : World) (e : Event) (v : ℕ) → IsSettledOn net w → is_damage w e ≡ false → IsTokenRingGood w → v < net.nodes → IsLoanPrivileged w v
@@ -93,7 +93,7 @@ module _ (b : Below) (net : Network) (tour : IsTour net) where
     | inl q ↦ privilege-stays w e v s d g h q.0 (p (q.1 lends))
     | inr k ↦ (let z = settled-event b net w e s d in
         let after : is_node_privileged (site w v) (ticked (site w v) (w.node v)) ≡ true =
-            tick-keeps_privilege b.loans (site w v) (w.node v) (ap (λ (x : NodeState). is_some x.desk.lent) (sym k) ∙ lends) in
+        tick-keeps_privilege b.loans (site w v) (w.node v) (ap (λ (x : NodeState). is_some x.desk.lent) (sym k) ∙ lends) in
         ap (λ n. is_node_privileged (site_of n v) ((step w e).node v)) (z.1 ∙ sym s.1) ∙ ap (is_node_privileged (site w v)) k ∙ after)
   ]
 

@@ -1,20 +1,19 @@
 -- The head moves at least once in any 8(n - 1) sweeps, so the token ring is good after 48(n - 1)(n - 1).
-use Rattle.std.proofs.Common.{◌≡◌, ◌≢◌, ℕ, zero, suc, ◌+◌, ◌*◌, ◌-◌, ◌<◌, ◌≤◌, ◌⊎◌, inl, inr, Bool, true, false, List, [], ◌∷◌, ◌++◌, length, refl, sym, ◌∙◌, ap, subst, arith}
-use Rattle.topology.specs.Network.{Network, ring_of}
+use Rattle.std.proofs.Common.{◌≡◌, ◌≢◌, ℕ, zero, suc, ◌+◌, ◌*◌, ◌-◌, ◌<◌, ◌≤◌, true, List, [], ◌∷◌, ◌++◌, length, refl, sym, ◌∙◌, ap, subst, arith}
+use Rattle.topology.specs.Network.{Network}
 use Rattle.run_model.specs.World.{World}
 use Rattle.run_model.specs.Step.{step}
-use Rattle.run_model.specs.Run.{run, is_damage, IsUndamaged}
+use Rattle.run_model.specs.Run.{run, IsUndamaged}
 use Rattle.run_model.specs.Sweep.{has_full_tick, IsSweep}
 use Rattle.run_model.specs.Count.{Sweeps}
 use Rattle.run_model.specs.Ring.{Leg, IsTokenRingGood}
-use Rattle.run_model.specs.Legs.{IsTour, IsTreeLeg, machine_value}
+use Rattle.run_model.specs.Legs.{IsTour, machine_value}
 use Rattle.run_model.specs.declared.event.Event.{Event}
-use Rattle.convergence.specs.Moves.{head_move, head_moves}
-use Rattle.convergence.proofs.Below.{Below}
+use Rattle.convergence.specs.Moves.{head_moves}
+use Rattle.convergence.specs.Below.{Below}
 use Rattle.convergence.proofs.Settled.{IsSettledOn, settled-run}
 use Rattle.convergence.proofs.RingEvents.{good-after_moves}
-use Rattle.convergence.proofs.LegPlaces.{leg_at}
-use Rattle.convergence.proofs.Carried.{IsCarried, IsSent, leg, end, leg-tree, carried-run, sent-in_three, taken-in_one, moved-in_one}
+use Rattle.convergence.proofs.Carried.{IsCarried, leg, leg-tree, carried-run, sent-in_three, taken-in_one, moved-in_one}
 
 pub moves-join : (w : World) (xs ys : List Event) → head_moves w (xs ++ ys) ≡ head_moves w xs + head_moves (run w xs) ys
 moves-join w [] ys = omega arith
@@ -36,7 +35,8 @@ module _ (b : Below) where
   parted w es first rest e u =
       let p = b.parts w first rest (subst (IsUndamaged w) e u) in
       record {
-        early = p.0; late = p.1;
+        early = p.0;
+        late = p.1;
         moves = ap (head_moves w) e ∙ moves-join w first rest;
         leads = ap (run w) e ∙ b.join w first rest;
       }

@@ -1,9 +1,8 @@
 -- What an event does to the three values of one leg of the tour, in a settled world.
-use Rattle.std.proofs.Common.{◌≡◌, ◌≢◌, ℕ, ◌+◌, ◌<◌, ◌⊎◌, inl, inr, Bool, true, false, cond, ◌==◌, ◌&&◌, List, [], ◌∷◌, Option, Some, None, refl, sym, ◌∙◌, ap, subst, arith}
-use Rattle.std.specs.Prelude.{is_some, is_none, if◌then◌else◌}
+use Rattle.std.proofs.Common.{◌≡◌, ℕ, ◌<◌, ◌⊎◌, inl, inr, Bool, true, false, ◌==◌, ◌&&◌, List, sym, ◌∙◌, ap, subst}
+use Rattle.std.specs.Prelude.{is_none, if◌then◌else◌}
 use Rattle.std.specs.List.{list_any}
-use Rattle.std.proofs.lemmas.Bool.{cases_Bool, cases_cond, and_parts, false≢true, eqb-true}
-use Rattle.std.proofs.lemmas.Bool.Decides.{nat_tests}
+use Rattle.std.proofs.lemmas.Bool.{cases_Bool, and_parts, false≢true, eqb-true}
 use Rattle.topology.specs.Network.{Network, ring_of, are_joined}
 use Rattle.topology.specs.declared.frame.Payload.{Payload}
 use Rattle.k_state.specs.Machine as machine
@@ -19,13 +18,13 @@ use Rattle.run_model.specs.Run.{is_damage}
 use Rattle.run_model.specs.Sweep.{is_full_tick}
 use Rattle.run_model.specs.Ring.{Leg}
 use Rattle.run_model.specs.Project.{present}
-use Rattle.run_model.specs.Legs.{IsTreeLeg, is_on_tree, is_special_leg, machine_value, staged_value, copied_value, seen_value}
+use Rattle.run_model.specs.Legs.{IsTreeLeg, is_special_leg, machine_value, staged_value, copied_value, seen_value}
 use Rattle.euler_ring.specs.Laws.{true_neighbours}
 use Rattle.run_model.specs.declared.event.Event.{Event}
 use Rattle.run_model.specs.declared.event.Event.TheVariants.{Send, Take, Lose, Tick, Ask, Leave, Damage}
 use Rattle.run_model.proofs.TrueTree.{tree-is, tree-joined}
 use Rattle.run_model.proofs.GoodRing.{leg_may_move}
-use Rattle.convergence.proofs.Below.{Below}
+use Rattle.convergence.specs.Below.{Below}
 use Rattle.convergence.proofs.Settled.{IsSettledOn, settled-event}
 use Rattle.convergence.proofs.NodeEvents.{Ticks, quiet-or-ticks, tick-ticks}
 
@@ -65,9 +64,9 @@ module _ (b : Below) where
       let tree : tree_of old (ticked old (w.node v)) ≡ true_neighbours w.net v = subst (λ x. tree_of (site w v) x ≡ true_neighbours w.net v) ticks own' in
       let free = is_none (ticked old (w.node v)).desk.lent in (
         ap (λ (x : NodeState). x.value l.from) ticks
-        ∙ tick-value old (w.node v) l.from (true_neighbours w.net v) tree
-        ∙ ap (λ m. if free && (m && leg_may_move w l) then moved_leg w l else machine_value w l) tl.from
-        ∙ ap (λ (x : NodeState). if is_none x.desk.lent && leg_may_move w l then moved_leg w l else machine_value w l) (sym ticks),
+            ∙ tick-value old (w.node v) l.from (true_neighbours w.net v) tree
+            ∙ ap (λ m. if free && (m && leg_may_move w l) then moved_leg w l else machine_value w l) tl.from
+            ∙ ap (λ (x : NodeState). if is_none x.desk.lent && leg_may_move w l then moved_leg w l else machine_value w l) (sym ticks),
         ap (λ (x : NodeState). (x.port l.from).copy.ring) ticks,
       )
 
@@ -79,8 +78,11 @@ module _ (b : Below) where
     | inl q ↦ inl (ap (λ f. f l.from) q.0)
     | inr k ↦ (let r = leg-ticks net w (step w e) l s (settled-event b net w e s d) t k in
         elim (cases_Bool (is_none ((step w e).node l.here).desk.lent && leg_may_move w l)) [
-          | inl y ↦ inr ((and_parts (is_none ((step w e).node l.here).desk.lent) (leg_may_move w l) y).1,
-              r.0 ∙ ap (λ c. if c then moved_leg w l else machine_value w l) y, r.1)
+          | inl y ↦ inr (
+            (and_parts (is_none ((step w e).node l.here).desk.lent) (leg_may_move w l) y).1,
+            r.0 ∙ ap (λ c. if c then moved_leg w l else machine_value w l) y,
+            r.1,
+          )
           | inr n ↦ inl (r.0 ∙ ap (λ c. if c then moved_leg w l else machine_value w l) n)
         ])
   ]

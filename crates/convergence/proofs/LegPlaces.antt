@@ -1,5 +1,5 @@
 -- The legs of a tour by their places, from 0.
-use Rattle.std.proofs.Common.{◌≡◌, ℕ, zero, suc, ◌+◌, ◌<◌, ◌≤◌, ◌⊎◌, inl, inr, List, [], ◌∷◌, length, refl, sym, ◌∙◌, ap, subst, arith}
+use Rattle.std.proofs.Common.{◌≡◌, ℕ, zero, suc, ◌<◌, ◌≤◌, inl, inr, List, [], ◌∷◌, length, refl, arith}
 use Rattle.run_model.specs.Ring.{Leg}
 use Rattle.run_model.specs.Legs.{IsFollowed, IsAmong, last_leg}
 

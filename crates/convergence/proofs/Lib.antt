@@ -1,4 +1,3 @@
-mod Below
 mod Settled
 mod NodeEvents
 mod LegEvents

@@ -1,19 +1,13 @@
 -- What an event does to the machines and the desk of one node: it ticks, or its machines keep their values and its desk begins no loan.
-use Rattle.std.proofs.Common.{◌≡◌, ℕ, ◌<◌, ◌⊎◌, inl, inr, Bool, true, false, cond, ◌==◌, ◌&&◌, List, [], ◌∷◌, Option, Some, None, refl, sym, ◌∙◌, ap, subst, arith}
+use Rattle.std.proofs.Common.{◌≡◌, ℕ, ◌<◌, ◌⊎◌, inl, inr, true, false, ◌==◌, List, [], ◌∷◌, Option, Some, None, refl, sym, ◌∙◌, ap, subst, arith}
 use Rattle.std.specs.Prelude.{is_some, is_none}
-use Rattle.std.specs.List.{list_any}
-use Rattle.std.proofs.lemmas.Bool.{cases_Bool, cases_eq, false≢true, cond-true, cond-false, eq-eqb, ne_eqb, both_ways}
+use Rattle.std.proofs.lemmas.Bool.{cases_Bool, cases_eq, false≢true, cond-true, cond-false, eq-eqb, ne_eqb}
 use Rattle.std.proofs.lemmas.Bool.Decides.{nat_tests}
-use Rattle.std.proofs.lemmas.Grind.{common_steps}
 use Rattle.topology.specs.At.{at}
 use Rattle.link_model.specs.declared.item.Item.{Item}
 use Rattle.link_model.specs.declared.item.Item.TheVariants.{Frame, Noise}
-use Rattle.k_state.specs.Machine.{root_moved, is_privileged}
-use Rattle.euler_ring.specs.Cycle.{special, is_named}
-use Rattle.node_core.specs.Site.{Site}
 use Rattle.node_core.specs.State.{NodeState}
-use Rattle.node_core.specs.Machines.{tree_of, before}
-use Rattle.node_core.specs.Step.{ticked, taken}
+use Rattle.node_core.specs.Step.{ticked}
 use Rattle.run_model.specs.World.{World, site}
 use Rattle.run_model.specs.Step.{refusal, step, changed, handed_over}
 use Rattle.run_model.specs.Run.{is_damage}

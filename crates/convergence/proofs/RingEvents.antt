@@ -1,8 +1,8 @@
 -- On the token ring an event is a parallel step, or a parallel step and then a move of the head.
-use Rattle.std.proofs.Common.{◌≡◌, ◌≢◌, ℕ, ◌+◌, ◌*◌, ◌-◌, ◌<◌, ◌≤◌, ◌⊎◌, inl, inr, Bool, true, false, cond, ◌==◌, List, [], ◌∷◌, ◌++◌, length, refl, sym, ◌∙◌, ap, subst, arith}
+use Rattle.std.proofs.Common.{◌≡◌, ◌≢◌, ℕ, ◌*◌, ◌-◌, ◌<◌, ◌≤◌, ◌⊎◌, inl, inr, Bool, true, false, ◌==◌, List, [], ◌∷◌, length, refl, sym, ◌∙◌, ap, subst, arith}
 use Rattle.std.specs.Prelude.{if◌then◌else◌}
 use Rattle.std.specs.List.{AllByRecursion}
-use Rattle.std.proofs.lemmas.Bool.{eq-eqb, ne_eqb, eqb-true}
+use Rattle.std.proofs.lemmas.Bool.{eq-eqb, ne_eqb}
 use Rattle.topology.specs.Network.{Network, ring_of}
 use Rattle.k_state.specs.Machine.{root_moved}
 use Rattle.k_state.specs.Ring.{Run, Done, Moves, Moved, IsParallel, IsRing, IsGood, head_of, last_of}
@@ -13,12 +13,12 @@ use Rattle.run_model.specs.Ring.{Leg, legs, token_ring, IsTokenRingGood}
 use Rattle.run_model.specs.Legs.{IsTour, IsTreeLeg, IsFollowed, IsAmong, last_leg, is_special_leg, machine_value, staged_value, copied_value, seen_value}
 use Rattle.run_model.specs.declared.event.Event.{Event}
 use Rattle.run_model.proofs.OneBoundary.{values_of, seen-is_copied}
-use Rattle.run_model.proofs.GoodRing.{leg_may_move, last-value, special-moves, below-is, below-other, one_below}
+use Rattle.run_model.proofs.GoodRing.{last-value, special-moves, below-is, below-other}
 use Rattle.run_model.proofs.Privileges.{values-in, several-values}
 use Rattle.convergence.specs.Moves.{head_value, head_move, head_moves}
-use Rattle.convergence.proofs.Below.{Below}
+use Rattle.convergence.specs.Below.{Below}
 use Rattle.convergence.proofs.Settled.{IsSettledOn, settled-event, settled-run, first-undamaged, rest-undamaged}
-use Rattle.convergence.proofs.LegEvents.{moved_leg, machine-event, staged-event, copied-event}
+use Rattle.convergence.proofs.LegEvents.{machine-event, staged-event, copied-event}
 
 pub head-goes-on : (q x : ℕ) → 1 < q → x < q → root_moved x q ≢ x
 head-goes-on q x l k e = below-other q x l k (below-is q x x k e)
@@ -56,8 +56,8 @@ module _ (b : Below) (net : Network) (tour : IsTour net) where
     | inr m ↦ (let sp = special-on net w tour.first true s.1 tour.first_special in
         inr (
           m.1
-          ∙ ap (λ c. if c then root_moved (machine_value w tour.first) (ring_of w.net) else seen_value w tour.first) sp
-          ∙ ap (λ n. root_moved (machine_value w tour.first) (ring_of n)) s.1,
+              ∙ ap (λ c. if c then root_moved (machine_value w tour.first) (ring_of w.net) else seen_value w tour.first) sp
+              ∙ ap (λ n. root_moved (machine_value w tour.first) (ring_of n)) s.1,
           m.2 ∙ sym (special-moves w tour.first sp m.0),
         ))
   ]

@@ -1,5 +1,5 @@
 -- A settled world stays settled, and its network is the one of the start.
-use Rattle.std.proofs.Common.{◌≡◌, ℕ, Bool, true, false, ◌||◌, List, [], ◌∷◌, ◌++◌, refl, sym, ◌∙◌, ap, subst, arith}
+use Rattle.std.proofs.Common.{◌≡◌, false, List, [], ◌∷◌, refl, ◌∙◌}
 use Rattle.std.proofs.lemmas.Bool.{or_parts, or_from}
 use Rattle.topology.specs.Network.{Network}
 use Rattle.run_model.specs.World.{World}
@@ -7,7 +7,7 @@ use Rattle.run_model.specs.Step.{step}
 use Rattle.run_model.specs.Run.{run, is_damage, has_damage, IsUndamaged}
 use Rattle.run_model.specs.declared.event.Event.{Event}
 use Rattle.convergence.specs.Laws.{IsSettled}
-use Rattle.convergence.proofs.Below.{Below}
+use Rattle.convergence.specs.Below.{Below}
 
 -- the world is settled, on this network
 abbrev pub IsSettledOn : Network → World → Type 0

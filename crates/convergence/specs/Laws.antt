@@ -1,21 +1,41 @@
 -- The token ring becomes good, the world becomes legitimate and stays so: each law for the number of sweeps that it uses.
-use Rattle.std.specs.Prelude.{◌≡◌, ℕ, ◌+◌, ◌-◌, ◌*◌, ◌<◌, ◌≤◌, ◌⊎◌, Bool, true, false, IsTrue, List}
-use Rattle.topology.specs.Network.{bound_of}
+use Rattle.std.specs.Prelude.{◌≡◌, ℕ, ◌+◌, ◌-◌, ◌*◌, ◌<◌, ◌≤◌, false, IsTrue, List}
+use Rattle.topology.specs.Network.{bound_of, ring_of}
+use Rattle.k_state.specs.Ring.{Run}
 use Rattle.run_model.specs.World.{World, IsWorldInRange}
 use Rattle.run_model.specs.Step.{step}
 use Rattle.run_model.specs.Run.{run, is_damage, IsUndamaged}
 use Rattle.run_model.specs.Count.{Sweeps}
 use Rattle.run_model.specs.Tree.{IsTreeReached}
-use Rattle.run_model.specs.Ring.{IsTokenRingGood}
-use Rattle.run_model.specs.Legitimate.{AreLinksStable, IsLegitimate}
+use Rattle.run_model.specs.Ring.{token_ring, IsTokenRingGood}
+use Rattle.run_model.specs.Legitimate.{AreLinksStable, IsLegitimate, is_privileged, is_lending}
 use Rattle.run_model.specs.Headline.{IsServing}
 use Rattle.run_model.specs.declared.event.Event.{Event}
+use Rattle.convergence.specs.Moves.{head_move, head_moves}
 
 -- a world on whose tree the token ring is laid: every link is stable, and the tree is reached
 pub record IsSettled (w : World) : Type 0 where
   pub range : IsWorldInRange w
   pub links : AreLinksStable w
   pub tree : IsTreeReached w
+
+-- ---- the token ring, by moves of its head
+
+-- On the token ring of a settled world an event is a run of copies to the right and at most one move of the head.
+abbrev pub EventIsRingRun : Type 0
+EventIsRingRun =
+    (w : World) (e : Event) → IsSettled w → is_damage w e ≡ false → Run (ring_of w.net) (head_move w e) (token_ring w) (token_ring (step w e))
+
+-- so it is good once the head has made 6(n - 1) moves, as many as the ring has values
+abbrev pub MovesTurnRingGood : Type 0
+MovesTurnRingGood =
+    (w : World) (es : List Event) → IsSettled w → IsUndamaged w es → 6 * (w.net.nodes - 1) ≤ head_moves w es → IsTokenRingGood (run w es)
+
+-- the head moves at least once in any 8(n - 1) sweeps
+abbrev pub HeadMoves : Type 0
+HeadMoves = (w : World) (es : List Event) → IsSettled w → IsUndamaged w es → Sweeps w (8 * (w.net.nodes - 1)) es → 0 < head_moves w es
+
+-- ---- the token ring, by sweeps
 
 -- an event that is no damage keeps a good token ring good
 abbrev pub TokenRingStaysGood : Type 0
@@ -27,9 +47,25 @@ TokenRingTurnsGood =
     (w : World) (es : List Event) → IsSettled w → IsUndamaged w es → Sweeps w (48 * (w.net.nodes - 1) * (w.net.nodes - 1)) es
     → IsTokenRingGood (run w es)
 
+-- ---- desks
+
+-- a privileged node whose machines keep their values in an event stays privileged
+abbrev pub PrivilegeStays : Type 0
+PrivilegeStays =
+    (w : World) (e : Event) (v : ℕ) → IsSettled w → is_damage w e ≡ false → IsTokenRingGood w → v < w.net.nodes
+    → ((step w e).node v).value ≡ (w.node v).value → IsTrue (is_privileged w v) → IsTrue (is_privileged (step w e) v)
+
+-- so a node whose loan is with privilege, or that does not lend, stays such a node
+abbrev pub LoansStayPrivileged : Type 0
+LoansStayPrivileged =
+    (w : World) (e : Event) (v : ℕ) → IsSettled w → is_damage w e ≡ false → IsTokenRingGood w → v < w.net.nodes
+    → (IsTrue (is_lending w v) → IsTrue (is_privileged w v)) → IsTrue (is_lending (step w e) v) → IsTrue (is_privileged (step w e) v)
+
 -- one more sweep ends each loan without privilege
 abbrev pub DesksTurnPrivileged : Type 0
 DesksTurnPrivileged = (w : World) (es : List Event) → IsSettled w → IsUndamaged w es → IsTokenRingGood w → Sweeps w 1 es → IsLegitimate (run w es)
+
+-- ---- legitimate worlds
 
 -- closure: from a legitimate world every list without damage leads to a legitimate world, and so through such worlds alone
 abbrev pub LegitimateStays : Type 0

@@ -1,4 +1,4 @@
--- What the layers below give: each field is a law of a crate below, and nothing else of that crate is used here.
+-- What this crate knows of the layers below: each field is a law of one of them, and nothing else of them is used.
 use Rattle.topology.specs.Laws.{JoinedBack, JoinedAreNodes, NeighboursAreJoined, DistanceIs, ParentIs, EachTree}
 use Rattle.k_state.specs.Laws as ring
 use Rattle.lock_desk.specs.Laws.{LoansNeedPrivilege}
@@ -6,6 +6,8 @@ use Rattle.run_model.specs.Laws as run
 use Rattle.run_model.specs.Legs.{EachTour}
 use Rattle.tree_convergence.specs.Laws as tree
 
+-- of networks: who is joined to whom, distances, parents; of copying rings; of a desk; of the tour and of privilege; of runs and sweeps; of links,
+-- payloads and the tree
 pub record Below : Type 0 where
   pub back : JoinedBack
   pub nodes : JoinedAreNodes
@@ -20,6 +22,8 @@ pub record Below : Type 0 where
   pub ring_stays : ring.GoodOutlastsRuns
   pub loans : LoansNeedPrivilege
   pub tours : EachTour
+  pub one_privileged : run.OnePrivileged
+  pub one_lending : run.OneLending
   pub network : run.NetworkStays
   pub ranges : run.RangesStay
   pub join : run.RunsJoin
