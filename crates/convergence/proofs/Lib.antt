@@ -7,3 +7,4 @@ mod Carried
 mod HeadMoves
 mod Desks
 mod Whole
+mod Rows
