@@ -6,9 +6,9 @@ pub mod Count
 pub mod Greedy
 pub mod Tree
 pub mod Ring
+pub mod Legs
 pub mod Legitimate
 pub mod Visited
 pub mod Headline
 pub mod Project
 pub mod Laws
-pub mod Legs
