@@ -34,8 +34,10 @@ ticks the lock is lent at most (0: no limit), and the edges:
   parents none 0
   sweeps 69
 
-So, from whatever state, the lock works after 69 sweeps: stretches of a run in each of which every node makes a full tick,
-one after which it lends to nobody, and takes from each neighbour an item that was sent within the stretch.";
+counter and ring are the moduli of the links' counters and of the token's values; distances and parents are those of
+the nodes 0, 1, .. in the tree to the root. From whatever state, the lock works after 69 sweeps: stretches of a run in
+each of which every node makes a full tick, one after which it lends to nobody, and takes from each neighbour an item
+that was sent within the stretch.";
 
 /// What follows the help of the program.
 const STATUSES: &str = "\
