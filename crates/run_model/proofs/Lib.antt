@@ -9,6 +9,7 @@ pub mod Ranges
 pub mod RunRanges
 pub mod EdgeRanges
 pub mod Serving
+pub mod Stretches
 pub mod Counts
 pub mod Moments
 pub mod Strict
@@ -16,6 +17,7 @@ mod RowsTour
 mod RowsTwo
 mod RowsRound
 mod RowsSweep
+mod RowsCount
 mod RowsFaults
 pub mod OneBoundary
 pub mod TreeLists

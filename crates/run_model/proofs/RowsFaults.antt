@@ -1,10 +1,11 @@
 -- Each refusal, on two nodes and on a square, and the first of two.
-use Rattle.std.proofs.Common.{◌≡◌, Some, None, refl}
+use Rattle.std.proofs.Common.{◌≡◌, Some, None, false, refl}
+use Rattle.std.specs.List.{range_with_len}
 use Rattle.link_model.specs.declared.item.Item.TheVariants.{Noise}
 use Rattle.run_model.specs.World.{World, default_world}
-use Rattle.run_model.specs.Step.{refusal, step}
+use Rattle.run_model.specs.Step.{refusal, step, with_desk}
 use Rattle.run_model.specs.declared.event.Event.TheVariants.{Send, Take, Lose, Tick, Ask, Leave, Damage}
-use Rattle.run_model.specs.declared.event.EventFault.TheVariants.{NoNode, NoLink, NoItem, OutOfRange, Twice, Stranger}
+use Rattle.run_model.specs.declared.event.EventFault.TheVariants.{NoNode, NoLink, NoItem, OutOfRange, Full, Twice, Stranger}
 use Rattle.run_model.specs.declared.event.Harm.TheVariants as harm
 use Rattle.run_model.proofs.RowsTwo.{two_nodes}
 use Rattle.run_model.proofs.RowsTour.{square}
@@ -40,6 +41,16 @@ no-link_before_out_of_range = refl
 -- a full link has no room for one more item
 no-room : refusal (step start (Damage (harm.Item 0 1 Noise))) (Damage (harm.Item 0 1 Noise)) ≡ Some OutOfRange
 no-room = refl
+
+-- 64 tickets wait, and one of them asks again
+abbrev crowd : World
+crowd = with_desk start 0 (record { waiting = range_with_len 0 64; lent = None; left = 0; served = false })
+
+full : refusal crowd (Ask 0 64) ≡ Some Full
+full = refl
+
+full-before_twice : refusal crowd (Ask 0 5) ≡ Some Full
+full-before_twice = refl
 
 twice : refusal (step start (Ask 0 5)) (Ask 0 5) ≡ Some Twice
 twice = refl

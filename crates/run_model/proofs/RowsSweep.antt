@@ -11,16 +11,16 @@ use Rattle.run_model.specs.declared.event.Harm.TheVariants as harm
 use Rattle.run_model.proofs.RowsTwo.{two_nodes, each-node, each-link, calm}
 
 -- nothing is under way yet
-abbrev start : World
+abbrev pub start : World
 start = default_world two_nodes
 
 -- ---- sweeps
 
 -- both tick, and a frame goes each way
-abbrev least : List Event
+abbrev pub least : List Event
 least = Tick 0 ∷ Tick 1 ∷ Send 0 1 ∷ Take 0 1 ∷ Send 1 0 ∷ Take 1 0 ∷ []
 
-least-is_sweep : IsSweep start least
+pub least-is_sweep : IsSweep start least
 least-is_sweep = record {
   undamaged = refl;
   ticked = each-node (λ v. has_full_tick start least v ≡ true) refl refl;

@@ -1,5 +1,5 @@
 -- The plain laws of runs and sweeps, for every network, world and list of events.
-use Rattle.std.specs.Prelude.{◌≡◌, ℕ, ◌+◌, ◌<◌, ◌≤◌, true, false, IsTrue, is_some, suc, List, [], ◌∷◌, ◌++◌, ◌||◌, if◌then◌else◌}
+use Rattle.std.specs.Prelude.{◌≡◌, ℕ, ◌+◌, ◌<◌, ◌≤◌, true, false, IsTrue, is_some, suc, List, [], ◌∷◌, ◌++◌, ◌||◌, length, if◌then◌else◌}
 use Rattle.topology.specs.Network.{Network, IsAcceptedNetwork, are_joined}
 use Rattle.data_link.specs.Edge.{IsEdgeInRange, edge_step, edge_run}
 use Rattle.data_link.specs.Sweep as edge
@@ -7,8 +7,9 @@ use Rattle.data_link.specs.Sweep.{is_out_served, is_back_served}
 use Rattle.run_model.specs.World.{World, IsWorldInRange, default_world}
 use Rattle.run_model.specs.Step.{refusal, step}
 use Rattle.run_model.specs.Run.{run, is_damage, IsUndamaged}
-use Rattle.run_model.specs.Sweep.{IsSweep, is_served}
+use Rattle.run_model.specs.Sweep.{IsSweep, link_act, is_full_tick, has_full_tick, is_served}
 use Rattle.run_model.specs.Count.{Sweeps, StrictSweeps, IsGreatestCount, after_damage, IsSweepCount}
+use Rattle.run_model.specs.Stretch.{old_items, old_after, takes_new}
 use Rattle.run_model.specs.Greedy.{IsEarliest, IsCounted}
 use Rattle.run_model.specs.Ring.{IsTokenRingGood}
 use Rattle.run_model.specs.Tree.{IsTreeReached}
@@ -109,6 +110,33 @@ SweepsGrow = (w : World) (r : ℕ) (es back : List Event) → Sweeps w r es → 
 -- a list that holds r strict sweeps holds r sweeps
 abbrev pub StrictSweepsAreSweeps : Type 0
 StrictSweepsAreSweeps = (w : World) (r : ℕ) (es : List Event) → IsWorldInRange w → StrictSweeps w r es → Sweeps w r es
+
+-- ---- a stretch event by event
+
+-- a node has its full tick with the event, or had it before
+abbrev pub TicksGoOn : Type 0
+TicksGoOn = (w : World) (es : List Event) (e : Event) (v : ℕ) → has_full_tick w (es ++ e ∷ []) v ≡ (has_full_tick w es v || is_full_tick (run w es) e v)
+
+-- a link is served by the event, where this takes a new item, or was before
+abbrev pub ServedGoesOn : Type 0
+ServedGoesOn =
+    (w : World) (es : List Event) (e : Event) (u v : ℕ) → IsWorldInRange w → IsTrue (are_joined w.net.edges u v) → IsUndamaged w es
+    → is_served w (es ++ e ∷ []) u v
+    ≡ (is_served w es u v || takes_new (link_act u v e) (old_items w es u v) (length ((run w es).link u v)))
+
+-- at the start all items of a link are old ones,
+abbrev pub OldItemsStart : Type 0
+OldItemsStart = (w : World) (u v : ℕ) → old_items w [] u v ≡ length (w.link u v)
+
+-- a take and a loss may take one of them away,
+abbrev pub OldItemsGoOn : Type 0
+OldItemsGoOn = (w : World) (es : List Event) (e : Event) (u v : ℕ) → old_items w (es ++ e ∷ []) u v ≡ old_after (link_act u v e) (old_items w es u v)
+
+-- and there are no more of them than items.
+abbrev pub OldItemsAreThere : Type 0
+OldItemsAreThere =
+    (w : World) (es : List Event) (u v : ℕ) → IsWorldInRange w → IsTrue (are_joined w.net.edges u v) → IsUndamaged w es
+    → old_items w es u v ≤ length ((run w es).link u v)
 
 -- ---- counting greedily
 

@@ -3,12 +3,13 @@ pub mod Step
 pub mod Run
 pub mod Sweep
 pub mod Count
-pub mod Greedy
 pub mod Tree
 pub mod Ring
 pub mod Legs
 pub mod Legitimate
 pub mod Visited
 pub mod Headline
+pub mod Stretch
+pub mod Greedy
 pub mod Project
 pub mod Laws

@@ -1,5 +1,5 @@
 //! What holds of runs and sweeps, for the crates above: each law is the contract of a function that does nothing.
-ghost use Rattle.run_model.specs.Laws.{RefusedChangesNothing, NetworkStays, RunsJoin, UndamagedJoins, UndamagedSplits, StartIsInRange, RangesStay, EdgesAreInRange, EdgeSteps, EdgeRuns, EdgeIsServed, EdgeSweeps, SweepGrows, SweepsSplit, SweepsJoin, FewerSweeps, SweepsGrow, StrictSweepsAreSweeps, EarliestIsBest, GreedyCount, NoSweepCount, CountedIsGreatest, CountStarts, CountStays, CountRises, OneCount, MomentLeads, MomentStays, MomentMoves, VisitsGoOn};
+ghost use Rattle.run_model.specs.Laws.{RefusedChangesNothing, NetworkStays, RunsJoin, UndamagedJoins, UndamagedSplits, StartIsInRange, RangesStay, EdgesAreInRange, EdgeSteps, EdgeRuns, EdgeIsServed, EdgeSweeps, SweepGrows, SweepsSplit, SweepsJoin, FewerSweeps, SweepsGrow, StrictSweepsAreSweeps, TicksGoOn, ServedGoesOn, OldItemsStart, OldItemsGoOn, OldItemsAreThere, EarliestIsBest, GreedyCount, NoSweepCount, CountedIsGreatest, CountStarts, CountStays, CountRises, OneCount, MomentLeads, MomentStays, MomentMoves, VisitsGoOn};
 
 /// A refused event changes nothing, and no event changes the network; the run of two lists is the run of the second from where the
 /// first led, and is without damage where both are. Whoever speaks of a moment of a run needs these.
@@ -57,6 +57,18 @@ pub fn strict_sweeps()
     topology::laws::neighbours();
     data_link::laws::sweep_law();
     in_range();
+}
+
+/// A stretch event by event: which nodes have had a full tick and which links are served follows from the event, and from how many of a
+/// link's items stood there before the stretch. Those are the oldest, so their number is all that is to be kept of them.
+pub fn stretches()
+    ensures ticks { TicksGoOn }
+    ensures served { ServedGoesOn }
+    ensures old_start { OldItemsStart }
+    ensures old_go_on { OldItemsGoOn }
+    ensures old_are_there { OldItemsAreThere }
+{
+    topology::laws::joined();
 }
 
 /// The greatest number of sweeps is found greedily: end each sweep at the first event at which it is one. So whoever reads a run event

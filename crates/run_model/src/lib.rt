@@ -5,8 +5,9 @@
 //! handed over an item that was sent inside the stretch. A world is *legitimate* where every link is stable, the tree is reached, the
 //! token ring is good, and each node that lends is privileged (Dijkstra 1974; Dolev, Self-Stabilization, 2000).
 //!
-//! The definitions stand in `specs/`, in the order World, Step, Run, Sweep, Count, Greedy, Tree, Ring, Legs, Legitimate, Visited, Headline, Project. Here are the plain data types of
-//! events, and the laws, each as the contract of a function that does nothing. No step is computed here: that is the crate `world`.
+//! The definitions stand in `specs/`, in the order World, Step, Run, Sweep, Count, Tree, Ring, Legs, Legitimate, Visited, Headline; behind them
+//! Stretch and Greedy (a run event by event) and Project (a run as one edge has it). Here are the plain data types of events, and the laws,
+//! each as the contract of a function that does nothing. No step is computed here: that is the crate `world`.
 //!
 //! A trap: a refused event changes nothing and is no damage, and a send on a full link is lost without a refusal.
 #![tactic(auto)]
