@@ -15,15 +15,14 @@ use Rattle.run_model.specs.Project.{present}
 use Rattle.run_model.specs.Ring.{Leg}
 use Rattle.run_model.specs.Legs.{IsTour, IsTreeLeg, IsAmong, machine_value, staged_value, copied_value, seen_value}
 use Rattle.run_model.specs.declared.event.Event.{Event}
-use Rattle.run_model.proofs.OneBoundary.{seen-is_copied}
-use Rattle.run_model.proofs.GoodRing.{leg_may_move}
+use Rattle.run_model.proofs.RingPlaces.{leg_may_move, seen-is_copied}
 use Rattle.tree_convergence.specs.Present.{AlwaysPresent}
 use Rattle.convergence.specs.Moves.{head_move, head_moves}
 use Rattle.convergence.specs.Below.{Below}
 use Rattle.convergence.proofs.Settled.{IsSettledOn, settled-event, first-undamaged, rest-undamaged}
 use Rattle.convergence.proofs.LegEvents.{moved_leg, staged-event, copied-event, full-tick, present-is, leg-joined}
 use Rattle.convergence.proofs.RingEvents.{plain-event, head-move-is, first-sees, special-on, head-goes-on, head-in, two-values-at-least}
-use Rattle.convergence.proofs.LegPlaces.{leg_at, among-at, among-later, followed-at, last-at}
+use Rattle.run_model.proofs.LegPlaces.{leg_at, among-at, among-later, followed-at, last-at}
 
 -- the machines of the legs 0 to j have the value a, and all that is staged and copied before the last of them
 pub record IsCarried (leg : ℕ → Leg) (a : ℕ) (w : World) (j : ℕ) : Type 0 where

@@ -22,7 +22,7 @@ use Rattle.run_model.specs.declared.event.Event.{Event}
 use Rattle.run_model.specs.declared.event.Event.TheVariants.{Send, Take, Lose, Tick, Ask, Leave, Damage}
 use Rattle.run_model.proofs.TreeLists.{passes-somewhere, somewhere-passes}
 use Rattle.run_model.proofs.TrueTree.{tree-joined}
-use Rattle.run_model.proofs.GoodRing.{leg_may_move}
+use Rattle.run_model.proofs.RingPlaces.{leg_may_move}
 use Rattle.run_model.proofs.Privileges.{privileged-leg, leg-privileged, only-one}
 use Rattle.convergence.specs.Below.{Below}
 use Rattle.convergence.proofs.Settled.{IsSettledOn, settled-event, first-undamaged, rest-undamaged, one-undamaged}
@@ -74,18 +74,18 @@ module _ (b : Below) (net : Network) (tour : IsTour net) where
       let new = step w e in
       let z = settled-event b net w e s d in
       let own = subst IsTour (sym s.1) tour in
-      let x = privileged-leg b.back b.nodes b.near w v own s.0.tree (subst (λ n. v < n.nodes) (sym s.1) h) p in
+      let x = privileged-leg b.back b.nodes b.near b.view w v own s.0.range.network s.0.tree (subst (λ n. v < n.nodes) (sym s.1) h) p in
       let l = x.0 in
       let t : IsTreeLeg w.net l = own.tree l x.1 in
-      let one = (only-one b.back b.nodes b.near w own s.0.range g).1 l x.1 x.3 in
-      let seen = seen-stays w e l s d (subst (λ n. IsTreeLeg n l) s.1 t) one.1 in
+      let one = (only-one b.back b.nodes b.near b.view b.one_item w own s.0.range g).1 l x.1 x.3 in
+      let seen = seen-stays w e l s d (subst (λ n. IsTreeLeg n l) s.1 t) one in
       let value : machine_value new l ≡ machine_value w l = ap (λ y. (new.node y).value l.from) x.2 ∙ ap (λ f. f l.from) same ∙ ap (λ y. (w.node y).value l.from) (sym x.2) in
       let may : leg_may_move new l ≡ true =
       ap (λ n. machine.is_privileged (is_special_leg n l) (machine_value new l) (seen_value new l)) (z.1 ∙ sym s.1)
       ∙ ap (λ y. machine.is_privileged (is_special_leg w.net l) y (seen_value new l)) value
       ∙ ap (λ y. machine.is_privileged (is_special_leg w.net l) (machine_value w l) y) seen
       ∙ x.3 in
-      ap (is_privileged new) (sym x.2) ∙ leg-privileged b.back b.nodes b.near new l z.0.tree (subst (λ n. IsTreeLeg n l) (s.1 ∙ sym z.1) t) may
+      ap (is_privileged new) (sym x.2) ∙ leg-privileged b.back b.nodes b.near b.view new l z.0.range.network z.0.tree (subst (λ n. IsTreeLeg n l) (s.1 ∙ sym z.1) t) may
 
   pub loan-event : (w : World) (e : Event) (v : ℕ) → IsSettledOn net w → is_damage w e ≡ false → IsTokenRingGood w → v < net.nodes → IsLoanPrivileged w v
       → IsLoanPrivileged (step w e) v

@@ -23,7 +23,7 @@ use Rattle.euler_ring.specs.Laws.{true_neighbours}
 use Rattle.run_model.specs.declared.event.Event.{Event}
 use Rattle.run_model.specs.declared.event.Event.TheVariants.{Send, Take, Lose, Tick, Ask, Leave, Damage}
 use Rattle.run_model.proofs.TrueTree.{tree-is, tree-joined}
-use Rattle.run_model.proofs.GoodRing.{leg_may_move}
+use Rattle.run_model.proofs.RingPlaces.{leg_may_move}
 use Rattle.convergence.specs.Below.{Below}
 use Rattle.convergence.proofs.Settled.{IsSettledOn, settled-event}
 use Rattle.convergence.proofs.NodeEvents.{Ticks, quiet-or-ticks, tick-ticks}
@@ -59,7 +59,7 @@ module _ (b : Below) where
       let v = l.here in
       let old = site w v in
       let same : new.net ≡ w.net = z.1 ∙ sym s.1 in
-      let own : tree_of (site new v) (new.node v) ≡ true_neighbours new.net v = tree-is b.back new v z.0.tree (subst (λ n. v < n.nodes) (sym same) tl.here_in) in
+      let own : tree_of (site new v) (new.node v) ≡ true_neighbours new.net v = tree-is b.back b.view new v z.0.range.network z.0.tree (subst (λ n. v < n.nodes) (sym same) tl.here_in) in
       let own' : tree_of (site w v) (new.node v) ≡ true_neighbours w.net v = subst (λ n. tree_of (site_of n v) (new.node v) ≡ true_neighbours n v) same own in
       let tree : tree_of old (ticked old (w.node v)) ≡ true_neighbours w.net v = subst (λ x. tree_of (site w v) x ≡ true_neighbours w.net v) ticks own' in
       let free = is_none (ticked old (w.node v)).desk.lent in (
@@ -107,7 +107,7 @@ module _ (b : Below) where
   pub present-is : (net : Network) (w : World) (l : Leg) → IsSettledOn net w → IsTreeLeg net l → (present w l.here l.onward).ring ≡ machine_value w l
   present-is net w l s t =
       let tl = tree-leg-on net w l s.1 t in
-      ap (λ ts. if list_any (λ u. u == l.onward) ts then (w.node l.here).value (source_for ts l.onward) else 0) (tree-is b.back w l.here s.0.tree tl.here_in)
+      ap (λ ts. if list_any (λ u. u == l.onward) ts then (w.node l.here).value (source_for ts l.onward) else 0) (tree-is b.back b.view w l.here s.0.range.network s.0.tree tl.here_in)
       ∙ ap (λ c. if c then (w.node l.here).value (source_for (true_neighbours w.net l.here) l.onward) else 0) tl.onward
       ∙ ap (w.node l.here).value tl.source
 

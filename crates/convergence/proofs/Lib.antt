@@ -2,7 +2,6 @@ mod Settled
 mod NodeEvents
 mod LegEvents
 mod RingEvents
-mod LegPlaces
 mod Carried
 mod HeadMoves
 mod Desks

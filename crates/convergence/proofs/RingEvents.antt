@@ -1,10 +1,11 @@
 -- On the token ring an event is a parallel step, or a parallel step and then a move of the head.
-use Rattle.std.proofs.Common.{◌≡◌, ◌≢◌, ℕ, ◌*◌, ◌-◌, ◌<◌, ◌≤◌, ◌⊎◌, inl, inr, Bool, true, false, ◌==◌, List, [], ◌∷◌, length, refl, sym, ◌∙◌, ap, subst, arith}
+use Rattle.std.proofs.Common.{◌≡◌, ◌≢◌, ℕ, ◌+◌, ◌*◌, ◌-◌, ◌<◌, ◌≤◌, ◌⊎◌, inl, inr, Bool, true, false, ◌==◌, List, [], ◌∷◌, length, refl, sym, ◌∙◌, ap, subst, arith}
 use Rattle.std.specs.Prelude.{if◌then◌else◌}
 use Rattle.std.specs.List.{AllByRecursion}
-use Rattle.std.proofs.lemmas.Bool.{eq-eqb, ne_eqb}
+use Rattle.std.proofs.lemmas.Bool.{eq-eqb, ne_eqb, cases_lt, eqb-true}
 use Rattle.topology.specs.Network.{Network, ring_of}
-use Rattle.k_state.specs.Machine.{root_moved}
+use Rattle.std.proofs.Math.Nat.{mod-eq_of_lt, mod_self}
+use Rattle.k_state.specs.Machine.{root_moved, is_privileged}
 use Rattle.k_state.specs.Ring.{Run, Done, Moves, Moved, IsParallel, IsRing, IsGood, head_of, last_of}
 use Rattle.run_model.specs.World.{World}
 use Rattle.run_model.specs.Step.{step}
@@ -12,8 +13,7 @@ use Rattle.run_model.specs.Run.{run, is_damage, IsUndamaged}
 use Rattle.run_model.specs.Ring.{Leg, legs, token_ring, IsTokenRingGood}
 use Rattle.run_model.specs.Legs.{IsTour, IsTreeLeg, IsFollowed, IsAmong, last_leg, is_special_leg, machine_value, staged_value, copied_value, seen_value}
 use Rattle.run_model.specs.declared.event.Event.{Event}
-use Rattle.run_model.proofs.OneBoundary.{values_of, seen-is_copied}
-use Rattle.run_model.proofs.GoodRing.{last-value, special-moves, below-is, below-other}
+use Rattle.run_model.proofs.RingPlaces.{values_of, leg_may_move, last-value, seen-is_copied}
 use Rattle.run_model.proofs.Privileges.{values-in, several-values}
 use Rattle.convergence.specs.Moves.{head_value, head_move, head_moves}
 use Rattle.convergence.specs.Below.{Below}
@@ -21,7 +21,14 @@ use Rattle.convergence.proofs.Settled.{IsSettledOn, settled-event, settled-run, 
 use Rattle.convergence.proofs.LegEvents.{machine-event, staged-event, copied-event}
 
 pub head-goes-on : (q x : ℕ) → 1 < q → x < q → root_moved x q ≢ x
-head-goes-on q x l k e = below-other q x l k (below-is q x x k e)
+head-goes-on q x l k e = elim (cases_lt (x + 1) q) [
+  | inl s ↦ (let m : x + 1 ≡ x = sym (mod-eq_of_lt s) ∙ e in omega (arith, m))
+  | inr g ↦ (let wraps : q ≡ x + 1 = omega (arith, g) in let m : 0 ≡ x = sym (mod_self (x + 1)) ∙ ap (λ n. root_moved x n) (sym wraps) ∙ e in omega (arith, m))
+]
+
+-- the special machine may move where it sees its own value
+special-sees : (w : World) (l : Leg) → is_special_leg w.net l ≡ true → leg_may_move w l ≡ true → machine_value w l ≡ seen_value w l
+special-sees w l s h = eqb-true (machine_value w l) (seen_value w l) (subst (λ c. is_privileged c (machine_value w l) (seen_value w l) ≡ true) s h)
 
 pub special-on : (net : Network) (w : World) (l : Leg) (c : Bool) → w.net ≡ net → is_special_leg net l ≡ c → is_special_leg w.net l ≡ c
 special-on net w l c e h = subst (λ n. is_special_leg n l ≡ c) (sym e) h
@@ -58,7 +65,7 @@ module _ (b : Below) (net : Network) (tour : IsTour net) where
           m.1
               ∙ ap (λ c. if c then root_moved (machine_value w tour.first) (ring_of w.net) else seen_value w tour.first) sp
               ∙ ap (λ n. root_moved (machine_value w tour.first) (ring_of n)) s.1,
-          m.2 ∙ sym (special-moves w tour.first sp m.0),
+          m.2 ∙ sym (special-sees w tour.first sp m.0),
         ))
   ]
 
@@ -83,7 +90,7 @@ module _ (b : Below) (net : Network) (tour : IsTour net) where
 
   pub head-in : (w : World) → IsSettledOn net w → machine_value w tour.first < ring_of net
   head-in w s =
-      let r = values-in b.back b.nodes b.near w s.0.range whole (λ l i. subst (λ n. IsTreeLeg n l) (sym s.1) (tour.tree l i)) in
+      let r = values-in b.back b.nodes b.near b.view w s.0.range whole (λ l i. subst (λ n. IsTreeLeg n l) (sym s.1) (tour.tree l i)) in
       subst (λ n. machine_value w tour.first < ring_of n) s.1 r.0
 
   pub two-values-at-least : (w : World) → IsSettledOn net w → 1 < ring_of net
@@ -149,7 +156,7 @@ module _ (b : Below) (net : Network) (tour : IsTour net) where
   good-after_moves w es s u many =
       let z = settled-run b net w es s u in
       let count : length (token_ring w) ≡ 6 * (net.nodes - 1) = ap length (ring-is w s.1) ∙ values-count w whole ∙ omega (arith, tour.count) in
-      let below = values-in b.back b.nodes b.near w s.0.range whole (λ l i. subst (λ n. IsTreeLeg n l) (sym s.1) (tour.tree l i)) in
+      let below = values-in b.back b.nodes b.near b.view w s.0.range whole (λ l i. subst (λ n. IsTreeLeg n l) (sym s.1) (tour.tree l i)) in
       let below' : AllByRecursion (λ y. y < ring_of net) (values_of w whole) = subst (λ n. AllByRecursion (λ y. y < ring_of n) (values_of w whole)) s.1 below in
       let ring : IsRing (ring_of net) (token_ring w) = subst (λ xs. IsRing (ring_of net) xs) (sym (ring-is w s.1)) (omega arith, below') in
       let g = b.ring_turns (ring_of net) (head_moves w es) (token_ring w) (token_ring (run w es)) (ring-run w es s u) ring (omega (arith, count)) (omega (arith, count)) in

@@ -1,6 +1,7 @@
 -- What this crate knows of the layers below: each field is a law of one of them, and nothing else of them is used.
 use Rattle.topology.specs.Laws.{JoinedBack, JoinedAreNodes, NeighboursAreJoined, DistanceIs, ParentIs, EachTree}
 use Rattle.k_state.specs.Laws as ring
+use Rattle.euler_ring.specs.Laws.{OwnViewIsTrue}
 use Rattle.lock_desk.specs.Laws.{LoansNeedPrivilege}
 use Rattle.run_model.specs.Laws as run
 use Rattle.run_model.specs.Legs.{EachTour}
@@ -20,7 +21,9 @@ pub record Below : Type 0 where
   pub ring_join : ring.RunsJoin
   pub ring_turns : ring.RunTurnsGood
   pub ring_stays : ring.GoodOutlastsRuns
+  pub one_item : ring.OneItemIsPrivileged
   pub loans : LoansNeedPrivilege
+  pub view : OwnViewIsTrue
   pub tours : EachTour
   pub one_privileged : run.OnePrivileged
   pub one_lending : run.OneLending

@@ -13,6 +13,8 @@ pub fn below()
     k_state::laws::good_law();
     k_state::laws::convergence_law();
     k_state::laws::parallel_law();
+    k_state::laws::privilege_law();
+    euler_ring::laws::true_view();
     lock_desk::laws::loans_need_privilege();
     run_model::laws::runs();
     run_model::laws::in_range();

@@ -19,9 +19,9 @@ mod RowsRound
 mod RowsSweep
 mod RowsCount
 mod RowsFaults
-pub mod OneBoundary
+pub mod LegPlaces
 pub mod TreeLists
 pub mod TrueTree
-pub mod GoodRing
+pub mod RingPlaces
 pub mod Privileges
 pub mod TourLegs

@@ -10,19 +10,20 @@ use Rattle.topology.specs.declared.frame.Payload.{Payload}
 use Rattle.topology.specs.Laws.{JoinedBack, JoinedAreNodes, NeighboursAreJoined}
 use Rattle.data_link.specs.Port.{PortState, port_fits}
 use Rattle.k_state.specs.Machine as machine
-use Rattle.k_state.specs.Ring.{IsGood}
+use Rattle.k_state.specs.Laws.{OneItemIsPrivileged}
+use Rattle.k_state.specs.Ring.{IsGood, IsRing}
+use Rattle.euler_ring.specs.Laws.{OwnViewIsTrue}
 use Rattle.euler_ring.specs.Cycle.{is_named, special}
 use Rattle.node_core.specs.Machines.{tree_of, may_move}
 use Rattle.run_model.specs.World.{World, site, IsWorldInRange}
 use Rattle.run_model.specs.Tree.{IsTreeReached}
 use Rattle.run_model.specs.Ring.{Leg, IsTokenRingGood}
-use Rattle.run_model.specs.Legs.{IsTour, EachTour, IsTreeLeg, is_on_tree, IsAmong, machine_value, seen_value}
+use Rattle.run_model.specs.Legs.{coming_value, IsTour, EachTour, IsTreeLeg, is_on_tree, IsAmong, machine_value, seen_value}
 use Rattle.run_model.specs.Legitimate.{is_privileged}
 use Rattle.run_model.specs.Laws.{OnePrivileged, OneLending}
 use Rattle.run_model.proofs.TreeLists.{passes-somewhere, somewhere-passes}
 use Rattle.run_model.proofs.TrueTree.{tree-joined, tree-is}
-use Rattle.run_model.proofs.OneBoundary.{values_of}
-use Rattle.run_model.proofs.GoodRing.{leg_may_move, IsOnlyPrivilege, only-privilege}
+use Rattle.run_model.proofs.RingPlaces.{values_of, leg_may_move, one-mover, mover-is_fed}
 
 ring-fits : (r : Ranges) (p : Payload) → payload_fits r p ≡ true → p.ring < r.ring
 ring-fits r p h = grind (arith, nat_tests)
@@ -36,7 +37,7 @@ port-copied r p h = ring-fits r p.copy (grind arith)
 pub several-values : (net : Network) → IsAcceptedNetwork net → 1 < ring_of net
 several-values net a = omega (arith, a.limits.two)
 
-module _ (back : JoinedBack) (nodes : JoinedAreNodes) (near : NeighboursAreJoined) where
+module _ (back : JoinedBack) (nodes : JoinedAreNodes) (near : NeighboursAreJoined) (view : OwnViewIsTrue) where
   -- what joined nodes keep of each other is in range
   port-in : (w : World) (v t : ℕ) → IsWorldInRange w → are_joined w.net.edges v t ≡ true → port_fits (ranges_of w.net) ((w.node v).port t) ≡ true
   port-in w v t r j =
@@ -61,39 +62,49 @@ module _ (back : JoinedBack) (nodes : JoinedAreNodes) (near : NeighboursAreJoine
       )
 
   -- a machine may move where the leg to which it belongs says so
-  pub may-move-is : (w : World) (l : Leg) → IsTreeReached w → l.here < w.net.nodes → may_move (site w l.here) (w.node l.here) l.from ≡ leg_may_move w l
-  may-move-is w l t h = ap (λ ts. machine.is_privileged (is_named (special (l.here == w.net.root) ts) l.from) (machine_value w l) (seen_value w l)) (tree-is back w l.here t h)
+  pub may-move-is : (w : World) (l : Leg) → IsAcceptedNetwork w.net → IsTreeReached w → l.here < w.net.nodes → may_move (site w l.here) (w.node l.here) l.from ≡ leg_may_move w l
+  may-move-is w l a t h = ap (λ ts. machine.is_privileged (is_named (special (l.here == w.net.root) ts) l.from) (machine_value w l) (seen_value w l)) (tree-is back view w l.here a t h)
 
   -- a privileged node has a leg whose machine may move
-  pub privileged-leg : (w : World) (v : ℕ) → (tour : IsTour w.net) → IsTreeReached w → v < w.net.nodes → is_privileged w v ≡ true
+  pub privileged-leg : (w : World) (v : ℕ) → (tour : IsTour w.net) → IsAcceptedNetwork w.net → IsTreeReached w → v < w.net.nodes → is_privileged w v ≡ true
       → (l : Leg) × IsAmong l (tour.first ∷ tour.others) × (l.here ≡ v) × (leg_may_move w l ≡ true)
-  privileged-leg w v tour t h p =
+  privileged-leg w v tour a t h p =
       let m = passes-somewhere (may_move (site w v) (w.node v)) (tree_of (site w v) (w.node v)) p in
-      let on : is_on_tree w.net v m.0 ≡ true = subst (λ ts. list_any (λ u. u == m.0) ts ≡ true) (tree-is back w v t h) m.2 in
+      let on : is_on_tree w.net v m.0 ≡ true = subst (λ ts. list_any (λ u. u == m.0) ts ≡ true) (tree-is back view w v a t h) m.2 in
       let e = tour.every v m.0 h on in
       let here : e.0.here < w.net.nodes = subst (λ x. x < w.net.nodes) (sym e.3) h in
       let may : may_move (site w e.0.here) (w.node e.0.here) e.0.from ≡ true =
       ap (λ x. may_move (site w x) (w.node x) e.0.from) e.3 ∙ ap (may_move (site w v) (w.node v)) e.2 ∙ m.1 in
-      (e.0, e.1, e.3, sym (may-move-is w e.0 t here) ∙ may)
+      (e.0, e.1, e.3, sym (may-move-is w e.0 a t here) ∙ may)
 
   -- and the other way round
-  pub leg-privileged : (w : World) (l : Leg) → IsTreeReached w → IsTreeLeg w.net l → leg_may_move w l ≡ true → is_privileged w l.here ≡ true
-  leg-privileged w l t i m =
-      somewhere-passes (may_move (site w l.here) (w.node l.here)) l.from (tree_of (site w l.here) (w.node l.here)) (may-move-is w l t i.here_in ∙ m)
-      (subst (λ ts. list_any (λ u. u == l.from) ts ≡ true) (sym (tree-is back w l.here t i.here_in)) i.from)
+  pub leg-privileged : (w : World) (l : Leg) → IsAcceptedNetwork w.net → IsTreeReached w → IsTreeLeg w.net l → leg_may_move w l ≡ true → is_privileged w l.here ≡ true
+  leg-privileged w l a t i m =
+      somewhere-passes (may_move (site w l.here) (w.node l.here)) l.from (tree_of (site w l.here) (w.node l.here)) (may-move-is w l a t i.here_in ∙ m)
+      (subst (λ ts. list_any (λ u. u == l.from) ts ≡ true) (sym (tree-is back view w l.here a t i.here_in)) i.from)
 
-  pub only-one : (w : World) (tour : IsTour w.net) → IsWorldInRange w → IsTokenRingGood w → (m : Leg) × IsOnlyPrivilege w (tour.first ∷ tour.others) m
-  only-one w tour r g =
-      only-privilege w (ring_of w.net) tour.first tour.others tour.closed tour.first_special tour.others_not (several-values w.net r.network)
-      (values-in w r (tour.first ∷ tour.others) tour.tree) (subst (λ ls. IsGood (ring_of w.net) (values_of w ls)) tour.are g)
+  -- at most one machine may move, and what comes to it is what it sees
+  abbrev pub IsOneMover : World → List Leg → Type 0
+  IsOneMover w ls =
+      ((l k : Leg) → IsAmong l ls → IsAmong k ls → leg_may_move w l ≡ true → leg_may_move w k ≡ true → l ≡ k)
+      × ((l : Leg) → IsAmong l ls → leg_may_move w l ≡ true → coming_value w l ≡ seen_value w l)
 
-  pub one-privileged : EachTour → OnePrivileged
-  one-privileged tours w u v r t g a b p o =
+  pub only-one : OneItemIsPrivileged → (w : World) (tour : IsTour w.net) → IsWorldInRange w → IsTokenRingGood w → IsOneMover w (tour.first ∷ tour.others)
+  only-one one w tour r g =
+      let q = ring_of w.net in
+      let two = several-values w.net r.network in
+      let below : IsRing q (values_of w (tour.first ∷ tour.others)) = (omega arith, values-in w r (tour.first ∷ tour.others) tour.tree) in
+      let good = subst (λ ls. IsGood q (values_of w ls)) tour.are g in (
+        one-mover one w q tour.first tour.others tour.closed tour.first_special tour.others_not two below good,
+        mover-is_fed one w q tour.first tour.others tour.closed tour.first_special tour.others_not two below good,
+      )
+
+  pub one-privileged : OneItemIsPrivileged → EachTour → OnePrivileged
+  one-privileged one tours w u v r t g a b p o =
       let tour = tours w.net r.network in
-      let one = only-one w tour r g in
-      let x = privileged-leg w u tour t a p in
-      let y = privileged-leg w v tour t b o in
-      sym x.2 ∙ ap (λ (l : Leg). l.here) ((one.1 x.0 x.1 x.3).0 ∙ sym (one.1 y.0 y.1 y.3).0) ∙ y.2
+      let x = privileged-leg w u tour r.network t a p in
+      let y = privileged-leg w v tour r.network t b o in
+      sym x.2 ∙ ap (λ (l : Leg). l.here) ((only-one one w tour r g).0 x.0 y.0 x.1 y.1 x.3 y.3) ∙ y.2
 
-  pub one-lending : EachTour → OneLending
-  one-lending tours w u v r l a b p o = one-privileged tours w u v r l.tree l.ring a b (l.desks u a p) (l.desks v b o)
+  pub one-lending : OneItemIsPrivileged → EachTour → OneLending
+  one-lending one tours w u v r l a b p o = one-privileged one tours w u v r l.tree l.ring a b (l.desks u a p) (l.desks v b o)

@@ -21,5 +21,7 @@ pub fn one_token()
 {
     topology::laws::joined();
     topology::laws::neighbours();
+    k_state::laws::privilege_law();
+    euler_ring::laws::true_view();
     legs();
 }

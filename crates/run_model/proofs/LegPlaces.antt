@@ -27,3 +27,13 @@ followed-at p (l ∷ ls) (suc i) f h = followed-at l ls i f.1 (omega (arith, h))
 pub last-at : (p : Leg) (ls : List Leg) → last_leg p ls ≡ leg_at p ls (length ls)
 last-at p [] = refl
 last-at p (l ∷ ls) = last-at l ls
+
+-- where a leg of the list stands
+pub place-of : (l p : Leg) (ls : List Leg) → IsAmong l (p ∷ ls) → (i : ℕ) × (i ≤ length ls) × (l ≡ leg_at p ls i)
+place-of l p ls (inl e) = (0, omega arith, e)
+place-of l p [] (inr a) = absurd a
+place-of l p (k ∷ ks) (inr a) = let r = place-of l k ks a in (suc r.0, omega (arith, r.1), r.2)
+
+pub place-behind : (l p : Leg) (ls : List Leg) → IsAmong l ls → (i : ℕ) × (i < length ls) × (l ≡ leg_at p ls (suc i))
+place-behind l p [] a = absurd a
+place-behind l p (k ∷ ks) a = let r = place-of l k ks a in (r.0, omega (arith, r.1), r.2)
