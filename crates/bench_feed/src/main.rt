@@ -1,10 +1,14 @@
-//! Measures how fast `LineReader::feed` reads: `bench_feed TEXT LINES PIECE`, where TEXT is `good`, `noise`, `flat` `empty` or `short`, LINES its
-//! length in lines of 22 bytes, and PIECE the bytes of a piece. It prints how many frames it read, and on standard error how long that took. `bench/feed.sh` runs it at full size.
+//! Measures how fast `LineReader::feed` reads: `bench_feed TEXT LINES PIECE`.
+//!
+//! TEXT is `good`, `noise`, `flat`, `empty` or `short`, LINES its length in lines of 22 bytes, and PIECE the bytes of a piece. The program prints
+//! how many frames it read, and on standard error how long that took. Its run in the gate is a small one; `bench/feed.sh` runs it on 64 MiB.
 #![tactic(auto)]
+
+ghost use Rattle.std.specs.Prelude.{◌<◌};
 
 mod text;
 
-use anyhow::{Context, Result, bail};
+use anyhow::{Result, bail};
 use frame_codec::LineReader;
 use std::alloc::AllocError;
 use std::env;
@@ -37,15 +41,12 @@ fn main(rt: HostRuntime) -> Result<()> {
 }
 
 /// How many frames a reader finds in a text that comes in pieces.
-fn count_frames(
-    text: &[u8],
-    size: usize,
-    net: &Net,
-    mut out: Vec<Frame>,
-) -> Result<u64, AllocError> {
+fn count_frames(text: &[u8], size: usize, net: &Net, mut out: Vec<Frame>) -> Result<u64, AllocError>
+    requires { 0 < size }
+{
     let mut reader = LineReader::new();
     let mut count = 0u64;
-    for piece in text.chunks(if size == 0 { 1 } else { size }) {
+    for piece in text.chunks(size) {
         reader.feed(piece, net, &mut out)?;
         count = count.saturating_add(out.len() as u64);
         out.clear();

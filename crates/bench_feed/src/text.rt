@@ -1,4 +1,6 @@
 //! The texts that are read.
+ghost use Rattle.std.specs.Prelude.{◌≡◌, ◌*◌, length, IfOk};
+
 use frame_codec::encode;
 use rand_core::utils::NextWord;
 use rand_pcg::Pcg32;
@@ -35,7 +37,9 @@ impl Kind {
 }
 
 /// A text of that many times 22 bytes.
-pub fn make_text(alloc: Global, kind: Kind, lines: u32) -> Result<Vec<u8>, AllocError> {
+pub fn make_text(alloc: Global, kind: Kind, lines: u32) -> Result<Vec<u8>, AllocError>
+    ensures { IfOk result (λ text. length text.items ≡ 22 * lines) }
+{
     let mut text = Vec::new(alloc);
     let mut draws = Pcg32::new(1, 1);
     for _ in 0..lines {

@@ -37,6 +37,7 @@ pub fn decode(line: &[u8], net: &Net) -> Option<Frame>
 }
 
 /// The frame of a line, by the ranges of its fields.
+#[inline(always)]
 pub(crate) fn read_line(line: &[u8], ranges: &Ranges) -> Option<Frame>
     ensures { result ≡ frame_of ranges.now line.now }
 {
@@ -50,6 +51,7 @@ pub(crate) fn read_line(line: &[u8], ranges: &Ranges) -> Option<Frame>
 
 /// The frame that a line spells, in range or not.
 #[tactic(auto, unfolding(crate::specs::Spelling::spelling), using(crate::proofs::Readings::fields))]
+#[inline(always)]
 fn spelled_frame(line: &[u8]) -> Option<Frame>
     ensures some { IfSome result (λ f. (line.now ≡ spelling f) × (f ≡ candidate line.now)) }
     ensures none { IfNone result ((f : Frame) → line.now ≢ spelling f) }

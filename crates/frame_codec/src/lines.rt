@@ -10,6 +10,8 @@ use std::alloc::Allocator;
 use topology::{Frame, Ranges};
 
 /// The bytes before the first newline and those after it; none where there is no newline.
+// A call of its own would cost more than a short line does.
+#[inline(always)]
 pub(crate) fn split_line(text: &[u8]) -> Option<(&[u8], &[u8])>
     ensures some { IfSome result (λ parts. (text.now ≡ parts.0.now ++ newline ∷ parts.1.now) × HasNoNewline parts.0.now) }
     ensures none { IfNone result (HasNoNewline text.now) }

@@ -67,7 +67,8 @@ impl LineReader {
     ) -> Result<(), AllocError>
         ensures frames { OnOk result (out.new.items ≡ out.old.items ++ frames_after (ranges_of net.now) self.old piece.now) }
         ensures half { OnOk result (self.new ≡ kept (half_after self.old piece.now)) }
-        ensures any_cutting { OnOk result ((frames : List Frame) × (out.new.items ≡ out.old.items ++ frames) × ReadsOn (ranges_of net.now) self.old self.new piece.now frames) }
+        ensures any_cutting { OnOk result ((frames : List Frame) × (out.new.items ≡ out.old.items ++ frames)
+            × ReadsOn (ranges_of net.now) self.old self.new piece.now frames) }
         ensures refused { OnErr result ((self.new ≡ self.old) × (out.new.items ≡ out.old.items)) }
         ensures refused_only { OnErr result (vec_capacity out.old < vec_len out.old + (length self.old + length piece.now) / 22) }
     {
