@@ -2,7 +2,7 @@
 ghost use Rattle.bfs_tree.specs.Laws.{StageRises, StageIncludes, FirstStage, LastStage, ExactDistance, ExactParent};
 
 /// One round of the tree. Copies that are exact below k and at least k elsewhere give a distance that is exact below k + 1 and at least k + 1 elsewhere.
-/// Everything is of stage 0, and what is of stage n is exact, so n rounds do from any start. A later stage is of each earlier one too, so no step undoes a round.
+/// Everything is of stage 0, and what is of stage n is exact, so n rounds do from any start. What is of a later stage is of each earlier one too, so no step undoes a round.
 pub fn one_round()
     ensures rises { StageRises }
     ensures includes { StageIncludes }

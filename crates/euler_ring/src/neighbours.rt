@@ -111,7 +111,8 @@ pub fn tree_neighbours<F: Fn(u16) -> Option<u16>>(
     requires few { All (λ w. w < 64) neighbours.now }
     requires ascending { IsStrictlyIncreasing neighbours.now }
     requires readable { (w : ℕ) → Contains neighbours.now w → F.pre copied_parent w }
-    ensures found { (parent_of : ℕ → Option ℕ) → ((w : ℕ) (p : Option ℕ) → Contains neighbours.now w → F.post copied_parent w p → p ≡ parent_of w)
+    ensures found { (parent_of : ℕ → Option ℕ)
+        → ((w : ℕ) (p : Option ℕ) → Contains neighbours.now w → F.post copied_parent w p → p ≡ parent_of w)
         → result ≡ tree_neighbours parent id neighbours.now parent_of }
     ensures neighbours { (w : ℕ) → IsTrue (is_on result w) → Contains neighbours.now w }
 {
