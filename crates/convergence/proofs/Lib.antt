@@ -5,5 +5,6 @@ mod RingEvents
 mod Carried
 mod HeadMoves
 mod Desks
+mod SaidWithin
 mod Whole
 mod Rows

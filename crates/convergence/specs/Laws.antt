@@ -1,6 +1,6 @@
 -- The token ring becomes good, the world becomes legitimate and stays so: each law for the number of sweeps that it uses.
-use Rattle.std.specs.Prelude.{◌≡◌, ℕ, ◌+◌, ◌-◌, ◌*◌, ◌<◌, ◌≤◌, false, IsTrue, List}
-use Rattle.topology.specs.Network.{bound_of, ring_of}
+use Rattle.std.specs.Prelude.{◌≡◌, ℕ, ◌+◌, ◌-◌, ◌*◌, ◌<◌, ◌≤◌, false, IsTrue, List, ◌++◌, Contains}
+use Rattle.topology.specs.Network.{are_joined, bound_of, ring_of}
 use Rattle.k_state.specs.Ring.{Run}
 use Rattle.run_model.specs.World.{World, IsWorldInRange}
 use Rattle.run_model.specs.Step.{step}
@@ -11,6 +11,7 @@ use Rattle.run_model.specs.Ring.{token_ring, IsTokenRingGood}
 use Rattle.run_model.specs.Legitimate.{AreLinksStable, IsLegitimate, is_privileged, is_lending}
 use Rattle.run_model.specs.Headline.{IsServing}
 use Rattle.run_model.specs.declared.event.Event.{Event}
+use Rattle.convergence.specs.Said.{said_in}
 use Rattle.convergence.specs.Moves.{head_move, head_moves}
 
 -- a world on whose tree the token ring is laid: every link is stable, and the tree is reached
@@ -81,7 +82,15 @@ LegitimateServes = (w : World) → IsWorldInRange w → IsLegitimate w → IsSer
 abbrev pub LinksConverge : Type 0
 LinksConverge = (w : World) (es : List Event) → IsWorldInRange w → IsUndamaged w es → Sweeps w (4 * (w.net.capacity + 1)) es → AreLinksStable (run w es)
 
--- after 4(n + 1) more, the tree is reached
+-- from then on, after any three more, what u has staged for v and what v has copied from u is what u had to say to v at some moment of these three
+abbrev pub PayloadsConverge : Type 0
+PayloadsConverge =
+    (w : World) (first es : List Event) (u v : ℕ) → IsWorldInRange w → IsUndamaged w (first ++ es) → IsTrue (are_joined w.net.edges u v)
+    → Sweeps w (4 * (w.net.capacity + 1)) first → Sweeps (run w first) 3 es
+    → Contains (said_in (run w first) es u v) (((run (run w first) es).node u).port v).staged
+    × Contains (said_in (run w first) es u v) (((run (run w first) es).node v).port u).copy
+
+-- after 4(n + 1) more than those of the links, the tree is reached
 abbrev pub TreeConverges : Type 0
 TreeConverges =
     (w : World) (es : List Event) → IsWorldInRange w → IsUndamaged w es → Sweeps w (4 * (w.net.capacity + 1) + 4 * (w.net.nodes + 1)) es

@@ -1,6 +1,6 @@
 //! From any state to a world that serves, and no way back: each law is the contract of a function that does nothing.
 ghost use Rattle.convergence.specs.Below.{Below};
-ghost use Rattle.convergence.specs.Laws.{EventIsRingRun, MovesTurnRingGood, HeadMoves, TokenRingStaysGood, TokenRingTurnsGood, PrivilegeStays, LoansStayPrivileged, DesksTurnPrivileged, LegitimateStays, LegitimateServes, LinksConverge, TreeConverges, TokenRingConverges, WorldConverges};
+ghost use Rattle.convergence.specs.Laws.{EventIsRingRun, MovesTurnRingGood, HeadMoves, TokenRingStaysGood, TokenRingTurnsGood, PrivilegeStays, LoansStayPrivileged, DesksTurnPrivileged, LegitimateStays, LegitimateServes, LinksConverge, PayloadsConverge, TreeConverges, TokenRingConverges, WorldConverges};
 ghost use Rattle.run_model.specs.Headline.{Headline};
 
 /// All that this crate knows of the layers below it. Each law here is proved from these alone.
@@ -63,10 +63,12 @@ pub fn closure_law()
     below();
 }
 
-/// Convergence: from every world in range, over every list of events without damage, the links are stable after 4(C + 1) sweeps, the tree is reached
-/// after 4(n + 1) more, the token ring is good after 48(n - 1)(n - 1) more, and after one more sweep, the R-th, the world is legitimate. So it serves.
+/// Convergence: from every world in range, over every list of events without damage, the links are stable after 4(C + 1) sweeps, and from then on any
+/// three sweeps replace all that is staged and copied; the tree is reached after 4(n + 1) more, and the token ring is good after 48(n - 1)(n - 1) more;
+/// after one more, the R-th, the world is legitimate. So it serves.
 pub fn converge_law()
     ensures links { LinksConverge }
+    ensures payloads { PayloadsConverge }
     ensures tree { TreeConverges }
     ensures token_ring { TokenRingConverges }
     ensures world { WorldConverges }

@@ -1,8 +1,12 @@
 use Rattle.convergence.proofs.Whole.{links-converge, tree-converges, ring-converges, world-converges, headline}
+use Rattle.convergence.proofs.SaidWithin.{payloads-converge}
 use Rattle.convergence.proofs.laws.converge_law.Goals as goal
 
 pub returns-clause-links : goal.returns-clause-links
 returns-clause-links c = links-converge c.below.ensures
+
+pub returns-clause-payloads : goal.returns-clause-payloads
+returns-clause-payloads c = payloads-converge c.below.ensures
 
 pub returns-clause-tree : goal.returns-clause-tree
 returns-clause-tree c = tree-converges c.below.ensures
