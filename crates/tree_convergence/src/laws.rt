@@ -32,7 +32,7 @@ pub fn stages()
     links();
     payloads();
     run_model::laws::runs();
-    run_model::laws::ranges();
+    run_model::laws::in_range();
     bfs_tree::laws::one_round();
     topology::laws::joined();
 }
@@ -45,7 +45,7 @@ pub fn parents()
     payloads();
     stages();
     run_model::laws::runs();
-    run_model::laws::ranges();
+    run_model::laws::in_range();
     bfs_tree::laws::one_round();
     bfs_tree::laws::exact_step();
     topology::laws::joined();
@@ -62,7 +62,7 @@ pub fn tree()
     stages();
     parents();
     run_model::laws::runs();
-    run_model::laws::ranges();
+    run_model::laws::in_range();
     run_model::laws::sweep_numbers();
     bfs_tree::laws::one_round();
     bfs_tree::laws::exact_step();

@@ -3,5 +3,5 @@ use Rattle.tree_convergence.proofs.laws.parents.Goals as goal
 
 pub returns : goal.returns
 returns c =
-    parents-turn c.runs.ensures.network c.ranges-2.ensures c.runs.ensures.undamaged_splits c.runs.ensures.join c.joined.ensures.back c.joined.ensures.nodes
+    parents-turn c.runs.ensures.network c.in_range.ensures c.runs.ensures.undamaged_splits c.runs.ensures.join c.joined.ensures.back c.joined.ensures.nodes
     c.one_round.ensures.last c.exact_step.ensures.parent c.links.ensures.stay c.stages.ensures.stay c.payloads.ensures.turn_fresh

@@ -9,5 +9,5 @@ returns-clause-stay c =
 pub returns-clause-rise : goal.returns-clause-rise
 returns-clause-rise c =
     stage-rises c.runs.ensures.network c.joined.ensures.back c.one_round.ensures.rises c.one_round.ensures.includes c.joined.ensures.nodes
-    c.payloads.ensures.staged c.payloads.ensures.copied c.ranges-2.ensures c.links.ensures.stay c.payloads.ensures.turn_fresh
+    c.payloads.ensures.staged c.payloads.ensures.copied c.in_range.ensures c.links.ensures.stay c.payloads.ensures.turn_fresh
     c.runs.ensures.undamaged_splits c.runs.ensures.join

@@ -4,10 +4,10 @@ use Rattle.tree_convergence.proofs.laws.tree.Goals as goal
 
 pub returns-clause-stay : goal.returns-clause-stay
 returns-clause-stay c =
-    tree-stays c.runs.ensures.network c.ranges-2.ensures c.runs.ensures.undamaged_splits c.runs.ensures.join c.joined.ensures.back c.joined.ensures.nodes
+    tree-stays c.runs.ensures.network c.in_range.ensures c.runs.ensures.undamaged_splits c.runs.ensures.join c.joined.ensures.back c.joined.ensures.nodes
     c.one_round.ensures.last c.exact_step.ensures.parent c.links.ensures.stay c.stages.ensures.stay c.payloads.ensures.staged c.payloads.ensures.copied
 
 pub returns-clause-reached : goal.returns-clause-reached
 returns-clause-reached c =
-    tree-reached c.runs.ensures.network c.ranges-2.ensures c.runs.ensures.undamaged_splits c.runs.ensures.join c.sweep_numbers.ensures.split
+    tree-reached c.runs.ensures.network c.in_range.ensures c.runs.ensures.undamaged_splits c.runs.ensures.join c.sweep_numbers.ensures.split
     c.links.ensures.stay c.stages.ensures.rise c.parents.ensures c.stages.ensures.zero
