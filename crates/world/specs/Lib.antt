@@ -1,3 +1,4 @@
 pub mod EventLine
 pub mod EventsText
 pub mod LineReader
+pub mod Tallies

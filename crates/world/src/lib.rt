@@ -16,3 +16,6 @@
 #![tactic(auto)]
 
 pub mod events;
+mod tallies;
+
+pub use tallies::{Tallies, Tally};
