@@ -1,6 +1,7 @@
 -- What contracts see of a judge's tallies, one for each link.
-use Rattle.std.specs.Prelude.{◌≡◌, ℕ, ◌+◌, ◌-◌, ◌*◌, Bool, true, not, ◌||◌, ◌==◌, if◌then◌else◌, nat_lt, List, [], ◌∷◌, length, slice_index_or}
-use Rattle.data_link.specs.Sweep.{LinkAct, Puts, Takes, Loses, Rests}
+use Rattle.std.specs.Prelude.{◌≡◌, ℕ, ◌+◌, ◌*◌, Bool, true, ◌||◌, if◌then◌else◌, List, [], ◌∷◌, length, slice_index_or}
+use Rattle.data_link.specs.Sweep.{LinkAct}
+use Rattle.run_model.specs.Stretch.{old_after, takes_new}
 use Rattle.world.specs.declared.tallies.Tally.{Tally}
 
 -- how many nodes there are; n tallies for each, those of the links that lead from it; and how often one was looked at
@@ -25,21 +26,20 @@ tally_of t u v = slice_index_or t.places (place_of t.nodes u v) no_tally
 abbrev pub is_served : Tally → Bool
 is_served t = t.served
 
--- What an act makes of a tally, where so many items stand on the link. The old items are the oldest ones: so a take takes an old one while there is any, and
--- else serves the link if there is an item at all; and what is lost is old where its index is among the old ones.
+-- what an act makes of a tally, where so many items stand on the link
 abbrev pub tally_after : LinkAct → ℕ → Tally → Tally
-tally_after Takes under_way t =
-    if t.old == 0 then record { old = 0; served = t.served || not (under_way == 0) } else record { old = t.old - 1; served = t.served }
-tally_after (Loses i) under_way t = if nat_lt i t.old then record { old = t.old - 1; served = t.served } else t
-tally_after Puts under_way t = t
-tally_after Rests under_way t = t
+tally_after act under_way t = record { old = old_after act t.old; served = t.served || takes_new act t.old under_way }
+
+-- 1 where the link is not served, else 0
+abbrev pub missing : Tally → ℕ
+missing t = if t.served then 0 else 1
 
 -- how many of these tallies do not say that their link is served
 abbrev pub unserved_in : List Tally → ℕ
 unserved_in [] = 0
-unserved_in (t ∷ ts) = (if t.served then 0 else 1) + unserved_in ts
+unserved_in (t ∷ ts) = missing t + unserved_in ts
 
 -- there are n tallies for each of n nodes, and so many of them are not served
 pub record IsTallied (nodes : ℕ) (places : List Tally) (unserved : ℕ) : Type 0 where
   pub all_links : length places ≡ nodes * nodes
-  pub unserved : unserved ≡ unserved_in places
+  pub few : unserved ≡ unserved_in places

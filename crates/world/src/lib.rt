@@ -17,5 +17,3 @@
 
 pub mod events;
 mod tallies;
-
-pub use tallies::{Tallies, Tally};

@@ -1,8 +1,8 @@
 //! What a judge keeps of the links in an unfinished stretch of a run.
-ghost use Rattle.std.specs.Prelude.{◌≡◌, ◌+◌, ◌-◌, ◌*◌, ◌^◌, ◌<◌, min, true, if◌then◌else◌, length, replicate, slice_set, IfOk, IsTrue};
+ghost use Rattle.std.specs.Prelude.{◌≡◌, ◌+◌, ◌-◌, ◌*◌, ◌^◌, ◌<◌, ℕ, min, length, replicate, slice_set, IfOk};
 ghost use Rattle.std.specs.List.{list_all};
 ghost use Rattle.data_link.specs.Sweep.{Takes, Loses};
-ghost use Rattle.world.specs.Tallies.{place_of, tally_of, tally_after, is_served, no_tally};
+ghost use Rattle.world.specs.Tallies.{place_of, tally_of, tally_after, is_served, missing, no_tally};
 
 use std::alloc::{AllocError, Allocator, Global};
 use std::marker::Model;
@@ -16,23 +16,34 @@ pub struct Tally {
 }
 
 impl Tally {
+    /// 1 where the link is not served, else 0.
+    fn missing(self) -> usize
+        ensures { result ≡ missing self }
+    {
+        if self.served { 0 } else { 1 }
+    }
+
     /// The tally after a take from the link, on which so many items stand: an old one goes while there is any, and else an item that was
     /// sent inside the stretch, if there is one.
     pub fn taken(self, under_way: usize) -> Tally
         ensures { result ≡ tally_after Takes under_way self }
     {
-        match self.old.checked_sub(1) {
-            Some(old) => Tally { old, ..self },
-            None => Tally {
-                old: 0,
-                served: self.served || under_way != 0,
-            },
+        if self.old > 0 {
+            Tally {
+                old: self.old - 1,
+                ..self
+            }
+        } else {
+            Tally {
+                served: self.served || under_way > 0,
+                ..self
+            }
         }
     }
 
     /// The tally after the item at an index of the link was lost, where 0 is the oldest.
-    pub fn lost(self, under_way: usize, index: u16) -> Tally
-        ensures { result ≡ tally_after (Loses index) under_way self }
+    pub fn lost(self, index: u16) -> Tally
+        ensures { (under_way : ℕ) → result ≡ tally_after (Loses index) under_way self }
     {
         if index < self.old {
             Tally {
@@ -111,14 +122,14 @@ impl<A: Allocator> Tallies<A> {
         requires from_in { from < self.old.nodes }
         requires to_in { to < self.old.nodes }
         ensures { self.new ≡ record self.old {
-            places = slice_set self.old.places (place_of self.old.nodes from to) tally;
-            looked = min (self.old.looked + 1) (2 ^ 32 - 1);
+          places = slice_set self.old.places (place_of self.old.nodes from to) tally;
+          looked = min (self.old.looked + 1) (2 ^ 32 - 1);
         } }
     {
         self.looked = self.looked.saturating_add(1);
         let place = self.place(from, to);
         let before = self.places[place];
-        self.unserved = self.unserved + usize::from(!tally.served) - usize::from(!before.served);
+        self.unserved = self.unserved + tally.missing() - before.missing();
         self.places[place] = tally;
     }
 

@@ -1,0 +1,22 @@
+use Rattle.std.proofs.Common.{◌∙◌, arith}
+use Rattle.std.proofs.lemmas.List.{length-set}
+use Rattle.world.proofs.TallyCounts.{sum-within, before-counts, after-counts}
+use Rattle.world.proofs.tallies.Tallies.set.Goals as goal
+
+pub overflow_add-self : goal.overflow_add-self
+overflow_add-self g c =
+    let sum = sum-within c.self.inside.nodes c.place-place.result c.self.inside.unserved c.self.inside.places.items c.index-before.result.now c.self.invariant.few c.place-place.ensures.there c.index-before.ensures c.args.tally c.self.invariant.all_links c.self.ranges.0.1 in
+    omega (arith, sum, c.missing.ensures)
+
+pub overflow_sub-self : goal.overflow_sub-self
+overflow_sub-self g c =
+    let counts = before-counts c.self.inside.nodes c.place-place.result c.self.inside.unserved c.self.inside.places.items c.index-before.result.now c.self.invariant.few c.place-place.ensures.there c.index-before.ensures in
+    omega (arith, counts, c.missing.ensures, c.missing-2.ensures)
+
+pub invariant_of-self-2 : goal.invariant_of-self-2
+invariant_of-self-2 g c =
+    let counts = after-counts c.self.inside.nodes c.place-place.result c.self.inside.unserved c.self.inside.places.items c.index-before.result.now c.self.invariant.few c.place-place.ensures.there c.index-before.ensures c.args.tally in
+    record {
+      all_links = length-set c.self.inside.places.items c.place-place.result c.args.tally ∙ c.self.invariant.all_links;
+      few = omega (arith, counts, c.missing.ensures, c.missing-2.ensures);
+    }
