@@ -34,6 +34,9 @@ pub struct Node<A: Allocator = Global> {
     desk: Desk<A>,
 }
 
+/// Another name of a node, where it is seen as the state that a file or a fault may write.
+pub type NodeState<A = Global> = Node<A>;
+
 impl<A: Allocator> Model for Node<A> {
     ghost use Rattle.node_core.specs.Machines.{is_node_privileged, payload_for};
     ghost use Rattle.node_core.specs.Step.{desk_done, item_fits, machines_moved, recomputed, taken, ticked};
@@ -103,6 +106,14 @@ impl<A: Allocator> Node<A> {
         ensures { result.now ≡ (site_in self.now).neighbours }
     {
         self.registers.neighbours()
+    }
+
+    /// Whether a node is one of its neighbours.
+    pub fn is_neighbour(&self, id: u16) -> bool
+        ensures neighbour { IsTrue result ↔ Contains (site_in self.now).neighbours id }
+        ensures node { IsTrue result → id < (site_in self.now).ranges.nodes }
+    {
+        self.registers.is_neighbour(id)
     }
 
     /// Its distance from the root, as far as it knows: 0 to the number of nodes.

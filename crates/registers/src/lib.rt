@@ -19,3 +19,6 @@ mod registers;
 
 pub use data_link::{Heard, OutOfRange};
 pub use registers::Registers;
+
+#[cfg(test)]
+mod tests;

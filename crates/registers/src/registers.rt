@@ -73,6 +73,14 @@ impl<A: Allocator> Registers<A> {
         &self.neighbours
     }
 
+    /// Whether a node is one of the neighbours.
+    pub fn is_neighbour(&self, id: u16) -> bool
+        ensures neighbour { IsTrue result ↔ Contains self.now.neighbours id }
+        ensures node { IsTrue result → id < self.now.ranges.nodes }
+    {
+        self.neighbours.contains(&id)
+    }
+
     /// The number under which the payload for `port` goes out.
     pub fn seq(&self, port: u16) -> u16
         requires { port < self.now.ranges.nodes }
@@ -157,7 +165,7 @@ impl<A: Allocator> Registers<A> {
         if value >= self.ranges.ring {
             return Err(OutOfRange);
         }
-        self.values[port as usize] = value;
+        self.write_value(port, value);
         Ok(())
     }
 
