@@ -6,7 +6,6 @@ ghost use Rattle.node_core.specs.Status.{number_or_none};
 use arrayvec::ArrayString;
 use itoa::Buffer;
 
-
 /// Adds a name and a number.
 pub fn push_number(text: &mut ArrayString<96>, name: &str, number: u16)
     requires { array_string_len text.old + length name.now + 5 ≤ 96 }

@@ -53,17 +53,52 @@ fn two_nodes_reach_the_tree_and_pass_the_token(rt: HostRuntime) -> Result<(), Fa
     let net = two(rt.alloc(), 0)?;
     let mut near = Node::new(rt.alloc(), &net, 0)?;
     let mut far = Node::new(rt.alloc(), &net, 1)?;
-    assert!(rt; shows(&near, "node 0 distance 2 parent none token no lent none waiting 0\n"));
-    assert!(rt; shows(&far, "node 1 distance 2 parent none token no lent none waiting 0\n"));
+    assert!(rt;
+        shows(
+            &near,
+            "node 0 distance 2 parent none token no lent none waiting 0\n"
+        )
+    );
+    assert!(rt;
+        shows(
+            &far,
+            "node 1 distance 2 parent none token no lent none waiting 0\n"
+        )
+    );
     round(&mut near, &mut far);
-    assert!(rt; shows(&near, "node 0 distance 0 parent none token yes lent none waiting 0\n"));
-    assert!(rt; shows(&far, "node 1 distance 2 parent 0 token no lent none waiting 0\n"));
+    assert!(rt;
+        shows(
+            &near,
+            "node 0 distance 0 parent none token yes lent none waiting 0\n"
+        )
+    );
+    assert!(rt;
+        shows(
+            &far,
+            "node 1 distance 2 parent 0 token no lent none waiting 0\n"
+        )
+    );
     round(&mut near, &mut far);
-    assert!(rt; shows(&far, "node 1 distance 2 parent 0 token no lent none waiting 0\n"));
+    assert!(rt;
+        shows(
+            &far,
+            "node 1 distance 2 parent 0 token no lent none waiting 0\n"
+        )
+    );
     assert!(rt; !near.privileged());
     round(&mut near, &mut far);
-    assert!(rt; shows(&near, "node 0 distance 0 parent none token no lent none waiting 0\n"));
-    assert!(rt; shows(&far, "node 1 distance 1 parent 0 token yes lent none waiting 0\n"));
+    assert!(rt;
+        shows(
+            &near,
+            "node 0 distance 0 parent none token no lent none waiting 0\n"
+        )
+    );
+    assert!(rt;
+        shows(
+            &far,
+            "node 1 distance 1 parent 0 token yes lent none waiting 0\n"
+        )
+    );
     Ok(())
 }
 
@@ -78,12 +113,22 @@ fn the_token_leaves_before_a_second_loan(rt: HostRuntime) -> Result<(), Fail> {
     assert_eq!(rt; near.ask(2), Err(AskFault::Twice));
     let first = near.tick();
     assert_eq!(rt; (first.act, first.full), (DeskAct::Granted(1), false));
-    assert!(rt; shows(&near, "node 0 distance 0 parent none token yes lent 1 waiting 1\n"));
+    assert!(rt;
+        shows(
+            &near,
+            "node 0 distance 0 parent none token yes lent 1 waiting 1\n"
+        )
+    );
     assert_eq!(rt; near.leave(1), Ok(()));
     assert_eq!(rt; near.leave(1), Err(Stranger));
     let second = near.tick();
     assert_eq!(rt; (second.act, second.full), (DeskAct::Quiet, true));
-    assert!(rt; shows(&near, "node 0 distance 0 parent none token no lent none waiting 1\n"));
+    assert!(rt;
+        shows(
+            &near,
+            "node 0 distance 0 parent none token no lent none waiting 1\n"
+        )
+    );
     Ok(())
 }
 
@@ -96,14 +141,30 @@ fn a_loan_of_one_tick_ends(rt: HostRuntime) -> Result<(), Fail> {
     assert_eq!(rt; near.ask(1), Ok(()));
     near.tick();
     near.tick();
-    assert!(rt; shows(&near, "node 0 distance 0 parent none token yes lent 1 waiting 0\n"));
+    assert!(rt;
+        shows(
+            &near,
+            "node 0 distance 0 parent none token yes lent 1 waiting 0\n"
+        )
+    );
     assert_eq!(rt; near.tick().act, DeskAct::Lost(1));
-    assert!(rt; shows(&near, "node 0 distance 0 parent none token no lent none waiting 0\n"));
+    assert!(rt;
+        shows(
+            &near,
+            "node 0 distance 0 parent none token no lent none waiting 0\n"
+        )
+    );
     Ok(())
 }
 
 /// Writes the state of a node that holds a token and lends it to a ticket.
-fn forge(node: &mut Node, distance: u16, parent: Option<u16>, copy: Payload, lent: u16) -> Result<(), OutOfRange> {
+fn forge(
+    node: &mut Node,
+    distance: u16,
+    parent: Option<u16>,
+    copy: Payload,
+    lent: u16,
+) -> Result<(), OutOfRange> {
     let staged = Payload {
         distance,
         parent,
@@ -136,14 +197,34 @@ fn a_forged_token_goes_and_its_loan_ends(rt: HostRuntime) -> Result<(), Fail> {
     };
     assert_eq!(rt; forge(&mut near, 0, None, child, 5), Ok(()));
     assert_eq!(rt; forge(&mut far, 1, Some(0), root, 6), Ok(()));
-    assert!(rt; shows(&near, "node 0 distance 0 parent none token yes lent 5 waiting 0\n"));
-    assert!(rt; shows(&far, "node 1 distance 1 parent 0 token yes lent 6 waiting 0\n"));
+    assert!(rt;
+        shows(
+            &near,
+            "node 0 distance 0 parent none token yes lent 5 waiting 0\n"
+        )
+    );
+    assert!(rt;
+        shows(
+            &far,
+            "node 1 distance 1 parent 0 token yes lent 6 waiting 0\n"
+        )
+    );
     round(&mut near, &mut far);
     assert!(rt; near.privileged() && far.privileged());
     round(&mut near, &mut far);
     round(&mut near, &mut far);
-    assert!(rt; shows(&near, "node 0 distance 0 parent none token yes lent 5 waiting 0\n"));
-    assert!(rt; shows(&far, "node 1 distance 1 parent 0 token no lent none waiting 0\n"));
+    assert!(rt;
+        shows(
+            &near,
+            "node 0 distance 0 parent none token yes lent 5 waiting 0\n"
+        )
+    );
+    assert!(rt;
+        shows(
+            &far,
+            "node 1 distance 1 parent 0 token no lent none waiting 0\n"
+        )
+    );
     Ok(())
 }
 
@@ -161,7 +242,12 @@ fn noise_and_writes_out_of_range_change_nothing(rt: HostRuntime) -> Result<(), F
         assert_eq!(rt; node.set_value(0, 6), Ok(()));
         assert_eq!(rt; (node.seq(0), node.last(0), node.value(0)), (0, 0, 6));
     }
-    assert!(rt; shows(&node, "node 1 distance 2 parent none token no lent none waiting 0\n"));
+    assert!(rt;
+        shows(
+            &node,
+            "node 1 distance 2 parent none token no lent none waiting 0\n"
+        )
+    );
     Ok(())
 }
 

@@ -159,7 +159,7 @@ impl<A: Allocator> Registers<A> {
         requires { Contains self.old.neighbours port }
         ensures variant { IsOk result ↔ (value < self.old.ranges.ring) }
         ensures value { OnOk result (value_of self.new ≡ at (value_of self.old) port value) }
-        ensures rest { OnOk result (self.new ≡ record self.old { values = self.new.values }) }
+        ensures rest { self.new ≡ record self.old { values = self.new.values } }
         ensures out_of_range { OnErr result (self.new ≡ self.old) }
     {
         if value >= self.ranges.ring {
@@ -174,7 +174,7 @@ impl<A: Allocator> Registers<A> {
         requires { Contains self.old.neighbours port }
         ensures variant { IsOk result ↔ IsTrue (counters_fit self.old.ranges seq last) }
         ensures port { OnOk result (port_of self.new ≡ at (port_of self.old) port (record (port_of self.old port) { seq = seq; last = last })) }
-        ensures rest { OnOk result (self.new ≡ record self.old { ports = self.new.ports }) }
+        ensures rest { self.new ≡ record self.old { ports = self.new.ports } }
         ensures out_of_range { OnErr result (self.new ≡ self.old) }
     {
         self.ports[port as usize].set_counters(seq, last)
@@ -185,7 +185,7 @@ impl<A: Allocator> Registers<A> {
         requires { Contains self.old.neighbours port }
         ensures variant { IsOk result ↔ IsTrue (payload_fits self.old.ranges payload) }
         ensures port { OnOk result (port_of self.new ≡ at (port_of self.old) port (record (port_of self.old port) { staged = payload })) }
-        ensures rest { OnOk result (self.new ≡ record self.old { ports = self.new.ports }) }
+        ensures rest { self.new ≡ record self.old { ports = self.new.ports } }
         ensures out_of_range { OnErr result (self.new ≡ self.old) }
     {
         self.ports[port as usize].set_staged(payload)
@@ -196,7 +196,7 @@ impl<A: Allocator> Registers<A> {
         requires { Contains self.old.neighbours port }
         ensures variant { IsOk result ↔ IsTrue (payload_fits self.old.ranges payload) }
         ensures port { OnOk result (port_of self.new ≡ at (port_of self.old) port (record (port_of self.old port) { copy = payload })) }
-        ensures rest { OnOk result (self.new ≡ record self.old { ports = self.new.ports }) }
+        ensures rest { self.new ≡ record self.old { ports = self.new.ports } }
         ensures out_of_range { OnErr result (self.new ≡ self.old) }
     {
         self.ports[port as usize].set_copy(payload)

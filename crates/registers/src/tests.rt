@@ -4,52 +4,80 @@ use std::alloc::{AllocError, Allocator};
 use std::test::Fail;
 use topology::{Frame, Net, Payload};
 
-/// Fills what the registers of a node keep of its neighbours, and says whether a node that is none is as at the start.
+/// Writes both numbers and the value of a neighbour; a node that is none is refused.
+fn write<A: Allocator>(
+    registers: &mut Registers<A>,
+    port: u16,
+    numbers: (u16, u16),
+) -> Result<(), OutOfRange> {
+    if !registers.is_neighbour(port) {
+        return Err(OutOfRange);
+    }
+    registers.set_counters(port, numbers.0, numbers.1)
+}
+
+/// Writes the value of a neighbour's machine; a node that is none is refused.
+fn write_value<A: Allocator>(
+    registers: &mut Registers<A>,
+    port: u16,
+    value: u16,
+) -> Result<(), OutOfRange> {
+    if !registers.is_neighbour(port) {
+        return Err(OutOfRange);
+    }
+    registers.set_value(port, value)
+}
+
+/// Takes a frame that brings its own payload as the present one, if all is in range.
+fn hear<A: Allocator>(registers: &mut Registers<A>, port: u16, frame: &Frame) -> Option<Heard> {
+    let ranges = registers.ranges();
+    if registers.is_neighbour(port) && ranges.fits(frame) && ranges.fits_payload(&frame.payload) {
+        return Some(registers.hear(port, frame, frame.payload));
+    }
+    None
+}
+
+/// Uses the registers of the root, and says whether its two neighbours and no other node could be written.
 fn used<A: Allocator + Copy>(alloc: A, net: &Net) -> Result<bool, AllocError> {
     let mut registers = Registers::new(alloc, net, net.root())?;
-    let payload = Payload {
-        distance: 1,
-        parent: Some(0),
-        ring: 3,
-    };
     let frame = Frame {
         seq: 4,
         ack: 0,
-        payload,
+        payload: Payload {
+            distance: 1,
+            parent: Some(0),
+            ring: 3,
+        },
     };
-    let mut written = 0;
+    let news = Heard {
+        moved: true,
+        accepted: true,
+    };
+    let mut written = 0u16;
     for id in 0..net.nodes() {
-        let ranges = registers.ranges();
-        if registers.is_neighbour(id) && ranges.fits(&frame) && ranges.fits_payload(&payload) {
-            let heard = registers.hear(id, &frame, payload);
-            let fits = registers.set_value(id, 6).is_ok();
-            let full = registers.set_counters(id, ranges.counter, 0) == Err(OutOfRange);
-            if heard.moved && heard.accepted && fits && full {
-                written += 1;
-            }
+        if hear(&mut registers, id, &frame) == Some(news)
+            && write(&mut registers, id, (1, 2)) == Ok(())
+            && write_value(&mut registers, id, 6) == Ok(())
+        {
+            written |= id;
         }
     }
-    Ok(written == registers.neighbours().len())
+    Ok(written == 3)
 }
 
 #[test]
 fn one_port_alone_is_written(rt: HostRuntime) -> Result<(), Fail> {
     let net = Net::make(rt.alloc(), 4, 0, 1, 0, &[(0, 1), (0, 2), (1, 3), (2, 3)])?;
-    let mut registers = Registers::new(rt.alloc(), &net, 0)?;
-    let before = registers.frame_for(2);
+    let mut registers = Registers::new(rt.alloc(), &net, net.root())?;
     assert!(rt; registers.neighbours() == [1, 2].as_slice());
-    if registers.is_neighbour(1) {
-        assert_eq!(rt; registers.set_counters(1, 4, 3), Ok(()));
-        assert_eq!(rt; registers.set_counters(1, 5, 3), Err(OutOfRange));
-        assert_eq!(rt; registers.set_value(1, 18), Ok(()));
-        assert_eq!(rt; registers.set_value(1, 19), Err(OutOfRange));
+    assert_eq!(rt; write(&mut registers, 1, (4, 3)), Ok(()));
+    assert_eq!(rt; write(&mut registers, 1, (5, 3)), Err(OutOfRange));
+    assert_eq!(rt; write_value(&mut registers, 1, 18), Ok(()));
+    assert_eq!(rt; write_value(&mut registers, 1, 19), Err(OutOfRange));
+    for id in 1..registers.ranges().nodes {
+        let numbers = (registers.seq(id), registers.last(id), registers.value(id));
+        assert_eq!(rt; numbers, if id == 1 { (4, 3, 18) } else { (0, 0, 0) });
     }
-    assert_eq!(rt;
-        (registers.seq(1), registers.last(1), registers.value(1)),
-        (4, 3, 18)
-    );
-    assert_eq!(rt; (registers.frame_for(2), registers.value(2)), (before, 0));
-    assert_eq!(rt; registers.frame_for(3), before);
     Ok(())
 }
 
