@@ -354,9 +354,9 @@ impl<A: Allocator> Node<A> {
         ensures state { state_of self.new ≡ recomputed (site_in self.old) (state_of self.old) }
         ensures site { site_in self.new ≡ site_in self.old }
     {
-        let (distance, parent) = new_own(&self.registers, self.is_root);
-        self.distance = distance;
-        self.parent = parent;
+        let own = new_own(&self.registers, self.is_root);
+        self.distance = own.0;
+        self.parent = own.1;
     }
 
     /// Second and last part of a tick: the desk ends a loan or begins one, and where it then lends to nobody, each machine that may move does.

@@ -6,11 +6,11 @@ use Rattle.node_core.proofs.node.Node.recompute.Goals as goal
 pub invariant_of-self : goal.invariant_of-self
 invariant_of-self g c = record {
   id = c.self.invariant.id;
-  distance = rw c.new_own-distance.ensures.own (new_distance-le _ _ _ _);
-  parent = rw c.new_own-distance.ensures.own (new_parent-fits _ _ _ _ c.new_own-distance.ensures.registers.neighbours_in);
+  distance = rw c.new_own-own.ensures.own (new_distance-le _ _ _ _);
+  parent = rw c.new_own-own.ensures.own (new_parent-fits _ _ _ _ c.new_own-own.ensures.registers.neighbours_in);
 }
 
 pub returns-clause-state : goal.returns-clause-state
 returns-clause-state g c =
-    let own = c.new_own-distance.ensures.own in
+    let own = c.new_own-own.ensures.own in
     rw (← c.self.view_is) (same_state _ _ (ap (λ p. p.0) own) (ap (λ p. p.1) own) refl refl refl)
