@@ -10,7 +10,7 @@ use Rattle.run_model.specs.Run.{run, is_damage, IsUndamaged}
 use Rattle.run_model.specs.Sweep.{IsSweep, link_act, is_full_tick, has_full_tick, is_served}
 use Rattle.run_model.specs.Count.{Sweeps, StrictSweeps, IsGreatestCount, after_damage, IsSweepCount}
 use Rattle.run_model.specs.Stretch.{old_items, old_after, takes_new}
-use Rattle.run_model.specs.Greedy.{IsEarliest, IsCounted}
+use Rattle.run_model.specs.Greedy.{IsEarliest, IsUnfinished, IsCounted}
 use Rattle.run_model.specs.Ring.{IsTokenRingGood}
 use Rattle.run_model.specs.Tree.{IsTreeReached}
 use Rattle.run_model.specs.Legitimate.{IsLegitimate, edge_of, is_privileged, is_lending}
@@ -40,10 +40,11 @@ RangesStay = (w : World) (es : List Event) → IsWorldInRange w → IsWorldInRan
 abbrev pub RunsJoin : Type 0
 RunsJoin = (w : World) (xs ys : List Event) → run w (xs ++ ys) ≡ run (run w xs) ys
 
--- two lists are without damage where the first is, and the second from where the first led
+-- two lists, one after the other, are without damage where the first is, and the second from where the first led,
 abbrev pub UndamagedJoins : Type 0
 UndamagedJoins = (w : World) (xs ys : List Event) → IsUndamaged w xs → IsUndamaged (run w xs) ys → IsUndamaged w (xs ++ ys)
 
+-- and only there
 abbrev pub UndamagedSplits : Type 0
 UndamagedSplits = (w : World) (xs ys : List Event) → IsUndamaged w (xs ++ ys) → IsUndamaged w xs × IsUndamaged (run w xs) ys
 
@@ -154,8 +155,7 @@ GreedyCount =
 
 -- and 0 where no beginning of the list is a sweep.
 abbrev pub NoSweepCount : Type 0
-NoSweepCount =
-    (w : World) (es : List Event) → ((front back : List Event) → es ≡ front ++ back → ¬ IsSweep w front) → IsGreatestCount w es 0
+NoSweepCount = (w : World) (es : List Event) → IsUnfinished w es → IsGreatestCount w es 0
 
 -- So what is counted so far is the greatest count.
 abbrev pub CountedIsGreatest : Type 0
