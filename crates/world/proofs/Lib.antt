@@ -2,4 +2,6 @@ pub mod WordLemmas
 pub mod NumberLemmas
 pub mod ReaderLemmas
 pub mod Rows
+pub mod SpellingLemmas
+pub mod EventSpelling
 pub mod TallyCounts

@@ -1,6 +1,5 @@
 -- Small examples of events texts, and lines that spell no event.
-use Rattle.std.proofs.Common.{◌≡◌, true, false, List, [], ◌∷◌, ◌++◌, Some, None, refl, codes, replicate}
-use Rattle.topology.specs.declared.frame.Payload.{Payload}
+use Rattle.std.proofs.Common.{◌≡◌, true, false, [], ◌∷◌, ◌++◌, Some, None, refl, codes, replicate}
 use Rattle.link_model.specs.declared.item.Item.TheVariants as item
 use Rattle.run_model.specs.declared.event.Event.TheVariants.{Send, Take, Lose, Tick, Ask, Leave, Damage}
 use Rattle.run_model.specs.declared.event.Harm.TheVariants as harm

@@ -1,4 +1,5 @@
 pub mod EventLine
 pub mod EventsText
 pub mod LineReader
+pub mod EventLaws
 pub mod Tallies
