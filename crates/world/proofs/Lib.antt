@@ -4,4 +4,5 @@ pub mod ReaderLemmas
 pub mod Rows
 pub mod SpellingLemmas
 pub mod EventSpelling
+pub mod EventReading
 pub mod TallyCounts

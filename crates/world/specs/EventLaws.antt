@@ -1,5 +1,5 @@
 -- Laws of the events text: each number, each line and each event has one spelling.
-use Rattle.std.specs.Prelude.{◌≡◌, ℕ, ◌<◌, Bool, true, false, List, [], ◌∷◌, Option, Some, None, codes}
+use Rattle.std.specs.Prelude.{◌≡◌, ℕ, ◌<◌, Bool, true, false, ◌&&◌, nat_lt, List, [], ◌∷◌, Option, Some, None, codes}
 use Rattle.std.specs.Fmt.{decimal}
 use Rattle.std.specs.List.{join_with_byte}
 use Rattle.topology.specs.declared.frame.Payload.{Payload}
@@ -60,3 +60,38 @@ event_words (Damage h) = codes "harm" ∷ harm_words h
 -- a line spells an event only where its words are those of the event, with a space between each two
 abbrev pub EventsHaveOneSpelling : Type 0
 EventsHaveOneSpelling = (line : Word) (event : Event) → line_event line ≡ Some event → line ≡ join_with_byte 32 (event_words event)
+
+-- each number of a payload, a harm or an event is below 65536
+abbrev pub is_small : ℕ → Bool
+is_small n = nat_lt n 65536
+
+abbrev pub is_small_or_none : Option ℕ → Bool
+is_small_or_none None = true
+is_small_or_none (Some n) = is_small n
+
+abbrev pub payload_is_small : Payload → Bool
+payload_is_small p = is_small p.distance && is_small_or_none p.parent && is_small p.ring
+
+abbrev pub harm_is_small : Harm → Bool
+harm_is_small (harm.Own v d p) = is_small v && is_small d && is_small_or_none p
+harm_is_small (harm.Counters v w seq last) = is_small v && is_small w && is_small seq && is_small last
+harm_is_small (harm.Staged v w payload) = is_small v && is_small w && payload_is_small payload
+harm_is_small (harm.Copy v w payload) = is_small v && is_small w && payload_is_small payload
+harm_is_small (harm.Value v w x) = is_small v && is_small w && is_small x
+harm_is_small (harm.Desk v lent left served) = is_small v && is_small_or_none lent && is_small left
+harm_is_small (harm.Item u v (item.Frame f)) = is_small u && is_small v && is_small f.seq && is_small f.ack && payload_is_small f.payload
+harm_is_small (harm.Item u v item.Noise) = is_small u && is_small v
+harm_is_small (harm.Empty u v) = is_small u && is_small v
+
+abbrev pub event_is_small : Event → Bool
+event_is_small (Send u v) = is_small u && is_small v
+event_is_small (Take u v) = is_small u && is_small v
+event_is_small (Lose u v i) = is_small u && is_small v && is_small i
+event_is_small (Tick v) = is_small v
+event_is_small (Ask v t) = is_small v && is_small t
+event_is_small (Leave v t) = is_small v && is_small t
+event_is_small (Damage h) = harm_is_small h
+
+-- and each such event is read from its words, with a space between each two
+abbrev pub EventsAreRead : Type 0
+EventsAreRead = (event : Event) → event_is_small event ≡ true → line_event (join_with_byte 32 (event_words event)) ≡ Some event

@@ -1,5 +1,6 @@
 use Rattle.world.proofs.SpellingLemmas.{numbers-read, numbers-spelled, join-words}
 use Rattle.world.proofs.EventSpelling.{events-spelled}
+use Rattle.world.proofs.EventReading.{events-read}
 use Rattle.world.proofs.events.laws.one_spelling.Goals as goal
 
 pub returns-clause-numbers_read : goal.returns-clause-numbers_read
@@ -13,3 +14,6 @@ returns-clause-line c = join-words
 
 pub returns-clause-events_spelled : goal.returns-clause-events_spelled
 returns-clause-events_spelled c = events-spelled
+
+pub returns-clause-events_read : goal.returns-clause-events_read
+returns-clause-events_read c = events-read
