@@ -16,8 +16,8 @@ start = default_world two_nodes
 no-node : refusal start (Tick 2) ≡ Some NoNode
 no-node = refl
 
--- 0 and 2 are opposite corners
-no-link : refusal (default_world square) (Send 0 2) ≡ Some NoLink
+-- 0 and 3 are opposite corners
+no-link : refusal (default_world square) (Send 0 3) ≡ Some NoLink
 no-link = refl
 
 -- no node is looked for first

@@ -1,4 +1,4 @@
--- The tour and the token ring of a square, 0 - 1 - 2 - 3 - 0 with root 0: node 2 is as near by 1 as by 3, and its parent is 1.
+-- The tour and the token ring of a square, 0 - 1 - 3 - 2 - 0 with root 0: node 3 is as near by 1 as by 2, and its parent is 1.
 use Rattle.std.proofs.Common.{◌≡◌, ℕ, ◌+◌, ◌*◌, [], ◌∷◌, None, refl}
 use Rattle.topology.specs.Network.{Network}
 use Rattle.topology.specs.declared.frame.Payload.{Payload}
@@ -8,10 +8,10 @@ use Rattle.euler_ring.specs.Tour.{tour}
 use Rattle.run_model.specs.Ring.{token_ring}
 
 abbrev pub square : Network
-square = record { nodes = 4; root = 0; capacity = 1; lease = 0; edges = (0, 1) ∷ (1, 2) ∷ (2, 3) ∷ (3, 0) ∷ [] }
+square = record { nodes = 4; root = 0; capacity = 1; lease = 0; edges = (0, 1) ∷ (0, 2) ∷ (1, 3) ∷ (2, 3) ∷ [] }
 
--- it comes to the root from 1, goes out to 3 and back, to 1, and by 1 out to 2 and back
-the-square_is_toured : tour square ≡ ((1, 0) ∷ (0, 3) ∷ (3, 0) ∷ (0, 1) ∷ (1, 2) ∷ (2, 1) ∷ [])
+-- it comes to the root from 1, goes out to 2 and back, to 1, and by 1 out to 3 and back
+the-square_is_toured : tour square ≡ ((1, 0) ∷ (0, 2) ∷ (2, 0) ∷ (0, 1) ∷ (1, 3) ∷ (3, 1) ∷ [])
 the-square_is_toured = refl
 
 abbrev says : ℕ → Payload
@@ -27,8 +27,8 @@ numbered v = record {
   desk = no_desk;
 }
 
--- node 0's machine from 1, what it has staged for 3, and 3's copy of it; then 3's machine from 0, and so on round the tour
+-- node 0's machine from 1, what it has staged for 2, and 2's copy of it; then 2's machine from 0, and so on round the tour
 the-token_ring_follows_the_tour :
     token_ring (record { net = square; node = numbered; link = λ u v. [] })
-    ≡ (10 ∷ 31 ∷ 302 ∷ 300 ∷ 301 ∷ 32 ∷ 30 ∷ 11 ∷ 102 ∷ 100 ∷ 121 ∷ 212 ∷ 210 ∷ 211 ∷ 122 ∷ 120 ∷ 101 ∷ 12 ∷ [])
+    ≡ (10 ∷ 21 ∷ 202 ∷ 200 ∷ 201 ∷ 22 ∷ 20 ∷ 11 ∷ 102 ∷ 100 ∷ 131 ∷ 312 ∷ 310 ∷ 311 ∷ 132 ∷ 130 ∷ 101 ∷ 12 ∷ [])
 the-token_ring_follows_the_tour = refl

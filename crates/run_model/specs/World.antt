@@ -7,6 +7,7 @@ use Rattle.topology.specs.declared.frame.Ranges.{Ranges}
 use Rattle.link_model.specs.declared.item.Item.{Item}
 use Rattle.link_model.specs.declared.item.Item.TheVariants.{Frame, Noise}
 use Rattle.node_core.specs.Site.{Site, site_of}
+pub use Rattle.node_core.specs.Step.{item_fits}
 use Rattle.node_core.specs.State.{NodeState, IsNodeInRange, default_node}
 
 -- The network stands in the world, since a later kind of event may change it. `link u v` holds what is under way from u to v, oldest first.
@@ -14,11 +15,6 @@ pub record World : Type 0 where
   pub net : Network
   pub node : ℕ → NodeState
   pub link : ℕ → ℕ → List Item
-
--- an item is noise, or a frame whose fields are in range
-abbrev pub item_fits : Ranges → Item → Bool
-item_fits r (Frame f) = frame_fits r f
-item_fits r Noise = true
 
 -- Each node is in range, and each link of an edge holds at most as many items as its capacity, all in range. Every such world is a possible start.
 pub record IsWorldInRange (w : World) : Type 0 where
