@@ -3,6 +3,7 @@
 //! A text is read by an `EventReader`, in pieces of any size: `take` until a piece is used up, and `last` at the end. Each
 //! answer is a `TextLine`, and they come in the order of the lines, so whoever counts them from 1 has their numbers.
 
+mod harm;
 pub mod laws;
 mod line;
 mod number;
