@@ -6,3 +6,6 @@ pub mod SpellingLemmas
 pub mod EventSpelling
 pub mod EventReading
 pub mod TallyCounts
+pub mod TallyPlaces
+pub mod Masks
+pub mod Kept

@@ -22,10 +22,6 @@ place_of nodes u v = u * nodes + v
 abbrev pub tally_of : TalliesView → ℕ → ℕ → Tally
 tally_of t u v = slice_index_or t.places (place_of t.nodes u v) no_tally
 
--- a tally says that its link is served
-abbrev pub is_served : Tally → Bool
-is_served t = t.served
-
 -- what an act makes of a tally, where so many items stand on the link
 abbrev pub tally_after : LinkAct → ℕ → Tally → Tally
 tally_after act under_way t = record { old = old_after act t.old; served = t.served || takes_new act t.old under_way }

@@ -16,4 +16,6 @@
 #![tactic(auto)]
 
 pub mod events;
+mod laws;
+mod stretch;
 mod tallies;

@@ -1,8 +1,8 @@
 //! What a judge keeps of the links in an unfinished stretch of a run.
-ghost use Rattle.std.specs.Prelude.{◌≡◌, ◌+◌, ◌-◌, ◌*◌, ◌^◌, ◌<◌, ℕ, min, length, replicate, slice_set, IfOk};
-ghost use Rattle.std.specs.List.{list_all};
+ghost use Rattle.std.specs.Prelude.{◌≡◌, ◌↔◌, ◌+◌, ◌-◌, ◌*◌, ◌^◌, ◌<◌, ℕ, min, length, replicate, IfOk, IsTrue};
 ghost use Rattle.data_link.specs.Sweep.{Takes, Loses};
-ghost use Rattle.world.specs.Tallies.{place_of, tally_of, tally_after, is_served, missing, no_tally};
+ghost use Rattle.run_model.specs.World.{at_pair};
+ghost use Rattle.world.specs.Tallies.{place_of, tally_of, tally_after, missing, no_tally};
 
 use std::alloc::{AllocError, Allocator, Global};
 use std::marker::Model;
@@ -43,7 +43,7 @@ impl Tally {
 
     /// The tally after the item at an index of the link was lost, where 0 is the oldest.
     pub fn lost(self, index: u16) -> Tally
-        ensures { (under_way : ℕ) → result ≡ tally_after (Loses index) under_way self }
+        ensures { result ≡ tally_after (Loses index) 0 self }
     {
         if index < self.old {
             Tally {
@@ -95,6 +95,13 @@ impl<A: Allocator + Copy> Tallies<A> {
 }
 
 impl<A: Allocator> Tallies<A> {
+    /// How many nodes there are.
+    pub fn nodes(&self) -> u16
+        ensures { result ≡ self.now.nodes }
+    {
+        self.nodes
+    }
+
     /// Where the tally of the link from one node to another stands.
     fn place(&self, from: u16, to: u16) -> usize
         requires from_in { from < self.now.nodes }
@@ -121,10 +128,9 @@ impl<A: Allocator> Tallies<A> {
     pub fn set(&mut self, from: u16, to: u16, tally: Tally)
         requires from_in { from < self.old.nodes }
         requires to_in { to < self.old.nodes }
-        ensures { self.new ≡ record self.old {
-          places = slice_set self.old.places (place_of self.old.nodes from to) tally;
-          looked = min (self.old.looked + 1) (2 ^ 32 - 1);
-        } }
+        ensures nodes { self.new.nodes ≡ self.old.nodes }
+        ensures tallies { (u v : ℕ) → v < self.old.nodes → tally_of self.new u v ≡ at_pair (tally_of self.old) from to tally u v }
+        ensures looked { self.new.looked ≡ min (self.old.looked + 1) (2 ^ 32 - 1) }
     {
         self.looked = self.looked.saturating_add(1);
         let place = self.place(from, to);
@@ -135,7 +141,7 @@ impl<A: Allocator> Tallies<A> {
 
     /// Whether every link is served.
     pub fn are_served(&self) -> bool
-        ensures { result ≡ list_all is_served self.now.places }
+        ensures { IsTrue result ↔ ((u v : ℕ) → u < self.now.nodes → v < self.now.nodes → IsTrue (tally_of self.now u v).served) }
     {
         self.unserved == 0
     }

@@ -1,5 +1,7 @@
-use Rattle.std.proofs.Common.{◌∙◌, arith}
+use Rattle.std.proofs.Common.{◌≡◌, ◌∙◌, ◌<◌, length, arith}
 use Rattle.std.proofs.lemmas.List.{length-set}
+use Rattle.world.specs.Tallies.{TalliesView, place_of, tally_of}
+use Rattle.world.proofs.TallyPlaces.{tally-set}
 use Rattle.world.proofs.TallyCounts.{sum-within, before-counts, after-counts}
 use Rattle.world.proofs.tallies.Tallies.set.Goals as goal
 
@@ -20,3 +22,11 @@ invariant_of-self-2 g c =
       all_links = length-set c.self.inside.places.items c.place-place.result c.args.tally ∙ c.self.invariant.all_links;
       few = omega (arith, counts, c.missing.ensures, c.missing-2.ensures);
     }
+
+pub returns-clause-tallies : goal.returns-clause-tallies
+returns-clause-tallies g c =
+    let t : TalliesView = record { nodes = c.self.inside.nodes; places = c.self.inside.places.items; looked = c.self.inside.looked } in
+    let to_in : c.args.to < c.self.inside.nodes = rw (← c.self.view_is) at c.requires.to_in in
+    let place : c.place-place.result ≡ place_of c.self.inside.nodes c.args.from c.args.to = c.place-place.ensures.place in
+    let there : place_of c.self.inside.nodes c.args.from c.args.to < length c.self.inside.places.items = rw (← place) c.place-place.ensures.there in
+    rw (← c.self.view_is) (λ u v vn. rw place (tally-set t c.args.from c.args.to c.saturating_add-self-inside.result c.args.tally u v to_in vn there))

@@ -1,0 +1,24 @@
+-- What the judge's crate knows of runs and networks: laws of the crates below.
+use Rattle.topology.specs.Laws.{JoinedAreNodes, Limits}
+use Rattle.run_model.specs.Laws.{RefusedChangesNothing, NetworkStays, RunsJoin, UndamagedSplits, RangesStay, TicksGoOn, ServedGoesOn, OldItemsStart, OldItemsGoOn, OldItemsAreThere, CountedIsGreatest, CountStarts, CountStays, CountRises, MomentLeads, MomentStays, MomentMoves}
+
+pub record Below : Type 0 where
+  pub joined_nodes : JoinedAreNodes
+  pub limits : Limits
+  pub refused : RefusedChangesNothing
+  pub network : NetworkStays
+  pub joins : RunsJoin
+  pub splits : UndamagedSplits
+  pub ranges : RangesStay
+  pub ticks : TicksGoOn
+  pub served : ServedGoesOn
+  pub old_start : OldItemsStart
+  pub old_go_on : OldItemsGoOn
+  pub old_there : OldItemsAreThere
+  pub greatest : CountedIsGreatest
+  pub starts : CountStarts
+  pub stays : CountStays
+  pub rises : CountRises
+  pub leads : MomentLeads
+  pub moment_stays : MomentStays
+  pub moment_moves : MomentMoves

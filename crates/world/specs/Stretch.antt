@@ -1,0 +1,44 @@
+-- What a judge keeps of the unfinished stretch of a run, and what is to hold of it.
+use Rattle.std.specs.Prelude.{◌≡◌, ℕ, ◌<◌, ◌≤◌, Bool, true, false, not, ◌==◌, ◌&&◌, nat_lt, IsTrue, List}
+use Rattle.std.specs.Int.{bit_at}
+use Rattle.topology.specs.Network.{are_joined}
+use Rattle.run_model.specs.World.{World}
+use Rattle.run_model.specs.Sweep.{has_full_tick, is_served}
+use Rattle.run_model.specs.Stretch.{old_items}
+use Rattle.run_model.specs.declared.event.Event.{Event}
+use Rattle.run_model.specs.declared.event.Event.TheVariants.{Send, Take, Lose, Tick, Ask, Leave, Damage}
+use Rattle.world.specs.Tallies.{TalliesView, tally_of}
+
+-- a mask with a bit for each node that still lacks a full tick, and the tallies of the links
+pub record StretchView : Type 0 where
+  pub lacking : ℕ
+  pub tallies : TalliesView
+
+-- the mask has the bit of v
+abbrev pub has_bit : ℕ → ℕ → Bool
+has_bit mask v = bit_at mask v == 1
+
+-- no node lacks a full tick, and every link is served
+abbrev pub IsComplete : StretchView → Type 0
+IsComplete s = ((v : ℕ) → has_bit s.lacking v ≡ false) × ((u v : ℕ) → u < s.tallies.nodes → v < s.tallies.nodes → IsTrue (tally_of s.tallies u v).served)
+
+-- the event is a tick of v
+abbrev pub is_tick_of : Event → ℕ → Bool
+is_tick_of (Tick u) v = v == u
+is_tick_of _ v = false
+
+-- where an event takes, loses or ticks, it names nodes below n
+abbrev pub names_nodes : ℕ → Event → Bool
+names_nodes n (Take u v) = nat_lt u n && nat_lt v n
+names_nodes n (Lose u v i) = nat_lt u n && nat_lt v n
+names_nodes n (Tick v) = nat_lt v n
+names_nodes n _ = true
+
+-- What is kept of a stretch from a world: the mask has the nodes that had no full tick in it, and a tally says of its link how many of the items that stood
+-- there when the stretch began stand there still, and whether it is served. What is no link lacks nothing.
+pub record IsKept (w : World) (es : List Event) (s : StretchView) : Type 0 where
+  pub nodes : s.tallies.nodes ≡ w.net.nodes
+  pub lacking : (v : ℕ) → has_bit s.lacking v ≡ (nat_lt v w.net.nodes && not (has_full_tick w es v))
+  pub old : (u v : ℕ) → IsTrue (are_joined w.net.edges u v) → (tally_of s.tallies u v).old ≡ old_items w es u v
+  pub served : (u v : ℕ) → IsTrue (are_joined w.net.edges u v) → (tally_of s.tallies u v).served ≡ is_served w es u v
+  pub apart : (u v : ℕ) → u < w.net.nodes → v < w.net.nodes → are_joined w.net.edges u v ≡ false → (tally_of s.tallies u v).served ≡ true
