@@ -9,6 +9,7 @@ use Rattle.run_model.specs.Sweep.{IsSweep, link_act, is_full_tick, has_full_tick
 use Rattle.run_model.specs.Stretch.{old_items, old_after, takes_new}
 use Rattle.run_model.specs.declared.event.Event.{Event}
 use Rattle.run_model.specs.declared.event.Event.TheVariants.{Send, Take, Lose, Tick, Ask, Leave, Damage}
+use Rattle.world.specs.declared.tallies.Tally.{Tally}
 use Rattle.world.specs.Tallies.{tally_of, tally_after}
 use Rattle.world.specs.Stretch.{StretchView, has_bit, is_tick_of, IsComplete, IsKept}
 use Rattle.world.specs.Below.{Below}
@@ -79,3 +80,73 @@ module _ (laws : Below) (w : World) (es : List Event) (e : Event) (ok : IsWorldI
     where
       in-places : (u v : ℕ) → IsTrue (are_joined w.net.edges u v) → v < s.tallies.nodes
       in-places u v joined = let ends = laws.joined_nodes w.net u v ok.network joined in let same = kept.nodes in omega (arith, ends.1, same)
+
+  -- a refused event takes nothing from a link, loses nothing of it, and is no full tick of a node
+  refused-old : (u v : ℕ) → IsTrue (is_some (refusal (run w es) e)) → IsTrue (are_joined w.net.edges u v)
+      → (old_after (link_act u v e) (old_items w es u v) ≡ old_items w es u v)
+      × (takes_new (link_act u v e) (old_items w es u v) (length ((run w es).link u v)) ≡ false)
+  refused-old u v refused joined =
+      let ends = laws.joined_nodes w.net u v ok.network joined in
+      let there = laws.old_there w es u v ok joined fine in
+      let net = laws.network w es in
+      let first : u < (run w es).net.nodes = subst (λ n. u < n.nodes) (sym net) ends.0 in
+      let second : v < (run w es).net.nodes = subst (λ n. v < n.nodes) (sym net) ends.1 in
+      let still : IsTrue (are_joined (run w es).net.edges u v) = subst (λ n. IsTrue (are_joined n.edges u v)) (sym net) joined in
+      rests (run w es) e u v (old_items w es u v) first second still there refused
+    where
+      rests : (now : World) (e : Event) (u v old : ℕ) → u < now.net.nodes → v < now.net.nodes → IsTrue (are_joined now.net.edges u v)
+          → old ≤ length (now.link u v) → IsTrue (is_some (refusal now e))
+          → (old_after (link_act u v e) old ≡ old) × (takes_new (link_act u v e) old (length (now.link u v)) ≡ false)
+      rests now e u v old first second joined there refused = grind (arith, common_steps)
+
+  pub kept-refused : IsTrue (is_some (refusal (run w es) e)) → IsKept w (es ++ e ∷ []) s
+  kept-refused refused = record {
+    nodes = kept.nodes;
+    lacking = λ v.
+        let a = kept.lacking v in let c = laws.ticks w es e v in
+        let f = no-tick v in
+        grind (arith, common_steps, a, c, f);
+    old = λ u v joined. kept.old u v joined ∙ sym (refused-old u v refused joined).0 ∙ sym (laws.old_go_on w es e u v);
+    served = λ u v joined.
+        let a = kept.served u v joined in
+        let b = laws.served w es e u v ok joined fine in
+        let f = (refused-old u v refused joined).1 in
+        grind (arith, common_steps, a, b, f);
+    apart = kept.apart;
+  }
+    where
+      no-tick : (v : ℕ) → (nat_lt v w.net.nodes && is_full_tick (run w es) e v) ≡ false
+      no-tick v = let net = laws.network w es in out-of (run w es) e v w.net.nodes (ap (λ n. n.nodes) net) refused
+        where
+          out-of : (now : World) (e : Event) (v n : ℕ) → now.net.nodes ≡ n → IsTrue (is_some (refusal now e)) → (nat_lt v n && is_full_tick now e v) ≡ false
+          out-of now e v n same refused = grind (arith, common_steps)
+
+-- ---- what the code notes
+
+-- a tick is full where the node lends to nobody in the world behind it
+abbrev pub IsFullThen : World → Event → Bool → Type 0
+IsFullThen next (Tick u) full = full ≡ is_none (next.node u).desk.lent
+IsFullThen next _ full = Unit {0}
+
+-- so many items stand on the link that an event takes from
+abbrev pub IsWaiting : World → Event → ℕ → Type 0
+IsWaiting now (Take u v) under_way = under_way ≡ length (now.link u v)
+IsWaiting now _ under_way = Unit {0}
+
+full-tick : (now : World) (e : Event) (v : ℕ) (full : Bool) → IsFullThen (step now e) e full → (is_tick_of e v && full) ≡ is_full_tick now e v
+full-tick now e v full is = grind (arith, common_steps)
+
+same-after : (now : World) (e : Event) (u v under_way : ℕ) (t : Tally) → IsWaiting now e under_way
+    → tally_after (link_act u v e) under_way t ≡ tally_after (link_act u v e) (length (now.link u v)) t
+same-after now e u v under_way t is = grind (arith, common_steps)
+
+pub noted : (now : World) (e : Event) (s new : StretchView) (under_way : ℕ) (full : Bool) → IsWaiting now e under_way → IsFullThen (step now e) e full
+    → new.tallies.nodes ≡ s.tallies.nodes
+    → ((v : ℕ) → has_bit new.lacking v ≡ (has_bit s.lacking v && not (is_tick_of e v && full)))
+    → ((u v : ℕ) → v < s.tallies.nodes → tally_of new.tallies u v ≡ tally_after (link_act u v e) under_way (tally_of s.tallies u v))
+    → IsNoted now e s new
+noted now e s new under_way full waiting is nodes lacking tallies = record {
+  nodes = nodes;
+  lacking = λ v. lacking v ∙ ap (λ b. has_bit s.lacking v && not b) (full-tick now e v full is);
+  tallies = λ u v within. tallies u v within ∙ same-after now e u v under_way (tally_of s.tallies u v) waiting;
+}

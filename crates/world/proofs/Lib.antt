@@ -9,3 +9,4 @@ pub mod TallyCounts
 pub mod TallyPlaces
 pub mod Masks
 pub mod Kept
+pub mod Judging
