@@ -1,14 +1,14 @@
 -- What is kept of a stretch tells when it is a sweep, and goes on with each event.
-use Rattle.std.proofs.Common.{◌≡◌, ◌≢◌, ◌∙◌, sym, ap, subst, ℕ, ◌<◌, ◌≤◌, ◌⊎◌, inl, inr, Bool, true, false, not, ◌==◌, ◌&&◌, ◌||◌, nat_lt, IsTrue, is_some, is_none, List, [], ◌∷◌, ◌++◌, length, arith, refl}
+use Rattle.std.proofs.Common.{◌≡◌, ◌∙◌, sym, ap, subst, ℕ, ◌<◌, ◌≤◌, ◌⊎◌, inl, inr, Bool, true, false, not, ◌&&◌, ◌||◌, nat_lt, IsTrue, is_some, is_none, List, [], ◌∷◌, ◌++◌, length, arith, refl}
 use Rattle.std.proofs.lemmas.Grind.{common_steps}
-use Rattle.topology.specs.Network.{are_joined, IsAcceptedNetwork}
+use Rattle.topology.specs.Network.{are_joined}
 use Rattle.run_model.specs.World.{World, IsWorldInRange}
 use Rattle.run_model.specs.Step.{refusal, step}
-use Rattle.run_model.specs.Run.{run, is_damage, IsUndamaged}
-use Rattle.run_model.specs.Sweep.{IsSweep, link_act, is_full_tick, has_full_tick, is_served}
+use Rattle.run_model.specs.Run.{run, IsUndamaged}
+use Rattle.run_model.specs.Sweep.{IsSweep, link_act, is_full_tick, is_served}
 use Rattle.run_model.specs.Stretch.{old_items, old_after, takes_new}
 use Rattle.run_model.specs.declared.event.Event.{Event}
-use Rattle.run_model.specs.declared.event.Event.TheVariants.{Send, Take, Lose, Tick, Ask, Leave, Damage}
+use Rattle.run_model.specs.declared.event.Event.TheVariants.{Take, Tick}
 use Rattle.world.specs.declared.tallies.Tally.{Tally}
 use Rattle.world.specs.Tallies.{tally_of, tally_after}
 use Rattle.world.specs.Stretch.{StretchView, has_bit, is_tick_of, IsComplete, IsKept}
@@ -39,9 +39,10 @@ module _ (laws : Below) (w : World) (es : List Event) (s : StretchView) (ok : Is
           let cases : (v < w.net.nodes) ⊎ (w.net.nodes ≤ v) = grind arith in
           let a = kept.lacking v in
           elim cases [
-              | inl less ↦ let b = sweep.ticked v less in grind (arith, common_steps, a, b)
-              | inr more ↦ grind (arith, common_steps, a, more)
+            | inl less ↦ let b = sweep.ticked v less in grind (arith, common_steps, a, b)
+            | inr more ↦ grind (arith, common_steps, a, more)
           ]
+
       by-joined : (u v : ℕ) → u < s.tallies.nodes → v < s.tallies.nodes → (b : Bool) → are_joined w.net.edges u v ≡ b → (tally_of s.tallies u v).served ≡ true
       by-joined u v un vn true e = kept.served u v e ∙ sweep.served u v e
       by-joined u v un vn false e = let same = kept.nodes in kept.apart u v (omega (arith, un, same)) (omega (arith, vn, same)) e

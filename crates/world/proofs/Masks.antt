@@ -1,5 +1,5 @@
 -- Masks of nodes, bit by bit.
-use Rattle.std.proofs.Common.{◌≡◌, ◌≢◌, ◌∙◌, sym, ap, ℕ, ◌+◌, ◌-◌, ◌*◌, ◌/◌, ◌%◌, ◌^◌, ◌<◌, ◌≤◌, ◌⊎◌, inl, inr, Bool, true, false, not, ◌==◌, ◌&&◌, nat_lt, arith, refl, subst, w64, bit_and}
+use Rattle.std.proofs.Common.{◌≡◌, ◌≢◌, ◌∙◌, sym, ap, ℕ, ◌-◌, ◌*◌, ◌/◌, ◌%◌, ◌^◌, ◌<◌, ◌≤◌, ◌⊎◌, inl, inr, Bool, true, false, not, ◌==◌, ◌&&◌, nat_lt, arith, refl, subst, w64, bit_and}
 use Rattle.std.proofs.Math.Pow.{pow-lt}
 use Rattle.std.proofs.Math.Nat.{div-eq_of_lt}
 use Rattle.std.specs.Int.{bit_at, bit_not}
@@ -19,8 +19,8 @@ all-nodes n v few =
     let mask : (2 ^ 64 - 1) / 2 ^ (64 - n) ≡ 2 ^ n - 1 = ones_shr 64 (64 - n) (omega arith) ∙ ap (λ k. 2 ^ k - 1) same in
     let cases : (v < n) ⊎ (n ≤ v) = grind arith in
     elim cases [
-        | inl below ↦ let one = bit-one (2 ^ n - 1) v (bit_at_ones n v below) in let less : nat_lt v n ≡ true = grind (arith, below) in rw mask (one ∙ sym less)
-        | inr above ↦ let none = bit-none (2 ^ n - 1) v (bit_at_mask_above 0 n v above) in let more : nat_lt v n ≡ false = grind (arith, above) in rw mask (none ∙ sym more)
+      | inl below ↦ let one = bit-one (2 ^ n - 1) v (bit_at_ones n v below) in let less : nat_lt v n ≡ true = grind (arith, below) in rw mask (one ∙ sym less)
+      | inr above ↦ let none = bit-none (2 ^ n - 1) v (bit_at_mask_above 0 n v above) in let more : nat_lt v n ≡ false = grind (arith, above) in rw mask (none ∙ sym more)
     ]
 
 -- a number below a power of two has no bit there or above
@@ -37,20 +37,21 @@ without-bit mask node v fits within =
     let cases : (v ≡ node) ⊎ ((v ≢ node) × (v < 64)) ⊎ ((v ≢ node) × (64 ≤ v)) = grind arith in
     let rest = bit_not w64 (1 * 2 ^ node % 2 ^ 64) in
     elim cases [
-        | inl same ↦ let clear = bit-none (bit_and mask rest) v (rw same (bit_at_clear_same w64 mask node within)) in let e : (v == node) ≡ true = grind (arith, same) in cleared clear e
-        | inr (inl (other, below)) ↦
-            let kept : bit_at (bit_and mask rest) v ≡ bit_at mask v = bit_at_clear_other w64 mask node within v below other in
-            let e : (v == node) ≡ false = grind (arith, other) in
-            kept-bit (bit_and mask rest) kept e
-        | inr (inr (other, above)) ↦
-            let none = high-bit mask v fits above in
-            let both = bit_at_and mask rest v in
-            let e : (v == node) ≡ false = grind (arith, other) in
-            kept-bit (bit_and mask rest) (omega (arith, none, both)) e
+      | inl same ↦ let clear = bit-none (bit_and mask rest) v (rw same (bit_at_clear_same w64 mask node within)) in let e : (v == node) ≡ true = grind (arith, same) in cleared clear e
+      | inr (inl (other, below)) ↦
+          let kept : bit_at (bit_and mask rest) v ≡ bit_at mask v = bit_at_clear_other w64 mask node within v below other in
+          let e : (v == node) ≡ false = grind (arith, other) in
+          kept-bit (bit_and mask rest) kept e
+      | inr (inr (other, above)) ↦
+          let none = high-bit mask v fits above in
+          let both = bit_at_and mask rest v in
+          let e : (v == node) ≡ false = grind (arith, other) in
+          kept-bit (bit_and mask rest) (omega (arith, none, both)) e
     ]
   where
     cleared : {x : Bool} → x ≡ false → (v == node) ≡ true → x ≡ (has_bit mask v && not (v == node))
     cleared {x} f e = grind (arith, common_steps, f, e)
+
     kept-bit : (n : ℕ) → bit_at n v ≡ bit_at mask v → (v == node) ≡ false → has_bit n v ≡ (has_bit mask v && not (v == node))
     kept-bit n same e = grind (arith, common_steps, same, e)
 

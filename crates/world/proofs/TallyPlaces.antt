@@ -1,5 +1,5 @@
 -- A tally is read at its own place.
-use Rattle.std.proofs.Common.{◌≡◌, ◌≢◌, ◌∙◌, sym, ap, subst, Bool, true, false, ℕ, ◌+◌, ◌*◌, ◌<◌, ◌≤◌, ◌⊎◌, inl, inr, arith, refl, List, length, slice_set, slice_index_or, if◌then◌else◌, ◌==◌, ◌&&◌}
+use Rattle.std.proofs.Common.{◌≡◌, ap, ℕ, ◌+◌, ◌*◌, ◌<◌, ◌≤◌, ◌⊎◌, inl, inr, arith, length, slice_set}
 use Rattle.std.proofs.Math.Nat.{mul-le-mul_right}
 use Rattle.std.proofs.lemmas.Grind.{common_steps}
 use Rattle.run_model.specs.World.{at_pair}
@@ -14,9 +14,9 @@ pub one-place : (n i j u v : ℕ) → j < n → v < n → place_of n i j ≡ pla
 one-place n i j u v jn vn e =
     let order : (i ≡ u) ⊎ ((i < u) ⊎ (u < i)) = grind arith in
     elim order [
-        | inl same ↦ (same, omega (arith, e, ap (λ k. k * n) same))
-        | inr (inl less) ↦ absurd (omega (arith, e, later-row n i u less))
-        | inr (inr more) ↦ absurd (omega (arith, e, later-row n u i more))
+      | inl same ↦ (same, omega (arith, e, ap (λ k. k * n) same))
+      | inr (inl less) ↦ absurd (omega (arith, e, later-row n i u less))
+      | inr (inr more) ↦ absurd (omega (arith, e, later-row n u i more))
     ]
 
 pub tally-set : (t : TalliesView) (u v looked : ℕ) (new : Tally) (i j : ℕ) → v < t.nodes → j < t.nodes → place_of t.nodes u v < length t.places

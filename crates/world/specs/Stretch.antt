@@ -1,12 +1,12 @@
 -- What a judge keeps of the unfinished stretch of a run, and what is to hold of it.
-use Rattle.std.specs.Prelude.{◌≡◌, ℕ, ◌<◌, ◌≤◌, Bool, true, false, not, ◌==◌, ◌&&◌, nat_lt, IsTrue, List}
+use Rattle.std.specs.Prelude.{◌≡◌, ℕ, ◌<◌, Bool, true, false, not, ◌==◌, ◌&&◌, nat_lt, IsTrue, List}
 use Rattle.std.specs.Int.{bit_at}
 use Rattle.topology.specs.Network.{are_joined}
 use Rattle.run_model.specs.World.{World}
 use Rattle.run_model.specs.Sweep.{has_full_tick, is_served}
 use Rattle.run_model.specs.Stretch.{old_items}
 use Rattle.run_model.specs.declared.event.Event.{Event}
-use Rattle.run_model.specs.declared.event.Event.TheVariants.{Send, Take, Lose, Tick, Ask, Leave, Damage}
+use Rattle.run_model.specs.declared.event.Event.TheVariants.{Take, Lose, Tick}
 use Rattle.world.specs.Tallies.{TalliesView, tally_of}
 
 -- a mask with a bit for each node that still lacks a full tick, and the tallies of the links

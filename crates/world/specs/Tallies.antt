@@ -1,5 +1,5 @@
 -- What contracts see of a judge's tallies, one for each link.
-use Rattle.std.specs.Prelude.{◌≡◌, ℕ, ◌+◌, ◌*◌, Bool, true, ◌||◌, if◌then◌else◌, List, [], ◌∷◌, length, slice_index_or}
+use Rattle.std.specs.Prelude.{◌≡◌, ℕ, ◌+◌, ◌*◌, true, ◌||◌, if◌then◌else◌, List, [], ◌∷◌, length, slice_index_or}
 use Rattle.data_link.specs.Sweep.{LinkAct}
 use Rattle.run_model.specs.Stretch.{old_after, takes_new}
 use Rattle.world.specs.declared.tallies.Tally.{Tally}

@@ -1,5 +1,4 @@
-use Rattle.std.proofs.Common.{◌≡◌, ◌↔◌, true, rules}
-use Rattle.world.proofs.Masks.{no-bits, zero-bits}
+use Rattle.world.proofs.Masks.{no-bits}
 use Rattle.world.proofs.TallyCounts.{is-zero, zero-is}
 use Rattle.world.proofs.stretch.Stretch.is_complete.Goals as goal
 

@@ -1,6 +1,6 @@
 use Rattle.std.proofs.Common.{◌≡◌, ◌∙◌, ◌<◌, length, arith}
 use Rattle.std.proofs.lemmas.List.{length-set}
-use Rattle.world.specs.Tallies.{TalliesView, place_of, tally_of}
+use Rattle.world.specs.Tallies.{TalliesView, place_of}
 use Rattle.world.proofs.TallyPlaces.{tally-set}
 use Rattle.world.proofs.TallyCounts.{sum-within, before-counts, after-counts}
 use Rattle.world.proofs.tallies.Tallies.set.Goals as goal
