@@ -52,7 +52,7 @@ impl<A: Allocator> Model for Node<A> {
 impl<A: Allocator + Copy> Node<A> {
     /// A node that knows nothing yet: the greatest distance, no parent, zeros, and an empty desk. All memory that a node ever needs is reserved here;
     /// `AllocError` comes only where that is refused.
-    pub fn new(alloc: A, net: &Net, id: u16) -> Result<Node<A>, AllocError>
+    pub fn new<N: Allocator + Copy>(alloc: A, net: &Net<N>, id: u16) -> Result<Node<A>, AllocError>
         requires { id < net.now.nodes }
         ensures site { IfOk result (λ node. site_in node ≡ site_of net.now id) }
         ensures state { IfOk result (λ node. state_of node ≡ default_node (ranges_of net.now)) }

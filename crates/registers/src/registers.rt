@@ -37,7 +37,11 @@ impl<A: Allocator> Model for Registers<A> {
 impl<A: Allocator + Copy> Registers<A> {
     /// The registers of a node that knows nothing yet. All places are reserved here, also for nodes that become neighbours later; `AllocError` comes only
     /// where that memory is refused.
-    pub fn new(alloc: A, net: &Net, id: u16) -> Result<Registers<A>, AllocError>
+    pub fn new<N: Allocator + Copy>(
+        alloc: A,
+        net: &Net<N>,
+        id: u16,
+    ) -> Result<Registers<A>, AllocError>
         requires { id < net.now.nodes }
         ensures ranges { IfOk result (λ r. r.ranges ≡ ranges_of net.now) }
         ensures neighbours { IfOk result (λ r. r.neighbours ≡ neighbours_of net.now id) }
@@ -214,7 +218,10 @@ fn with_room<A: Allocator>(alloc: A, nodes: u16, ids: &[u16]) -> Result<Vec<u16,
 }
 
 /// A port for each node, that knows nothing yet.
-fn default_ports<A: Allocator>(alloc: A, net: &Net) -> Result<Vec<Port, A>, AllocError>
+fn default_ports<A: Allocator, N: Allocator + Copy>(
+    alloc: A,
+    net: &Net<N>,
+) -> Result<Vec<Port, A>, AllocError>
     ensures { IfOk result (λ ports. ports.items ≡ replicate net.now.nodes (record { ranges = ranges_of net.now; state = default_port (ranges_of net.now) })) }
 {
     let mut ports = Vec::with_capacity(alloc, usize::from(net.nodes()))?;

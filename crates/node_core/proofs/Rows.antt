@@ -1,0 +1,109 @@
+-- Two nodes, and what they are and do.
+use Rattle.std.proofs.Common.{◌≡◌, ℕ, true, false, [], ◌∷◌, Some, None, refl, arith, codes, decimal}
+use Rattle.std.proofs.lemmas.Fmt.{decimal_digit}
+use Rattle.topology.specs.Network.{Network}
+use Rattle.topology.specs.Ranges.{ranges_of}
+use Rattle.link_model.specs.declared.item.Item.TheVariants.{Noise}
+use Rattle.data_link.specs.Port.{default_port}
+use Rattle.lock_desk.specs.Desk.{no_desk}
+use Rattle.node_core.specs.Site.{Site, site_of}
+use Rattle.node_core.specs.State.{NodeState, default_node}
+use Rattle.node_core.specs.Machines.{tree_of, moved_value, is_node_privileged, payload_for}
+use Rattle.node_core.specs.Step.{taken, ticked}
+use Rattle.node_core.specs.Status.{status_line}
+
+abbrev two : Network
+two = record { nodes = 2; root = 0; capacity = 1; lease = 0; edges = (0, 1) ∷ [] }
+
+abbrev near : Site
+near = site_of two 0
+
+abbrev far : Site
+far = site_of two 1
+
+site_of_far : far ≡ record { id = 1; is_root = false; ranges = record { nodes = 2; counter = 5; ring = 7 }; lease = 0; neighbours = 0 ∷ [] }
+site_of_far = refl
+
+-- the root of the reached tree: its neighbour's copy names it, and says the ring value x
+abbrev root_with : ℕ → ℕ → NodeState
+root_with value x = record {
+  distance = 0;
+  parent = None;
+  port = λ w. record (default_port (ranges_of two)) { copy = record { distance = 1; parent = Some 0; ring = x } };
+  value = λ w. value;
+  desk = no_desk;
+}
+
+-- its child
+abbrev child_with : ℕ → ℕ → NodeState
+child_with value x = record {
+  distance = 1;
+  parent = Some 0;
+  port = λ w. record (default_port (ranges_of two)) { copy = record { distance = 0; parent = None; ring = x } };
+  value = λ w. value;
+  desk = no_desk;
+}
+
+-- a node that knows nothing has no tree neighbour, and no machine that might move
+nothing_known : tree_of far (default_node (ranges_of two)) ≡ []
+nothing_known = refl
+
+nothing_moves : is_node_privileged far (default_node (ranges_of two)) ≡ false
+nothing_moves = refl
+
+tree_of_root : tree_of near (root_with 3 3) ≡ 1 ∷ []
+tree_of_root = refl
+
+-- the root's machine may move where it sees its own value, and goes on by one; the child's where it sees another
+root_may : is_node_privileged near (root_with 3 3) ≡ true
+root_may = refl
+
+root_may_not : is_node_privileged near (root_with 3 4) ≡ false
+root_may_not = refl
+
+root_wraps : moved_value near (root_with 6 6) 1 ≡ 0
+root_wraps = refl
+
+child_may : is_node_privileged far (child_with 3 4) ≡ true
+child_may = refl
+
+child_may_not : is_node_privileged far (child_with 3 3) ≡ false
+child_may_not = refl
+
+-- a tick moves it
+root_moved_on : (ticked near (root_with 3 3)).value 1 ≡ 4
+root_moved_on = refl
+
+child_copied : (ticked far (child_with 3 4)).value 0 ≡ 4
+child_copied = refl
+
+-- but not where the node lends after it: who waits borrows, and the machine stands still
+abbrev asked_for : NodeState → NodeState
+asked_for s = record s { desk = record no_desk { waiting = 9 ∷ [] } }
+
+lending_stays : (ticked near (asked_for (root_with 3 3))).value 1 ≡ 3
+lending_stays = refl
+
+lending_lends : (ticked near (asked_for (root_with 3 3))).desk.lent ≡ Some 9
+lending_lends = refl
+
+-- distance and parent are made anew in a tick: a child that believed in the distance 2 and no parent
+child_finds_its_way : (ticked far (record (child_with 0 0) { distance = 2; parent = None })).distance ≡ 1
+child_finds_its_way = refl
+
+child_finds_its_parent : (ticked far (record (child_with 0 0) { distance = 2; parent = None })).parent ≡ Some 0
+child_finds_its_parent = refl
+
+-- what is said: with the machine's value to a tree neighbour, with 0 to any other
+root_says : payload_for near (root_with 3 4) 1 ≡ record { distance = 0; parent = None; ring = 3 }
+root_says = refl
+
+stranger_hears_zero : (payload_for far (record (child_with 3 4) { parent = None }) 0).ring ≡ 0
+stranger_hears_zero = refl
+
+noise_changes_nothing : taken far 0 Noise (child_with 3 4) ≡ child_with 3 4
+noise_changes_nothing = refl
+
+-- the line of the root after its first tick
+line : status_line near (root_with 0 0) ≡ codes "node 0 distance 0 parent none token yes lent none waiting 0\n"
+line = let digit : decimal 0 ≡ 48 ∷ [] = decimal_digit 0 (omega arith) in rw digit
