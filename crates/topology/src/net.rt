@@ -1,6 +1,6 @@
 //! A network that was accepted, and what is read of it.
 ghost use Rattle.std.specs.Prelude.{◌≡◌, ◌≢◌, ◌<◌, IfSome, IsNone, IsSome, IsTrue, false};
-ghost use Rattle.topology.specs.Network.{IsAcceptedNetwork, IsDistance, IsNearer, IsTrueParent, neighbours_of, counter_of, ring_of, bound_of};
+ghost use Rattle.topology.specs.Network.{are_joined, IsAcceptedNetwork, IsDistance, IsNearer, IsTrueParent, neighbours_of, counter_of, ring_of, bound_of};
 ghost use Rattle.topology.specs.Tree.{distance_of, parent_of};
 ghost use Rattle.topology.specs.Ranges.{frame_fits, ranges_of};
 
@@ -85,6 +85,13 @@ impl<A: Allocator + Copy> Net<A> {
         ensures { result.now ≡ neighbours_of self.now v }
     {
         &self.rows[v as usize]
+    }
+
+    /// Whether an edge joins the two nodes. It looks through the edges; the ids may be any.
+    pub fn are_joined(&self, v: u16, w: u16) -> bool
+        ensures { result ≡ are_joined self.now.edges v w }
+    {
+        are_joined(self.edges(), v, w)
     }
 
     /// The modulus of a link's counters: 2C+3 for a capacity of C.

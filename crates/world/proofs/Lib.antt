@@ -10,3 +10,6 @@ pub mod TallyPlaces
 pub mod Masks
 pub mod Kept
 pub mod Judging
+mod LinkPlaces
+mod LinkMoves
+mod EmptyLinks

@@ -6,3 +6,4 @@ pub mod Tallies
 pub mod Stretch
 pub mod Judging
 pub mod Below
+pub mod LinksView

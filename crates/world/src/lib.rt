@@ -19,3 +19,4 @@ pub mod events;
 mod laws;
 mod stretch;
 mod tallies;
+mod links;
