@@ -13,3 +13,5 @@ pub mod Judging
 mod LinkPlaces
 mod LinkMoves
 mod EmptyLinks
+mod NodePlaces
+mod WorldSteps

@@ -7,3 +7,4 @@ pub mod Stretch
 pub mod Judging
 pub mod Below
 pub mod LinksView
+pub mod WorldView

@@ -20,3 +20,6 @@ mod laws;
 mod stretch;
 mod tallies;
 mod links;
+mod world;
+
+pub use world::World;

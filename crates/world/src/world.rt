@@ -1,0 +1,167 @@
+//! A network at one moment: the state of each node, and what is under way on each link.
+ghost use Rattle.std.specs.Prelude.{◌≡◌, ◌↔◌, ◌<◌, IsTrue, IfOk, IfErr, IsOk, OnOk, OnErr, None, Some, Contains, length};
+ghost use Rattle.topology.specs.Network.{are_joined, neighbours_of};
+ghost use Rattle.node_core.specs.View.{state_of, site_in};
+ghost use Rattle.run_model.specs.World.{default_world, IsWorldInRange};
+ghost use Rattle.run_model.specs.Step.{desk_fault, link_fault, node_fault, refusal, step};
+ghost use Rattle.run_model.specs.declared.event.Event.TheVariants.{Send, Take, Lose, Tick, Ask, Leave, Damage};
+ghost use Rattle.world.specs.WorldView.{node_at, world_of};
+
+use crate::links::Links;
+use link_model::Item;
+use lock_desk::AskFault;
+use node_core::Node;
+use run_model::{Event, EventFault, Harm};
+use std::alloc::{AllocError, Allocator, Global};
+use std::marker::Model;
+use topology::Net;
+
+/// The desk's refusal, as an event's.
+fn desk_fault(fault: AskFault) -> EventFault
+    ensures { desk_fault (Some fault) ≡ Some result }
+{
+    match fault {
+        AskFault::Full => EventFault::Full,
+        AskFault::Twice => EventFault::Twice,
+    }
+}
+
+/// A network at one moment.
+#[derive(Drop)]
+pub struct World<A: Allocator + Copy = Global> {
+    nodes: Vec<Node<A>, A>,
+    links: Links<A>,
+}
+
+impl<A: Allocator + Copy> Model for World<A> {
+    ghost use Rattle.world.specs.WorldView.{WorldView, AreNodesOf};
+
+    ghost Value = { WorldView };
+
+    ghost view = { λ w. record { nodes = w.nodes.items; links = w.links } };
+
+    ghost invariant = { λ w. AreNodesOf w.links.net w.nodes.items };
+}
+
+impl<A: Allocator + Copy> World<A> {
+    /// The network.
+    pub fn net(&self) -> &Net<A>
+        ensures { result.now ≡ (world_of self.now).net }
+    {
+        self.links.net()
+    }
+
+    /// A node.
+    pub fn node(&self, v: u16) -> &Node<A>
+        requires { v < (world_of self.now).net.nodes }
+        ensures { state_of result.now ≡ (world_of self.now).node v }
+    {
+        &self.nodes[usize::from(v)]
+    }
+
+    /// Refuses what is no node.
+    fn find_node(&self, v: u16) -> Result<usize, EventFault>
+        ensures ok { IfOk result (λ place. (place ≡ v) × (v < (world_of self.now).net.nodes) × (node_fault (world_of self.now) v ≡ None)) }
+        ensures err { IfErr result (λ fault. node_fault (world_of self.now) v ≡ Some fault) }
+    {
+        if v < self.links.net().nodes() {
+            Ok(usize::from(v))
+        } else {
+            Err(EventFault::NoNode)
+        }
+    }
+
+    /// Refuses what are no two neighbours.
+    fn find_link(&self, from: u16, to: u16) -> Result<(), EventFault>
+        ensures ok { OnOk result ((from < (world_of self.now).net.nodes) × (to < (world_of self.now).net.nodes)
+            × IsTrue (are_joined (world_of self.now).net.edges from to) × (link_fault (world_of self.now) from to ≡ None)) }
+        ensures near { OnOk result (Contains (neighbours_of (world_of self.now).net from) to × Contains (neighbours_of (world_of self.now).net to) from) }
+        ensures err { IfErr result (λ fault. link_fault (world_of self.now) from to ≡ Some fault) }
+    {
+        topology::laws::neighbours();
+        topology::laws::joined();
+        let nodes = self.links.net().nodes();
+        if from >= nodes || to >= nodes {
+            return Err(EventFault::NoNode);
+        }
+        if !self.links.are_joined(from, to) {
+            return Err(EventFault::NoLink);
+        }
+        Ok(())
+    }
+
+    /// The node `from` sends the frame of its port to `to`.
+    fn send(&mut self, from: u16, to: u16) -> Result<(), EventFault>
+        ensures world { world_of self.new ≡ step (world_of self.old) (Send from to) }
+        ensures ok { OnOk result (refusal (world_of self.old) (Send from to) ≡ None) }
+        ensures err { IfErr result (λ fault. refusal (world_of self.old) (Send from to) ≡ Some fault) }
+    {
+        self.find_link(from, to)?;
+        let frame = self.nodes[usize::from(from)].frame_for(to);
+        self.links.put(from, to, Item::Frame(frame));
+        Ok(())
+    }
+
+    /// A node ticks.
+    fn tick(&mut self, node: u16) -> Result<(), EventFault>
+        ensures world { world_of self.new ≡ step (world_of self.old) (Tick node) }
+        ensures ok { OnOk result (refusal (world_of self.old) (Tick node) ≡ None) }
+        ensures err { IfErr result (λ fault. refusal (world_of self.old) (Tick node) ≡ Some fault) }
+    {
+        let place = self.find_node(node)?;
+        let _ticked = self.nodes[place].tick();
+        Ok(())
+    }
+
+    /// The node `to` takes the oldest item of the link from `from`, if there is one.
+    fn take(&mut self, from: u16, to: u16) -> Result<(), EventFault>
+        ensures world { world_of self.new ≡ step (world_of self.old) (Take from to) }
+        ensures ok { OnOk result (refusal (world_of self.old) (Take from to) ≡ None) }
+        ensures err { IfErr result (λ fault. refusal (world_of self.old) (Take from to) ≡ Some fault) }
+    {
+        self.find_link(from, to)?;
+        if let Some(item) = self.links.take(from, to) {
+            self.nodes[usize::from(to)].take(from, &item);
+        }
+        Ok(())
+    }
+
+    /// An item of a link is lost; 0 is the oldest.
+    fn lose(&mut self, from: u16, to: u16, item: u16) -> Result<(), EventFault>
+        ensures world { world_of self.new ≡ step (world_of self.old) (Lose from to item) }
+        ensures ok { OnOk result (refusal (world_of self.old) (Lose from to item) ≡ None) }
+        ensures err { IfErr result (λ fault. refusal (world_of self.old) (Lose from to item) ≡ Some fault) }
+    {
+        self.find_link(from, to)?;
+        if self.links.lose(from, to, usize::from(item)).is_err() {
+            return Err(EventFault::NoItem);
+        }
+        Ok(())
+    }
+
+    /// A client asks a node for the lock.
+    fn ask(&mut self, node: u16, ticket: u16) -> Result<(), EventFault>
+        ensures world { world_of self.new ≡ step (world_of self.old) (Ask node ticket) }
+        ensures ok { OnOk result (refusal (world_of self.old) (Ask node ticket) ≡ None) }
+        ensures err { IfErr result (λ fault. refusal (world_of self.old) (Ask node ticket) ≡ Some fault) }
+    {
+        let place = self.find_node(node)?;
+        if let Err(fault) = self.nodes[place].ask(ticket) {
+            return Err(desk_fault(fault));
+        }
+        Ok(())
+    }
+
+    /// A client gives the lock back to a node, or waits no longer.
+    fn leave(&mut self, node: u16, ticket: u16) -> Result<(), EventFault>
+        ensures world { world_of self.new ≡ step (world_of self.old) (Leave node ticket) }
+        ensures ok { OnOk result (refusal (world_of self.old) (Leave node ticket) ≡ None) }
+        ensures err { IfErr result (λ fault. refusal (world_of self.old) (Leave node ticket) ≡ Some fault) }
+    {
+        let place = self.find_node(node)?;
+        if self.nodes[place].leave(ticket).is_err() {
+            return Err(EventFault::Stranger);
+        }
+        Ok(())
+    }
+}
