@@ -15,3 +15,5 @@ mod LinkMoves
 mod EmptyLinks
 mod NodePlaces
 mod WorldSteps
+mod Harms
+mod NewNodes

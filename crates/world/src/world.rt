@@ -5,11 +5,15 @@ ghost use Rattle.node_core.specs.View.{state_of, site_in};
 ghost use Rattle.run_model.specs.World.{default_world, IsWorldInRange};
 ghost use Rattle.run_model.specs.Step.{desk_fault, link_fault, node_fault, refusal, step};
 ghost use Rattle.run_model.specs.declared.event.Event.TheVariants.{Send, Take, Lose, Tick, Ask, Leave, Damage};
-ghost use Rattle.world.specs.WorldView.{node_at, world_of};
+ghost use Rattle.topology.specs.Ranges.{ranges_of};
+ghost use Rattle.node_core.specs.State.{default_node};
+ghost use Rattle.world.specs.WorldView.{AreNodesOf, states_of, world_of};
+
+mod harms;
 
 use crate::links::Links;
-use link_model::Item;
-use lock_desk::AskFault;
+use link_model::{Item, NoItem};
+use lock_desk::{AskFault, Stranger};
 use node_core::Node;
 use run_model::{Event, EventFault, Harm};
 use std::alloc::{AllocError, Allocator, Global};
@@ -41,6 +45,30 @@ impl<A: Allocator + Copy> Model for World<A> {
     ghost view = { λ w. record { nodes = w.nodes.items; links = w.links } };
 
     ghost invariant = { λ w. AreNodesOf w.links.net w.nodes.items };
+}
+
+/// A node for each id, as it starts.
+fn new_nodes<A: Allocator + Copy>(alloc: A, net: &Net) -> Result<Vec<Node<A>, A>, AllocError>
+    ensures nodes { IfOk result (λ nodes. AreNodesOf net.now nodes.items) }
+    ensures states { IfOk result (λ nodes. states_of net.now nodes.items ≡ λ v. default_node (ranges_of net.now)) }
+{
+    let mut nodes = Vec::new(alloc);
+    for id in 0..net.nodes() {
+        nodes.push(Node::new(alloc, net, id)?)?;
+    }
+    Ok(nodes)
+}
+
+impl World {
+    /// The world in which every node is as it starts and nothing is under way. It keeps a copy of the network, and reserves all memory that any step needs;
+    /// `AllocError` comes only where that is refused.
+    pub fn new(alloc: Global, net: &Net) -> Result<World, AllocError>
+        ensures { IfOk result (λ world. world_of world ≡ default_world net.now) }
+    {
+        let links = Links::new(alloc, net)?;
+        let nodes = new_nodes(alloc, net)?;
+        Ok(World { nodes, links })
+    }
 }
 
 impl<A: Allocator + Copy> World<A> {
@@ -133,7 +161,7 @@ impl<A: Allocator + Copy> World<A> {
         ensures err { IfErr result (λ fault. refusal (world_of self.old) (Lose from to item) ≡ Some fault) }
     {
         self.find_link(from, to)?;
-        if self.links.lose(from, to, usize::from(item)).is_err() {
+        if let Err(NoItem) = self.links.lose(from, to, usize::from(item)) {
             return Err(EventFault::NoItem);
         }
         Ok(())
@@ -159,9 +187,28 @@ impl<A: Allocator + Copy> World<A> {
         ensures err { IfErr result (λ fault. refusal (world_of self.old) (Leave node ticket) ≡ Some fault) }
     {
         let place = self.find_node(node)?;
-        if self.nodes[place].leave(ticket).is_err() {
+        if let Err(Stranger) = self.nodes[place].leave(ticket) {
             return Err(EventFault::Stranger);
         }
         Ok(())
+    }
+
+    /// One event happens. Refused for the first cause that holds, in the order of `EventFault`; then nothing has changed.
+    ///
+    /// No step takes memory, looks through the network, or copies a state.
+    pub fn step(&mut self, event: &Event) -> Result<(), EventFault>
+        ensures world { world_of self.new ≡ step (world_of self.old) event.now }
+        ensures ok { OnOk result (refusal (world_of self.old) event.now ≡ None) }
+        ensures err { IfErr result (λ fault. refusal (world_of self.old) event.now ≡ Some fault) }
+    {
+        match *event {
+            Event::Send { from, to } => self.send(from, to),
+            Event::Take { from, to } => self.take(from, to),
+            Event::Lose { from, to, item } => self.lose(from, to, item),
+            Event::Tick { node } => self.tick(node),
+            Event::Ask { node, ticket } => self.ask(node, ticket),
+            Event::Leave { node, ticket } => self.leave(node, ticket),
+            Event::Damage(harm) => self.damage(&harm),
+        }
     }
 }
