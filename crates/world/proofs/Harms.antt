@@ -1,5 +1,5 @@
 -- Harms that write a node.
-use Rattle.std.proofs.Common.{rules, ◌≡◌, ◌∙◌, ◌↔◌, ◌<◌, ap, subst, sym, arith, refl, ℕ, IsTrue, Option, None, Some, Result, Ok, Err, IsOk, OnOk, OnErr, IfErr, nat_lt, slice_set, Bool, true, false, ◌&&◌, ◌++◌, ◌∷◌, [], length, if◌then◌else◌}
+use Rattle.std.proofs.Common.{rules, ◌≡◌, ◌∙◌, ◌↔◌, ◌<◌, ap, sym, arith, refl, ℕ, IsTrue, None, Some, Result, Ok, Err, IsOk, OnOk, OnErr, IfErr, nat_lt, slice_set, Bool, true, false, ◌&&◌, ◌++◌, ◌∷◌, [], length, if◌then◌else◌}
 use Rattle.std.proofs.lemmas.Grind.{common_steps}
 use Rattle.node_core.specs.State.{NodeState}
 use Rattle.node_core.specs.View.{NodeView, state_of}
@@ -18,25 +18,25 @@ use Rattle.world.proofs.NodePlaces.{IsNodeAt}
 use Rattle.world.proofs.WorldSteps.{first-none, links-world, step-is, unless-holds, unless-fails, node-done, node-refused}
 
 module _ (w : World) (harm : Harm) (found : harm_place_fault w harm ≡ None) where
-    refusal-is : refusal w (Damage harm) ≡ unless (harm_fits w harm) OutOfRange
-    refusal-is = first-none (harm_place_fault w harm) (unless (harm_fits w harm) OutOfRange) found
+  refusal-is : refusal w (Damage harm) ≡ unless (harm_fits w harm) OutOfRange
+  refusal-is = first-none (harm_place_fault w harm) (unless (harm_fits w harm) OutOfRange) found
 
-    pub harm-none : IsTrue (harm_fits w harm) → refusal w (Damage harm) ≡ None
-    harm-none fits = refusal-is ∙ unless-holds (harm_fits w harm) OutOfRange fits
+  pub harm-none : IsTrue (harm_fits w harm) → refusal w (Damage harm) ≡ None
+  harm-none fits = refusal-is ∙ unless-holds (harm_fits w harm) OutOfRange fits
 
-    pub harm-some : ¬ IsTrue (harm_fits w harm) → refusal w (Damage harm) ≡ Some OutOfRange
-    harm-some fails = refusal-is ∙ unless-fails (harm_fits w harm) OutOfRange fails
+  pub harm-some : ¬ IsTrue (harm_fits w harm) → refusal w (Damage harm) ≡ Some OutOfRange
+  harm-some fails = refusal-is ∙ unless-fails (harm_fits w harm) OutOfRange fails
 
-    -- what a writer answers is what the event is answered
-    module _ {T : Type 0} where
-        pub harm-ok : (r : Result T EventFault) → (IsOk r ↔ IsTrue (harm_fits w harm)) → OnOk r (refusal w (Damage harm) ≡ None)
-        harm-ok (Ok x) iff = harm-none (iff.0 refl)
-        harm-ok (Err x) iff = search rules
+  -- what a writer answers is what the event is answered
+  module _ {T : Type 0} where
+    pub harm-ok : (r : Result T EventFault) → (IsOk r ↔ IsTrue (harm_fits w harm)) → OnOk r (refusal w (Damage harm) ≡ None)
+    harm-ok (Ok x) iff = harm-none (iff.0 refl)
+    harm-ok (Err x) iff = search rules
 
-        pub harm-err : (r : Result T EventFault) → (IsOk r ↔ IsTrue (harm_fits w harm)) → IfErr r (λ fault. fault ≡ OutOfRange)
-            → IfErr r (λ fault. refusal w (Damage harm) ≡ Some fault)
-        harm-err (Ok x) iff fault = search rules
-        harm-err (Err x) iff fault = rw fault (harm-some (λ fits. let t = iff.1 fits in absurd cc))
+    pub harm-err : (r : Result T EventFault) → (IsOk r ↔ IsTrue (harm_fits w harm)) → IfErr r (λ fault. fault ≡ OutOfRange)
+        → IfErr r (λ fault. refusal w (Damage harm) ≡ Some fault)
+    harm-err (Ok x) iff fault = search rules
+    harm-err (Err x) iff fault = rw fault (harm-some (λ fits. let t = iff.1 fits in absurd cc))
 
 -- two answers that are given in the same cases
 pub same-cases : {A B C : Type 0} → (A ↔ B) → (B ↔ C) → A ↔ C
@@ -63,17 +63,17 @@ item-there true false both = absurd cc
 item-there false b both = absurd cc
 
 module _ (w : WorldView) (u v : ℕ) (it : Item) (fits : IsTrue (harm_fits (world_of w) (harm.Item u v it))) where
-    pub item-fits : IsTrue (item_fits (ranges_of w.links.net) it)
-    item-fits = (item-there (item_fits (ranges_of w.links.net) it) (has_room (world_of w) u v) fits).0
+  pub item-fits : IsTrue (item_fits (ranges_of w.links.net) it)
+  item-fits = (item-there (item_fits (ranges_of w.links.net) it) (has_room (world_of w) u v) fits).0
 
-    room : has_room (world_of w) u v ≡ true
-    room = (item-there (item_fits (ranges_of w.links.net) it) (has_room (world_of w) u v) fits).1
+  room : has_room (world_of w) u v ≡ true
+  room = (item-there (item_fits (ranges_of w.links.net) it) (has_room (world_of w) u v) fits).1
 
-    pub item-world : (links : LinksView) → link_fault (world_of w) u v ≡ None → links.net ≡ w.links.net
-        → under_way links ≡ (if nat_lt (length (under_way w.links u v)) w.links.net.capacity
-            then at_pair (under_way w.links) u v (under_way w.links u v ++ it ∷ []) else under_way w.links)
-        → world_of (record w { links = links }) ≡ step (world_of w) (Damage (harm.Item u v it))
-    item-world links found net is =
-        links-world w links net
-        ∙ ap (λ l. record (world_of w) { link = l }) (is ∙ ap (λ test. if test then at_pair (under_way w.links) u v (under_way w.links u v ++ it ∷ []) else under_way w.links) room)
-        ∙ sym (step-is (world_of w) (Damage (harm.Item u v it)) (harm-none (world_of w) (harm.Item u v it) found fits))
+  pub item-world : (links : LinksView) → link_fault (world_of w) u v ≡ None → links.net ≡ w.links.net
+      → under_way links ≡ (if nat_lt (length (under_way w.links u v)) w.links.net.capacity
+      then at_pair (under_way w.links) u v (under_way w.links u v ++ it ∷ []) else under_way w.links)
+      → world_of (record w { links = links }) ≡ step (world_of w) (Damage (harm.Item u v it))
+  item-world links found net is =
+      links-world w links net
+      ∙ ap (λ l. record (world_of w) { link = l }) (is ∙ ap (λ test. if test then at_pair (under_way w.links) u v (under_way w.links u v ++ it ∷ []) else under_way w.links) room)
+      ∙ sym (step-is (world_of w) (Damage (harm.Item u v it)) (harm-none (world_of w) (harm.Item u v it) found fits))

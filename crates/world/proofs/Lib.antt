@@ -17,3 +17,4 @@ mod NodePlaces
 mod WorldSteps
 mod Harms
 mod NewNodes
+mod NodeCounts

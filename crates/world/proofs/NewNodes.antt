@@ -1,15 +1,15 @@
 -- Nodes as they start.
-use Rattle.std.proofs.Common.{rules, ◌≡◌, ◌∙◌, sym, ap, subst, ℕ, ◌+◌, ◌<◌, ◌≤◌, ◌⊎◌, inl, inr, arith, refl, List, [], ◌∷◌, ◌++◌, length, slice_index_or, nat_lt, if◌then◌else◌}
+use Rattle.std.proofs.Common.{◌≡◌, ◌∙◌, sym, ap, subst, ℕ, ◌+◌, ◌<◌, ◌≤◌, ◌⊎◌, inl, inr, arith, refl, List, [], ◌∷◌, ◌++◌, length}
 use Rattle.std.proofs.Math.Path.{fun_ext}
 use Rattle.std.proofs.lemmas.Grind.{common_steps}
 use Rattle.topology.specs.Network.{Network}
 use Rattle.topology.specs.Ranges.{ranges_of}
 use Rattle.node_core.specs.Site.{site_of}
-use Rattle.node_core.specs.State.{NodeState, default_node}
+use Rattle.node_core.specs.State.{default_node}
 use Rattle.node_core.specs.View.{NodeView, site_in, state_of}
-use Rattle.run_model.specs.World.{World, default_world}
+use Rattle.run_model.specs.World.{default_world}
 use Rattle.world.specs.LinksView.{LinksView, under_way}
-use Rattle.world.specs.WorldView.{AreNodesOf, no_node, node_at, states_of, world_of}
+use Rattle.world.specs.WorldView.{AreNodesOf, node_at, states_of, world_of}
 
 -- the nodes below k, each at its site and as it starts
 pub record AreNew (net : Network) (nodes : List NodeView) (k : ℕ) : Type 0 where
@@ -28,14 +28,14 @@ latest nodes new = grind (arith, common_steps)
 
 -- what holds of the earlier nodes and of the new one holds of all
 module _ (P : ℕ → NodeView → Type 0) (nodes : List NodeView) (k : ℕ) (count : length nodes ≡ k) (new : NodeView) where
-    with-new : ((v : ℕ) → v < k → P v (node_at nodes v)) → P k new → (v : ℕ) → v < k + 1 → P v (node_at (nodes ++ new ∷ []) v)
-    with-new each one v less =
-        let cases : (v < k) ⊎ (v ≡ k) = grind arith in
-        elim cases [
-          | inl early ↦ subst (P v) (sym (earlier nodes new v (subst (λ n. v < n) (sym count) early))) (each v early)
-          | inr same ↦ subst (λ i. P i (node_at (nodes ++ new ∷ []) i)) (sym same)
-              (subst (P k) (sym (ap (node_at (nodes ++ new ∷ [])) (sym count) ∙ latest nodes new)) one)
-        ]
+  with-new : ((v : ℕ) → v < k → P v (node_at nodes v)) → P k new → (v : ℕ) → v < k + 1 → P v (node_at (nodes ++ new ∷ []) v)
+  with-new each one v less =
+      let cases : (v < k) ⊎ (v ≡ k) = grind arith in
+      elim cases [
+        | inl early ↦ subst (P v) (sym (earlier nodes new v (subst (λ n. v < n) (sym count) early))) (each v early)
+        | inr same ↦ subst (λ i. P i (node_at (nodes ++ new ∷ []) i)) (sym same)
+            (subst (P k) (sym (ap (node_at (nodes ++ new ∷ [])) (sym count) ∙ latest nodes new)) one)
+      ]
 
 pub new-more : (net : Network) (nodes : List NodeView) (k : ℕ) (new : NodeView) → AreNew net nodes k → site_in new ≡ site_of net k
     → state_of new ≡ default_node (ranges_of net) → AreNew net (nodes ++ new ∷ []) (k + 1)

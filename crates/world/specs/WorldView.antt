@@ -1,5 +1,5 @@
 -- What contracts see of a world: its parts as data, and how they are read as functions of the nodes' ids.
-use Rattle.std.specs.Prelude.{◌≡◌, ℕ, ◌<◌, Bool, false, if◌then◌else◌, nat_lt, List, [], Option, None, length, slice_index_or}
+use Rattle.std.specs.Prelude.{◌≡◌, ℕ, ◌<◌, false, if◌then◌else◌, nat_lt, List, [], None, length, slice_index_or}
 use Rattle.topology.specs.Network.{Network}
 use Rattle.topology.specs.Ranges.{ranges_of}
 use Rattle.node_core.specs.Site.{site_of}

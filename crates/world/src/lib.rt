@@ -13,6 +13,16 @@
 //! ```
 //!
 //! The trap: a line that is passed over is an answer too, since lines are numbered with it.
+//!
+//! A [`World`] is a network at one moment: its nodes, and what is under way on each link. `World::new` reserves all memory; each `step` is one event,
+//! and takes none:
+//!
+//! ```
+//! let mut world = World::new(alloc, &net)?;
+//! world.step(&Event::Tick { node: 0 })?;      // refused, as NoNode is, it changes nothing
+//! ```
+//!
+//! The trap: a send on a full link is no refusal; the frame is lost, and the step is `Ok`.
 #![tactic(auto)]
 
 pub mod events;
@@ -20,6 +30,7 @@ mod laws;
 mod stretch;
 mod tallies;
 mod links;
+mod tallies;
 mod world;
 
 pub use world::World;

@@ -2,7 +2,8 @@
 ghost use Rattle.std.specs.Prelude.{◌≡◌, ◌↔◌, ◌<◌, IsTrue, IfOk, IfErr, IsOk, OnOk, OnErr, None, Some, Contains, length};
 ghost use Rattle.topology.specs.Network.{are_joined, neighbours_of};
 ghost use Rattle.node_core.specs.View.{state_of, site_in};
-ghost use Rattle.run_model.specs.World.{default_world, IsWorldInRange};
+ghost use Rattle.run_model.specs.World.{default_world, site};
+ghost use Rattle.run_model.specs.Legitimate.{lending_count, privileged_count};
 ghost use Rattle.run_model.specs.Step.{desk_fault, link_fault, node_fault, refusal, step};
 ghost use Rattle.run_model.specs.declared.event.Event.TheVariants.{Send, Take, Lose, Tick, Ask, Leave, Damage};
 ghost use Rattle.topology.specs.Ranges.{ranges_of};
@@ -15,7 +16,7 @@ use crate::links::Links;
 use link_model::{Item, NoItem};
 use lock_desk::{AskFault, Stranger};
 use node_core::Node;
-use run_model::{Event, EventFault, Harm};
+use run_model::{Event, EventFault};
 use std::alloc::{AllocError, Allocator, Global};
 use std::marker::Model;
 use topology::Net;
@@ -82,9 +83,45 @@ impl<A: Allocator + Copy> World<A> {
     /// A node.
     pub fn node(&self, v: u16) -> &Node<A>
         requires { v < (world_of self.now).net.nodes }
-        ensures { state_of result.now ≡ (world_of self.now).node v }
+        ensures state { state_of result.now ≡ (world_of self.now).node v }
+        ensures site { site_in result.now ≡ site (world_of self.now) v }
     {
         &self.nodes[usize::from(v)]
+    }
+
+    /// How many items are under way from one node to another.
+    pub fn under_way(&self, from: u16, to: u16) -> usize
+        requires from_in { from < (world_of self.now).net.nodes }
+        requires to_in { to < (world_of self.now).net.nodes }
+        ensures { result ≡ length ((world_of self.now).link from to) }
+    {
+        self.links.len(from, to)
+    }
+
+    /// How many nodes are privileged.
+    pub fn privileged(&self) -> usize
+        ensures { result ≡ privileged_count (world_of self.now) }
+    {
+        let mut count = 0;
+        for v in 0..self.links.net().nodes() {
+            if self.node(v).privileged() {
+                count += 1;
+            }
+        }
+        count
+    }
+
+    /// How many nodes lend the lock.
+    pub fn lending(&self) -> usize
+        ensures { result ≡ lending_count (world_of self.now) }
+    {
+        let mut count = 0;
+        for v in 0..self.links.net().nodes() {
+            if self.node(v).lent().is_some() {
+                count += 1;
+            }
+        }
+        count
     }
 
     /// Refuses what is no node.

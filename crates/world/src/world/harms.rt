@@ -48,7 +48,13 @@ impl<A: Allocator + Copy> World<A> {
     }
 
     /// Writes the two numbers of a port.
-    fn write_counters(&mut self, node: u16, neighbour: u16, seq: u16, last: u16) -> Result<(), EventFault>
+    fn write_counters(
+        &mut self,
+        node: u16,
+        neighbour: u16,
+        seq: u16,
+        last: u16,
+    ) -> Result<(), EventFault>
         ensures world { world_of self.new ≡ step (world_of self.old) (Damage (harm.Counters node neighbour seq last)) }
         ensures ok { OnOk result (refusal (world_of self.old) (Damage (harm.Counters node neighbour seq last)) ≡ None) }
         ensures err { IfErr result (λ fault. refusal (world_of self.old) (Damage (harm.Counters node neighbour seq last)) ≡ Some fault) }
@@ -58,7 +64,12 @@ impl<A: Allocator + Copy> World<A> {
     }
 
     /// Writes the staged payload of a port.
-    fn write_staged(&mut self, node: u16, neighbour: u16, payload: Payload) -> Result<(), EventFault>
+    fn write_staged(
+        &mut self,
+        node: u16,
+        neighbour: u16,
+        payload: Payload,
+    ) -> Result<(), EventFault>
         ensures world { world_of self.new ≡ step (world_of self.old) (Damage (harm.Staged node neighbour payload)) }
         ensures ok { OnOk result (refusal (world_of self.old) (Damage (harm.Staged node neighbour payload)) ≡ None) }
         ensures err { IfErr result (λ fault. refusal (world_of self.old) (Damage (harm.Staged node neighbour payload)) ≡ Some fault) }
@@ -88,7 +99,13 @@ impl<A: Allocator + Copy> World<A> {
     }
 
     /// Writes a desk's loan.
-    fn write_desk(&mut self, node: u16, lent: Option<u16>, left: u16, served: bool) -> Result<(), EventFault>
+    fn write_desk(
+        &mut self,
+        node: u16,
+        lent: Option<u16>,
+        left: u16,
+        served: bool,
+    ) -> Result<(), EventFault>
         ensures world { world_of self.new ≡ step (world_of self.old) (Damage (harm.Desk node lent left served)) }
         ensures ok { OnOk result (refusal (world_of self.old) (Damage (harm.Desk node lent left served)) ≡ None) }
         ensures err { IfErr result (λ fault. refusal (world_of self.old) (Damage (harm.Desk node lent left served)) ≡ Some fault) }
@@ -103,7 +120,8 @@ impl<A: Allocator + Copy> World<A> {
         requires to_in { to < (world_of self.now).net.nodes }
         ensures { result ≡ harm_fits (world_of self.now) (harm.Item from to item.now) }
     {
-        fits(self.links.net(), item) && self.links.len(from, to) < usize::from(self.links.net().capacity())
+        fits(self.links.net(), item)
+            && self.links.len(from, to) < usize::from(self.links.net().capacity())
     }
 
     /// Puts one more item on a link, as the newest.

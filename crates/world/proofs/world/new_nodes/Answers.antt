@@ -1,4 +1,4 @@
-use Rattle.std.proofs.Common.{rules, ◌≡◌, ◌<◌, ◌≤◌, arith, subst}
+use Rattle.std.proofs.Common.{rules, ◌≡◌, arith, subst}
 use Rattle.world.proofs.NewNodes.{AreNew, new-more, new-states}
 use Rattle.world.proofs.world.new_nodes.Goals as goal
 

@@ -1,4 +1,4 @@
-use Rattle.std.proofs.Common.{rules, ◌≡◌, ◌<◌, ◌∙◌, ℕ, refl, None}
+use Rattle.std.proofs.Common.{◌≡◌, None}
 use Rattle.run_model.specs.declared.event.Event.TheVariants.{Tick}
 use Rattle.run_model.specs.Step.{refusal}
 use Rattle.world.specs.WorldView.{WorldView, world_of}
