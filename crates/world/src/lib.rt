@@ -27,9 +27,8 @@
 
 pub mod events;
 mod laws;
-mod stretch;
-mod tallies;
 mod links;
+mod stretch;
 mod tallies;
 mod world;
 
