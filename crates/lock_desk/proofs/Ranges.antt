@@ -1,5 +1,5 @@
 -- Each call at a desk in range leaves it in range.
-use Rattle.std.proofs.Common.{◌≡◌, ℕ, ◌≤◌, Bool, true, false, List, [], ◌∷◌, ◌++◌, length, Option, None, refl, arith}
+use Rattle.std.proofs.Common.{Fits, w16, suc, get_or, ◌<◌, ◌≡◌, ℕ, ◌≤◌, Bool, true, false, List, [], ◌∷◌, ◌++◌, length, Option, None, refl, arith}
 use Rattle.std.specs.List.{list_all}
 use Rattle.std.proofs.lemmas.Grind.{common_steps}
 use Rattle.std.proofs.lemmas.Bool.Decides.{nat_tests}
@@ -43,3 +43,12 @@ fits-left lease t d f = grind (arith, common_steps, nat_tests, fits-without leas
 pub fits-loan : (lease left : ℕ) (lent : Option ℕ) (served : Bool) (d : DeskState) → desk_fits lease d ≡ true → loan_fits lease d lent left ≡ true
     → desk_fits lease (with_loan d lent left served) ≡ true
 fits-loan lease left lent served d f l = grind (arith, common_steps, nat_tests)
+
+-- tickets of their type are numbers below 65536
+pub all-numbers : (tickets : List ℕ) → ((i : ℕ) → Fits w16 (get_or tickets i 0)) → list_all is_number tickets ≡ true
+all-numbers [] fit = refl
+all-numbers (t ∷ ts) fit =
+    let fits = fit 0 in
+    let first : t < 65536 = omega arith in
+    let others = all-numbers ts (λ i. fit (suc i)) in
+    grind (arith, nat_tests)

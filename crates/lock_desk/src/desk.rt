@@ -1,14 +1,12 @@
 //! The desk of one node.
 ghost use Rattle.std.specs.Prelude.{◌≡◌, false, true, None, Some, IsTrue, IfErr, IfOk, OnErr, OnOk, length, ◌≤◌};
-ghost use Rattle.std.specs.Vec.{vec_capacity};
-ghost use Rattle.lock_desk.specs.Desk.{DeskState, DeskView, no_desk, desk_fits, waits, without, ask_fault, asked, is_stranger, after_leave, desk_ticked, desk_act, ended, loan_looked_at, loan_begun, loan_fits, with_loan};
+ghost use Rattle.lock_desk.specs.Desk.{DeskState, DeskView, no_desk, desk_fits, waits, ask_fault, asked, is_stranger, after_leave, desk_ticked, desk_act, ended, loan_looked_at, loan_begun, loan_fits, with_loan};
+ghost use Rattle.lock_desk.specs.Queue.{queue_fits, with_queue};
 
+use crate::tickets::{PLACES, may_be_lent, queue_fits, take_out, write_over};
 use crate::{AskFault, DeskAct, OutOfRange, Stranger};
 use std::alloc::{AllocError, Allocator, Global};
 use std::marker::Model;
-
-/// The tickets that can wait at a desk.
-const PLACES: usize = 64;
 
 /// The tickets that wait for the lock at one node, and the loan of the lock to one of them.
 #[derive(Drop)]
@@ -34,14 +32,6 @@ impl<A: Allocator> Model for Desk<A> {
 
     ghost invariant = { λ d. (64 ≤ vec_capacity d.waiting)
         × IsTrue (desk_fits d.lease (record { waiting = d.waiting.items; lent = d.lent; left = d.left; served = d.served })) };
-}
-
-/// Takes the ticket out of the list.
-fn take_out<A: Allocator>(tickets: &mut Vec<u16, A>, ticket: u16)
-    ensures rest { tickets.new.items ≡ without ticket tickets.old.items }
-    ensures room { vec_capacity tickets.new ≡ vec_capacity tickets.old }
-{
-    tickets.retain(move |waiting| *waiting != ticket)
 }
 
 impl<A: Allocator> Desk<A> {
@@ -208,13 +198,27 @@ impl<A: Allocator> Desk<A> {
         ensures refused { OnErr result (loan_fits self.old.lease self.old.state lent left ≡ false) }
         ensures unchanged { OnErr result (self.new ≡ self.old) }
     {
-        let waits = lent.is_some_and(|ticket| self.waits(ticket));
-        if waits || left > self.lease || (lent.is_none() && left > 0) {
+        if !may_be_lent(&self.waiting, lent) || left > self.lease || (lent.is_none() && left > 0) {
             return Err(OutOfRange);
         }
         self.lent = lent;
         self.left = left;
         self.served = served;
+        Ok(())
+    }
+
+    /// Writes those who wait, the next one first. Refused where they are more than 64, where one stands twice, or where one
+    /// of them borrows; then nothing has changed.
+    pub fn set_waiting(&mut self, tickets: &[u16]) -> Result<(), OutOfRange>
+        ensures written { OnOk result (self.new ≡ record self.old { state = with_queue self.old.state tickets.now }) }
+        ensures fits { OnOk result (IsTrue (queue_fits tickets.now self.old.state.lent)) }
+        ensures refused { OnErr result (queue_fits tickets.now self.old.state.lent ≡ false) }
+        ensures unchanged { OnErr result (self.new ≡ self.old) }
+    {
+        if !queue_fits(tickets, self.lent) {
+            return Err(OutOfRange);
+        }
+        write_over(&mut self.waiting, tickets);
         Ok(())
     }
 }

@@ -21,6 +21,7 @@ mod client_line;
 mod desk;
 mod fault;
 pub mod laws;
+mod tickets;
 
 pub use act::DeskAct;
 pub use client::ClientReader;

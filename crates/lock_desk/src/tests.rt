@@ -92,6 +92,21 @@ fn a_loan_is_written_where_it_fits(rt: HostRuntime) -> Result<(), Fail> {
 }
 
 #[test]
+fn a_queue_is_written_where_it_fits(rt: HostRuntime) -> Result<(), Fail> {
+    let mut desk = Desk::new(rt.alloc(), 0)?;
+    assert_eq!(rt; desk.set_loan(Some(5), 0, false), Ok(()));
+    assert_eq!(rt; desk.set_waiting(&[3, 1, 2]), Ok(()));
+    assert_eq!(rt; desk.set_waiting(&[3, 1, 3]), Err(OutOfRange));
+    assert_eq!(rt; desk.set_waiting(&[3, 5]), Err(OutOfRange));
+    assert_eq!(rt; desk.set_waiting([0; 65].as_slice()), Err(OutOfRange));
+    assert_eq!(rt; desk.tickets(), [3, 1, 2].as_slice());
+    assert_eq!(rt; desk.leave(5), Ok(()));
+    assert_eq!(rt; desk.tick(true), DeskAct::Quiet);
+    assert_eq!(rt; desk.tick(true), DeskAct::Granted(3));
+    Ok(())
+}
+
+#[test]
 fn memory_is_refused_once_and_then_needed_no_more(rt: HostRuntime) -> Result<(), Fail> {
     let mut refused = 0u32;
     for units in 1..100usize {
