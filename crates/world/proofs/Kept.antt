@@ -11,7 +11,7 @@ use Rattle.run_model.specs.declared.event.Event.{Event}
 use Rattle.run_model.specs.declared.event.Event.TheVariants.{Take, Tick}
 use Rattle.world.specs.declared.tallies.Tally.{Tally}
 use Rattle.world.specs.Tallies.{tally_of, tally_after}
-use Rattle.world.specs.Stretch.{StretchView, has_bit, is_tick_of, IsComplete, IsKept}
+use Rattle.world.specs.Stretch.{StretchView, has_bit, is_tick_of, IsFullThen, IsWaiting, IsComplete, IsKept}
 use Rattle.world.specs.Below.{Below}
 
 -- ---- a sweep
@@ -123,16 +123,6 @@ module _ (laws : Below) (w : World) (es : List Event) (e : Event) (ok : IsWorldI
           out-of now e v n same refused = grind (arith, common_steps)
 
 -- ---- what the code notes
-
--- a tick is full where the node lends to nobody in the world behind it
-abbrev pub IsFullThen : World → Event → Bool → Type 0
-IsFullThen next (Tick u) full = full ≡ is_none (next.node u).desk.lent
-IsFullThen next _ full = Unit {0}
-
--- so many items stand on the link that an event takes from
-abbrev pub IsWaiting : World → Event → ℕ → Type 0
-IsWaiting now (Take u v) under_way = under_way ≡ length (now.link u v)
-IsWaiting now _ under_way = Unit {0}
 
 full-tick : (now : World) (e : Event) (v : ℕ) (full : Bool) → IsFullThen (step now e) e full → (is_tick_of e v && full) ≡ is_full_tick now e v
 full-tick now e v full is = grind (arith, common_steps)

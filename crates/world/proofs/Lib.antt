@@ -18,3 +18,5 @@ mod WorldSteps
 mod Harms
 mod NewNodes
 mod NodeCounts
+mod Begun
+mod JudgeSteps

@@ -8,3 +8,4 @@ pub mod Judging
 pub mod Below
 pub mod LinksView
 pub mod WorldView
+pub mod JudgeView

@@ -1,5 +1,5 @@
 -- What a judge keeps of the unfinished stretch of a run, and what is to hold of it.
-use Rattle.std.specs.Prelude.{◌≡◌, ℕ, ◌<◌, Bool, true, false, not, ◌==◌, ◌&&◌, nat_lt, IsTrue, List}
+use Rattle.std.specs.Prelude.{◌≡◌, ℕ, ◌<◌, Bool, true, false, not, ◌==◌, ◌&&◌, nat_lt, IsTrue, List, is_none, length}
 use Rattle.std.specs.Int.{bit_at}
 use Rattle.topology.specs.Network.{are_joined}
 use Rattle.run_model.specs.World.{World}
@@ -33,6 +33,16 @@ names_nodes n (Take u v) = nat_lt u n && nat_lt v n
 names_nodes n (Lose u v i) = nat_lt u n && nat_lt v n
 names_nodes n (Tick v) = nat_lt v n
 names_nodes n _ = true
+
+-- a tick is full where the node lends to nobody in the world behind it
+abbrev pub IsFullThen : World → Event → Bool → Type 0
+IsFullThen next (Tick u) full = full ≡ is_none (next.node u).desk.lent
+IsFullThen next _ full = Unit {0}
+
+-- so many items stand on the link that an event takes from
+abbrev pub IsWaiting : World → Event → ℕ → Type 0
+IsWaiting now (Take u v) under_way = under_way ≡ length (now.link u v)
+IsWaiting now _ under_way = Unit {0}
 
 -- What is kept of a stretch from a world: the mask has the nodes that had no full tick in it, and a tally says of its link how many of the items that stood
 -- there when the stretch began stand there still, and whether it is served. What is no link lacks nothing.

@@ -26,10 +26,12 @@
 #![tactic(auto)]
 
 pub mod events;
+mod judge;
 mod laws;
 mod links;
 mod stretch;
 mod tallies;
 mod world;
 
+pub use judge::Judge;
 pub use world::World;

@@ -1,5 +1,5 @@
 //! The links of a network, with what is under way on them.
-ghost use Rattle.std.specs.Prelude.{◌≡◌, ◌↔◌, ◌+◌, ◌*◌, ◌<◌, ◌++◌, [], ◌∷◌, if◌then◌else◌, nat_lt, IsTrue, IfOk, IsOk, OnOk, OnErr, IfSome, length, remove, map, drop, slice_get};
+ghost use Rattle.std.specs.Prelude.{◌≡◌, ◌↔◌, ◌+◌, ◌*◌, ◌<◌, ◌≤◌, ◌++◌, [], ◌∷◌, if◌then◌else◌, nat_lt, IsTrue, IfOk, IsOk, OnOk, OnErr, IfSome, length, remove, map, drop, slice_get};
 ghost use Rattle.std.specs.List.{range_with_len};
 ghost use Rattle.topology.specs.Network.{IsAcceptedNetwork, are_joined};
 ghost use Rattle.topology.specs.Ranges.{ranges_of};
@@ -116,7 +116,8 @@ impl<A: Allocator + Copy> Links<A> {
     pub fn len(&self, from: u16, to: u16) -> usize
         requires from_in { from < self.now.net.nodes }
         requires to_in { to < self.now.net.nodes }
-        ensures { result ≡ length (under_way self.now from to) }
+        ensures items { result ≡ length (under_way self.now from to) }
+        ensures few { result ≤ 4096 }
     {
         let place = self.place(from, to);
         self.links[place].len()

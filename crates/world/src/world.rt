@@ -1,5 +1,5 @@
 //! A network at one moment: the state of each node, and what is under way on each link.
-ghost use Rattle.std.specs.Prelude.{◌≡◌, ◌↔◌, ◌<◌, IsTrue, IfOk, IfErr, IsOk, OnOk, OnErr, None, Some, Contains, length};
+ghost use Rattle.std.specs.Prelude.{◌≡◌, ◌↔◌, ◌<◌, ◌≤◌, IsTrue, IfOk, IfErr, IsOk, OnOk, OnErr, None, Some, Contains, length};
 ghost use Rattle.topology.specs.Network.{are_joined, neighbours_of};
 ghost use Rattle.node_core.specs.View.{state_of, site_in};
 ghost use Rattle.run_model.specs.World.{default_world, site};
@@ -89,11 +89,21 @@ impl<A: Allocator + Copy> World<A> {
         &self.nodes[usize::from(v)]
     }
 
+    /// Whether an edge joins the two nodes.
+    pub fn are_joined(&self, from: u16, to: u16) -> bool
+        requires from_in { from < (world_of self.now).net.nodes }
+        requires to_in { to < (world_of self.now).net.nodes }
+        ensures { result ≡ are_joined (world_of self.now).net.edges from to }
+    {
+        self.links.are_joined(from, to)
+    }
+
     /// How many items are under way from one node to another.
     pub fn under_way(&self, from: u16, to: u16) -> usize
         requires from_in { from < (world_of self.now).net.nodes }
         requires to_in { to < (world_of self.now).net.nodes }
-        ensures { result ≡ length ((world_of self.now).link from to) }
+        ensures items { result ≡ length ((world_of self.now).link from to) }
+        ensures few { result ≤ 4096 }
     {
         self.links.len(from, to)
     }

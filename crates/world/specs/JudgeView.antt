@@ -1,0 +1,26 @@
+-- What contracts see of a judge.
+use Rattle.std.specs.Prelude.{◌≡◌, ℕ, List, [], ◌∷◌, ◌++◌}
+use Rattle.run_model.specs.World.{World}
+use Rattle.run_model.specs.declared.event.Event.{Event}
+use Rattle.world.specs.Judging.{IsJudging}
+use Rattle.world.specs.Stretch.{StretchView}
+use Rattle.world.specs.WorldView.{WorldView, world_of}
+
+-- the world now, what is kept of the unfinished stretch, and the counts
+pub record JudgeView : Type 0 where
+  pub world : WorldView
+  pub stretch : StretchView
+  pub sweeps : ℕ
+  pub refused : ℕ
+
+-- there is room for the stretches of the world's network
+abbrev pub IsOneNetwork : WorldView → StretchView → Type 0
+IsOneNetwork w s = s.tallies.nodes ≡ (world_of w).net.nodes
+
+-- the judge has seen these events happen from the start on
+abbrev pub HasSeen : JudgeView → World → List Event → Type 0
+HasSeen j start es = IsJudging start es (world_of j.world) j.stretch j.sweeps j.refused
+
+-- whatever the one judge has seen, the other has seen that and then the event
+abbrev pub HasSeenNext : JudgeView → Event → JudgeView → Type 0
+HasSeenNext old e new = (start : World) (es : List Event) → HasSeen old start es → HasSeen new start (es ++ e ∷ [])

@@ -1,0 +1,181 @@
+//! A judge of runs: it counts the sweeps of a run, event by event.
+ghost use Rattle.std.specs.Prelude.{◌≡◌, ◌↔◌, ◌+◌, ◌-◌, ◌^◌, ◌<◌, ◌≤◌, ℕ, min, length, true, false, if◌then◌else◌, ◌==◌, List, [], ◌∷◌, ◌++◌, IsTrue, IfErr, OnOk, None, Some};
+ghost use Rattle.run_model.specs.World.{IsWorldInRange};
+ghost use Rattle.run_model.specs.Step.{refusal, step};
+ghost use Rattle.run_model.specs.Run.{run, is_damage};
+ghost use Rattle.world.specs.WorldView.{world_of};
+ghost use Rattle.world.specs.Tallies.{tally_of, first_tally};
+ghost use Rattle.world.specs.Stretch.{StretchView, IsKept, IsComplete, IsFullThen, IsWaiting, names_nodes};
+ghost use Rattle.world.specs.JudgeView.{HasSeen, HasSeenNext};
+
+use crate::laws::below;
+use crate::stretch::Stretch;
+use crate::tallies::Tally;
+use crate::world::World;
+use run_model::{Event, EventFault};
+use std::alloc::{Allocator, Global};
+use std::marker::Model;
+
+/// The tally of a link as a stretch begins.
+fn first_tally<A: Allocator + Copy>(world: &World<A>, from: u16, to: u16) -> Tally
+    requires from_in { from < (world_of world.now).net.nodes }
+    requires to_in { to < (world_of world.now).net.nodes }
+    ensures { result ≡ first_tally (world_of world.now) from to }
+{
+    if world.are_joined(from, to) {
+        Tally {
+            old: world.under_way(from, to) as u16,
+            served: false,
+        }
+    } else {
+        Tally {
+            old: 0,
+            served: true,
+        }
+    }
+}
+
+/// Begins the tallies of the links from a node.
+fn begin_links<A: Allocator + Copy>(world: &World<A>, stretch: &mut Stretch<A>, from: u16)
+    requires nodes { stretch.old.tallies.nodes ≡ (world_of world.now).net.nodes }
+    requires from_in { from < (world_of world.now).net.nodes }
+    ensures nodes { stretch.new.tallies.nodes ≡ stretch.old.tallies.nodes }
+    ensures lacking { stretch.new.lacking ≡ stretch.old.lacking }
+    ensures tallies { (u v : ℕ) → v < stretch.old.tallies.nodes
+        → tally_of stretch.new.tallies u v ≡ (if u == from then first_tally (world_of world.now) u v else tally_of stretch.old.tallies u v) }
+{
+    for to in 0..world.net().nodes() {
+        stretch.begin_link(from, to, first_tally(world, from, to));
+    }
+}
+
+/// Begins a stretch at a world.
+fn begin<A: Allocator + Copy>(world: &World<A>, stretch: &mut Stretch<A>)
+    requires nodes { stretch.old.tallies.nodes ≡ (world_of world.now).net.nodes }
+    ensures { IsKept (world_of world.now) [] stretch.new }
+{
+    below();
+    let nodes = world.net().nodes();
+    stretch.begin();
+    for from in 0..nodes {
+        begin_links(world, stretch, from);
+    }
+}
+
+/// How many items stand on the link that an event takes from.
+fn waiting<A: Allocator + Copy>(world: &World<A>, event: &Event) -> usize
+    ensures { IsTrue (names_nodes (world_of world.now).net.nodes event.now) → IsWaiting (world_of world.now) event.now result }
+{
+    match *event {
+        Event::Take { from, to } if from < world.net().nodes() && to < world.net().nodes() =>
+            world.under_way(from, to),
+        _ => 0,
+    }
+}
+
+/// Whether an event was a full tick: the node lends to nobody behind it.
+fn is_full<A: Allocator + Copy>(world: &World<A>, event: &Event) -> bool
+    ensures { IsTrue (names_nodes (world_of world.now).net.nodes event.now) → IsFullThen (world_of world.now) event.now result }
+{
+    match *event {
+        Event::Tick { node } if node < world.net().nodes() => world.node(node).lent().is_none(),
+        _ => false,
+    }
+}
+
+/// A world, and how many sweeps and refused events have led to it.
+///
+/// A sweep is counted at the first event at which it is one, and damage begins the count anew.
+#[derive(Drop)]
+pub struct Judge<A: Allocator + Copy = Global> {
+    world: World<A>,
+    stretch: Stretch<A>,
+    sweeps: u64,
+    refused: u64,
+}
+
+impl<A: Allocator + Copy> Model for Judge<A> {
+    ghost use Rattle.world.specs.JudgeView.{JudgeView, IsOneNetwork};
+
+    ghost Value = { JudgeView };
+
+    ghost view = { λ j. record { world = j.world; stretch = j.stretch; sweeps = j.sweeps; refused = j.refused } };
+
+    ghost invariant = { λ j. IsOneNetwork j.world j.stretch };
+}
+
+impl<A: Allocator + Copy> Judge<A> {
+    /// A judge of what happens from a world on, with room for the stretches of as many nodes.
+    pub(crate) fn start(world: World<A>, mut stretch: Stretch<A>) -> Judge<A>
+        requires in_range { IsWorldInRange (world_of world) }
+        requires room { stretch.tallies.nodes ≡ (world_of world).net.nodes }
+        ensures world { result.world ≡ world }
+        ensures judging { HasSeen result (world_of world) [] }
+    {
+        below();
+        begin(&world, &mut stretch);
+        Judge {
+            world,
+            stretch,
+            sweeps: 0,
+            refused: 0,
+        }
+    }
+
+    /// One event happens, as in `World::step`; a refused one is counted. It looks at two tallies at most, except where a sweep ends or damage is accepted.
+    pub fn step(&mut self, event: &Event) -> Result<(), EventFault>
+        ensures world { world_of self.new.world ≡ step (world_of self.old.world) event.now }
+        ensures ok { OnOk result (refusal (world_of self.old.world) event.now ≡ None) }
+        ensures err { IfErr result (λ fault. refusal (world_of self.old.world) event.now ≡ Some fault) }
+        ensures judging { HasSeenNext self.old event.now self.new }
+    {
+        below();
+        let _nodes = self.world.net().nodes();
+        self.stretch.clear_looked();
+        let waiting = waiting(&self.world, event);
+        if let Err(fault) = self.world.step(event) {
+            self.refused = self.refused.saturating_add(1);
+            return Err(fault);
+        }
+        if let Event::Damage(_) = *event {
+            self.sweeps = 0;
+            begin(&self.world, &mut self.stretch);
+            return Ok(());
+        }
+        let is_full = is_full(&self.world, event);
+        self.stretch.note(event, waiting, is_full);
+        if self.stretch.is_complete() {
+            self.sweeps = self.sweeps.saturating_add(1);
+            begin(&self.world, &mut self.stretch);
+        }
+        Ok(())
+    }
+
+    /// How many sweeps there have been since the last accepted damage; the count stays at its greatest value.
+    pub fn sweeps(&self) -> u64
+        ensures { result ≡ self.now.sweeps }
+    {
+        self.sweeps
+    }
+
+    /// How many events were refused; the count stays at its greatest value.
+    pub fn refused(&self) -> u64
+        ensures { result ≡ self.now.refused }
+    {
+        self.refused
+    }
+
+    /// How many tallies the last step looked at.
+    pub fn looked(&self) -> u32
+        ensures { result ≡ self.now.stretch.tallies.looked }
+    {
+        self.stretch.looked()
+    }
+
+    /// The world now.
+    pub fn world(&self) -> &World<A>
+        ensures { result.now ≡ self.now.world }
+    {
+        &self.world
+    }
+}
