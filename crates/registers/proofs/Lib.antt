@@ -1,3 +1,4 @@
 pub mod Fits
 pub mod Places
+mod Rows
 pub mod Start
