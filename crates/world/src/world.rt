@@ -11,6 +11,8 @@ ghost use Rattle.node_core.specs.State.{default_node};
 ghost use Rattle.world.specs.WorldView.{AreNodesOf, states_of, world_of};
 
 mod harms;
+#[cfg(test)]
+mod tests;
 
 use crate::links::Links;
 use link_model::{Item, NoItem};
