@@ -20,3 +20,4 @@ mod NewNodes
 mod NodeCounts
 mod Begun
 mod JudgeSteps
+mod WorldRanges

@@ -1,14 +1,13 @@
 //! A judge of runs: it counts the sweeps of a run, event by event.
 ghost use Rattle.std.specs.Prelude.{◌≡◌, ◌↔◌, ◌+◌, ◌-◌, ◌^◌, ◌<◌, ◌≤◌, ℕ, min, length, true, false, if◌then◌else◌, ◌==◌, List, [], ◌∷◌, ◌++◌, IsTrue, IfErr, OnOk, None, Some};
-ghost use Rattle.run_model.specs.World.{IsWorldInRange};
 ghost use Rattle.run_model.specs.Step.{refusal, step};
-ghost use Rattle.run_model.specs.Run.{run, is_damage};
 ghost use Rattle.world.specs.WorldView.{world_of};
 ghost use Rattle.world.specs.Tallies.{tally_of, first_tally};
 ghost use Rattle.world.specs.Stretch.{StretchView, IsKept, IsComplete, IsFullThen, IsWaiting, names_nodes};
 ghost use Rattle.world.specs.JudgeView.{HasSeen, HasSeenNext};
 
 use crate::laws::below;
+use crate::report::Report;
 use crate::stretch::Stretch;
 use crate::tallies::Tally;
 use crate::world::World;
@@ -106,17 +105,17 @@ impl<A: Allocator + Copy> Model for Judge<A> {
 
 impl<A: Allocator + Copy> Judge<A> {
     /// A judge of what happens from a world on, with room for the stretches of as many nodes.
-    pub(crate) fn start(world: World<A>, mut stretch: Stretch<A>) -> Judge<A>
-        requires in_range { IsWorldInRange (world_of world) }
-        requires room { stretch.tallies.nodes ≡ (world_of world).net.nodes }
+    pub fn new(world: World<A>, mut room: Stretch<A>) -> Judge<A>
+        requires { room.tallies.nodes ≡ (world_of world).net.nodes }
         ensures world { result.world ≡ world }
         ensures judging { HasSeen result (world_of world) [] }
     {
         below();
-        begin(&world, &mut stretch);
+        world.assure_ranges();
+        begin(&world, &mut room);
         Judge {
             world,
-            stretch,
+            stretch: room,
             sweeps: 0,
             refused: 0,
         }
@@ -177,5 +176,19 @@ impl<A: Allocator + Copy> Judge<A> {
         ensures { result.now ≡ self.now.world }
     {
         &self.world
+    }
+
+    /// What has been counted, with the world now and the room.
+    pub fn report(self) -> Report<A>
+        ensures world { result.world ≡ self.world }
+        ensures sweeps { result.sweeps ≡ self.sweeps }
+        ensures refused { result.refused ≡ self.refused }
+    {
+        Report {
+            world: self.world,
+            room: self.stretch,
+            sweeps: self.sweeps,
+            refused: self.refused,
+        }
     }
 }

@@ -29,9 +29,11 @@ pub mod events;
 mod judge;
 mod laws;
 mod links;
+pub mod report;
 mod stretch;
 mod tallies;
 mod world;
 
 pub use judge::Judge;
+pub use stretch::Stretch;
 pub use world::World;

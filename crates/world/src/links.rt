@@ -5,7 +5,7 @@ ghost use Rattle.topology.specs.Network.{IsAcceptedNetwork, are_joined};
 ghost use Rattle.topology.specs.Ranges.{ranges_of};
 ghost use Rattle.run_model.specs.World.{item_fits, at_pair};
 ghost use Rattle.link_model.specs.Link.{link};
-ghost use Rattle.world.specs.LinksView.{place_of, places_at, under_way};
+ghost use Rattle.world.specs.LinksView.{IsLinks, place_of, places_at, under_way};
 
 use link_model::{Item, Link, NoItem};
 use std::alloc::{AllocError, Allocator, Global};
@@ -73,7 +73,8 @@ impl<A: Allocator + Copy> Links<A> {
 impl<A: Allocator + Copy> Links<A> {
     /// The network.
     pub fn net(&self) -> &Net<A>
-        ensures { result.now ≡ self.now.net }
+        ensures net { result.now ≡ self.now.net }
+        ensures links { IsLinks self.now }
     {
         &self.net
     }

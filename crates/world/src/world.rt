@@ -2,7 +2,7 @@
 ghost use Rattle.std.specs.Prelude.{◌≡◌, ◌↔◌, ◌<◌, ◌≤◌, IsTrue, IfOk, IfErr, IsOk, OnOk, OnErr, None, Some, Contains, length};
 ghost use Rattle.topology.specs.Network.{are_joined, neighbours_of};
 ghost use Rattle.node_core.specs.View.{state_of, site_in};
-ghost use Rattle.run_model.specs.World.{default_world, site};
+ghost use Rattle.run_model.specs.World.{IsWorldInRange, default_world, site};
 ghost use Rattle.run_model.specs.Legitimate.{lending_count, privileged_count};
 ghost use Rattle.run_model.specs.Step.{desk_fault, link_fault, node_fault, refusal, step};
 ghost use Rattle.run_model.specs.declared.event.Event.TheVariants.{Send, Take, Lose, Tick, Ask, Leave, Damage};
@@ -14,6 +14,7 @@ mod harms;
 #[cfg(test)]
 mod tests;
 
+use crate::laws::below;
 use crate::links::Links;
 use link_model::{Item, NoItem};
 use lock_desk::{AskFault, Stranger};
@@ -89,6 +90,17 @@ impl<A: Allocator + Copy> World<A> {
         ensures site { site_in result.now ≡ site (world_of self.now) v }
     {
         &self.nodes[usize::from(v)]
+    }
+
+    /// Every world is in range: each field of a node, and what is under way on each link. It looks at each node once, and changes nothing.
+    pub fn assure_ranges(&self)
+        ensures { IsWorldInRange (world_of self.now) }
+    {
+        below();
+        let nodes = self.links.net().nodes();
+        for v in 0..nodes {
+            let _ranges = self.nodes[usize::from(v)].ranges();
+        }
     }
 
     /// Whether an edge joins the two nodes.
