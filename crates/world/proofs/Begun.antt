@@ -1,10 +1,8 @@
 -- A stretch that begins: the tallies of one node's links after the other's.
-use Rattle.std.proofs.Common.{◌≡◌, ◌∙◌, sym, ap, ℕ, ◌+◌, ◌<◌, ◌≤◌, Bool, true, false, ◌==◌, ◌&&◌, not, nat_lt, if◌then◌else◌, IsTrue, List, [], length, arith, refl}
+use Rattle.std.proofs.Common.{◌≡◌, ◌∙◌, sym, ap, ℕ, ◌+◌, ◌<◌, ◌≤◌, false, ◌==◌, ◌&&◌, nat_lt, if◌then◌else◌, IsTrue, [], length, arith, refl}
 use Rattle.std.proofs.lemmas.Grind.{common_steps}
 use Rattle.topology.specs.Network.{are_joined}
 use Rattle.run_model.specs.World.{World, at_pair}
-use Rattle.run_model.specs.Stretch.{old_items}
-use Rattle.world.specs.declared.tallies.Tally.{Tally}
 use Rattle.world.specs.Tallies.{no_tally, tally_of, first_tally}
 use Rattle.world.specs.Stretch.{StretchView, has_bit, IsKept}
 use Rattle.world.specs.Below.{Below}

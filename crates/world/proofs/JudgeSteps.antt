@@ -1,7 +1,7 @@
 -- A judge's step, on each of its ways.
-use Rattle.std.proofs.Common.{◌≡◌, ◌∙◌, sym, ap, subst, ℕ, ◌+◌, ◌-◌, ◌^◌, ◌<◌, ◌≤◌, min, Bool, true, false, ◌&&◌, not, IsTrue, Option, Some, None, is_some, List, [], ◌∷◌, ◌++◌, length, arith, refl}
+use Rattle.std.proofs.Common.{◌≡◌, ◌∙◌, sym, ap, subst, ℕ, ◌+◌, ◌-◌, ◌^◌, ◌<◌, min, Bool, true, false, ◌&&◌, not, IsTrue, Some, None, List, [], ◌∷◌, ◌++◌, arith, refl}
 use Rattle.std.proofs.lemmas.Grind.{common_steps}
-use Rattle.run_model.specs.World.{World, IsWorldInRange}
+use Rattle.run_model.specs.World.{World}
 use Rattle.run_model.specs.Step.{refusal, step}
 use Rattle.run_model.specs.Run.{is_damage}
 use Rattle.run_model.specs.Sweep.{link_act}

@@ -1,5 +1,5 @@
 -- What is kept of a stretch tells when it is a sweep, and goes on with each event.
-use Rattle.std.proofs.Common.{◌≡◌, ◌∙◌, sym, ap, subst, ℕ, ◌<◌, ◌≤◌, ◌⊎◌, inl, inr, Bool, true, false, not, ◌&&◌, ◌||◌, nat_lt, IsTrue, is_some, is_none, List, [], ◌∷◌, ◌++◌, length, arith, refl}
+use Rattle.std.proofs.Common.{◌≡◌, ◌∙◌, sym, ap, subst, ℕ, ◌<◌, ◌≤◌, ◌⊎◌, inl, inr, Bool, true, false, not, ◌&&◌, ◌||◌, nat_lt, IsTrue, is_some, List, [], ◌∷◌, ◌++◌, length, arith, refl}
 use Rattle.std.proofs.lemmas.Grind.{common_steps}
 use Rattle.topology.specs.Network.{are_joined}
 use Rattle.run_model.specs.World.{World, IsWorldInRange}
@@ -8,7 +8,6 @@ use Rattle.run_model.specs.Run.{run, IsUndamaged}
 use Rattle.run_model.specs.Sweep.{IsSweep, link_act, is_full_tick, is_served}
 use Rattle.run_model.specs.Stretch.{old_items, old_after, takes_new}
 use Rattle.run_model.specs.declared.event.Event.{Event}
-use Rattle.run_model.specs.declared.event.Event.TheVariants.{Take, Tick}
 use Rattle.world.specs.declared.tallies.Tally.{Tally}
 use Rattle.world.specs.Tallies.{tally_of, tally_after}
 use Rattle.world.specs.Stretch.{StretchView, has_bit, is_tick_of, IsFullThen, IsWaiting, IsComplete, IsKept}

@@ -21,3 +21,4 @@ mod NodeCounts
 mod Begun
 mod JudgeSteps
 mod WorldRanges
+mod Headline

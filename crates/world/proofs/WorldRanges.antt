@@ -9,7 +9,7 @@ use Rattle.run_model.specs.World.{IsWorldInRange, item_fits}
 use Rattle.node_core.specs.Site.{site_of}
 use Rattle.node_core.specs.State.{IsNodeInRange}
 use Rattle.node_core.specs.View.{NodeView, site_in, state_of}
-use Rattle.world.specs.LinksView.{LinksView, IsLinks, place_of, link_between, under_way}
+use Rattle.world.specs.LinksView.{IsLinks, place_of, link_between, under_way}
 use Rattle.world.specs.WorldView.{WorldView, AreNodesOf, node_at, states_of, world_of}
 use Rattle.world.specs.Below.{Below}
 use Rattle.world.proofs.LinkPlaces.{place-in}

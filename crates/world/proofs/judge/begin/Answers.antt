@@ -1,4 +1,4 @@
-use Rattle.std.proofs.Common.{◌≡◌, ◌≤◌, ap, arith}
+use Rattle.std.proofs.Common.{ap, arith}
 use Rattle.world.specs.WorldView.{world_of}
 use Rattle.world.proofs.Begun.{begun-kept}
 use Rattle.world.proofs.judge.begin.Goals as goal

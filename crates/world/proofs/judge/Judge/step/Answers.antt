@@ -1,6 +1,5 @@
-use Rattle.std.proofs.Common.{◌≡◌, ◌≤◌, ◌∙◌, ap, sym, subst, ℕ, IsTrue, arith, refl, None}
+use Rattle.std.proofs.Common.{◌≡◌, ◌∙◌, ap, sym, subst, IsTrue, arith, refl}
 use Rattle.topology.specs.Network.{IsAcceptedNetwork}
-use Rattle.run_model.specs.Step.{refusal}
 use Rattle.world.specs.WorldView.{world_of}
 use Rattle.world.specs.Stretch.{names_nodes}
 use Rattle.world.proofs.JudgeSteps.{names, accepted-damage, no-damage, refused-step, damage-step, other-step, sweep-step}
