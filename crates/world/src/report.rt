@@ -55,3 +55,6 @@ pub fn judge<A: Allocator + Copy>(start: World<A>, room: Stretch<A>, events: &[E
     }
     judge.report()
 }
+
+#[cfg(test)]
+mod tests;
