@@ -23,6 +23,14 @@
 //! ```
 //!
 //! The trap: a send on a full link is no refusal; the frame is lost, and the step is `Ok`.
+//!
+//! [`report::judge`] lets a list of events happen and counts its sweeps and refusals. Where the sweeps since the last damage are as many as `Net::bound`
+//! says, the world that it reports serves, whatever state it began in:
+//!
+//! ```
+//! let room = Stretch::new(alloc, net.nodes())?;
+//! let report = report::judge(world, room, &events);      // report.world, report.sweeps, report.refused
+//! ```
 #![tactic(auto)]
 
 pub mod events;
