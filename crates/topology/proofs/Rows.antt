@@ -1,4 +1,4 @@
--- Small networks for which the definitions give what one sees on paper, and some that they refuse.
+-- Small networks for which the definitions give what one sees in a drawing, and some that they refuse.
 use Rattle.std.proofs.Common.{◌≡◌, ℕ, ◌∷◌, [], List, refl, arith, true, false, pos, ℤ, zero, suc, inl, inr}
 use Rattle.std.specs.Prelude.{Option, Some, None, negsuc, All, ◌⊎◌}
 use Rattle.std.proofs.lemmas.Bool.Decides.{nat_tests}
