@@ -9,3 +9,5 @@ pub mod Below
 pub mod LinksView
 pub mod WorldView
 pub mod JudgeView
+pub use Rattle.convergence.specs.Laws
+pub use Rattle.run_model.specs.Headline

@@ -1,5 +1,18 @@
-//! What this crate knows of the crates below.
+//! The laws of a run from any state, and what this crate knows of the crates below.
+//!
+//! A law is a function that does nothing, with what is proved as its contract. Whoever proves something of a world calls it and cites its clauses,
+//! whose statements are `Rattle.world.specs.Laws` and `Rattle.world.specs.Headline`:
+//!
+//! - `converge_law`, convergence: from every world in range, over every list of events without damage, links are stable after 4(C + 1) sweeps, and from
+//!   then on any three sweeps replace all that is staged and copied; the tree is reached after 4(n + 1) more; the token ring is good after R - 1 sweeps, and
+//!   after R the world is legitimate. So it serves: each distance is the least length of a walk to the root, each parent is the true one, at most
+//!   one node is privileged, and at most one lends.
+//! - `closure_law`, closure: over every list of events without damage a legitimate world stays legitimate, and every legitimate world serves.
+//!
+//! The trap: neither claims that sweeps occur. A sweep needs a full tick of each node, so none ends while a client keeps the lock for ever.
 ghost use Rattle.world.specs.Below.{Below};
+
+pub use convergence::laws::{closure_law, converge_law};
 
 /// The laws of networks and of runs that the judge stands on.
 pub(crate) fn below()

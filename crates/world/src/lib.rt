@@ -24,6 +24,8 @@
 //!
 //! The trap: a send on a full link is no refusal; the frame is lost, and the step is `Ok`.
 //!
+//! [`laws`] has what is proved of every world and every list of events, for proofs about programs: convergence from any state, and closure.
+//!
 //! [`report::judge`] lets a list of events happen and counts its sweeps and refusals. Where the sweeps since the last damage are as many as `Net::bound`
 //! says, the world that it reports serves, whatever state it began in:
 //!
@@ -35,7 +37,7 @@
 
 pub mod events;
 mod judge;
-mod laws;
+pub mod laws;
 mod links;
 pub mod report;
 mod stretch;
