@@ -30,7 +30,7 @@ impl<A: Allocator + Copy> Model for Links<A> {
 }
 
 /// How many places the link at an index has: the network's capacity where an edge joins its ends, and else none.
-fn places_at<A: Allocator + Copy>(net: &Net<A>, index: usize) -> usize
+fn places_at<N: Allocator + Copy>(net: &Net<N>, index: usize) -> usize
     requires { index < net.now.nodes * net.now.nodes }
     ensures { result ≡ places_at net.now index }
 {
@@ -45,7 +45,10 @@ fn places_at<A: Allocator + Copy>(net: &Net<A>, index: usize) -> usize
 }
 
 /// A link for each two nodes, all of them empty.
-fn empty_links<A: Allocator + Copy>(alloc: A, net: &Net<A>) -> Result<Vec<Link<A>, A>, AllocError>
+fn empty_links<A: Allocator + Copy, N: Allocator + Copy>(
+    alloc: A,
+    net: &Net<N>,
+) -> Result<Vec<Link<A>, A>, AllocError>
     ensures network { IsAcceptedNetwork net.now }
     ensures links { IfOk result (λ links. links.items ≡ map (λ i. link (places_at net.now i) []) (range_with_len 0 (net.now.nodes * net.now.nodes))) }
 {
@@ -59,7 +62,7 @@ fn empty_links<A: Allocator + Copy>(alloc: A, net: &Net<A>) -> Result<Vec<Link<A
 
 impl<A: Allocator + Copy> Links<A> {
     /// Empty links of a network, of which a copy is kept. All places are reserved here.
-    pub fn new(alloc: A, net: &Net<A>) -> Result<Links<A>, AllocError>
+    pub fn new<N: Allocator + Copy>(alloc: A, net: &Net<N>) -> Result<Links<A>, AllocError>
         ensures net { IfOk result (λ links. links.net ≡ net.now) }
         ensures empty { IfOk result (λ links. under_way links ≡ λ u v. []) }
     {
@@ -68,9 +71,7 @@ impl<A: Allocator + Copy> Links<A> {
             links: empty_links(alloc, net)?,
         })
     }
-}
 
-impl<A: Allocator + Copy> Links<A> {
     /// The network.
     pub fn net(&self) -> &Net<A>
         ensures net { result.now ≡ self.now.net }

@@ -52,7 +52,10 @@ impl<A: Allocator + Copy> Model for World<A> {
 }
 
 /// A node for each id, as it starts.
-fn new_nodes<A: Allocator + Copy>(alloc: A, net: &Net) -> Result<Vec<Node<A>, A>, AllocError>
+fn new_nodes<A: Allocator + Copy, N: Allocator + Copy>(
+    alloc: A,
+    net: &Net<N>,
+) -> Result<Vec<Node<A>, A>, AllocError>
     ensures nodes { IfOk result (λ nodes. AreNodesOf net.now nodes.items) }
     ensures states { IfOk result (λ nodes. states_of net.now nodes.items ≡ λ v. default_node (ranges_of net.now)) }
 {
@@ -63,19 +66,17 @@ fn new_nodes<A: Allocator + Copy>(alloc: A, net: &Net) -> Result<Vec<Node<A>, A>
     Ok(nodes)
 }
 
-impl World {
+impl<A: Allocator + Copy> World<A> {
     /// The world in which every node is as it starts and nothing is under way. It keeps a copy of the network, and reserves all memory that any step needs;
     /// `AllocError` comes only where that is refused.
-    pub fn new(alloc: Global, net: &Net) -> Result<World, AllocError>
+    pub fn new<N: Allocator + Copy>(alloc: A, net: &Net<N>) -> Result<World<A>, AllocError>
         ensures { IfOk result (λ world. world_of world ≡ default_world net.now) }
     {
         let links = Links::new(alloc, net)?;
         let nodes = new_nodes(alloc, net)?;
         Ok(World { nodes, links })
     }
-}
 
-impl<A: Allocator + Copy> World<A> {
     /// The network.
     pub fn net(&self) -> &Net<A>
         ensures { result.now ≡ (world_of self.now).net }

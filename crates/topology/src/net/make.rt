@@ -110,11 +110,11 @@ impl<A: Allocator + Copy> Net<A> {
         })
     }
 
-    /// An equal network.
+    /// An equal network, over any allocator.
     ///
     /// # Errors
     /// Where memory runs out.
-    pub fn copy(&self, alloc: A) -> Result<Net<A>, AllocError>
+    pub fn copy<B: Allocator + Copy>(&self, alloc: B) -> Result<Net<B>, AllocError>
         ensures { IfOk result (λ net. net ≡ self.now) }
     {
         let links = copy_edges(alloc, self.links.as_slice())?;
