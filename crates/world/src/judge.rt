@@ -6,6 +6,7 @@ ghost use Rattle.world.specs.Tallies.{tally_of, first_tally};
 ghost use Rattle.world.specs.Stretch.{StretchView, IsKept, IsComplete, IsFullThen, IsWaiting, names_nodes};
 ghost use Rattle.world.specs.JudgeView.{HasSeen, HasSeenNext};
 
+use crate::configuration::Configuration;
 use crate::laws::below;
 use crate::report::Report;
 use crate::stretch::Stretch;
@@ -16,7 +17,7 @@ use std::alloc::{Allocator, Global};
 use std::marker::Model;
 
 /// The tally of a link as a stretch begins.
-fn first_tally<A: Allocator + Copy>(world: &World<A>, from: u16, to: u16) -> Tally
+fn first_tally<A: Allocator + Copy>(world: &Configuration<A>, from: u16, to: u16) -> Tally
     requires from_in { from < (world_of world.now).net.nodes }
     requires to_in { to < (world_of world.now).net.nodes }
     ensures { result ≡ first_tally (world_of world.now) from to }
@@ -35,7 +36,7 @@ fn first_tally<A: Allocator + Copy>(world: &World<A>, from: u16, to: u16) -> Tal
 }
 
 /// Begins the tallies of the links from a node.
-fn begin_links<A: Allocator + Copy>(world: &World<A>, stretch: &mut Stretch<A>, from: u16)
+fn begin_links<A: Allocator + Copy>(world: &Configuration<A>, stretch: &mut Stretch<A>, from: u16)
     requires nodes { stretch.old.tallies.nodes ≡ (world_of world.now).net.nodes }
     requires from_in { from < (world_of world.now).net.nodes }
     ensures nodes { stretch.new.tallies.nodes ≡ stretch.old.tallies.nodes }
@@ -49,7 +50,7 @@ fn begin_links<A: Allocator + Copy>(world: &World<A>, stretch: &mut Stretch<A>, 
 }
 
 /// Begins a stretch at a world.
-fn begin<A: Allocator + Copy>(world: &World<A>, stretch: &mut Stretch<A>)
+fn begin<A: Allocator + Copy>(world: &Configuration<A>, stretch: &mut Stretch<A>)
     requires nodes { stretch.old.tallies.nodes ≡ (world_of world.now).net.nodes }
     ensures { IsKept (world_of world.now) [] stretch.new }
 {
@@ -62,7 +63,7 @@ fn begin<A: Allocator + Copy>(world: &World<A>, stretch: &mut Stretch<A>)
 }
 
 /// How many items stand on the link that an event takes from.
-fn waiting<A: Allocator + Copy>(world: &World<A>, event: &Event) -> usize
+fn waiting<A: Allocator + Copy>(world: &Configuration<A>, event: &Event) -> usize
     ensures { IsTrue (names_nodes (world_of world.now).net.nodes event.now) → IsWaiting (world_of world.now) event.now result }
 {
     match *event {
@@ -73,7 +74,7 @@ fn waiting<A: Allocator + Copy>(world: &World<A>, event: &Event) -> usize
 }
 
 /// Whether an event was a full tick: the node lends to nobody behind it.
-fn is_full<A: Allocator + Copy>(world: &World<A>, event: &Event) -> bool
+fn is_full<A: Allocator + Copy>(world: &Configuration<A>, event: &Event) -> bool
     ensures { IsTrue (names_nodes (world_of world.now).net.nodes event.now) → IsFullThen (world_of world.now) event.now result }
 {
     match *event {
@@ -87,7 +88,7 @@ fn is_full<A: Allocator + Copy>(world: &World<A>, event: &Event) -> bool
 /// A sweep is counted at the first event at which it is one, and damage begins the count anew.
 #[derive(Drop)]
 pub struct Judge<A: Allocator + Copy = Global> {
-    world: World<A>,
+    world: Configuration<A>,
     stretch: Stretch<A>,
     sweeps: u64,
     refused: u64,
@@ -104,17 +105,20 @@ impl<A: Allocator + Copy> Model for Judge<A> {
 }
 
 impl<A: Allocator + Copy> Judge<A> {
-    /// A judge of what happens from a world on, with room for the stretches of as many nodes.
-    pub fn new(world: World<A>, mut room: Stretch<A>) -> Judge<A>
-        requires { room.tallies.nodes ≡ (world_of world).net.nodes }
+    /// A judge of what happens from a world on.
+    pub fn new(world: World<A>) -> Judge<A>
         ensures world { result.world ≡ world }
         ensures judging { HasSeen result (world_of world) [] }
     {
         below();
         world.assure_ranges();
-        begin(&world, &mut room);
+        let World {
+            configuration,
+            mut room,
+        } = world;
+        begin(&configuration, &mut room);
         Judge {
-            world,
+            world: configuration,
             stretch: room,
             sweeps: 0,
             refused: 0,
@@ -171,22 +175,24 @@ impl<A: Allocator + Copy> Judge<A> {
         self.stretch.looked()
     }
 
-    /// The world now.
-    pub fn world(&self) -> &World<A>
+    /// The nodes and links now.
+    pub fn configuration(&self) -> &Configuration<A>
         ensures { result.now ≡ self.now.world }
     {
         &self.world
     }
 
-    /// What has been counted, with the world now and the room.
+    /// What has been counted, with the world now.
     pub fn report(self) -> Report<A>
         ensures world { result.world ≡ self.world }
         ensures sweeps { result.sweeps ≡ self.sweeps }
         ensures refused { result.refused ≡ self.refused }
     {
         Report {
-            world: self.world,
-            room: self.stretch,
+            world: World {
+                configuration: self.world,
+                room: self.stretch,
+            },
             sweeps: self.sweeps,
             refused: self.refused,
         }

@@ -30,11 +30,11 @@
 //! says, the world that it reports serves, whatever state it began in:
 //!
 //! ```
-//! let room = Stretch::new(alloc, net.nodes())?;
-//! let report = report::judge(world, room, &events);      // report.world, report.sweeps, report.refused
+//! let report = report::judge(world, &events);      // report.world, report.sweeps, report.refused
 //! ```
 #![tactic(auto)]
 
+mod configuration;
 pub mod events;
 mod judge;
 pub mod laws;
@@ -44,6 +44,6 @@ mod stretch;
 mod tallies;
 mod world;
 
+pub use configuration::Configuration;
 pub use judge::Judge;
-pub use stretch::Stretch;
 pub use world::World;

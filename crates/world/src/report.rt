@@ -12,7 +12,6 @@ ghost use Rattle.world.specs.WorldView.{world_of};
 
 use crate::judge::Judge;
 use crate::laws::below;
-use crate::stretch::Stretch;
 use crate::world::World;
 use run_model::Event;
 use std::alloc::{Allocator, Global};
@@ -22,8 +21,6 @@ use std::alloc::{Allocator, Global};
 pub struct Report<A: Allocator + Copy = Global> {
     /// The world now.
     pub world: World<A>,
-    /// The room that the judge was given, for another run.
-    pub room: Stretch<A>,
     /// The sweeps since the last accepted damage; the count stays at its greatest value.
     pub sweeps: u64,
     /// The refused events; the count stays at its greatest value.
@@ -35,8 +32,7 @@ pub struct Report<A: Allocator + Copy = Global> {
 /// From whatever state, the links are stable after 4(C + 1) sweeps, the tree is reached after 4(n + 1) more, and after as many as `Net::bound` says the
 /// world is legitimate: each distance is the least length of a walk and each parent the true one, and at most one node is privileged and at most one lends.
 /// The sweeps are those since the last damage: how it came to its state does not matter.
-pub fn judge<A: Allocator + Copy>(start: World<A>, room: Stretch<A>, events: &[Event]) -> Report<A>
-    requires { room.tallies.nodes ≡ (world_of start).net.nodes }
+pub fn judge<A: Allocator + Copy>(start: World<A>, events: &[Event]) -> Report<A>
     ensures world { world_of result.world ≡ run (world_of start) events.now }
     ensures sweeps { (count : ℕ) × IsSweepCount (world_of start) events.now count × (result.sweeps ≡ counted_up_to count) }
     ensures refused { result.refused ≡ counted_up_to (refused_in (world_of start) events.now) }
@@ -49,7 +45,7 @@ pub fn judge<A: Allocator + Copy>(start: World<A>, room: Stretch<A>, events: &[E
     below();
     run_model::laws::sweep_numbers();
     convergence::laws::converge_law();
-    let mut judge = Judge::new(start, room);
+    let mut judge = Judge::new(start);
     for event in events {
         let _answer = judge.step(event);
     }

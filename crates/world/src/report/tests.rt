@@ -32,8 +32,7 @@ const fn junk(from: u16, to: u16) -> Event {
 fn counts(alloc: Global, events: &[Event]) -> Result<(u64, u64), Fail> {
     let net = Net::make(alloc, 2, 0, 1, 0, &[(0, 1)])?;
     let world = World::new(alloc, &net)?;
-    let room = Stretch::new(alloc, net.nodes())?;
-    let report = judge(world, room, events);
+    let report = judge(world, events);
     Ok((report.sweeps, report.refused))
 }
 

@@ -1,5 +1,6 @@
 //! Two nodes, moved by events.
 use super::*;
+use link_model::Item;
 use run_model::Harm;
 use std::test::Fail;
 

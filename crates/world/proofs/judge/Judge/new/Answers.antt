@@ -1,6 +1,13 @@
+use Rattle.std.proofs.Common.{[], sym, subst}
 use Rattle.world.specs.WorldView.{world_of}
+use Rattle.world.specs.Judging.{IsJudging}
+use Rattle.world.specs.Stretch.{IsKept}
 use Rattle.world.proofs.Judging.{judging-starts}
 use Rattle.world.proofs.judge.Judge.new.Goals as goal
 
 pub returns-clause-judging : goal.returns-clause-judging
-returns-clause-judging g c = judging-starts c.below.ensures (world_of c.args.world) c.begin.new.stretch c.assure_ranges.ensures c.begin.ensures
+returns-clause-judging g c =
+    let start = world_of c.args.world in
+    let kept = subst (λ w. IsKept (world_of w) [] c.begin.new.stretch) c.world.view_is c.begin.ensures in
+    let seen = judging-starts c.below.ensures start c.begin.new.stretch c.assure_ranges.ensures kept in
+    subst (λ w. IsJudging start [] (world_of w) c.begin.new.stretch 0 0) (sym c.world.view_is) seen
