@@ -1,3 +1,4 @@
 mod Nearest
 mod Rounds
+mod StepRange
 mod Rows

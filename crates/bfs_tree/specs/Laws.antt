@@ -1,6 +1,8 @@
 -- One round of the tree: what a step makes of copies that are right so far.
-use Rattle.std.specs.Prelude.{◌≡◌, ℕ, ◌+◌, ◌<◌, ◌==◌, IsTrue, Option}
+use Rattle.std.specs.Prelude.{◌≡◌, ℕ, ◌+◌, ◌<◌, ◌≤◌, ◌==◌, Bool, IsTrue, Option, List}
+use Rattle.std.specs.List.{All}
 use Rattle.topology.specs.Network.{Network, are_joined, neighbours_of, IsAcceptedNetwork}
+use Rattle.topology.specs.Ranges.{parent_fits}
 use Rattle.topology.specs.Tree.{distance_of, parent_of}
 use Rattle.bfs_tree.specs.Stage.{is_of_stage}
 use Rattle.bfs_tree.specs.Step.{new_distance, new_parent}
@@ -47,3 +49,13 @@ ExactDistance = (net : Network) (v : ℕ) (copied : ℕ → ℕ) → IsAcceptedN
 abbrev pub ExactParent : Type 0
 ExactParent = (net : Network) (v : ℕ) (copied : ℕ → ℕ) → IsAcceptedNetwork net → v < net.nodes → AreExact net copied v
     → stepped_parent net copied v ≡ parent_of net v
+
+-- whatever is copied, a step gives a distance of at most n
+abbrev pub StepDistanceFits : Type 0
+StepDistanceFits = (is_root : Bool) (n : ℕ) (copied : ℕ → ℕ) (neighbours : List ℕ) → new_distance is_root n copied neighbours ≤ n
+
+-- and, where the neighbours are nodes, a parent that is a node, or none
+abbrev pub StepParentFits : Type 0
+StepParentFits =
+    (is_root : Bool) (n : ℕ) (copied : ℕ → ℕ) (neighbours : List ℕ) → All (λ w. w < n) neighbours
+    → IsTrue (parent_fits n (new_parent is_root copied neighbours))

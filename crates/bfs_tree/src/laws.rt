@@ -1,5 +1,5 @@
 //! What one step makes of copies that are right so far: how a breadth-first tree forms, round by round.
-ghost use Rattle.bfs_tree.specs.Laws.{StageRises, StageIncludes, FirstStage, LastStage, ExactDistance, ExactParent};
+ghost use Rattle.bfs_tree.specs.Laws.{StageRises, StageIncludes, FirstStage, LastStage, ExactDistance, ExactParent, StepDistanceFits, StepParentFits};
 
 /// One round of the tree. Copies that are exact below k and at least k elsewhere give a distance that is exact below k + 1 and at least k + 1 elsewhere.
 /// Everything is of stage 0, and what is of stage n is exact, so n rounds do from any start. What is of a later stage is of each earlier one too, so no step undoes a round.
@@ -23,3 +23,9 @@ pub fn exact_step()
     topology::laws::neighbours();
     topology::laws::joined();
 }
+
+/// Whatever the copies, a step's distance is at most n, and its parent is a node or none. Whoever keeps both needs it.
+pub fn step_in_range()
+    ensures distance { StepDistanceFits }
+    ensures parent { StepParentFits }
+{}

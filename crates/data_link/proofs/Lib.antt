@@ -1,6 +1,7 @@
 pub mod LinkSteps
 pub mod UnderWay
 pub mod Ranges
+mod PortRange
 pub mod Stable
 pub mod Marks
 pub mod Sweeping

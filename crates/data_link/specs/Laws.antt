@@ -1,13 +1,24 @@
 -- The laws of one edge, for every capacity of its links and whatever payloads are handed in as present. Each is of the direction from near to far.
 use Rattle.std.specs.Prelude.{◌≡◌, ℕ, ◌+◌, ◌*◌, ◌<◌, ◌≤◌, ◌⊎◌, Bool, IsTrue, List, ◌∷◌, ◌++◌}
 use Rattle.std.specs.List.{AllByRecursion}
+use Rattle.topology.specs.Ranges.{frame_fits, payload_fits}
 use Rattle.topology.specs.declared.frame.Frame.{Frame}
 use Rattle.topology.specs.declared.frame.Payload.{Payload}
+use Rattle.topology.specs.declared.frame.Ranges.{Ranges}
 use Rattle.link_model.specs.declared.item.Item.{Item}
 use Rattle.link_model.specs.declared.item.Item.TheVariants as item
 use Rattle.k_state.specs.Ring.{Step}
+use Rattle.data_link.specs.Port.{PortState, port_after, port_fits}
 use Rattle.data_link.specs.Edge.{EdgeState, EdgeEvent, TakeOut, TakeBack, IsEdgeInRange, IsStable, edge_run, edge_step, edge_step_with, link_ring, moves, moves_in}
 use Rattle.data_link.specs.Sweep.{IsStrictSweep, IsSweep, PresentPasses, Sweeps}
+
+-- ---- ports
+
+-- a frame in range, and a payload in range that is handed in as present, keep a port in range
+abbrev pub PortStaysInRange : Type 0
+PortStaysInRange =
+    (r : Ranges) (p : PortState) (f : Frame) (present : Payload) → IsTrue (port_fits r p) → IsTrue (frame_fits r f) → IsTrue (payload_fits r present)
+    → IsTrue (port_fits r (port_after r.counter p f present))
 
 -- ---- steps
 

@@ -1,7 +1,12 @@
 //! The laws of one edge, each the contract of a function that does nothing. A proof that needs one
 //! calls it and cites its clauses. They hold for every capacity, and whatever payloads are handed in
 //! as present. Each speaks of one direction; the other is the same edge seen from its other end.
-ghost use Rattle.data_link.specs.Laws.{CopyIsStaged, EventIsStep, MoveRefreshesStaged, PayloadsKeep, RangeStays, StableAfterMoves, StableAfterSweeps, StableOutlastsRuns, StableStays, StagedIsPresent, StrictSweepIsSweep, SweepRefreshesCopy, SweepsMove, TakenIsCopied, ThreeSweepsRefresh, TwoSweepsMove};
+ghost use Rattle.data_link.specs.Laws.{CopyIsStaged, EventIsStep, MoveRefreshesStaged, PayloadsKeep, PortStaysInRange, RangeStays, StableAfterMoves, StableAfterSweeps, StableOutlastsRuns, StableStays, StagedIsPresent, StrictSweepIsSweep, SweepRefreshesCopy, SweepsMove, TakenIsCopied, ThreeSweepsRefresh, TwoSweepsMove};
+
+/// A port in range stays in range, whatever frame in range it takes. Whoever keeps ports needs it.
+pub fn port_law()
+    ensures { PortStaysInRange }
+{}
 
 /// One event: a step of the link ring, and an edge in range stays in range.
 pub fn event_law()

@@ -354,6 +354,7 @@ impl<A: Allocator> Node<A> {
         ensures state { state_of self.new ≡ recomputed (site_in self.old) (state_of self.old) }
         ensures site { site_in self.new ≡ site_in self.old }
     {
+        bfs_tree::laws::step_in_range();
         let own = new_own(&self.registers, self.is_root);
         self.distance = own.0;
         self.parent = own.1;

@@ -1,4 +1,3 @@
-pub mod Fits
 pub mod Places
 mod Rows
 pub mod Start

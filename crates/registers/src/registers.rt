@@ -145,6 +145,7 @@ impl<A: Allocator> Registers<A> {
         ensures rest { self.new ≡ record self.old { ports = self.new.ports } }
         ensures heard { result ≡ heard_of (port_of self.old port) frame.now }
     {
+        data_link::laws::port_law();
         self.ports[port as usize].on_frame(frame, present)
     }
 

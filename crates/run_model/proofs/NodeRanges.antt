@@ -1,28 +1,39 @@
 -- What a node does keeps its state in range.
-use Rattle.std.proofs.Common.{◌≡◌, ℕ, ◌+◌, ◌<◌, ◌≤◌, List, [], ◌∷◌, Bool, true, false, IsTrue, Option, refl, subst, arith, inl, inr}
+use Rattle.std.proofs.Common.{◌≡◌, ℕ, ◌+◌, ◌<◌, ◌≤◌, List, [], ◌∷◌, true, IsTrue, Option, subst, arith, inl, inr}
 use Rattle.std.proofs.lemmas.Grind.{common_steps}
 use Rattle.std.proofs.lemmas.Bool.{cases_Bool, cases_eq, cond-true, cond-false, cond_both, eq-eqb, ne_eqb}
 use Rattle.std.proofs.lemmas.Bool.Decides.{nat_tests}
 use Rattle.std.proofs.lemmas.List.Elements.{All-head, All-tail, All-filter, All-weaker}
-use Rattle.std.specs.Prelude.{◌==◌, ◌&&◌, ◌%◌, nat_lt, unwrap_or, find, is_none, slice_index_or}
+use Rattle.std.specs.Prelude.{◌==◌, ◌&&◌, ◌%◌, nat_lt, unwrap_or, is_none, slice_index_or}
 use Rattle.std.specs.List.{All, list_any}
 use Rattle.topology.specs.At.{at}
-use Rattle.topology.specs.Ranges.{parent_fits, payload_fits, frame_fits}
-use Rattle.topology.specs.declared.frame.Frame.{Frame as FrameOf}
-use Rattle.topology.specs.declared.frame.Payload.{Payload}
+use Rattle.topology.specs.Ranges.{parent_fits, payload_fits}
 use Rattle.topology.specs.declared.frame.Ranges.{Ranges}
 use Rattle.link_model.specs.declared.item.Item.{Item}
 use Rattle.link_model.specs.declared.item.Item.TheVariants.{Frame, Noise}
-use Rattle.data_link.specs.Port.{PortState, port_fits, port_acked, port_heard, port_after}
+use Rattle.data_link.specs.Port.{PortState, port_fits, port_after}
 use Rattle.k_state.specs.Machine.{root_moved}
-use Rattle.lock_desk.specs.Laws.{TicksKeepRanges}
+use Rattle.topology.specs.Laws.{NeighboursAreJoined}
+use Rattle.data_link.specs.Laws.{PortStaysInRange}
+use Rattle.bfs_tree.specs.Laws.{StepDistanceFits, StepParentFits}
+use Rattle.lock_desk.specs.Laws.{TicksKeepRanges, AsksKeepRanges, LeavesKeepRanges, LoansKeepRanges}
 use Rattle.euler_ring.specs.Cycle.{is_on, is_tree_neighbour, highest, below, source_for}
-use Rattle.bfs_tree.specs.Step.{has_least_copy, new_distance, new_parent}
 use Rattle.node_core.specs.Site.{Site}
 use Rattle.node_core.specs.State.{NodeState, IsNodeInRange}
 use Rattle.node_core.specs.Machines.{tree_of, ring_for, payload_for, before, is_special, may_move, moved_value, is_node_privileged}
 use Rattle.node_core.specs.Step.{taken, copied_distance, recomputed, desk_done, machines_moved, ticked}
 use Rattle.run_model.specs.World.{item_fits}
+
+-- laws of the layers below, by which each part of a node stays in range
+pub record KeepRanges : Type 0 where
+  pub near : NeighboursAreJoined
+  pub ports : PortStaysInRange
+  pub distances : StepDistanceFits
+  pub parents : StepParentFits
+  pub ticks : TicksKeepRanges
+  pub asks : AsksKeepRanges
+  pub leaves : LeavesKeepRanges
+  pub loans : LoansKeepRanges
 
 mod-below : (x q : ℕ) → 0 < q → x % q < q
 mod-below x q l = omega arith
@@ -30,19 +41,6 @@ mod-below x q l = omega arith
 fits-from : (r : Ranges) (distance : ℕ) (parent : Option ℕ) (ring : ℕ) → distance ≤ r.nodes → IsTrue (parent_fits r.nodes parent) → ring < r.ring
     → payload_fits r (record { distance = distance; parent = parent; ring = ring }) ≡ true
 fits-from r distance parent ring d p x = grind (arith, common_steps, nat_tests)
-
--- ---- ports
-
-acked-fits : (r : Ranges) (p : PortState) (f : FrameOf) (present : Payload) → port_fits r p ≡ true → payload_fits r present ≡ true
-    → port_fits r (port_acked r.counter p f present) ≡ true
-acked-fits r p f present fits says = grind (arith, common_steps, nat_tests)
-
-heard-fits : (r : Ranges) (p : PortState) (f : FrameOf) → port_fits r p ≡ true → frame_fits r f ≡ true → port_fits r (port_heard p f) ≡ true
-heard-fits r p f fits sent = grind (arith, common_steps, nat_tests)
-
-after-fits : (r : Ranges) (p : PortState) (f : FrameOf) (present : Payload) → port_fits r p ≡ true → frame_fits r f ≡ true → payload_fits r present ≡ true
-    → port_fits r (port_after r.counter p f present) ≡ true
-after-fits r p f present fits sent says = heard-fits r (port_acked r.counter p f present) f (acked-fits r p f present fits says) sent
 
 -- ---- what is chosen among the neighbours is as they all are
 
@@ -55,10 +53,6 @@ source-is P [] w there all = absurd (grind arith)
 source-is P (t ∷ ts) w there all =
     highest-is P (unwrap_or (highest (t ∷ ts)) w) (below w (t ∷ ts)) (highest-is P t ts (All-head P t ts all) (All-tail P t ts all))
     (All-filter (λ u. nat_lt u w) P (t ∷ ts) all)
-
-found-fits : (n : ℕ) (test : ℕ → Bool) (ws : List ℕ) → All (λ w. w < n) ws → parent_fits n (find test ws) ≡ true
-found-fits n test [] all = refl
-found-fits n test (w ∷ ws) all = let h = All-head (λ w. w < n) w ws all in let rest = found-fits n test ws (All-tail (λ w. w < n) w ws all) in grind (arith, common_steps, nat_tests)
 
 -- ---- what a node says of itself
 
@@ -90,35 +84,19 @@ at-fits r ws port u p all new = All-weaker (λ w. IsTrue (port_fits r (port w)))
       | inr ne ↦ rw (cond-false (w == u) p (port w) (ne_eqb w u ne)) old
     ]) ws all
 
-pub taken-range : (site : Site) (s : NodeState) (u : ℕ) (item : Item) → IsSiteSound site → IsNodeInRange site s → IsTrue (item_fits site.ranges item)
+pub taken-range : KeepRanges → (site : Site) (s : NodeState) (u : ℕ) (item : Item) → IsSiteSound site → IsNodeInRange site s → IsTrue (item_fits site.ranges item)
     → IsNodeInRange site (taken site u item s)
-taken-range site s u Noise sound range fits = range
-taken-range site s u (Frame f) sound range fits = record {
+taken-range keep site s u Noise sound range fits = range
+taken-range keep site s u (Frame f) sound range fits = record {
   distance = range.distance;
   parent = range.parent;
   ports = at-fits site.ranges site.neighbours s.port u (port_after site.ranges.counter (s.port u) f (payload_for site s u)) range.ports
-      (λ old. after-fits site.ranges (s.port u) f (payload_for site s u) old fits (payload-fits site s u sound range));
+      (λ old. keep.ports site.ranges (s.port u) f (payload_for site s u) old fits (payload-fits site s u sound range));
   values = range.values;
   desk = range.desk;
 }
 
 -- ---- a node ticks
-
-new-distance_fits : (is_root : Bool) (n : ℕ) (copied : ℕ → ℕ) (ws : List ℕ) → new_distance is_root n copied ws ≤ n
-new-distance_fits is_root n copied ws = grind (arith, common_steps)
-
-new-parent_fits : (is_root : Bool) (n : ℕ) (copied : ℕ → ℕ) (ws : List ℕ) → All (λ w. w < n) ws → parent_fits n (new_parent is_root copied ws) ≡ true
-new-parent_fits true n copied ws all = refl
-new-parent_fits false n copied ws all = found-fits n (has_least_copy copied ws) ws all
-
-recomputed-range : (site : Site) (s : NodeState) → IsSiteSound site → IsNodeInRange site s → IsNodeInRange site (recomputed site s)
-recomputed-range site s sound range = record {
-  distance = new-distance_fits site.is_root site.ranges.nodes (copied_distance s) site.neighbours;
-  parent = new-parent_fits site.is_root site.ranges.nodes (copied_distance s) site.neighbours sound.neighbours;
-  ports = range.ports;
-  values = range.values;
-  desk = range.desk;
-}
 
 copy-below : (r : Ranges) (p : PortState) → port_fits r p ≡ true → p.copy.ring < r.ring
 copy-below r p fits = grind (arith, common_steps, nat_tests)
@@ -141,14 +119,23 @@ machines-range site s sound range = record {
   desk = range.desk;
 }
 
-module _ (ticks : TicksKeepRanges) where
+module _ (keep : KeepRanges) where
+  recomputed-range : (site : Site) (s : NodeState) → IsSiteSound site → IsNodeInRange site s → IsNodeInRange site (recomputed site s)
+  recomputed-range site s sound range = record {
+    distance = keep.distances site.is_root site.ranges.nodes (copied_distance s) site.neighbours;
+    parent = keep.parents site.is_root site.ranges.nodes (copied_distance s) site.neighbours sound.neighbours;
+    ports = range.ports;
+    values = range.values;
+    desk = range.desk;
+  }
+
   desk-range : (site : Site) (s : NodeState) → IsNodeInRange site s → IsNodeInRange site (desk_done site s)
   desk-range site s range = record {
     distance = range.distance;
     parent = range.parent;
     ports = range.ports;
     values = range.values;
-    desk = ticks site.lease (is_node_privileged site s) s.desk range.desk;
+    desk = keep.ticks site.lease (is_node_privileged site s) s.desk range.desk;
   }
 
   pub ticked-range : (site : Site) (s : NodeState) → IsSiteSound site → IsNodeInRange site s → IsNodeInRange site (ticked site s)

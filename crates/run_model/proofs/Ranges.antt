@@ -21,7 +21,7 @@ use Rattle.node_core.specs.Step.{taken}
 use Rattle.run_model.specs.World.{World, IsWorldInRange, item_fits, site, with_node, with_link, default_world}
 use Rattle.run_model.specs.Step.{first_fault, unless, link_fault, has_room, sent, handed_over, with_port, with_desk}
 use Rattle.run_model.specs.declared.event.EventFault.{EventFault}
-use Rattle.run_model.proofs.NodeRanges.{IsSiteSound, at-fits, taken-range}
+use Rattle.run_model.proofs.NodeRanges.{KeepRanges, IsSiteSound, at-fits, taken-range}
 
 pub site-sound : NeighboursAreJoined → (net : Network) (v : ℕ) → IsAcceptedNetwork net → IsSiteSound (site_of net v)
 site-sound near net v ok = record {
@@ -147,14 +147,14 @@ sent-range near w u v range l =
     (frame-fits (ranges_of w.net) ((w.node u).port v) (port-in_range near w u v range l))))
     (λ _. range)
 
-pub handed-range : NeighboursAreJoined → (w : World) (u v : ℕ) (items : List Item) → IsWorldInRange w → length items ≤ w.net.capacity → AllFit w items
+pub handed-range : KeepRanges → (w : World) (u v : ℕ) (items : List Item) → IsWorldInRange w → length items ≤ w.net.capacity → AllFit w items
     → IsWorldInRange (handed_over w u v items)
-handed-range near w u v [] range few fit = range
-handed-range near w u v (item ∷ rest) range few fit =
+handed-range keep w u v [] range few fit = range
+handed-range keep w u v (item ∷ rest) range few fit =
     let P = λ (item : Item). IsTrue (item_fits (ranges_of w.net) item) in
     let s = taken (site w v) u item (w.node v) in
     link-range (with_node w v s) u v rest
-    (node-range w v s range (λ l. taken-range (site w v) (w.node v) u item (site-sound near w.net v range.network) (range.nodes v l) (All-head P item rest fit)))
+    (node-range w v s range (λ l. taken-range keep (site w v) (w.node v) u item (site-sound keep.near w.net v range.network) (range.nodes v l) (All-head P item rest fit)))
     (omega arith) (All-tail P item rest fit)
 
 length-remove : {X : Type 0} (xs : List X) (i : ℕ) → length (remove xs i) ≤ length xs

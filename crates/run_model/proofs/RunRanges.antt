@@ -7,13 +7,11 @@ use Rattle.std.proofs.lemmas.List.Elements.{All-nil, All-push}
 use Rattle.std.specs.Prelude.{◌==◌, nat_lt, nat_le, is_some, slice_index_or}
 use Rattle.topology.specs.At.{at}
 use Rattle.topology.specs.Network.{neighbours_of, ring_of}
-use Rattle.topology.specs.Laws.{NeighboursAreJoined}
 use Rattle.topology.specs.Ranges.{ranges_of, payload_fits, parent_fits}
 use Rattle.topology.specs.declared.frame.Payload.{Payload}
 use Rattle.topology.specs.declared.frame.Ranges.{Ranges}
 use Rattle.link_model.specs.declared.item.Item.{Item}
 use Rattle.data_link.specs.Port.{PortState, counters_fit, port_fits}
-use Rattle.lock_desk.specs.Laws.{TicksKeepRanges, AsksKeepRanges, LeavesKeepRanges, LoansKeepRanges}
 use Rattle.lock_desk.specs.declared.fault.AskFault.{AskFault}
 use Rattle.lock_desk.specs.Desk.{is_number, ask_fault, asked, after_leave, with_loan}
 use Rattle.node_core.specs.Step.{ticked}
@@ -25,7 +23,7 @@ use Rattle.run_model.specs.declared.event.Event.TheVariants.{Send, Take, Lose, T
 use Rattle.run_model.specs.declared.event.EventFault.TheVariants.{OutOfRange, NoItem}
 use Rattle.run_model.specs.declared.event.Harm.{Harm}
 use Rattle.run_model.specs.declared.event.Harm.TheVariants as harm
-use Rattle.run_model.proofs.NodeRanges.{ticked-range}
+use Rattle.run_model.proofs.NodeRanges.{KeepRanges, ticked-range}
 use Rattle.run_model.proofs.Ranges.{site-sound, node-range, link-range, port-range, desk-range, linked, neither, held, sent-range, handed-range, lost-range}
 
 counters-fit : (r : Ranges) (p : PortState) (seq last : ℕ) → counters_fit r seq last ≡ true → port_fits r p ≡ true
@@ -69,7 +67,7 @@ room w u v item h = grind (arith, common_steps, nat_tests)
 no-fault : (fault : Option AskFault) → is_some (desk_fault fault) ≡ false → fault ≡ None
 no-fault fault fine = grind arith
 
-module _ (ticks : TicksKeepRanges) (asks : AsksKeepRanges) (leaves : LeavesKeepRanges) (loans : LoansKeepRanges) (near : NeighboursAreJoined) where
+module _ (keep : KeepRanges) where
   harmed-range : (w : World) (h : Harm) → IsWorldInRange w → is_some (harm_place_fault w h) ≡ false → harm_fits w h ≡ true → IsWorldInRange (harmed w h)
   harmed-range w (harm.Own v d p) range place fits = own-range w v d p range fits
   harmed-range w (harm.Counters v u seq last) range place fits =
@@ -80,7 +78,7 @@ module _ (ticks : TicksKeepRanges) (asks : AsksKeepRanges) (leaves : LeavesKeepR
       port-range w v u (record ((w.node v).port u) { copy = payload }) range (copy-fits (ranges_of w.net) ((w.node v).port u) payload fits)
   harmed-range w (harm.Value v u x) range place fits = value-range w v u x range fits
   harmed-range w (harm.Desk v lent left served) range place fits =
-      desk-range w v (with_loan (w.node v).desk lent left served) range (λ old. loans w.net.lease left lent served (w.node v).desk old fits)
+      desk-range w v (with_loan (w.node v).desk lent left served) range (λ old. keep.loans w.net.lease left lent served (w.node v).desk old fits)
   harmed-range w (harm.Item u v item) range place fits =
       let parts = and_parts (item_fits (ranges_of w.net) item) (has_room w u v) fits in
       link-range w u v (w.link u v ++ item ∷ []) range (room w u v item parts.1)
@@ -88,19 +86,19 @@ module _ (ticks : TicksKeepRanges) (asks : AsksKeepRanges) (leaves : LeavesKeepR
   harmed-range w (harm.Empty u v) range place fits = link-range w u v [] range (omega arith) (All-nil (λ item. IsTrue (item_fits (ranges_of w.net) item)))
 
   changed-range : (w : World) (e : Event) → IsWorldInRange w → is_some (refusal w e) ≡ false → IsWorldInRange (changed w e)
-  changed-range w (Send u v) range fine = sent-range near w u v range (linked w u v fine)
+  changed-range w (Send u v) range fine = sent-range keep.near w u v range (linked w u v fine)
   changed-range w (Take u v) range fine =
-      let l = linked w u v fine in handed-range near w u v (w.link u v) range (range.capacity u v l.joined) (range.items u v l.joined)
+      let l = linked w u v fine in handed-range keep w u v (w.link u v) range (range.capacity u v l.joined) (range.items u v l.joined)
   changed-range w (Lose u v i) range fine =
       lost-range w u v i range (linked w u v (neither (link_fault w u v) (unless (nat_lt i (length (w.link u v))) NoItem) fine).0)
   changed-range w (Tick v) range fine =
-      node-range w v (ticked (site w v) (w.node v)) range (λ l. ticked-range ticks (site w v) (w.node v) (site-sound near w.net v range.network) (range.nodes v l))
+      node-range w v (ticked (site w v) (w.node v)) range (λ l. ticked-range keep (site w v) (w.node v) (site-sound keep.near w.net v range.network) (range.nodes v l))
   changed-range w (Ask v t) range fine =
       let later = (neither (node_fault w v) (first_fault (ticket_fault t) (desk_fault (ask_fault t (w.node v).desk))) fine).1 in
       let parts = neither (ticket_fault t) (desk_fault (ask_fault t (w.node v).desk)) later in
       desk-range w v (asked t (w.node v).desk) range (λ old.
-      asks w.net.lease t (w.node v).desk (held (is_number t) OutOfRange parts.0) old (no-fault (ask_fault t (w.node v).desk) parts.1))
-  changed-range w (Leave v t) range fine = desk-range w v (after_leave t (w.node v).desk) range (leaves w.net.lease t (w.node v).desk)
+      keep.asks w.net.lease t (w.node v).desk (held (is_number t) OutOfRange parts.0) old (no-fault (ask_fault t (w.node v).desk) parts.1))
+  changed-range w (Leave v t) range fine = desk-range w v (after_leave t (w.node v).desk) range (keep.leaves w.net.lease t (w.node v).desk)
   changed-range w (Damage h) range fine =
       let parts = neither (harm_place_fault w h) (unless (harm_fits w h) OutOfRange) fine in
       harmed-range w h range parts.0 (held (harm_fits w h) OutOfRange parts.1)

@@ -1,11 +1,9 @@
 -- A world: a network, the state of each node, and the items under way on each directed link. It is read as functions of the nodes' ids.
-use Rattle.std.specs.Prelude.{ℕ, ◌<◌, ◌≤◌, Bool, true, ◌==◌, ◌&&◌, if◌then◌else◌, IsTrue, List, [], All, length}
+use Rattle.std.specs.Prelude.{ℕ, ◌<◌, ◌≤◌, ◌==◌, ◌&&◌, if◌then◌else◌, IsTrue, List, [], All, length}
 use Rattle.topology.specs.At.{at}
 use Rattle.topology.specs.Network.{Network, IsAcceptedNetwork, are_joined}
-use Rattle.topology.specs.Ranges.{ranges_of, frame_fits}
-use Rattle.topology.specs.declared.frame.Ranges.{Ranges}
+use Rattle.topology.specs.Ranges.{ranges_of}
 use Rattle.link_model.specs.declared.item.Item.{Item}
-use Rattle.link_model.specs.declared.item.Item.TheVariants.{Frame, Noise}
 use Rattle.node_core.specs.Site.{Site, site_of}
 pub use Rattle.node_core.specs.Step.{item_fits}
 use Rattle.node_core.specs.State.{NodeState, IsNodeInRange, default_node}

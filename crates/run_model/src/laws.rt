@@ -20,8 +20,10 @@ pub fn start()
 pub fn in_range()
     ensures { RangesStay }
 {
-    lock_desk::laws::ranges_are_kept();
     topology::laws::neighbours();
+    data_link::laws::port_law();
+    bfs_tree::laws::step_in_range();
+    lock_desk::laws::ranges_are_kept();
 }
 
 /// One edge of a world: an event that is no damage is one event of the edge, so a run is a run of the edge and a sweep is a sweep of

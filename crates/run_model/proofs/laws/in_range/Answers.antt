@@ -3,4 +3,15 @@ use Rattle.run_model.proofs.laws.in_range.Goals as goal
 
 pub returns : goal.returns
 returns c =
-    let desk = c.ranges_are_kept.ensures in λ w es range. run-range desk.ticks desk.asks desk.leaves desk.writes c.neighbours.ensures.joined w es range
+    let desk = c.ranges_are_kept.ensures in
+    let step = c.step_in_range.ensures in
+    run-range record {
+      near = c.neighbours.ensures.joined;
+      ports = c.port_law.ensures;
+      distances = step.distance;
+      parents = step.parent;
+      ticks = desk.ticks;
+      asks = desk.asks;
+      leaves = desk.leaves;
+      loans = desk.writes;
+    }

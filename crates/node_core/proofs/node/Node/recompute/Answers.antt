@@ -1,13 +1,12 @@
 use Rattle.std.proofs.Common.{ap, refl}
-use Rattle.node_core.proofs.OwnRange.{new_distance-le, new_parent-fits}
 use Rattle.node_core.proofs.Same.{same_state}
 use Rattle.node_core.proofs.node.Node.recompute.Goals as goal
 
 pub invariant_of-self : goal.invariant_of-self
 invariant_of-self g c = record {
   id = c.self.invariant.id;
-  distance = rw c.new_own-own.ensures.own (new_distance-le _ _ _ _);
-  parent = rw c.new_own-own.ensures.own (new_parent-fits _ _ _ _ c.new_own-own.ensures.registers.neighbours_in);
+  distance = rw c.new_own-own.ensures.own (c.step_in_range.ensures.distance _ _ _ _);
+  parent = rw c.new_own-own.ensures.own (c.step_in_range.ensures.parent _ _ _ _ c.new_own-own.ensures.registers.neighbours_in);
 }
 
 pub returns-clause-state : goal.returns-clause-state
