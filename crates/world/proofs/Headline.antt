@@ -1,17 +1,22 @@
 -- What the counted sweeps of a run say of the world that it has led to.
-use Rattle.std.proofs.Common.{◌≡◌, ◌∙◌, sym, ap, subst, ℕ, ◌≤◌, List, arith}
-use Rattle.topology.specs.Network.{Network}
+use Rattle.std.proofs.Common.{◌≡◌, ◌∙◌, sym, ap, subst, ℕ, ◌+◌, ◌*◌, ◌≤◌, IsTrue, List, length, take, Contains, arith}
+use Rattle.std.proofs.lemmas.List.{take_all}
 use Rattle.run_model.specs.World.{World, IsWorldInRange}
 use Rattle.run_model.specs.Run.{run, IsUndamaged}
 use Rattle.run_model.specs.Count.{Sweeps, after_damage, IsSweepCount}
 use Rattle.run_model.specs.Laws.{FewerSweeps}
 use Rattle.run_model.specs.declared.event.Event.{Event}
+use Rattle.topology.specs.Network.{Network, are_joined}
+use Rattle.convergence.specs.Laws.{PayloadsConverge}
+use Rattle.convergence.specs.Said.{said_in}
+use Rattle.world.specs.Payloads.{ArePayloadsFresh}
 use Rattle.world.specs.Below.{Below}
-use Rattle.world.specs.Stretch.{StretchView}
-use Rattle.world.specs.Judging.{IsJudging}
+use Rattle.world.specs.Judging.{counted_up_to}
+use Rattle.world.specs.JudgeView.{JudgeView, HasSeen}
+use Rattle.world.specs.WorldView.{WorldView, world_of}
 use Rattle.world.proofs.Judging.{judging-counts}
 
-module _ (laws : Below) (fewer : FewerSweeps) (start : World) (es : List Event) (ok : IsWorldInRange start) (count : ℕ) (counts : IsSweepCount start es count) where
+module _ (laws : Below) (start : World) (es : List Event) (ok : IsWorldInRange start) where
   -- the network is the same at the moment after the last damage
   same-network : (after_damage start es).world.net ≡ start.net
   same-network =
@@ -19,21 +24,47 @@ module _ (laws : Below) (fewer : FewerSweeps) (start : World) (es : List Event) 
       sym (laws.network (after_damage start es).world (after_damage start es).rest) ∙ ap (λ w. w.net) leads.2 ∙ laws.network start es
 
   -- what so many sweeps lead to from each world in range, the run has led to
-  pub after-sweeps : (needed : Network → ℕ) (P : World → Type 0)
+  pub after-sweeps : FewerSweeps → (count : ℕ) → IsSweepCount start es count → (needed : Network → ℕ) (P : World → Type 0)
       → ((w : World) (list : List Event) → IsWorldInRange w → IsUndamaged w list → Sweeps w (needed w.net) list → P (run w list))
       → needed start.net ≤ count → P (run start es)
-  after-sweeps needed P law enough =
+  after-sweeps fewer count counts needed P law enough =
       let m = after_damage start es in
       let leads = laws.leads start es ok in
       let few : needed m.world.net ≤ count = subst (λ n. needed n ≤ count) (sym same-network) enough in
       subst P leads.2 (law m.world m.rest leads.0 leads.1 (fewer m.world (needed m.world.net) count m.rest few counts.held))
 
--- and so what a judge has counted tells where its world stands
-pub judged : (laws : Below) → FewerSweeps → (start : World) (es : List Event) (now : World) (s : StretchView) (sweeps refused : ℕ) → IsJudging start es now s sweeps refused
-    → (needed : Network → ℕ) (P : World → Type 0)
-    → ((w : World) (list : List Event) → IsWorldInRange w → IsUndamaged w list → Sweeps w (needed w.net) list → P (run w list))
-    → needed start.net ≤ sweeps → P now
-judged laws fewer start es now s sweeps refused j needed P law enough =
-    let counted = j.sweeps_are in
-    subst P (sym j.now_is)
-    (after-sweeps laws fewer start es j.in_range j.count (judging-counts laws start es now s sweeps refused j) needed P law (omega (arith, enough, counted)))
+  -- what is staged and copied at its end was said within its last three sweeps
+  pub payloads-fresh : PayloadsConverge → ArePayloadsFresh start es (run start es)
+  payloads-fresh law first last u v parted joined early late =
+      let m = after_damage start es in
+      let leads = laws.leads start es ok in
+      let joined-then : IsTrue (are_joined m.world.net.edges u v) = subst (λ n. IsTrue (are_joined n.edges u v)) (sym same-network) joined in
+      let early-then : Sweeps m.world (4 * (m.world.net.capacity + 1)) first = subst (λ n. Sweeps m.world (4 * (n.capacity + 1)) first) (sym same-network) early in
+      let said = said_in (run m.world first) last u v in
+      let now : run (run m.world first) last ≡ run start es = sym (laws.joins m.world first last) ∙ ap (run m.world) (sym parted) ∙ leads.2 in
+      subst (λ w. Contains said ((w.node u).port v).staged × Contains said ((w.node v).port u).copy) now
+      (law m.world first last u v leads.0 (subst (IsUndamaged m.world) parted leads.1) joined-then early-then late)
+
+-- A judge has seen the first k events of a list, and these are all of them; `now` and `sweeps` are what it reports.
+module _ (laws : Below) (start : World) (es : List Event) (k : ℕ) (past : length es ≤ k) (j : JudgeView) (seen : HasSeen j start (take k es))
+    (now : WorldView) (sweeps : ℕ) (now-is : now ≡ j.world) (sweeps-are : sweeps ≡ j.sweeps)
+  where
+    pub seen-all : HasSeen j start es
+    seen-all = subst (HasSeen j start) (take_all k es past) seen
+
+    pub counted : (count : ℕ) × IsSweepCount start es count × (sweeps ≡ counted_up_to count)
+    counted = (seen-all.count, judging-counts laws start es (world_of j.world) j.stretch j.sweeps j.refused seen-all, sweeps-are ∙ seen-all.sweeps_are)
+
+    led : run start es ≡ world_of now
+    led = sym (ap world_of now-is ∙ seen-all.now_is)
+
+    -- so its count tells where the world stands
+    pub reached : FewerSweeps → (needed : Network → ℕ) (P : World → Type 0)
+        → ((w : World) (list : List Event) → IsWorldInRange w → IsUndamaged w list → Sweeps w (needed w.net) list → P (run w list))
+        → needed start.net ≤ sweeps → P (world_of now)
+    reached fewer needed P law enough =
+        let same = counted.2 in
+        subst P led (after-sweeps laws start es seen-all.in_range fewer counted.0 counted.1 needed P law (omega (arith, enough, same)))
+
+    pub fresh : PayloadsConverge → ArePayloadsFresh start es (world_of now)
+    fresh law = subst (ArePayloadsFresh start es) led (payloads-fresh laws start es seen-all.in_range law)

@@ -22,3 +22,4 @@ mod Begun
 mod JudgeSteps
 mod WorldRanges
 mod Headline
+mod RowsPayloads

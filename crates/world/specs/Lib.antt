@@ -9,5 +9,6 @@ pub mod Below
 pub mod LinksView
 pub mod WorldView
 pub mod JudgeView
+pub mod Payloads
 pub use Rattle.convergence.specs.Laws
 pub use Rattle.run_model.specs.Headline

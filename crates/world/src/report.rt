@@ -8,6 +8,7 @@ ghost use Rattle.run_model.specs.Headline.{IsServing};
 ghost use Rattle.run_model.specs.Run.{run};
 ghost use Rattle.run_model.specs.Count.{IsSweepCount};
 ghost use Rattle.world.specs.Judging.{refused_in, counted_up_to};
+ghost use Rattle.world.specs.Payloads.{ArePayloadsFresh};
 ghost use Rattle.world.specs.WorldView.{world_of};
 
 use crate::judge::Judge;
@@ -29,14 +30,16 @@ pub struct Report<A: Allocator + Copy = Global> {
 
 /// Lets events happen one after the other, from a world on, and counts sweeps and refusals.
 ///
-/// From whatever state, the links are stable after 4(C + 1) sweeps, the tree is reached after 4(n + 1) more, and after as many as `Net::bound` says the
-/// world is legitimate: each distance is the least length of a walk and each parent the true one, and at most one node is privileged and at most one lends.
+/// From whatever state, the links are stable after 4(C + 1) sweeps, and from then on whatever is staged and copied was said within the last three; the tree
+/// is reached after 4(n + 1) more; and after as many as `Net::bound` says the world is legitimate: each distance is the least length of a walk and each
+/// parent the true one, and at most one node is privileged and at most one lends.
 /// The sweeps are those since the last damage: how it came to its state does not matter.
 pub fn judge<A: Allocator + Copy>(start: World<A>, events: &[Event]) -> Report<A>
     ensures world { world_of result.world ≡ run (world_of start) events.now }
     ensures sweeps { (count : ℕ) × IsSweepCount (world_of start) events.now count × (result.sweeps ≡ counted_up_to count) }
     ensures refused { result.refused ≡ counted_up_to (refused_in (world_of start) events.now) }
     ensures links { 4 * ((world_of start).net.capacity + 1) ≤ result.sweeps → AreLinksStable (world_of result.world) }
+    ensures payloads { ArePayloadsFresh (world_of start) events.now (world_of result.world) }
     ensures tree { 4 * ((world_of start).net.capacity + 1) + 4 * ((world_of start).net.nodes + 1) ≤ result.sweeps → IsTreeReached (world_of result.world) }
     ensures token_ring { bound_of (world_of start).net - 1 ≤ result.sweeps → IsTokenRingGood (world_of result.world) }
     ensures legitimate { bound_of (world_of start).net ≤ result.sweeps → IsLegitimate (world_of result.world) }
