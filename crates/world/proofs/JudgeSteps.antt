@@ -1,10 +1,11 @@
 -- A judge's step, on each of its ways.
-use Rattle.std.proofs.Common.{◌≡◌, ◌∙◌, sym, ap, subst, ℕ, ◌+◌, ◌-◌, ◌^◌, ◌<◌, min, Bool, true, false, ◌&&◌, not, IsTrue, Some, None, List, [], ◌∷◌, ◌++◌, arith, refl}
+use Rattle.std.proofs.Common.{◌≡◌, ◌∙◌, sym, ap, subst, ℕ, ◌+◌, ◌-◌, ◌^◌, ◌<◌, ◌≤◌, min, Bool, true, false, ◌&&◌, not, IsTrue, Some, None, List, [], ◌∷◌, ◌++◌, arith, refl}
 use Rattle.std.proofs.lemmas.Grind.{common_steps}
 use Rattle.run_model.specs.World.{World}
 use Rattle.run_model.specs.Step.{refusal, step}
 use Rattle.run_model.specs.Run.{is_damage}
 use Rattle.run_model.specs.Sweep.{link_act}
+use Rattle.run_model.specs.Count.{IsSweepCount}
 use Rattle.run_model.specs.declared.event.Event.{Event}
 use Rattle.run_model.specs.declared.event.Event.TheVariants.{Send, Take, Lose, Tick, Ask, Leave, Damage}
 use Rattle.run_model.specs.declared.event.Harm.{Harm}
@@ -14,7 +15,7 @@ use Rattle.world.specs.Stretch.{StretchView, has_bit, is_tick_of, names_nodes, I
 use Rattle.world.specs.Judging.{IsJudging}
 use Rattle.world.specs.Below.{Below}
 use Rattle.world.proofs.Kept.{IsNoted, noted}
-use Rattle.world.proofs.Judging.{judging-refused, judging-goes_on, judging-sweeps, judging-damage}
+use Rattle.world.proofs.Judging.{judging-refused, judging-goes_on, judging-sweeps, judging-damage, judging-counts, sweep-counted}
 
 -- the stretch with its looks counted from 0 again
 abbrev pub cleared : StretchView → StretchView
@@ -37,6 +38,9 @@ judging-cleared start es now s sweeps refused j = record {
   sweeps_are = j.sweeps_are;
   refused_are = j.refused_are;
 }
+
+pub few-looks : (s before new : StretchView) → before ≡ cleared s → new.tallies.looked ≤ before.tallies.looked + 2 → new.tallies.looked ≤ 2
+few-looks s before new is_before few = let none = ap (λ k. k.tallies.looked) is_before in omega (arith, few, none)
 
 -- what is not refused names nodes
 pub names : (w : World) (e : Event) → refusal w e ≡ None → IsTrue (names_nodes w.net.nodes e)
@@ -90,3 +94,6 @@ module _ (laws : Below) (start : World) (es : List Event) (e : Event) (now next 
     sweep-step fresh sweeps' complete kept counts =
         rw (is_next, counts)
         (judging-sweeps laws start es e now before sweeps refused seen new fresh (rw fits refl) other is-noted complete (subst (λ w. IsKept w [] fresh) is_next kept))
+
+    pub sweep-ends : IsComplete new → (count : ℕ) × IsSweepCount start es count × IsSweepCount start (es ++ e ∷ []) (count + 1)
+    sweep-ends complete = (seen.count, judging-counts laws start es now before sweeps refused seen, sweep-counted laws start es e now before sweeps refused seen new other is-noted complete)

@@ -91,10 +91,11 @@ module _ (laws : Below) (start : World) (es : List Event) (e : Event) (now : Wor
       from (record { world = moment.world; rest = (j.done ++ j.stretch) ++ e ∷ [] }) (goes-on none) j.count j.done (j.stretch ++ e ∷ []) new sweeps refused'
       (append_assoc j.done j.stretch (e ∷ [])) (laws.stays moment.world j.count j.done j.stretch e j.counted open_still) kept j.sweeps_are is
 
+  fine-on : is_damage now e ≡ false → IsUndamaged moment.world ((j.done ++ j.stretch) ++ e ∷ [])
+  fine-on none = subst (λ m. IsUndamaged m.world m.rest) (goes-on none) (laws.leads start (es ++ e ∷ []) j.in_range).1
+
   stretch-fine_on : is_damage now e ≡ false → IsUndamaged begun (j.stretch ++ e ∷ [])
-  stretch-fine_on none =
-      let on : IsUndamaged moment.world ((j.done ++ j.stretch) ++ e ∷ []) = subst (λ m. IsUndamaged m.world m.rest) (goes-on none) (laws.leads start (es ++ e ∷ []) j.in_range).1 in
-      (laws.splits moment.world j.done (j.stretch ++ e ∷ []) (subst (IsUndamaged moment.world) (append_assoc j.done j.stretch (e ∷ [])) on)).1
+  stretch-fine_on none = (laws.splits moment.world j.done (j.stretch ++ e ∷ []) (subst (IsUndamaged moment.world) (append_assoc j.done j.stretch (e ∷ [])) (fine-on none))).1
 
   not-refused : is_some (refusal now e) ≡ false → refused ≡ counted_up_to (refused_in start (es ++ e ∷ []))
   not-refused fits = let k = refused-more 0 (rw fits refl) in let b = j.refused_are in omega (arith, k, b)
@@ -128,6 +129,18 @@ module _ (laws : Below) (start : World) (es : List Event) (e : Event) (now : Wor
       (append_assoc j.done j.stretch (e ∷ []) ∙ sym (append-nil done))
       (laws.rises moment.world j.count j.done j.stretch e in-range j.counted sweep)
       (subst (λ w. IsKept w [] fresh) (sym there) kept) (let b = j.sweeps_are in omega (arith, b)) (not-refused fits)
+
+  -- with the event the sweep count is one more
+  pub sweep-counted : (new : StretchView) → is_damage now e ≡ false → IsNoted now e s new → IsComplete new → IsSweepCount start (es ++ e ∷ []) (j.count + 1)
+  sweep-counted new none noted complete =
+      let sweep = complete-sweep laws begun (j.stretch ++ e ∷ []) new begun-in_range (noted-kept new noted) (stretch-fine_on none) complete in
+      let done = j.done ++ (j.stretch ++ e ∷ []) in
+      let all : (j.done ++ j.stretch) ++ e ∷ [] ≡ done ++ [] = append_assoc j.done j.stretch (e ∷ []) ∙ sym (append-nil done) in
+      let counted = laws.greatest moment.world (suc j.count) done [] in-range (subst (IsUndamaged moment.world) all (fine-on none))
+      (laws.rises moment.world j.count j.done j.stretch e in-range j.counted sweep) in
+      let more : suc j.count ≡ j.count + 1 = omega arith in
+      subst (λ m. IsGreatestCount m.world m.rest (j.count + 1)) (sym (goes-on none))
+      (subst (λ l. IsGreatestCount moment.world l (j.count + 1)) (sym all) (subst (IsGreatestCount moment.world (done ++ [])) more counted))
 
   pub judging-damage : (fresh : StretchView) → is_some (refusal now e) ≡ false → is_damage now e ≡ true → IsKept (step now e) [] fresh
       → IsJudging start (es ++ e ∷ []) (step now e) fresh 0 refused

@@ -1,6 +1,7 @@
 -- What contracts see of a judge.
-use Rattle.std.specs.Prelude.{◌≡◌, ℕ, List, [], ◌∷◌, ◌++◌}
+use Rattle.std.specs.Prelude.{◌≡◌, ℕ, ◌+◌, List, [], ◌∷◌, ◌++◌}
 use Rattle.run_model.specs.World.{World}
+use Rattle.run_model.specs.Count.{IsSweepCount}
 use Rattle.run_model.specs.declared.event.Event.{Event}
 use Rattle.world.specs.Judging.{IsJudging}
 use Rattle.world.specs.Stretch.{StretchView}
@@ -24,3 +25,7 @@ HasSeen j start es = IsJudging start es (world_of j.world) j.stretch j.sweeps j.
 -- whatever the one judge has seen, the other has seen that and then the event
 abbrev pub HasSeenNext : JudgeView → Event → JudgeView → Type 0
 HasSeenNext old e new = (start : World) (es : List Event) → HasSeen old start es → HasSeen new start (es ++ e ∷ [])
+
+-- whatever the judge has seen, the event ends a sweep: with it there is one more since the last damage
+abbrev pub EndsSweep : JudgeView → Event → Type 0
+EndsSweep j e = (start : World) (es : List Event) → HasSeen j start es → (count : ℕ) × IsSweepCount start es count × IsSweepCount start (es ++ e ∷ []) (count + 1)

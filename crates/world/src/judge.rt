@@ -1,10 +1,11 @@
 //! A judge of runs: it counts the sweeps of a run, event by event.
-ghost use Rattle.std.specs.Prelude.{◌≡◌, ◌↔◌, ◌+◌, ◌-◌, ◌^◌, ◌<◌, ◌≤◌, ℕ, min, length, true, false, if◌then◌else◌, ◌==◌, List, [], ◌∷◌, ◌++◌, IsTrue, IfErr, OnOk, None, Some};
+ghost use Rattle.std.specs.Prelude.{◌≡◌, ◌↔◌, ◌+◌, ◌-◌, ◌^◌, ◌<◌, ◌≤◌, ◌⊎◌, ℕ, min, length, true, false, if◌then◌else◌, ◌==◌, List, [], ◌∷◌, ◌++◌, IsTrue, IfErr, OnOk, None, Some};
 ghost use Rattle.run_model.specs.Step.{refusal, step};
+ghost use Rattle.run_model.specs.Run.{is_damage};
 ghost use Rattle.world.specs.WorldView.{world_of};
 ghost use Rattle.world.specs.Tallies.{tally_of, first_tally};
 ghost use Rattle.world.specs.Stretch.{StretchView, IsKept, IsComplete, IsFullThen, IsWaiting, names_nodes};
-ghost use Rattle.world.specs.JudgeView.{HasSeen, HasSeenNext};
+ghost use Rattle.world.specs.JudgeView.{HasSeen, HasSeenNext, EndsSweep};
 
 use crate::configuration::Configuration;
 use crate::laws::below;
@@ -109,6 +110,7 @@ impl<A: Allocator + Copy> Judge<A> {
     pub fn new(world: World<A>) -> Judge<A>
         ensures world { result.world ≡ world }
         ensures judging { HasSeen result (world_of world) [] }
+        ensures looked { result.stretch.tallies.looked ≡ 0 }
     {
         below();
         world.assure_ranges();
@@ -117,6 +119,7 @@ impl<A: Allocator + Copy> Judge<A> {
             mut room,
         } = world;
         begin(&configuration, &mut room);
+        room.clear_looked();
         Judge {
             world: configuration,
             stretch: room,
@@ -131,6 +134,7 @@ impl<A: Allocator + Copy> Judge<A> {
         ensures ok { OnOk result (refusal (world_of self.old.world) event.now ≡ None) }
         ensures err { IfErr result (λ fault. refusal (world_of self.old.world) event.now ≡ Some fault) }
         ensures judging { HasSeenNext self.old event.now self.new }
+        ensures looked { (self.new.stretch.tallies.looked ≤ 2) ⊎ IsTrue (is_damage (world_of self.old.world) event.now) ⊎ EndsSweep self.old event.now }
     {
         below();
         let _nodes = self.world.net().nodes();
@@ -168,7 +172,7 @@ impl<A: Allocator + Copy> Judge<A> {
         self.refused
     }
 
-    /// How many tallies the last step looked at.
+    /// How many tallies the last step looked at; 0 where there was none.
     pub fn looked(&self) -> u32
         ensures { result ≡ self.now.stretch.tallies.looked }
     {

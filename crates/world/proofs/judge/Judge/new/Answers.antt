@@ -3,6 +3,7 @@ use Rattle.world.specs.WorldView.{world_of}
 use Rattle.world.specs.Judging.{IsJudging}
 use Rattle.world.specs.Stretch.{IsKept}
 use Rattle.world.proofs.Judging.{judging-starts}
+use Rattle.world.proofs.JudgeSteps.{judging-cleared}
 use Rattle.world.proofs.judge.Judge.new.Goals as goal
 
 pub returns-clause-judging : goal.returns-clause-judging
@@ -10,4 +11,6 @@ returns-clause-judging g c =
     let start = world_of c.args.world in
     let kept = subst (λ w. IsKept (world_of w) [] c.begin.new.stretch) c.world.view_is c.begin.ensures in
     let seen = judging-starts c.below.ensures start c.begin.new.stretch c.assure_ranges.ensures kept in
-    subst (λ w. IsJudging start [] (world_of w) c.begin.new.stretch 0 0) (sym c.world.view_is) seen
+    let now = subst (λ w. IsJudging start [] (world_of w) c.begin.new.stretch 0 0) (sym c.world.view_is) seen in
+    subst (λ s. IsJudging start [] (world_of c.world.inside.configuration) s 0 0) (sym c.clear_looked.ensures)
+    (judging-cleared start [] (world_of c.world.inside.configuration) c.begin.new.stretch 0 0 now)

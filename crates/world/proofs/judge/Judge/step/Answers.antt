@@ -1,8 +1,8 @@
-use Rattle.std.proofs.Common.{◌≡◌, ◌∙◌, ap, sym, subst, IsTrue, arith, refl}
+use Rattle.std.proofs.Common.{◌≡◌, ◌∙◌, ap, sym, subst, IsTrue, inl, inr, arith, refl}
 use Rattle.topology.specs.Network.{IsAcceptedNetwork}
 use Rattle.world.specs.WorldView.{world_of}
 use Rattle.world.specs.Stretch.{names_nodes}
-use Rattle.world.proofs.JudgeSteps.{names, accepted-damage, no-damage, refused-step, damage-step, other-step, sweep-step}
+use Rattle.world.proofs.JudgeSteps.{names, accepted-damage, no-damage, refused-step, damage-step, other-step, sweep-step, sweep-ends, few-looks}
 use Rattle.world.proofs.judge.Judge.step.Goals as goal
 
 pub returns-in-Err-clause-judging : goal.returns-in-Err-clause-judging
@@ -40,6 +40,11 @@ returns-then-is_complete g c = record {
       c.waiting-waiting.ensures c.is_full-is_full.ensures c.note.ensures.nodes c.note.ensures.lacking c.note.ensures.tallies
       c.begin-then-is_complete.new.stretch c.saturating_add-self-inside-then-is_complete.result (c.if-is_complete.ensures.0 refl) c.begin-then-is_complete.ensures
       c.saturating_add-self-inside-then-is_complete.ensures);
+  looked = rw (← c.self.view_is) (inr (inr (λ start es seen.
+      sweep-ends c.below.ensures start es c.args.event.now (world_of c.self.inside.world) (world_of c.step.new.self) c.self.inside.stretch c.clear_looked.new.self
+      c.self.inside.sweeps c.self.inside.refused c.step.ensures.world c.clear_looked.ensures seen c.in_default.ensures.ok
+      (no-damage (world_of c.self.inside.world) c.args.event.now c.in_default-event.not-Damage) c.note.new.self c.waiting-waiting.result c.is_full-is_full.result
+      c.waiting-waiting.ensures c.is_full-is_full.ensures c.note.ensures.nodes c.note.ensures.lacking c.note.ensures.tallies (c.if-is_complete.ensures.0 refl))));
 }
 
 pub returns-else-is_complete : goal.returns-else-is_complete
@@ -53,4 +58,5 @@ returns-else-is_complete g c = record {
       (no-damage (world_of c.self.inside.world) c.args.event.now c.in_default-event.not-Damage) c.note.new.self c.waiting-waiting.result c.is_full-is_full.result
       c.waiting-waiting.ensures c.is_full-is_full.ensures c.note.ensures.nodes c.note.ensures.lacking c.note.ensures.tallies
       (λ complete. let wrong = c.if-is_complete.ensures.1 complete in absurd cc));
+  looked = inl (few-looks c.self.inside.stretch c.clear_looked.new.self c.note.new.self c.clear_looked.ensures c.note.ensures.looked);
 }
