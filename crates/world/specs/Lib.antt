@@ -12,3 +12,4 @@ pub mod JudgeView
 pub mod Payloads
 pub use Rattle.convergence.specs.Laws
 pub use Rattle.run_model.specs.Headline
+pub mod Parts

@@ -35,8 +35,8 @@ fn desk_fault(fault: AskFault) -> EventFault
 /// What a world is at one moment: its nodes, and its links with what is under way.
 #[derive(Drop)]
 pub struct Configuration<A: Allocator + Copy = Global> {
-    nodes: Vec<Node<A>, A>,
-    links: Links<A>,
+    pub(crate) nodes: Vec<Node<A>, A>,
+    pub(crate) links: Links<A>,
 }
 
 impl<A: Allocator + Copy> Model for Configuration<A> {

@@ -39,6 +39,7 @@ pub mod events;
 mod judge;
 pub mod laws;
 mod links;
+mod parts;
 pub mod report;
 mod stretch;
 mod tallies;
@@ -46,4 +47,7 @@ mod world;
 
 pub use configuration::Configuration;
 pub use judge::Judge;
+pub use links::Links;
+pub use parts::Parts;
+pub use stretch::Stretch;
 pub use world::World;

@@ -45,7 +45,7 @@ impl<A: Allocator> Model for Stretch<A> {
 
 impl<A: Allocator + Copy> Stretch<A> {
     /// Room for the stretches of so many nodes. All memory is reserved here.
-    pub fn new(alloc: A, nodes: u16) -> Result<Stretch<A>, AllocError>
+    pub(crate) fn new(alloc: A, nodes: u16) -> Result<Stretch<A>, AllocError>
         ensures { IfOk result (λ s. s.tallies.nodes ≡ nodes) }
     {
         Ok(Stretch {
@@ -85,7 +85,7 @@ impl<A: Allocator> Stretch<A> {
     }
 
     /// Adds an event that is no damage and is not refused. So many items stood on the link that it takes from, and a tick was full or was not.
-    pub fn note(&mut self, event: &Event, under_way: usize, is_full: bool)
+    pub(crate) fn note(&mut self, event: &Event, under_way: usize, is_full: bool)
         requires few { self.old.tallies.nodes ≤ 64 }
         requires nodes { IsTrue (names_nodes self.old.tallies.nodes event.now) }
         ensures nodes { self.new.tallies.nodes ≡ self.old.tallies.nodes }
@@ -103,7 +103,7 @@ impl<A: Allocator> Stretch<A> {
     }
 
     /// Begins anew: every node lacks a full tick. The tally of each link is then to be begun.
-    pub fn begin(&mut self)
+    pub(crate) fn begin(&mut self)
         requires some { 0 < self.old.tallies.nodes }
         requires few { self.old.tallies.nodes ≤ 64 }
         ensures lacking { (v : ℕ) → has_bit self.new.lacking v ≡ nat_lt v self.old.tallies.nodes }
@@ -113,7 +113,7 @@ impl<A: Allocator> Stretch<A> {
     }
 
     /// Begins the tally of a link anew.
-    pub fn begin_link(&mut self, from: u16, to: u16, tally: Tally)
+    pub(crate) fn begin_link(&mut self, from: u16, to: u16, tally: Tally)
         requires from_in { from < self.old.tallies.nodes }
         requires to_in { to < self.old.tallies.nodes }
         ensures lacking { self.new.lacking ≡ self.old.lacking }
@@ -124,21 +124,21 @@ impl<A: Allocator> Stretch<A> {
     }
 
     /// Whether no node lacks a full tick and every link is served.
-    pub fn is_complete(&self) -> bool
+    pub(crate) fn is_complete(&self) -> bool
         ensures { IsTrue result ↔ IsComplete self.now }
     {
         self.lacking == 0 && self.tallies.are_served()
     }
 
     /// How many tallies were looked at since the count was cleared.
-    pub fn looked(&self) -> u32
+    pub(crate) fn looked(&self) -> u32
         ensures { result ≡ self.now.tallies.looked }
     {
         self.tallies.count()
     }
 
     /// Counts looks from 0 again.
-    pub fn clear_looked(&mut self)
+    pub(crate) fn clear_looked(&mut self)
         ensures { self.new ≡ record self.old { tallies = record self.old.tallies { looked = 0 } } }
     {
         self.tallies.clear_count();
