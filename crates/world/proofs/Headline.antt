@@ -1,6 +1,5 @@
 -- What the counted sweeps of a run say of the world that it has led to.
-use Rattle.std.proofs.Common.{◌≡◌, ◌∙◌, sym, ap, subst, ℕ, ◌+◌, ◌*◌, ◌≤◌, IsTrue, List, length, take, Contains, arith}
-use Rattle.std.proofs.lemmas.List.{take_all}
+use Rattle.std.proofs.Common.{◌≡◌, ◌∙◌, sym, ap, subst, ℕ, ◌+◌, ◌*◌, ◌≤◌, IsTrue, List, Contains, arith}
 use Rattle.run_model.specs.World.{World, IsWorldInRange}
 use Rattle.run_model.specs.Run.{run, IsUndamaged}
 use Rattle.run_model.specs.Count.{Sweeps, after_damage, IsSweepCount}
@@ -16,6 +15,10 @@ use Rattle.world.specs.JudgeView.{JudgeView, HasSeen}
 use Rattle.world.specs.WorldView.{WorldView, world_of}
 use Rattle.world.proofs.Judging.{judging-counts}
 
+-- so many sweeps without damage lead from each world in range to one of which P holds
+abbrev pub LeadsTo : (Network → ℕ) → (World → Type 0) → Type 0
+LeadsTo needed P = (w : World) (es : List Event) → IsWorldInRange w → IsUndamaged w es → Sweeps w (needed w.net) es → P (run w es)
+
 module _ (laws : Below) (start : World) (es : List Event) (ok : IsWorldInRange start) where
   -- the network is the same at the moment after the last damage
   same-network : (after_damage start es).world.net ≡ start.net
@@ -23,9 +26,8 @@ module _ (laws : Below) (start : World) (es : List Event) (ok : IsWorldInRange s
       let leads = laws.leads start es ok in
       sym (laws.network (after_damage start es).world (after_damage start es).rest) ∙ ap (λ w. w.net) leads.2 ∙ laws.network start es
 
-  -- what so many sweeps lead to from each world in range, the run has led to
-  pub after-sweeps : FewerSweeps → (count : ℕ) → IsSweepCount start es count → (needed : Network → ℕ) (P : World → Type 0)
-      → ((w : World) (list : List Event) → IsWorldInRange w → IsUndamaged w list → Sweeps w (needed w.net) list → P (run w list))
+  -- what so many sweeps lead to, the run has led to
+  pub after-sweeps : FewerSweeps → (count : ℕ) → IsSweepCount start es count → (needed : Network → ℕ) (P : World → Type 0) → LeadsTo needed P
       → needed start.net ≤ count → P (run start es)
   after-sweeps fewer count counts needed P law enough =
       let m = after_damage start es in
@@ -45,26 +47,20 @@ module _ (laws : Below) (start : World) (es : List Event) (ok : IsWorldInRange s
       subst (λ w. Contains said ((w.node u).port v).staged × Contains said ((w.node v).port u).copy) now
       (law m.world first last u v leads.0 (subst (IsUndamaged m.world) parted leads.1) joined-then early-then late)
 
--- A judge has seen the first k events of a list, and these are all of them; `now` and `sweeps` are what it reports.
-module _ (laws : Below) (start : World) (es : List Event) (k : ℕ) (past : length es ≤ k) (j : JudgeView) (seen : HasSeen j start (take k es))
-    (now : WorldView) (sweeps : ℕ) (now-is : now ≡ j.world) (sweeps-are : sweeps ≡ j.sweeps)
-  where
-    pub seen-all : HasSeen j start es
-    seen-all = subst (HasSeen j start) (take_all k es past) seen
+-- A judge has seen the events of a list; `now` and `sweeps` are what it reports.
+module _ (laws : Below) (start : World) (es : List Event) (j : JudgeView) (seen : HasSeen j start es) (now : WorldView) (now-is : now ≡ j.world) where
+  led : run start es ≡ world_of now
+  led = sym (ap world_of now-is ∙ seen.now_is)
 
+  pub fresh : PayloadsConverge → ArePayloadsFresh start es (world_of now)
+  fresh law = subst (ArePayloadsFresh start es) led (payloads-fresh laws start es seen.in_range law)
+
+  module _ (sweeps : ℕ) (sweeps-are : sweeps ≡ j.sweeps) where
     pub counted : (count : ℕ) × IsSweepCount start es count × (sweeps ≡ counted_up_to count)
-    counted = (seen-all.count, judging-counts laws start es (world_of j.world) j.stretch j.sweeps j.refused seen-all, sweeps-are ∙ seen-all.sweeps_are)
-
-    led : run start es ≡ world_of now
-    led = sym (ap world_of now-is ∙ seen-all.now_is)
+    counted = (seen.count, judging-counts laws start es (world_of j.world) j.stretch j.sweeps j.refused seen, sweeps-are ∙ seen.sweeps_are)
 
     -- so its count tells where the world stands
-    pub reached : FewerSweeps → (needed : Network → ℕ) (P : World → Type 0)
-        → ((w : World) (list : List Event) → IsWorldInRange w → IsUndamaged w list → Sweeps w (needed w.net) list → P (run w list))
-        → needed start.net ≤ sweeps → P (world_of now)
+    pub reached : FewerSweeps → (needed : Network → ℕ) (P : World → Type 0) → LeadsTo needed P → needed start.net ≤ sweeps → P (world_of now)
     reached fewer needed P law enough =
         let same = counted.2 in
-        subst P led (after-sweeps laws start es seen-all.in_range fewer counted.0 counted.1 needed P law (omega (arith, enough, same)))
-
-    pub fresh : PayloadsConverge → ArePayloadsFresh start es (world_of now)
-    fresh law = subst (ArePayloadsFresh start es) led (payloads-fresh laws start es seen-all.in_range law)
+        subst P led (after-sweeps laws start es seen.in_range fewer counted.0 counted.1 needed P law (omega (arith, enough, same)))
