@@ -1,50 +1,44 @@
 use Rattle.std.proofs.Common.{◌≡◌, ◌↔◌, subst, refl, IsOk, IsTrue, None}
 use Rattle.node_core.specs.State.{own_fits}
-use Rattle.run_model.specs.declared.event.Harm.TheVariants as harm
-use Rattle.run_model.specs.Step.{harm_fits, node_fault}
+use Rattle.run_model.specs.declared.event.Harm.{Harm}
+use Rattle.run_model.specs.declared.event.Harm.TheVariants.{Own}
+use Rattle.run_model.specs.Step.{harm_fits, harm_place_fault}
 use Rattle.world.specs.WorldView.{WorldView, world_of}
 use Rattle.world.proofs.NodePlaces.{IsNodeAt, now-nodes, site-is}
 use Rattle.world.proofs.Harms.{harm-world, harm-ok, harm-err, same-cases}
+use Rattle.world.proofs.configuration.Configuration.write_own.Given as given
 use Rattle.world.proofs.configuration.Configuration.write_own.Goals as goal
 
+-- the world before, the harm, where the node is, and that the harm's place is there
+module _ (g : given.Over) (c : goal.After-in_range g) where
+  abbrev old : WorldView
+  old = record { nodes = c.self.inside.nodes.items; links = c.self.inside.links }
+
+  abbrev written : Harm
+  written = Own c.args.node c.args.distance c.args.parent
+
+  here : IsNodeAt old.links.net old.nodes c.args.node c.in_ok-place.place c.index_mut.result.now
+  here =
+      let ok = c.in_ok-place.ensures.ok in
+      record { nodes_are = c.self.invariant; in_net = rw (← c.self.view_is) at ok.1; place = ok.0; value = c.index_mut.ensures.value }
+
+  found : harm_place_fault (world_of old) written ≡ None
+  found = rw (← c.self.view_is) at c.in_ok-place.ensures.ok.2
+
+  fits : IsOk c.set_own.result ↔ IsTrue (harm_fits (world_of old) written)
+  fits = subst (λ s. IsOk c.set_own.result ↔ IsTrue (own_fits s.ranges c.args.distance c.args.parent)) (site-is _ _ _ _ _ here) c.set_own.ensures.variant
+
 pub invariant_of-self : goal.invariant_of-self
-invariant_of-self g c =
-    let w : WorldView = record { nodes = c.self.inside.nodes.items; links = c.self.inside.links } in
-    let ok = c.in_ok-place.ensures.ok in
-    let h : IsNodeAt w.links.net w.nodes c.args.node c.in_ok-place.place c.index_mut.result.now =
-    record { nodes_are = c.self.invariant; in_net = rw (← c.self.view_is) at ok.1; place = ok.0; value = c.index_mut.ensures.value } in
-    now-nodes w.links.net w.nodes c.args.node c.in_ok-place.place c.index_mut.result.now h c.set_own.new.self c.set_own.ensures.site
+invariant_of-self g c = now-nodes _ _ _ _ _ (here g c) c.set_own.new.self c.set_own.ensures.site
 
 pub returns-clause-world : goal.returns-clause-world
 returns-clause-world g c =
-    let w : WorldView = record { nodes = c.self.inside.nodes.items; links = c.self.inside.links } in
-    let ok = c.in_ok-place.ensures.ok in
-    let found : node_fault (world_of w) c.args.node ≡ None = rw (← c.self.view_is) at ok.2 in
-    let h : IsNodeAt w.links.net w.nodes c.args.node c.in_ok-place.place c.index_mut.result.now =
-    record { nodes_are = c.self.invariant; in_net = rw (← c.self.view_is) at ok.1; place = ok.0; value = c.index_mut.ensures.value } in
-    let fits : IsOk c.set_own.result ↔ IsTrue (harm_fits (world_of w) (harm.Own c.args.node c.args.distance c.args.parent)) =
-    subst (λ s. IsOk c.set_own.result ↔ IsTrue (own_fits s.ranges c.args.distance c.args.parent)) (site-is w.links.net w.nodes c.args.node c.in_ok-place.place c.index_mut.result.now h) c.set_own.ensures.variant in
-    rw (← c.self.view_is) (harm-world w c.args.node c.in_ok-place.place c.index_mut.result.now c.set_own.new.self (harm.Own c.args.node c.args.distance c.args.parent)
-    (λ s. record s { distance = c.args.distance; parent = c.args.parent }) c.set_own.result h found fits refl c.set_own.ensures.ok c.set_own.ensures.out_of_range)
+    rw (← c.self.view_is) (harm-world (old g c) _ _ _ _ (written g c) (λ s. record s { distance = c.args.distance; parent = c.args.parent })
+    c.set_own.result (here g c) (found g c) (fits g c) refl c.set_own.ensures.ok c.set_own.ensures.out_of_range)
 
 pub returns-clause-ok : goal.returns-clause-ok
-returns-clause-ok g c =
-    let w : WorldView = record { nodes = c.self.inside.nodes.items; links = c.self.inside.links } in
-    let ok = c.in_ok-place.ensures.ok in
-    let found : node_fault (world_of w) c.args.node ≡ None = rw (← c.self.view_is) at ok.2 in
-    let h : IsNodeAt w.links.net w.nodes c.args.node c.in_ok-place.place c.index_mut.result.now =
-    record { nodes_are = c.self.invariant; in_net = rw (← c.self.view_is) at ok.1; place = ok.0; value = c.index_mut.ensures.value } in
-    let fits : IsOk c.set_own.result ↔ IsTrue (harm_fits (world_of w) (harm.Own c.args.node c.args.distance c.args.parent)) =
-    subst (λ s. IsOk c.set_own.result ↔ IsTrue (own_fits s.ranges c.args.distance c.args.parent)) (site-is w.links.net w.nodes c.args.node c.in_ok-place.place c.index_mut.result.now h) c.set_own.ensures.variant in
-    rw (← c.self.view_is) (harm-ok (world_of w) (harm.Own c.args.node c.args.distance c.args.parent) found c.in_range.result (same-cases c.in_range.ensures.ok fits))
+returns-clause-ok g c = rw (← c.self.view_is) (harm-ok (world_of (old g c)) (written g c) (found g c) c.in_range.result (same-cases c.in_range.ensures.ok (fits g c)))
 
 pub returns-clause-err : goal.returns-clause-err
 returns-clause-err g c =
-    let w : WorldView = record { nodes = c.self.inside.nodes.items; links = c.self.inside.links } in
-    let ok = c.in_ok-place.ensures.ok in
-    let found : node_fault (world_of w) c.args.node ≡ None = rw (← c.self.view_is) at ok.2 in
-    let h : IsNodeAt w.links.net w.nodes c.args.node c.in_ok-place.place c.index_mut.result.now =
-    record { nodes_are = c.self.invariant; in_net = rw (← c.self.view_is) at ok.1; place = ok.0; value = c.index_mut.ensures.value } in
-    let fits : IsOk c.set_own.result ↔ IsTrue (harm_fits (world_of w) (harm.Own c.args.node c.args.distance c.args.parent)) =
-    subst (λ s. IsOk c.set_own.result ↔ IsTrue (own_fits s.ranges c.args.distance c.args.parent)) (site-is w.links.net w.nodes c.args.node c.in_ok-place.place c.index_mut.result.now h) c.set_own.ensures.variant in
-    rw (← c.self.view_is) (harm-err (world_of w) (harm.Own c.args.node c.args.distance c.args.parent) found c.in_range.result (same-cases c.in_range.ensures.ok fits) c.in_range.ensures.err)
+    rw (← c.self.view_is) (harm-err (world_of (old g c)) (written g c) (found g c) c.in_range.result (same-cases c.in_range.ensures.ok (fits g c)) c.in_range.ensures.err)
