@@ -5,6 +5,8 @@ use run_model::Harm;
 use std::test::Fail;
 use topology::Net;
 
+mod long_runs;
+
 /// One round: both nodes tick, and then each frame goes over twice.
 const ROUND: [Event; 10] = [
     Event::Tick { node: 0 },
