@@ -15,7 +15,7 @@ use Rattle.run_model.specs.Project.{present}
 use Rattle.run_model.specs.Ring.{Leg}
 use Rattle.run_model.specs.Legs.{IsTour, IsTreeLeg, IsAmong, machine_value, staged_value, copied_value, seen_value}
 use Rattle.run_model.specs.declared.event.Event.{Event}
-use Rattle.run_model.proofs.RingPlaces.{leg_may_move, seen-is_copied}
+use Rattle.run_model.proofs.RingPlaces.{leg_may_move, sees-same, seen-is_copied}
 use Rattle.tree_convergence.specs.Present.{AlwaysPresent}
 use Rattle.convergence.specs.Moves.{head_move, head_moves}
 use Rattle.convergence.specs.Below.{Below}
@@ -129,9 +129,6 @@ module _ (b : Below) (net : Network) (tour : IsTour net) where
 
   -- ---- one more
 
-  copy-same : (x y : ℕ) → is_privileged false x y ≡ false → x ≡ y
-  copy-same x y h = grind (arith, nat_tests)
-
   -- in a full tick a machine other than the special one takes what it sees
   full-plain : (w : World) (e : Event) (l : Leg) → IsSettledOn net w → is_damage w e ≡ false → IsAmong l tour.others → is_full_tick w e l.here ≡ true
       → machine_value (step w e) l ≡ seen_value w l
@@ -142,7 +139,7 @@ module _ (b : Below) (net : Network) (tour : IsTour net) where
         | inl y ↦ r ∙ ap (λ c. if c then moved_leg w l else machine_value w l) y
             ∙ ap (λ c. if c then root_moved (machine_value w l) (ring_of w.net) else seen_value w l) sp
         | inr n ↦ r ∙ ap (λ c. if c then moved_leg w l else machine_value w l) n
-            ∙ copy-same (machine_value w l) (seen_value w l) (subst (λ c. is_privileged c (machine_value w l) (seen_value w l) ≡ false) sp n)
+            ∙ sees-same (machine_value w l) (seen_value w l) (subst (λ c. is_privileged c (machine_value w l) (seen_value w l) ≡ false) sp n)
       ]
 
   -- where the special machine sees its own value, a full tick of the root moves the head

@@ -15,6 +15,7 @@ use Rattle.data_link.specs.Sweep.{Takes, act_out, list_after, Origin, Before, Se
 use Rattle.data_link.proofs.UnderWay.{All-append, frames-newest, OfItem, OfAll, all-stays}
 use Rattle.data_link.proofs.Ranges.{range-event, range-run, ring-of_edge}
 use Rattle.data_link.proofs.Marks.{IsMarked, IsFirstGood, marked-start, marked-after, marked-taken, by_taken, out-after}
+use Rattle.data_link.proofs.Stable.{stays-in_runs}
 use Rattle.data_link.proofs.Sweeping.{run-append, two-sweeps-move}
 
 -- ---- what is staged
@@ -126,10 +127,6 @@ module _ (good_front : GoodHasFront) (stable-event : (capacity : ℕ) (s : EdgeS
       let k = payloads-keep test capacity s e r h p.0 a b in
       payloads-run test capacity (edge_step capacity s e) es (range-event capacity s e r) (stable-event capacity s e r h) p.1 k.0 k.1
 
-  stable-run : (capacity : ℕ) (s : EdgeState) (es : List EdgeEvent) → IsEdgeInRange capacity s → IsStable capacity s → IsStable capacity (edge_run capacity s es)
-  stable-run capacity s [] r h = h
-  stable-run capacity s (e ∷ es) r h = stable-run capacity (edge_step capacity s e) es (range-event capacity s e r) (stable-event capacity s e r h)
-
   -- ---- a sweep brings the staged payload to far's copy
 
   abbrev HasPayload : (Payload → Bool) → Item → Type 0
@@ -176,11 +173,11 @@ module _ (good_front : GoodHasFront) (stable-event : (capacity : ℕ) (s : EdgeS
   from_parts test capacity s one two three rest r h a b c p q k =
       let mid = edge_run capacity s (one ++ two) in
       let rm = range-run capacity s (one ++ two) r in
-      let hm = stable-run capacity s (one ++ two) r h in
+      let hm = stays-in_runs stable-event capacity s (one ++ two) r h in
       let w : IsSweep capacity mid three = subst (λ v. IsSweep capacity v three) (sym (run-append capacity s one two)) c in
       let staged = moved-run test capacity s (one ++ two) p (two-sweeps-move capacity s one two a b) in
       let fresh = sweep-refreshes test capacity mid three rm hm w q staged in
-      payloads-run test capacity (edge_run capacity mid three) rest (range-run capacity mid three rm) (stable-run capacity mid three rm hm) k fresh.0 fresh.1
+      payloads-run test capacity (edge_run capacity mid three) rest (range-run capacity mid three rm) (stays-in_runs stable-event capacity mid three rm hm) k fresh.0 fresh.1
 
   pub three-sweeps-refresh : (test : Payload → Bool) (capacity : ℕ) (s : EdgeState) (es : List EdgeEvent) → IsEdgeInRange capacity s → IsStable capacity s → Sweeps capacity s 3 es → AllByRecursion (PresentPasses test) es →
       IsTrue (test (edge_run capacity s es).near.staged) × IsTrue (test (edge_run capacity s es).far.copy)

@@ -5,6 +5,7 @@ use Rattle.topology.specs.declared.frame.Payload.{Payload}
 use Rattle.k_state.specs.Machine.{root_moved}
 use Rattle.k_state.specs.Ring.{HasFront, IsFresh, Step, moves_until}
 use Rattle.k_state.specs.Laws.{FreshHasFront, FrontStaysOrTurnsGood, GoodHasFront, GoodStays, SomeValueIsFresh}
+use Rattle.data_link.specs.Laws.{StableStays, StableOutlastsRuns}
 use Rattle.k_state.proofs.Histories.{until-first}
 use Rattle.k_state.proofs.Steps.{step-apart}
 use Rattle.data_link.specs.Port.{PortState}
@@ -73,6 +74,11 @@ run-steps capacity s [] k l = absurd (omega arith)
 run-steps capacity s (e ∷ es) zero l = event-step (modulus_of capacity) capacity s e
 run-steps capacity s (e ∷ es) (suc k) l = run-steps capacity (edge_step capacity s e) es k (omega arith)
 
+-- what every event keeps, every run keeps
+pub stays-in_runs : StableStays → StableOutlastsRuns
+stays-in_runs stays capacity s [] r h = h
+stays-in_runs stays capacity s (e ∷ es) r h = stays-in_runs stays capacity (edge_step capacity s e) es (range-event capacity s e r) (stays capacity s e r h)
+
 -- ---- from the laws of the copying ring
 
 module _ (stays : GoodStays) (good_front : GoodHasFront) (fresh_front : FreshHasFront) (front : FrontStaysOrTurnsGood) (some_fresh : SomeValueIsFresh) where
@@ -105,9 +111,8 @@ module _ (stays : GoodStays) (good_front : GoodHasFront) (fresh_front : FreshHas
         | inr v ↦ v.1
       ]
 
-  pub stable-run : (capacity : ℕ) (s : EdgeState) (es : List EdgeEvent) → IsEdgeInRange capacity s → IsStable capacity s → IsStable capacity (edge_run capacity s es)
-  stable-run capacity s [] r h = h
-  stable-run capacity s (e ∷ es) r h = stable-run capacity (edge_step capacity s e) es (range-event capacity s e r) (stable-event capacity s e r h)
+  pub stable-run : StableOutlastsRuns
+  stable-run = stays-in_runs stable-event
 
   ready-run : (capacity : ℕ) (s : EdgeState) (es : List EdgeEvent) → IsEdgeInRange capacity s → IsReady s → 0 < moves_in capacity s es → IsStable capacity (edge_run capacity s es)
   ready-run capacity s [] r h l = absurd (omega arith)

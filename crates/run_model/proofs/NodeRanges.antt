@@ -98,7 +98,7 @@ taken-range keep site s u (Frame f) sound range fits = record {
 
 -- ---- a node ticks
 
-copy-below : (r : Ranges) (p : PortState) → port_fits r p ≡ true → p.copy.ring < r.ring
+pub copy-below : (r : Ranges) (p : PortState) → port_fits r p ≡ true → p.copy.ring < r.ring
 copy-below r p fits = grind (arith, common_steps, nat_tests)
 
 moved-below : (site : Site) (s : NodeState) (t : ℕ) → IsSiteSound site → IsTrue (port_fits site.ranges (s.port t)) → moved_value site s t < site.ranges.ring

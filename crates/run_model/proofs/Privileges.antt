@@ -21,6 +21,7 @@ use Rattle.run_model.specs.Ring.{Leg, IsTokenRingGood}
 use Rattle.run_model.specs.Legs.{coming_value, IsTour, EachTour, IsTreeLeg, is_on_tree, IsAmong, machine_value, seen_value}
 use Rattle.run_model.specs.Legitimate.{is_privileged}
 use Rattle.run_model.specs.Laws.{OnePrivileged, OneLending}
+use Rattle.run_model.proofs.NodeRanges.{copy-below}
 use Rattle.run_model.proofs.TreeLists.{passes-somewhere, somewhere-passes}
 use Rattle.run_model.proofs.TrueTree.{tree-joined, tree-is}
 use Rattle.run_model.proofs.RingPlaces.{values_of, leg_may_move, one-mover, mover-is_fed}
@@ -30,9 +31,6 @@ ring-fits r p h = grind (arith, nat_tests)
 
 port-staged : (r : Ranges) (p : PortState) → port_fits r p ≡ true → p.staged.ring < r.ring
 port-staged r p h = ring-fits r p.staged (grind arith)
-
-port-copied : (r : Ranges) (p : PortState) → port_fits r p ≡ true → p.copy.ring < r.ring
-port-copied r p h = ring-fits r p.copy (grind arith)
 
 pub several-values : (net : Network) → IsAcceptedNetwork net → 1 < ring_of net
 several-values net a = omega (arith, a.limits.two)
@@ -57,7 +55,7 @@ module _ (back : JoinedBack) (nodes : JoinedAreNodes) (near : NeighboursAreJoine
         value-in w l.here l.from r (tree-joined w.net l.here l.from t.from),
         (
           port-staged (ranges_of w.net) ((w.node l.here).port l.onward) (port-in w l.here l.onward r on),
-          (port-copied (ranges_of w.net) ((w.node l.onward).port l.here) (port-in w l.onward l.here r (back w.net.edges l.onward l.here ∙ on)), values-in w r ls (λ k i. f k (inr i))),
+          (copy-below (ranges_of w.net) ((w.node l.onward).port l.here) (port-in w l.onward l.here r (back w.net.edges l.onward l.here ∙ on)), values-in w r ls (λ k i. f k (inr i))),
         ),
       )
 

@@ -21,6 +21,7 @@ use Rattle.node_core.specs.Step.{taken}
 use Rattle.run_model.specs.World.{World, IsWorldInRange, item_fits, site, with_node, with_link, default_world}
 use Rattle.run_model.specs.Step.{first_fault, unless, link_fault, has_room, sent, handed_over, with_port, with_desk}
 use Rattle.run_model.specs.declared.event.EventFault.{EventFault}
+use Rattle.data_link.proofs.UnderWay.{length-remove}
 use Rattle.run_model.proofs.NodeRanges.{KeepRanges, IsSiteSound, at-fits, taken-range}
 
 pub site-sound : NeighboursAreJoined → (net : Network) (v : ℕ) → IsAcceptedNetwork net → IsSiteSound (site_of net v)
@@ -156,9 +157,6 @@ handed-range keep w u v (item ∷ rest) range few fit =
     link-range (with_node w v s) u v rest
     (node-range w v s range (λ l. taken-range keep (site w v) (w.node v) u item (site-sound keep.near w.net v range.network) (range.nodes v l) (All-head P item rest fit)))
     (omega arith) (All-tail P item rest fit)
-
-length-remove : {X : Type 0} (xs : List X) (i : ℕ) → length (remove xs i) ≤ length xs
-length-remove xs i = grind (arith, common_steps)
 
 pub lost-range : (w : World) (u v i : ℕ) → IsWorldInRange w → IsLinked w u v → IsWorldInRange (with_link w u v (remove (w.link u v) i))
 lost-range w u v i range l =

@@ -50,7 +50,7 @@ copy-place w left p (l ∷ ls) (suc i) h =
     three-more (λ k. sees_another left (values_of w (p ∷ l ∷ ls)) (suc (suc k)) ≡ is_privileged false (copied_value w (leg_at l ls i)) (staged_value w (leg_at l ls i))) i
     (copy-place w (copied_value w p) l ls i (omega (arith, h)))
 
-sees-same : (x y : ℕ) → is_privileged false x y ≡ false → x ≡ y
+pub sees-same : (x y : ℕ) → is_privileged false x y ≡ false → x ≡ y
 sees-same x y h = grind (arith, nat_tests)
 
 module _ (one : OneItemIsPrivileged) (w : World) (q : ℕ) (first : Leg) (others : List Leg) (closed : IsFollowed (last_leg first others) (first ∷ others))

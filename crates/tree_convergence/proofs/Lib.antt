@@ -2,5 +2,6 @@ mod Along
 mod Own
 mod Links
 mod Stages
+pub mod SameParent
 mod Parents
 mod Sums

@@ -1,5 +1,5 @@
 -- Parents: from exact distances four sweeps reach the tree, and it stays reached.
-use Rattle.std.proofs.Common.{◌≡◌, ℕ, ◌<◌, inl, inr, Bool, true, false, List, [], ◌∷◌, Option, Some, None, refl, sym, ◌∙◌, ap, subst, arith, IsTrue, ◌==◌}
+use Rattle.std.proofs.Common.{◌≡◌, ℕ, ◌<◌, inl, inr, Bool, true, false, List, [], ◌∷◌, refl, sym, ◌∙◌, ap, subst, arith, IsTrue}
 use Rattle.std.proofs.lemmas.Grind.{common_steps}
 use Rattle.topology.specs.Network.{are_joined}
 use Rattle.topology.specs.Tree.{distance_of, parent_of}
@@ -18,6 +18,7 @@ use Rattle.run_model.specs.Legitimate.{AreLinksStable}
 use Rattle.run_model.specs.Laws as runs
 use Rattle.run_model.specs.declared.event.Event.{Event}
 use Rattle.tree_convergence.specs.Laws.{LinksStayStable, StagedIsPresent, CopyIsStaged, PayloadsTurnFresh, StageStays, ParentsTurnTrue, TreeStays}
+use Rattle.tree_convergence.proofs.SameParent.{same_parent, same-is, same-self}
 use Rattle.tree_convergence.proofs.Along.{IsKept, kept, ticked, always}
 use Rattle.tree_convergence.proofs.Own.{next_parent, own-parent, tick-parent}
 
@@ -38,21 +39,6 @@ record HasParents (w : World) : Type 0 where
 -- what is exact is of every stage
 stage-exact : (k real d : ℕ) → d ≡ real → IsTrue (is_of_stage k real d)
 stage-exact k real d e = grind (arith, common_steps)
-
--- two parents are the same
-same_parent : Option ℕ → Option ℕ → Bool
-same_parent None None = true
-same_parent (Some p) (Some q) = p == q
-same_parent None (Some q) = false
-same_parent (Some p) None = false
-
-same-is : (a b : Option ℕ) → same_parent a b ≡ true → a ≡ b
-unfolding same_parent
-same-is a b e = grind (arith, common_steps)
-
-same-self : (a b : Option ℕ) → a ≡ b → same_parent a b ≡ true
-unfolding same_parent
-same-self a b e = grind (arith, common_steps)
 
 module _ (net-stays : runs.NetworkStays) (ranges : runs.RangesStay) (splits : runs.UndamagedSplits) (joins : runs.RunsJoin) (joined-back : topology.JoinedBack) (joined-nodes : topology.JoinedAreNodes) (last : bfs_tree.LastStage) (finds : bfs_tree.ExactParent) where
   next-true : (w : World) (v : ℕ) → IsWorldInRange w → v < w.net.nodes → IsTreeAtStage w.net.nodes w → next_parent w v ≡ parent_of w.net v

@@ -5,6 +5,7 @@ use Rattle.topology.specs.Network.{are_joined}
 use Rattle.run_model.specs.World.{World}
 use Rattle.run_model.specs.Stretch.{old_after, takes_new}
 use Rattle.world.specs.declared.tallies.Tally.{Tally}
+pub use Rattle.world.specs.LinksView.{place_of}
 
 -- how many nodes there are; n tallies for each, those of the links that lead from it; and how often one was looked at
 pub record TalliesView : Type 0 where
@@ -15,10 +16,6 @@ pub record TalliesView : Type 0 where
 -- the tally of a link that is not there: it has nothing old and lacks nothing
 abbrev pub no_tally : Tally
 no_tally = record { old = 0; served = true }
-
--- the place of the link from u to v
-abbrev pub place_of : ℕ → ℕ → ℕ → ℕ
-place_of nodes u v = u * nodes + v
 
 -- the tally of the link from u to v
 abbrev pub tally_of : TalliesView → ℕ → ℕ → Tally
