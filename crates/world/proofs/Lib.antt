@@ -23,3 +23,4 @@ mod JudgeSteps
 mod WorldRanges
 mod Headline
 mod RowsPayloads
+pub mod Writing

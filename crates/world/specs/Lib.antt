@@ -10,6 +10,8 @@ pub mod LinksView
 pub mod WorldView
 pub mod JudgeView
 pub mod Payloads
+pub mod Streams
+pub mod MemorySinkView
 pub use Rattle.convergence.specs.Laws
 pub use Rattle.run_model.specs.Headline
 pub mod Parts
