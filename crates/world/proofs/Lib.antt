@@ -24,3 +24,7 @@ mod WorldRanges
 mod Headline
 mod RowsPayloads
 pub mod Writing
+pub mod SimulatedLines
+pub mod SimulatedBytes
+pub mod SimulatedEnd
+pub mod SimulatedPieces

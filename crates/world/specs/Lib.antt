@@ -12,6 +12,10 @@ pub mod JudgeView
 pub mod Payloads
 pub mod Streams
 pub mod MemorySinkView
+pub mod StateText
+pub mod SimulatedText
+pub mod Simulating
+pub mod UnderWay
 pub use Rattle.convergence.specs.Laws
 pub use Rattle.run_model.specs.Headline
 pub mod Parts

@@ -31,12 +31,19 @@ Writes (Ok count) bytes before after failures more =
     (count ≤ length bytes) × (0 < length bytes → 0 < count) × Takes (take count bytes) before after × (failures ≤ more)
 Writes (Err _) bytes before after failures more = (after ≡ before) × (failures ≤ more) × Rose failures more
 
--- only a beginning of the bytes was taken, and the sink failed
+-- The bytes in front were taken, and those behind them were not.
 pub record TakesABeginning (bytes : List ℕ) (before after : Option (List ℕ)) : Type 0 where
-  pub count : ℕ
-  pub taken : Takes (take count bytes) before after
+  pub front : List ℕ
+  pub back : List ℕ
+  pub parts : bytes ≡ front ++ back
+  pub taken : Takes front before after
 
 -- all the bytes were written one after the other; or a beginning of them, and then the sink failed
 abbrev pub WritesAll : {E : Type 0} → Result (Unit {0}) E → List ℕ → Option (List ℕ) → Option (List ℕ) → ℕ → ℕ → Type 0
 WritesAll (Ok _) bytes before after failures more = Takes bytes before after × (failures ≤ more)
 WritesAll (Err _) bytes before after failures more = TakesABeginning bytes before after × (failures ≤ more) × Rose failures more
+
+-- a failure is answered only where the count of failures rose
+abbrev pub CountsFailures : {T E : Type 0} → Result T E → ℕ → ℕ → Type 0
+CountsFailures (Ok _) failures more = failures ≤ more
+CountsFailures (Err _) failures more = (failures ≤ more) × Rose failures more

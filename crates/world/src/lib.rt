@@ -41,6 +41,7 @@ pub mod laws;
 mod links;
 mod parts;
 pub mod report;
+pub mod simulation;
 pub mod streams;
 mod stretch;
 mod tallies;

@@ -1,5 +1,5 @@
 //! The lines of an events text that comes in pieces.
-ghost use Rattle.std.specs.Prelude.{◌≡◌, ◌<◌, ◌≤◌, ◌++◌, ℕ, List, [], length, take, fold, false, slice_index, IfSome, IfNone};
+ghost use Rattle.std.specs.Prelude.{◌≡◌, ◌<◌, ◌≤◌, ◌++◌, ℕ, List, [], length, take, fold, false, slice_index, IfSome, IfNone, OnSome};
 ghost use Rattle.std.specs.List.{list_any};
 ghost use Rattle.std.specs.Option.{option_to_list};
 ghost use Rattle.lock_desk.specs.Lines.{is_newline};
@@ -53,6 +53,7 @@ impl EventReader {
     pub fn take(&mut self, piece: &[u8]) -> Taken
         ensures used { result.used ≤ length piece.now }
         ensures all { IfNone result.line (result.used ≡ length piece.now) }
+        ensures some { OnSome result.line (0 < result.used) }
         ensures stands { (bytes : List ℕ) → StandsAfter bytes self.old → StandsAfter (bytes ++ take result.used piece.now) self.new }
         ensures line { (bytes : List ℕ) → StandsAfter bytes self.old
             → ended_lines (bytes ++ take result.used piece.now) ≡ ended_lines bytes ++ option_to_list result.line }

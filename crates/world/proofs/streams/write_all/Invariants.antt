@@ -1,4 +1,4 @@
-use Rattle.std.proofs.Common.{length, ◌-◌, ◌≡◌, ℕ, take, ◌≤◌}
+use Rattle.std.proofs.Common.{length, ◌-◌, take, ◌≤◌}
 use Rattle.world.specs.Streams.{Takes}
 use Rattle.world.proofs.streams.write_all.Given as goal
 

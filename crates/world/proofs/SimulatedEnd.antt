@@ -1,0 +1,83 @@
+-- The end of a simulation: the text of the world, behind the refusal lines.
+use Rattle.std.proofs.Common.{◌≡◌, ◌∙◌, ap, sym, ℕ, ◌≤◌, List, [], Option, Some, Result, Ok, Err, IsErrAnd, IfErr, length, arith, inl, inr}
+use Rattle.std.proofs.lemmas.Grind.{common_steps}
+use Rattle.std.proofs.Math.Seq.{take-length, drop-length}
+use Rattle.run_model.specs.World.{World}
+use Rattle.run_model.specs.Run.{run}
+use Rattle.run_model.specs.Count.{IsSweepCount}
+use Rattle.world.specs.declared.simulation.Summary.{Summary}
+use Rattle.world.specs.declared.simulation.SimFault.{SimFault}
+use Rattle.world.specs.declared.simulation.SimFault.TheVariants.{Memory, Read, Long, Write}
+use Rattle.world.specs.Below.{Below}
+use Rattle.world.specs.EventsText.{text_lines}
+use Rattle.world.specs.Judging.{counted_up_to}
+use Rattle.world.specs.SimulatedText.{events_of, refusals_of}
+use Rattle.world.specs.Simulating.{longest_text, IsShown, IsHalfShown, IsSimulated, HasCause}
+use Rattle.world.specs.StateText.{state_text}
+use Rattle.world.specs.Streams.{Takes, TakesABeginning, Rose, CountsFailures}
+use Rattle.world.specs.UnderWay.{SimulationView, HasRun, Reads, Finishes}
+use Rattle.world.specs.WorldView.{world_of}
+use Rattle.world.proofs.Judging.{judging-counts}
+use Rattle.world.proofs.Writing.{takes_both, then_beginning}
+
+module _ (laws : Below) (start : World) (bytes : List ℕ) (before between after : Option (List ℕ)) (s : SimulationView)
+    (h : HasRun start (text_lines bytes) before between s) where
+  counted : IsSweepCount start (events_of bytes) h.seen.count
+  counted = judging-counts laws start (events_of bytes) (world_of s.judge.world) s.judge.stretch s.judge.sweeps s.judge.refused h.seen
+
+  abbrev shown_text : List ℕ
+  shown_text = state_text (run start (events_of bytes)) (counted_up_to h.seen.count)
+
+  same_text : state_text (world_of s.judge.world) s.judge.sweeps ≡ shown_text
+  same_text = ap (λ w. state_text w s.judge.sweeps) h.seen.now_is ∙ ap (state_text (run start (events_of bytes))) h.seen.sweeps_are
+
+  -- the text of the world was written
+  pub is_shown : (sweeps : ℕ) → sweeps ≡ s.judge.sweeps → Takes (state_text (world_of s.judge.world) s.judge.sweeps) between after
+      → IsShown start bytes before after (record { refused = s.refused; sweeps = sweeps })
+  is_shown sweeps same written = record {
+    count = h.seen.count;
+    counted = counted;
+    written = takes_both (refusals_of start (text_lines bytes)) shown_text before between after h.written (rw same_text at written);
+    sweeps = same ∙ h.seen.sweeps_are;
+    refused = h.refused_are;
+  }
+
+  -- only a beginning of it was written
+  pub is_half_shown : TakesABeginning (state_text (world_of s.judge.world) s.judge.sweeps) between after → IsHalfShown start bytes before after
+  is_half_shown b = record {
+    count = h.seen.count;
+    counted = counted;
+    written = then_beginning (refusals_of start (text_lines bytes)) shown_text before between after h.written (rw same_text at b);
+  }
+
+-- an answer that is this fault
+pub fault_is : {T : Type 0} (result : Result T SimFault) (fault : SimFault) → IsErrAnd result (λ e. e ≡ fault) → result ≡ Err fault
+fault_is (Ok value) fault failed = grind (arith, common_steps)
+fault_is (Err e) fault failed = ap (λ f. Err f) failed
+
+-- what is said of a text that was not read to its end
+pub not_read : (start : World) (bytes : List ℕ) (rest before now : Option (List ℕ)) (s : SimulationView) (fault : SimFault)
+    → Reads (Err fault) start bytes rest before now s → IsSimulated start bytes rest before now (Err fault)
+not_read start bytes rest before now s Memory r = absurd r
+not_read start bytes rest before now s Read r = r
+not_read start bytes rest before now s Long r = r
+not_read start bytes rest before now s Write r = inl r
+
+-- what is said of a text that was
+pub all_was_read : (start : World) (bytes : List ℕ) (rest before now : Option (List ℕ)) (result : Result Summary SimFault)
+    → rest ≡ Some [] → length bytes ≤ longest_text → IfErr result (λ fault. fault ≡ Write) → Finishes result start bytes before now
+    → IsSimulated start bytes rest before now result
+all_was_read start bytes rest before now (Ok summary) ended short write f = (ended, short, f)
+all_was_read start bytes rest before now (Err fault) ended short write (inl b) =
+    rw write (inl (record { count = length bytes; read = (omega arith, ended ∙ ap Some (sym (drop-length bytes))); written = rw (take-length bytes) b }))
+all_was_read start bytes rest before now (Err fault) ended short write (inr b) = rw write (inr (ended, short, b))
+
+-- the failures of two calls, one behind the other
+pub rose_then : (failures more most : ℕ) → failures ≤ more → Rose more most → Rose failures most
+rose_then failures more most higher rose = grind (arith, common_steps)
+
+-- a sink's failure has its cause
+pub has_cause : (result : Result Summary SimFault) (source source_after sink between sink_after : ℕ) → IfErr result (λ fault. fault ≡ Write) → sink ≤ between
+    → CountsFailures result between sink_after → HasCause result source source_after sink sink_after
+has_cause (Ok summary) source source_after sink between sink_after write higher counts = grind (arith, common_steps)
+has_cause (Err fault) source source_after sink between sink_after write higher counts = rw write (rose_then sink between sink_after higher counts.1)

@@ -1,0 +1,18 @@
+use Rattle.std.proofs.Common.{inr}
+use Rattle.world.proofs.SimulatedEnd.{is_shown, is_half_shown}
+use Rattle.world.proofs.simulation.under_way.Simulation.finish.Goals as goal
+
+pub returns-in_default-write_state-clause-text : goal.returns-in_default-write_state-clause-text
+returns-in_default-write_state-clause-text g c =
+    λ start bytes before h.
+    let ran = rw (← c.self.view_is) at (c.in-Ok.ensures.runs start bytes before h) in
+    let failed = c.in_default-write_state.ensures in
+    inr (is_half_shown c.below.ensures start bytes before _ _ _ ran (rw (c.configuration.ensures, c.sweeps-sweeps.ensures) at failed.0))
+
+pub returns-clause-text : goal.returns-clause-text
+returns-clause-text g c =
+    λ start bytes before h.
+    let ran = rw (← c.self.view_is) at (c.in-Ok.ensures.runs start bytes before h) in
+    let wrote = c.in-Ok-write_state.ensures in
+    is_shown c.below.ensures start bytes before _ _ _ ran c.sweeps-sweeps.result c.sweeps-sweeps.ensures
+    (rw (c.configuration.ensures, c.sweeps-sweeps.ensures) at wrote.0)

@@ -1,0 +1,82 @@
+use Rattle.std.proofs.Common.{◌≡◌, ◌∙◌, ap, ◌+◌, ◌-◌, ◌≤◌, ◌<◌, length, take, drop, arith}
+use Rattle.std.proofs.lemmas.Grind.{common_steps}
+use Rattle.world.specs.Simulating.{longest_text}
+use Rattle.world.proofs.SimulatedPieces.{given, piece_read, read_more, all_read, beginning_of_text}
+use Rattle.world.proofs.simulation.under_way.Simulation.read_all.Goals as goal
+
+pub returns-in_default-clause-text : goal.returns-in_default-clause-text
+returns-in_default-clause-text g c =
+    λ start bytes before told h.
+    let so_far = c.loop-count.invariant.5 start bytes before told h in
+    let failed = c.in_default.ensures.reads in
+    record {
+      count = longest_text - c.loop-count.left;
+      read = (so_far.0, failed.0 ∙ so_far.1);
+      short = grind (arith, common_steps);
+      written = so_far.2.has_run.written;
+    }
+
+pub returns-then-count-eq0-clause-text : goal.returns-then-count-eq0-clause-text
+returns-then-count-eq0-clause-text g c =
+    λ start bytes before told h.
+    let so_far = c.loop-count.invariant.5 start bytes before told h in
+    let n = longest_text - c.loop-count.left in
+    let room : 0 < length c.read.new.buffer = grind (arith, common_steps) in
+    let gives = given c.in-Ok.count _ _ c.read.new.buffer (drop n bytes) so_far.1 c.in-Ok.ensures.reads.1 in
+    let ended = all_read bytes _ n so_far.0 (gives.3 c.if-count-eq0.true room) (rw c.if-count-eq0.true at gives.2) in
+    let short : length bytes ≤ longest_text = omega (arith, ended.1) in
+    (ended.0, short, rw ended.2 at so_far.2)
+
+pub returns-in_default-take-clause-text : goal.returns-in_default-take-clause-text
+returns-in_default-take-clause-text g c =
+    λ start bytes before told h.
+    let so_far = c.loop-count.invariant.5 start bytes before told h in
+    let n = longest_text - c.loop-count.left in
+    let count = c.in-Ok.count in
+    let gives = given count _ _ c.read.new.buffer (drop n bytes) so_far.1 c.in-Ok.ensures.reads.1 in
+    let few : c.min.result ≤ count = grind (arith, common_steps) in
+    let fewer : n + c.min.result ≤ n + count = omega (arith, few) in
+    let bytes_are = piece_read bytes c.read.new.buffer n count c.min.result gives.1 few in
+    record {
+      count = n + count;
+      read = read_more bytes _ n count so_far.0 gives.0 gives.2;
+      written = beginning_of_text start bytes (n + c.min.result) (n + count) before _ fewer
+          (rw bytes_are at (c.in_default-take.ensures.text start (take n bytes) before so_far.2));
+    }
+
+pub returns-then-count-left-clause-text : goal.returns-then-count-left-clause-text
+returns-then-count-left-clause-text g c =
+    λ start bytes before told h.
+    let so_far = c.loop-count.invariant.5 start bytes before told h in
+    let n = longest_text - c.loop-count.left in
+    let count = c.in-Ok.count in
+    let gives = given count _ _ c.read.new.buffer (drop n bytes) so_far.1 c.in-Ok.ensures.reads.1 in
+    let few : c.min.result ≤ count = grind (arith, common_steps) in
+    let all : n + c.min.result ≡ longest_text = grind (arith, common_steps) in
+    let bytes_are = piece_read bytes c.read.new.buffer n count c.min.result gives.1 few ∙ ap (λ k. take k bytes) all in
+    record {
+      count = n + count;
+      read = read_more bytes _ n count so_far.0 gives.0 gives.2;
+      long = grind (arith, common_steps);
+      written = rw bytes_are at (c.in-Ok-take.ensures.text start (take n bytes) before so_far.2).has_run.written;
+    }
+
+pub loop-count-preserved : goal.loop-count-preserved
+loop-count-preserved g c =
+    let n = longest_text - c.loop-count.left in
+    let count = c.in-Ok.count in
+    let few : c.min.result ≤ count = grind (arith, common_steps) in
+    let all : n + c.min.result ≡ longest_text - (c.loop-count.left - count) = grind (arith, common_steps) in
+    let next : n + count ≡ longest_text - (c.loop-count.left - count) = grind (arith, common_steps) in (
+      grind (arith, common_steps),
+      grind (arith, common_steps),
+      grind (arith, common_steps),
+      grind (arith, common_steps),
+      grind (arith, common_steps),
+      λ start bytes before told h.
+          let so_far = c.loop-count.invariant.5 start bytes before told h in
+          let gives = given count _ _ c.read.new.buffer (drop n bytes) so_far.1 c.in-Ok.ensures.reads.1 in
+          let read = rw next at (read_more bytes _ n count so_far.0 gives.0 gives.2) in
+          let bytes_are = piece_read bytes c.read.new.buffer n count c.min.result gives.1 few ∙ ap (λ k. take k bytes) all in
+          (read.0, read.1, rw bytes_are at (c.in-Ok-take.ensures.text start (take n bytes) before so_far.2)),
+    )

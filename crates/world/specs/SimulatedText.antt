@@ -1,0 +1,67 @@
+-- The text that a simulation writes: a line for each refused line of the events text, and then the text of the world that it leads to.
+use Rattle.std.specs.Prelude.{ℕ, ◌+◌, List, [], ◌∷◌, ◌++◌, is_some, if◌then◌else◌, Option, Some, None, option_map, codes, decimal}
+use Rattle.run_model.specs.World.{World}
+use Rattle.run_model.specs.Step.{refusal, step}
+use Rattle.run_model.specs.Run.{run}
+use Rattle.run_model.specs.declared.event.Event.{Event}
+use Rattle.run_model.specs.declared.event.EventFault.{EventFault}
+use Rattle.run_model.specs.declared.event.EventFault.TheVariants.{NoNode, NoLink, NoItem, OutOfRange, Full, Twice, Stranger}
+use Rattle.world.specs.declared.events.text_line.TextLine.{TextLine}
+use Rattle.world.specs.declared.events.text_line.TextLine.TheVariants.{Passed, Unread, Told}
+use Rattle.world.specs.EventsText.{text_lines}
+use Rattle.world.specs.Judging.{counted_up_to}
+use Rattle.world.specs.StateText.{state_text}
+
+-- how a refusal is written
+abbrev pub fault_name : EventFault → List ℕ
+fault_name NoNode = codes "NoNode"
+fault_name NoLink = codes "NoLink"
+fault_name NoItem = codes "NoItem"
+fault_name OutOfRange = codes "OutOfRange"
+fault_name Full = codes "Full"
+fault_name Twice = codes "Twice"
+fault_name Stranger = codes "Stranger"
+
+-- why a line is refused in a world, if it is: it is unread, or its event is refused
+abbrev pub line_refusal : World → TextLine → Option (List ℕ)
+line_refusal w Passed = None
+line_refusal w Unread = Some (codes "Unread")
+line_refusal w (Told event) = option_map fault_name (refusal w event)
+
+-- `line N: NAME` and a newline, where line N is refused; else nothing
+abbrev pub refusal_line : ℕ → Option (List ℕ) → List ℕ
+refusal_line number None = []
+refusal_line number (Some name) = codes "line " ++ decimal number ++ codes ": " ++ name ++ codes "\n"
+
+-- the world behind a line
+abbrev pub line_step : World → TextLine → World
+line_step w (Told event) = step w event
+line_step w _ = w
+
+-- the refusal lines of a text's lines, of which the first has this number
+abbrev pub refusal_lines : World → ℕ → List TextLine → List ℕ
+refusal_lines w number [] = []
+refusal_lines w number (line ∷ lines) = refusal_line number (line_refusal w line) ++ refusal_lines (line_step w line) (number + 1) lines
+
+-- how many lines are refused
+abbrev pub refused_lines : World → List TextLine → ℕ
+refused_lines w [] = 0
+refused_lines w (line ∷ lines) = (if is_some (line_refusal w line) then 1 else 0) + refused_lines (line_step w line) lines
+
+-- the events that lines tell, in order
+abbrev pub told_events : List TextLine → List Event
+told_events [] = []
+told_events (Told event ∷ lines) = event ∷ told_events lines
+told_events (_ ∷ lines) = told_events lines
+
+-- the events of a text
+abbrev pub events_of : List ℕ → List Event
+events_of bytes = told_events (text_lines bytes)
+
+-- the refusal lines of a text's lines, of which the first is line 1
+abbrev pub refusals_of : World → List TextLine → List ℕ
+refusals_of start lines = refusal_lines start 1 lines
+
+-- the simulated text of a text whose events hold so many sweeps: its refusal lines, and then the world to which it leads
+abbrev pub simulated_text : World → List ℕ → ℕ → List ℕ
+simulated_text start bytes sweeps = refusals_of start (text_lines bytes) ++ state_text (run start (events_of bytes)) (counted_up_to sweeps)

@@ -1,0 +1,68 @@
+-- What the answers of a simulation say of what was read and written.
+use Rattle.std.specs.Prelude.{◌≡◌, ℕ, ◌<◌, ◌≤◌, List, [], Option, Some, Result, Ok, Err, drop, take, length, ◌⊎◌}
+use Rattle.run_model.specs.World.{World}
+use Rattle.run_model.specs.Count.{IsSweepCount}
+use Rattle.world.specs.declared.simulation.Summary.{Summary}
+use Rattle.world.specs.declared.simulation.SimFault.{SimFault}
+use Rattle.world.specs.declared.simulation.SimFault.TheVariants.{Memory, Read, Long, Write}
+use Rattle.world.specs.EventsText.{ended_lines, text_lines}
+use Rattle.world.specs.Judging.{counted_up_to}
+use Rattle.world.specs.SimulatedText.{refused_lines, events_of, refusals_of, simulated_text}
+use Rattle.world.specs.Streams.{Takes, TakesABeginning, Rose}
+
+-- the most bytes of an events text
+abbrev pub longest_text : ℕ
+longest_text = 1073741824
+
+-- The simulated text of these bytes was written, and nothing else; and the counts are the text's.
+pub record IsShown (start : World) (bytes : List ℕ) (before after : Option (List ℕ)) (summary : Summary) : Type 0 where
+  pub count : ℕ
+  pub counted : IsSweepCount start (events_of bytes) count
+  pub written : Takes (simulated_text start bytes count) before after
+  pub sweeps : summary.sweeps ≡ counted_up_to count
+  pub refused : summary.refused ≡ counted_up_to (refused_lines start (text_lines bytes))
+
+-- Only a beginning of the simulated text of these bytes was written.
+pub record IsHalfShown (start : World) (bytes : List ℕ) (before after : Option (List ℕ)) : Type 0 where
+  pub count : ℕ
+  pub counted : IsSweepCount start (events_of bytes) count
+  pub written : TakesABeginning (simulated_text start bytes count) before after
+
+-- so many bytes were read, the first ones
+abbrev pub HasRead : ℕ → List ℕ → Option (List ℕ) → Type 0
+HasRead count bytes rest = (count ≤ length bytes) × (rest ≡ Some (drop count bytes))
+
+-- The first bytes were read, no more than a text may have, and the refusal lines of the whole lines in them were written.
+pub record IsCutShort (start : World) (bytes : List ℕ) (rest before after : Option (List ℕ)) : Type 0 where
+  pub count : ℕ
+  pub read : HasRead count bytes rest
+  pub short : count ≤ longest_text
+  pub written : Takes (refusals_of start (ended_lines (take count bytes))) before after
+
+-- More was read than a text may have, and the refusal lines of the whole lines in what it may have were written.
+pub record IsTooLong (start : World) (bytes : List ℕ) (rest before after : Option (List ℕ)) : Type 0 where
+  pub count : ℕ
+  pub read : HasRead count bytes rest
+  pub long : longest_text < count
+  pub written : Takes (refusals_of start (ended_lines (take longest_text bytes))) before after
+
+-- The first bytes were read, and only a beginning of the refusal lines of their lines was written.
+pub record IsStopped (start : World) (bytes : List ℕ) (rest before after : Option (List ℕ)) : Type 0 where
+  pub count : ℕ
+  pub read : HasRead count bytes rest
+  pub written : TakesABeginning (refusals_of start (text_lines (take count bytes))) before after
+
+-- What an answer says: of the bytes that the source had to give and what it has still to give, and of what the sink had taken before and has taken after.
+abbrev pub IsSimulated : World → List ℕ → Option (List ℕ) → Option (List ℕ) → Option (List ℕ) → Result Summary SimFault → Type 0
+IsSimulated start bytes rest before after (Ok summary) = (rest ≡ Some []) × (length bytes ≤ longest_text) × IsShown start bytes before after summary
+IsSimulated start bytes rest before after (Err Memory) = (rest ≡ Some bytes) × (after ≡ before)
+IsSimulated start bytes rest before after (Err Read) = IsCutShort start bytes rest before after
+IsSimulated start bytes rest before after (Err Long) = IsTooLong start bytes rest before after
+IsSimulated start bytes rest before after (Err Write) =
+    IsStopped start bytes rest before after ⊎ ((rest ≡ Some []) × (length bytes ≤ longest_text) × IsHalfShown start bytes before after)
+
+-- The source's failure is answered only where its count rose, and the sink's only where its count rose.
+abbrev pub HasCause : {T : Type 0} → Result T SimFault → ℕ → ℕ → ℕ → ℕ → Type 0
+HasCause (Err Read) source source_after sink sink_after = Rose source source_after
+HasCause (Err Write) source source_after sink sink_after = Rose sink sink_after
+HasCause _ source source_after sink sink_after = Unit {0}

@@ -1,0 +1,20 @@
+//! A line of output.
+ghost use Rattle.std.specs.Prelude.{◌≡◌, ◌+◌, ◌≤◌, ◌++◌, length, decimal};
+ghost use Rattle.arrayvec.specs.ArrayString.{array_string_len};
+
+use arrayvec::ArrayString;
+use itoa::Buffer;
+
+/// A line under way. The longest has three words and two numbers.
+pub type Line = ArrayString<96>;
+
+/// Adds a word and a number.
+pub fn push_number(line: &mut Line, word: &str, number: u64)
+    requires { array_string_len line.old + length word.now + 20 ≤ 96 }
+    ensures bytes { line.new.bytes ≡ line.old.bytes ++ word.now ++ decimal number }
+    ensures short { array_string_len line.new ≤ array_string_len line.old + length word.now + 20 }
+{
+    line.push_str(word);
+    let mut digits = Buffer::new();
+    line.push_str(digits.format(number));
+}

@@ -1,0 +1,168 @@
+//! A simulation that is under way.
+ghost use Rattle.std.specs.Prelude.{◌≡◌, ◌+◌, ◌-◌, ◌^◌, ◌<◌, ◌≤◌, ℕ, List, [], Option, OnOk, IfErr, IfSome, option_map, length};
+ghost use Rattle.world.specs.Simulating.{longest_text, HasCause};
+ghost use Rattle.world.specs.Streams.{CountsFailures};
+ghost use Rattle.world.specs.declared.simulation.SimFault.TheVariants.{Write};
+ghost use Rattle.world.specs.SimulatedText.{line_refusal};
+ghost use Rattle.world.specs.UnderWay.{HasSeenLine, IsUnderWay, RunsNext, RunsLast, TakesNext, ReadsAll, EndsThere};
+ghost use Rattle.world.specs.WorldView.{world_of};
+
+use super::refusal::{UNREAD, fault_name, write_refusal};
+use super::state::write_state;
+use super::{LONGEST_TEXT, PIECE, SimFault, Summary};
+use crate::events::{EventReader, TextLine};
+use crate::judge::Judge;
+use crate::laws::below;
+use crate::streams::{Failed, Sink, Source};
+use crate::world::World;
+use std::alloc::{Allocator, Global};
+use std::marker::Model;
+
+/// What a simulation keeps between two pieces of its text.
+#[derive(Drop)]
+pub struct Simulation<A: Allocator + Copy = Global> {
+    judge: Judge<A>,
+    reader: EventReader,
+    /// How many lines there have been.
+    lines: u64,
+    /// How many of them were refused.
+    refused: u64,
+}
+
+impl<A: Allocator + Copy> Model for Simulation<A> {
+    ghost use Rattle.world.specs.UnderWay.{SimulationView};
+
+    ghost Value = { SimulationView };
+
+    ghost view = { λ s. record { judge = s.judge; reader = s.reader; lines = s.lines; refused = s.refused } };
+}
+
+impl<A: Allocator + Copy> Simulation<A> {
+    /// A simulation from a world on, to which no byte came.
+    pub fn new(world: World<A>) -> Simulation<A>
+        ensures lines { result.lines ≡ 0 }
+        ensures under_way { (before : Option (List ℕ)) → IsUnderWay (world_of world) [] before before result }
+    {
+        Simulation {
+            judge: Judge::new(world),
+            reader: EventReader::new(),
+            lines: 0,
+            refused: 0,
+        }
+    }
+
+    /// Reads the text to its end, and runs what it tells.
+    pub fn read_all<R: Source, W: Sink>(
+        &mut self,
+        source: &mut R,
+        sink: &mut W,
+    ) -> Result<(), SimFault>
+        requires { self.old.lines ≡ 0 }
+        ensures lines { OnOk result (self.new.lines ≤ longest_text) }
+        ensures text { ReadsAll self.old (R.rest source.old) (W.taken sink.old) result self.new (R.rest source.new) (W.taken sink.new) }
+        ensures cause { HasCause result (R.failures source.old) (R.failures source.new) (W.failures sink.old) (W.failures sink.new) }
+        ensures sink { W.failures sink.old ≤ W.failures sink.new }
+    {
+        let mut piece = [0; PIECE];
+        let mut left = LONGEST_TEXT;
+        loop {
+            let Ok(count) = source.read(&mut piece) else {
+                return Err(SimFault::Read);
+            };
+            if count == 0 {
+                return Ok(());
+            }
+            let Ok(()) = self.take(&piece[..count.min(left)], sink) else {
+                return Err(SimFault::Write);
+            };
+            if count > left {
+                return Err(SimFault::Long);
+            }
+            left -= count;
+        }
+    }
+
+    /// The text has ended: its last line, if no newline ended it, and then the world to which it has led.
+    pub fn finish<W: Sink>(&mut self, sink: &mut W) -> Result<Summary, SimFault>
+        requires { self.old.lines < 2 ^ 64 - 1 }
+        ensures text { EndsThere self.old (W.taken sink.old) result (W.taken sink.new) }
+        ensures failures { CountsFailures result (W.failures sink.old) (W.failures sink.new) }
+        ensures err { IfErr result (λ fault. fault ≡ Write) }
+    {
+        below();
+        let Ok(()) = self.last_line(sink) else {
+            return Err(SimFault::Write);
+        };
+        let sweeps = self.judge.sweeps();
+        let Ok(()) = write_state(self.judge.configuration(), sweeps, sink) else {
+            return Err(SimFault::Write);
+        };
+        Ok(Summary {
+            refused: self.refused,
+            sweeps,
+        })
+    }
+
+    /// The last line of the text, if no newline ended it.
+    fn last_line<W: Sink>(&mut self, sink: &mut W) -> Result<(), Failed>
+        requires { self.old.lines < 2 ^ 64 - 1 }
+        ensures runs { RunsLast self.old (W.taken sink.old) result self.new (W.taken sink.new) }
+        ensures failures { CountsFailures result (W.failures sink.old) (W.failures sink.new) }
+    {
+        let Some(line) = self.reader.last() else {
+            return Ok(());
+        };
+        self.line(line, sink)
+    }
+
+    /// Takes a piece of the text: its events happen, and its refused lines are told.
+    fn take<W: Sink>(&mut self, piece: &[u8], sink: &mut W) -> Result<(), Failed>
+        requires { self.old.lines + length piece.now < 2 ^ 64 }
+        ensures lines { self.new.lines ≤ self.old.lines + length piece.now }
+        ensures text { TakesNext self.old (W.taken sink.old) piece.now result self.new (W.taken sink.new) }
+        ensures failures { CountsFailures result (W.failures sink.old) (W.failures sink.new) }
+    {
+        let mut at = 0;
+        while at < piece.len() {
+            let taken = self.reader.take(&piece[at..]);
+            at += taken.used;
+            let Some(line) = taken.line else {
+                return Ok(());
+            };
+            self.line(line, sink)?;
+        }
+        Ok(())
+    }
+
+    /// The next line: its event happens, or it is told that it is refused.
+    fn line<W: Sink>(&mut self, line: TextLine, sink: &mut W) -> Result<(), Failed>
+        requires { self.old.lines < 2 ^ 64 - 1 }
+        ensures lines { self.new.lines ≡ self.old.lines + 1 }
+        ensures reader { self.new.reader ≡ self.old.reader }
+        ensures runs { RunsNext self.old (W.taken sink.old) line result self.new (W.taken sink.new) }
+        ensures failures { CountsFailures result (W.failures sink.old) (W.failures sink.new) }
+    {
+        self.lines += 1;
+        let Some(name) = refusal(&mut self.judge, line) else {
+            return Ok(());
+        };
+        self.refused = self.refused.saturating_add(1);
+        write_refusal(self.lines, name, sink)
+    }
+}
+
+/// Lets the event of a line happen. The answer is why the line is refused, if it is.
+fn refusal<A: Allocator + Copy>(judge: &mut Judge<A>, line: TextLine) -> Option<&'static str>
+    ensures name { option_map (λ name. name.now) result ≡ line_refusal (world_of judge.old.world) line }
+    ensures seen { HasSeenLine judge.old line judge.new }
+    ensures short { IfSome result (λ name. length name.now ≤ 10) }
+{
+    match line {
+        TextLine::Passed => None,
+        TextLine::Unread => Some(UNREAD),
+        TextLine::Told(event) => match judge.step(&event) {
+            Ok(()) => None,
+            Err(fault) => Some(fault_name(fault)),
+        },
+    }
+}
