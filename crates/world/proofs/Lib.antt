@@ -23,8 +23,8 @@ mod JudgeSteps
 mod WorldRanges
 mod Headline
 mod RowsPayloads
-pub mod Writing
-pub mod SimulatedLines
-pub mod SimulatedBytes
-pub mod SimulatedEnd
-pub mod SimulatedPieces
+mod Writing
+mod SimulatedLines
+mod SimulatedBytes
+mod SimulatedEnd
+mod SimulatedPieces

@@ -32,6 +32,13 @@
 //! ```
 //! let report = report::judge(world, &events);      // report.world, report.sweeps, report.refused
 //! ```
+//!
+//! [`simulation::simulate`] does the same from bytes to bytes: it reads an events text from a source, in pieces, and writes to a sink what becomes of it. `streams`
+//! has sources and sinks over memory; a program puts files behind the two traits:
+//!
+//! ```
+//! let summary = simulate(alloc, &net, &mut source, &mut sink)?;      // summary.refused, summary.sweeps
+//! ```
 #![tactic(auto)]
 
 mod configuration;
