@@ -6,8 +6,10 @@ use Rattle.run_model.specs.Count.{Sweeps, after_damage, IsSweepCount}
 use Rattle.run_model.specs.Laws.{FewerSweeps}
 use Rattle.run_model.specs.declared.event.Event.{Event}
 use Rattle.topology.specs.Network.{Network, are_joined}
-use Rattle.convergence.specs.Laws.{PayloadsConverge}
+use Rattle.run_model.specs.Legitimate.{IsLegitimate}
+use Rattle.convergence.specs.Laws.{PayloadsConverge, LegitimateStays, LegitimateServes}
 use Rattle.convergence.specs.Said.{said_in}
+use Rattle.world.specs.Closure.{IsLegitimateThroughout}
 use Rattle.world.specs.Payloads.{ArePayloadsFresh}
 use Rattle.world.specs.Below.{Below}
 use Rattle.world.specs.Judging.{counted_up_to}
@@ -46,6 +48,13 @@ module _ (laws : Below) (start : World) (es : List Event) (ok : IsWorldInRange s
       let now : run (run m.world first) last ≡ run start es = sym (laws.joins m.world first last) ∙ ap (run m.world) (sym parted) ∙ leads.2 in
       subst (λ w. Contains said ((w.node u).port v).staged × Contains said ((w.node v).port u).copy) now
       (law m.world first last u v leads.0 (subst (IsUndamaged m.world) parted leads.1) joined-then early-then late)
+
+  -- from a legitimate world, what is no damage leads through legitimate worlds alone
+  pub closed : LegitimateStays → LegitimateServes → IsLegitimate start → IsUndamaged start es → IsLegitimateThroughout start es
+  closed stays serves legitimate fine before rest parted =
+      let early = laws.splits start before rest (subst (IsUndamaged start) parted fine) in
+      let then = stays start before ok early.0 legitimate in
+      (then, serves (run start before) (laws.ranges start before ok) then)
 
 -- A judge has seen the events of a list; `now` and `sweeps` are what it reports.
 module _ (laws : Below) (start : World) (es : List Event) (j : JudgeView) (seen : HasSeen j start es) (now : WorldView) (now-is : now ≡ j.world) where

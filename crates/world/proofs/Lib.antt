@@ -22,7 +22,7 @@ mod Begun
 mod JudgeSteps
 mod WorldRanges
 mod Headline
-mod RowsPayloads
+mod RowsRuns
 mod Writing
 mod SimulatedLines
 mod SimulatedBytes

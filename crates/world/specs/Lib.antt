@@ -10,6 +10,7 @@ pub mod LinksView
 pub mod WorldView
 pub mod JudgeView
 pub mod Payloads
+pub mod Closure
 pub mod Streams
 pub mod MemorySinkView
 pub mod StateText

@@ -8,7 +8,7 @@ use Rattle.run_model.specs.Ring.{IsTokenRingGood}
 use Rattle.run_model.specs.Headline.{IsServing}
 use Rattle.world.specs.WorldView.{world_of}
 use Rattle.world.specs.JudgeView.{HasSeen}
-use Rattle.world.proofs.Headline.{LeadsTo, counted, fresh, reached}
+use Rattle.world.proofs.Headline.{LeadsTo, closed, counted, fresh, reached}
 use Rattle.world.proofs.report.judge.Given as given
 use Rattle.world.proofs.report.judge.Goals as goal
 
@@ -49,3 +49,6 @@ returns-clause-legitimate g c = after g c bound_of IsLegitimate c.converge_law.e
 
 pub returns-clause-serving : goal.returns-clause-serving
 returns-clause-serving g c = after g c bound_of IsServing c.converge_law.ensures.headline
+
+pub returns-clause-closure : goal.returns-clause-closure
+returns-clause-closure g c = let law = c.closure_law.ensures in closed c.below.ensures _ _ (seen-all g c).in_range law.stays law.serves

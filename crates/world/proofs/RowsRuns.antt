@@ -1,4 +1,4 @@
--- Two nodes: after eight sweeps and three more, a payload that was staged at the start and never again is not fresh.
+-- Runs of two nodes: a payload that was staged at the start and never again is not fresh after them, and their start is not legitimate.
 use Rattle.std.proofs.Common.{◌≡◌, ℕ, ◌<◌, zero, suc, List, [], ◌∷◌, ◌++◌, ◌==◌, true, false, refl, subst, Contains, arith}
 use Rattle.std.proofs.lemmas.List.Elements.{All-contains}
 use Rattle.std.proofs.lemmas.List.Sums.{AllPass-from_list_all}
@@ -12,6 +12,7 @@ use Rattle.run_model.specs.Count.{Sweeps}
 use Rattle.run_model.specs.declared.event.Event.{Event}
 use Rattle.run_model.specs.declared.event.Event.TheVariants.{Send, Take, Tick}
 use Rattle.convergence.specs.Said.{said_in}
+use Rattle.world.specs.Closure.{IsLegitimateThroughout}
 use Rattle.world.specs.Payloads.{ArePayloadsFresh}
 
 abbrev two_nodes : Network
@@ -86,3 +87,7 @@ says-one p c =
 -- at the start it says 2, the greatest distance, and a world that still has this staged is not what these sweeps lead to
 stale : ¬ ArePayloadsFresh start (repeated 11) start
 stale fresh = absurd (let h = says-one _ (fresh (repeated 8) (repeated 3) 1 0 refl refl eight-sweeps three-sweeps).0 in cc)
+
+-- at the start node 1 writes distance 2, so no run from there is legitimate throughout
+not_throughout : ¬ IsLegitimateThroughout start least
+not_throughout legitimate = absurd (let far = (legitimate [] least refl).0.tree.distance 1 (omega arith) in cc)
