@@ -1,0 +1,102 @@
+//! Texts and what they lead to, worked out by hand. Each comes in pieces of one byte, of seven, and whole.
+use super::*;
+use crate::streams::{MemorySink, MemorySource};
+use std::alloc::Global;
+use std::fmt::Write;
+use std::process::Abort;
+use std::test::Fail;
+
+mod faults;
+mod lines;
+mod long_runs;
+mod rows;
+mod shown;
+mod sweeps;
+
+/// The most bytes of a read.
+const PIECES: [usize; 3] = [1, 7, 4096];
+
+/// Room for every output.
+const ROOM: usize = 4096;
+
+/// One round of two nodes: both tick, and then each sends and takes twice.
+const ROUND: &str =
+    "tick 0\ntick 1\nsend 0 1\ntake 0 1\nsend 0 1\ntake 0 1\nsend 1 0\ntake 1 0\nsend 1 0\ntake 1 0\n";
+
+/// What makes two nodes hold a forged token each, and lend it.
+const FORGED: &str = "\
+harm own 0 0 none
+harm own 1 1 0
+harm staged 0 1 0 none 0
+harm copy 0 1 1 0 0
+harm staged 1 0 1 0 0
+harm copy 1 0 0 none 1
+harm desk 0 5 0 no
+harm desk 1 6 0 no
+";
+
+/// Two nodes, over links of one place.
+fn two_nodes(alloc: Global, lease: i64) -> Result<Net, Fail> {
+    Ok(Net::make(alloc, 2, 0, 1, lease, &[(0, 1)])?)
+}
+
+/// The text so many times.
+fn repeated(alloc: Global, text: &str, times: usize) -> Result<String, AllocError> {
+    let mut whole = String::new(alloc);
+    for _ in 0..times {
+        whole.push_str(text)?;
+    }
+    Ok(whole)
+}
+
+/// What the text, in pieces of at most so many bytes, leads to.
+fn simulated(
+    alloc: Global,
+    net: &Net,
+    text: &str,
+    piece: usize,
+) -> Result<(String, Summary), Fail> {
+    let mut source = MemorySource::new(text.as_bytes(), piece);
+    let mut sink = MemorySink::new(alloc, ROOM)?;
+    let summary = simulate(alloc, net, &mut source, &mut sink)?;
+    let output = String::from_str(alloc, std::str::from_utf8(sink.taken())?)?;
+    Ok((output, summary))
+}
+
+/// Holds that the text leads to this output, with so many refused lines and so many sweeps.
+fn leads_to(
+    rt: &(impl Eprint + AllocGlobal + Abort),
+    net: &Net,
+    text: &str,
+    output: &str,
+    refused: u64,
+    sweeps: u64,
+) -> Result<(), Fail> {
+    for piece in PIECES {
+        let found = simulated(rt.alloc(), net, text, piece)?;
+        assert_eq!(rt;
+            found.0.as_str(),
+            output,
+            "of {text:?} in pieces of {piece}"
+        );
+        assert_eq!(rt; found.1, Summary { refused, sweeps });
+    }
+    Ok(())
+}
+
+/// One round of a network: each node ticks, and then each sends to each neighbour, which takes, so often that one item more than the link holds goes over.
+fn round_of(alloc: Global, net: &Net) -> Result<String, AllocError> {
+    let mut text = String::new(alloc);
+    for v in 0..net.nodes() {
+        writeln!(text, "tick {v}")?;
+    }
+    for from in 0..net.nodes() {
+        for to in net.neighbours(from) {
+            for _ in 0..=net.capacity() {
+                writeln!(text, "send {from} {to}")?;
+                writeln!(text, "take {from} {to}")?;
+            }
+        }
+    }
+    Ok(text)
+}

@@ -1,0 +1,217 @@
+//! Sources, sinks and memory that fail, at each of their calls in turn.
+use super::*;
+use crate::streams::{Failed, Fused};
+use linked_list_allocator::LocalHeap;
+
+/// Lines of which all but one are refused.
+const LINES: &str =
+    "tick 2\nsend 0 0\nlose 0 1 0\nharm own 0 3 none\nask 1 7\nask 1 7\nleave 0 4\nTick 0\n";
+
+/// The refusal lines, each with the number of bytes after which its line has ended.
+const REFUSALS: [(usize, &str); 7] = [
+    (7, "line 1: NoNode\n"),
+    (16, "line 2: NoLink\n"),
+    (27, "line 3: NoItem\n"),
+    (45, "line 4: OutOfRange\n"),
+    (61, "line 6: Twice\n"),
+    (71, "line 7: Stranger\n"),
+    (78, "line 8: Unread\n"),
+];
+
+/// What the lines lead to.
+const OUTPUT: &str = "\
+line 1: NoNode
+line 2: NoLink
+line 3: NoItem
+line 4: OutOfRange
+line 6: Twice
+line 7: Stranger
+line 8: Unread
+node 0 distance 2 parent none token no lent none waiting 0
+node 1 distance 2 parent none token no lent none waiting 1
+link 0 1 items 0
+link 1 0 items 0
+privileged 0 lending 0
+sweeps 0 of 69
+";
+
+/// The refusal lines of the lines that end within so many bytes.
+fn refusals_within(alloc: Global, bytes: usize) -> Result<String, AllocError> {
+    let mut text = String::new(alloc);
+    for (end, line) in REFUSALS {
+        if end <= bytes {
+            text.push_str(line)?;
+        }
+    }
+    Ok(text)
+}
+
+#[test]
+fn a_read_that_fails_leaves_the_refusals_of_whole_lines(rt: HostRuntime) -> Result<(), Fail> {
+    let net = two_nodes(rt.alloc(), 0)?;
+    for piece in PIECES {
+        let mut failed = 0u64;
+        for calls in 0..100u64 {
+            let mut source = Fused::new(MemorySource::new(LINES.as_bytes(), piece), calls);
+            let mut sink = MemorySink::new(rt.alloc(), ROOM)?;
+            let answer = simulate(rt.alloc(), &net, &mut source, &mut sink);
+            if !source.has_failed() {
+                assert_eq!(rt;
+                    answer,
+                    Ok(Summary {
+                        refused: 7,
+                        sweeps: 0
+                    })
+                );
+                assert_eq!(rt; sink.taken(), OUTPUT.as_bytes());
+                break;
+            }
+            failed = failed.saturating_add(1);
+            let read = (calls as usize).saturating_mul(piece);
+            assert_eq!(rt; answer, Err(SimFault::Read));
+            assert_eq!(rt; sink.taken(), refusals_within(rt.alloc(), read)?.as_bytes());
+        }
+        // As many reads as there are pieces, and one that finds the end.
+        assert_eq!(rt; failed, LINES.len().div_ceil(piece) as u64 + 1);
+    }
+    Ok(())
+}
+
+#[test]
+fn a_write_that_fails_leaves_a_beginning(rt: HostRuntime) -> Result<(), Fail> {
+    let net = two_nodes(rt.alloc(), 0)?;
+    for piece in PIECES {
+        let mut failed = 0u64;
+        for calls in 0..1000u64 {
+            let mut source = MemorySource::new(LINES.as_bytes(), piece);
+            let mut sink = Fused::new(MemorySink::new(rt.alloc(), ROOM)?, calls);
+            let answer = simulate(rt.alloc(), &net, &mut source, &mut sink);
+            if !sink.has_failed() {
+                assert_eq!(rt;
+                    answer,
+                    Ok(Summary {
+                        refused: 7,
+                        sweeps: 0
+                    })
+                );
+                assert_eq!(rt; sink.inner().taken(), OUTPUT.as_bytes());
+                break;
+            }
+            failed = failed.saturating_add(1);
+            assert_eq!(rt; answer, Err(SimFault::Write));
+            assert!(rt; OUTPUT.as_bytes().starts_with(sink.inner().taken()));
+            assert!(rt; sink.inner().taken().len() < OUTPUT.len());
+        }
+        assert!(rt; failed > 0);
+    }
+    Ok(())
+}
+
+#[test]
+fn a_sink_with_too_little_room_is_filled(rt: HostRuntime) -> Result<(), Fail> {
+    let net = two_nodes(rt.alloc(), 0)?;
+    for room in 0..=OUTPUT.len() {
+        let mut source = MemorySource::new(LINES.as_bytes(), 7);
+        let mut sink = MemorySink::new(rt.alloc(), room)?;
+        let answer = simulate(rt.alloc(), &net, &mut source, &mut sink);
+        let want = if room < OUTPUT.len() {
+            Err(SimFault::Write)
+        } else {
+            Ok(Summary {
+                refused: 7,
+                sweeps: 0,
+            })
+        };
+        assert_eq!(rt; answer, want, "with room for {room} bytes");
+        assert_eq!(rt; sink.taken(), &OUTPUT.as_bytes()[..room]);
+    }
+    Ok(())
+}
+
+#[test]
+fn refused_memory_leaves_all_unread_and_unwritten(rt: HostRuntime) -> Result<(), Fail> {
+    let net = two_nodes(rt.alloc(), 0)?;
+    let mut source = MemorySource::new(LINES.as_bytes(), 7);
+    let mut sink = MemorySink::new(rt.alloc(), ROOM)?;
+    for units in 1..1000usize {
+        let heap = LocalHeap::new(rt.alloc(), units * 16)?;
+        let answer = simulate(&heap, &net, &mut source, &mut sink);
+        assert_eq!(rt; heap.used(), 0);
+        if answer != Err(SimFault::Memory) {
+            // The same as with all memory there is; the source still had all its bytes, and the sink all its room.
+            assert_eq!(rt;
+                answer,
+                Ok(Summary {
+                    refused: 7,
+                    sweeps: 0
+                })
+            );
+            assert_eq!(rt; sink.taken(), OUTPUT.as_bytes());
+            assert!(rt; units > 10);
+            return Ok(());
+        }
+        assert_eq!(rt; sink.taken().len(), 0);
+    }
+    panic!(rt; "always refused")
+}
+
+/// A line that is refused, and then a comment up to that length.
+#[derive(Drop)]
+struct LongText {
+    /// How many bytes it has still to give.
+    left: usize,
+    has_begun: bool,
+}
+
+impl Source for LongText {
+    ghost use Rattle.std.specs.Prelude.{None};
+
+    ghost rest = { λ _. None };
+
+    ghost failures = { λ _. 0 };
+
+    fn read(&mut self, buffer: &mut [u8]) -> Result<usize, Failed> {
+        let count = buffer.len().min(self.left);
+        buffer.fill(b'#');
+        if !self.has_begun && count >= 7 {
+            buffer[..7].copy_from_slice(b"Tick 0\n");
+            self.has_begun = true;
+        }
+        self.left -= count;
+        Ok(count)
+    }
+}
+
+#[test]
+fn a_text_may_have_a_gibibyte_and_no_more(rt: HostRuntime) -> Result<(), Fail> {
+    let net = two_nodes(rt.alloc(), 0)?;
+    for (more, want, output) in [
+        (
+            0,
+            Ok(Summary {
+                refused: 1,
+                sweeps: 0,
+            }),
+            "\
+line 1: Unread
+node 0 distance 2 parent none token no lent none waiting 0
+node 1 distance 2 parent none token no lent none waiting 0
+link 0 1 items 0
+link 1 0 items 0
+privileged 0 lending 0
+sweeps 0 of 69
+",
+        ),
+        (1, Err(SimFault::Long), "line 1: Unread\n"),
+    ] {
+        let mut source = LongText {
+            left: 1_073_741_824 + more,
+            has_begun: false,
+        };
+        let mut sink = MemorySink::new(rt.alloc(), ROOM)?;
+        let answer = simulate(rt.alloc(), &net, &mut source, &mut sink);
+        assert_eq!(rt; answer, want);
+        assert_eq!(rt; sink.taken(), output.as_bytes());
+    }
+    Ok(())
+}

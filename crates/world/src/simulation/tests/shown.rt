@@ -1,0 +1,57 @@
+//! The text that shows a world.
+use super::*;
+use run_model::Event;
+
+/// A world of two nodes with a frame under way, shown with 7 sweeps.
+const SHOWN: &str = "\
+node 0 distance 2 parent none token no lent none waiting 0
+node 1 distance 2 parent none token no lent none waiting 1
+link 0 1 items 1
+link 1 0 items 0
+privileged 0 lending 0
+sweeps 7 of 69
+";
+
+#[test]
+fn a_world_is_shown_as_far_as_there_is_room(rt: HostRuntime) -> Result<(), Fail> {
+    let mut world = World::new(rt.alloc(), &two_nodes(rt.alloc(), 0)?)?;
+    assert_eq!(rt; world.step(&Event::Send { from: 0, to: 1 }), Ok(()));
+    assert_eq!(rt; world.step(&Event::Ask { node: 1, ticket: 9 }), Ok(()));
+    for room in 0..=SHOWN.len() {
+        let mut sink = MemorySink::new(rt.alloc(), room)?;
+        let answer = state_text(&world, 7, &mut sink);
+        let want = if room < SHOWN.len() {
+            Err(SimFault::Write)
+        } else {
+            Ok(())
+        };
+        assert_eq!(rt; answer, want, "with room for {room} bytes");
+        assert_eq!(rt; sink.taken(), &SHOWN.as_bytes()[..room]);
+    }
+    Ok(())
+}
+
+#[test]
+fn links_stand_by_source_and_then_destination(rt: HostRuntime) -> Result<(), Fail> {
+    let net = Net::make(rt.alloc(), 3, 2, 4, 0, &[(2, 1), (0, 2)])?;
+    let mut world = World::new(rt.alloc(), &net)?;
+    for (from, to) in [(2, 0), (2, 1), (2, 1), (1, 2), (1, 2), (1, 2)] {
+        assert_eq!(rt; world.step(&Event::Send { from, to }), Ok(()));
+    }
+    let mut sink = MemorySink::new(rt.alloc(), ROOM)?;
+    state_text(&world, 0, &mut sink)?;
+    // 4(4+1) + 4(3+1) + 48 * 2 * 2 + 1
+    let want = "\
+node 0 distance 3 parent none token no lent none waiting 0
+node 1 distance 3 parent none token no lent none waiting 0
+node 2 distance 3 parent none token no lent none waiting 0
+link 0 2 items 0
+link 1 2 items 3
+link 2 0 items 1
+link 2 1 items 2
+privileged 0 lending 0
+sweeps 0 of 229
+";
+    assert_eq!(rt; sink.taken(), want.as_bytes());
+    Ok(())
+}
