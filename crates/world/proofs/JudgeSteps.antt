@@ -1,6 +1,7 @@
 -- A judge's step, on each of its ways.
 use Rattle.std.proofs.Common.{◌≡◌, ◌∙◌, sym, ap, subst, ℕ, ◌+◌, ◌-◌, ◌^◌, ◌<◌, ◌≤◌, min, Bool, true, false, ◌&&◌, not, IsTrue, Some, None, List, [], ◌∷◌, ◌++◌, arith, refl}
 use Rattle.std.proofs.lemmas.Grind.{common_steps}
+use Rattle.topology.specs.Network.{Network}
 use Rattle.run_model.specs.World.{World}
 use Rattle.run_model.specs.Step.{refusal, step}
 use Rattle.run_model.specs.Run.{is_damage}
@@ -11,7 +12,7 @@ use Rattle.run_model.specs.declared.event.Event.TheVariants.{Send, Take, Lose, T
 use Rattle.run_model.specs.declared.event.Harm.{Harm}
 use Rattle.run_model.specs.declared.event.EventFault.{EventFault}
 use Rattle.world.specs.Tallies.{tally_of, tally_after}
-use Rattle.world.specs.Stretch.{StretchView, has_bit, is_tick_of, names_nodes, IsComplete, IsFullThen, IsWaiting, IsKept}
+use Rattle.world.specs.Stretch.{StretchView, IsRoomFor, has_bit, is_tick_of, names_nodes, IsComplete, IsFullThen, IsWaiting, IsKept}
 use Rattle.world.specs.Judging.{IsJudging}
 use Rattle.world.specs.Below.{Below}
 use Rattle.world.proofs.Kept.{IsNoted, noted}
@@ -41,6 +42,24 @@ judging-cleared start es now s sweeps refused j = record {
 
 pub few-looks : (s before new : StretchView) → before ≡ cleared s → new.tallies.looked ≤ before.tallies.looked + 2 → new.tallies.looked ≤ 2
 few-looks s before new is_before few = let none = ap (λ k. k.tallies.looked) is_before in omega (arith, few, none)
+
+-- ---- the room
+
+pub room-cleared : (net : Network) (s before : StretchView) → before ≡ cleared s → IsRoomFor net s → IsRoomFor net before
+room-cleared net s before is_before room = rw is_before (record { nodes = room.nodes; apart = room.apart })
+
+pub kept-room : (w : World) (es : List Event) (s before : StretchView) → before ≡ cleared s → IsKept w es s → IsRoomFor w.net before
+kept-room w es s before is_before kept = room-cleared w.net s before is_before (record { nodes = kept.nodes; apart = kept.apart })
+
+pub room-noted : (net : Network) (e : Event) (under_way : ℕ) (s new : StretchView) → IsRoomFor net s → new.tallies.nodes ≡ s.tallies.nodes
+    → ((u v : ℕ) → v < s.tallies.nodes → tally_of new.tallies u v ≡ tally_after (link_act u v e) under_way (tally_of s.tallies u v)) → IsRoomFor net new
+room-noted net e under_way s new room nodes tallies = record {
+  nodes = nodes ∙ room.nodes;
+  apart = λ u v un vn none.
+      let a = ap (λ t. t.served) (tallies u v (subst (λ n. v < n) (sym room.nodes) vn)) in
+      let b = room.apart u v un vn none in
+      grind (arith, common_steps, a, b);
+}
 
 -- what is not refused names nodes
 pub names : (w : World) (e : Event) → refusal w e ≡ None → IsTrue (names_nodes w.net.nodes e)

@@ -1,5 +1,5 @@
 -- What contracts see of a judge.
-use Rattle.std.specs.Prelude.{◌≡◌, ℕ, ◌+◌, List, [], ◌∷◌, ◌++◌}
+use Rattle.std.specs.Prelude.{ℕ, ◌+◌, List, [], ◌∷◌, ◌++◌}
 use Rattle.run_model.specs.World.{World}
 use Rattle.run_model.specs.Count.{IsSweepCount}
 use Rattle.run_model.specs.declared.event.Event.{Event}
@@ -13,10 +13,6 @@ pub record JudgeView : Type 0 where
   pub stretch : StretchView
   pub sweeps : ℕ
   pub refused : ℕ
-
--- there is room for the stretches of the world's network
-abbrev pub IsOneNetwork : WorldView → StretchView → Type 0
-IsOneNetwork w s = s.tallies.nodes ≡ (world_of w).net.nodes
 
 -- the judge has seen these events happen from the start on
 abbrev pub HasSeen : JudgeView → World → List Event → Type 0

@@ -1,7 +1,7 @@
 -- What a judge keeps of the unfinished stretch of a run, and what is to hold of it.
 use Rattle.std.specs.Prelude.{◌≡◌, ℕ, ◌<◌, Bool, true, false, not, ◌==◌, ◌&&◌, nat_lt, IsTrue, List, is_none, length}
 use Rattle.std.specs.Int.{bit_at}
-use Rattle.topology.specs.Network.{are_joined}
+use Rattle.topology.specs.Network.{Network, are_joined}
 use Rattle.run_model.specs.World.{World}
 use Rattle.run_model.specs.Sweep.{has_full_tick, is_served}
 use Rattle.run_model.specs.Stretch.{old_items}
@@ -43,6 +43,11 @@ IsFullThen next _ full = Unit {0}
 abbrev pub IsWaiting : World → Event → ℕ → Type 0
 IsWaiting now (Take u v) under_way = under_way ≡ length (now.link u v)
 IsWaiting now _ under_way = Unit {0}
+
+-- there is room for the stretches of a network: a tally for each two nodes, where what is no link lacks nothing
+pub record IsRoomFor (net : Network) (s : StretchView) : Type 0 where
+  pub nodes : s.tallies.nodes ≡ net.nodes
+  pub apart : (u v : ℕ) → u < net.nodes → v < net.nodes → are_joined net.edges u v ≡ false → (tally_of s.tallies u v).served ≡ true
 
 -- What is kept of a stretch from a world: the mask has the nodes that had no full tick in it, and a tally says of its link how many of the items that stood
 -- there when the stretch began stand there still, and whether it is served. What is no link lacks nothing.

@@ -1,7 +1,6 @@
 -- What contracts see of a judge's tallies, one for each link.
 use Rattle.std.specs.Prelude.{◌≡◌, ℕ, ◌+◌, ◌*◌, true, false, ◌||◌, if◌then◌else◌, List, [], ◌∷◌, length, slice_index_or}
 use Rattle.data_link.specs.Sweep.{LinkAct}
-use Rattle.topology.specs.Network.{are_joined}
 use Rattle.run_model.specs.World.{World}
 use Rattle.run_model.specs.Stretch.{old_after, takes_new}
 use Rattle.world.specs.declared.tallies.Tally.{Tally}
@@ -41,4 +40,4 @@ pub record IsTallied (nodes : ℕ) (places : List Tally) (unserved : ℕ) : Type
 
 -- the tally of the link from u to v as a stretch begins: all that is under way is old
 abbrev pub first_tally : World → ℕ → ℕ → Tally
-first_tally w u v = if are_joined w.net.edges u v then record { old = length (w.link u v); served = false } else no_tally
+first_tally w u v = record { old = length (w.link u v); served = false }

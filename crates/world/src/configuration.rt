@@ -101,15 +101,6 @@ impl<A: Allocator + Copy> Configuration<A> {
         }
     }
 
-    /// Whether an edge joins the two nodes.
-    pub fn are_joined(&self, from: u16, to: u16) -> bool
-        requires from_in { from < (world_of self.now).net.nodes }
-        requires to_in { to < (world_of self.now).net.nodes }
-        ensures { result ≡ are_joined (world_of self.now).net.edges from to }
-    {
-        self.links.are_joined(from, to)
-    }
-
     /// How many items are under way from one node to another.
     pub fn under_way(&self, from: u16, to: u16) -> usize
         requires from_in { from < (world_of self.now).net.nodes }

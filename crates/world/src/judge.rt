@@ -3,8 +3,9 @@ ghost use Rattle.std.specs.Prelude.{◌≡◌, ◌↔◌, ◌+◌, ◌-◌, ◌^
 ghost use Rattle.run_model.specs.Step.{refusal, step};
 ghost use Rattle.run_model.specs.Run.{is_damage};
 ghost use Rattle.world.specs.WorldView.{world_of};
+ghost use Rattle.run_model.specs.World.{at_pair};
 ghost use Rattle.world.specs.Tallies.{tally_of, first_tally};
-ghost use Rattle.world.specs.Stretch.{StretchView, IsKept, IsComplete, IsFullThen, IsWaiting, names_nodes};
+ghost use Rattle.world.specs.Stretch.{StretchView, IsRoomFor, IsKept, IsComplete, IsFullThen, IsWaiting, names_nodes};
 ghost use Rattle.world.specs.JudgeView.{HasSeen, HasSeenNext, EndsSweep};
 
 use crate::configuration::Configuration;
@@ -17,49 +18,40 @@ use run_model::{Event, EventFault};
 use std::alloc::{Allocator, Global};
 use std::marker::Model;
 
-/// The tally of a link as a stretch begins.
-fn first_tally<A: Allocator + Copy>(world: &Configuration<A>, from: u16, to: u16) -> Tally
-    requires from_in { from < (world_of world.now).net.nodes }
-    requires to_in { to < (world_of world.now).net.nodes }
-    ensures { result ≡ first_tally (world_of world.now) from to }
-{
-    if world.are_joined(from, to) {
-        Tally {
-            old: world.under_way(from, to) as u16,
-            served: false,
-        }
-    } else {
-        Tally {
-            old: 0,
-            served: true,
-        }
-    }
-}
-
-/// Begins the tallies of the links from a node.
-fn begin_links<A: Allocator + Copy>(world: &Configuration<A>, stretch: &mut Stretch<A>, from: u16)
+/// Begins the tally of the link from one node to another.
+fn begin_link<A: Allocator + Copy>(
+    world: &Configuration<A>,
+    stretch: &mut Stretch<A>,
+    from: u16,
+    to: u16,
+)
     requires nodes { stretch.old.tallies.nodes ≡ (world_of world.now).net.nodes }
     requires from_in { from < (world_of world.now).net.nodes }
+    requires to_in { to < (world_of world.now).net.nodes }
     ensures nodes { stretch.new.tallies.nodes ≡ stretch.old.tallies.nodes }
     ensures lacking { stretch.new.lacking ≡ stretch.old.lacking }
     ensures tallies { (u v : ℕ) → v < stretch.old.tallies.nodes
-        → tally_of stretch.new.tallies u v ≡ (if u == from then first_tally (world_of world.now) u v else tally_of stretch.old.tallies u v) }
+        → tally_of stretch.new.tallies u v ≡ at_pair (tally_of stretch.old.tallies) from to (first_tally (world_of world.now) from to) u v }
 {
-    for to in 0..world.net().nodes() {
-        stretch.begin_link(from, to, first_tally(world, from, to));
-    }
+    let tally = Tally {
+        old: world.under_way(from, to) as u16,
+        served: false,
+    };
+    stretch.begin_link(from, to, tally);
 }
 
-/// Begins a stretch at a world.
+/// Begins a stretch at a world. It looks at the links of the edges alone.
 fn begin<A: Allocator + Copy>(world: &Configuration<A>, stretch: &mut Stretch<A>)
-    requires nodes { stretch.old.tallies.nodes ≡ (world_of world.now).net.nodes }
+    requires { IsRoomFor (world_of world.now).net stretch.old }
     ensures { IsKept (world_of world.now) [] stretch.new }
 {
     below();
-    let nodes = world.net().nodes();
+    let _nodes = world.net().nodes();
     stretch.begin();
-    for from in 0..nodes {
-        begin_links(world, stretch, from);
+    let edges = world.net().edges();
+    for edge in edges {
+        begin_link(world, stretch, edge.0, edge.1);
+        begin_link(world, stretch, edge.1, edge.0);
     }
 }
 
@@ -96,13 +88,14 @@ pub struct Judge<A: Allocator + Copy = Global> {
 }
 
 impl<A: Allocator + Copy> Model for Judge<A> {
-    ghost use Rattle.world.specs.JudgeView.{JudgeView, IsOneNetwork};
+    ghost use Rattle.world.specs.JudgeView.{JudgeView};
+    ghost use Rattle.world.specs.Stretch.{IsRoomFor};
 
     ghost Value = { JudgeView };
 
     ghost view = { λ j. record { world = j.world; stretch = j.stretch; sweeps = j.sweeps; refused = j.refused } };
 
-    ghost invariant = { λ j. IsOneNetwork j.world j.stretch };
+    ghost invariant = { λ j. IsRoomFor j.world.links.net j.stretch };
 }
 
 impl<A: Allocator + Copy> Judge<A> {

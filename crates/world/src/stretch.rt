@@ -3,7 +3,7 @@ ghost use Rattle.std.specs.Prelude.{◌≡◌, ◌↔◌, ◌+◌, ◌<◌, ◌�
 ghost use Rattle.data_link.specs.Sweep.{Takes, Loses};
 ghost use Rattle.run_model.specs.World.{at_pair};
 ghost use Rattle.run_model.specs.Sweep.{link_act};
-ghost use Rattle.world.specs.Tallies.{tally_of, tally_after};
+ghost use Rattle.world.specs.Tallies.{no_tally, tally_of, tally_after};
 ghost use Rattle.world.specs.Stretch.{has_bit, is_tick_of, names_nodes, IsComplete};
 
 use crate::tallies::{Tallies, Tally};
@@ -46,7 +46,8 @@ impl<A: Allocator> Model for Stretch<A> {
 impl<A: Allocator + Copy> Stretch<A> {
     /// Room for the stretches of so many nodes. All memory is reserved here.
     pub(crate) fn new(alloc: A, nodes: u16) -> Result<Stretch<A>, AllocError>
-        ensures { IfOk result (λ s. s.tallies.nodes ≡ nodes) }
+        ensures nodes { IfOk result (λ s. s.tallies.nodes ≡ nodes) }
+        ensures empty { IfOk result (λ s. (u v : ℕ) → tally_of s.tallies u v ≡ no_tally) }
     {
         Ok(Stretch {
             lacking: 0,

@@ -28,13 +28,13 @@ pub struct World<A: Allocator + Copy = Global> {
 
 impl<A: Allocator + Copy> Model for World<A> {
     ghost use Rattle.world.specs.WorldView.{WorldView};
-    ghost use Rattle.world.specs.JudgeView.{IsOneNetwork};
+    ghost use Rattle.world.specs.Stretch.{IsRoomFor};
 
     ghost Value = { WorldView };
 
     ghost view = { λ w. w.configuration };
 
-    ghost invariant = { λ w. IsOneNetwork w.configuration w.room };
+    ghost invariant = { λ w. IsRoomFor w.configuration.links.net w.room };
 }
 
 impl<A: Allocator + Copy> World<A> {

@@ -122,13 +122,13 @@ fn a_step_looks_at_two_tallies_except_where_a_sweep_ends(rt: HostRuntime) -> Res
     let net = Net::make(rt.alloc(), 2, 0, 1, 0, &[(0, 1)])?;
     let mut judge = Judge::new(World::new(rt.alloc(), &net)?);
     assert_eq!(rt; judge.looked(), 0);
-    let looks = [0, 0, 0, 2, 0, 2, 0, 6, 0, 2];
+    let looks = [0, 0, 0, 2, 0, 2, 0, 4, 0, 2];
     for (event, looks) in ROUND.iter().zip(&looks) {
         assert_eq!(rt; judge.step(event), Ok(()));
         assert_eq!(rt; judge.looked(), *looks);
     }
     assert_eq!(rt; judge.step(&junk(0, 1)), Ok(()));
-    assert_eq!(rt; judge.looked(), 4);
+    assert_eq!(rt; judge.looked(), 2);
     Ok(())
 }
 

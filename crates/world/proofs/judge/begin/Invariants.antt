@@ -1,6 +1,7 @@
+use Rattle.std.proofs.Common.{take}
 use Rattle.world.specs.WorldView.{world_of}
-use Rattle.world.proofs.Begun.{AreRowsBegun}
+use Rattle.world.proofs.Begun.{AreBegun}
 use Rattle.world.proofs.judge.begin.Given as goal
 
-abbrev pub invariant-loop-from : goal.invariant-loop-from
-invariant-loop-from g l = AreRowsBegun (world_of l.world) l.from l.stretch
+abbrev pub invariant-loop-edge : goal.invariant-loop-edge
+invariant-loop-edge g l = AreBegun (world_of l.world) (take l.edge-index l.edges) l.stretch

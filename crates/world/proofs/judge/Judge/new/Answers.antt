@@ -3,7 +3,7 @@ use Rattle.world.specs.WorldView.{world_of}
 use Rattle.world.specs.Judging.{IsJudging}
 use Rattle.world.specs.Stretch.{IsKept}
 use Rattle.world.proofs.Judging.{judging-starts}
-use Rattle.world.proofs.JudgeSteps.{judging-cleared}
+use Rattle.world.proofs.JudgeSteps.{judging-cleared, kept-room}
 use Rattle.world.proofs.judge.Judge.new.Goals as goal
 
 pub returns-clause-judging : goal.returns-clause-judging
@@ -14,3 +14,6 @@ returns-clause-judging g c =
     let now = subst (λ w. IsJudging start [] (world_of w) c.begin.new.stretch 0 0) (sym c.world.view_is) seen in
     subst (λ s. IsJudging start [] (world_of c.world.inside.configuration) s 0 0) (sym c.clear_looked.ensures)
     (judging-cleared start [] (world_of c.world.inside.configuration) c.begin.new.stretch 0 0 now)
+
+pub invariant_of-result : goal.invariant_of-result
+invariant_of-result g c = kept-room (world_of c.world.inside.configuration) [] c.begin.new.stretch c.clear_looked.new.self c.clear_looked.ensures c.begin.ensures

@@ -1,8 +1,8 @@
-use Rattle.std.proofs.Common.{◌≡◌, ◌∙◌, ap, sym, subst, IsTrue, inl, inr, arith, refl}
+use Rattle.std.proofs.Common.{◌≡◌, ◌∙◌, ap, sym, subst, IsTrue, [], ◌∷◌, inl, inr, arith, refl}
 use Rattle.topology.specs.Network.{IsAcceptedNetwork}
 use Rattle.world.specs.WorldView.{world_of}
-use Rattle.world.specs.Stretch.{names_nodes}
-use Rattle.world.proofs.JudgeSteps.{names, accepted-damage, no-damage, refused-step, damage-step, other-step, sweep-step, sweep-ends, few-looks}
+use Rattle.world.specs.Stretch.{IsRoomFor, names_nodes}
+use Rattle.world.proofs.JudgeSteps.{names, accepted-damage, no-damage, refused-step, damage-step, other-step, sweep-step, sweep-ends, few-looks, room-cleared, room-noted}
 use Rattle.world.proofs.judge.Judge.step.Goals as goal
 
 pub returns-in-Err-clause-judging : goal.returns-in-Err-clause-judging
@@ -22,7 +22,7 @@ note-requires g c =
     let w = world_of c.self.inside.world in
     let ok : IsAcceptedNetwork w.net = rw c.net.ensures at c.nodes-nodes.ensures.network in
     let limits = c.below.ensures.limits w.net ok in
-    let same : c.clear_looked.new.self.tallies.nodes ≡ w.net.nodes = ap (λ s. s.tallies.nodes) c.clear_looked.ensures ∙ c.self.invariant in
+    let same : c.clear_looked.new.self.tallies.nodes ≡ w.net.nodes = ap (λ s. s.tallies.nodes) c.clear_looked.ensures ∙ c.self.invariant.nodes in
     record {
       few = omega (arith, limits.1, same);
       nodes = subst (λ n. IsTrue (names_nodes n c.args.event.now)) (sym same) (names w c.args.event.now c.in_default.ensures.ok);
@@ -60,3 +60,11 @@ returns-else-is_complete g c = record {
       (λ complete. let wrong = c.if-is_complete.ensures.1 complete in absurd cc));
   looked = inl (few-looks c.self.inside.stretch c.clear_looked.new.self c.note.new.self c.clear_looked.ensures c.note.ensures.looked);
 }
+
+pub invariant_of-self-else-is_complete : goal.invariant_of-self-else-is_complete
+invariant_of-self-else-is_complete g c =
+    let now = world_of c.self.inside.world in
+    let same : now.net ≡ c.step.new.self.links.net = sym (ap (λ w. w.net) c.step.ensures.world ∙ c.below.ensures.network now (c.args.event.now ∷ [])) in
+    let room = room-cleared now.net c.self.inside.stretch c.clear_looked.new.self c.clear_looked.ensures c.self.invariant in
+    subst (λ net. IsRoomFor net c.note.new.self) same
+    (room-noted now.net c.args.event.now c.waiting-waiting.result c.clear_looked.new.self c.note.new.self room c.note.ensures.nodes c.note.ensures.tallies)
