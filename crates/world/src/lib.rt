@@ -33,6 +33,17 @@
 //! let report = report::judge(world, &events);      // report.world, report.sweeps, report.refused
 //! ```
 //!
+//! A [`Judge`] does the same event by event, and lends the [`Configuration`], nodes and links as they are now. Judging takes no memory: its room is the world's.
+//!
+//! Who runs the nodes by other means, as on threads, takes a world apart, and puts it together again:
+//!
+//! ```
+//! let Parts { nodes, links, room } = world.into_parts();      // links.net() is the network
+//! let world = World::from_parts(Parts { nodes, links, room });
+//! ```
+//!
+//! The trap: the parts are to be one world's, each node at the place of its id.
+//!
 //! [`simulation::simulate`] does the same from bytes to bytes: it reads an events text from a source, in pieces, and writes to a sink what becomes of it. `streams`
 //! has sources and sinks over memory; a program puts files behind the two traits:
 //!
