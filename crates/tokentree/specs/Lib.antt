@@ -1,2 +1,3 @@
 pub mod NetworkFile
 pub mod Bound
+pub mod SimulationFault

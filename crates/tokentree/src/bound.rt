@@ -7,6 +7,7 @@ use crate::fault::Fault;
 use crate::network_file::read_network;
 use std::alloc::{AllocError, Global};
 use std::fmt::Write;
+use std::process::ExitCode;
 use std::rt::Files;
 use topology::Net;
 
@@ -14,10 +15,11 @@ use topology::Net;
 ///
 /// # Errors
 /// Where no network is read of the file, memory runs out, or standard output does not take the text.
-pub fn run<R: Files + Print + AllocGlobal>(rt: &R, path: &str) -> Result<(), Fault> {
+pub fn run<R: Files + Print + AllocGlobal>(rt: &R, path: &str) -> Result<ExitCode, Fault> {
     let net = read_network(rt, path)?;
     let text = bound_text(rt.alloc(), &net).map_err(|_| Fault::Memory)?;
-    rt.print(text.as_str()).map_err(|_| Fault::Output)
+    rt.print(text.as_str()).map_err(|_| Fault::Output)?;
+    Ok(ExitCode::SUCCESS)
 }
 
 /// The eight lines of a network.

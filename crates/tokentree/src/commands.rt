@@ -2,53 +2,20 @@
 ghost use Rattle.std.specs.Prelude.{◌≡◌};
 ghost use Rattle.std.specs.Process.{exit_status};
 
-use crate::bound;
 use crate::fault::Fault;
-use clap::{Arg, ArgAction, Command};
+use crate::{bound, help, simulate};
+use clap::{Arg, ArgAction, ArgMatches, Command};
 use std::alloc::{AllocError, Global};
 use std::convert::AsStr;
+use std::io::Input;
 use std::process::ExitCode;
 use std::rt::{Env, Files};
 
 /// The status of a command line that was refused.
 const LINE_REFUSED: u8 = 2;
 
-/// What follows the help of `bound`.
-const BOUND_EXAMPLE: &str = "\
-A network file names its nodes 0 to nodes-1, the root, how many items each direction of an edge holds, for how many
-ticks the lock is lent at most (0: no limit), and the edges:
-
-  nodes = 2
-  root = 0
-  capacity = 1
-  lease = 0
-  edges = [[0, 1]]
-
-  $ tokentree bound two-nodes.toml
-  nodes 2
-  edges 1
-  capacity 1
-  counter 5
-  ring 7
-  distances 0 1
-  parents none 0
-  sweeps 69
-
-counter and ring are the moduli of the links' counters and of the token's values; distances and parents are those of
-the nodes 0, 1, .. in the tree to the root. From whatever state, the lock works after 69 sweeps: stretches of a run in
-each of which every node makes a full tick, one after which it lends to nobody, and takes from each neighbour an item
-that was sent within the stretch.";
-
-/// What follows the help of the program.
-const STATUSES: &str = "\
-Examples:
-  tokentree bound examples/square.toml
-  tokentree help bound
-
-Statuses: 0 done; 1 a file was refused, with its fault on standard error; 2 the command line was refused.";
-
 /// Does what the program's own words say.
-pub fn run<R: Env + Files + Print + Eprint + AllocGlobal>(rt: &R) -> ExitCode {
+pub fn run<R: Env + Files + Input + Print + Eprint + AllocGlobal>(rt: &R) -> ExitCode {
     let Ok(arguments) = std::env::args(rt) else {
         let _ = eprintln!(rt; "tokentree: arguments Unreadable");
         return ExitCode::from(LINE_REFUSED);
@@ -61,7 +28,7 @@ pub fn run<R: Env + Files + Print + Eprint + AllocGlobal>(rt: &R) -> ExitCode {
 }
 
 /// Does what the words say, of which the first is the program's name.
-pub fn run_words<R: Files + Print + Eprint + AllocGlobal, S: AsStr>(
+pub fn run_words<R: Files + Input + Print + Eprint + AllocGlobal, S: AsStr>(
     rt: &R,
     words: &[S],
 ) -> ExitCode {
@@ -75,16 +42,27 @@ pub fn run_words<R: Files + Print + Eprint + AllocGlobal, S: AsStr>(
             return ExitCode::from(if error.use_stderr() { LINE_REFUSED } else { 0 });
         }
     };
-    let done = match matches.subcommand() {
-        Some(("bound", given)) => match given.get_str("FILE") {
-            Some(path) => bound::run(rt, path),
-            None => return ExitCode::from(LINE_REFUSED),
-        },
-        _ => return ExitCode::from(LINE_REFUSED),
-    };
-    match done {
-        Ok(()) => ExitCode::SUCCESS,
+    match run_command(rt, &matches) {
+        Ok(status) => status,
         Err(fault) => fails(rt, fault),
+    }
+}
+
+/// Does the command that was given, and says with which status it is done.
+fn run_command<R: Files + Input + Print + AllocGlobal>(
+    rt: &R,
+    matches: &ArgMatches,
+) -> Result<ExitCode, Fault> {
+    match matches.subcommand() {
+        Some(("bound", given)) => match given.get_str("FILE") {
+            Some(network) => bound::run(rt, network),
+            None => Ok(ExitCode::from(LINE_REFUSED)),
+        },
+        Some(("simulate", given)) => match (given.get_str("FILE"), given.get_str("EVENTS")) {
+            (Some(network), Some(events)) => simulate::run(rt, network, events),
+            _ => Ok(ExitCode::from(LINE_REFUSED)),
+        },
+        _ => Ok(ExitCode::from(LINE_REFUSED)),
     }
 }
 
@@ -102,21 +80,41 @@ fn command<'a>(alloc: Global) -> Result<Command<'a>, AllocError> {
         .about(
             "A self-stabilising lock service: one token for a network of nodes, whatever state they start from",
         )
-        .after_help(STATUSES)
+        .after_help(help::PROGRAM)
         .subcommand_required(true)
-        .subcommand(bound_command(alloc)?)
+        .subcommand(bound_command(alloc)?)?
+        .subcommand(simulate_command(alloc)?)
 }
 
 /// What `bound` takes.
 fn bound_command<'a>(alloc: Global) -> Result<Command<'a>, AllocError> {
-    let file = Arg::new(alloc, "FILE")
-        .required(true)
-        .action(ArgAction::Set)
-        .help("The network file (TOML)");
     Command::new(alloc, "bound")
         .about(
             "Shows a network's numbers, distances and parents, and after how many sweeps its lock works from any state",
         )
-        .after_help(BOUND_EXAMPLE)
-        .arg(file)
+        .after_help(help::BOUND)
+        .arg(network_file(alloc))
+}
+
+/// What `simulate` takes.
+fn simulate_command<'a>(alloc: Global) -> Result<Command<'a>, AllocError> {
+    let events = Arg::new(alloc, "EVENTS")
+        .required(true)
+        .action(ArgAction::Set)
+        .help("The events text, or - for standard input");
+    Command::new(alloc, "simulate")
+        .about(
+            "Lets a list of events happen on a network, tells which are refused, and shows the state they lead to",
+        )
+        .after_help(help::SIMULATE)
+        .arg(network_file(alloc))?
+        .arg(events)
+}
+
+/// The network file, as an argument.
+fn network_file<'a>(alloc: Global) -> Arg<'a> {
+    Arg::new(alloc, "FILE")
+        .required(true)
+        .action(ArgAction::Set)
+        .help("The network file (TOML)")
 }

@@ -6,18 +6,27 @@
 //! edges 1
 //! ...
 //! sweeps 69
+//!
+//! $ tokentree simulate two-nodes.toml events.txt
+//! line 4: NoNode
+//! node 0 distance 0 parent none token yes lent none waiting 0
+//! ...
+//! sweeps 1 of 69
 //! ```
 //!
 //! It keeps no state of its own and no lock by itself: what a command does stands in the crates below, this one reads words and files and prints.
 //!
-//! Statuses: 0 done, help too; 1 a file, memory or the output refused, with one line `tokentree: ..` on standard error; 2 the command line refused.
-//! The command line is looked at before any file.
+//! Statuses: 0 done, help too; 1 a file, memory or the output refused, with one line `tokentree: ..` on standard error; 2 the command line refused;
+//! 3 `simulate` is done, and refused some lines. Faults are looked for in this order: the command line, the network, the events.
 #![tactic(auto)]
 
 mod bound;
 mod commands;
 mod fault;
+mod help;
 mod network_file;
+mod simulate;
+mod streams;
 
 use std::process::ExitCode;
 

@@ -2,11 +2,13 @@ use crate::bound::bound_text;
 use crate::commands::run_words;
 use crate::fault::Fault;
 use crate::network_file::{network_of, read_network};
+use crate::simulate;
 use std::alloc::Global;
 use std::fs;
 use std::process::ExitCode;
 use std::test::Fail;
 use topology::{Net, NetFault};
+use world::simulation::SimFault;
 
 const TWO_NODES: &str = "nodes = 2\nroot = 0\ncapacity = 1\nlease = 0\nedges = [[0, 1]]\n";
 
@@ -108,9 +110,51 @@ fn reads_files(rt: HostRuntime) -> Result<(), Fail> {
 }
 
 #[test]
+fn names_the_fault_of_a_simulation(rt: HostRuntime) -> Result<(), Fail> {
+    for (fault, want) in [
+        (SimFault::Memory, "memory Refused"),
+        (SimFault::Read, "events Unreadable"),
+        (SimFault::Long, "events Long"),
+        (SimFault::Write, "output Refused"),
+    ] {
+        let named = format!(in rt.alloc(); "{}", Fault::from(fault))?;
+        assert_eq!(rt; named.as_str(), want);
+    }
+    Ok(())
+}
+
+#[test]
+fn looks_at_the_network_before_the_events(rt: HostRuntime) -> Result<(), Fail> {
+    fs::write(&rt, "net.toml", TWO_NODES)?;
+    fs::write(&rt, "no-net.toml", "nodes =")?;
+    fs::write(&rt, "one.events", "tick 0\n")?;
+    for (network, events, want) in [
+        ("net.toml", "one.events", None),
+        ("net.toml", "absent", Some(Fault::EventsUnreadable)),
+        ("net.toml", ".", Some(Fault::EventsUnreadable)),
+        ("net.toml", "", Some(Fault::EventsUnreadable)),
+        (
+            "no-net.toml",
+            "absent",
+            Some(Fault::Network(NetFault::NotToml)),
+        ),
+        ("absent", "absent", Some(Fault::NetworkUnreadable)),
+    ] {
+        let fault = simulate::run(&rt, network, events).err();
+        assert_eq!(rt; fault, want, "of {network:?} and {events:?}");
+    }
+    fs::remove_file(&rt, "net.toml")?;
+    fs::remove_file(&rt, "no-net.toml")?;
+    fs::remove_file(&rt, "one.events")?;
+    Ok(())
+}
+
+#[test]
 fn ends_with_the_status(rt: HostRuntime) -> Result<(), Fail> {
     fs::write(&rt, "two.toml", TWO_NODES)?;
     fs::write(&rt, "bad.toml", "nodes =")?;
+    fs::write(&rt, "good.events", "tick 0\n")?;
+    fs::write(&rt, "refused.events", "tick 0\ntick 2\n")?;
     for (words, want) in [
         (["tokentree", "bound", "two.toml"].as_slice(), 0),
         (["tokentree", "bound", "--", "two.toml"].as_slice(), 0),
@@ -127,11 +171,37 @@ fn ends_with_the_status(rt: HostRuntime) -> Result<(), Fail> {
             2,
         ),
         (["tokentree", "Bound", "two.toml"].as_slice(), 2),
+        (
+            ["tokentree", "simulate", "two.toml", "good.events"].as_slice(),
+            0,
+        ),
+        (["tokentree", "simulate", "--help"].as_slice(), 0),
+        (["tokentree", "help", "simulate"].as_slice(), 0),
+        (
+            ["tokentree", "simulate", "two.toml", "refused.events"].as_slice(),
+            3,
+        ),
+        (
+            ["tokentree", "simulate", "two.toml", "absent"].as_slice(),
+            1,
+        ),
+        (
+            ["tokentree", "simulate", "bad.toml", "refused.events"].as_slice(),
+            1,
+        ),
+        (["tokentree", "simulate"].as_slice(), 2),
+        (["tokentree", "simulate", "two.toml"].as_slice(), 2),
+        (
+            ["tokentree", "simulate", "bad.toml", "absent", "more"].as_slice(),
+            2,
+        ),
         (["tokentree", "unknown"].as_slice(), 2),
     ] {
         assert_eq!(rt; run_words(&rt, words), ExitCode::from(want), "at {words:?}");
     }
     fs::remove_file(&rt, "two.toml")?;
     fs::remove_file(&rt, "bad.toml")?;
+    fs::remove_file(&rt, "good.events")?;
+    fs::remove_file(&rt, "refused.events")?;
     Ok(())
 }

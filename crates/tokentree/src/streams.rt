@@ -1,0 +1,110 @@
+//! Readers and writers as the ends of a simulation.
+//!
+//! Std's readers and writers may tell their bytes to contracts (`remaining`, `contents`). A file tells nothing of them, so neither do these ends; but each of
+//! their calls says what it read of such a reader, or wrote to such a writer.
+ghost use Rattle.std.specs.Prelude.{◌≡◌, ◌<◌, ◌≤◌, [], None, OnOk, take, length};
+ghost use Rattle.std.specs.Io.Buffered.{writer_buffer, writer_contents};
+ghost use Rattle.std.specs.Io.KnownBytes.{Appends, Keeps, ReadConsumes};
+ghost use Rattle.world.specs.Streams.{Reads, Rose, Writes};
+
+use std::io::{BufWriter, ErrorKind, Read, Write};
+use world::streams::{Failed, Sink, Source};
+
+/// A reader as a source.
+#[derive(Drop)]
+pub struct ReadSource<R> {
+    reader: R,
+    failures: u64,
+}
+
+impl<R> ReadSource<R> {
+    /// A source that gives what the reader gives.
+    pub fn new(reader: R) -> ReadSource<R>
+        ensures { result.reader ≡ reader }
+    {
+        ReadSource {
+            reader,
+            failures: 0,
+        }
+    }
+}
+
+impl<R: Read> Source for ReadSource<R> {
+    ghost rest = { λ _. None };
+
+    ghost failures = { λ s. s.failures };
+
+    /// A read that a signal interrupts is tried again.
+    fn read(&mut self, buffer: &mut [u8]) -> Result<usize, Failed>
+        ensures len { length buffer.new ≡ length buffer.old }
+        ensures reads { Reads result None None buffer.new self.old.failures self.new.failures }
+        ensures bytes { ReadConsumes (R.remaining self.old.reader) (R.remaining self.new.reader) result buffer.new }
+    {
+        for _ in 0..u64::MAX {
+            match self.reader.read(buffer) {
+                Ok(count) => return Ok(count),
+                Err(error) if error.kind() == ErrorKind::Interrupted => {}
+                Err(_) => break,
+            }
+        }
+        Err(count_failure(&mut self.failures))
+    }
+}
+
+/// A buffered writer as a sink. What it has taken is all written only after [`WriteSink::flush`].
+#[derive(Drop)]
+pub struct WriteSink<W: Write + Drop> {
+    writer: BufWriter<W>,
+    failures: u64,
+}
+
+impl<W: Write + Drop> WriteSink<W> {
+    /// A sink that hands on to the writer.
+    pub fn new(writer: BufWriter<W>) -> WriteSink<W>
+        ensures { result.writer ≡ writer }
+    {
+        WriteSink {
+            writer,
+            failures: 0,
+        }
+    }
+
+    /// Writes all that it has taken.
+    ///
+    /// # Errors
+    /// [`Failed`] where the writer failed; then some of it may be unwritten.
+    pub fn flush(&mut self) -> Result<(), Failed>
+        ensures written { OnOk result (writer_buffer self.new.writer ≡ []) }
+        ensures bytes { Keeps (writer_contents W.contents self.old.writer) (writer_contents W.contents self.new.writer) }
+    {
+        match self.writer.flush() {
+            Ok(()) => Ok(()),
+            Err(_) => Err(count_failure(&mut self.failures)),
+        }
+    }
+}
+
+impl<W: Write + Drop> Sink for WriteSink<W> {
+    ghost taken = { λ _. None };
+
+    ghost failures = { λ s. s.failures };
+
+    fn write(&mut self, bytes: &[u8]) -> Result<usize, Failed>
+        ensures writes { Writes result bytes.now None None self.old.failures self.new.failures }
+        ensures all { OnOk result (Appends (writer_contents W.contents self.old.writer) (writer_contents W.contents self.new.writer) bytes.now) }
+    {
+        match self.writer.write_all(bytes) {
+            Ok(()) => Ok(bytes.len()),
+            Err(_) => Err(count_failure(&mut self.failures)),
+        }
+    }
+}
+
+/// Counts a failure; the count stays at its greatest value.
+fn count_failure(failures: &mut u64) -> Failed
+    ensures rose { Rose failures.old failures.new }
+    ensures grows { failures.old ≤ failures.new }
+{
+    *failures = failures.saturating_add(1);
+    Failed
+}
