@@ -2,10 +2,10 @@
 //!
 //! Std's readers and writers may tell their bytes to contracts (`remaining`, `contents`). A file tells nothing of them, so neither do these ends; but each of
 //! their calls says what it read of such a reader, or wrote to such a writer.
-ghost use Rattle.std.specs.Prelude.{◌≡◌, ◌<◌, ◌≤◌, [], None, OnOk, take, length};
+ghost use Rattle.std.specs.Prelude.{◌≡◌, ◌≤◌, [], None, OnOk, length};
 ghost use Rattle.std.specs.Io.Buffered.{writer_buffer, writer_contents};
 ghost use Rattle.std.specs.Io.KnownBytes.{Appends, Keeps, ReadConsumes};
-ghost use Rattle.world.specs.Streams.{Reads, Rose, Writes};
+ghost use Rattle.world.specs.Streams.{CountsFailures, Reads, Rose, Writes};
 
 use std::io::{BufWriter, ErrorKind, Read, Write};
 use world::streams::{Failed, Sink, Source};
@@ -76,6 +76,7 @@ impl<W: Write + Drop> WriteSink<W> {
     pub fn flush(&mut self) -> Result<(), Failed>
         ensures written { OnOk result (writer_buffer self.new.writer ≡ []) }
         ensures bytes { Keeps (writer_contents W.contents self.old.writer) (writer_contents W.contents self.new.writer) }
+        ensures cause { CountsFailures result self.old.failures self.new.failures }
     {
         match self.writer.flush() {
             Ok(()) => Ok(()),
