@@ -1,7 +1,9 @@
 //! `simulate FILE EVENTS`: what a list of events leads to on a network.
-ghost use Rattle.std.specs.Prelude.{◌≡◌, [], ◌==◌, if◌then◌else◌, OnOk};
+ghost use Rattle.std.specs.Prelude.{◌≡◌, [], ◌==◌, if◌then◌else◌, OnOk, IfErr};
 ghost use Rattle.std.specs.Process.{exit_status};
 ghost use Rattle.std.specs.Io.Buffered.{writer_buffer};
+ghost use Rattle.tokentree.specs.declared.fault.Fault.TheVariants.{EventsUnreadable};
+ghost use Rattle.world.specs.Streams.{Rose};
 
 use crate::fault::Fault;
 use crate::network_file::read_network;
@@ -61,7 +63,8 @@ fn simulate_between<E: Read, W: Write + Drop>(
     source: &mut ReadSource<E>,
     sink: &mut WriteSink<W>,
 ) -> Result<Summary, Fault>
-    ensures { OnOk result (writer_buffer sink.new.writer ≡ []) }
+    ensures written { OnOk result (writer_buffer sink.new.writer ≡ []) }
+    ensures cause { IfErr result (λ fault. fault ≡ EventsUnreadable → Rose source.old.failures source.new.failures) }
 {
     let simulated = simulate(alloc, net, source, sink);
     let flushed = sink.flush();
