@@ -28,3 +28,4 @@ mod SimulatedLines
 mod SimulatedBytes
 mod SimulatedEnd
 mod SimulatedPieces
+mod RowsSimulated

@@ -1,0 +1,112 @@
+-- Small examples of simulated texts, of what sources give and sinks take, and some that look like them and are none.
+use Rattle.std.proofs.Common.{◌≡◌, ◌≢◌, ℕ, ◌<◌, ◌++◌, List, [], ◌∷◌, Some, None, Ok, Err, codes, decimal, refl, arith, inr}
+use Rattle.std.proofs.lemmas.Fmt.{decimal_digit}
+use Rattle.topology.specs.Network.{Network}
+use Rattle.run_model.specs.World.{World, default_world}
+use Rattle.run_model.specs.declared.event.Event.TheVariants.{Ask, Tick}
+use Rattle.world.specs.declared.events.text_line.TextLine.TheVariants.{Passed, Unread, Told}
+use Rattle.world.specs.declared.streams.Failed.{Failed}
+use Rattle.world.specs.EventsText.{text_lines}
+use Rattle.world.specs.SimulatedText.{refusal_line, refusals_of, refused_lines, told_events, simulated_text}
+use Rattle.world.specs.StateText.{link_line, counts_line, sweeps_line}
+use Rattle.world.specs.Streams.{Gives, Takes, Rose}
+
+abbrev two_nodes : Network
+two_nodes = record { nodes = 2; root = 0; capacity = 1; lease = 0; edges = (0, 1) ∷ [] }
+
+abbrev start : World
+start = default_world two_nodes
+
+-- how the numbers below are spelled
+zero-is : decimal 0 ≡ codes "0"
+zero-is = decimal_digit 0 (omega arith)
+
+one-is : decimal 1 ≡ codes "1"
+one-is = decimal_digit 1 (omega arith)
+
+two-is : decimal 2 ≡ codes "2"
+two-is = decimal_digit 2 (omega arith)
+
+four-is : decimal 4 ≡ codes "4"
+four-is = decimal_digit 4 (omega arith)
+
+five-is : decimal 5 ≡ codes "5"
+five-is = decimal_digit 5 (omega arith)
+
+eight-is : decimal 8 ≡ codes "8"
+eight-is = decimal_digit 8 (omega arith)
+
+-- a refused line has a line of its own, any other none
+refused-line : refusal_line 8 (Some (codes "Unread")) ≡ codes "line 8: Unread\n"
+refused-line = rw eight-is
+
+refused-none : refusal_line 8 None ≡ []
+refused-none = refl
+
+-- each refused line has its number, and a line that is passed over is numbered too
+numbered : refusals_of start (text_lines (codes "tick 2\n# tick 2\n\nsend 0 0\nTick 0")) ≡ codes "line 1: NoNode\nline 4: NoLink\nline 5: Unread\n"
+numbered = rw (one-is, four-is, five-is)
+
+-- what one line does the next one meets: the second ask is refused, the first is not
+met : refusals_of start (Told (Ask 1 7) ∷ Told (Ask 1 7) ∷ []) ≡ codes "line 2: Twice\n"
+met = rw two-is
+
+met-counted : refused_lines start (Told (Ask 1 7) ∷ Unread ∷ Passed ∷ Told (Ask 1 7) ∷ []) ≡ 2
+met-counted = refl
+
+-- only told lines have events
+told-two : told_events (text_lines (codes "tick 0\nTick 0\n# tick 0\ntick 1")) ≡ Tick 0 ∷ Tick 1 ∷ []
+told-two = refl
+
+-- the lines of a link, of the counts and of the sweeps
+shown-link : link_line start 1 0 ≡ codes "link 1 0 items 0\n"
+shown-link = rw (one-is, zero-is)
+
+shown-counts : counts_line start ≡ codes "privileged 0 lending 0\n"
+shown-counts = rw zero-is
+
+shown-sweeps : sweeps_line start 5 ≡ codes "sweeps 5 of " ++ decimal 69 ++ codes "\n"
+shown-sweeps = rw five-is
+
+-- the simulated text of no events
+abbrev nothing_happened : List ℕ
+nothing_happened =
+    codes "node 0 distance 2 parent none token no lent none waiting 0\nnode 1 distance 2 parent none token no lent none waiting 0\n"
+    ++ codes "link 0 1 items 0\nlink 1 0 items 0\nprivileged 0 lending 0\nsweeps 0 of " ++ decimal 69 ++ codes "\n"
+
+shown-empty : simulated_text start [] 0 ≡ nothing_happened
+shown-empty = rw (zero-is, one-is, two-is)
+
+-- and of a line that is refused
+shown-refused : simulated_text start (codes "Tick 0") 0 ≡ codes "line 1: Unread\n" ++ nothing_happened
+shown-refused = rw (zero-is, one-is, two-is)
+
+-- a source gives its next bytes; it does not give others, and nothing only at its end or where there is no room
+gives-two : Gives 2 (Some (1 ∷ 2 ∷ 3 ∷ [])) (Some (3 ∷ [])) (1 ∷ 2 ∷ 0 ∷ 0 ∷ [])
+gives-two = (omega arith, refl, refl, λ none. absurd (grind arith))
+
+gives_not-others : ¬ Gives 2 (Some (1 ∷ 2 ∷ 3 ∷ [])) (Some (3 ∷ [])) (2 ∷ 1 ∷ [])
+gives_not-others = λ g. grind (arith, g.1)
+
+gives-end : Gives 0 (Some []) (Some []) (0 ∷ [])
+gives-end = (omega arith, refl, refl, λ none room. refl)
+
+gives_not-nothing : ¬ Gives 0 (Some (1 ∷ [])) (Some (1 ∷ [])) (0 ∷ [])
+gives_not-nothing = λ g. grind (arith, g.3 refl (omega arith))
+
+gives-no_room : Gives 0 (Some (1 ∷ [])) (Some (1 ∷ [])) []
+gives-no_room = (omega arith, refl, refl, λ none room. absurd (grind arith))
+
+-- a sink takes behind what it took before
+takes-behind : Takes (3 ∷ []) (Some (1 ∷ 2 ∷ [])) (Some (1 ∷ 2 ∷ 3 ∷ []))
+takes-behind = refl
+
+takes_not-in_front : ¬ Takes (3 ∷ []) (Some (1 ∷ 2 ∷ [])) (Some (3 ∷ 1 ∷ 2 ∷ []))
+takes_not-in_front = λ t. grind arith
+
+-- a count of failures that stays at its greatest value counts as risen there, and nowhere else
+rose-most : Rose 18446744073709551615 18446744073709551615
+rose-most = inr (omega arith)
+
+rose_not-same : ¬ Rose 5 5
+rose_not-same = λ r. grind arith
