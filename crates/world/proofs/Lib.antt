@@ -1,10 +1,3 @@
-pub mod WordLemmas
-pub mod NumberLemmas
-pub mod ReaderLemmas
-pub mod Rows
-pub mod SpellingLemmas
-pub mod EventSpelling
-pub mod EventReading
 pub mod TallyCounts
 pub mod TallyPlaces
 pub mod Masks

@@ -4,9 +4,9 @@ use Rattle.std.proofs.lemmas.Fmt.{decimal_digit}
 use Rattle.topology.specs.Network.{Network}
 use Rattle.run_model.specs.World.{World, default_world}
 use Rattle.run_model.specs.declared.event.Event.TheVariants.{Ask, Tick}
-use Rattle.world.specs.declared.events.text_line.TextLine.TheVariants.{Passed, Unread, Told}
+use Rattle.events_text.specs.declared.text_line.TextLine.TheVariants.{Passed, Unread, Told}
 use Rattle.world.specs.declared.streams.Failed.{Failed}
-use Rattle.world.specs.EventsText.{text_lines}
+use Rattle.events_text.specs.EventsText.{text_lines}
 use Rattle.world.specs.SimulatedText.{refusal_line, refusals_of, refused_lines, told_events, simulated_text}
 use Rattle.world.specs.StateText.{link_line, counts_line, sweeps_line}
 use Rattle.world.specs.Streams.{Gives, Takes, Rose}

@@ -6,9 +6,9 @@ use Rattle.std.proofs.Math.Seq.{take-add}
 use Rattle.lock_desk.specs.Lines.{is_newline, led_by, whole_lines}
 use Rattle.run_model.specs.World.{World}
 use Rattle.run_model.specs.Run.{run}
-use Rattle.world.specs.declared.events.text_line.TextLine.{TextLine}
-use Rattle.world.specs.EventsText.{text_line, ended_lines}
-use Rattle.world.specs.LineReader.{Begun, StandsAfter}
+use Rattle.events_text.specs.declared.text_line.TextLine.{TextLine}
+use Rattle.events_text.specs.EventsText.{text_line, ended_lines}
+use Rattle.events_text.specs.LineReader.{Begun, StandsAfter}
 use Rattle.world.specs.SimulatedText.{told_events, refusals_of, refusal_lines}
 use Rattle.world.specs.Streams.{TakesABeginning}
 use Rattle.world.specs.UnderWay.{SimulationView, HasRun, IsUnderWay, GoesOn}

@@ -9,7 +9,7 @@ use Rattle.world.specs.declared.simulation.Summary.{Summary}
 use Rattle.world.specs.declared.simulation.SimFault.{SimFault}
 use Rattle.world.specs.declared.simulation.SimFault.TheVariants.{Memory, Read, Long, Write}
 use Rattle.world.specs.Below.{Below}
-use Rattle.world.specs.EventsText.{text_lines}
+use Rattle.events_text.specs.EventsText.{text_lines}
 use Rattle.world.specs.Judging.{counted_up_to}
 use Rattle.world.specs.SimulatedText.{events_of, refusals_of}
 use Rattle.world.specs.Simulating.{longest_text, IsShown, IsHalfShown, IsSimulated, HasCause}
@@ -81,3 +81,8 @@ pub has_cause : (result : Result Summary SimFault) (source source_after sink bet
     → CountsFailures result between sink_after → HasCause result source source_after sink sink_after
 has_cause (Ok summary) source source_after sink between sink_after write higher counts = grind (arith, common_steps)
 has_cause (Err fault) source source_after sink between sink_after write higher counts = rw write (rose_then sink between sink_after higher counts.1)
+
+-- a count that did not fall in one call, nor in the next
+pub higher_then : (result : Result Summary SimFault) (failures more most : ℕ) → failures ≤ more → CountsFailures result more most → failures ≤ most
+higher_then (Ok summary) failures more most first second = omega (arith, first, second)
+higher_then (Err fault) failures more most first second = omega (arith, first, second.0)

@@ -5,8 +5,8 @@ use Rattle.std.proofs.lemmas.List.{append-nil}
 use Rattle.run_model.specs.World.{World}
 use Rattle.run_model.specs.Step.{step}
 use Rattle.run_model.specs.Run.{run}
-use Rattle.world.specs.declared.events.text_line.TextLine.{TextLine}
-use Rattle.world.specs.declared.events.text_line.TextLine.TheVariants.{Passed, Unread, Told}
+use Rattle.events_text.specs.declared.text_line.TextLine.{TextLine}
+use Rattle.events_text.specs.declared.text_line.TextLine.TheVariants.{Passed, Unread, Told}
 use Rattle.world.specs.JudgeView.{HasSeen}
 use Rattle.world.specs.Judging.{counted_up_to}
 use Rattle.world.specs.SimulatedText.{line_refusal, refusal_line, refusal_lines, refused_lines, told_events, refusals_of}

@@ -6,7 +6,7 @@ use Rattle.std.proofs.lemmas.List.{take-append-drop, length-drop, append-nil}
 use Rattle.lock_desk.specs.Lines.{half_line}
 use Rattle.run_model.specs.World.{World}
 use Rattle.run_model.specs.Run.{run}
-use Rattle.world.specs.EventsText.{text_line, ended_lines, last_line, text_lines}
+use Rattle.events_text.specs.EventsText.{text_line, ended_lines, last_line, text_lines}
 use Rattle.world.specs.SimulatedText.{told_events, refusals_of, refusal_lines}
 use Rattle.world.specs.Simulating.{HasRead}
 use Rattle.world.specs.Streams.{Gives, GivesNext, TakesABeginning}

@@ -6,9 +6,9 @@ use Rattle.run_model.specs.Run.{run}
 use Rattle.run_model.specs.declared.event.Event.{Event}
 use Rattle.run_model.specs.declared.event.EventFault.{EventFault}
 use Rattle.run_model.specs.declared.event.EventFault.TheVariants.{NoNode, NoLink, NoItem, OutOfRange, Full, Twice, Stranger}
-use Rattle.world.specs.declared.events.text_line.TextLine.{TextLine}
-use Rattle.world.specs.declared.events.text_line.TextLine.TheVariants.{Passed, Unread, Told}
-use Rattle.world.specs.EventsText.{text_lines}
+use Rattle.events_text.specs.declared.text_line.TextLine.{TextLine}
+use Rattle.events_text.specs.declared.text_line.TextLine.TheVariants.{Passed, Unread, Told}
+use Rattle.events_text.specs.EventsText.{text_lines}
 use Rattle.world.specs.Judging.{counted_up_to}
 use Rattle.world.specs.StateText.{state_text}
 

@@ -5,7 +5,7 @@ use Rattle.run_model.specs.Count.{IsSweepCount}
 use Rattle.world.specs.declared.simulation.Summary.{Summary}
 use Rattle.world.specs.declared.simulation.SimFault.{SimFault}
 use Rattle.world.specs.declared.simulation.SimFault.TheVariants.{Memory, Read, Long, Write}
-use Rattle.world.specs.EventsText.{ended_lines, text_lines}
+use Rattle.events_text.specs.EventsText.{ended_lines, text_lines}
 use Rattle.world.specs.Judging.{counted_up_to}
 use Rattle.world.specs.SimulatedText.{refused_lines, events_of, refusals_of, simulated_text}
 use Rattle.world.specs.Streams.{Takes, TakesABeginning, Rose}

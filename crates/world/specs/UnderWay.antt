@@ -2,14 +2,14 @@
 use Rattle.std.specs.Prelude.{◌≡◌, ℕ, ◌≤◌, List, [], ◌∷◌, ◌++◌, Option, Some, Result, Ok, Err, length, ◌⊎◌}
 use Rattle.run_model.specs.World.{World}
 use Rattle.run_model.specs.declared.event.Event.{Event}
-use Rattle.world.specs.declared.events.text_line.TextLine.{TextLine}
+use Rattle.events_text.specs.declared.text_line.TextLine.{TextLine}
 use Rattle.world.specs.declared.simulation.Summary.{Summary}
 use Rattle.world.specs.declared.simulation.SimFault.{SimFault}
 use Rattle.world.specs.declared.simulation.SimFault.TheVariants.{Memory, Read, Long, Write}
-use Rattle.world.specs.EventsText.{ended_lines, text_lines}
+use Rattle.events_text.specs.EventsText.{ended_lines, text_lines}
 use Rattle.world.specs.JudgeView.{JudgeView, HasSeen}
 use Rattle.world.specs.Judging.{counted_up_to}
-use Rattle.world.specs.LineReader.{Begun, StandsAfter}
+use Rattle.events_text.specs.LineReader.{Begun, StandsAfter}
 use Rattle.world.specs.SimulatedText.{refused_lines, told_events, refusals_of}
 use Rattle.world.specs.Simulating.{longest_text, IsShown, IsHalfShown, IsCutShort, IsTooLong, IsStopped}
 use Rattle.world.specs.Streams.{Takes, TakesABeginning}

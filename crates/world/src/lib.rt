@@ -1,18 +1,7 @@
 //! The world of a network, and the events text that tells what happens in it.
 //!
-//! `events` reads that text: a line is `send U V`, `take U V`, `lose U V I`, `tick V`, `ask V T`, `leave V T`, or one of the lines that
-//! begin with `harm` and write a part of the world, as a fault would. Words are parted by exactly one space, and a number is
-//! decimal, at most 65535, with no leading zero. An empty line and one that begins with `#` are passed over.
-//!
-//! A reader takes pieces of any size, keeps at most 64 bytes, and takes no memory:
-//!
-//! ```
-//! let mut reader = EventReader::new();
-//! let taken = reader.take(piece);     // up to the end of the next line: taken.used bytes, and taken.line
-//! let last = reader.last();           // at the end of the text: a line that no newline ended
-//! ```
-//!
-//! The trap: a line that is passed over is an answer too, since lines are numbered with it.
+//! [`events`] reads that text, in pieces of any size: a line is `send U V`, `take U V`, `tick V` and so on, or one that begins with `harm` and writes a part of
+//! the world, as a fault would.
 //!
 //! A [`World`] is a network at one moment: its nodes, and what is under way on each link. `World::new` reserves all memory; each `step` is one event,
 //! and takes none:

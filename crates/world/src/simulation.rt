@@ -7,7 +7,7 @@
 //! ```
 //!
 //! The events text may be as long as [`LONGEST_TEXT`] says; whatever its length, memory is taken for the network alone.
-ghost use Rattle.std.specs.Prelude.{◌≡◌, List, ℕ, Some, IfErr};
+ghost use Rattle.std.specs.Prelude.{◌≡◌, ◌≤◌, List, ℕ, Some, IfErr};
 ghost use Rattle.run_model.specs.World.{default_world};
 ghost use Rattle.world.specs.Simulating.{IsSimulated, HasCause};
 ghost use Rattle.world.specs.StateText.{state_text};
@@ -106,6 +106,7 @@ pub fn simulate<A: Allocator + Copy, N: Allocator + Copy, R: Source, W: Sink>(
 ) -> Result<Summary, SimFault>
     ensures text { (bytes : List ℕ) → R.rest source.old ≡ Some bytes
         → IsSimulated (default_world net.now) bytes (R.rest source.new) (W.taken sink.old) (W.taken sink.new) result }
+    ensures counts { (R.failures source.old ≤ R.failures source.new) × (W.failures sink.old ≤ W.failures sink.new) }
     ensures cause { HasCause result (R.failures source.old) (R.failures source.new) (W.failures sink.old) (W.failures sink.new) }
 {
     let world = World::new(alloc, net)?;

@@ -61,6 +61,7 @@ impl<A: Allocator + Copy> Simulation<A> {
         ensures lines { OnOk result (self.new.lines ≤ longest_text) }
         ensures text { ReadsAll self.old (R.rest source.old) (W.taken sink.old) result self.new (R.rest source.new) (W.taken sink.new) }
         ensures cause { HasCause result (R.failures source.old) (R.failures source.new) (W.failures sink.old) (W.failures sink.new) }
+        ensures source { R.failures source.old ≤ R.failures source.new }
         ensures sink { W.failures sink.old ≤ W.failures sink.new }
     {
         let mut piece = [0; PIECE];

@@ -1,5 +1,5 @@
 use Rattle.run_model.specs.World.{default_world}
-use Rattle.world.proofs.SimulatedEnd.{fault_is, not_read, all_was_read, has_cause}
+use Rattle.world.proofs.SimulatedEnd.{fault_is, not_read, all_was_read, has_cause, higher_then}
 use Rattle.world.proofs.simulation.simulate.Goals as goal
 
 pub returns-in_err-read_all-clause-text : goal.returns-in_err-read_all-clause-text
@@ -23,3 +23,6 @@ returns-clause-text g c =
 
 pub returns-clause-cause : goal.returns-clause-cause
 returns-clause-cause g c = has_cause c.finish.result _ _ _ _ _ c.finish.ensures.err c.in_ok-read_all.ensures.sink c.finish.ensures.failures
+
+pub returns-clause-counts : goal.returns-clause-counts
+returns-clause-counts g c = (c.in_ok-read_all.ensures.source, higher_then c.finish.result _ _ _ c.in_ok-read_all.ensures.sink c.finish.ensures.failures)

@@ -2,7 +2,7 @@ use Rattle.std.proofs.Common.{◌≡◌, ◌∙◌, ap, sym, ◌+◌, ◌-◌, [
 use Rattle.std.proofs.lemmas.Grind.{common_steps}
 use Rattle.std.proofs.lemmas.List.{take-append-drop}
 use Rattle.std.specs.Option.{option_to_list}
-use Rattle.world.specs.EventsText.{ended_lines}
+use Rattle.events_text.specs.EventsText.{ended_lines}
 use Rattle.world.proofs.SimulatedBytes.{piece_more, line_ends, line_fails, fails_on}
 use Rattle.world.proofs.simulation.under_way.Simulation.take.Goals as goal
 

@@ -1,0 +1,7 @@
+pub mod WordLemmas
+pub mod NumberLemmas
+pub mod ReaderLemmas
+pub mod Rows
+pub mod SpellingLemmas
+pub mod EventSpelling
+pub mod EventReading

@@ -1,0 +1,4 @@
+pub mod EventLine
+pub mod EventsText
+pub mod LineReader
+pub mod EventLaws
