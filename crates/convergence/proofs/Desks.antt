@@ -89,7 +89,7 @@ module _ (b : Below) (net : Network) (tour : IsTour net) where
 
   pub loan-event : (w : World) (e : Event) (v : ℕ) → IsSettledOn net w → is_damage w e ≡ false → IsTokenRingGood w → v < net.nodes → IsLoanPrivileged w v
       → IsLoanPrivileged (step w e) v
-  loan-event w e v s d g h p lends = elim (quiet-or-ticks w e v d) [
+  loan-event w e v s d g h p lends = elim (quiet-or-ticks b.only_ticks w e v d) [
     | inl q ↦ privilege-stays w e v s d g h q.0 (p (q.1 lends))
     | inr k ↦ (let z = settled-event b net w e s d in
         let after : is_node_privileged (site w v) (ticked (site w v) (w.node v)) ≡ true =

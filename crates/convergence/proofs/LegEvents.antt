@@ -74,7 +74,7 @@ module _ (b : Below) where
   pub machine-event : (net : Network) (w : World) (e : Event) (l : Leg) → IsSettledOn net w → is_damage w e ≡ false → IsTreeLeg net l
       → (machine_value (step w e) l ≡ machine_value w l)
       ⊎ ((leg_may_move w l ≡ true) × (machine_value (step w e) l ≡ moved_leg w l) × (seen_value (step w e) l ≡ seen_value w l))
-  machine-event net w e l s d t = elim (quiet-or-ticks w e l.here d) [
+  machine-event net w e l s d t = elim (quiet-or-ticks b.only_ticks w e l.here d) [
     | inl q ↦ inl (ap (λ f. f l.from) q.0)
     | inr k ↦ (let r = leg-ticks net w (step w e) l s (settled-event b net w e s d) t k in
         elim (cases_Bool (is_none ((step w e).node l.here).desk.lent && leg_may_move w l)) [

@@ -6,6 +6,8 @@ use Rattle.std.proofs.lemmas.Bool.Decides.{nat_tests}
 use Rattle.topology.specs.At.{at}
 use Rattle.link_model.specs.declared.item.Item.{Item}
 use Rattle.link_model.specs.declared.item.Item.TheVariants.{Frame, Noise}
+use Rattle.lock_desk.specs.Desk.{DeskState, asked, after_leave}
+use Rattle.lock_desk.specs.Laws.{OnlyTicksLend}
 use Rattle.node_core.specs.State.{NodeState}
 use Rattle.node_core.specs.Step.{ticked}
 use Rattle.run_model.specs.World.{World, site}
@@ -38,17 +40,28 @@ at_other f a v s ne = cond-false (v == a) s (f v) (ne_eqb v a ne)
 same_node : (w new : World) (v : ℕ) → new.node v ≡ w.node v → IsQuiet w new v
 same_node w new v e = (ap (λ (s : NodeState). s.value) e, λ h. ap (λ (s : NodeState). is_some s.desk.lent) (sym e) ∙ h)
 
-changed-quiet : (w : World) (e : Event) (v : ℕ) → is_damage w e ≡ false → refusal w e ≡ None → IsQuiet w (changed w e) v ⊎ Ticks w (changed w e) v
-changed-quiet w (Send a c) v d n = inl (grind (arith, nat_tests))
-changed-quiet w (Take a c) v d n = inl (take-quiet w a c v (w.link a c))
-changed-quiet w (Lose a c i) v d n = inl (refl, λ h. h)
-changed-quiet w (Tick a) v d n = elim (cases_eq v a) [
+-- the node with another desk, which lends only where the desk lent before
+desk-quiet : (w new : World) (a v : ℕ) (d : DeskState) → new.node ≡ at w.node a (record (w.node a) { desk = d })
+    → (is_some d.lent ≡ true → is_some (w.node a).desk.lent ≡ true) → IsQuiet w new v
+desk-quiet w new a v d is lent = elim (cases_eq v a) [
+  | inl e ↦ (let here : new.node v ≡ record (w.node a) { desk = d } = ap (λ f. f v) is ∙ at_same w.node a v (record (w.node a) { desk = d }) e in (
+    ap (λ (s : NodeState). s.value) here ∙ ap (λ x. (w.node x).value) (sym e),
+    λ h. ap (λ x. is_some (w.node x).desk.lent) e ∙ lent (ap (λ (s : NodeState). is_some s.desk.lent) (sym here) ∙ h),
+  ))
+  | inr ne ↦ same_node w new v (ap (λ f. f v) is ∙ at_other w.node a v (record (w.node a) { desk = d }) ne)
+]
+
+changed-quiet : (only : OnlyTicksLend) (w : World) (e : Event) (v : ℕ) → is_damage w e ≡ false → refusal w e ≡ None → IsQuiet w (changed w e) v ⊎ Ticks w (changed w e) v
+changed-quiet only w (Send a c) v d n = inl (grind (arith, nat_tests))
+changed-quiet only w (Take a c) v d n = inl (take-quiet w a c v (w.link a c))
+changed-quiet only w (Lose a c i) v d n = inl (refl, λ h. h)
+changed-quiet only w (Tick a) v d n = elim (cases_eq v a) [
   | inl e ↦ inr (at_same w.node a v (ticked (site w a) (w.node a)) e ∙ ap (λ x. ticked (site w x) (w.node x)) (sym e))
   | inr ne ↦ inl (same_node w (changed w (Tick a)) v (at_other w.node a v (ticked (site w a) (w.node a)) ne))
 ]
-changed-quiet w (Ask a t) v d n = inl (grind (arith, nat_tests))
-changed-quiet w (Leave a t) v d n = inl (grind (arith, nat_tests))
-changed-quiet w (Damage h) v d n = absurd (false≢true (sym d ∙ ap is_none n))
+changed-quiet only w (Ask a t) v d n = inl (desk-quiet w (changed w (Ask a t)) a v (asked t (w.node a).desk) refl (only t (w.node a).desk).0)
+changed-quiet only w (Leave a t) v d n = inl (desk-quiet w (changed w (Leave a t)) a v (after_leave t (w.node a).desk) refl (only t (w.node a).desk).1)
+changed-quiet only w (Damage h) v d n = absurd (false≢true (sym d ∙ ap is_none n))
 
 not_refused : (o : Option EventFault) → is_some o ≡ false → o ≡ None
 not_refused None h = refl
@@ -60,10 +73,10 @@ refused_same w e h = cond-true (is_some (refusal w e)) w (changed w e) h
 accepted_changes : (w : World) (e : Event) → is_some (refusal w e) ≡ false → step w e ≡ changed w e
 accepted_changes w e h = cond-false (is_some (refusal w e)) w (changed w e) h
 
-pub quiet-or-ticks : (w : World) (e : Event) (v : ℕ) → is_damage w e ≡ false → IsQuiet w (step w e) v ⊎ Ticks w (step w e) v
-quiet-or-ticks w e v d = elim (cases_Bool (is_some (refusal w e))) [
+pub quiet-or-ticks : (only : OnlyTicksLend) (w : World) (e : Event) (v : ℕ) → is_damage w e ≡ false → IsQuiet w (step w e) v ⊎ Ticks w (step w e) v
+quiet-or-ticks only w e v d = elim (cases_Bool (is_some (refusal w e))) [
   | inl y ↦ inl (subst (λ x. IsQuiet w x v) (sym (refused_same w e y)) (refl, λ h. h))
-  | inr n ↦ subst (λ x. IsQuiet w x v ⊎ Ticks w x v) (sym (accepted_changes w e n)) (changed-quiet w e v d (not_refused (refusal w e) n))
+  | inr n ↦ subst (λ x. IsQuiet w x v ⊎ Ticks w x v) (sym (accepted_changes w e n)) (changed-quiet only w e v d (not_refused (refusal w e) n))
 ]
 
 -- a tick of a node that is there is not refused

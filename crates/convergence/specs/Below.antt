@@ -2,7 +2,7 @@
 use Rattle.topology.specs.Laws.{JoinedBack, JoinedAreNodes, NeighboursAreJoined, DistanceIs, ParentIs, EachTree}
 use Rattle.k_state.specs.Laws as ring
 use Rattle.euler_ring.specs.Laws.{OwnViewIsTrue}
-use Rattle.lock_desk.specs.Laws.{LoansNeedPrivilege}
+use Rattle.lock_desk.specs.Laws.{LoansNeedPrivilege, OnlyTicksLend}
 use Rattle.run_model.specs.Laws as run
 use Rattle.run_model.specs.Legs.{EachTour}
 use Rattle.tree_convergence.specs.Laws as tree
@@ -23,6 +23,7 @@ pub record Below : Type 0 where
   pub ring_stays : ring.GoodOutlastsRuns
   pub one_item : ring.OneItemIsPrivileged
   pub loans : LoansNeedPrivilege
+  pub only_ticks : OnlyTicksLend
   pub view : OwnViewIsTrue
   pub tours : EachTour
   pub one_privileged : run.OnePrivileged

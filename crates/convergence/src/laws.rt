@@ -16,6 +16,7 @@ pub fn below()
     k_state::laws::privilege_law();
     euler_ring::laws::true_view();
     lock_desk::laws::loans_need_privilege();
+    lock_desk::laws::only_ticks_lend();
     run_model::laws::runs();
     run_model::laws::in_range();
     run_model::laws::sweep_numbers();

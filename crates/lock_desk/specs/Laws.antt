@@ -9,6 +9,10 @@ abbrev pub LoansNeedPrivilege : Type 0
 LoansNeedPrivilege =
     (lease : ℕ) (privileged : Bool) (d : DeskState) → lends (desk_ticked lease privileged d) ≡ true → privileged ≡ true
 
+-- asking begins no loan, and leaving begins none: a desk that lends behind it lent before
+abbrev pub OnlyTicksLend : Type 0
+OnlyTicksLend = (t : ℕ) (d : DeskState) → (lends (asked t d) ≡ true → lends d ≡ true) × (lends (after_leave t d) ≡ true → lends d ≡ true)
+
 -- a loan that outlasts a tick is the loan that stood before: no tick ends one and begins another
 abbrev pub LoansAreNotExchanged : Type 0
 LoansAreNotExchanged =

@@ -1,11 +1,16 @@
 //! Laws of a desk, each the contract of a function that does nothing. The proofs above a desk rest on these alone.
 ghost use Rattle.lock_desk.specs.Lines.{LinesMakeTheText, LinesAreLines, LinesGrow};
-ghost use Rattle.lock_desk.specs.Laws.{LoansNeedPrivilege, LoansAreNotExchanged, OneLoanAStay, PassesOnlyServed, FullTicksClear, FirstComeFirstServed, TicksKeepRanges, AsksKeepRanges, LeavesKeepRanges, LoansKeepRanges};
+ghost use Rattle.lock_desk.specs.Laws.{LoansNeedPrivilege, OnlyTicksLend, LoansAreNotExchanged, OneLoanAStay, PassesOnlyServed, FullTicksClear, FirstComeFirstServed, TicksKeepRanges, AsksKeepRanges, LeavesKeepRanges, LoansKeepRanges};
 
 /// A loan begins and outlasts a tick only with privilege. So where at most one node is privileged, after each node's next
 /// tick at most one desk lends; whoever shows that a legitimate network stays legitimate needs it.
 pub fn loans_need_privilege()
     ensures { LoansNeedPrivilege }
+{}
+
+/// A loan begins in a tick alone: whoever follows loans from event to event looks at asks and leaves no further.
+pub fn only_ticks_lend()
+    ensures { OnlyTicksLend }
 {}
 
 /// One tick never ends a loan and begins another, so an act names all that a tick did.

@@ -1,5 +1,5 @@
 //! A source or a sink that fails once.
-ghost use Rattle.std.specs.Prelude.{◌≡◌, ◌+◌, ◌≤◌, Some, is_none, OnOk, OnErr};
+ghost use Rattle.std.specs.Prelude.{◌≡◌, ◌↔◌, ◌+◌, ◌≤◌, None, Some, is_none, IsErr, OnOk, OnErr};
 ghost use Rattle.world.specs.Streams.{Rose};
 
 use super::{Failed, Sink, Source};
@@ -44,6 +44,8 @@ impl<T> Fused<T> {
     /// Counts a call, and fails where it is the one.
     fn pass(&mut self) -> Result<(), Failed>
         ensures inner { self.new.inner ≡ self.old.inner }
+        ensures fails { IsErr result ↔ (self.old.left ≡ Some 0) }
+        ensures once { OnErr result (self.new.left ≡ None) }
         ensures ok { OnOk result (self.new.failures ≡ self.old.failures) }
         ensures err { OnErr result ((self.old.failures ≤ self.new.failures) × Rose self.old.failures self.new.failures) }
     {

@@ -15,6 +15,7 @@ returns c = record {
   ring_stays = c.good_law.ensures.stays_in_runs;
   one_item = c.privilege_law.ensures.one;
   loans = c.loans_need_privilege.ensures;
+  only_ticks = c.only_ticks_lend.ensures;
   view = c.true_view.ensures.own_view;
   tours = c.legs.ensures;
   one_privileged = c.one_token.ensures.privileged;
