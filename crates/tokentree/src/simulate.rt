@@ -3,7 +3,7 @@ ghost use Rattle.std.specs.Prelude.{◌≡◌, [], ◌==◌, if◌then◌else◌
 ghost use Rattle.std.specs.Process.{exit_status};
 ghost use Rattle.std.specs.Io.Buffered.{writer_buffer};
 ghost use Rattle.tokentree.specs.declared.fault.Fault.TheVariants.{EventsUnreadable};
-ghost use Rattle.world.specs.Streams.{Rose};
+ghost use Rattle.byte_streams.specs.Streams.{Rose};
 
 use crate::fault::Fault;
 use crate::network_file::read_network;

@@ -5,7 +5,7 @@
 ghost use Rattle.std.specs.Prelude.{◌≡◌, ◌≤◌, [], None, OnOk, length};
 ghost use Rattle.std.specs.Io.Buffered.{writer_buffer, writer_contents};
 ghost use Rattle.std.specs.Io.KnownBytes.{Appends, Keeps, ReadConsumes};
-ghost use Rattle.world.specs.Streams.{CountsFailures, Reads, Rose, Writes};
+ghost use Rattle.byte_streams.specs.Streams.{CountsFailures, Reads, Rose, Writes};
 
 use std::io::{BufWriter, ErrorKind, Read, Write};
 use world::streams::{Failed, Sink, Source};

@@ -1,15 +1,13 @@
--- Small examples of simulated texts, of what sources give and sinks take, and some that look like them and are none.
-use Rattle.std.proofs.Common.{◌≡◌, ◌≢◌, ℕ, ◌<◌, ◌++◌, List, [], ◌∷◌, Some, None, Ok, Err, codes, decimal, refl, arith, inr}
+-- Small examples of simulated texts, and some that look like them and are none.
+use Rattle.std.proofs.Common.{◌≡◌, ℕ, ◌++◌, List, [], ◌∷◌, Some, None, codes, decimal, refl, arith}
 use Rattle.std.proofs.lemmas.Fmt.{decimal_digit}
 use Rattle.topology.specs.Network.{Network}
 use Rattle.run_model.specs.World.{World, default_world}
 use Rattle.run_model.specs.declared.event.Event.TheVariants.{Ask, Tick}
 use Rattle.events_text.specs.declared.text_line.TextLine.TheVariants.{Passed, Unread, Told}
-use Rattle.world.specs.declared.streams.Failed.{Failed}
 use Rattle.events_text.specs.EventsText.{text_lines}
 use Rattle.world.specs.SimulatedText.{refusal_line, refusals_of, refused_lines, told_events, simulated_text}
 use Rattle.world.specs.StateText.{link_line, counts_line, sweeps_line}
-use Rattle.world.specs.Streams.{Gives, Takes, Rose}
 
 abbrev two_nodes : Network
 two_nodes = record { nodes = 2; root = 0; capacity = 1; lease = 0; edges = (0, 1) ∷ [] }
@@ -80,33 +78,3 @@ shown-empty = rw (zero-is, one-is, two-is)
 -- and of a line that is refused
 shown-refused : simulated_text start (codes "Tick 0") 0 ≡ codes "line 1: Unread\n" ++ nothing_happened
 shown-refused = rw (zero-is, one-is, two-is)
-
--- a source gives its next bytes; it does not give others, and nothing only at its end or where there is no room
-gives-two : Gives 2 (Some (1 ∷ 2 ∷ 3 ∷ [])) (Some (3 ∷ [])) (1 ∷ 2 ∷ 0 ∷ 0 ∷ [])
-gives-two = (omega arith, refl, refl, λ none. absurd (grind arith))
-
-gives_not-others : ¬ Gives 2 (Some (1 ∷ 2 ∷ 3 ∷ [])) (Some (3 ∷ [])) (2 ∷ 1 ∷ [])
-gives_not-others = λ g. grind (arith, g.1)
-
-gives-end : Gives 0 (Some []) (Some []) (0 ∷ [])
-gives-end = (omega arith, refl, refl, λ none room. refl)
-
-gives_not-nothing : ¬ Gives 0 (Some (1 ∷ [])) (Some (1 ∷ [])) (0 ∷ [])
-gives_not-nothing = λ g. grind (arith, g.3 refl (omega arith))
-
-gives-no_room : Gives 0 (Some (1 ∷ [])) (Some (1 ∷ [])) []
-gives-no_room = (omega arith, refl, refl, λ none room. absurd (grind arith))
-
--- a sink takes behind what it took before
-takes-behind : Takes (3 ∷ []) (Some (1 ∷ 2 ∷ [])) (Some (1 ∷ 2 ∷ 3 ∷ []))
-takes-behind = refl
-
-takes_not-in_front : ¬ Takes (3 ∷ []) (Some (1 ∷ 2 ∷ [])) (Some (3 ∷ 1 ∷ 2 ∷ []))
-takes_not-in_front = λ t. grind arith
-
--- a count of failures that stays at its greatest value counts as risen there, and nowhere else
-rose-most : Rose 18446744073709551615 18446744073709551615
-rose-most = inr (omega arith)
-
-rose_not-same : ¬ Rose 5 5
-rose_not-same = λ r. grind arith

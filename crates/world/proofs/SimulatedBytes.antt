@@ -10,10 +10,10 @@ use Rattle.events_text.specs.declared.text_line.TextLine.{TextLine}
 use Rattle.events_text.specs.EventsText.{text_line, ended_lines}
 use Rattle.events_text.specs.LineReader.{Begun, StandsAfter}
 use Rattle.world.specs.SimulatedText.{told_events, refusals_of, refusal_lines}
-use Rattle.world.specs.Streams.{TakesABeginning}
+use Rattle.byte_streams.specs.Streams.{TakesABeginning}
 use Rattle.world.specs.UnderWay.{SimulationView, HasRun, IsUnderWay, GoesOn}
 use Rattle.world.proofs.SimulatedLines.{refusals_both}
-use Rattle.world.proofs.Writing.{take_rest, beginning_of_more}
+use Rattle.byte_streams.proofs.Writing.{take_rest, beginning_of_more}
 
 -- the first bytes of a piece, and more of them
 pub piece_more : (piece : List ℕ) (at used : ℕ) → at ≤ length piece

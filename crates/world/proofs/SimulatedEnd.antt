@@ -8,45 +8,43 @@ use Rattle.run_model.specs.Count.{IsSweepCount}
 use Rattle.world.specs.declared.simulation.Summary.{Summary}
 use Rattle.world.specs.declared.simulation.SimFault.{SimFault}
 use Rattle.world.specs.declared.simulation.SimFault.TheVariants.{Memory, Read, Long, Write}
-use Rattle.world.specs.Below.{Below}
 use Rattle.events_text.specs.EventsText.{text_lines}
-use Rattle.world.specs.Judging.{counted_up_to}
+use Rattle.judge.specs.Judging.{counted_up_to}
+use Rattle.judge.specs.JudgeView.{AreSweepsSeen}
 use Rattle.world.specs.SimulatedText.{events_of, refusals_of}
 use Rattle.world.specs.Simulating.{longest_text, IsShown, IsHalfShown, IsSimulated, HasCause}
 use Rattle.world.specs.StateText.{state_text}
-use Rattle.world.specs.Streams.{Takes, TakesABeginning, Rose, CountsFailures}
+use Rattle.byte_streams.specs.Streams.{Takes, TakesABeginning, Rose, CountsFailures}
 use Rattle.world.specs.UnderWay.{SimulationView, HasRun, Reads, Finishes}
-use Rattle.world.specs.WorldView.{world_of}
-use Rattle.world.proofs.Judging.{judging-counts}
-use Rattle.world.proofs.Writing.{takes_both, then_beginning}
+use Rattle.configuration.specs.WorldView.{world_of}
+use Rattle.byte_streams.proofs.Writing.{takes_both, then_beginning}
 
-module _ (laws : Below) (start : World) (bytes : List ℕ) (before between after : Option (List ℕ)) (s : SimulationView)
+module _ (start : World) (bytes : List ℕ) (before between after : Option (List ℕ)) (s : SimulationView) (sweeps : ℕ) (seen : AreSweepsSeen s.judge sweeps)
     (h : HasRun start (text_lines bytes) before between s) where
-  counted : IsSweepCount start (events_of bytes) h.seen.count
-  counted = judging-counts laws start (events_of bytes) (world_of s.judge.world) s.judge.stretch s.judge.sweeps s.judge.refused h.seen
+  counted : (count : ℕ) × IsSweepCount start (events_of bytes) count × (sweeps ≡ counted_up_to count)
+  counted = seen start (events_of bytes) h.seen
 
   abbrev shown_text : List ℕ
-  shown_text = state_text (run start (events_of bytes)) (counted_up_to h.seen.count)
+  shown_text = state_text (run start (events_of bytes)) (counted_up_to counted.0)
 
-  same_text : state_text (world_of s.judge.world) s.judge.sweeps ≡ shown_text
-  same_text = ap (λ w. state_text w s.judge.sweeps) h.seen.now_is ∙ ap (state_text (run start (events_of bytes))) h.seen.sweeps_are
+  same_text : state_text (world_of s.judge.world) sweeps ≡ shown_text
+  same_text = ap (λ w. state_text w sweeps) h.seen.now_is ∙ ap (state_text (run start (events_of bytes))) counted.2
 
   -- the text of the world was written
-  pub is_shown : (sweeps : ℕ) → sweeps ≡ s.judge.sweeps → Takes (state_text (world_of s.judge.world) s.judge.sweeps) between after
-      → IsShown start bytes before after (record { refused = s.refused; sweeps = sweeps })
-  is_shown sweeps same written = record {
-    count = h.seen.count;
-    counted = counted;
+  pub is_shown : Takes (state_text (world_of s.judge.world) sweeps) between after → IsShown start bytes before after (record { refused = s.refused; sweeps = sweeps })
+  is_shown written = record {
+    count = counted.0;
+    counted = counted.1;
     written = takes_both (refusals_of start (text_lines bytes)) shown_text before between after h.written (rw same_text at written);
-    sweeps = same ∙ h.seen.sweeps_are;
+    sweeps = counted.2;
     refused = h.refused_are;
   }
 
   -- only a beginning of it was written
-  pub is_half_shown : TakesABeginning (state_text (world_of s.judge.world) s.judge.sweeps) between after → IsHalfShown start bytes before after
+  pub is_half_shown : TakesABeginning (state_text (world_of s.judge.world) sweeps) between after → IsHalfShown start bytes before after
   is_half_shown b = record {
-    count = h.seen.count;
-    counted = counted;
+    count = counted.0;
+    counted = counted.1;
     written = then_beginning (refusals_of start (text_lines bytes)) shown_text before between after h.written (rw same_text at b);
   }
 

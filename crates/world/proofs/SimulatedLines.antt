@@ -7,13 +7,13 @@ use Rattle.run_model.specs.Step.{step}
 use Rattle.run_model.specs.Run.{run}
 use Rattle.events_text.specs.declared.text_line.TextLine.{TextLine}
 use Rattle.events_text.specs.declared.text_line.TextLine.TheVariants.{Passed, Unread, Told}
-use Rattle.world.specs.JudgeView.{HasSeen}
-use Rattle.world.specs.Judging.{counted_up_to}
+use Rattle.judge.specs.JudgeView.{HasSeen}
+use Rattle.judge.specs.Judging.{counted_up_to}
 use Rattle.world.specs.SimulatedText.{line_refusal, refusal_line, refusal_lines, refused_lines, told_events, refusals_of}
-use Rattle.world.specs.Streams.{Takes, TakesABeginning, WritesAll}
+use Rattle.byte_streams.specs.Streams.{Takes, TakesABeginning, WritesAll}
 use Rattle.world.specs.UnderWay.{SimulationView, HasRun, HasSeenLine, Runs}
-use Rattle.world.specs.WorldView.{world_of}
-use Rattle.world.proofs.Writing.{takes_both, takes_nothing, then_beginning}
+use Rattle.configuration.specs.WorldView.{world_of}
+use Rattle.byte_streams.proofs.Writing.{takes_both, takes_nothing, then_beginning}
 
 -- the events of lines and then more lines
 pub told_both : (lines more : List TextLine) → told_events (lines ++ more) ≡ told_events lines ++ told_events more

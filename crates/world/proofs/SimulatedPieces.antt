@@ -9,10 +9,10 @@ use Rattle.run_model.specs.Run.{run}
 use Rattle.events_text.specs.EventsText.{text_line, ended_lines, last_line, text_lines}
 use Rattle.world.specs.SimulatedText.{told_events, refusals_of, refusal_lines}
 use Rattle.world.specs.Simulating.{HasRead}
-use Rattle.world.specs.Streams.{Gives, GivesNext, TakesABeginning}
+use Rattle.byte_streams.specs.Streams.{Gives, GivesNext, TakesABeginning}
 use Rattle.world.proofs.SimulatedBytes.{beginning_of_bytes}
 use Rattle.world.proofs.SimulatedLines.{refusals_both}
-use Rattle.world.proofs.Writing.{beginning_of_more}
+use Rattle.byte_streams.proofs.Writing.{beginning_of_more}
 
 -- what a source gives that still has these bytes to give
 pub given : (count : ℕ) (before after : Option (List ℕ)) (buffer rest : List ℕ) → before ≡ Some rest → Gives count before after buffer → GivesNext count rest after buffer

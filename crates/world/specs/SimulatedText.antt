@@ -9,7 +9,7 @@ use Rattle.run_model.specs.declared.event.EventFault.TheVariants.{NoNode, NoLink
 use Rattle.events_text.specs.declared.text_line.TextLine.{TextLine}
 use Rattle.events_text.specs.declared.text_line.TextLine.TheVariants.{Passed, Unread, Told}
 use Rattle.events_text.specs.EventsText.{text_lines}
-use Rattle.world.specs.Judging.{counted_up_to}
+use Rattle.judge.specs.Judging.{counted_up_to}
 use Rattle.world.specs.StateText.{state_text}
 
 -- how a refusal is written

@@ -6,9 +6,9 @@ use Rattle.world.specs.declared.simulation.Summary.{Summary}
 use Rattle.world.specs.declared.simulation.SimFault.{SimFault}
 use Rattle.world.specs.declared.simulation.SimFault.TheVariants.{Memory, Read, Long, Write}
 use Rattle.events_text.specs.EventsText.{ended_lines, text_lines}
-use Rattle.world.specs.Judging.{counted_up_to}
+use Rattle.judge.specs.Judging.{counted_up_to}
 use Rattle.world.specs.SimulatedText.{refused_lines, events_of, refusals_of, simulated_text}
-use Rattle.world.specs.Streams.{Takes, TakesABeginning, Rose}
+use Rattle.byte_streams.specs.Streams.{Takes, TakesABeginning, Rose}
 
 -- the most bytes of an events text
 abbrev pub longest_text : ℕ

@@ -7,12 +7,12 @@ use Rattle.world.specs.declared.simulation.Summary.{Summary}
 use Rattle.world.specs.declared.simulation.SimFault.{SimFault}
 use Rattle.world.specs.declared.simulation.SimFault.TheVariants.{Memory, Read, Long, Write}
 use Rattle.events_text.specs.EventsText.{ended_lines, text_lines}
-use Rattle.world.specs.JudgeView.{JudgeView, HasSeen}
-use Rattle.world.specs.Judging.{counted_up_to}
+use Rattle.judge.specs.JudgeView.{JudgeView, HasSeen}
+use Rattle.judge.specs.Judging.{counted_up_to}
 use Rattle.events_text.specs.LineReader.{Begun, StandsAfter}
 use Rattle.world.specs.SimulatedText.{refused_lines, told_events, refusals_of}
 use Rattle.world.specs.Simulating.{longest_text, IsShown, IsHalfShown, IsCutShort, IsTooLong, IsStopped}
-use Rattle.world.specs.Streams.{Takes, TakesABeginning}
+use Rattle.byte_streams.specs.Streams.{Takes, TakesABeginning}
 
 -- a judge, what is kept of the line under way, how many lines there have been, and how many of them were refused
 pub record SimulationView : Type 0 where

@@ -1,4 +1,4 @@
-//! The laws of a run from any state, and what this crate knows of the crates below.
+//! The laws of a run from any state.
 //!
 //! A law is a function that does nothing, with what is proved as its contract. Whoever proves something of a world calls it and cites its clauses,
 //! whose statements are `Rattle.world.specs.Laws` and `Rattle.world.specs.Headline`:
@@ -10,19 +10,5 @@
 //! - `closure_law`, closure: over every list of events without damage a legitimate world stays legitimate, and every legitimate world serves.
 //!
 //! The trap: neither claims that sweeps occur. A sweep needs a full tick of each node, so none ends while a client keeps the lock for ever.
-ghost use Rattle.world.specs.Below.{Below};
 
 pub use convergence::laws::{closure_law, converge_law};
-
-/// The laws of networks and of runs that the judge stands on.
-pub(crate) fn below()
-    ensures { Below }
-{
-    topology::laws::joined();
-    topology::laws::limits();
-    run_model::laws::runs();
-    run_model::laws::in_range();
-    run_model::laws::stretches();
-    run_model::laws::sweep_counts();
-    run_model::laws::moments();
-}

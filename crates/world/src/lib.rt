@@ -41,22 +41,11 @@
 //! ```
 #![tactic(auto)]
 
-mod configuration;
 pub mod events;
-mod judge;
 pub mod laws;
-mod links;
-mod parts;
 pub mod report;
 pub mod simulation;
 pub mod streams;
-mod stretch;
-mod tallies;
-mod world;
 
-pub use configuration::Configuration;
-pub use judge::Judge;
-pub use links::Links;
-pub use parts::Parts;
-pub use stretch::Stretch;
-pub use world::World;
+pub use configuration::{Configuration, Links};
+pub use judge::{Judge, Parts, Stretch, World};

@@ -11,8 +11,8 @@ ghost use Rattle.std.specs.Prelude.{◌≡◌, ◌≤◌, List, ℕ, Some, IfErr
 ghost use Rattle.run_model.specs.World.{default_world};
 ghost use Rattle.world.specs.Simulating.{IsSimulated, HasCause};
 ghost use Rattle.world.specs.StateText.{state_text};
-ghost use Rattle.world.specs.Streams.{WritesAll};
-ghost use Rattle.world.specs.WorldView.{world_of};
+ghost use Rattle.byte_streams.specs.Streams.{WritesAll};
+ghost use Rattle.configuration.specs.WorldView.{world_of};
 ghost use Rattle.world.specs.declared.simulation.SimFault.TheVariants.{Write};
 
 mod line;
@@ -20,8 +20,8 @@ mod refusal;
 mod state;
 mod under_way;
 
-use crate::streams::{Sink, Source};
-use crate::world::World;
+use byte_streams::{Sink, Source};
+use judge::World;
 use state::write_state;
 use std::alloc::{AllocError, Allocator};
 use thiserror::Error;
@@ -85,7 +85,7 @@ pub fn state_text<A: Allocator + Copy, W: Sink>(
     ensures text { WritesAll result (state_text (world_of world.now) sweeps) (W.taken sink.old) (W.taken sink.new) (W.failures sink.old) (W.failures sink.new) }
     ensures err { IfErr result (λ fault. fault ≡ Write) }
 {
-    let Ok(()) = write_state(&world.configuration, sweeps, sink) else {
+    let Ok(()) = write_state(world.configuration(), sweeps, sink) else {
         return Err(SimFault::Write);
     };
     Ok(())

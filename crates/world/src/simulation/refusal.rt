@@ -1,10 +1,10 @@
 //! The line that tells of a refused line.
 ghost use Rattle.std.specs.Prelude.{◌≡◌, ◌≤◌, Some, length};
 ghost use Rattle.world.specs.SimulatedText.{fault_name, refusal_line};
-ghost use Rattle.world.specs.Streams.{WritesAll};
+ghost use Rattle.byte_streams.specs.Streams.{WritesAll};
 
 use super::line::{Line, push_number};
-use crate::streams::{Failed, Sink, write_all};
+use byte_streams::{Failed, Sink, write_all};
 use run_model::EventFault;
 
 /// What a line that spells no event is called.

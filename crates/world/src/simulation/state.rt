@@ -2,12 +2,12 @@
 ghost use Rattle.std.specs.Prelude.{◌≡◌, ◌+◌, ◌<◌, ◌≤◌, ◌++◌, codes, decimal, length};
 ghost use Rattle.arrayvec.specs.ArrayString.{array_string_len};
 ghost use Rattle.world.specs.StateText.{node_lines, link_line, links_from, link_lines, counts_line, sweeps_line, state_text};
-ghost use Rattle.world.specs.Streams.{WritesAll};
-ghost use Rattle.world.specs.WorldView.{world_of};
+ghost use Rattle.byte_streams.specs.Streams.{WritesAll};
+ghost use Rattle.configuration.specs.WorldView.{world_of};
 
 use super::line::{Line, push_number};
-use crate::configuration::Configuration;
-use crate::streams::{Failed, Sink, write_all};
+use byte_streams::{Failed, Sink, write_all};
+use configuration::Configuration;
 use std::alloc::Allocator;
 
 /// Writes the text that shows a world, with a count of sweeps.

@@ -1,6 +1,6 @@
 //! Texts and what they lead to, worked out by hand. Each comes in pieces of one byte, of seven, and whole.
 use super::*;
-use crate::streams::{MemorySink, MemorySource};
+use byte_streams::{MemorySink, MemorySource};
 use std::alloc::Global;
 use std::fmt::Write;
 use std::process::Abort;

@@ -1,20 +1,18 @@
 //! A simulation that is under way.
 ghost use Rattle.std.specs.Prelude.{◌≡◌, ◌+◌, ◌-◌, ◌^◌, ◌<◌, ◌≤◌, ℕ, List, [], Option, OnOk, IfErr, IfSome, option_map, length};
 ghost use Rattle.world.specs.Simulating.{longest_text, HasCause};
-ghost use Rattle.world.specs.Streams.{CountsFailures};
+ghost use Rattle.byte_streams.specs.Streams.{CountsFailures};
 ghost use Rattle.world.specs.declared.simulation.SimFault.TheVariants.{Write};
 ghost use Rattle.world.specs.SimulatedText.{line_refusal};
 ghost use Rattle.world.specs.UnderWay.{HasSeenLine, IsUnderWay, RunsNext, RunsLast, TakesNext, ReadsAll, EndsThere};
-ghost use Rattle.world.specs.WorldView.{world_of};
+ghost use Rattle.configuration.specs.WorldView.{world_of};
 
 use super::refusal::{UNREAD, fault_name, write_refusal};
 use super::state::write_state;
 use super::{LONGEST_TEXT, PIECE, SimFault, Summary};
-use crate::events::{EventReader, TextLine};
-use crate::judge::Judge;
-use crate::laws::below;
-use crate::streams::{Failed, Sink, Source};
-use crate::world::World;
+use byte_streams::{Failed, Sink, Source};
+use events_text::{EventReader, TextLine};
+use judge::{Judge, World};
 use std::alloc::{Allocator, Global};
 use std::marker::Model;
 
@@ -90,7 +88,6 @@ impl<A: Allocator + Copy> Simulation<A> {
         ensures failures { CountsFailures result (W.failures sink.old) (W.failures sink.new) }
         ensures err { IfErr result (λ fault. fault ≡ Write) }
     {
-        below();
         let Ok(()) = self.last_line(sink) else {
             return Err(SimFault::Write);
         };

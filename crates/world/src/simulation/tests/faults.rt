@@ -1,6 +1,6 @@
 //! Sources, sinks and memory that fail, at each of their calls in turn.
 use super::*;
-use crate::streams::{Failed, Fused};
+use byte_streams::{Failed, Fused};
 use linked_list_allocator::LocalHeap;
 
 /// Lines of which all but one are refused.

@@ -1,7 +1,7 @@
 use Rattle.std.proofs.Common.{◌≡◌, ◌∙◌, ap, ◌++◌, codes, decimal}
 use Rattle.run_model.specs.Legitimate.{privileged_count, lending_count}
 use Rattle.world.specs.StateText.{counts_line}
-use Rattle.world.specs.WorldView.{world_of}
+use Rattle.configuration.specs.WorldView.{world_of}
 use Rattle.world.proofs.simulation.state.write_counts.Goals as goal
 
 pub returns : goal.returns

@@ -3,9 +3,9 @@ use Rattle.std.specs.List.{flat_map, range_with_len}
 use Rattle.std.proofs.lemmas.Grind.{common_steps}
 use Rattle.std.proofs.lemmas.List.FromFn.{length-range_with_len}
 use Rattle.world.specs.StateText.{links_from}
-use Rattle.world.specs.Streams.{Takes, TakesABeginning}
-use Rattle.world.specs.WorldView.{world_of}
-use Rattle.world.proofs.Writing.{fails_within, texts_fail, texts_go_on, number_at, all_numbers}
+use Rattle.byte_streams.specs.Streams.{Takes, TakesABeginning}
+use Rattle.configuration.specs.WorldView.{world_of}
+use Rattle.byte_streams.proofs.Writing.{fails_within, texts_fail, texts_go_on, number_at, all_numbers}
 use Rattle.world.proofs.simulation.state.write_links.Goals as goal
 
 pub returns-in_err-write_links_from : goal.returns-in_err-write_links_from

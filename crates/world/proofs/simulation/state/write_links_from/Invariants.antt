@@ -2,8 +2,8 @@ use Rattle.std.proofs.Common.{◌≤◌, take}
 use Rattle.std.specs.List.{flat_map}
 use Rattle.topology.specs.Network.{neighbours_of}
 use Rattle.world.specs.StateText.{link_line}
-use Rattle.world.specs.Streams.{Takes}
-use Rattle.world.specs.WorldView.{world_of}
+use Rattle.byte_streams.specs.Streams.{Takes}
+use Rattle.configuration.specs.WorldView.{world_of}
 use Rattle.world.proofs.simulation.state.write_links_from.Given as goal
 
 -- the lines of the links to the first neighbours were written

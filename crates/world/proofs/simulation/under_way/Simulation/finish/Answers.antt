@@ -7,12 +7,11 @@ returns-in_default-write_state-clause-text g c =
     λ start bytes before h.
     let ran = rw (← c.self.view_is) at (c.in-Ok.ensures.runs start bytes before h) in
     let failed = c.in_default-write_state.ensures in
-    inr (is_half_shown c.below.ensures start bytes before _ _ _ ran (rw (c.configuration.ensures, c.sweeps-sweeps.ensures) at failed.0))
+    inr (is_half_shown start bytes before _ _ _ c.sweeps-sweeps.result c.sweeps-sweeps.ensures.sweeps ran (rw c.configuration.ensures at failed.0))
 
 pub returns-clause-text : goal.returns-clause-text
 returns-clause-text g c =
     λ start bytes before h.
     let ran = rw (← c.self.view_is) at (c.in-Ok.ensures.runs start bytes before h) in
     let wrote = c.in-Ok-write_state.ensures in
-    is_shown c.below.ensures start bytes before _ _ _ ran c.sweeps-sweeps.result c.sweeps-sweeps.ensures
-    (rw (c.configuration.ensures, c.sweeps-sweeps.ensures) at wrote.0)
+    is_shown start bytes before _ _ _ c.sweeps-sweeps.result c.sweeps-sweeps.ensures.sweeps ran (rw c.configuration.ensures at wrote.0)

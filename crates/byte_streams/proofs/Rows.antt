@@ -1,0 +1,33 @@
+-- Small examples of what sources give and sinks take, and some that look like them and are none.
+use Rattle.std.proofs.Common.{[], ◌∷◌, Some, refl, arith, inr}
+use Rattle.byte_streams.specs.Streams.{Gives, Takes, Rose}
+
+-- a source gives its next bytes; it does not give others, and nothing only at its end or where there is no room
+gives-two : Gives 2 (Some (1 ∷ 2 ∷ 3 ∷ [])) (Some (3 ∷ [])) (1 ∷ 2 ∷ 0 ∷ 0 ∷ [])
+gives-two = (omega arith, refl, refl, λ none. absurd (grind arith))
+
+gives_not-others : ¬ Gives 2 (Some (1 ∷ 2 ∷ 3 ∷ [])) (Some (3 ∷ [])) (2 ∷ 1 ∷ [])
+gives_not-others = λ g. grind (arith, g.1)
+
+gives-end : Gives 0 (Some []) (Some []) (0 ∷ [])
+gives-end = (omega arith, refl, refl, λ none room. refl)
+
+gives_not-nothing : ¬ Gives 0 (Some (1 ∷ [])) (Some (1 ∷ [])) (0 ∷ [])
+gives_not-nothing = λ g. grind (arith, g.3 refl (omega arith))
+
+gives-no_room : Gives 0 (Some (1 ∷ [])) (Some (1 ∷ [])) []
+gives-no_room = (omega arith, refl, refl, λ none room. absurd (grind arith))
+
+-- a sink takes behind what it took before
+takes-behind : Takes (3 ∷ []) (Some (1 ∷ 2 ∷ [])) (Some (1 ∷ 2 ∷ 3 ∷ []))
+takes-behind = refl
+
+takes_not-in_front : ¬ Takes (3 ∷ []) (Some (1 ∷ 2 ∷ [])) (Some (3 ∷ 1 ∷ 2 ∷ []))
+takes_not-in_front = λ t. grind arith
+
+-- a count of failures that stays at its greatest value counts as risen there, and nowhere else
+rose-most : Rose 18446744073709551615 18446744073709551615
+rose-most = inr (omega arith)
+
+rose_not-same : ¬ Rose 5 5
+rose_not-same = λ r. grind arith

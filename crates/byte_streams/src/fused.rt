@@ -1,0 +1,87 @@
+//! A source or a sink that fails once.
+ghost use Rattle.std.specs.Prelude.{◌≡◌, ◌↔◌, ◌+◌, ◌≤◌, None, Some, is_none, IsErr, OnOk, OnErr};
+ghost use Rattle.byte_streams.specs.Streams.{Rose};
+
+use crate::streams::{Failed, Sink, Source};
+
+/// Passes some calls on to what it holds, fails one, and passes on all others. It tests what becomes of a call whose source or sink fails.
+#[derive(Drop)]
+pub struct Fused<T> {
+    inner: T,
+    /// After how many calls it fails; none once it has.
+    left: Option<u64>,
+    failures: u64,
+}
+
+impl<T> Fused<T> {
+    /// Passes `calls` calls on and fails the next one.
+    pub fn new(inner: T, calls: u64) -> Fused<T>
+        ensures inner { result.inner ≡ inner }
+        ensures left { result.left ≡ Some calls }
+        ensures failures { result.failures ≡ 0 }
+    {
+        Fused {
+            inner,
+            left: Some(calls),
+            failures: 0,
+        }
+    }
+
+    /// What it holds.
+    pub fn inner(&self) -> &T
+        ensures { result.now ≡ self.now.inner }
+    {
+        &self.inner
+    }
+
+    /// Whether it has failed.
+    pub fn has_failed(&self) -> bool
+        ensures { result ≡ is_none self.now.left }
+    {
+        self.left.is_none()
+    }
+
+    /// Counts a call, and fails where it is the one.
+    fn pass(&mut self) -> Result<(), Failed>
+        ensures inner { self.new.inner ≡ self.old.inner }
+        ensures fails { IsErr result ↔ (self.old.left ≡ Some 0) }
+        ensures once { OnErr result (self.new.left ≡ None) }
+        ensures ok { OnOk result (self.new.failures ≡ self.old.failures) }
+        ensures err { OnErr result ((self.old.failures ≤ self.new.failures) × Rose self.old.failures self.new.failures) }
+    {
+        match self.left {
+            None => Ok(()),
+            Some(0) => {
+                self.left = None;
+                self.failures = self.failures.saturating_add(1);
+                Err(Failed)
+            }
+            Some(calls) => {
+                self.left = Some(calls - 1);
+                Ok(())
+            }
+        }
+    }
+}
+
+impl<S: Source> Source for Fused<S> {
+    ghost rest = { λ s. S.rest s.inner };
+
+    ghost failures = { λ s. S.failures s.inner + s.failures };
+
+    fn read(&mut self, buffer: &mut [u8]) -> Result<usize, Failed> {
+        self.pass()?;
+        self.inner.read(buffer)
+    }
+}
+
+impl<W: Sink> Sink for Fused<W> {
+    ghost taken = { λ s. W.taken s.inner };
+
+    ghost failures = { λ s. W.failures s.inner + s.failures };
+
+    fn write(&mut self, bytes: &[u8]) -> Result<usize, Failed> {
+        self.pass()?;
+        self.inner.write(bytes)
+    }
+}

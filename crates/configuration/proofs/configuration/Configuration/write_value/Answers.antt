@@ -1,0 +1,53 @@
+use Rattle.std.proofs.Common.{◌≡◌, ◌↔◌, ◌<◌, subst, sym, refl, IsOk, IsTrue, None, Contains}
+use Rattle.topology.specs.At.{at}
+use Rattle.run_model.specs.declared.event.Harm.{Harm}
+use Rattle.run_model.specs.declared.event.Harm.TheVariants.{Value}
+use Rattle.run_model.specs.Step.{harm_fits, harm_place_fault}
+use Rattle.configuration.specs.WorldView.{WorldView, world_of}
+use Rattle.configuration.proofs.NodePlaces.{IsNodeAt, now-nodes, site-is}
+use Rattle.configuration.proofs.Harms.{harm-world, harm-ok, harm-err, same-cases, less-test}
+use Rattle.configuration.proofs.configuration.Configuration.write_value.Given as given
+use Rattle.configuration.proofs.configuration.Configuration.write_value.Goals as goal
+
+pub set_value-requires : goal.set_value-requires
+set_value-requires g c =
+    let w : WorldView = record { nodes = c.self.inside.nodes.items; links = c.self.inside.links } in
+    let ok = rw (← c.self.view_is) at c.in_ok-find_link.ensures.ok in
+    let near = rw (← c.self.view_is) at c.in_ok-find_link.ensures.near in
+    let here : IsNodeAt w.links.net w.nodes c.args.node c.from.result c.index_mut.result.now =
+    record { nodes_are = c.self.invariant; in_net = ok.0; place = c.from.ensures; value = c.index_mut.ensures.value } in
+    subst (λ s. Contains s.neighbours c.args.neighbour) (sym (site-is _ _ _ _ _ here)) near.0
+
+-- the world before, the harm, where the node is, and that the harm's place is there
+module _ (g : given.Over) (c : goal.After-in_range g) where
+  abbrev old : WorldView
+  old = record { nodes = c.self.inside.nodes.items; links = c.self.inside.links }
+
+  abbrev written : Harm
+  written = Value c.args.node c.args.neighbour c.args.value
+
+  here : IsNodeAt old.links.net old.nodes c.args.node c.from.result c.index_mut.result.now
+  here =
+      let ok = rw (← c.self.view_is) at c.in_ok-find_link.ensures.ok in
+      record { nodes_are = c.self.invariant; in_net = ok.0; place = c.from.ensures; value = c.index_mut.ensures.value }
+
+  found : harm_place_fault (world_of old) written ≡ None
+  found = let ok = rw (← c.self.view_is) at c.in_ok-find_link.ensures.ok in ok.3
+
+  fits : IsOk c.set_value.result ↔ IsTrue (harm_fits (world_of old) written)
+  fits = less-test c.args.value _ (subst (λ s. IsOk c.set_value.result ↔ (c.args.value < s.ranges.ring)) (site-is _ _ _ _ _ here) c.set_value.ensures.variant)
+
+pub invariant_of-self : goal.invariant_of-self
+invariant_of-self g c = now-nodes _ _ _ _ _ (here g c) c.set_value.new.self c.set_value.ensures.site
+
+pub returns-clause-world : goal.returns-clause-world
+returns-clause-world g c =
+    rw (← c.self.view_is) (harm-world (old g c) _ _ _ _ (written g c) (λ s. record s { value = at s.value c.args.neighbour c.args.value })
+    c.set_value.result (here g c) (found g c) (fits g c) refl c.set_value.ensures.ok c.set_value.ensures.out_of_range)
+
+pub returns-clause-ok : goal.returns-clause-ok
+returns-clause-ok g c = rw (← c.self.view_is) (harm-ok (world_of (old g c)) (written g c) (found g c) c.in_range.result (same-cases c.in_range.ensures.ok (fits g c)))
+
+pub returns-clause-err : goal.returns-clause-err
+returns-clause-err g c =
+    rw (← c.self.view_is) (harm-err (world_of (old g c)) (written g c) (found g c) c.in_range.result (same-cases c.in_range.ensures.ok (fits g c)) c.in_range.ensures.err)

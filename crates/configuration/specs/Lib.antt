@@ -1,0 +1,2 @@
+pub mod LinksView
+pub mod WorldView

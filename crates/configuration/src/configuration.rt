@@ -1,0 +1,280 @@
+//! What a world is at one moment: the state of each node, and what is under way on each link.
+ghost use Rattle.std.specs.Prelude.{◌≡◌, ◌↔◌, ◌<◌, ◌≤◌, IsTrue, IfOk, IfErr, IsOk, OnOk, OnErr, None, Some, Contains, length};
+ghost use Rattle.topology.specs.Network.{are_joined, neighbours_of};
+ghost use Rattle.node_core.specs.View.{state_of, site_in};
+ghost use Rattle.run_model.specs.World.{IsWorldInRange, default_world, site};
+ghost use Rattle.run_model.specs.Legitimate.{lending_count, privileged_count};
+ghost use Rattle.run_model.specs.Step.{desk_fault, link_fault, node_fault, refusal, step};
+ghost use Rattle.run_model.specs.declared.event.Event.TheVariants.{Send, Take, Lose, Tick, Ask, Leave, Damage};
+ghost use Rattle.topology.specs.Ranges.{ranges_of};
+ghost use Rattle.node_core.specs.State.{default_node};
+ghost use Rattle.configuration.specs.WorldView.{AreNodesOf, states_of, world_of};
+
+mod harms;
+
+use crate::links::Links;
+use link_model::{Item, NoItem};
+use lock_desk::{AskFault, Stranger};
+use node_core::Node;
+use run_model::{Event, EventFault};
+use std::alloc::{AllocError, Allocator, Global};
+use std::marker::Model;
+use topology::Net;
+
+/// The desk's refusal, as an event's.
+fn desk_fault(fault: AskFault) -> EventFault
+    ensures { desk_fault (Some fault) ≡ Some result }
+{
+    match fault {
+        AskFault::Full => EventFault::Full,
+        AskFault::Twice => EventFault::Twice,
+    }
+}
+
+/// What a world is at one moment: its nodes, and its links with what is under way.
+#[derive(Drop)]
+pub struct Configuration<A: Allocator + Copy = Global> {
+    nodes: Vec<Node<A>, A>,
+    links: Links<A>,
+}
+
+impl<A: Allocator + Copy> Model for Configuration<A> {
+    ghost use Rattle.configuration.specs.WorldView.{WorldView, AreNodesOf};
+
+    ghost Value = { WorldView };
+
+    ghost view = { λ w. record { nodes = w.nodes.items; links = w.links } };
+
+    ghost invariant = { λ w. AreNodesOf w.links.net w.nodes.items };
+}
+
+/// A node for each id, as it starts.
+fn new_nodes<A: Allocator + Copy, N: Allocator + Copy>(
+    alloc: A,
+    net: &Net<N>,
+) -> Result<Vec<Node<A>, A>, AllocError>
+    ensures nodes { IfOk result (λ nodes. AreNodesOf net.now nodes.items) }
+    ensures states { IfOk result (λ nodes. states_of net.now nodes.items ≡ λ v. default_node (ranges_of net.now)) }
+{
+    let mut nodes = Vec::new(alloc);
+    for id in 0..net.nodes() {
+        nodes.push(Node::new(alloc, net, id)?)?;
+    }
+    Ok(nodes)
+}
+
+impl<A: Allocator + Copy> Configuration<A> {
+    /// Every node as it starts, and nothing under way. It keeps a copy of the network, and reserves all memory that any step needs.
+    pub fn new<N: Allocator + Copy>(alloc: A, net: &Net<N>) -> Result<Configuration<A>, AllocError>
+        ensures { IfOk result (λ world. world_of world ≡ default_world net.now) }
+    {
+        let links = Links::new(alloc, net)?;
+        let nodes = new_nodes(alloc, net)?;
+        Ok(Configuration { nodes, links })
+    }
+
+    /// The nodes by their ids, and the links, which keep the network. No memory is taken.
+    pub fn into_parts(self) -> (Vec<Node<A>, A>, Links<A>)
+        ensures nodes { result.0.items ≡ self.nodes }
+        ensures links { result.1 ≡ self.links }
+        ensures sites { AreNodesOf result.1.net result.0.items }
+    {
+        (self.nodes, self.links)
+    }
+
+    /// The configuration of these nodes and links. There is to be a node for each id of the links' network, at its place. No memory is taken.
+    pub fn from_parts(nodes: Vec<Node<A>, A>, links: Links<A>) -> Configuration<A>
+        requires { AreNodesOf links.net nodes.items }
+        ensures { result ≡ record { nodes = nodes.items; links = links } }
+    {
+        Configuration { nodes, links }
+    }
+
+    /// The network.
+    pub fn net(&self) -> &Net<A>
+        ensures { result.now ≡ (world_of self.now).net }
+    {
+        self.links.net()
+    }
+
+    /// A node.
+    pub fn node(&self, v: u16) -> &Node<A>
+        requires { v < (world_of self.now).net.nodes }
+        ensures state { state_of result.now ≡ (world_of self.now).node v }
+        ensures site { site_in result.now ≡ site (world_of self.now) v }
+    {
+        &self.nodes[usize::from(v)]
+    }
+
+    /// Every configuration is in range: each field of a node, and what is under way on each link. It looks at each node once, and changes nothing.
+    pub fn assure_ranges(&self)
+        ensures { IsWorldInRange (world_of self.now) }
+    {
+        topology::laws::joined();
+        let nodes = self.links.net().nodes();
+        for v in 0..nodes {
+            let _ranges = self.nodes[usize::from(v)].ranges();
+        }
+    }
+
+    /// How many items are under way from one node to another.
+    pub fn under_way(&self, from: u16, to: u16) -> usize
+        requires from_in { from < (world_of self.now).net.nodes }
+        requires to_in { to < (world_of self.now).net.nodes }
+        ensures items { result ≡ length ((world_of self.now).link from to) }
+        ensures few { result ≤ 4096 }
+    {
+        self.links.len(from, to)
+    }
+
+    /// How many nodes are privileged.
+    pub fn privileged(&self) -> usize
+        ensures { result ≡ privileged_count (world_of self.now) }
+    {
+        let mut count = 0;
+        for v in 0..self.links.net().nodes() {
+            if self.node(v).privileged() {
+                count += 1;
+            }
+        }
+        count
+    }
+
+    /// How many nodes lend the lock.
+    pub fn lending(&self) -> usize
+        ensures { result ≡ lending_count (world_of self.now) }
+    {
+        let mut count = 0;
+        for v in 0..self.links.net().nodes() {
+            if self.node(v).lent().is_some() {
+                count += 1;
+            }
+        }
+        count
+    }
+
+    /// Refuses what is no node.
+    fn find_node(&self, v: u16) -> Result<usize, EventFault>
+        ensures ok { IfOk result (λ place. (place ≡ v) × (v < (world_of self.now).net.nodes) × (node_fault (world_of self.now) v ≡ None)) }
+        ensures err { IfErr result (λ fault. node_fault (world_of self.now) v ≡ Some fault) }
+    {
+        if v < self.links.net().nodes() {
+            Ok(usize::from(v))
+        } else {
+            Err(EventFault::NoNode)
+        }
+    }
+
+    /// Refuses what are no two neighbours.
+    fn find_link(&self, from: u16, to: u16) -> Result<(), EventFault>
+        ensures ok { OnOk result ((from < (world_of self.now).net.nodes) × (to < (world_of self.now).net.nodes)
+            × IsTrue (are_joined (world_of self.now).net.edges from to) × (link_fault (world_of self.now) from to ≡ None)) }
+        ensures near { OnOk result (Contains (neighbours_of (world_of self.now).net from) to × Contains (neighbours_of (world_of self.now).net to) from) }
+        ensures err { IfErr result (λ fault. link_fault (world_of self.now) from to ≡ Some fault) }
+    {
+        topology::laws::neighbours();
+        topology::laws::joined();
+        let nodes = self.links.net().nodes();
+        if from >= nodes || to >= nodes {
+            return Err(EventFault::NoNode);
+        }
+        if !self.links.are_joined(from, to) {
+            return Err(EventFault::NoLink);
+        }
+        Ok(())
+    }
+
+    /// The node `from` sends the frame of its port to `to`.
+    fn send(&mut self, from: u16, to: u16) -> Result<(), EventFault>
+        ensures world { world_of self.new ≡ step (world_of self.old) (Send from to) }
+        ensures ok { OnOk result (refusal (world_of self.old) (Send from to) ≡ None) }
+        ensures err { IfErr result (λ fault. refusal (world_of self.old) (Send from to) ≡ Some fault) }
+    {
+        self.find_link(from, to)?;
+        let frame = self.nodes[usize::from(from)].frame_for(to);
+        self.links.put(from, to, Item::Frame(frame));
+        Ok(())
+    }
+
+    /// A node ticks.
+    fn tick(&mut self, node: u16) -> Result<(), EventFault>
+        ensures world { world_of self.new ≡ step (world_of self.old) (Tick node) }
+        ensures ok { OnOk result (refusal (world_of self.old) (Tick node) ≡ None) }
+        ensures err { IfErr result (λ fault. refusal (world_of self.old) (Tick node) ≡ Some fault) }
+    {
+        let place = self.find_node(node)?;
+        let _ticked = self.nodes[place].tick();
+        Ok(())
+    }
+
+    /// The node `to` takes the oldest item of the link from `from`, if there is one.
+    fn take(&mut self, from: u16, to: u16) -> Result<(), EventFault>
+        ensures world { world_of self.new ≡ step (world_of self.old) (Take from to) }
+        ensures ok { OnOk result (refusal (world_of self.old) (Take from to) ≡ None) }
+        ensures err { IfErr result (λ fault. refusal (world_of self.old) (Take from to) ≡ Some fault) }
+    {
+        self.find_link(from, to)?;
+        if let Some(item) = self.links.take(from, to) {
+            self.nodes[usize::from(to)].take(from, &item);
+        }
+        Ok(())
+    }
+
+    /// An item of a link is lost; 0 is the oldest.
+    fn lose(&mut self, from: u16, to: u16, item: u16) -> Result<(), EventFault>
+        ensures world { world_of self.new ≡ step (world_of self.old) (Lose from to item) }
+        ensures ok { OnOk result (refusal (world_of self.old) (Lose from to item) ≡ None) }
+        ensures err { IfErr result (λ fault. refusal (world_of self.old) (Lose from to item) ≡ Some fault) }
+    {
+        self.find_link(from, to)?;
+        if let Err(NoItem) = self.links.lose(from, to, usize::from(item)) {
+            return Err(EventFault::NoItem);
+        }
+        Ok(())
+    }
+
+    /// A client asks a node for the lock.
+    fn ask(&mut self, node: u16, ticket: u16) -> Result<(), EventFault>
+        ensures world { world_of self.new ≡ step (world_of self.old) (Ask node ticket) }
+        ensures ok { OnOk result (refusal (world_of self.old) (Ask node ticket) ≡ None) }
+        ensures err { IfErr result (λ fault. refusal (world_of self.old) (Ask node ticket) ≡ Some fault) }
+    {
+        let place = self.find_node(node)?;
+        if let Err(fault) = self.nodes[place].ask(ticket) {
+            return Err(desk_fault(fault));
+        }
+        Ok(())
+    }
+
+    /// A client gives the lock back to a node, or waits no longer.
+    fn leave(&mut self, node: u16, ticket: u16) -> Result<(), EventFault>
+        ensures world { world_of self.new ≡ step (world_of self.old) (Leave node ticket) }
+        ensures ok { OnOk result (refusal (world_of self.old) (Leave node ticket) ≡ None) }
+        ensures err { IfErr result (λ fault. refusal (world_of self.old) (Leave node ticket) ≡ Some fault) }
+    {
+        let place = self.find_node(node)?;
+        if let Err(Stranger) = self.nodes[place].leave(ticket) {
+            return Err(EventFault::Stranger);
+        }
+        Ok(())
+    }
+
+    /// One event happens. Refused for the first cause that holds, in the order of `EventFault`; then nothing has changed.
+    ///
+    /// No step takes memory, looks through the network, or copies a state.
+    pub fn step(&mut self, event: &Event) -> Result<(), EventFault>
+        ensures world { world_of self.new ≡ step (world_of self.old) event.now }
+        ensures ok { OnOk result (refusal (world_of self.old) event.now ≡ None) }
+        ensures err { IfErr result (λ fault. refusal (world_of self.old) event.now ≡ Some fault) }
+    {
+        match *event {
+            Event::Send { from, to } => self.send(from, to),
+            Event::Take { from, to } => self.take(from, to),
+            Event::Lose { from, to, item } => self.lose(from, to, item),
+            Event::Tick { node } => self.tick(node),
+            Event::Ask { node, ticket } => self.ask(node, ticket),
+            Event::Leave { node, ticket } => self.leave(node, ticket),
+            Event::Damage(harm) => self.damage(&harm),
+        }
+    }
+}

@@ -1,0 +1,195 @@
+//! Harms: what a transient fault writes into a configuration.
+ghost use Rattle.std.specs.Prelude.{◌≡◌, ◌↔◌, ◌<◌, IfErr, IsOk, OnOk, None, Some};
+ghost use Rattle.topology.specs.Ranges.{ranges_of};
+ghost use Rattle.run_model.specs.World.{item_fits};
+ghost use Rattle.run_model.specs.Step.{harm_fits, refusal, step};
+ghost use Rattle.run_model.specs.declared.event.Event.TheVariants.{Damage};
+ghost use Rattle.run_model.specs.declared.event.EventFault.TheVariants as fault;
+ghost use Rattle.run_model.specs.declared.event.Harm.TheVariants as harm;
+ghost use Rattle.configuration.specs.WorldView.{world_of};
+
+use crate::configuration::Configuration;
+use link_model::{Item, Payload};
+use registers::OutOfRange;
+use run_model::{EventFault, Harm};
+use std::alloc::Allocator;
+use topology::Net;
+
+/// A value out of its range, as an event's refusal.
+fn in_range(written: Result<(), OutOfRange>) -> Result<(), EventFault>
+    ensures ok { IsOk result ↔ IsOk written }
+    ensures err { IfErr result (λ refused. refused ≡ fault.OutOfRange) }
+{
+    match written {
+        Ok(()) => Ok(()),
+        Err(OutOfRange) => Err(EventFault::OutOfRange),
+    }
+}
+
+/// Whether an item is noise, or a frame whose fields are in range.
+fn fits<A: Allocator + Copy>(net: &Net<A>, item: &Item) -> bool
+    ensures { result ≡ item_fits (ranges_of net.now) item.now }
+{
+    match item {
+        Item::Frame(frame) => net.fits(frame),
+        Item::Noise => true,
+    }
+}
+
+impl<A: Allocator + Copy> Configuration<A> {
+    /// Writes a node's distance and parent.
+    fn write_own(&mut self, node: u16, distance: u16, parent: Option<u16>) -> Result<(), EventFault>
+        ensures world { world_of self.new ≡ step (world_of self.old) (Damage (harm.Own node distance parent)) }
+        ensures ok { OnOk result (refusal (world_of self.old) (Damage (harm.Own node distance parent)) ≡ None) }
+        ensures err { IfErr result (λ fault. refusal (world_of self.old) (Damage (harm.Own node distance parent)) ≡ Some fault) }
+    {
+        let place = self.find_node(node)?;
+        in_range(self.nodes[place].set_own(distance, parent))
+    }
+
+    /// Writes the two numbers of a port.
+    fn write_counters(
+        &mut self,
+        node: u16,
+        neighbour: u16,
+        seq: u16,
+        last: u16,
+    ) -> Result<(), EventFault>
+        ensures world { world_of self.new ≡ step (world_of self.old) (Damage (harm.Counters node neighbour seq last)) }
+        ensures ok { OnOk result (refusal (world_of self.old) (Damage (harm.Counters node neighbour seq last)) ≡ None) }
+        ensures err { IfErr result (λ fault. refusal (world_of self.old) (Damage (harm.Counters node neighbour seq last)) ≡ Some fault) }
+    {
+        self.find_link(node, neighbour)?;
+        in_range(self.nodes[usize::from(node)].set_counters(neighbour, seq, last))
+    }
+
+    /// Writes the staged payload of a port.
+    fn write_staged(
+        &mut self,
+        node: u16,
+        neighbour: u16,
+        payload: Payload,
+    ) -> Result<(), EventFault>
+        ensures world { world_of self.new ≡ step (world_of self.old) (Damage (harm.Staged node neighbour payload)) }
+        ensures ok { OnOk result (refusal (world_of self.old) (Damage (harm.Staged node neighbour payload)) ≡ None) }
+        ensures err { IfErr result (λ fault. refusal (world_of self.old) (Damage (harm.Staged node neighbour payload)) ≡ Some fault) }
+    {
+        self.find_link(node, neighbour)?;
+        in_range(self.nodes[usize::from(node)].set_staged(neighbour, payload))
+    }
+
+    /// Writes the copied payload of a port.
+    fn write_copy(&mut self, node: u16, neighbour: u16, payload: Payload) -> Result<(), EventFault>
+        ensures world { world_of self.new ≡ step (world_of self.old) (Damage (harm.Copy node neighbour payload)) }
+        ensures ok { OnOk result (refusal (world_of self.old) (Damage (harm.Copy node neighbour payload)) ≡ None) }
+        ensures err { IfErr result (λ fault. refusal (world_of self.old) (Damage (harm.Copy node neighbour payload)) ≡ Some fault) }
+    {
+        self.find_link(node, neighbour)?;
+        in_range(self.nodes[usize::from(node)].set_copy(neighbour, payload))
+    }
+
+    /// Writes the value of a machine.
+    fn write_value(&mut self, node: u16, neighbour: u16, value: u16) -> Result<(), EventFault>
+        ensures world { world_of self.new ≡ step (world_of self.old) (Damage (harm.Value node neighbour value)) }
+        ensures ok { OnOk result (refusal (world_of self.old) (Damage (harm.Value node neighbour value)) ≡ None) }
+        ensures err { IfErr result (λ fault. refusal (world_of self.old) (Damage (harm.Value node neighbour value)) ≡ Some fault) }
+    {
+        self.find_link(node, neighbour)?;
+        in_range(self.nodes[usize::from(node)].set_value(neighbour, value))
+    }
+
+    /// Writes a desk's loan.
+    fn write_desk(
+        &mut self,
+        node: u16,
+        lent: Option<u16>,
+        left: u16,
+        served: bool,
+    ) -> Result<(), EventFault>
+        ensures world { world_of self.new ≡ step (world_of self.old) (Damage (harm.Desk node lent left served)) }
+        ensures ok { OnOk result (refusal (world_of self.old) (Damage (harm.Desk node lent left served)) ≡ None) }
+        ensures err { IfErr result (λ fault. refusal (world_of self.old) (Damage (harm.Desk node lent left served)) ≡ Some fault) }
+    {
+        let place = self.find_node(node)?;
+        in_range(self.nodes[place].set_desk(lent, left, served))
+    }
+
+    /// Whether an item is in range and its link has room for it.
+    fn may_put(&self, from: u16, to: u16, item: &Item) -> bool
+        requires from_in { from < (world_of self.now).net.nodes }
+        requires to_in { to < (world_of self.now).net.nodes }
+        ensures { result ≡ harm_fits (world_of self.now) (harm.Item from to item.now) }
+    {
+        fits(self.links.net(), item)
+            && self.links.len(from, to) < usize::from(self.links.net().capacity())
+    }
+
+    /// Puts one more item on a link, as the newest.
+    fn write_item(&mut self, from: u16, to: u16, item: Item) -> Result<(), EventFault>
+        ensures world { world_of self.new ≡ step (world_of self.old) (Damage (harm.Item from to item)) }
+        ensures ok { OnOk result (refusal (world_of self.old) (Damage (harm.Item from to item)) ≡ None) }
+        ensures err { IfErr result (λ fault. refusal (world_of self.old) (Damage (harm.Item from to item)) ≡ Some fault) }
+    {
+        self.find_link(from, to)?;
+        if !self.may_put(from, to, &item) {
+            return Err(EventFault::OutOfRange);
+        }
+        self.links.put(from, to, item);
+        Ok(())
+    }
+
+    /// Leaves no item on a link.
+    fn write_empty(&mut self, from: u16, to: u16) -> Result<(), EventFault>
+        ensures world { world_of self.new ≡ step (world_of self.old) (Damage (harm.Empty from to)) }
+        ensures ok { OnOk result (refusal (world_of self.old) (Damage (harm.Empty from to)) ≡ None) }
+        ensures err { IfErr result (λ fault. refusal (world_of self.old) (Damage (harm.Empty from to)) ≡ Some fault) }
+    {
+        self.find_link(from, to)?;
+        self.links.clear(from, to);
+        Ok(())
+    }
+
+    /// A transient fault writes one part of the world.
+    pub(super) fn damage(&mut self, harm: &Harm) -> Result<(), EventFault>
+        ensures world { world_of self.new ≡ step (world_of self.old) (Damage harm.now) }
+        ensures ok { OnOk result (refusal (world_of self.old) (Damage harm.now) ≡ None) }
+        ensures err { IfErr result (λ fault. refusal (world_of self.old) (Damage harm.now) ≡ Some fault) }
+    {
+        match *harm {
+            Harm::Own {
+                node,
+                distance,
+                parent,
+            } => self.write_own(node, distance, parent),
+            Harm::Counters {
+                node,
+                neighbour,
+                seq,
+                last,
+            } => self.write_counters(node, neighbour, seq, last),
+            Harm::Staged {
+                node,
+                neighbour,
+                payload,
+            } => self.write_staged(node, neighbour, payload),
+            Harm::Copy {
+                node,
+                neighbour,
+                payload,
+            } => self.write_copy(node, neighbour, payload),
+            Harm::Value {
+                node,
+                neighbour,
+                value,
+            } => self.write_value(node, neighbour, value),
+            Harm::Desk {
+                node,
+                lent,
+                left,
+                served,
+            } => self.write_desk(node, lent, left, served),
+            Harm::Item { from, to, item } => self.write_item(from, to, item),
+            Harm::Empty { from, to } => self.write_empty(from, to),
+        }
+    }
+}

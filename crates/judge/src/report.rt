@@ -1,0 +1,63 @@
+//! A whole run, judged.
+ghost use Rattle.std.specs.Prelude.{◌≡◌, ◌+◌, ◌-◌, ◌*◌, ◌≤◌, ℕ};
+ghost use Rattle.topology.specs.Network.{bound_of};
+ghost use Rattle.run_model.specs.Legitimate.{AreLinksStable, IsLegitimate};
+ghost use Rattle.run_model.specs.Tree.{IsTreeReached};
+ghost use Rattle.run_model.specs.Ring.{IsTokenRingGood};
+ghost use Rattle.run_model.specs.Headline.{IsServing};
+ghost use Rattle.run_model.specs.Run.{run, IsUndamaged};
+ghost use Rattle.run_model.specs.Count.{IsSweepCount};
+ghost use Rattle.judge.specs.Judging.{refused_in, counted_up_to};
+ghost use Rattle.judge.specs.Closure.{IsLegitimateThroughout};
+ghost use Rattle.judge.specs.Payloads.{ArePayloadsFresh};
+ghost use Rattle.configuration.specs.WorldView.{world_of};
+
+use crate::judge::Judge;
+use crate::laws::below;
+use crate::world::World;
+use run_model::Event;
+use std::alloc::{Allocator, Global};
+
+/// What a judge has counted of a run, and where the run has led.
+#[derive(Drop)]
+pub struct Report<A: Allocator + Copy = Global> {
+    /// The world now.
+    pub world: World<A>,
+    /// The sweeps since the last accepted damage; the count stays at its greatest value.
+    pub sweeps: u64,
+    /// The refused events; the count stays at its greatest value.
+    pub refused: u64,
+}
+
+/// Lets events happen one after the other, from a world on, and counts sweeps and refusals.
+///
+/// From whatever state, the links are stable after 4(C + 1) sweeps, and from then on whatever is staged and copied was said within the last three; the tree
+/// is reached after 4(n + 1) more; and after as many as `Net::bound` says the world is legitimate: each distance is the least length of a walk and each
+/// parent the true one, and at most one node is privileged and at most one lends.
+/// The sweeps are those since the last damage: how it came to its state does not matter. From a legitimate world, events without damage lead through
+/// legitimate worlds alone.
+pub fn judge<A: Allocator + Copy>(start: World<A>, events: &[Event]) -> Report<A>
+    ensures world { world_of result.world ≡ run (world_of start) events.now }
+    ensures sweeps { (count : ℕ) × IsSweepCount (world_of start) events.now count × (result.sweeps ≡ counted_up_to count) }
+    ensures refused { result.refused ≡ counted_up_to (refused_in (world_of start) events.now) }
+    ensures links { 4 * ((world_of start).net.capacity + 1) ≤ result.sweeps → AreLinksStable (world_of result.world) }
+    ensures payloads { ArePayloadsFresh (world_of start) events.now (world_of result.world) }
+    ensures tree { 4 * ((world_of start).net.capacity + 1) + 4 * ((world_of start).net.nodes + 1) ≤ result.sweeps → IsTreeReached (world_of result.world) }
+    ensures token_ring { bound_of (world_of start).net - 1 ≤ result.sweeps → IsTokenRingGood (world_of result.world) }
+    ensures legitimate { bound_of (world_of start).net ≤ result.sweeps → IsLegitimate (world_of result.world) }
+    ensures serving { bound_of (world_of start).net ≤ result.sweeps → IsServing (world_of result.world) }
+    ensures closure { IsLegitimate (world_of start) → IsUndamaged (world_of start) events.now → IsLegitimateThroughout (world_of start) events.now }
+{
+    below();
+    run_model::laws::sweep_numbers();
+    convergence::laws::closure_law();
+    convergence::laws::converge_law();
+    let mut judge = Judge::new(start);
+    for event in events {
+        let _answer = judge.step(event);
+    }
+    judge.report()
+}
+
+#[cfg(test)]
+mod tests;

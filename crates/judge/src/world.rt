@@ -1,0 +1,116 @@
+//! A network at one moment, with all the memory that a run of it and its judge need.
+ghost use Rattle.std.specs.Prelude.{◌≡◌, ◌<◌, ◌≤◌, IfOk, IfErr, OnOk, None, Some, length};
+ghost use Rattle.node_core.specs.View.{state_of, site_in};
+ghost use Rattle.run_model.specs.World.{IsWorldInRange, default_world, site};
+ghost use Rattle.run_model.specs.Legitimate.{lending_count, privileged_count};
+ghost use Rattle.run_model.specs.Step.{refusal, step};
+ghost use Rattle.configuration.specs.WorldView.{world_of};
+
+#[cfg(test)]
+mod tests;
+
+use crate::stretch::Stretch;
+use configuration::Configuration;
+use node_core::Node;
+use run_model::{Event, EventFault};
+use std::alloc::{AllocError, Allocator, Global};
+use std::marker::Model;
+use topology::Net;
+
+/// A network at one moment. All memory that any step needs, and any judge, is reserved with it.
+#[derive(Drop)]
+pub struct World<A: Allocator + Copy = Global> {
+    /// The nodes and links now.
+    pub(crate) configuration: Configuration<A>,
+    /// What a judge is to keep of a run.
+    pub(crate) room: Stretch<A>,
+}
+
+impl<A: Allocator + Copy> Model for World<A> {
+    ghost use Rattle.configuration.specs.WorldView.{WorldView};
+    ghost use Rattle.judge.specs.Stretch.{IsRoomFor};
+
+    ghost Value = { WorldView };
+
+    ghost view = { λ w. w.configuration };
+
+    ghost invariant = { λ w. IsRoomFor w.configuration.links.net w.room };
+}
+
+impl<A: Allocator + Copy> World<A> {
+    /// The world in which every node is as it starts and nothing is under way. It keeps a copy of the network, and reserves all memory that any step needs,
+    /// and any judge; `AllocError` comes only where that is refused.
+    pub fn new<N: Allocator + Copy>(alloc: A, net: &Net<N>) -> Result<World<A>, AllocError>
+        ensures { IfOk result (λ world. world_of world ≡ default_world net.now) }
+    {
+        Ok(World {
+            configuration: Configuration::new(alloc, net)?,
+            room: Stretch::new(alloc, net.nodes())?,
+        })
+    }
+
+    /// The nodes and links.
+    pub fn configuration(&self) -> &Configuration<A>
+        ensures { result.now ≡ self.now }
+    {
+        &self.configuration
+    }
+
+    /// The network.
+    pub fn net(&self) -> &Net<A>
+        ensures { result.now ≡ (world_of self.now).net }
+    {
+        self.configuration.net()
+    }
+
+    /// A node.
+    pub fn node(&self, v: u16) -> &Node<A>
+        requires { v < (world_of self.now).net.nodes }
+        ensures state { state_of result.now ≡ (world_of self.now).node v }
+        ensures site { site_in result.now ≡ site (world_of self.now) v }
+    {
+        self.configuration.node(v)
+    }
+
+    /// Every world is in range: each field of a node, and what is under way on each link. It looks at each node once, and changes nothing.
+    pub fn assure_ranges(&self)
+        ensures { IsWorldInRange (world_of self.now) }
+    {
+        self.configuration.assure_ranges();
+    }
+
+    /// How many items are under way from one node to another.
+    pub fn under_way(&self, from: u16, to: u16) -> usize
+        requires from_in { from < (world_of self.now).net.nodes }
+        requires to_in { to < (world_of self.now).net.nodes }
+        ensures items { result ≡ length ((world_of self.now).link from to) }
+        ensures few { result ≤ 4096 }
+    {
+        self.configuration.under_way(from, to)
+    }
+
+    /// How many nodes are privileged.
+    pub fn privileged(&self) -> usize
+        ensures { result ≡ privileged_count (world_of self.now) }
+    {
+        self.configuration.privileged()
+    }
+
+    /// How many nodes lend the lock.
+    pub fn lending(&self) -> usize
+        ensures { result ≡ lending_count (world_of self.now) }
+    {
+        self.configuration.lending()
+    }
+
+    /// One event happens. Refused for the first cause that holds, in the order of `EventFault`; then nothing has changed.
+    ///
+    /// No step takes memory, looks through the network, or copies a state.
+    pub fn step(&mut self, event: &Event) -> Result<(), EventFault>
+        ensures world { world_of self.new ≡ step (world_of self.old) event.now }
+        ensures ok { OnOk result (refusal (world_of self.old) event.now ≡ None) }
+        ensures err { IfErr result (λ fault. refusal (world_of self.old) event.now ≡ Some fault) }
+    {
+        self.configuration.step(event)
+    }
+}

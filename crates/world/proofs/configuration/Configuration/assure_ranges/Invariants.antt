@@ -1,5 +1,0 @@
-use Rattle.world.proofs.WorldRanges.{AreInRange}
-use Rattle.world.proofs.configuration.Configuration.assure_ranges.Given as goal
-
-abbrev pub invariant-loop-v : goal.invariant-loop-v
-invariant-loop-v g l = AreInRange (record { nodes = l.self.nodes; links = l.self.links }) l.v

@@ -1,8 +1,0 @@
-use Rattle.std.proofs.Common.{◌≡◌, count_by}
-use Rattle.std.specs.List.{range_with_len}
-use Rattle.run_model.specs.Legitimate.{is_lending}
-use Rattle.world.specs.WorldView.{world_of}
-use Rattle.world.proofs.configuration.Configuration.lending.Given as goal
-
-abbrev pub invariant-loop-v : goal.invariant-loop-v
-invariant-loop-v g l = l.count ≡ count_by (is_lending (world_of l.self)) (range_with_len 0 l.v)

@@ -1,5 +1,0 @@
-use Rattle.world.proofs.NewNodes.{AreNew}
-use Rattle.world.proofs.configuration.new_nodes.Given as goal
-
-abbrev pub invariant-loop-id : goal.invariant-loop-id
-invariant-loop-id g l = AreNew l.net l.nodes.items l.id

@@ -1,5 +1,0 @@
-use Rattle.world.proofs.Masks.{all-nodes}
-use Rattle.world.proofs.stretch.all_nodes.Goals as goal
-
-pub returns : goal.returns
-returns c = λ v. all-nodes c.args.nodes v c.requires.few

@@ -1,4 +1,0 @@
-use Rattle.world.proofs.world.World.privileged.Goals as goal
-
-pub returns : goal.returns
-returns g c = rw (← c.self.view_is) c.privileged.ensures
