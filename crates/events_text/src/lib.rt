@@ -27,6 +27,3 @@ mod words;
 pub use line::parse_line;
 pub use reader::{EventReader, Taken};
 pub use text_line::TextLine;
-
-#[cfg(test)]
-mod tests;

@@ -46,6 +46,3 @@ impl<A: Allocator + Copy> World<A> {
         }
     }
 }
-
-#[cfg(test)]
-mod tests;

@@ -58,6 +58,3 @@ pub fn judge<A: Allocator + Copy>(start: World<A>, events: &[Event]) -> Report<A
     }
     judge.report()
 }
-
-#[cfg(test)]
-mod tests;

@@ -6,9 +6,6 @@ ghost use Rattle.run_model.specs.Legitimate.{lending_count, privileged_count};
 ghost use Rattle.run_model.specs.Step.{refusal, step};
 ghost use Rattle.configuration.specs.WorldView.{world_of};
 
-#[cfg(test)]
-mod tests;
-
 use crate::stretch::Stretch;
 use configuration::Configuration;
 use node_core::Node;

@@ -1,22 +1,5 @@
 //! A world that is taken apart and put together goes on as it would have.
 use super::*;
-use run_model::Event;
-use std::test::Fail;
-use topology::Net;
-
-/// One round: both nodes tick, and then each frame goes over twice.
-const ROUND: [Event; 10] = [
-    Event::Tick { node: 0 },
-    Event::Tick { node: 1 },
-    Event::Send { from: 0, to: 1 },
-    Event::Take { from: 0, to: 1 },
-    Event::Send { from: 0, to: 1 },
-    Event::Take { from: 0, to: 1 },
-    Event::Send { from: 1, to: 0 },
-    Event::Take { from: 1, to: 0 },
-    Event::Send { from: 1, to: 0 },
-    Event::Take { from: 1, to: 0 },
-];
 
 #[test]
 fn the_token_goes_over_in_three_rounds_of_a_world_taken_apart_after_each_event(
@@ -24,8 +7,9 @@ fn the_token_goes_over_in_three_rounds_of_a_world_taken_apart_after_each_event(
 ) -> Result<(), Fail> {
     let net = Net::make(rt.alloc(), 2, 0, 1, 0, &[(0, 1)])?;
     let mut world = World::new(rt.alloc(), &net)?;
+    let round = events_of(rt.alloc(), ROUND)?;
     for _ in 0..3 {
-        for event in &ROUND {
+        for event in &round {
             assert_eq!(rt; world.step(event), Ok(()));
             let parts = world.into_parts();
             assert_eq!(rt; parts.nodes.len(), 2);

@@ -1,0 +1,142 @@
+//! Runs of events, judged: what they lead to was worked out by hand. A row tells its events as a text, a line each.
+use super::*;
+use events_text::parse_line;
+use judge::{Judge, World};
+use link_model::Item;
+use run_model::{Event, EventFault, Harm};
+use std::alloc::Global;
+use std::test::Fail;
+use topology::Net;
+
+mod long_runs;
+mod memory;
+mod parts;
+
+/// One round of two nodes: both tick, and then each sends and takes twice.
+const ROUND: &str =
+    "tick 0\ntick 1\nsend 0 1\ntake 0 1\nsend 0 1\ntake 0 1\nsend 1 0\ntake 1 0\nsend 1 0\ntake 1 0\n";
+
+/// An item that no node sent.
+const JUNK: Event = Event::Damage(Harm::Item {
+    from: 0,
+    to: 1,
+    item: Item::Noise,
+});
+
+/// Adds the events of a text; a line that spells none is left out.
+fn push_events(events: &mut Vec<Event>, text: &str) -> Result<(), Fail> {
+    for line in text.lines() {
+        if let Some(event) = parse_line(line.as_bytes()) {
+            events.push(event)?;
+        }
+    }
+    Ok(())
+}
+
+/// The events of a text.
+fn events_of(alloc: Global, text: &str) -> Result<Vec<Event>, Fail> {
+    let mut events = Vec::new(alloc);
+    push_events(&mut events, text)?;
+    Ok(events)
+}
+
+/// The numbers of events, of sweeps and of refusals of a text, told so many times to two nodes over links of one place.
+fn counts(alloc: Global, text: &str, times: usize) -> Result<(usize, u64, u64), Fail> {
+    let net = Net::make(alloc, 2, 0, 1, 0, &[(0, 1)])?;
+    let mut events = Vec::new(alloc);
+    for _ in 0..times {
+        push_events(&mut events, text)?;
+    }
+    let report = judge(World::new(alloc, &net)?, &events);
+    Ok((events.len(), report.sweeps, report.refused))
+}
+
+#[test]
+fn each_round_is_a_sweep(rt: HostRuntime) -> Result<(), Fail> {
+    for rounds in [1, 2, 3, 69] {
+        assert_eq!(rt;
+            counts(rt.alloc(), ROUND, rounds)?,
+            (10 * rounds, rounds as u64, 0)
+        );
+    }
+    Ok(())
+}
+
+#[test]
+fn what_serves_and_what_does_not(rt: HostRuntime) -> Result<(), Fail> {
+    let rows = [
+        // a round without its last line is one
+        (
+            "tick 0\ntick 1\nsend 0 1\ntake 0 1\nsend 0 1\ntake 0 1\nsend 1 0\ntake 1 0\nsend 1 0",
+            (9, 1, 0),
+        ),
+        // items from before serve nothing
+        (
+            "harm junk 0 1\nharm junk 1 0\ntick 0\ntick 1\ntake 0 1\ntake 1 0",
+            (6, 0, 0),
+        ),
+        (
+            "harm junk 0 1\nharm junk 1 0\ntick 0\ntick 1\ntake 0 1\ntake 1 0\nsend 0 1\ntake 0 1\nsend 1 0\ntake 1 0",
+            (10, 1, 0),
+        ),
+        // one that is lost makes room for a new one
+        (
+            "harm junk 0 1\ntick 0\ntick 1\nlose 0 1 0\nsend 0 1\ntake 0 1\nsend 1 0\ntake 1 0",
+            (8, 1, 0),
+        ),
+        // takes on empty links serve nothing, and there is no node 2
+        ("tick 0\ntick 1\ntake 0 1\ntake 1 0\ntick 2", (5, 0, 1)),
+    ];
+    for (text, expected) in rows {
+        assert_eq!(rt; counts(rt.alloc(), text, 1)?, expected, "of {text:?}");
+    }
+    Ok(())
+}
+
+#[test]
+fn each_refusal_has_its_name(rt: HostRuntime) -> Result<(), Fail> {
+    let net = Net::make(rt.alloc(), 3, 0, 1, 0, &[(0, 1), (1, 2)])?;
+    let mut world = World::new(rt.alloc(), &net)?;
+    let rows = [
+        ("tick 3", Err(EventFault::NoNode)),
+        ("send 0 2", Err(EventFault::NoLink)),
+        ("lose 0 1 0", Err(EventFault::NoItem)),
+        ("send 0 1", Ok(())),
+        ("send 0 1", Ok(())),
+        ("harm junk 0 1", Err(EventFault::OutOfRange)),
+        ("lose 0 1 0", Ok(())),
+        ("take 0 1", Ok(())),
+        ("harm junk 0 1", Ok(())),
+        ("harm empty 0 1", Ok(())),
+        ("harm own 0 4 none", Err(EventFault::OutOfRange)),
+        ("ask 0 5", Ok(())),
+        ("ask 0 5", Err(EventFault::Twice)),
+        ("leave 0 6", Err(EventFault::Stranger)),
+        ("leave 0 5", Ok(())),
+    ];
+    for (line, answer) in rows {
+        let event = parse_line(line.as_bytes());
+        assert_eq!(rt;
+            event.map(|event| world.step(&event)),
+            Some(answer),
+            "of {line:?}"
+        );
+    }
+    Ok(())
+}
+
+#[test]
+fn a_step_looks_at_two_tallies_except_where_a_sweep_ends(rt: HostRuntime) -> Result<(), Fail> {
+    let net = Net::make(rt.alloc(), 2, 0, 1, 0, &[(0, 1)])?;
+    let mut judge = Judge::new(World::new(rt.alloc(), &net)?);
+    assert_eq!(rt; judge.looked(), 0);
+    let looks = [0, 0, 0, 2, 0, 2, 0, 4, 0, 2];
+    let round = events_of(rt.alloc(), ROUND)?;
+    for (event, looks) in round.iter().zip(&looks) {
+        assert_eq!(rt; judge.step(event), Ok(()));
+        assert_eq!(rt; judge.looked(), *looks);
+    }
+    assert_eq!(rt; judge.step(&JUNK), Ok(()));
+    assert_eq!(rt; judge.looked(), 2);
+    Ok(())
+}
