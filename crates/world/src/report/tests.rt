@@ -11,6 +11,7 @@ use topology::Net;
 mod long_runs;
 mod memory;
 mod parts;
+mod three_rounds;
 
 /// One round of two nodes: both tick, and then each sends and takes twice.
 const ROUND: &str =
