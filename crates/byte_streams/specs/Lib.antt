@@ -1,2 +1,4 @@
 pub mod Streams
+pub mod MemorySourceView
 pub mod MemorySinkView
+pub mod Fuse

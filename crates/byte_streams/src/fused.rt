@@ -1,6 +1,7 @@
 //! A source or a sink that fails once.
-ghost use Rattle.std.specs.Prelude.{◌≡◌, ◌↔◌, ◌+◌, ◌≤◌, None, Some, is_none, IsErr, OnOk, OnErr};
-ghost use Rattle.byte_streams.specs.Streams.{Rose};
+ghost use Rattle.std.specs.Prelude.{◌≡◌, ◌↔◌, ◌+◌, ◌≤◌, None, Some, is_none, IsErr, OnOk, OnErr, length};
+ghost use Rattle.byte_streams.specs.Fuse.{left_after};
+ghost use Rattle.byte_streams.specs.Streams.{Reads, Rose, Writes};
 
 use crate::streams::{Failed, Sink, Source};
 
@@ -45,7 +46,7 @@ impl<T> Fused<T> {
     fn pass(&mut self) -> Result<(), Failed>
         ensures inner { self.new.inner ≡ self.old.inner }
         ensures fails { IsErr result ↔ (self.old.left ≡ Some 0) }
-        ensures once { OnErr result (self.new.left ≡ None) }
+        ensures left { self.new.left ≡ left_after self.old.left }
         ensures ok { OnOk result (self.new.failures ≡ self.old.failures) }
         ensures err { OnErr result ((self.old.failures ≤ self.new.failures) × Rose self.old.failures self.new.failures) }
     {
@@ -69,7 +70,14 @@ impl<S: Source> Source for Fused<S> {
 
     ghost failures = { λ s. S.failures s.inner + s.failures };
 
-    fn read(&mut self, buffer: &mut [u8]) -> Result<usize, Failed> {
+    fn read(&mut self, buffer: &mut [u8]) -> Result<usize, Failed>
+        ensures len { length buffer.new ≡ length buffer.old }
+        ensures reads { Reads result (S.rest self.old.inner) (S.rest self.new.inner) buffer.new (S.failures self.old.inner + self.old.failures) (S.failures self.new.inner + self.new.failures) }
+        ensures left { self.new.left ≡ left_after self.old.left }
+        ensures fails { self.old.left ≡ Some 0 → IsErr result }
+        ensures spares { self.old.left ≡ Some 0 → self.new.inner ≡ self.old.inner }
+        ensures counts { ¬ (self.old.left ≡ Some 0) → self.new.failures ≡ self.old.failures }
+    {
         self.pass()?;
         self.inner.read(buffer)
     }
@@ -80,7 +88,13 @@ impl<W: Sink> Sink for Fused<W> {
 
     ghost failures = { λ s. W.failures s.inner + s.failures };
 
-    fn write(&mut self, bytes: &[u8]) -> Result<usize, Failed> {
+    fn write(&mut self, bytes: &[u8]) -> Result<usize, Failed>
+        ensures writes { Writes result bytes.now (W.taken self.old.inner) (W.taken self.new.inner) (W.failures self.old.inner + self.old.failures) (W.failures self.new.inner + self.new.failures) }
+        ensures left { self.new.left ≡ left_after self.old.left }
+        ensures fails { self.old.left ≡ Some 0 → IsErr result }
+        ensures spares { self.old.left ≡ Some 0 → self.new.inner ≡ self.old.inner }
+        ensures counts { ¬ (self.old.left ≡ Some 0) → self.new.failures ≡ self.old.failures }
+    {
         self.pass()?;
         self.inner.write(bytes)
     }

@@ -1,5 +1,6 @@
 //! Sources and sinks over memory.
-ghost use Rattle.std.specs.Prelude.{◌≡◌, ◌≤◌, [], Some, IfOk, take, drop, length};
+ghost use Rattle.std.specs.Prelude.{◌≡◌, ◌≢◌, ◌<◌, ◌-◌, ◌⊎◌, [], Some, Ok, IfOk, IsErr, min, max, length};
+ghost use Rattle.byte_streams.specs.Streams.{Reads, Writes};
 
 use crate::streams::{Failed, Sink, Source};
 use std::alloc::{AllocError, Allocator, Global};
@@ -14,11 +15,12 @@ pub struct MemorySource<'a> {
 }
 
 impl<'a> Model for MemorySource<'a> {
-    ghost use Rattle.std.specs.Prelude.{List, ℕ, ◌<◌};
+    ghost use Rattle.std.specs.Prelude.{◌<◌};
+    ghost use Rattle.byte_streams.specs.MemorySourceView.{MemorySourceView};
 
-    ghost Value = { List ℕ };
+    ghost Value = { MemorySourceView };
 
-    ghost view = { λ s. s.rest.now };
+    ghost view = { λ s. record { rest = s.rest.now; piece = s.piece } };
 
     ghost invariant = { λ s. 0 < s.piece };
 }
@@ -26,7 +28,7 @@ impl<'a> Model for MemorySource<'a> {
 impl<'a> MemorySource<'a> {
     /// A source of these bytes, which gives at most so many in one read, and at least one.
     pub fn new(bytes: &'a [u8], piece: usize) -> MemorySource<'a>
-        ensures { result ≡ bytes.now }
+        ensures { result ≡ record { rest = bytes.now; piece = max piece 1 } }
     {
         MemorySource {
             rest: bytes,
@@ -36,11 +38,17 @@ impl<'a> MemorySource<'a> {
 }
 
 impl<'a> Source for MemorySource<'a> {
-    ghost rest = { λ s. Some s };
+    ghost rest = { λ s. Some s.rest };
 
     ghost failures = { λ _. 0 };
 
-    fn read(&mut self, buffer: &mut [u8]) -> Result<usize, Failed> {
+    /// As many bytes as the buffer has room for, a piece has, and are left.
+    fn read(&mut self, buffer: &mut [u8]) -> Result<usize, Failed>
+        ensures len { length buffer.new ≡ length buffer.old }
+        ensures reads { Reads result (Some self.old.rest) (Some self.new.rest) buffer.new 0 0 }
+        ensures count { result ≡ Ok (min (min (length buffer.old) self.old.piece) (length self.old.rest)) }
+        ensures piece { self.new.piece ≡ self.old.piece }
+    {
         let count = buffer.len().min(self.piece).min(self.rest.len());
         buffer[..count].copy_from_slice(&self.rest[..count]);
         self.rest = &self.rest[count..];
@@ -93,7 +101,13 @@ impl<A: Allocator + Copy> Sink for MemorySink<A> {
 
     ghost failures = { λ s. s.failures };
 
-    fn write(&mut self, bytes: &[u8]) -> Result<usize, Failed> {
+    /// As many bytes as there is room for; it fails where there is none.
+    fn write(&mut self, bytes: &[u8]) -> Result<usize, Failed>
+        ensures writes { Writes result bytes.now (Some self.old.taken) (Some self.new.taken) self.old.failures self.new.failures }
+        ensures fits { (0 < self.old.room) ⊎ (bytes.now ≡ []) → result ≡ Ok (min (length bytes.now) self.old.room) }
+        ensures full { self.old.room ≡ 0 → bytes.now ≢ [] → IsErr result }
+        ensures room { self.new.room ≡ self.old.room - length bytes.now }
+    {
         let count = bytes.len().min(self.room);
         if count == 0 && !bytes.is_empty() {
             self.failures = self.failures.saturating_add(1);
