@@ -4,6 +4,12 @@ use run_model::{Event, Harm};
 use std::alloc::{AllocFailed, Global};
 use std::test::Fail;
 
+/// Hands a piece to a reader, and says which line it ended, and what is left of the piece.
+fn take<'p>(reader: &mut EventReader, piece: &'p [u8]) -> (Option<TextLine>, &'p [u8]) {
+    let taken = reader.take(piece);
+    (taken.line, &piece[taken.used..])
+}
+
 /// The lines of a text that comes in pieces of this many bytes.
 fn lines(alloc: Global, text: &[u8], size: usize) -> Result<Vec<TextLine>, AllocFailed<TextLine>> {
     let mut reader = EventReader::new();
@@ -11,9 +17,9 @@ fn lines(alloc: Global, text: &[u8], size: usize) -> Result<Vec<TextLine>, Alloc
     for piece in text.chunks(size.max(1)) {
         let mut rest = piece;
         for _ in 0..text.len() {
-            let taken = reader.take(rest);
-            rest = &rest[taken.used..];
-            match taken.line {
+            let (line, behind) = take(&mut reader, rest);
+            rest = behind;
+            match line {
                 Some(line) => lines.push(line)?,
                 None => break,
             }

@@ -4,9 +4,10 @@ use events_text::parse_line;
 use judge::{Judge, World};
 use link_model::Item;
 use run_model::{Event, EventFault, Harm};
-use std::alloc::Global;
+use std::alloc::{AllocError, AllocFailed, Allocator, Global};
+use std::process::Abort;
 use std::test::Fail;
-use topology::Net;
+use topology::{Net, NetFault};
 
 mod long_runs;
 mod memory;
@@ -24,10 +25,48 @@ const JUNK: Event = Event::Damage(Harm::Item {
     item: Item::Noise,
 });
 
+/// The event that a line spells. Rows need nothing of what the contracts of this call and the next ones say, and where they are called so the prover need not
+/// carry that along.
+fn event_of(line: &str) -> Option<Event> {
+    parse_line(line.as_bytes())
+}
+
+/// A network whose links hold one item, with node 0 as its root.
+fn net_of(alloc: Global, nodes: i64, lease: i64, edges: &[(i64, i64)]) -> Result<Net, NetFault> {
+    Net::make(alloc, nodes, 0, 1, lease, edges)
+}
+
+/// A network's default world.
+fn start<A: Allocator + Copy>(alloc: A, net: &Net) -> Result<World<A>, AllocError> {
+    World::new(alloc, net)
+}
+
+/// Lets an event happen to a world.
+fn step(world: &mut World, event: &Event) -> Result<(), EventFault> {
+    world.step(event)
+}
+
+/// What a world answers to the event of a line; none where the line spells none.
+fn told(world: &mut World, line: &str) -> Option<Result<(), EventFault>> {
+    let event = event_of(line)?;
+    Some(step(world, &event))
+}
+
+/// Lets an event happen to a judge's world, and says at how many tallies the judge has looked; none where it is refused.
+fn looked<A: Allocator + Copy>(judge: &mut Judge<A>, event: &Event) -> Option<u32> {
+    judge.step(event).ok()?;
+    Some(judge.looked())
+}
+
+/// Judges a run.
+fn judged<A: Allocator + Copy>(world: World<A>, events: &[Event]) -> Report<A> {
+    judge(world, events)
+}
+
 /// Adds the events of a text; a line that spells none is left out.
-fn push_events(events: &mut Vec<Event>, text: &str) -> Result<(), Fail> {
+fn push_events(events: &mut Vec<Event>, text: &str) -> Result<(), AllocFailed<Event>> {
     for line in text.lines() {
-        if let Some(event) = parse_line(line.as_bytes()) {
+        if let Some(event) = event_of(line) {
             events.push(event)?;
         }
     }
@@ -43,12 +82,12 @@ fn events_of(alloc: Global, text: &str) -> Result<Vec<Event>, Fail> {
 
 /// The numbers of events, of sweeps and of refusals of a text, told so many times to two nodes over links of one place.
 fn counts(alloc: Global, text: &str, times: usize) -> Result<(usize, u64, u64), Fail> {
-    let net = Net::make(alloc, 2, 0, 1, 0, &[(0, 1)])?;
+    let net = net_of(alloc, 2, 0, &[(0, 1)])?;
     let mut events = Vec::new(alloc);
     for _ in 0..times {
         push_events(&mut events, text)?;
     }
-    let report = judge(World::new(alloc, &net)?, &events);
+    let report = judged(start(alloc, &net)?, &events);
     Ok((events.len(), report.sweeps, report.refused))
 }
 
@@ -94,10 +133,21 @@ fn what_serves_and_what_does_not(rt: HostRuntime) -> Result<(), Fail> {
     Ok(())
 }
 
+/// Holds that a line of three nodes answers each line of a text so.
+fn all_answer(
+    rt: &(impl Eprint + AllocGlobal + Abort),
+    rows: &[(&str, Result<(), EventFault>)],
+) -> Result<(), Fail> {
+    let net = net_of(rt.alloc(), 3, 0, &[(0, 1), (1, 2)])?;
+    let mut world = start(rt.alloc(), &net)?;
+    for (line, answer) in rows {
+        assert_eq!(rt; told(&mut world, line), Some(*answer), "of {line:?}");
+    }
+    Ok(())
+}
+
 #[test]
 fn each_refusal_has_its_name(rt: HostRuntime) -> Result<(), Fail> {
-    let net = Net::make(rt.alloc(), 3, 0, 1, 0, &[(0, 1), (1, 2)])?;
-    let mut world = World::new(rt.alloc(), &net)?;
     let rows = [
         ("tick 3", Err(EventFault::NoNode)),
         ("send 0 2", Err(EventFault::NoLink)),
@@ -115,29 +165,19 @@ fn each_refusal_has_its_name(rt: HostRuntime) -> Result<(), Fail> {
         ("leave 0 6", Err(EventFault::Stranger)),
         ("leave 0 5", Ok(())),
     ];
-    for (line, answer) in rows {
-        let event = parse_line(line.as_bytes());
-        assert_eq!(rt;
-            event.map(|event| world.step(&event)),
-            Some(answer),
-            "of {line:?}"
-        );
-    }
-    Ok(())
+    all_answer(&rt, &rows)
 }
 
 #[test]
 fn a_step_looks_at_two_tallies_except_where_a_sweep_ends(rt: HostRuntime) -> Result<(), Fail> {
-    let net = Net::make(rt.alloc(), 2, 0, 1, 0, &[(0, 1)])?;
-    let mut judge = Judge::new(World::new(rt.alloc(), &net)?);
+    let net = net_of(rt.alloc(), 2, 0, &[(0, 1)])?;
+    let mut judge = Judge::new(start(rt.alloc(), &net)?);
     assert_eq!(rt; judge.looked(), 0);
     let looks = [0, 0, 0, 2, 0, 2, 0, 4, 0, 2];
     let round = events_of(rt.alloc(), ROUND)?;
     for (event, looks) in round.iter().zip(&looks) {
-        assert_eq!(rt; judge.step(event), Ok(()));
-        assert_eq!(rt; judge.looked(), *looks);
+        assert_eq!(rt; looked(&mut judge, event), Some(*looks));
     }
-    assert_eq!(rt; judge.step(&JUNK), Ok(()));
-    assert_eq!(rt; judge.looked(), 2);
+    assert_eq!(rt; looked(&mut judge, &JUNK), Some(2));
     Ok(())
 }

@@ -35,18 +35,54 @@ harm desk 0 5 0 no
 harm desk 1 6 0 no
 ";
 
+/// What no events lead to.
+const AT_START: &str = "\
+node 0 distance 2 parent none token no lent none waiting 0
+node 1 distance 2 parent none token no lent none waiting 0
+link 0 1 items 0
+link 1 0 items 0
+privileged 0 lending 0
+sweeps 0 of 69
+";
+
+/// A text for two nodes over links of one place, and what it leads to.
+#[derive(Clone, Copy)]
+struct Row<'a> {
+    /// For how many ticks the lock is lent at most; 0: no limit.
+    lease: i64,
+    /// Pieces of the text, each with how often it comes.
+    text: &'a [(&'a str, usize)],
+    /// The lines that tell what is refused.
+    refusals: &'a str,
+    /// The state behind them.
+    state: &'a str,
+    sweeps: u64,
+}
+
 /// Two nodes, over links of one place.
 fn two_nodes(alloc: Global, lease: i64) -> Result<Net, Fail> {
     Ok(Net::make(alloc, 2, 0, 1, lease, &[(0, 1)])?)
 }
 
-/// The text so many times.
-fn repeated(alloc: Global, text: &str, times: usize) -> Result<String, AllocError> {
+/// The pieces, each as often as it comes.
+fn joined(alloc: Global, pieces: &[(&str, usize)]) -> Result<String, AllocError> {
     let mut whole = String::new(alloc);
-    for _ in 0..times {
-        whole.push_str(text)?;
+    for (piece, times) in pieces {
+        for _ in 0..*times {
+            whole.push_str(piece)?;
+        }
     }
     Ok(whole)
+}
+
+/// Simulates. Rows need nothing of what its contract says, and where it is called so the prover need not carry that along.
+fn run<A: Allocator + Copy, R: Source, W: Sink>(
+    alloc: A,
+    net: &Net,
+    source: &mut R,
+    sink: &mut W,
+) -> Result<Summary, SimFault> {
+    simulate(alloc, net, source, sink)
 }
 
 /// What the text, in pieces of at most so many bytes, leads to.
@@ -58,28 +94,26 @@ fn simulated(
 ) -> Result<(String, Summary), Fail> {
     let mut source = MemorySource::new(text.as_bytes(), piece);
     let mut sink = MemorySink::new(alloc, ROOM)?;
-    let summary = simulate(alloc, net, &mut source, &mut sink)?;
+    let summary = run(alloc, net, &mut source, &mut sink)?;
     let output = String::from_str(alloc, std::str::from_utf8(sink.taken())?)?;
     Ok((output, summary))
 }
 
-/// Holds that the text leads to this output, with so many refused lines and so many sweeps.
-fn leads_to(
-    rt: &(impl Eprint + AllocGlobal + Abort),
-    net: &Net,
-    text: &str,
-    output: &str,
-    refused: u64,
-    sweeps: u64,
-) -> Result<(), Fail> {
-    for piece in PIECES {
-        let found = simulated(rt.alloc(), net, text, piece)?;
-        assert_eq!(rt;
-            found.0.as_str(),
-            output,
-            "of {text:?} in pieces of {piece}"
-        );
-        assert_eq!(rt; found.1, Summary { refused, sweeps });
+/// Holds that each text leads to its output, with as many refused lines as are told.
+fn all_hold(rt: &(impl Eprint + AllocGlobal + Abort), rows: &[Row<'_>]) -> Result<(), Fail> {
+    for row in rows {
+        let net = two_nodes(rt.alloc(), row.lease)?;
+        let text = joined(rt.alloc(), row.text)?;
+        let output = format!(in rt.alloc(); "{}{}", row.refusals, row.state)?;
+        let summary = Summary {
+            refused: row.refusals.lines().count() as u64,
+            sweeps: row.sweeps,
+        };
+        for piece in PIECES {
+            let found = simulated(rt.alloc(), &net, &text, piece)?;
+            assert_eq!(rt; found.0, output, "of {text:?} in pieces of {piece}");
+            assert_eq!(rt; found.1, summary, "of {text:?} in pieces of {piece}");
+        }
     }
     Ok(())
 }

@@ -14,6 +14,24 @@ harm desk 0 5 0 no
 harm desk 1 6 0 no
 ";
 
+/// Rounds of a network, and what they lead to.
+#[derive(Clone, Copy)]
+struct LongRun<'a> {
+    nodes: i64,
+    lease: i64,
+    edges: &'a [(i64, i64)],
+    /// What comes before the rounds.
+    start: &'a str,
+    /// How many are privileged and how many lend after the start.
+    at_start: (usize, usize),
+    /// As many as the network needs sweeps.
+    rounds: u32,
+    /// How many events there are.
+    events: usize,
+    /// The nodes' distances and parents.
+    tree: &'a [(u16, Option<u16>)],
+}
+
 /// Adds so many rounds of a network: each node ticks, and then each sends to each neighbour, which takes, one time more than the link holds items.
 fn push_rounds(events: &mut Vec<Event>, net: &Net, rounds: u32) -> Result<(), AllocError> {
     for _ in 0..rounds {
@@ -33,50 +51,70 @@ fn push_rounds(events: &mut Vec<Event>, net: &Net, rounds: u32) -> Result<(), Al
 }
 
 /// Whether the nodes have these distances and parents, at most one is privileged, and none lends.
-fn is_settled(world: &World, nodes: &[(u16, Option<u16>)]) -> bool {
+fn is_settled(world: &World, tree: &[(u16, Option<u16>)]) -> bool {
     let mut settled = world.privileged() <= 1 && world.lending() == 0;
     for id in 0..world.net().nodes() {
         let node = world.node(id);
-        settled &= nodes.get(usize::from(id)) == Some(&(node.distance(), node.parent()));
+        settled &= tree.get(usize::from(id)) == Some(&(node.distance(), node.parent()));
     }
     settled
 }
 
+/// Holds that it ends so.
+fn holds(rt: &(impl Eprint + AllocGlobal + Abort), run: &LongRun<'_>) -> Result<(), Fail> {
+    let net = net_of(rt.alloc(), run.nodes, run.lease, run.edges)?;
+    let mut events = events_of(rt.alloc(), run.start)?;
+    let forged = judged(start(rt.alloc(), &net)?, &events).world;
+    assert_eq!(rt; (forged.privileged(), forged.lending()), run.at_start);
+    push_rounds(&mut events, &net, run.rounds)?;
+    assert_eq!(rt; events.len(), run.events);
+    let report = judged(start(rt.alloc(), &net)?, &events);
+    assert_eq!(rt; (report.sweeps, report.refused), (u64::from(run.rounds), 0));
+    assert!(rt; is_settled(&report.world, run.tree));
+    Ok(())
+}
+
 #[test]
 fn the_far_corner_of_the_square_takes_the_smaller_parent(rt: HostRuntime) -> Result<(), Fail> {
-    let net = Net::make(rt.alloc(), 4, 0, 1, 0, &[(0, 1), (0, 2), (1, 3), (2, 3)])?;
-    let mut events = Vec::new(rt.alloc());
-    push_rounds(&mut events, &net, 461)?;
-    assert_eq!(rt; events.len(), 16_596);
-    let report = judge(World::new(rt.alloc(), &net)?, &events);
-    assert_eq!(rt; (report.sweeps, report.refused), (461, 0));
-    let nodes = [(0, None), (1, Some(0)), (1, Some(0)), (2, Some(1))];
-    assert!(rt; is_settled(&report.world, &nodes));
-    Ok(())
+    let run = LongRun {
+        nodes: 4,
+        lease: 0,
+        edges: &[(0, 1), (0, 2), (1, 3), (2, 3)],
+        start: "",
+        at_start: (0, 0),
+        rounds: 461,
+        events: 16_596,
+        tree: &[(0, None), (1, Some(0)), (1, Some(0)), (2, Some(1))],
+    };
+    holds(&rt, &run)
 }
 
 #[test]
 fn three_nodes_in_a_line_settle(rt: HostRuntime) -> Result<(), Fail> {
-    let net = Net::make(rt.alloc(), 3, 0, 1, 0, &[(0, 1), (1, 2)])?;
-    let mut events = Vec::new(rt.alloc());
-    push_rounds(&mut events, &net, 217)?;
-    assert_eq!(rt; events.len(), 4_123);
-    let report = judge(World::new(rt.alloc(), &net)?, &events);
-    assert_eq!(rt; (report.sweeps, report.refused), (217, 0));
-    assert!(rt; is_settled(&report.world, &[(0, None), (1, Some(0)), (2, Some(1))]));
-    Ok(())
+    let run = LongRun {
+        nodes: 3,
+        lease: 0,
+        edges: &[(0, 1), (1, 2)],
+        start: "",
+        at_start: (0, 0),
+        rounds: 217,
+        events: 4_123,
+        tree: &[(0, None), (1, Some(0)), (2, Some(1))],
+    };
+    holds(&rt, &run)
 }
 
 #[test]
 fn forged_tokens_and_loans_are_gone(rt: HostRuntime) -> Result<(), Fail> {
-    let net = Net::make(rt.alloc(), 2, 0, 1, 1, &[(0, 1)])?;
-    let mut events = Vec::new(rt.alloc());
-    push_events(&mut events, FORGED)?;
-    let forged = judge(World::new(rt.alloc(), &net)?, &events);
-    assert_eq!(rt; (forged.world.privileged(), forged.world.lending()), (2, 2));
-    push_rounds(&mut events, &net, 69)?;
-    let report = judge(World::new(rt.alloc(), &net)?, &events);
-    assert_eq!(rt; (report.sweeps, report.refused), (69, 0));
-    assert!(rt; is_settled(&report.world, &[(0, None), (1, Some(0))]));
-    Ok(())
+    let run = LongRun {
+        nodes: 2,
+        lease: 1,
+        edges: &[(0, 1)],
+        start: FORGED,
+        at_start: (2, 2),
+        rounds: 69,
+        events: 698,
+        tree: &[(0, None), (1, Some(0))],
+    };
+    holds(&rt, &run)
 }

@@ -5,15 +5,15 @@ use super::*;
 fn all_happen(world: &mut World, events: &[Event]) -> bool {
     let mut accepted = true;
     for event in events {
-        accepted = world.step(event).is_ok() && accepted;
+        accepted &= step(world, event).is_ok();
     }
     accepted
 }
 
 #[test]
 fn the_token_goes_to_the_other_node_in_three_rounds(rt: HostRuntime) -> Result<(), Fail> {
-    let net = Net::make(rt.alloc(), 2, 0, 1, 0, &[(0, 1)])?;
-    let mut world = World::new(rt.alloc(), &net)?;
+    let net = net_of(rt.alloc(), 2, 0, &[(0, 1)])?;
+    let mut world = start(rt.alloc(), &net)?;
     let round = events_of(rt.alloc(), ROUND)?;
     assert_eq!(rt; world.net().nodes(), 2);
     assert_eq!(rt; (world.privileged(), world.lending()), (0, 0));
@@ -35,8 +35,11 @@ fn the_token_goes_to_the_other_node_in_three_rounds(rt: HostRuntime) -> Result<(
             (1, Some(0), true)
         );
     }
-    assert_eq!(rt; world.step(&Event::Ask { node: 1, ticket: 7 }), Ok(()));
-    assert_eq!(rt; world.step(&Event::Tick { node: 1 }), Ok(()));
+    assert_eq!(rt;
+        step(&mut world, &Event::Ask { node: 1, ticket: 7 }),
+        Ok(())
+    );
+    assert_eq!(rt; step(&mut world, &Event::Tick { node: 1 }), Ok(()));
     assert_eq!(rt; world.lending(), 1);
     Ok(())
 }

@@ -54,7 +54,7 @@ fn a_read_that_fails_leaves_the_refusals_of_whole_lines(rt: HostRuntime) -> Resu
         for calls in 0..100u64 {
             let mut source = Fused::new(MemorySource::new(LINES.as_bytes(), piece), calls);
             let mut sink = MemorySink::new(rt.alloc(), ROOM)?;
-            let answer = simulate(rt.alloc(), &net, &mut source, &mut sink);
+            let answer = run(rt.alloc(), &net, &mut source, &mut sink);
             if !source.has_failed() {
                 assert_eq!(rt;
                     answer,
@@ -85,7 +85,7 @@ fn a_write_that_fails_leaves_a_beginning(rt: HostRuntime) -> Result<(), Fail> {
         for calls in 0..1000u64 {
             let mut source = MemorySource::new(LINES.as_bytes(), piece);
             let mut sink = Fused::new(MemorySink::new(rt.alloc(), ROOM)?, calls);
-            let answer = simulate(rt.alloc(), &net, &mut source, &mut sink);
+            let answer = run(rt.alloc(), &net, &mut source, &mut sink);
             if !sink.has_failed() {
                 assert_eq!(rt;
                     answer,
@@ -113,7 +113,7 @@ fn a_sink_with_too_little_room_is_filled(rt: HostRuntime) -> Result<(), Fail> {
     for room in 0..=OUTPUT.len() {
         let mut source = MemorySource::new(LINES.as_bytes(), 7);
         let mut sink = MemorySink::new(rt.alloc(), room)?;
-        let answer = simulate(rt.alloc(), &net, &mut source, &mut sink);
+        let answer = run(rt.alloc(), &net, &mut source, &mut sink);
         let want = if room < OUTPUT.len() {
             Err(SimFault::Write)
         } else {
@@ -135,7 +135,7 @@ fn refused_memory_leaves_all_unread_and_unwritten(rt: HostRuntime) -> Result<(),
     let mut sink = MemorySink::new(rt.alloc(), ROOM)?;
     for units in 1..1000usize {
         let heap = LocalHeap::new(rt.alloc(), units * 16)?;
-        let answer = simulate(&heap, &net, &mut source, &mut sink);
+        let answer = run(&heap, &net, &mut source, &mut sink);
         assert_eq!(rt; heap.used(), 0);
         if answer != Err(SimFault::Memory) {
             // The same as with all memory there is; the source still had all its bytes, and the sink all its room.
@@ -209,7 +209,7 @@ sweeps 0 of 69
             has_begun: false,
         };
         let mut sink = MemorySink::new(rt.alloc(), ROOM)?;
-        let answer = simulate(rt.alloc(), &net, &mut source, &mut sink);
+        let answer = run(rt.alloc(), &net, &mut source, &mut sink);
         assert_eq!(rt; answer, want);
         assert_eq!(rt; sink.taken(), output.as_bytes());
     }

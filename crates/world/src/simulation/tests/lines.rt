@@ -1,33 +1,35 @@
 //! Which lines are passed over, which are refused, and how they are numbered.
 use super::*;
 
-/// What is left where nothing happened.
-const AT_START: &str = "\
-node 0 distance 2 parent none token no lent none waiting 0
-node 1 distance 2 parent none token no lent none waiting 0
-link 0 1 items 0
-link 1 0 items 0
-privileged 0 lending 0
-sweeps 0 of 69
-";
+/// Pieces of a text, each with how often it comes, and the lines that tell what is refused of it.
+type Refused<'a> = (&'a [(&'a str, usize)], &'a str);
 
-/// Holds that the text has these refusal lines and that nothing happens.
-fn only_refuses(
-    rt: &(impl Eprint + AllocGlobal + Abort),
-    text: &str,
-    lines: &str,
-    refused: u64,
-) -> Result<(), Fail> {
-    let output = format!(in rt.alloc(); "{lines}{AT_START}")?;
-    let net = two_nodes(rt.alloc(), 0)?;
-    leads_to(rt, &net, text, &output, refused, 0)
+/// Holds that of each text just these lines are refused, and that nothing happens.
+fn all_refuse(rt: &(impl Eprint + AllocGlobal + Abort), rows: &[Refused<'_>]) -> Result<(), Fail> {
+    for (text, refusals) in rows {
+        all_hold(
+            rt,
+            &[Row {
+                lease: 0,
+                text: *text,
+                refusals: *refusals,
+                state: AT_START,
+                sweeps: 0,
+            }],
+        )?;
+    }
+    Ok(())
 }
 
 #[test]
 fn refusals_are_named_in_their_order(rt: HostRuntime) -> Result<(), Fail> {
-    let text =
-        "tick 2\nsend 0 0\nlose 0 1 0\nharm own 0 3 none\nask 1 7\nask 1 7\nleave 0 4\nTick 0\n";
-    let output = "\
+    let row = Row {
+        lease: 0,
+        text: &[(
+            "tick 2\nsend 0 0\nlose 0 1 0\nharm own 0 3 none\nask 1 7\nask 1 7\nleave 0 4\nTick 0\n",
+            1,
+        )],
+        refusals: "\
 line 1: NoNode
 line 2: NoLink
 line 3: NoItem
@@ -35,57 +37,82 @@ line 4: OutOfRange
 line 6: Twice
 line 7: Stranger
 line 8: Unread
+",
+        state: "\
 node 0 distance 2 parent none token no lent none waiting 0
 node 1 distance 2 parent none token no lent none waiting 1
 link 0 1 items 0
 link 1 0 items 0
 privileged 0 lending 0
 sweeps 0 of 69
-";
-    leads_to(&rt, &two_nodes(rt.alloc(), 0)?, text, output, 7, 0)
+",
+        sweeps: 0,
+    };
+    all_hold(&rt, &[row])
 }
 
 #[test]
-fn lines_that_are_passed_over_are_counted(rt: HostRuntime) -> Result<(), Fail> {
-    only_refuses(&rt, "\n", "", 0)?;
-    only_refuses(&rt, "#", "", 0)?;
-    only_refuses(&rt, "\n\n\ntick 2\n", "line 4: NoNode\n", 1)?;
-    only_refuses(&rt, "# tick 2\n\n#\ntick 2\n", "line 4: NoNode\n", 1)?;
-    only_refuses(&rt, " # no comment\n", "line 1: Unread\n", 1)?;
-    let comment = repeated(rt.alloc(), "# as long as it likes ", 1000)?;
-    let text = format!(in rt.alloc(); "{comment}\ntick 2\n{comment}")?;
-    only_refuses(&rt, &text, "line 2: NoNode\n", 1)
-}
-
-#[test]
-fn a_last_line_needs_no_newline(rt: HostRuntime) -> Result<(), Fail> {
-    only_refuses(&rt, "tick 2", "line 1: NoNode\n", 1)?;
-    only_refuses(&rt, "tick 2\n", "line 1: NoNode\n", 1)?;
-    only_refuses(
-        &rt,
-        "\n\ntick 3\ntick 2",
-        "line 3: NoNode\nline 4: NoNode\n",
-        2,
-    )?;
-    only_refuses(&rt, "tick 3\n# the end", "line 1: NoNode\n", 1)
+fn lines_are_counted_and_a_last_one_needs_no_newline(rt: HostRuntime) -> Result<(), Fail> {
+    let rows: [Refused<'_>; 10] = [
+        (&[("\n", 1)], ""),
+        (&[("#", 1)], ""),
+        (&[("\n\n\ntick 2\n", 1)], "line 4: NoNode\n"),
+        (&[("# tick 2\n\n#\ntick 2\n", 1)], "line 4: NoNode\n"),
+        (&[(" # no comment\n", 1)], "line 1: Unread\n"),
+        (
+            &[
+                ("# as long as it likes ", 1000),
+                ("\ntick 2\n", 1),
+                ("# as long as it likes ", 1000),
+            ],
+            "line 2: NoNode\n",
+        ),
+        (&[("tick 2", 1)], "line 1: NoNode\n"),
+        (&[("tick 2\n", 1)], "line 1: NoNode\n"),
+        (
+            &[("\n\ntick 3\ntick 2", 1)],
+            "line 3: NoNode\nline 4: NoNode\n",
+        ),
+        (&[("tick 3\n# the end", 1)], "line 1: NoNode\n"),
+    ];
+    all_refuse(&rt, &rows)
 }
 
 #[test]
 fn a_long_line_is_refused_once(rt: HostRuntime) -> Result<(), Fail> {
-    // No event has 64 bytes: the longest line that is looked at is refused as the shortest that is not.
-    let sixty_four = repeated(rt.alloc(), "tick 200", 8)?;
-    let text = format!(in rt.alloc(); "{sixty_four}\n{sixty_four} \ntick 2\n")?;
-    only_refuses(
-        &rt,
-        &text,
-        "line 1: Unread\nline 2: Unread\nline 3: NoNode\n",
-        3,
-    )?;
-    // After 64 bytes stands a line of its own.
-    let text = format!(in rt.alloc(); "{sixty_four}tick 0\n{sixty_four}{sixty_four}tick 0")?;
-    only_refuses(&rt, &text, "line 1: Unread\nline 2: Unread\n", 2)?;
-    let text = format!(in rt.alloc(); "#{sixty_four}\n#{sixty_four}tick 0\ntick 2\n")?;
-    only_refuses(&rt, &text, "line 3: NoNode\n", 1)
+    let rows: [Refused<'_>; 3] = [
+        // No event has 64 bytes: the longest line that is looked at is refused as the shortest that is not.
+        (
+            &[
+                ("tick 200", 8),
+                ("\n", 1),
+                ("tick 200", 8),
+                (" \ntick 2\n", 1),
+            ],
+            "line 1: Unread\nline 2: Unread\nline 3: NoNode\n",
+        ),
+        // After 64 bytes stands a line of its own.
+        (
+            &[
+                ("tick 200", 8),
+                ("tick 0\n", 1),
+                ("tick 200", 16),
+                ("tick 0", 1),
+            ],
+            "line 1: Unread\nline 2: Unread\n",
+        ),
+        (
+            &[
+                ("#", 1),
+                ("tick 200", 8),
+                ("\n#", 1),
+                ("tick 200", 8),
+                ("tick 0\ntick 2\n", 1),
+            ],
+            "line 3: NoNode\n",
+        ),
+    ];
+    all_refuse(&rt, &rows)
 }
 
 #[test]
@@ -105,8 +132,7 @@ fn almost_events_are_unread(rt: HostRuntime) -> Result<(), Fail> {
         "harm own 0 0 None",
         "harm desk 0 5 0 maybe",
     ] {
-        let text = format!(in rt.alloc(); "{line}\n")?;
-        only_refuses(&rt, &text, "line 1: Unread\n", 1)?;
+        all_refuse(&rt, &[(&[(line, 1), ("\n", 1)], "line 1: Unread\n")])?;
     }
     Ok(())
 }
@@ -121,11 +147,8 @@ fn busy(alloc: Global) -> Result<String, AllocError> {
     Ok(text)
 }
 
-#[test]
-fn a_refused_line_changes_nothing(rt: HostRuntime) -> Result<(), Fail> {
-    let net = two_nodes(rt.alloc(), 0)?;
-    let text = busy(rt.alloc())?;
-    let before = "\
+/// What that text leads to.
+const BUSY: &str = "\
 node 0 distance 0 parent none token yes lent none waiting 64
 node 1 distance 2 parent 0 token no lent none waiting 1
 link 0 1 items 1
@@ -133,23 +156,32 @@ link 1 0 items 0
 privileged 1 lending 0
 sweeps 1 of 69
 ";
-    leads_to(&rt, &net, &text, before, 0, 1)?;
-    for (line, name) in [
-        ("tick 2", "NoNode"),
-        ("take 1 1", "NoLink"),
-        ("lose 0 1 1", "NoItem"),
-        ("harm own 0 3 none", "OutOfRange"),
-        ("harm junk 0 1", "OutOfRange"),
-        ("harm desk 1 7 0 no", "OutOfRange"),
-        ("ask 0 64", "Full"),
-        ("ask 0 63", "Full"),
-        ("ask 1 7", "Twice"),
-        ("leave 1 8", "Stranger"),
-        ("Leave 1 7", "Unread"),
+
+#[test]
+fn a_refused_line_changes_nothing(rt: HostRuntime) -> Result<(), Fail> {
+    let text = busy(rt.alloc())?;
+    for (line, refusals) in [
+        ("", ""),
+        ("tick 2\n", "line 77: NoNode\n"),
+        ("take 1 1\n", "line 77: NoLink\n"),
+        ("lose 0 1 1\n", "line 77: NoItem\n"),
+        ("harm own 0 3 none\n", "line 77: OutOfRange\n"),
+        ("harm junk 0 1\n", "line 77: OutOfRange\n"),
+        ("harm desk 1 7 0 no\n", "line 77: OutOfRange\n"),
+        ("ask 0 64\n", "line 77: Full\n"),
+        ("ask 0 63\n", "line 77: Full\n"),
+        ("ask 1 7\n", "line 77: Twice\n"),
+        ("leave 1 8\n", "line 77: Stranger\n"),
+        ("Leave 1 7\n", "line 77: Unread\n"),
     ] {
-        let more = format!(in rt.alloc(); "{text}{line}\n")?;
-        let output = format!(in rt.alloc(); "line 77: {name}\n{before}")?;
-        leads_to(&rt, &net, &more, &output, 1, 1)?;
+        let row = Row {
+            lease: 0,
+            text: &[(&text, 1), (line, 1)],
+            refusals,
+            state: BUSY,
+            sweeps: 1,
+        };
+        all_hold(&rt, &[row])?;
     }
     Ok(())
 }

@@ -1,5 +1,27 @@
 //! Runs of as many sweeps as a network's lock needs to work from any state.
 use super::*;
+use topology::NetFault;
+
+/// Rounds of a network, and what they lead to.
+#[derive(Clone, Copy)]
+struct LongRun<'a> {
+    nodes: i64,
+    lease: i64,
+    edges: &'a [(i64, i64)],
+    /// What comes before the rounds.
+    start: &'a str,
+    /// As many as the network needs sweeps.
+    rounds: usize,
+    /// How many lines the text has.
+    lines: usize,
+    /// How the nodes' lines begin.
+    beginnings: &'a [&'a str],
+}
+
+/// A network whose links hold one item, with node 0 as its root.
+fn net_of(alloc: Global, nodes: i64, lease: i64, edges: &[(i64, i64)]) -> Result<Net, NetFault> {
+    Net::make(alloc, nodes, 0, 1, lease, edges)
+}
 
 /// Whether the lines of the text, from its first on, begin so.
 fn lines_begin(text: &str, beginnings: &[&str]) -> bool {
@@ -13,19 +35,19 @@ fn lines_begin(text: &str, beginnings: &[&str]) -> bool {
     true
 }
 
-/// Holds that the text leads to nodes whose lines begin so, of which at most one is privileged and none lends, in so many sweeps.
-fn settles(
-    rt: &(impl Eprint + AllocGlobal + Abort),
-    net: &Net,
-    text: &str,
-    nodes: &[&str],
-    sweeps: u64,
-) -> Result<(), Fail> {
-    let one = format!(in rt.alloc(); "privileged 1 lending 0\nsweeps {sweeps} of {sweeps}\n")?;
-    let none = format!(in rt.alloc(); "privileged 0 lending 0\nsweeps {sweeps} of {sweeps}\n")?;
+/// Holds that it ends so: at most one node is privileged and none lends, after as many sweeps as there are rounds.
+fn holds(rt: &(impl Eprint + AllocGlobal + Abort), run: &LongRun<'_>) -> Result<(), Fail> {
+    let alloc = rt.alloc();
+    let net = net_of(alloc, run.nodes, run.lease, run.edges)?;
+    let round = round_of(alloc, &net)?;
+    let text = joined(alloc, &[(run.start, 1), (&round, run.rounds)])?;
+    assert_eq!(rt; text.lines().count(), run.lines);
+    let sweeps = run.rounds as u64;
+    let one = format!(in alloc; "privileged 1 lending 0\nsweeps {sweeps} of {sweeps}\n")?;
+    let none = format!(in alloc; "privileged 0 lending 0\nsweeps {sweeps} of {sweeps}\n")?;
     for piece in PIECES {
-        let (output, summary) = simulated(rt.alloc(), net, text, piece)?;
-        assert!(rt; lines_begin(&output, nodes), "{output}");
+        let (output, summary) = simulated(alloc, &net, &text, piece)?;
+        assert!(rt; lines_begin(&output, run.beginnings), "{output}");
         assert!(rt;
             output.ends_with(one.as_str()) || output.ends_with(none.as_str()),
             "{output}"
@@ -37,41 +59,54 @@ fn settles(
 
 #[test]
 fn the_far_corner_of_the_square_takes_the_smaller_parent(rt: HostRuntime) -> Result<(), Fail> {
-    let net = Net::make(rt.alloc(), 4, 0, 1, 0, &[(0, 1), (0, 2), (1, 3), (2, 3)])?;
-    let round = round_of(rt.alloc(), &net)?;
-    let text = repeated(rt.alloc(), &round, 461)?;
-    assert_eq!(rt; text.lines().count(), 16_596);
-    let nodes = [
-        "node 0 distance 0 parent none ",
-        "node 1 distance 1 parent 0 ",
-        "node 2 distance 1 parent 0 ",
-        "node 3 distance 2 parent 1 ",
-    ];
-    settles(&rt, &net, &text, &nodes, 461)
+    let run = LongRun {
+        nodes: 4,
+        lease: 0,
+        edges: &[(0, 1), (0, 2), (1, 3), (2, 3)],
+        start: "",
+        rounds: 461,
+        lines: 16_596,
+        beginnings: &[
+            "node 0 distance 0 parent none ",
+            "node 1 distance 1 parent 0 ",
+            "node 2 distance 1 parent 0 ",
+            "node 3 distance 2 parent 1 ",
+        ],
+    };
+    holds(&rt, &run)
 }
 
 #[test]
 fn three_nodes_in_a_line_settle(rt: HostRuntime) -> Result<(), Fail> {
-    let net = Net::make(rt.alloc(), 3, 0, 1, 0, &[(0, 1), (1, 2)])?;
-    let round = round_of(rt.alloc(), &net)?;
-    let text = repeated(rt.alloc(), &round, 217)?;
-    assert_eq!(rt; text.lines().count(), 4_123);
-    let nodes = [
-        "node 0 distance 0 parent none ",
-        "node 1 distance 1 parent 0 ",
-        "node 2 distance 2 parent 1 ",
-    ];
-    settles(&rt, &net, &text, &nodes, 217)
+    let run = LongRun {
+        nodes: 3,
+        lease: 0,
+        edges: &[(0, 1), (1, 2)],
+        start: "",
+        rounds: 217,
+        lines: 4_123,
+        beginnings: &[
+            "node 0 distance 0 parent none ",
+            "node 1 distance 1 parent 0 ",
+            "node 2 distance 2 parent 1 ",
+        ],
+    };
+    holds(&rt, &run)
 }
 
 #[test]
 fn forged_tokens_and_loans_are_gone(rt: HostRuntime) -> Result<(), Fail> {
-    let net = two_nodes(rt.alloc(), 1)?;
-    let rounds = repeated(rt.alloc(), ROUND, 69)?;
-    let text = format!(in rt.alloc(); "{FORGED}{rounds}")?;
-    let nodes = [
-        "node 0 distance 0 parent none ",
-        "node 1 distance 1 parent 0 ",
-    ];
-    settles(&rt, &net, &text, &nodes, 69)
+    let run = LongRun {
+        nodes: 2,
+        lease: 1,
+        edges: &[(0, 1)],
+        start: FORGED,
+        rounds: 69,
+        lines: 698,
+        beginnings: &[
+            "node 0 distance 0 parent none ",
+            "node 1 distance 1 parent 0 ",
+        ],
+    };
+    holds(&rt, &run)
 }

@@ -1,6 +1,7 @@
 //! The text that shows a world.
 use super::*;
-use run_model::Event;
+use events_text::parse_line;
+use run_model::EventFault;
 
 /// A world of two nodes with a frame under way, shown with 7 sweeps.
 const SHOWN: &str = "\
@@ -12,14 +13,45 @@ privileged 0 lending 0
 sweeps 7 of 69
 ";
 
+/// A network's default world. Rows need nothing of what the contracts of this call and the next ones say.
+fn start(
+    alloc: Global,
+    nodes: i64,
+    root: i64,
+    capacity: i64,
+    edges: &[(i64, i64)],
+) -> Result<World, Fail> {
+    let net = Net::make(alloc, nodes, root, capacity, 0, edges)?;
+    Ok(World::new(alloc, &net)?)
+}
+
+/// What a world answers to the event of a line; none where the line spells none.
+fn told(world: &mut World, line: &str) -> Option<Result<(), EventFault>> {
+    let event = parse_line(line.as_bytes())?;
+    Some(world.step(&event))
+}
+
+/// Whether the event of each line happens.
+fn all_happen(world: &mut World, lines: &[&str]) -> bool {
+    let mut accepted = true;
+    for line in lines {
+        accepted &= told(world, line) == Some(Ok(()));
+    }
+    accepted
+}
+
+/// Shows a world.
+fn show(world: &World, sweeps: u64, sink: &mut MemorySink) -> Result<(), SimFault> {
+    state_text(world, sweeps, sink)
+}
+
 #[test]
 fn a_world_is_shown_as_far_as_there_is_room(rt: HostRuntime) -> Result<(), Fail> {
-    let mut world = World::new(rt.alloc(), &two_nodes(rt.alloc(), 0)?)?;
-    assert_eq!(rt; world.step(&Event::Send { from: 0, to: 1 }), Ok(()));
-    assert_eq!(rt; world.step(&Event::Ask { node: 1, ticket: 9 }), Ok(()));
+    let mut world = start(rt.alloc(), 2, 0, 1, &[(0, 1)])?;
+    assert!(rt; all_happen(&mut world, &["send 0 1", "ask 1 9"]));
     for room in 0..=SHOWN.len() {
         let mut sink = MemorySink::new(rt.alloc(), room)?;
-        let answer = state_text(&world, 7, &mut sink);
+        let answer = show(&world, 7, &mut sink);
         let want = if room < SHOWN.len() {
             Err(SimFault::Write)
         } else {
@@ -33,13 +65,13 @@ fn a_world_is_shown_as_far_as_there_is_room(rt: HostRuntime) -> Result<(), Fail>
 
 #[test]
 fn links_stand_by_source_and_then_destination(rt: HostRuntime) -> Result<(), Fail> {
-    let net = Net::make(rt.alloc(), 3, 2, 4, 0, &[(2, 1), (0, 2)])?;
-    let mut world = World::new(rt.alloc(), &net)?;
-    for (from, to) in [(2, 0), (2, 1), (2, 1), (1, 2), (1, 2), (1, 2)] {
-        assert_eq!(rt; world.step(&Event::Send { from, to }), Ok(()));
-    }
+    let mut world = start(rt.alloc(), 3, 2, 4, &[(2, 1), (0, 2)])?;
+    let lines = [
+        "send 2 0", "send 2 1", "send 2 1", "send 1 2", "send 1 2", "send 1 2",
+    ];
+    assert!(rt; all_happen(&mut world, &lines));
     let mut sink = MemorySink::new(rt.alloc(), ROOM)?;
-    state_text(&world, 0, &mut sink)?;
+    show(&world, 0, &mut sink)?;
     // 4(4+1) + 4(3+1) + 48 * 2 * 2 + 1
     let want = "\
 node 0 distance 3 parent none token no lent none waiting 0
