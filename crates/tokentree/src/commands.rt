@@ -1,15 +1,17 @@
 //! The command line.
-ghost use Rattle.std.specs.Prelude.{◌≡◌};
+ghost use Rattle.std.specs.Prelude.{◌≡◌, ◌≢◌, ◌≤◌};
 ghost use Rattle.std.specs.Process.{exit_status};
+ghost use Rattle.clap.specs.Values.{kind_of};
+ghost use Rattle.clap.specs.declared.error.kind.ErrorKind.TheVariants.{DisplayHelp, DisplayVersion};
 
-use crate::fault::Fault;
-use crate::{bound, help, simulate};
+use crate::help;
 use clap::{Arg, ArgAction, ArgMatches, Command};
 use std::alloc::{AllocError, Global};
 use std::convert::AsStr;
 use std::io::Input;
 use std::process::ExitCode;
 use std::rt::{Env, Files};
+use subcommands::{Fault, bound, simulate};
 
 /// The status of a command line that was refused.
 const LINE_REFUSED: u8 = 2;
@@ -37,10 +39,7 @@ pub fn run_words<R: Files + Input + Print + Eprint + AllocGlobal, S: AsStr>(
     };
     let matches = match command.try_get_matches_from(words) {
         Ok(matches) => matches,
-        Err(error) => {
-            let _ = error.print(rt);
-            return ExitCode::from(if error.use_stderr() { LINE_REFUSED } else { 0 });
-        }
+        Err(error) => return shows(rt, &error),
     };
     match run_command(rt, &matches) {
         Ok(status) => status,
@@ -63,6 +62,21 @@ fn run_command<R: Files + Input + Print + AllocGlobal>(
             _ => Ok(ExitCode::from(LINE_REFUSED)),
         },
         _ => Ok(ExitCode::from(LINE_REFUSED)),
+    }
+}
+
+/// Shows the help that was asked for, or why the command line was refused.
+fn shows<R: Print + Eprint>(rt: &R, error: &clap::Error) -> ExitCode
+    ensures mistake { kind_of error.now ≢ DisplayHelp → kind_of error.now ≢ DisplayVersion → exit_status result ≡ 2 }
+    ensures help { kind_of error.now ≡ DisplayHelp → exit_status result ≤ 1 }
+{
+    let printed = error.print(rt);
+    if error.use_stderr() {
+        return ExitCode::from(LINE_REFUSED);
+    }
+    match printed {
+        Ok(()) => ExitCode::SUCCESS,
+        Err(_) => fails(rt, Fault::Output),
     }
 }
 

@@ -1,4 +1,4 @@
-//! `tokentree`, the program of a self-stabilising lock over a spanning tree. Each command is a subcommand, and a module here.
+//! `tokentree`, the program of a self-stabilising lock over a spanning tree. Each command is a subcommand, and a module of the crate `subcommands`.
 //!
 //! ```text
 //! $ tokentree bound two-nodes.toml
@@ -14,19 +14,14 @@
 //! sweeps 1 of 69
 //! ```
 //!
-//! It keeps no state of its own and no lock by itself: what a command does stands in the crates below, this one reads words and files and prints.
+//! It keeps no state of its own and no lock by itself: what a command does stands in the crates below, this one reads its words and tells its faults.
 //!
 //! Statuses: 0 done, help too; 1 a file, memory or the output refused, with one line `tokentree: ..` on standard error; 2 the command line refused;
 //! 3 `simulate` is done, and refused some lines. Faults are looked for in this order: the command line, the network, the events.
 #![tactic(auto)]
 
-mod bound;
 mod commands;
-mod fault;
 mod help;
-mod network_file;
-mod simulate;
-mod streams;
 
 use std::process::ExitCode;
 

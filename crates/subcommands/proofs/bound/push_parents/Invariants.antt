@@ -1,8 +1,8 @@
 use Rattle.std.proofs.Common.{◌≡◌, ◌++◌, string_bytes, map}
 use Rattle.std.specs.List.{range_with_len}
-use Rattle.tokentree.specs.Bound.{spaced, parent_word}
+use Rattle.subcommands.specs.Bound.{spaced, parent_word}
 use Rattle.topology.specs.Tree.{parent_of}
-use Rattle.tokentree.proofs.bound.push_parents.Given as goal
+use Rattle.subcommands.proofs.bound.push_parents.Given as goal
 
 -- the words of the nodes so far
 abbrev pub invariant-loop-v : goal.invariant-loop-v

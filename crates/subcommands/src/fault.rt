@@ -28,7 +28,7 @@ pub enum Fault {
 
 impl From<SimFault> for Fault {
     ghost use Rattle.std.specs.Prelude.{◌≡◌};
-    ghost use Rattle.tokentree.specs.SimulationFault.{fault_of};
+    ghost use Rattle.subcommands.specs.SimulationFault.{fault_of};
 
     ghost from_gives = { λ s fault. fault ≡ fault_of s };
 

@@ -1,6 +1,6 @@
 use Rattle.std.proofs.Common.{rules}
-use Rattle.tokentree.proofs.Spaced.{spaced-more}
-use Rattle.tokentree.proofs.bound.push_parents.Goals as goal
+use Rattle.subcommands.proofs.Spaced.{spaced-more}
+use Rattle.subcommands.proofs.bound.push_distances.Goals as goal
 
 pub loop-v-preserved : goal.loop-v-preserved
 loop-v-preserved c = spaced-more _ c.loop-v.v _ _ _ c.loop-v.invariant (search rules)

@@ -1,6 +1,6 @@
 //! `bound FILE`: what the lock's guarantee costs on a network.
 ghost use Rattle.std.specs.Prelude.{◌≡◌, ℕ, ◌++◌, IfOk, OnOk, string_bytes, codes, decimal};
-ghost use Rattle.tokentree.specs.Bound.{number_line, nodes_line, parent_word, bound_text};
+ghost use Rattle.subcommands.specs.Bound.{number_line, nodes_line, parent_word, bound_text};
 ghost use Rattle.topology.specs.Tree.{distance_of, parent_of};
 
 use crate::fault::Fault;

@@ -1,6 +1,6 @@
 use Rattle.std.proofs.Common.{◌≡◌}
 use Rattle.std.specs.Io.KnownBytes.{Keeps}
-use Rattle.tokentree.proofs.streams.ReadSourceSource.read.Given as goal
+use Rattle.subcommands.proofs.streams.ReadSourceSource.read.Given as goal
 
 -- nothing was read, and no failure counted
 abbrev pub invariant-loop : goal.invariant-loop

@@ -1,6 +1,6 @@
 //! The network of a file.
 ghost use Rattle.std.specs.Prelude.{◌≤◌, IfOk, IfErr, length};
-ghost use Rattle.tokentree.specs.NetworkFile.{IsNetworkOf, IsRefusedFor};
+ghost use Rattle.subcommands.specs.NetworkFile.{IsNetworkOf, IsRefusedFor};
 
 use crate::fault::Fault;
 use std::alloc::Global;

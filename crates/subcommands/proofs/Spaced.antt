@@ -1,7 +1,7 @@
 -- The words of one node more.
 use Rattle.std.proofs.Common.{◌≡◌, ◌∙◌, ℕ, zero, suc, ◌+◌, List, ◌++◌, map, refl, ap, arith, codes, append_assoc, append-nil, sym}
 use Rattle.std.specs.List.{range_with_len}
-use Rattle.tokentree.specs.Bound.{spaced}
+use Rattle.subcommands.specs.Bound.{spaced}
 
 spaced-from : (word_of : ℕ → List ℕ) (a n : ℕ) → spaced (map word_of (range_with_len a (suc n))) ≡ spaced (map word_of (range_with_len a n)) ++ (codes " " ++ word_of (a + n))
 spaced-from word_of a zero = let same : a + 0 ≡ a = omega arith in rw (same, append-nil) refl

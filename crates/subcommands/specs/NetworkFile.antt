@@ -4,8 +4,8 @@ use Rattle.std.specs.Str.{IsUtf8}
 use Rattle.topology.specs.Network.{Network}
 use Rattle.topology.specs.ReadNet.{IsReadFrom, IsUnread}
 use Rattle.topology.specs.declared.fault.NetFault.TheVariants.{NotToml}
-use Rattle.tokentree.specs.declared.fault.Fault.{Fault}
-use Rattle.tokentree.specs.declared.fault.Fault.TheVariants.{NetworkUnreadable, Network as Refused}
+use Rattle.subcommands.specs.declared.fault.Fault.{Fault}
+use Rattle.subcommands.specs.declared.fault.Fault.TheVariants.{NetworkUnreadable, Network as Refused}
 
 -- the most bytes that a network file may have
 abbrev pub most_bytes : ℕ

@@ -1,6 +1,6 @@
 -- As which fault of the program a simulation's fault is told.
-use Rattle.tokentree.specs.declared.fault.Fault.{Fault}
-use Rattle.tokentree.specs.declared.fault.Fault.TheVariants.{EventsUnreadable, EventsLong, Memory, Output}
+use Rattle.subcommands.specs.declared.fault.Fault.{Fault}
+use Rattle.subcommands.specs.declared.fault.Fault.TheVariants.{EventsUnreadable, EventsLong, Memory, Output}
 use Rattle.world.specs.declared.simulation.SimFault.{SimFault}
 use Rattle.world.specs.declared.simulation.SimFault.TheVariants.{Memory as MemoryRefused, Read, Long, Write}
 

@@ -2,7 +2,7 @@
 ghost use Rattle.std.specs.Prelude.{◌≡◌, [], ◌==◌, if◌then◌else◌, OnOk, IfErr};
 ghost use Rattle.std.specs.Process.{exit_status};
 ghost use Rattle.std.specs.Io.Buffered.{writer_buffer};
-ghost use Rattle.tokentree.specs.declared.fault.Fault.TheVariants.{EventsUnreadable};
+ghost use Rattle.subcommands.specs.declared.fault.Fault.TheVariants.{EventsUnreadable};
 ghost use Rattle.byte_streams.specs.Streams.{Rose};
 
 use crate::fault::Fault;

@@ -1,0 +1,149 @@
+//! The numbers of networks, what files are refused for, and which fault is met first.
+use crate::bound::bound_text;
+use crate::fault::Fault;
+use crate::network_file::{network_of, read_network};
+use crate::simulate;
+use std::alloc::Global;
+use std::fs;
+use std::test::Fail;
+use topology::{Net, NetFault};
+use world::simulation::SimFault;
+
+const TWO_NODES: &str = "nodes = 2\nroot = 0\ncapacity = 1\nlease = 0\nedges = [[0, 1]]\n";
+
+#[test]
+fn prints_numbers_distances_and_parents(rt: HostRuntime) -> Result<(), Fail> {
+    let alloc = rt.alloc();
+    for (nodes, edges, want) in [
+        (
+            2,
+            [(0, 1)].as_slice(),
+            "nodes 2\nedges 1\ncapacity 1\ncounter 5\nring 7\ndistances 0 1\nparents none 0\nsweeps 69\n",
+        ),
+        (
+            3,
+            [(0, 1), (1, 2)].as_slice(),
+            "nodes 3\nedges 2\ncapacity 1\ncounter 5\nring 13\ndistances 0 1 2\nparents none 0 1\nsweeps 217\n",
+        ),
+        (
+            4,
+            [(0, 1), (0, 2), (1, 3), (2, 3)].as_slice(),
+            "nodes 4\nedges 4\ncapacity 1\ncounter 5\nring 19\ndistances 0 1 1 2\nparents none 0 0 1\nsweeps 461\n",
+        ),
+    ] {
+        let net = Net::make(alloc, nodes, 0, 1, 0, edges)?;
+        assert_eq!(rt; bound_text(alloc, &net)?.as_str(), want);
+    }
+    Ok(())
+}
+
+#[test]
+fn prints_the_star_of_sixty_four(rt: HostRuntime) -> Result<(), Fail> {
+    let alloc = rt.alloc();
+    let mut edges = Vec::new(alloc);
+    let mut ones = String::new(alloc);
+    let mut zeros = String::new(alloc);
+    for leaf in 1..64 {
+        edges.push((0, leaf))?;
+        ones.push_str(" 1")?;
+        zeros.push_str(" 0")?;
+    }
+    let net = Net::make(alloc, 64, 0, 4096, 0, edges.as_slice())?;
+    let want = format!(in alloc;
+        "nodes 64\nedges 63\ncapacity 4096\ncounter 8195\nring 379\ndistances 0{ones}\nparents none{zeros}\nsweeps 207161\n"
+    )?;
+    assert_eq!(rt; bound_text(alloc, &net)?, want);
+    Ok(())
+}
+
+/// The fault line without its first word and its end.
+fn fault_of(alloc: Global, bytes: &[u8]) -> Result<String, Fail> {
+    match network_of(alloc, bytes) {
+        Ok(_) => Ok(String::from_str(alloc, "accepted")?),
+        Err(fault) => Ok(format!(in alloc; "{fault}")?),
+    }
+}
+
+#[test]
+fn names_the_fault_of_a_file(rt: HostRuntime) -> Result<(), Fail> {
+    let alloc = rt.alloc();
+    let long = vec![in alloc; 32u8; 1_048_577]?;
+    for (bytes, want) in [
+        (TWO_NODES.as_bytes(), "accepted"),
+        (b"nodes =".as_slice(), "network NotToml"),
+        ([0x66, 0xff].as_slice(), "network NotToml"),
+        (b"nodes = 2".as_slice(), "network Missing"),
+        (&long.as_slice()[1..], "network Missing"),
+        (long.as_slice(), "network Unreadable"),
+    ] {
+        assert_eq!(rt; fault_of(alloc, bytes)?.as_str(), want);
+    }
+    assert_eq!(rt;
+        format!(in alloc; "{}", Fault::Network(NetFault::Memory))?.as_str(),
+        "network Memory"
+    );
+    Ok(())
+}
+
+#[test]
+fn reads_files(rt: HostRuntime) -> Result<(), Fail> {
+    let alloc = rt.alloc();
+    fs::write(&rt, "read.toml", TWO_NODES)?;
+    fs::write(
+        &rt,
+        "long.toml",
+        vec![in alloc; 32u8; 1_048_577]?.as_slice(),
+    )?;
+    for (path, want) in [
+        ("read.toml", None),
+        ("long.toml", Some(Fault::NetworkUnreadable)),
+        ("absent.toml", Some(Fault::NetworkUnreadable)),
+        (".", Some(Fault::NetworkUnreadable)),
+        ("", Some(Fault::NetworkUnreadable)),
+    ] {
+        assert_eq!(rt; read_network(&rt, path).err(), want, "at {path:?}");
+    }
+    fs::remove_file(&rt, "read.toml")?;
+    fs::remove_file(&rt, "long.toml")?;
+    Ok(())
+}
+
+#[test]
+fn names_the_fault_of_a_simulation(rt: HostRuntime) -> Result<(), Fail> {
+    for (fault, want) in [
+        (SimFault::Memory, "memory Refused"),
+        (SimFault::Read, "events Unreadable"),
+        (SimFault::Long, "events Long"),
+        (SimFault::Write, "output Refused"),
+    ] {
+        let named = format!(in rt.alloc(); "{}", Fault::from(fault))?;
+        assert_eq!(rt; named.as_str(), want);
+    }
+    Ok(())
+}
+
+#[test]
+fn looks_at_the_network_before_the_events(rt: HostRuntime) -> Result<(), Fail> {
+    fs::write(&rt, "net.toml", TWO_NODES)?;
+    fs::write(&rt, "no-net.toml", "nodes =")?;
+    fs::write(&rt, "one.events", "tick 0\n")?;
+    for (network, events, want) in [
+        ("net.toml", "one.events", None),
+        ("net.toml", "absent", Some(Fault::EventsUnreadable)),
+        ("net.toml", ".", Some(Fault::EventsUnreadable)),
+        ("net.toml", "", Some(Fault::EventsUnreadable)),
+        (
+            "no-net.toml",
+            "absent",
+            Some(Fault::Network(NetFault::NotToml)),
+        ),
+        ("absent", "absent", Some(Fault::NetworkUnreadable)),
+    ] {
+        let fault = simulate::run(&rt, network, events).err();
+        assert_eq!(rt; fault, want, "of {network:?} and {events:?}");
+    }
+    fs::remove_file(&rt, "net.toml")?;
+    fs::remove_file(&rt, "no-net.toml")?;
+    fs::remove_file(&rt, "one.events")?;
+    Ok(())
+}
