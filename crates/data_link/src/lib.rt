@@ -23,6 +23,3 @@ mod port;
 pub use fault::OutOfRange;
 pub use heard::Heard;
 pub use port::Port;
-
-#[cfg(test)]
-mod tests;

@@ -19,6 +19,3 @@ mod mask;
 mod neighbours;
 
 pub use neighbours::{TreeNeighbours, tree_neighbours};
-
-#[cfg(test)]
-mod tests;

@@ -24,6 +24,3 @@ mod reader;
 pub use frame_line::{decode, encode};
 pub use hello::{decode_hello, encode_hello};
 pub use reader::LineReader;
-
-#[cfg(test)]
-mod tests;

@@ -23,6 +23,3 @@ pub use fault::{Full, NoItem};
 pub use item::Item;
 pub use link::Link;
 pub use topology::{Frame, Payload, Ranges};
-
-#[cfg(test)]
-mod tests;

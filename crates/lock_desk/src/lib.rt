@@ -28,6 +28,3 @@ pub use client::ClientReader;
 pub use client_line::ClientLine;
 pub use desk::Desk;
 pub use fault::{AskFault, OutOfRange, Stranger};
-
-#[cfg(test)]
-mod tests;

@@ -31,6 +31,3 @@ pub use lock_desk::{AskFault, DeskAct, Stranger};
 pub use node::{Node, NodeState};
 pub use registers::OutOfRange;
 pub use ticked::Ticked;
-
-#[cfg(test)]
-mod tests;

@@ -19,6 +19,3 @@ mod registers;
 
 pub use data_link::{Heard, OutOfRange};
 pub use registers::Registers;
-
-#[cfg(test)]
-mod tests;

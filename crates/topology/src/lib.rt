@@ -26,6 +26,3 @@ mod values;
 pub use fault::NetFault;
 pub use frame::{Frame, Payload, Ranges};
 pub use net::Net;
-
-#[cfg(test)]
-mod tests;

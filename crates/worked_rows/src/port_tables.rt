@@ -1,5 +1,6 @@
-use crate::*;
+//! All ports of a node in one table, and its memory refused.
 use linked_list_allocator::LocalHeap;
+use registers::{Heard, OutOfRange, Registers};
 use std::alloc::{AllocError, Allocator};
 use std::test::Fail;
 use topology::{Frame, Net, Payload};

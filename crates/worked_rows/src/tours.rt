@@ -1,4 +1,5 @@
-use crate::{TreeNeighbours, tree_neighbours};
+//! The tree neighbours of a node, in their order, and a tour of the square.
+use euler_ring::{TreeNeighbours, tree_neighbours};
 use std::test::Fail;
 
 /// The true parents of the square 0-1, 0-2, 1-3, 2-3 with root 0.

@@ -1,4 +1,5 @@
-use crate::*;
+//! Two ports over two links, and writes that do not fit.
+use data_link::{OutOfRange, Port};
 use link_model::{Item, Link};
 use std::test::Fail;
 use topology::{Frame, Net, Payload};

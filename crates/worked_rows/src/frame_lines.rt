@@ -1,4 +1,5 @@
-use crate::*;
+//! Frame lines and hellos, at the ends of their ranges, cut at every place, and with memory refused.
+use frame_codec::{LineReader, decode, decode_hello, encode, encode_hello, laws};
 use linked_list_allocator::LocalHeap;
 use std::alloc::{AllocError, Global};
 use std::test::Fail;

@@ -1,4 +1,5 @@
-use crate::*;
+//! A link that fills, loses and empties, and its memory refused.
+use link_model::{Frame, Full, Item, Link, NoItem, Payload};
 use linked_list_allocator::LocalHeap;
 use std::test::Fail;
 
