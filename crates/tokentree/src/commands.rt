@@ -16,6 +16,9 @@ use subcommands::{Fault, bound, simulate};
 /// The status of a command line that was refused.
 const LINE_REFUSED: u8 = 2;
 
+/// What the first argument of each command is.
+const NETWORK_FILE: &str = "The network file (TOML)";
+
 /// Does what the program's own words say.
 pub fn run<R: Env + Files + Input + Print + Eprint + AllocGlobal>(rt: &R) -> ExitCode {
     let Ok(arguments) = std::env::args(rt) else {
@@ -107,28 +110,24 @@ fn bound_command<'a>(alloc: Global) -> Result<Command<'a>, AllocError> {
             "Shows a network's numbers, distances and parents, and after how many sweeps its lock works from any state",
         )
         .after_help(help::BOUND)
-        .arg(network_file(alloc))
+        .arg(file(alloc, "FILE", NETWORK_FILE))
 }
 
 /// What `simulate` takes.
 fn simulate_command<'a>(alloc: Global) -> Result<Command<'a>, AllocError> {
-    let events = Arg::new(alloc, "EVENTS")
-        .required(true)
-        .action(ArgAction::Set)
-        .help("The events text, or - for standard input");
     Command::new(alloc, "simulate")
         .about(
             "Lets a list of events happen on a network, tells which are refused, and shows the state they lead to",
         )
         .after_help(help::SIMULATE)
-        .arg(network_file(alloc))?
-        .arg(events)
+        .arg(file(alloc, "FILE", NETWORK_FILE))?
+        .arg(file(alloc, "EVENTS", "The events text, or - for standard input"))
 }
 
-/// The network file, as an argument.
-fn network_file<'a>(alloc: Global) -> Arg<'a> {
-    Arg::new(alloc, "FILE")
+/// A file, as an argument that must be given.
+fn file<'a>(alloc: Global, name: &'a str, help: &'a str) -> Arg<'a> {
+    Arg::new(alloc, name)
         .required(true)
         .action(ArgAction::Set)
-        .help("The network file (TOML)")
+        .help(help)
 }

@@ -1,5 +1,6 @@
 //! Runs of events, judged: what they lead to was worked out by hand. A row tells its events as a text, a line each.
 use super::*;
+use crate::rounds::{FORGED, ROUND, round_of};
 use events_text::parse_line;
 use judge::{Judge, World};
 use link_model::Item;
@@ -13,10 +14,6 @@ mod long_runs;
 mod memory;
 mod parts;
 mod three_rounds;
-
-/// One round of two nodes: both tick, and then each sends and takes twice.
-const ROUND: &str =
-    "tick 0\ntick 1\nsend 0 1\ntake 0 1\nsend 0 1\ntake 0 1\nsend 1 0\ntake 1 0\nsend 1 0\ntake 1 0\n";
 
 /// An item that no node sent.
 const JUNK: Event = Event::Damage(Harm::Item {

@@ -1,18 +1,5 @@
 //! Runs of as many sweeps as a network's lock needs to work from any state.
 use super::*;
-use std::alloc::AllocError;
-
-/// What makes two nodes hold a forged token each, and lend it.
-const FORGED: &str = "\
-harm own 0 0 none
-harm own 1 1 0
-harm staged 0 1 0 none 0
-harm copy 0 1 1 0 0
-harm staged 1 0 1 0 0
-harm copy 1 0 0 none 1
-harm desk 0 5 0 no
-harm desk 1 6 0 no
-";
 
 /// Rounds of a network, and what they lead to.
 #[derive(Clone, Copy)]
@@ -32,24 +19,6 @@ struct LongRun<'a> {
     tree: &'a [(u16, Option<u16>)],
 }
 
-/// Adds so many rounds of a network: each node ticks, and then each sends to each neighbour, which takes, one time more than the link holds items.
-fn push_rounds(events: &mut Vec<Event>, net: &Net, rounds: u32) -> Result<(), AllocError> {
-    for _ in 0..rounds {
-        for node in 0..net.nodes() {
-            events.push(Event::Tick { node })?;
-        }
-        for from in 0..net.nodes() {
-            for to in net.neighbours(from) {
-                for _ in 0..=net.capacity() {
-                    events.push(Event::Send { from, to: *to })?;
-                    events.push(Event::Take { from, to: *to })?;
-                }
-            }
-        }
-    }
-    Ok(())
-}
-
 /// Whether the nodes have these distances and parents, at most one is privileged, and none lends.
 fn is_settled(world: &World, tree: &[(u16, Option<u16>)]) -> bool {
     let mut settled = world.privileged() <= 1 && world.lending() == 0;
@@ -66,7 +35,10 @@ fn holds(rt: &(impl Eprint + AllocGlobal + Abort), run: &LongRun<'_>) -> Result<
     let mut events = events_of(rt.alloc(), run.start)?;
     let forged = judged(start(rt.alloc(), &net)?, &events).world;
     assert_eq!(rt; (forged.privileged(), forged.lending()), run.at_start);
-    push_rounds(&mut events, &net, run.rounds)?;
+    let round = round_of(rt.alloc(), &net)?;
+    for _ in 0..run.rounds {
+        push_events(&mut events, &round)?;
+    }
     assert_eq!(rt; events.len(), run.events);
     let report = judged(start(rt.alloc(), &net)?, &events);
     assert_eq!(rt; (report.sweeps, report.refused), (u64::from(run.rounds), 0));

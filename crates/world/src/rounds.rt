@@ -1,0 +1,37 @@
+//! Texts of events that the rows of runs share.
+use std::alloc::{AllocError, Global};
+use std::fmt::Write;
+use topology::Net;
+
+/// One round of two nodes: both tick, and then each sends and takes twice.
+pub const ROUND: &str =
+    "tick 0\ntick 1\nsend 0 1\ntake 0 1\nsend 0 1\ntake 0 1\nsend 1 0\ntake 1 0\nsend 1 0\ntake 1 0\n";
+
+/// What makes two nodes hold a forged token each, and lend it.
+pub const FORGED: &str = "\
+harm own 0 0 none
+harm own 1 1 0
+harm staged 0 1 0 none 0
+harm copy 0 1 1 0 0
+harm staged 1 0 1 0 0
+harm copy 1 0 0 none 1
+harm desk 0 5 0 no
+harm desk 1 6 0 no
+";
+
+/// One round of a network: each node ticks, and then each sends to each neighbour, which takes, so often that one item more than the link holds goes over.
+pub fn round_of(alloc: Global, net: &Net) -> Result<String, AllocError> {
+    let mut text = String::new(alloc);
+    for v in 0..net.nodes() {
+        writeln!(text, "tick {v}")?;
+    }
+    for from in 0..net.nodes() {
+        for to in net.neighbours(from) {
+            for _ in 0..=net.capacity() {
+                writeln!(text, "send {from} {to}")?;
+                writeln!(text, "take {from} {to}")?;
+            }
+        }
+    }
+    Ok(text)
+}
