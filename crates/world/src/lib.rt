@@ -44,8 +44,6 @@
 pub mod events;
 pub mod laws;
 pub mod report;
-#[cfg(test)]
-mod rounds;
 pub mod simulation;
 pub mod streams;
 

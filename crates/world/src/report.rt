@@ -1,6 +1,3 @@
 //! A whole run, judged: offered again for users of this crate alone.
 
 pub use judge::report::{Report, judge};
-
-#[cfg(test)]
-mod tests;

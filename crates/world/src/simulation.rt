@@ -114,6 +114,3 @@ pub fn simulate<A: Allocator + Copy, N: Allocator + Copy, R: Source, W: Sink>(
     simulation.read_all(source, sink)?;
     simulation.finish(sink)
 }
-
-#[cfg(test)]
-mod tests;

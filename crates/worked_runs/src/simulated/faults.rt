@@ -1,7 +1,7 @@
 //! Sources, sinks and memory that fail, at each of their calls in turn.
 use super::*;
-use byte_streams::{Failed, Fused};
 use linked_list_allocator::LocalHeap;
+use world::streams::{Failed, Fused};
 
 /// Lines of which all but one are refused.
 const LINES: &str =

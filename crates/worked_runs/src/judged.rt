@@ -1,14 +1,14 @@
 //! Runs of events, judged: what they lead to was worked out by hand. A row tells its events as a text, a line each.
-use super::*;
-use crate::rounds::{FORGED, ROUND, round_of};
-use events_text::parse_line;
-use judge::{Judge, World};
+use crate::texts::{FORGED, ROUND, round_of};
 use link_model::Item;
 use run_model::{Event, EventFault, Harm};
 use std::alloc::{AllocError, AllocFailed, Allocator, Global};
 use std::process::Abort;
 use std::test::Fail;
 use topology::{Net, NetFault};
+use world::events::parse_line;
+use world::report::{Report, judge};
+use world::{Judge, World};
 
 mod long_runs;
 mod memory;
@@ -47,6 +47,15 @@ fn step(world: &mut World, event: &Event) -> Result<(), EventFault> {
 fn told(world: &mut World, line: &str) -> Option<Result<(), EventFault>> {
     let event = event_of(line)?;
     Some(step(world, &event))
+}
+
+/// Distance, parent, and whether it is privileged, of the far one of two nodes.
+fn far(world: &World) -> Option<(u16, Option<u16>, bool)> {
+    if world.net().nodes() < 2 {
+        return None;
+    }
+    let node = world.node(1);
+    Some((node.distance(), node.parent(), node.privileged()))
 }
 
 /// Lets an event happen to a judge's world, and says at how many tallies the judge has looked; none where it is refused.

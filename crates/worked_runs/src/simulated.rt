@@ -1,11 +1,13 @@
 //! Texts and what they lead to, worked out by hand. Each comes in pieces of one byte, of seven, and whole.
-use super::*;
-use crate::rounds::{FORGED, ROUND, round_of};
-use byte_streams::{MemorySink, MemorySource};
-use std::alloc::Global;
+use crate::texts::{FORGED, ROUND, round_of};
+use std::alloc::{AllocError, Allocator, Global};
 use std::fmt::Write;
 use std::process::Abort;
 use std::test::Fail;
+use topology::Net;
+use world::World;
+use world::simulation::{SimFault, Summary, simulate, state_text};
+use world::streams::{MemorySink, MemorySource, Sink, Source};
 
 mod faults;
 mod lines;

@@ -1,8 +1,8 @@
 //! An events text in pieces of several sizes, and lines that no clause has a word for.
-use super::*;
 use run_model::{Event, Harm};
 use std::alloc::{AllocFailed, Global};
 use std::test::Fail;
+use world::events::{EventReader, TextLine, parse_line};
 
 /// Hands a piece to a reader, and says which line it ended, and what is left of the piece.
 fn take<'p>(reader: &mut EventReader, piece: &'p [u8]) -> (Option<TextLine>, &'p [u8]) {

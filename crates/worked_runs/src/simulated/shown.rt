@@ -1,7 +1,7 @@
 //! The text that shows a world.
 use super::*;
-use events_text::parse_line;
 use run_model::EventFault;
+use world::events::parse_line;
 
 /// A world of two nodes with a frame under way, shown with 7 sweeps.
 const SHOWN: &str = "\

@@ -1,0 +1,36 @@
+//! A world that is taken apart and put together goes on as it would have.
+use super::*;
+
+/// Takes a world apart and puts it together again, and says how many nodes and edges its parts had.
+fn taken_apart(world: World) -> (World, usize, usize) {
+    let parts = world.into_parts();
+    let nodes = parts.nodes.len();
+    let edges = parts.links.net().edges().len();
+    (World::from_parts(parts), nodes, edges)
+}
+
+/// Does three rounds and takes the world apart after each event; says whether each event happened and the parts were always those of two nodes.
+fn three_rounds(mut world: World, round: &[Event]) -> (World, bool) {
+    let mut well = true;
+    for _ in 0..3 {
+        for event in round {
+            well &= step(&mut world, event).is_ok();
+            let (whole, nodes, edges) = taken_apart(world);
+            well &= nodes == 2 && edges == 1;
+            world = whole;
+        }
+    }
+    (world, well)
+}
+
+#[test]
+fn the_token_goes_over_in_three_rounds_of_a_world_taken_apart_after_each_event(
+    rt: HostRuntime,
+) -> Result<(), Fail> {
+    let net = net_of(rt.alloc(), 2, 0, &[(0, 1)])?;
+    let round = events_of(rt.alloc(), ROUND)?;
+    let (world, well) = three_rounds(start(rt.alloc(), &net)?, &round);
+    assert!(rt; well);
+    assert_eq!(rt; far(&world), Some((1, Some(0), true)));
+    Ok(())
+}
