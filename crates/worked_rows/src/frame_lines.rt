@@ -1,5 +1,5 @@
 //! Frame lines and hellos, at the ends of their ranges, cut at every place, and with memory refused.
-use frame_codec::{LineReader, decode, decode_hello, encode, encode_hello, laws};
+use frame_codec::{LineReader, decode, decode_hello, encode, encode_hello};
 use linked_list_allocator::LocalHeap;
 use std::alloc::{AllocError, Global};
 use std::test::Fail;
@@ -156,12 +156,4 @@ fn a_refused_growth_reads_nothing(rt: HostRuntime) -> Result<(), Fail> {
         }
     }
     panic!(rt; "always refused")
-}
-
-#[test]
-fn the_laws_are_called(_rt: HostRuntime) {
-    laws::one_reading();
-    laws::text_is_its_lines();
-    laws::any_cutting();
-    laws::junk_ends_at_newline();
 }

@@ -57,45 +57,48 @@ fn numbers_go_round(rt: HostRuntime) -> Result<(), Fail> {
     Ok(())
 }
 
+/// Writes what fits: the numbers 4 and 3, and the payload as staged and as copied.
+fn write(port: &mut Port, payload: Payload) -> Result<(), OutOfRange> {
+    port.set_counters(4, 3)?;
+    port.set_staged(payload)?;
+    port.set_copy(port.staged())
+}
+
+/// Whether each write is refused that has one field just out of range.
+fn refuses_what_does_not_fit(port: &mut Port, payload: Payload) -> bool {
+    let ring = Payload { ring: 7, ..payload };
+    let distance = Payload {
+        distance: 3,
+        ..payload
+    };
+    let parent = Payload {
+        parent: Some(2),
+        ..payload
+    };
+    port.set_counters(5, 0) == Err(OutOfRange)
+        && port.set_counters(0, 5) == Err(OutOfRange)
+        && port.set_staged(ring) == Err(OutOfRange)
+        && port.set_copy(distance) == Err(OutOfRange)
+        && port.set_copy(parent) == Err(OutOfRange)
+}
+
 #[test]
 fn writes_outside_their_range_change_nothing(rt: HostRuntime) -> Result<(), Fail> {
     let net = Net::make(rt.alloc(), 2, 0, 1, 0, &[(0, 1)])?;
     let mut port = Port::new(&net);
-    let staged = Payload {
+    let payload = Payload {
         distance: 2,
         parent: Some(1),
         ring: 6,
     };
-    assert_eq!(rt; port.set_counters(4, 3), Ok(()));
-    assert_eq!(rt; port.set_staged(staged), Ok(()));
-    assert_eq!(rt; port.set_copy(port.staged()), Ok(()));
-    assert_eq!(rt; port.set_counters(5, 0), Err(OutOfRange));
-    assert_eq!(rt; port.set_counters(0, 5), Err(OutOfRange));
-    assert_eq!(rt;
-        port.set_staged(Payload { ring: 7, ..staged }),
-        Err(OutOfRange)
-    );
-    assert_eq!(rt;
-        port.set_copy(Payload {
-            distance: 3,
-            ..staged
-        }),
-        Err(OutOfRange)
-    );
-    assert_eq!(rt;
-        port.set_copy(Payload {
-            parent: Some(2),
-            ..staged
-        }),
-        Err(OutOfRange)
-    );
+    assert_eq!(rt; write(&mut port, payload), Ok(()));
+    assert!(rt; refuses_what_does_not_fit(&mut port, payload));
     let sent = Frame {
         seq: 4,
         ack: 3,
-        payload: staged,
+        payload,
     };
-    assert_eq!(rt; port.frame(), sent);
-    assert_eq!(rt; port.copy(), staged);
+    assert_eq!(rt; (port.frame(), port.copy()), (sent, payload));
     port.reset();
     assert_eq!(rt; port.frame(), Port::new(&net).frame());
     Ok(())

@@ -11,6 +11,15 @@ fn parent_in_square(node: u16) -> Option<u16> {
     }
 }
 
+/// Whether the tree neighbour at a place is this one, with these behind it and before it.
+fn stands_between(tree: &TreeNeighbours, at: usize, id: u16, next: u16, source: u16) -> bool {
+    at < tree.len()
+        && tree.get(at) == id
+        && tree.contains(id)
+        && tree.next_after(id) == next
+        && tree.source_for(id) == source
+}
+
 #[test]
 fn goes_round_three(rt: HostRuntime) -> Result<(), Fail> {
     // node 6 has the parent 4; nodes 1 and 9 name it as theirs, and 2 names nobody
@@ -24,11 +33,7 @@ fn goes_round_three(rt: HostRuntime) -> Result<(), Fail> {
     assert!(rt; !tree.is_empty());
     assert!(rt; !tree.contains(2));
     for (i, id, next, source) in [(0, 1, 4, 9), (1, 4, 9, 1), (2, 9, 1, 4)] {
-        assert!(rt; i < tree.len());
-        assert_eq!(rt; tree.get(i), id);
-        assert!(rt; tree.contains(id));
-        assert_eq!(rt; tree.next_after(id), next, "after {id}");
-        assert_eq!(rt; tree.source_for(id), source, "before {id}");
+        assert!(rt; stands_between(&tree, i, id, next, source), "{id}");
     }
     assert_eq!(rt; tree.special(true), Some(1));
     assert_eq!(rt; tree.special(false), None);
