@@ -15,21 +15,57 @@ fn counted(world: &World) -> (usize, usize) {
     (world.privileged(), world.lending())
 }
 
-#[test]
-fn the_token_goes_to_the_other_node_in_three_rounds(rt: HostRuntime) -> Result<(), Fail> {
+/// Events, and what they lead to.
+#[derive(Clone, Copy)]
+struct Stage<'a> {
+    events: &'a str,
+    /// How many are privileged and how many lend.
+    counted: (usize, usize),
+    /// Distance, parent, and whether it is privileged, of the far node.
+    far: (u16, Option<u16>, bool),
+}
+
+/// Holds that two nodes come through each stage.
+fn all_hold(rt: &(impl Eprint + AllocGlobal + Abort), stages: &[Stage<'_>]) -> Result<(), Fail> {
     let net = net_of(rt.alloc(), 2, 0, &[(0, 1)])?;
     let mut world = start(rt.alloc(), &net)?;
-    let round = events_of(rt.alloc(), ROUND)?;
-    assert_eq!(rt; counted(&world), (0, 0));
-    assert!(rt; all_happen(&mut world, &round));
-    assert_eq!(rt; counted(&world), (1, 0));
-    assert_eq!(rt; far(&world), Some((2, Some(0), false)));
-    assert!(rt; all_happen(&mut world, &round));
-    assert!(rt; all_happen(&mut world, &round));
-    assert_eq!(rt; far(&world), Some((1, Some(0), true)));
-    let loan = events_of(rt.alloc(), "ask 1 7\ntick 1\n")?;
-    assert_eq!(rt; loan.len(), 2);
-    assert!(rt; all_happen(&mut world, &loan));
-    assert_eq!(rt; counted(&world), (1, 1));
+    for (at, stage) in stages.iter().enumerate() {
+        let events = events_of(rt.alloc(), stage.events)?;
+        assert!(rt; all_happen(&mut world, &events), "stage {at}");
+        assert_eq!(rt; counted(&world), stage.counted, "stage {at}");
+        assert_eq!(rt; far(&world), Some(stage.far), "stage {at}");
+    }
     Ok(())
+}
+
+#[test]
+fn the_token_goes_to_the_other_node_in_three_rounds(rt: HostRuntime) -> Result<(), Fail> {
+    let stages = [
+        Stage {
+            events: "",
+            counted: (0, 0),
+            far: (2, None, false),
+        },
+        Stage {
+            events: ROUND,
+            counted: (1, 0),
+            far: (2, Some(0), false),
+        },
+        Stage {
+            events: ROUND,
+            counted: (0, 0),
+            far: (2, Some(0), false),
+        },
+        Stage {
+            events: ROUND,
+            counted: (1, 0),
+            far: (1, Some(0), true),
+        },
+        Stage {
+            events: "ask 1 7\ntick 1\n",
+            counted: (1, 1),
+            far: (1, Some(0), true),
+        },
+    ];
+    all_hold(&rt, &stages)
 }
