@@ -1,6 +1,7 @@
 -- Small examples of what sources give and sinks take, and some that look like them and are none.
-use Rattle.std.proofs.Common.{[], ◌∷◌, Some, refl, arith, inr}
+use Rattle.std.proofs.Common.{◌≡◌, [], ◌∷◌, None, Some, refl, arith, inr}
 use Rattle.byte_streams.specs.Streams.{Gives, Takes, Rose}
+use Rattle.byte_streams.specs.Fuse.{left_after}
 
 -- a source gives its next bytes; it does not give others, and nothing only at its end or where there is no room
 gives-two : Gives 2 (Some (1 ∷ 2 ∷ 3 ∷ [])) (Some (3 ∷ [])) (1 ∷ 2 ∷ 0 ∷ 0 ∷ [])
@@ -31,3 +32,13 @@ rose-most = inr (omega arith)
 
 rose_not-same : ¬ Rose 5 5
 rose_not-same = λ r. grind arith
+
+-- a fuse counts down, fails where no call is left to pass, and does not begin again
+left_after-two : left_after (Some 2) ≡ Some 1
+left_after-two = refl
+
+left_after-last : left_after (Some 0) ≡ None
+left_after-last = refl
+
+left_after_not-again : ¬ (left_after None ≡ Some 0)
+left_after_not-again = λ e. grind arith
