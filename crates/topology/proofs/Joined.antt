@@ -13,7 +13,7 @@ use Rattle.std.proofs.lemmas.Cmp.{nat_eq_equiv}
 use Rattle.topology.specs.Network.{Network, Edge, are_joined, is_between, neighbours_of, IsEdgeBelow, IsAcceptedNetwork}
 use Rattle.topology.proofs.SearchByLevels.{between_cases}
 
-or_comm : (a b : Bool) → (a || b) ≡ (b || a)
+pub or_comm : (a b : Bool) → (a || b) ≡ (b || a)
 or_comm true true = refl
 or_comm true false = refl
 or_comm false true = refl

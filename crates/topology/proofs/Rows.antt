@@ -5,11 +5,12 @@ use Rattle.std.proofs.lemmas.Bool.Decides.{nat_tests}
 use Rattle.toml.specs.Data.{no_items, item, integer, boolean}
 use Rattle.topology.specs.declared.frame.Payload.{Payload}
 use Rattle.topology.specs.declared.frame.Frame.{Frame}
-use Rattle.topology.specs.declared.fault.NetFault.TheVariants.{TooSmall, TooBig, BadRoot, BadCapacity, BadLease, BadEdge, LoopEdge, DoubleEdge}
+use Rattle.topology.specs.declared.fault.NetFault.TheVariants.{TooSmall, TooBig, BadRoot, BadCapacity, BadLease, BadEdge, LoopEdge, DoubleEdge, Apart, NoEdge}
 use Rattle.topology.specs.At.{at}
 use Rattle.topology.specs.Network.{Network, neighbours_of, IsWalk, IsConnected, IsEdgeBelow, IsAcceptedNetwork, counter_of, ring_of, bound_of}
 use Rattle.topology.specs.Ranges.{ranges_of, payload_fits, frame_fits}
 use Rattle.topology.specs.Tree.{reaches, distance_of, parent_of}
+use Rattle.topology.specs.Change.{join_fault, joined_net, part_fault, parted_net, is_same_frame}
 use Rattle.topology.specs.Refusal.{Values, Ends, value_fault}
 use Rattle.topology.specs.Reading.{two_integers}
 
@@ -42,6 +43,24 @@ square-numbers = (refl, refl, refl)
 -- neighbours, either way round and ascending
 square-neighbours : (neighbours_of square 0 ≡ 1 ∷ 2 ∷ []) × (neighbours_of square 3 ≡ 1 ∷ 2 ∷ [])
 square-neighbours = (refl, refl)
+
+-- an edge joins the square between 1 and 2, and comes last; it may not join who is joined, or itself, or no node
+square-joined : (join_fault square 1 2 ≡ None) × ((joined_net square 1 2).edges ≡ (0, 1) ∷ (0, 2) ∷ (1, 3) ∷ (2, 3) ∷ (1, 2) ∷ [])
+square-joined = (refl, refl)
+
+square-not-joined : (join_fault square 1 0 ≡ Some DoubleEdge) × (join_fault square 3 3 ≡ Some LoopEdge) × (join_fault square 0 4 ≡ Some BadEdge)
+square-not-joined = (refl, refl, refl)
+
+-- the edge between 1 and 3 may go, either way round, and then the one between 2 and 3 may not: 3 would be alone
+square-parted : (part_fault square 3 1 ≡ None) × ((parted_net square 3 1).edges ≡ (0, 1) ∷ (0, 2) ∷ (2, 3) ∷ [])
+square-parted = (refl, refl)
+
+square-not-parted : (part_fault (parted_net square 1 3) 2 3 ≡ Some Apart) × (part_fault square 1 2 ≡ Some NoEdge) × (part_fault square 4 1 ≡ Some BadEdge)
+square-not-parted = (refl, refl, refl)
+
+-- the line has the frame of no square
+other-frames : (is_same_frame square (parted_net square 1 3) ≡ true) × (is_same_frame square line ≡ false)
+other-frames = (refl, refl)
 
 -- a walk to 3 goes by 1, and may turn back on the way; none goes there at once
 walk-by-1 : IsWalk square.edges 0 (1 ∷ 3 ∷ []) 3

@@ -1,8 +1,9 @@
 -- What a `Net` keeps beside its network: the neighbours and the distance of each node.
-use Rattle.std.specs.Prelude.{◌≡◌, ℕ, ◌<◌, List, map, length, Vec, slice_index}
+use Rattle.std.specs.Prelude.{◌≡◌, ℕ, ◌<◌, ◌≤◌, List, All, map, length, Vec, slice_index}
+use Rattle.std.specs.Vec.{vec_capacity}
 use Rattle.std.specs.List.{range_with_len}
 use Rattle.topology.specs.declared.net.Net.TheInside.{Inside}
-use Rattle.topology.specs.Network.{Network, neighbours_of, IsDistance, IsAcceptedNetwork}
+use Rattle.topology.specs.Network.{Network, Edge, neighbours_of, IsDistance, IsAcceptedNetwork}
 
 -- the network that a `Net` keeps
 abbrev pub network_of : {A : Type 0} → Inside A → Network
@@ -18,3 +19,9 @@ pub record IsLaidOut {A : Type 0} (net : Network) (neighbours : List (Vec ℕ A)
   pub neighbours_are : rows_of neighbours ≡ map (neighbours_of net) (range_with_len 0 net.nodes)
   pub all_distances : length distances ≡ net.nodes
   pub distances_are : (v : ℕ) → v < net.nodes → IsDistance net v (slice_index distances v)
+
+-- there is room for 256 edges, and in each node's list for all nodes, so that edges may join and go
+-- without new memory
+pub record HasRoom {A : Type 0} (nodes : ℕ) (links : Vec Edge A) (neighbours : List (Vec ℕ A)) : Type 0 where
+  pub for_edges : 256 ≤ vec_capacity links
+  pub for_neighbours : All (λ row. nodes ≤ vec_capacity row) neighbours

@@ -4,9 +4,12 @@ pub mod Ranges
 pub mod Refusal
 pub mod Layout
 pub mod Tree
+pub mod Change
+pub mod Eccentricity
 pub mod Spread
 pub mod Accept
 pub mod Reading
 pub mod FileView
 pub mod ReadNet
 pub mod Laws
+pub mod FaultName

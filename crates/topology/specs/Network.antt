@@ -1,6 +1,8 @@
--- A network, its walks and distances, when it is accepted, and the numbers that follow from its size. A network is a finite undirected graph whose nodes
--- are 0 to n-1; walks and distances are those of graph theory. The spanning tree by distances from a root, and its smallest parents, are those of Dolev,
--- Israeli and Moran (Self-stabilization of dynamic systems assuming only read/write atomicity, 1993) and Dolev (Self-Stabilization, 2000).
+-- A network, its walks and distances, when it is accepted, and the numbers that follow from its
+-- size. A network is a finite undirected graph whose nodes are 0 to n-1; walks and distances are
+-- those of graph theory. The spanning tree by distances from a root, and its smallest parents, are
+-- those of Dolev, Israeli and Moran (Self-stabilization of dynamic systems assuming only read/write
+-- atomicity, 1993) and Dolev (Self-Stabilization, 2000).
 use Rattle.std.specs.Prelude.{◌≡◌, ◌≢◌, ℕ, ◌+◌, ◌-◌, ◌*◌, ◌<◌, ◌≤◌, Bool, ◌&&◌, ◌||◌, ◌==◌, IsTrue, List, [], ◌∷◌, length, filter, All, false}
 use Rattle.std.specs.List.{list_any, range_with_len}
 
@@ -8,7 +10,8 @@ use Rattle.std.specs.List.{list_any, range_with_len}
 abbrev pub Edge : Type 0
 Edge = ℕ × ℕ
 
--- how many nodes there are, which of them is the root, how many items a link holds, for how many ticks the lock is lent at most, and the edges
+-- how many nodes there are, which of them is the root, how many items a link holds, for how many
+-- ticks the lock is lent at most, and the edges
 pub record Network : Type 0 where
   pub nodes : ℕ
   pub root : ℕ
@@ -32,7 +35,8 @@ neighbours_in n edges v = filter (are_joined edges v) (range_with_len 0 n)
 abbrev pub neighbours_of : Network → ℕ → List ℕ
 neighbours_of net v = neighbours_in net.nodes net.edges v
 
--- ws are the nodes of a walk from u to v, in order and without u: each is joined to the one before, and the walk's length is that of ws
+-- ws are the nodes of a walk from u to v, in order and without u: each is joined to the one before,
+-- and the walk's length is that of ws
 abbrev pub IsWalk : List Edge → ℕ → List ℕ → ℕ → Type 0
 IsWalk edges u [] v = u ≡ v
 IsWalk edges u (w ∷ ws) v = IsTrue (are_joined edges u w) × IsWalk edges w ws v
@@ -90,16 +94,20 @@ pub record IsAcceptedNetwork (net : Network) : Type 0 where
   pub limits : IsWithinLimits net
   pub connected : IsConnected net
 
--- the modulus of a link's counters. The numbers of one direction of an edge, its sender's, its receiver's, and those of the items and acknowledgements under
--- way, are at most 2C+2 places with C items a link, and such a ring of copies settles where there are more values than places (Dijkstra 1974)
+-- the modulus of a link's counters. The numbers of one direction of an edge, its sender's, its
+-- receiver's, and those of the items and acknowledgements under way, are at most 2C+2 places with C
+-- items a link, and such a ring of copies settles where there are more values than places (Dijkstra
+-- 1974)
 abbrev pub counter_of : Network → ℕ
 counter_of net = 2 * net.capacity + 3
 
--- the modulus of the ring values. The tour of the tree goes along 2(n-1) directed edges with three places each, so 6(n-1) places, and again one value more
+-- the modulus of the ring values. The tour of the tree goes along 2(n-1) directed edges with three
+-- places each, so 6(n-1) places, and again one value more
 abbrev pub ring_of : Network → ℕ
 ring_of net = 6 * (net.nodes - 1) + 1
 
--- the sweeps after which the system is legitimate: 4(C+1) until the links count rightly, 4 for each distance and 4 for the parents until the tree stands,
--- 8(n-1) for each of the ring's 6(n-1) steps, and one until no loan is left without the privilege
+-- the sweeps after which the system is legitimate: 4(C+1) until the links count rightly, 4 for each
+-- distance and 4 for the parents until the tree stands, 8(n-1) for each of the ring's 6(n-1) steps,
+-- and one until no loan is left without the privilege
 abbrev pub bound_of : Network → ℕ
 bound_of net = 4 * (net.capacity + 1) + 4 * (net.nodes + 1) + 48 * (net.nodes - 1) * (net.nodes - 1) + 1

@@ -14,7 +14,8 @@ abbrev pub parent_fits : ℕ → Option ℕ → Bool
 parent_fits nodes None = true
 parent_fits nodes (Some p) = nat_lt p nodes
 
--- a payload is in range where its distance is at most n, its parent none or below n, and its ring value below K
+-- a payload is in range where its distance is at most n, its parent none or below n, and its ring
+-- value below K
 abbrev pub payload_fits : Ranges → Payload → Bool
 payload_fits r p = nat_le p.distance r.nodes && (parent_fits r.nodes p.parent && nat_lt p.ring r.ring)
 

@@ -1,5 +1,6 @@
--- Distances and true parents as functions that compute. What a distance and a true parent are is said by walks, in Network; the laws say that these
--- functions agree with it on each accepted network.
+-- Distances and true parents as functions that compute. What a distance and a true parent are is
+-- said by walks, in Network; the laws say that these functions agree with it on each accepted
+-- network.
 use Rattle.std.specs.Prelude.{ℕ, zero, suc, ◌+◌, Bool, ◌==◌, if◌then◌else◌, Option}
 use Rattle.std.specs.List.{list_any, find}
 use Rattle.topology.specs.Network.{Network, neighbours_of}
@@ -22,6 +23,7 @@ distance_of net v = least_below net.nodes (λ steps. reaches net steps v)
 abbrev pub is_one_nearer : Network → ℕ → ℕ → Bool
 is_one_nearer net v w = distance_of net w + 1 == distance_of net v
 
--- the first, so the smallest, of the neighbours that are one nearer to the root; none of the root's is
+-- the first, so the smallest, of the neighbours that are one nearer to the root; none of the root's
+-- is
 abbrev pub parent_of : Network → ℕ → Option ℕ
 parent_of net v = find (is_one_nearer net v) (neighbours_of net v)

@@ -4,16 +4,20 @@ ghost use Rattle.topology.specs.Network.{are_joined, IsAcceptedNetwork, IsDistan
 ghost use Rattle.topology.specs.Tree.{distance_of, parent_of};
 ghost use Rattle.topology.specs.Ranges.{frame_fits, ranges_of};
 
+mod change;
 mod make;
+mod sharp;
 
 use crate::frame::{Frame, Ranges};
 use crate::graph::are_joined;
 use std::alloc::{Allocator, Global};
 use std::marker::Model;
 
-/// A connected undirected graph of 2 to 64 nodes with a root, the capacity of its links and the lease of its lock.
+/// A connected undirected graph of 2 to 64 nodes with a root, the capacity of its links and the
+/// lease of its lock.
 ///
-/// Its nodes are 0 to `nodes() - 1`. What takes a node, as [`Net::distance`], is to be given one of these.
+/// Its nodes are 0 to `nodes() - 1`. What takes a node, as [`Net::distance`], is to be given one of
+/// these.
 #[derive(Debug, Drop)]
 pub struct Net<A: Allocator + Copy = Global> {
     nodes: u16,
@@ -32,11 +36,11 @@ impl<A: Allocator + Copy> Model for Net<A> {
 
     ghost Value = { Network };
 
-    ghost use Rattle.topology.specs.Layout.{network_of, IsLaidOut};
+    ghost use Rattle.topology.specs.Layout.{network_of, IsLaidOut, HasRoom};
 
     ghost view = { network_of };
 
-    ghost invariant = { λ n. IsLaidOut (network_of n) n.rows.items n.depths.items };
+    ghost invariant = { λ n. IsLaidOut (network_of n) n.rows.items n.depths.items × HasRoom n.nodes n.links n.rows.items };
 }
 
 impl<A: Allocator + Copy> Net<A> {
@@ -96,21 +100,24 @@ impl<A: Allocator + Copy> Net<A> {
 
     /// The modulus of a link's counters: 2C+3 for a capacity of C.
     ///
-    /// The numbers of one direction stand at most at 2C+2 places; a ring of copies settles where there are more values than places (Dijkstra 1974).
+    /// The numbers of one direction stand at most at 2C+2 places; a ring of copies settles where
+    /// there are more values than places (Dijkstra 1974).
     pub fn counter(&self) -> u16
         ensures { result ≡ counter_of self.now }
     {
         2 * self.capacity + 3
     }
 
-    /// The modulus of the ring values: 6(n-1)+1 for n nodes, one more than the places that the tour of the tree has for them.
+    /// The modulus of the ring values: 6(n-1)+1 for n nodes, one more than the places that the tour
+    /// of the tree has for them.
     pub fn ring(&self) -> u16
         ensures { result ≡ ring_of self.now }
     {
         6 * (self.nodes - 1) + 1
     }
 
-    /// The sweeps after which the system is legitimate, from whatever state: 4(C+1) + 4(n+1) + 48(n-1)(n-1) + 1.
+    /// The sweeps after which the system is legitimate, from whatever state: 4(C+1) + 4(n+1) +
+    /// 48(n-1)(n-1) + 1.
     ///
     /// It is a bound, not a forecast: most runs are legitimate far sooner.
     pub fn bound(&self) -> u32
@@ -148,7 +155,8 @@ impl<A: Allocator + Copy> Net<A> {
         self.depths[v as usize]
     }
 
-    /// The true parent of a node: the neighbour of smallest id that is one nearer to the root; none for the root.
+    /// The true parent of a node: the neighbour of smallest id that is one nearer to the root; none
+    /// for the root.
     pub fn parent(&self, v: u16) -> Option<u16>
         requires { v < self.now.nodes }
         ensures root { v ≡ self.now.root → IsNone result }

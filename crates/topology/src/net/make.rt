@@ -1,5 +1,6 @@
 //! How a network is made: read from TOML, made of values, or copied.
-ghost use Rattle.std.specs.Prelude.{◌≡◌, IfOk, IfErr, map, ℤ, pos, ◌≤ℤ◌, false};
+ghost use Rattle.std.specs.Prelude.{◌≡◌, ◌≤◌, IfOk, IfErr, length, map, ℤ, pos, ◌≤ℤ◌, false};
+ghost use Rattle.std.specs.Vec.{vec_capacity};
 ghost use Rattle.topology.specs.Network.{Network, IsAcceptedNetwork, IsWithinLimits};
 ghost use Rattle.topology.specs.Refusal.{Values, as_ends, has_bad_end};
 ghost use Rattle.topology.specs.Accept.{IsAccepted, IsRefused, IsNotJoined};
@@ -7,16 +8,20 @@ ghost use Rattle.topology.specs.ReadNet.{IsReadFrom, IsUnread};
 
 use crate::fault::NetFault;
 use crate::file::read_values;
-use crate::graph::{all_neighbours, copy_edges, copy_numbers, distances_from, has_unreached};
+use crate::graph::{
+    MOST_EDGES, all_neighbours, copy_edges, copy_numbers, distances_from, has_unreached,
+};
 use crate::net::Net;
 use crate::values::{has_bad_end, has_double, has_loop};
 use std::alloc::{AllocError, Allocator, Global};
 
 impl Net {
-    /// Reads a network from the five keys `nodes`, `root`, `capacity`, `lease` and `edges` of a TOML text; other keys are ignored.
+    /// Reads a network from the five keys `nodes`, `root`, `capacity`, `lease` and `edges` of a
+    /// TOML text; other keys are ignored.
     ///
     /// # Errors
-    /// The first [`NetFault`] that the text has, in their order; `Memory` where memory ran out on the way.
+    /// The first [`NetFault`] that the text has, in their order; `Memory` where memory ran out on
+    /// the way.
     pub fn read(alloc: Global, text: &str) -> Result<Net, NetFault>
         ensures ok { IfOk result (IsReadFrom text.now) }
         ensures err { IfErr result (IsUnread text.now) }
@@ -37,7 +42,8 @@ impl<A: Allocator + Copy> Net<A> {
     /// Makes a network of values, as a file would give them.
     ///
     /// # Errors
-    /// The first [`NetFault`] from `TooSmall` on that the values have, in their order; `Memory` where memory ran out on the way.
+    /// The first [`NetFault`] from `TooSmall` on that the values have, in their order; `Memory`
+    /// where memory ran out on the way.
     pub fn make(
         alloc: A,
         nodes: i64,
@@ -52,7 +58,7 @@ impl<A: Allocator + Copy> Net<A> {
         if nodes < 2 {
             return Err(NetFault::TooSmall);
         }
-        if nodes > 64 || edges.len() > 256 {
+        if nodes > 64 || edges.len() > MOST_EDGES {
             return Err(NetFault::TooBig);
         }
         if root < 0 || root >= nodes {
@@ -78,11 +84,11 @@ impl<A: Allocator + Copy> Net<A> {
         let root_id = narrow(root);
         let places = narrow(capacity);
         let ticks = narrow(lease);
-        Net::join(alloc, node_count, root_id, places, ticks, links)
+        Net::lay_out(alloc, node_count, root_id, places, ticks, links)
     }
 
     /// The network of values that are right one by one, unless the graph is not connected.
-    fn join(
+    fn lay_out(
         alloc: A,
         nodes: u16,
         root: u16,
@@ -90,8 +96,10 @@ impl<A: Allocator + Copy> Net<A> {
         lease: u16,
         links: Vec<(u16, u16), A>,
     ) -> Result<Net<A>, NetFault>
-        requires { IsWithinLimits (record { nodes = nodes; root = root; capacity = capacity; lease = lease; edges = links.items }) }
-        ensures ok { IfOk result (λ net. (net ≡ record { nodes = nodes; root = root; capacity = capacity; lease = lease; edges = links.items }) × IsAcceptedNetwork net) }
+        requires limits { IsWithinLimits (record { nodes = nodes; root = root; capacity = capacity; lease = lease; edges = links.items }) }
+        requires room { 256 ≤ vec_capacity links }
+        ensures ok { IfOk result (λ net. (net
+            ≡ record { nodes = nodes; root = root; capacity = capacity; lease = lease; edges = links.items }) × IsAcceptedNetwork net) }
         ensures err { IfErr result (IsNotJoined (record { nodes = nodes; root = root; capacity = capacity; lease = lease; edges = links.items })) }
     {
         let rows = all_neighbours(alloc, nodes, links.as_slice())?;
@@ -141,19 +149,21 @@ fn narrow(number: i64) -> u16
     number as u16
 }
 
-/// The edges with ends that are node ids.
+/// The edges with ends that are node ids, with room for as many as there may be.
 fn narrow_edges<A: Allocator + Copy>(
     alloc: A,
     nodes: i64,
     edges: &[(i64, i64)],
 ) -> Result<Vec<(u16, u16), A>, AllocError>
     requires few { nodes ≤ℤ pos 64 }
+    requires few_edges { length edges.now ≤ 256 }
     requires ends_in { has_bad_end nodes edges.now ≡ false }
-    ensures { IfOk result (λ narrow. map as_ends narrow.items ≡ edges.now) }
+    ensures edges { IfOk result (λ narrow. map as_ends narrow.items ≡ edges.now) }
+    ensures room { IfOk result (λ narrow. 256 ≤ vec_capacity narrow) }
 {
-    let mut narrow = Vec::new(alloc);
+    let mut narrow = Vec::with_capacity(alloc, MOST_EDGES)?;
     for edge in edges {
-        narrow.push((edge.0 as u16, edge.1 as u16))?;
+        narrow.push_reserved((edge.0 as u16, edge.1 as u16));
     }
     Ok(narrow)
 }

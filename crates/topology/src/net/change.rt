@@ -1,0 +1,94 @@
+//! How a network changes: an edge joins or goes. Nodes, root, capacity and lease stay, and no
+//! memory is taken.
+ghost use Rattle.std.specs.Prelude.{◌≡◌, IfErr, IsTrue, None, OnErr, OnOk, Some};
+ghost use Rattle.topology.specs.Change.{is_same_frame, join_fault, joined_net, part_fault, parted_net};
+
+use crate::fault::NetFault;
+use crate::graph::{
+    MOST_EDGES, are_joined, has_unreached, place_of_edge, put_edge, write_all_neighbours,
+    write_distances, write_edges,
+};
+use crate::net::Net;
+use std::alloc::Allocator;
+
+impl<A: Allocator + Copy> Net<A> {
+    /// Joins two nodes by an edge, which comes last.
+    ///
+    /// # Errors
+    /// The first that holds, and then nothing has changed: `TooBig` where there are 256 edges
+    /// already, `BadEdge` where one of the two is no node, `LoopEdge` where they are the same,
+    /// `DoubleEdge` where an edge joins them.
+    pub fn join(&mut self, u: u16, v: u16) -> Result<(), NetFault>
+        ensures allowed { OnOk result (join_fault self.old u v ≡ None) }
+        ensures joined { OnOk result (self.new ≡ joined_net self.old u v) }
+        ensures refused { IfErr result (λ fault. join_fault self.old u v ≡ Some fault) }
+        ensures unchanged { OnErr result (self.new ≡ self.old) }
+    {
+        if self.links.len() >= MOST_EDGES {
+            return Err(NetFault::TooBig);
+        }
+        if u >= self.nodes || v >= self.nodes {
+            return Err(NetFault::BadEdge);
+        }
+        if u == v {
+            return Err(NetFault::LoopEdge);
+        }
+        if are_joined(&self.links, u, v) {
+            return Err(NetFault::DoubleEdge);
+        }
+        self.links.push_reserved((u, v));
+        write_all_neighbours(&mut self.rows, self.nodes, &self.links);
+        write_distances(&mut self.depths, &self.links, self.root);
+        Ok(())
+    }
+
+    /// Parts two nodes: the edge that joins them goes, and the others stay in their order.
+    ///
+    /// # Errors
+    /// The first that holds, and then nothing has changed: `BadEdge` where one of the two is no
+    /// node, `NoEdge` where no edge joins them, `Apart` where the other edges do not hold the nodes
+    /// together.
+    pub fn part(&mut self, u: u16, v: u16) -> Result<(), NetFault>
+        ensures allowed { OnOk result (part_fault self.old u v ≡ None) }
+        ensures parted { OnOk result (self.new ≡ parted_net self.old u v) }
+        ensures refused { IfErr result (λ fault. part_fault self.old u v ≡ Some fault) }
+        ensures unchanged { OnErr result (self.new ≡ self.old) }
+    {
+        if u >= self.nodes || v >= self.nodes {
+            return Err(NetFault::BadEdge);
+        }
+        let Some(place) = place_of_edge(&self.links, u, v) else {
+            return Err(NetFault::NoEdge);
+        };
+        let edge = self.links.remove(place);
+        write_distances(&mut self.depths, &self.links, self.root);
+        if has_unreached(&self.depths) {
+            put_edge(&mut self.links, place, edge);
+            write_distances(&mut self.depths, &self.links, self.root);
+            return Err(NetFault::Apart);
+        }
+        write_all_neighbours(&mut self.rows, self.nodes, &self.links);
+        Ok(())
+    }
+
+    /// Whether the other network differs at most in its edges: it has the same nodes, root,
+    /// capacity and lease.
+    pub fn same_frame<B: Allocator + Copy>(&self, other: &Net<B>) -> bool
+        ensures { result ≡ is_same_frame self.now other.now }
+    {
+        self.nodes == other.nodes
+            && self.root == other.root
+            && self.capacity == other.capacity
+            && self.lease == other.lease
+    }
+
+    /// Makes this network equal to the other one.
+    pub fn copy_from<B: Allocator + Copy>(&mut self, other: &Net<B>)
+        requires { IsTrue (is_same_frame self.old other.now) }
+        ensures { self.new ≡ other.now }
+    {
+        write_edges(&mut self.links, &other.links);
+        write_all_neighbours(&mut self.rows, self.nodes, &self.links);
+        write_distances(&mut self.depths, &self.links, self.root);
+    }
+}
