@@ -1,7 +1,8 @@
 //! Measures how fast `LineReader::feed` reads: `bench_feed TEXT LINES PIECE`.
 //!
-//! TEXT is `good`, `noise`, `flat`, `empty` or `short`, LINES its length in lines of 22 bytes, and PIECE the bytes of a piece. The program prints
-//! how many frames it read, and on standard error how long that took. Its run in the gate is a small one; `bench/feed.sh` runs it on 64 MiB.
+//! TEXT is `good`, `noise`, `flat`, `empty` or `short`, LINES its length in lines of 22 bytes, and
+//! PIECE the bytes of a piece. The program prints how many frames it read, and on standard error
+//! how long that took. Its run in the gate is a small one; `bench/feed.sh` runs it on 64 MiB.
 #![tactic(auto)]
 
 ghost use Rattle.std.specs.Prelude.{◌<◌};

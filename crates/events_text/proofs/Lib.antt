@@ -1,6 +1,5 @@
 pub mod WordLemmas
 pub mod NumberLemmas
-pub mod ReaderLemmas
 pub mod Rows
 pub mod SpellingLemmas
 pub mod EventSpelling

@@ -24,7 +24,8 @@ abbrev pub onto_first : ℕ → List Word → List Word
 onto_first byte [] = (byte ∷ []) ∷ []
 onto_first byte (word ∷ words) = (byte ∷ word) ∷ words
 
--- the words of a line: what stands between its spaces, so that two spaces have an empty word between them
+-- the words of a line: what stands between its spaces, so that two spaces have an empty word
+-- between them
 abbrev pub words : List ℕ → List Word
 words [] = [] ∷ []
 words (byte ∷ bytes) = if is_space byte then [] ∷ words bytes else onto_first byte (words bytes)

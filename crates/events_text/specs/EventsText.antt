@@ -1,6 +1,6 @@
 -- The events text: its lines, one after the other, and what each is.
 use Rattle.std.specs.Prelude.{ℕ, ◌==◌, if◌then◌else◌, nat_lt, List, [], ◌∷◌, ◌++◌, length, map, Option, Some, None}
-use Rattle.lock_desk.specs.Lines.{half_line, whole_lines}
+use Rattle.byte_lines.specs.Lines.{half_line, whole_lines}
 use Rattle.run_model.specs.declared.event.Event.{Event}
 use Rattle.events_text.specs.declared.text_line.TextLine.{TextLine}
 use Rattle.events_text.specs.declared.text_line.TextLine.TheVariants.{Passed, Unread, Told}
@@ -11,8 +11,8 @@ abbrev pub told : Option Event → TextLine
 told (Some event) = Told event
 told None = Unread
 
--- an empty line, and one that begins with `#`, is passed over; else a line of more than 64 bytes is unread, and any other
--- tells what it spells
+-- an empty line, and one that begins with `#`, is passed over; else a line of more than 64 bytes is
+-- unread, and any other tells what it spells
 abbrev pub text_line : List ℕ → TextLine
 text_line [] = Passed
 text_line (byte ∷ bytes) =

@@ -1,4 +1,3 @@
 pub mod EventLine
 pub mod EventsText
-pub mod LineReader
 pub mod EventLaws

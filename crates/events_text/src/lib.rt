@@ -1,11 +1,14 @@
 //! Events as a text tells them, a line each.
 //!
-//! A line is `send U V`, `take U V`, `lose U V I`, `tick V`, `ask V T`, `leave V T`, or one of the lines that begin with `harm` and write a part of the world,
-//! as a fault would. Words are parted by exactly one space, and a number is decimal, at most 65535, with no leading zero. An empty line and one that
-//! begins with `#` are passed over.
+//! A line is `send U V`, `take U V`, `lose U V I`, `tick V`, `ask V T`, `leave V T`, or one of the
+//! lines that begin with `harm` and write a part of the world, as a fault would. Words are parted
+//! by exactly one space, and a number is decimal, at most 65535, with no leading zero. An empty
+//! line and one that begins with `#` are passed over.
 //!
-//! A text is read by an [`EventReader`], in pieces of any size: `take` until a piece is used up, and `last` at the end. Each answer is a [`TextLine`], and they
-//! come in the order of the lines, so whoever counts them from 1 has their numbers. The reader keeps at most 64 bytes, and takes no memory:
+//! A text is read by an [`EventReader`], in pieces of any size: `take` until a piece is used up,
+//! and `last` at the end. Each answer is a [`TextLine`], and they come in the order of the lines,
+//! so whoever counts them from 1 has their numbers. The reader keeps at most 64 bytes, and takes no
+//! memory:
 //!
 //! ```
 //! let mut reader = EventReader::new();

@@ -6,8 +6,8 @@ use super::harm::harm;
 use super::words::Words;
 use run_model::Event;
 
-/// The event that a line spells, if any. The line is without its newline. A number is decimal, at most 65535, with no leading
-/// zero; 65535 is a number like others, and `none` a word of its own.
+/// The event that a line spells, if any. The line is without its newline. A number is decimal, at
+/// most 65535, with no leading zero; 65535 is a number like others, and `none` a word of its own.
 pub fn parse_line(line: &[u8]) -> Option<Event>
     ensures { result ≡ line_event line.now }
 {

@@ -1,7 +1,5 @@
 pub mod Readings
 pub mod TooLong
-pub mod OneLine
 pub mod Cutting
-pub mod Pieces
-pub mod WholeText
+pub mod ToldFrames
 mod Rows

@@ -3,9 +3,10 @@ use Rattle.std.proofs.Common.{◌≡◌, ℕ, codes, List, [], ◌∷◌, ◌++�
 use Rattle.topology.specs.Ranges.{ranges_of}
 use Rattle.topology.specs.declared.frame.Frame.{Frame}
 use Rattle.topology.specs.declared.frame.Ranges.{Ranges}
-use Rattle.frame_codec.specs.Spelling.{spelling, hello, newline}
+use Rattle.byte_lines.specs.Lines.{newline}
+use Rattle.frame_codec.specs.Spelling.{spelling, hello}
 use Rattle.frame_codec.specs.Reading.{frame_of}
-use Rattle.frame_codec.specs.Lines.{lines_after, half_after, good_lines, frames_of_pieces, kept, too_long}
+use Rattle.frame_codec.specs.Lines.{good_lines, frames_of_pieces}
 
 abbrev frame : ℕ → ℕ → ℕ → Option ℕ → ℕ → Frame
 frame seq ack distance parent ring = record { seq = seq; ack = ack; payload = record { distance = distance; parent = parent; ring = ring } }
@@ -84,16 +85,6 @@ one_good_line = refl
 
 half_line : good_lines line (codes "F0000000000010000000c") ≡ []
 half_line = refl
-
-lines : lines_after (codes "ab") (codes "c" ++ newline ∷ codes "d") ≡ codes "abc" ∷ []
-lines = refl
-
-half : half_after (codes "ab") (codes "c" ++ newline ∷ codes "d") ≡ codes "d"
-half = refl
-
--- of 22 bytes a reader keeps no more than that they are too many
-too_many : kept (codes "F0000000000010000000cF") ≡ too_long
-too_many = refl
 
 in_two_pieces : frames_of_pieces line [] (codes "F00000000000" ∷ (codes "10000000c" ++ newline ∷ []) ∷ []) ≡ first ∷ []
 unfolding frame_of spelling

@@ -1,12 +1,13 @@
 -- Laws of frame lines.
-use Rattle.std.specs.Prelude.{◌≡◌, ℕ, ◌^◌, ◌<◌, IsTrue, ◌↔◌, List, [], ◌∷◌, ◌++◌, flat_map, Some}
-use Rattle.std.specs.List.{AllByRecursion, concat}
+use Rattle.std.specs.Prelude.{◌≡◌, ℕ, ◌^◌, ◌<◌, IsTrue, ◌↔◌, List, [], ◌∷◌, ◌++◌, Some}
+use Rattle.std.specs.List.{concat}
 use Rattle.topology.specs.Ranges.{frame_fits}
 use Rattle.topology.specs.declared.frame.Frame.{Frame}
 use Rattle.topology.specs.declared.frame.Ranges.{Ranges}
-use Rattle.frame_codec.specs.Spelling.{spelling, newline}
+use Rattle.byte_lines.specs.Lines.{newline}
+use Rattle.frame_codec.specs.Spelling.{spelling}
 use Rattle.frame_codec.specs.Reading.{frame_of}
-use Rattle.frame_codec.specs.Lines.{lines_after, half_after, good_lines, frames_of_pieces, HasNoNewline}
+use Rattle.frame_codec.specs.Lines.{good_lines, frames_of_pieces}
 
 -- the ranges are numbers of 16 bits
 pub record AreNarrow (r : Ranges) : Type 0 where
@@ -19,16 +20,7 @@ abbrev pub OneReading : Type 0
 OneReading = (r : Ranges) → AreNarrow r → (line : List ℕ) (f : Frame)
     → (frame_of r line ≡ Some f) ↔ ((line ≡ spelling f) × IsTrue (frame_fits r f))
 
--- a text is its lines, each with its newline, and then its half line, and no other newline stands in it
-pub record IsItsLines (text : List ℕ) : Type 0 where
-  pub whole : text ≡ flat_map (λ line. line ++ newline ∷ []) (lines_after [] text) ++ half_after [] text
-  pub lines : AllByRecursion HasNoNewline (lines_after [] text)
-  pub half : HasNoNewline (half_after [] text)
-
-abbrev pub TextIsItsLines : Type 0
-TextIsItsLines = (text : List ℕ) → IsItsLines text
-
--- in whatever pieces a stream comes, a new reader gives the good lines of the whole
+-- in whatever pieces a stream comes, their frames are the good lines of the whole
 abbrev pub AnyCutting : Type 0
 AnyCutting = (r : Ranges) (pieces : List (List ℕ)) → frames_of_pieces r [] pieces ≡ good_lines r (concat pieces)
 

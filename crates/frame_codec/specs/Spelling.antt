@@ -24,7 +24,3 @@ spelling f =
 -- a hello is spelled `H`, and then the sender's id by four digits
 abbrev pub hello : ℕ → List ℕ
 hello id = 72 ∷ digits id
-
--- the byte that ends a line
-abbrev pub newline : ℕ
-newline = 10

@@ -30,7 +30,8 @@ pub fn digits(number: u16) -> [u8; 4]
 
 /// The value of a digit; none where the byte is no lower-case hexadecimal digit.
 fn digit_value(byte: u8) -> Option<u16>
-    ensures some { IfSome result (λ value. (value < 16) × (byte ≡ digit value) × (value ≡ digit_value byte)) }
+    ensures some { IfSome result (λ value. (value < 16) × (byte ≡ digit value)
+        × (value ≡ digit_value byte)) }
     ensures none { IfNone result ((value : ℕ) → value < 16 → byte ≢ digit value) }
 {
     match byte {
@@ -43,7 +44,8 @@ fn digit_value(byte: u8) -> Option<u16>
 /// The number whose four digits stand from an index on; none where no number's do.
 pub fn number_at(line: &[u8], at: usize) -> Option<u16>
     requires { at + 4 ≤ length line.now }
-    ensures some { IfSome result (λ number. (take 4 (drop at line.now) ≡ digits number) × (number ≡ number_from line.now at)) }
+    ensures some { IfSome result (λ number. (take 4 (drop at line.now) ≡ digits number)
+        × (number ≡ number_from line.now at)) }
     ensures none { IfNone result ((number : ℕ) → take 4 (drop at line.now) ≢ digits number) }
 {
     let first = digit_value(line[at])?;

@@ -2,7 +2,8 @@
 ghost use Rattle.std.specs.Prelude.{◌≡◌, ◌≢◌, [], ◌∷◌, ◌++◌, IsTrue, IfSome, IfNone, Some};
 ghost use Rattle.topology.specs.Ranges.{ranges_of, frame_fits};
 ghost use Rattle.topology.specs.declared.frame.Frame.{Frame};
-ghost use Rattle.frame_codec.specs.Spelling.{spelling, newline};
+ghost use Rattle.byte_lines.specs.Lines.{newline};
+ghost use Rattle.frame_codec.specs.Spelling.{spelling};
 ghost use Rattle.frame_codec.specs.Reading.{candidate, frame_of, parent_of};
 
 use crate::digits::{digits, number_at};
@@ -27,10 +28,13 @@ pub fn encode(frame: &Frame) -> [u8; 22]
     line
 }
 
-/// The frame of a line without its newline: a frame exactly where the line is the frame's spelling and the frame is in range on the network.
+/// The frame of a line without its newline: a frame exactly where the line is the frame's spelling
+/// and the frame is in range on the network.
 pub fn decode(line: &[u8], net: &Net) -> Option<Frame>
-    ensures found { IfSome result (λ f. (line.now ≡ spelling f) × IsTrue (frame_fits (ranges_of net.now) f)) }
-    ensures only { (f : Frame) → line.now ≡ spelling f → IsTrue (frame_fits (ranges_of net.now) f) → result ≡ Some f }
+    ensures found { IfSome result (λ f. (line.now ≡ spelling f)
+        × IsTrue (frame_fits (ranges_of net.now) f)) }
+    ensures only { (f : Frame) → line.now ≡ spelling f → IsTrue (frame_fits (ranges_of net.now) f)
+        → result ≡ Some f }
     ensures exact { result ≡ frame_of (ranges_of net.now) line.now }
 {
     read_line(line, &net.ranges())

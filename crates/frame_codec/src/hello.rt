@@ -1,6 +1,7 @@
 //! The line that says who is there.
 ghost use Rattle.std.specs.Prelude.{◌≡◌, ℕ, ◌<◌, [], ◌∷◌, ◌++◌, IfSome, Some};
-ghost use Rattle.frame_codec.specs.Spelling.{hello, newline};
+ghost use Rattle.byte_lines.specs.Lines.{newline};
+ghost use Rattle.frame_codec.specs.Spelling.{hello};
 
 use crate::digits::{digits, number_at};
 use topology::Net;
@@ -13,7 +14,8 @@ pub fn encode_hello(id: u16) -> [u8; 6]
     [b'H', a, b, c, d, b'\n']
 }
 
-/// The sender of a hello without its newline: an id exactly where the line is the id's hello and the id is a node of the network.
+/// The sender of a hello without its newline: an id exactly where the line is the id's hello and
+/// the id is a node of the network.
 pub fn decode_hello(line: &[u8], net: &Net) -> Option<u16>
     ensures found { IfSome result (λ id. (line.now ≡ hello id) × (id < net.now.nodes)) }
     ensures only { (id : ℕ) → line.now ≡ hello id → id < net.now.nodes → result ≡ Some id }

@@ -1,13 +1,14 @@
 //! A reader of frames from a stream of bytes.
-ghost use Rattle.std.specs.Prelude.{◌≡◌, ◌+◌, ◌/◌, ◌<◌, ◌≤◌, [], ◌∷◌, ◌++◌, List, ℕ, length, OnOk, OnErr, vec_len, vec_capacity};
-ghost use Rattle.std.specs.Option.{option_to_list};
+ghost use Rattle.std.specs.Prelude.{◌≡◌, ◌+◌, ◌/◌, ◌<◌, ◌≤◌, [], ◌∷◌, ◌++◌, List, ℕ, length, take, IfNone, OnOk, OnErr, vec_len, vec_capacity};
+ghost use Rattle.std.specs.Option.{option_to_list, option_len};
 ghost use Rattle.topology.specs.Ranges.{ranges_of};
 ghost use Rattle.topology.specs.declared.frame.Frame.{Frame};
+ghost use Rattle.byte_lines.specs.Kept.{kept};
 ghost use Rattle.frame_codec.specs.Reading.{frame_of};
-ghost use Rattle.frame_codec.specs.Lines.{frames_after, half_after, good_lines, kept, ReadsOn};
+ghost use Rattle.frame_codec.specs.Lines.{ReadsFrames, ReadsOn};
 
 use crate::frame_line::read_line;
-use crate::lines::{put, read_lines, split_line};
+use byte_lines::{HalfLine, LineReading, Taken};
 use std::alloc::{AllocError, Allocator};
 use std::marker::Model;
 use topology::{Frame, Net, Ranges};
@@ -15,129 +16,151 @@ use topology::{Frame, Net, Ranges};
 /// What is kept of a line that has not ended: at most the 21 bytes of a frame's line.
 #[derive(Drop)]
 pub struct LineReader {
-    bytes: [u8; 21],
-    length: usize,
+    half: HalfLine<21>,
 }
 
 impl Model for LineReader {
-    ghost use Rattle.std.specs.Prelude.{List, ℕ, ◌≤◌, nat_lt, if◌then◌else◌, take};
-    ghost use Rattle.frame_codec.specs.Lines.{too_long};
+    ghost use Rattle.byte_lines.specs.Kept.{Kept};
 
-    ghost Value = { List ℕ };
+    ghost Value = { Kept };
 
-    ghost view = { λ r. if nat_lt 21 r.length then too_long else take r.length r.bytes };
-
-    ghost invariant = { λ r. r.length ≤ 22 };
+    ghost view = { λ r. r.half };
 }
 
 impl LineReader {
     /// A reader that keeps no byte.
     pub fn new() -> LineReader
-        ensures { result ≡ [] }
+        ensures { result ≡ kept 21 [] }
     {
         LineReader {
-            bytes: [0; 21],
-            length: 0,
+            half: HalfLine::new(),
         }
     }
 
     /// Reads one byte: a frame exactly where the byte ends a good line.
     pub fn push(&mut self, byte: u8, net: &Net) -> Option<Frame>
-        ensures frame { option_to_list result ≡ frames_after (ranges_of net.now) self.old (byte ∷ []) }
-        ensures half { self.new ≡ kept (half_after self.old (byte ∷ [])) }
+        ensures frames { ReadsFrames (ranges_of net.now) self.old self.new (byte ∷ []) (option_to_list result) }
         ensures any_cutting { ReadsOn (ranges_of net.now) self.old self.new (byte ∷ []) (option_to_list result) }
     {
-        self.read_byte(byte, &net.ranges())
+        byte_lines::laws::any_cutting();
+        let lines = FrameLines(net.ranges());
+        self.half.push(byte, &lines).flatten()
+    }
+
+    /// Reads a piece of the stream up to the end of the first good line that ends in it, or all of
+    /// it where none does: how many bytes it read, and the frame of that line.
+    pub fn next_frame(&mut self, piece: &[u8], net: &Net) -> (usize, Option<Frame>)
+        ensures used { result.0 ≤ length piece.now }
+        ensures all { IfNone result.1 (result.0 ≡ length piece.now) }
+        ensures frames { ReadsFrames (ranges_of net.now) self.old self.new (take result.0 piece.now)
+            (option_to_list result.1) }
+        ensures any_cutting { ReadsOn (ranges_of net.now) self.old self.new (take result.0 piece.now)
+            (option_to_list result.1) }
+    {
+        byte_lines::laws::any_cutting();
+        find_frame(&mut self.half, piece, &FrameLines(net.ranges()))
     }
 
     /// Forgets the line that has not ended: what comes next is read as from the start.
     pub fn drop_half(&mut self)
-        ensures { self.new ≡ [] }
+        ensures { self.new ≡ kept 21 [] }
     {
-        *self = LineReader::new();
+        self.half.clear();
     }
 
-    /// Reads a piece of the stream, and puts the frames of the good lines that end in it at the end of `out`.
-    /// Where the room for as many as can end in it is refused, nothing is read.
+    /// Reads a piece of the stream, and puts the frames of the good lines that end in it at the end
+    /// of `out`. Where the room for as many as can end in it is refused, nothing is read.
     pub fn feed<A: Allocator>(
         &mut self,
         piece: &[u8],
         net: &Net,
         out: &mut Vec<Frame, A>,
     ) -> Result<(), AllocError>
-        ensures frames { OnOk result (out.new.items ≡ out.old.items ++ frames_after (ranges_of net.now) self.old piece.now) }
-        ensures half { OnOk result (self.new ≡ kept (half_after self.old piece.now)) }
-        ensures any_cutting { OnOk result ((frames : List Frame) × (out.new.items ≡ out.old.items ++ frames)
+        ensures frames { OnOk result ((frames : List Frame)
+            × (out.new.items ≡ out.old.items ++ frames)
+            × ReadsFrames (ranges_of net.now) self.old self.new piece.now frames) }
+        ensures any_cutting { OnOk result ((frames : List Frame)
+            × (out.new.items ≡ out.old.items ++ frames)
             × ReadsOn (ranges_of net.now) self.old self.new piece.now frames) }
         ensures refused { OnErr result ((self.new ≡ self.old) × (out.new.items ≡ out.old.items)) }
-        ensures refused_only { OnErr result (vec_capacity out.old < vec_len out.old + (length self.old + length piece.now) / 22) }
+        // each frame takes 22 bytes, of which the first may have some already
+        ensures refused_only { OnErr result
+            (vec_capacity out.old < vec_len out.old + (length self.old.first + length piece.now) / 22) }
     {
-        out.reserve(self.most_frames(piece))?;
-        self.read(piece, &net.ranges(), out);
+        byte_lines::laws::any_cutting();
+        out.reserve((self.half.len() + piece.len()) / 22)?;
+        read_frames(&mut self.half, piece, &FrameLines(net.ranges()), out);
         Ok(())
     }
+}
 
-    /// Reads one byte.
-    fn read_byte(&mut self, byte: u8, ranges: &Ranges) -> Option<Frame>
-        ensures frame { option_to_list result ≡ frames_after ranges.now self.old (byte ∷ []) }
-        ensures half { self.new ≡ kept (half_after self.old (byte ∷ [])) }
-    {
-        if byte == b'\n' {
-            return self.end_line(ranges);
+/// Reads a piece up to the end of its first good line, or all of it.
+fn find_frame(half: &mut HalfLine<21>, piece: &[u8], lines: &FrameLines) -> (usize, Option<Frame>)
+    ensures used { result.0 ≤ length piece.now }
+    ensures all { IfNone result.1 (result.0 ≡ length piece.now) }
+    ensures frames { ReadsFrames lines.now.0 half.old half.new (take result.0 piece.now) (option_to_list result.1) }
+{
+    byte_lines::laws::any_cutting();
+    let mut at = 0;
+    while at < piece.len() {
+        let Taken { used, line } = half.take(&piece[at..], lines);
+        at += used;
+        if let Some(frame) = line.flatten() {
+            return (at, Some(frame));
         }
-        self.keep(&[byte]);
+    }
+    (at, None)
+}
+
+/// Reads a piece of the stream, and puts its frames into room that is there.
+fn read_frames<A: Allocator>(
+    half: &mut HalfLine<21>,
+    piece: &[u8],
+    lines: &FrameLines,
+    out: &mut Vec<Frame, A>,
+)
+    requires some { (line : List ℕ) × (half.old ≡ kept 21 line) }
+    requires room { vec_len out.old + (length half.old.first + length piece.now) / 22
+        ≤ vec_capacity out.old }
+    ensures { (frames : List Frame) × (out.new.items ≡ out.old.items ++ frames)
+        × ReadsFrames lines.now.0 half.old half.new piece.now frames }
+{
+    byte_lines::laws::any_cutting();
+    let mut rest = piece;
+    while !rest.is_empty() {
+        let Taken { used, line } = half.take(rest, lines);
+        put(line.flatten(), out);
+        rest = &rest[used..];
+    }
+}
+
+/// What a line of a stream is, by the ranges of a frame's fields: a frame or none. No line of more
+/// than 21 bytes is one.
+#[derive(Drop)]
+struct FrameLines(Ranges);
+
+impl LineReading<21> for FrameLines {
+    type Read = Option<Frame>;
+
+    ghost reading = { λ lines. frame_of lines.0 };
+
+    fn read(&self, line: &[u8]) -> Option<Frame> {
+        read_line(line, &self.0)
+    }
+
+    fn read_long(&self, _: &[u8]) -> Option<Frame> {
         None
     }
+}
 
-    /// The most good lines that can end in a piece: each takes 22 bytes, of which the first may have some already.
-    fn most_frames(&self, piece: &[u8]) -> usize
-        ensures { result ≡ (length self.now + length piece.now) / 22 }
-    {
-        (self.length + piece.len()) / 22
-    }
-
-    /// Reads a piece of the stream into room that is there.
-    #[tactic(auto, using(crate::proofs::OneLine::half_step, crate::proofs::OneLine::half_grows))]
-    fn read<A: Allocator>(&mut self, piece: &[u8], ranges: &Ranges, out: &mut Vec<Frame, A>)
-        requires { vec_len out.old + (length self.old + length piece.now) / 22 ≤ vec_capacity out.old }
-        ensures frames { out.new.items ≡ out.old.items ++ frames_after ranges.now self.old piece.now }
-        ensures half { self.new ≡ kept (half_after self.old piece.now) }
-    {
-        match split_line(piece) {
-            Some((line, rest)) => {
-                self.keep(line);
-                put(self.end_line(ranges), out);
-                let half = read_lines(rest, ranges, out);
-                self.keep(half);
-            }
-            None => self.keep(piece),
-        }
-    }
-
-    /// Puts bytes at the end of the half line.
-    fn keep(&mut self, bytes: &[u8])
-        ensures { self.new ≡ kept (self.old ++ bytes.now) }
-    {
-        if self.length + bytes.len() > 21 {
-            self.length = 22;
-        } else {
-            let end = self.length + bytes.len();
-            self.bytes[self.length..end].copy_from_slice(bytes);
-            self.length = end;
-        }
-    }
-
-    /// Ends the line: the frame that it spells, if any.
-    fn end_line(&mut self, ranges: &Ranges) -> Option<Frame>
-        ensures frame { result ≡ frame_of ranges.now self.old }
-        ensures half { self.new ≡ [] }
-    {
-        let frame = if self.length > 21 {
-            None
-        } else {
-            read_line(&self.bytes[..self.length], ranges)
-        };
-        self.length = 0;
-        frame
+/// Puts a frame, if there is one, into room that is there.
+fn put<A: Allocator>(frame: Option<Frame>, out: &mut Vec<Frame, A>)
+    requires { vec_len out.old + option_len frame ≤ vec_capacity out.old }
+    ensures items { out.new.items ≡ out.old.items ++ option_to_list frame }
+    ensures room { (vec_len out.new ≡ vec_len out.old + option_len frame)
+        × (vec_capacity out.new ≡ vec_capacity out.old) }
+{
+    if let Some(frame) = frame {
+        out.push_reserved(frame);
     }
 }

@@ -2,7 +2,8 @@
 use Rattle.std.proofs.Common.{◌≡◌, ◌⊎◌, ℕ, ◌<◌, true, false, length, Option, Some, None, refl, inl, inr, arith}
 use Rattle.std.proofs.lemmas.Grind.{common_steps}
 use Rattle.std.proofs.lemmas.Bool.Decides.{nat_tests}
-use Rattle.lock_desk.specs.Desk.{DeskState, lends, desk_ticked, desk_act}
+use Rattle.lock_desk.specs.Desk.{DeskState, lends, desk_ticked}
+use Rattle.lock_desk.specs.Act.{desk_act}
 use Rattle.lock_desk.specs.declared.act.DeskAct.TheVariants.{Lost}
 
 -- nobody was lent to: then the desk had served, or the first who waits would borrow

@@ -4,9 +4,10 @@ use Rattle.std.specs.List.{range_with_len}
 use Rattle.lock_desk.specs.declared.fault.AskFault.TheVariants.{Full, Twice}
 use Rattle.lock_desk.specs.declared.act.DeskAct.TheVariants.{Granted, Lost}
 use Rattle.lock_desk.specs.declared.client_line.ClientLine.TheVariants.{Lock, Unlock, Status, Unknown}
-use Rattle.lock_desk.specs.Desk.{DeskState, no_desk, desk_fits, ask_fault, asked, is_stranger, after_leave, desk_ticked, desk_act, loan_fits}
+use Rattle.lock_desk.specs.Desk.{DeskState, no_desk, desk_fits, ask_fault, asked, is_stranger, after_leave, desk_ticked, loan_fits}
+use Rattle.lock_desk.specs.Act.{desk_act}
 use Rattle.lock_desk.specs.Laws.{Ticks, begins_loan}
-use Rattle.lock_desk.specs.Lines.{half_line}
+use Rattle.byte_lines.specs.Lines.{half_line}
 use Rattle.lock_desk.specs.ClientText.{client_line, client_lines}
 
 -- tickets wait, and nobody borrows

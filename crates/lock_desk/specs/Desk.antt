@@ -1,23 +1,18 @@
--- A lock desk: who waits for the lock at a node, to whom it is lent, and what each call makes of that.
+-- A lock desk: who waits for the lock at a node, to whom it is lent, and what each call makes of
+-- that.
 use Rattle.std.specs.Prelude.{ℕ, ◌-◌, Bool, true, false, not, ◌&&◌, ◌||◌, ◌==◌, if◌then◌else◌, nat_lt, nat_le, List, [], ◌∷◌, ◌++◌, length, filter, Option, Some, None, is_some}
 use Rattle.std.specs.List.{list_any, list_all}
 use Rattle.lock_desk.specs.declared.fault.AskFault.{AskFault}
 use Rattle.lock_desk.specs.declared.fault.AskFault.TheVariants.{Full, Twice}
-use Rattle.lock_desk.specs.declared.act.DeskAct.{DeskAct}
-use Rattle.lock_desk.specs.declared.act.DeskAct.TheVariants.{Quiet, Granted, Lost}
 
--- what a desk knows: the tickets that wait, in the order in which they asked; the ticket that the lock is lent to; how many
--- further ticks that loan outlasts where there is a lease; and whether a loan ended since the last full tick
+-- what a desk knows: the tickets that wait, in the order in which they asked; the ticket that the
+-- lock is lent to; how many further ticks that loan outlasts where there is a lease; and whether a
+-- loan ended since the last full tick
 pub record DeskState : Type 0 where
   pub waiting : List ℕ
   pub lent : Option ℕ
   pub left : ℕ
   pub served : Bool
-
--- a desk as its owner sees it: the ticks that a loan is for (0 is no limit), and the state
-pub record DeskView : Type 0 where
-  pub lease : ℕ
-  pub state : DeskState
 
 -- a desk at which nobody ever asked
 abbrev pub no_desk : DeskState
@@ -62,7 +57,8 @@ may_be_lent tickets (Some t) = is_number t && not (is_in tickets t)
 abbrev pub left_fits : ℕ → Option ℕ → ℕ → Bool
 left_fits lease lent left = nat_le left lease && (is_some lent || left == 0)
 
--- a desk is in range where at most 64 distinct tickets wait, the borrower is none of them, and what is left of its loan fits
+-- a desk is in range where at most 64 distinct tickets wait, the borrower is none of them, and what
+-- is left of its loan fits
 abbrev pub desk_fits : ℕ → DeskState → Bool
 desk_fits lease d =
     nat_le (length d.waiting) 64
@@ -71,7 +67,8 @@ desk_fits lease d =
     && may_be_lent d.waiting d.lent
     && left_fits lease d.lent d.left
 
--- to ask is refused as Full where 64 tickets wait, and else as Twice where this ticket waits or borrows
+-- to ask is refused as Full where 64 tickets wait, and else as Twice where this ticket waits or
+-- borrows
 abbrev pub ask_fault : ℕ → DeskState → Option AskFault
 ask_fault t d =
     if nat_le 64 (length d.waiting) then Some Full
@@ -94,14 +91,16 @@ is_stranger t d = not (waits d t || borrows d t)
 abbrev pub without : ℕ → List ℕ → List ℕ
 without t tickets = filter (λ w. not (w == t)) tickets
 
--- a waiter that leaves is taken out of the list; a borrower that leaves ends its loan; a stranger changes nothing
+-- a waiter that leaves is taken out of the list; a borrower that leaves ends its loan; a stranger
+-- changes nothing
 abbrev pub after_leave : ℕ → DeskState → DeskState
 after_leave t d =
     if waits d t then record d { waiting = without t d.waiting }
     else if borrows d t then ended d
     else d
 
--- in a tick a loan ends where the node has no privilege, or where there is a lease and nothing of it is left
+-- in a tick a loan ends where the node has no privilege, or where there is a lease and nothing of
+-- it is left
 abbrev pub loan_ends : Bool → ℕ → DeskState → Bool
 loan_ends privileged lease d = lends d && (not privileged || (nat_lt 0 lease && d.left == 0))
 
@@ -113,7 +112,8 @@ counted_down lease d = if lends d && nat_lt 0 lease then record d { left = d.lef
 abbrev pub loan_looked_at : Bool → ℕ → DeskState → DeskState
 loan_looked_at privileged lease d = if loan_ends privileged lease d then ended d else counted_down lease d
 
--- the lock is lent next where the node is privileged, lends to nobody, has not served, and somebody waits
+-- the lock is lent next where the node is privileged, lends to nobody, has not served, and somebody
+-- waits
 abbrev pub lends_next : Bool → DeskState → Bool
 lends_next privileged d = privileged && not (lends d) && not d.served && nat_lt 0 (length d.waiting)
 
@@ -136,15 +136,6 @@ cleared d = if lends d then d else record d { served = false }
 -- a whole tick
 abbrev pub desk_ticked : ℕ → Bool → DeskState → DeskState
 desk_ticked lease privileged d = cleared (loan_begun privileged lease (loan_looked_at privileged lease d))
-
--- what a tick did, from the tickets lent before and after: it began a loan, ended one, or neither
-abbrev pub act_between : Option ℕ → Option ℕ → DeskAct
-act_between None (Some t) = Granted t
-act_between (Some t) None = Lost t
-act_between _ _ = Quiet
-
-abbrev pub desk_act : DeskState → DeskState → DeskAct
-desk_act old new = act_between old.lent new.lent
 
 -- a loan may be written at a desk where its ticket does not wait and what is left of it fits
 abbrev pub loan_fits : ℕ → DeskState → Option ℕ → ℕ → Bool

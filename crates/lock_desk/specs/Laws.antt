@@ -1,10 +1,12 @@
 -- Laws of a desk: what the layers above may rest on.
 use Rattle.std.specs.Prelude.{◌≡◌, ◌⊎◌, ℕ, ◌<◌, Bool, true, false, not, ◌&&◌, ◌||◌, if◌then◌else◌, List, [], ◌∷◌, length, Option, None, is_some}
-use Rattle.lock_desk.specs.Desk.{DeskState, lends, is_number, desk_fits, ask_fault, asked, after_leave, desk_ticked, desk_act, loan_fits, with_loan}
+use Rattle.lock_desk.specs.Desk.{DeskState, lends, is_number, desk_fits, ask_fault, asked, after_leave, desk_ticked, loan_fits, with_loan}
+use Rattle.lock_desk.specs.Act.{desk_act}
 use Rattle.lock_desk.specs.declared.act.DeskAct.{DeskAct}
 use Rattle.lock_desk.specs.declared.act.DeskAct.TheVariants.{Quiet, Granted, Lost}
 
--- a desk lends after a tick only where the node was privileged: a loan begins and outlasts a tick only with privilege
+-- a desk lends after a tick only where the node was privileged: a loan begins and outlasts a tick
+-- only with privilege
 abbrev pub LoansNeedPrivilege : Type 0
 LoansNeedPrivilege =
     (lease : ℕ) (privileged : Bool) (d : DeskState) → lends (desk_ticked lease privileged d) ≡ true → privileged ≡ true
@@ -47,12 +49,14 @@ LendsNoMore lease d [] = Unit {0}
 LendsNoMore lease d (call ∷ calls) =
     (begins_loan lease call d ≡ false) × (is_full_tick lease call d ≡ false → LendsNoMore lease (after_call lease call d) calls)
 
--- a desk that lends, or has served, begins no loan before the next full tick is over, whatever calls come
+-- a desk that lends, or has served, begins no loan before the next full tick is over, whatever
+-- calls come
 abbrev pub OneLoanAStay : Type 0
 OneLoanAStay =
     (lease : ℕ) (d : DeskState) (calls : List DeskCall) → lends d || d.served ≡ true → LendsNoMore lease d calls
 
--- a full tick with privilege, while somebody waits, is one of a desk that had served, or one that ended a loan
+-- a full tick with privilege, while somebody waits, is one of a desk that had served, or one that
+-- ended a loan
 abbrev pub PassesOnlyServed : Type 0
 PassesOnlyServed =
     (lease : ℕ) (d : DeskState) → 0 < length d.waiting → lends (desk_ticked lease true d) ≡ false
@@ -64,7 +68,8 @@ FullTicksClear =
     (lease : ℕ) (privileged : Bool) (d : DeskState) → lends (desk_ticked lease privileged d) ≡ false
     → (desk_ticked lease privileged d).served ≡ false
 
--- those who wait after a tick: all but the first, which the lock is lent to, where a loan began; and else all
+-- those who wait after a tick: all but the first, which the lock is lent to, where a loan began;
+-- and else all
 abbrev pub IsTurn : List ℕ → List ℕ → DeskAct → Type 0
 IsTurn before after (Granted t) = before ≡ t ∷ after
 IsTurn before after (Lost t) = before ≡ after

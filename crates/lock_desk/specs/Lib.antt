@@ -1,5 +1,6 @@
 pub mod Desk
+pub mod View
+pub mod Act
 pub mod Queue
 pub mod Laws
-pub mod Lines
 pub mod ClientText

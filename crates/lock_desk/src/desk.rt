@@ -1,6 +1,8 @@
 //! The desk of one node.
 ghost use Rattle.std.specs.Prelude.{◌≡◌, false, true, None, Some, IsTrue, IfErr, IfOk, OnErr, OnOk, length, ◌≤◌};
-ghost use Rattle.lock_desk.specs.Desk.{DeskState, DeskView, no_desk, desk_fits, waits, ask_fault, asked, is_stranger, after_leave, desk_ticked, desk_act, ended, loan_looked_at, loan_begun, loan_fits, with_loan};
+ghost use Rattle.lock_desk.specs.Desk.{DeskState, no_desk, desk_fits, waits, ask_fault, asked, is_stranger, after_leave, desk_ticked, ended, loan_looked_at, loan_begun, loan_fits, with_loan};
+ghost use Rattle.lock_desk.specs.Act.{desk_act};
+ghost use Rattle.lock_desk.specs.View.{DeskView};
 ghost use Rattle.lock_desk.specs.Queue.{queue_fits, with_queue};
 
 use crate::tickets::{PLACES, may_be_lent, queue_fits, take_out, write_over};
@@ -21,7 +23,8 @@ pub struct Desk<A: Allocator = Global> {
 impl<A: Allocator> Model for Desk<A> {
     ghost use Rattle.std.specs.Prelude.{◌≤◌, IsTrue};
     ghost use Rattle.std.specs.Vec.{vec_capacity};
-    ghost use Rattle.lock_desk.specs.Desk.{DeskView, desk_fits};
+    ghost use Rattle.lock_desk.specs.Desk.{desk_fits};
+    ghost use Rattle.lock_desk.specs.View.{DeskView};
 
     ghost Value = { DeskView };
 
@@ -35,7 +38,8 @@ impl<A: Allocator> Model for Desk<A> {
 }
 
 impl<A: Allocator> Desk<A> {
-    /// A desk at which nobody asked, with loans of this many ticks; 0 is no limit. All places are reserved here.
+    /// A desk at which nobody asked, with loans of this many ticks; 0 is no limit. All places are
+    /// reserved here.
     pub fn new(alloc: A, lease: u16) -> Result<Desk<A>, AllocError>
         ensures { IfOk result (λ desk. desk ≡ record { lease = lease; state = no_desk }) }
     {
@@ -100,11 +104,13 @@ impl<A: Allocator> Desk<A> {
         self.waiting.contains(&ticket)
     }
 
-    /// Puts the ticket behind all others that wait. Refused as `Full` where 64 tickets wait, whichever they are, and else as
-    /// `Twice` where this one waits or the lock is lent to it; then nothing has changed.
+    /// Puts the ticket behind all others that wait. Refused as `Full` where 64 tickets wait,
+    /// whichever they are, and else as `Twice` where this one waits or the lock is lent to it; then
+    /// nothing has changed.
     pub fn ask(&mut self, ticket: u16) -> Result<(), AskFault>
         ensures accepted { OnOk result (ask_fault ticket self.old.state ≡ None) }
-        ensures asked { OnOk result (self.new ≡ record self.old { state = asked ticket self.old.state }) }
+        ensures asked { OnOk result (self.new
+            ≡ record self.old { state = asked ticket self.old.state }) }
         ensures refused { IfErr result (λ fault. ask_fault ticket self.old.state ≡ Some fault) }
         ensures unchanged { OnErr result (self.new ≡ self.old) }
     {
@@ -118,9 +124,11 @@ impl<A: Allocator> Desk<A> {
         Ok(())
     }
 
-    /// Takes the ticket out of those that wait, or ends its loan. Refused where it does neither; then nothing has changed.
+    /// Takes the ticket out of those that wait, or ends its loan. Refused where it does neither;
+    /// then nothing has changed.
     pub fn leave(&mut self, ticket: u16) -> Result<(), Stranger>
-        ensures gone { OnOk result (self.new ≡ record self.old { state = after_leave ticket self.old.state }) }
+        ensures gone { OnOk result (self.new
+            ≡ record self.old { state = after_leave ticket self.old.state }) }
         ensures known { OnOk result (is_stranger ticket self.old.state ≡ false) }
         ensures refused { OnErr result (is_stranger ticket self.old.state ≡ true) }
         ensures unchanged { OnErr result (self.new ≡ self.old) }
@@ -145,12 +153,14 @@ impl<A: Allocator> Desk<A> {
         self.served = true;
     }
 
-    /// What a tick of the node does at its desk, in this order. A loan ends where the node has no privilege or its lease ran
-    /// out, and else has a tick less left. Where the node is privileged, lends to nobody, has not served and somebody waits,
-    /// the first who waits borrows. Where it now lends to nobody, `served` is cleared: the tick is a full one, and the node's
-    /// machines may move.
+    /// What a tick of the node does at its desk, in this order. A loan ends where the node has no
+    /// privilege or its lease ran out, and else has a tick less left. Where the node is privileged,
+    /// lends to nobody, has not served and somebody waits, the first who waits borrows. Where it
+    /// now lends to nobody, `served` is cleared: the tick is a full one, and the node's machines
+    /// may move.
     pub fn tick(&mut self, privileged: bool) -> DeskAct
-        ensures ticked { self.new ≡ record self.old { state = desk_ticked self.old.lease privileged self.old.state } }
+        ensures ticked { self.new
+            ≡ record self.old { state = desk_ticked self.old.lease privileged self.old.state } }
         ensures act { result ≡ desk_act self.old.state self.new.state }
     {
         let before = self.lent;
@@ -190,10 +200,11 @@ impl<A: Allocator> Desk<A> {
         }
     }
 
-    /// Writes a loan. Refused where its ticket waits, where more is left than the lease, or where anything is left of no loan;
-    /// then nothing has changed.
+    /// Writes a loan. Refused where its ticket waits, where more is left than the lease, or where
+    /// anything is left of no loan; then nothing has changed.
     pub fn set_loan(&mut self, lent: Option<u16>, left: u16, served: bool) -> Result<(), OutOfRange>
-        ensures written { OnOk result (self.new ≡ record self.old { state = with_loan self.old.state lent left served }) }
+        ensures written { OnOk result (self.new
+            ≡ record self.old { state = with_loan self.old.state lent left served }) }
         ensures fits { OnOk result (IsTrue (loan_fits self.old.lease self.old.state lent left)) }
         ensures refused { OnErr result (loan_fits self.old.lease self.old.state lent left ≡ false) }
         ensures unchanged { OnErr result (self.new ≡ self.old) }
@@ -207,10 +218,11 @@ impl<A: Allocator> Desk<A> {
         Ok(())
     }
 
-    /// Writes those who wait, the next one first. Refused where they are more than 64, where one stands twice, or where one
-    /// of them borrows; then nothing has changed.
+    /// Writes those who wait, the next one first. Refused where they are more than 64, where one
+    /// stands twice, or where one of them borrows; then nothing has changed.
     pub fn set_waiting(&mut self, tickets: &[u16]) -> Result<(), OutOfRange>
-        ensures written { OnOk result (self.new ≡ record self.old { state = with_queue self.old.state tickets.now }) }
+        ensures written { OnOk result (self.new
+            ≡ record self.old { state = with_queue self.old.state tickets.now }) }
         ensures fits { OnOk result (IsTrue (queue_fits tickets.now self.old.state.lent)) }
         ensures refused { OnErr result (queue_fits tickets.now self.old.state.lent ≡ false) }
         ensures unchanged { OnErr result (self.new ≡ self.old) }

@@ -17,7 +17,8 @@ pub enum AskFault {
 #[error("Stranger")]
 pub struct Stranger;
 
-/// The refusal of a loan that may not be written: its ticket waits, or what is left of it does not fit.
+/// The refusal of a loan that may not be written: its ticket waits, or what is left of it does not
+/// fit.
 #[derive(Clone, Copy, Debug, PartialEq, Eq, Error)]
 #[error("OutOfRange")]
 pub struct OutOfRange;

@@ -1,14 +1,16 @@
-//! Laws of a desk, each the contract of a function that does nothing. The proofs above a desk rest on these alone.
-ghost use Rattle.lock_desk.specs.Lines.{LinesMakeTheText, LinesAreLines, LinesGrow};
+//! Laws of a desk, each the contract of a function that does nothing. The proofs above a desk rest
+//! on these alone.
 ghost use Rattle.lock_desk.specs.Laws.{LoansNeedPrivilege, OnlyTicksLend, LoansAreNotExchanged, OneLoanAStay, PassesOnlyServed, FullTicksClear, FirstComeFirstServed, TicksKeepRanges, AsksKeepRanges, LeavesKeepRanges, LoansKeepRanges};
 
-/// A loan begins and outlasts a tick only with privilege. So where at most one node is privileged, after each node's next
-/// tick at most one desk lends; whoever shows that a legitimate network stays legitimate needs it.
+/// A loan begins and outlasts a tick only with privilege. So where at most one node is privileged,
+/// after each node's next tick at most one desk lends; whoever shows that a legitimate network
+/// stays legitimate needs it.
 pub fn loans_need_privilege()
     ensures { LoansNeedPrivilege }
 {}
 
-/// A loan begins in a tick alone: whoever follows loans from event to event looks at asks and leaves no further.
+/// A loan begins in a tick alone: whoever follows loans from event to event looks at asks and
+/// leaves no further.
 pub fn only_ticks_lend()
     ensures { OnlyTicksLend }
 {}
@@ -18,34 +20,26 @@ pub fn loans_are_not_exchanged()
     ensures { LoansAreNotExchanged }
 {}
 
-/// A desk lends once in a stay of the privilege: from the moment at which it lends or has served no loan begins, whatever
-/// calls come, until a full tick is over; and a full tick clears `served`.
+/// A desk lends once in a stay of the privilege: from the moment at which it lends or has served no
+/// loan begins, whatever calls come, until a full tick is over; and a full tick clears `served`.
 pub fn one_loan_a_stay()
     ensures kept_off { OneLoanAStay }
     ensures cleared { FullTicksClear }
 {}
 
-/// Privilege passes a waiting ticket only where the desk had served, or ended a loan in that very tick; and tickets are
-/// served in the order in which they wait. Whoever counts the sweeps until a ticket is served needs both.
+/// Privilege passes a waiting ticket only where the desk had served, or ended a loan in that very
+/// tick; and tickets are served in the order in which they wait. Whoever counts the sweeps until a
+/// ticket is served needs both.
 pub fn waiting_tickets_are_served()
     ensures passes { PassesOnlyServed }
     ensures in_turn { FirstComeFirstServed }
 {}
 
-/// Each call leaves a desk in range: at most 64 distinct tickets wait, none of them borrows, and what is left of a loan is at
-/// most the lease.
+/// Each call leaves a desk in range: at most 64 distinct tickets wait, none of them borrows, and
+/// what is left of a loan is at most the lease.
 pub fn ranges_are_kept()
     ensures ticks { TicksKeepRanges }
     ensures asks { AsksKeepRanges }
     ensures leaves { LeavesKeepRanges }
     ensures writes { LoansKeepRanges }
-{}
-
-/// The lines that a newline ended, each with its newline, and what stands after the last one are the text, and none has a
-/// newline in it; a further newline ends the half line, and other bytes go on with it. It shows that the definitions of lines
-/// say what a reader of them expects, and serves whoever reads lines in pieces.
-pub fn lines_make_the_text()
-    ensures text { LinesMakeTheText }
-    ensures lines { LinesAreLines }
-    ensures grow { LinesGrow }
 {}

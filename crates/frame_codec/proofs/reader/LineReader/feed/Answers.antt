@@ -1,15 +1,14 @@
-use Rattle.std.proofs.Common.{refl}
+use Rattle.std.proofs.Common.{◌++◌, ◌∙◌, ap}
 use Rattle.topology.specs.Ranges.{ranges_of}
-use Rattle.frame_codec.specs.Lines.{frames_after}
-use Rattle.frame_codec.proofs.Pieces.{reads_on}
+use Rattle.frame_codec.proofs.Cutting.{reads_on}
 use Rattle.frame_codec.proofs.reader.LineReader.feed.Goals as goal
+
+pub returns-clause-frames : goal.returns-clause-frames
+returns-clause-frames g c =
+    let (frames, put, reads) = c.read_frames.ensures in
+    rw (← c.self.view_is, ← c.ranges-2.ensures) (frames, put ∙ ap (λ xs. xs ++ frames) c.reserve.ensures.items, reads)
 
 pub returns-clause-any_cutting : goal.returns-clause-any_cutting
 returns-clause-any_cutting g c =
-    let r = ranges_of c.args.net.now in
-    let reader = c.args.self.now in
-    let piece = c.args.piece.now in (
-      frames_after r reader piece,
-      rw (c.read.ensures.frames, c.reserve.ensures.items, c.ranges-2.ensures) refl,
-      reads_on r reader c.read.new.self piece c.read.ensures.half,
-    )
+    let (frames, put, reads) = returns-clause-frames g c in
+    (frames, put, reads_on c.any_cutting.ensures (ranges_of c.args.net.now) c.args.self.now c.read_frames.new.half c.args.piece.now frames reads)

@@ -1,0 +1,26 @@
+//! The lines of a byte text, read in whatever pieces it comes.
+//!
+//! A line is what stands between two newlines, or from the start of the text to the first one; what
+//! stands behind the last newline is a half line. A [`HalfLine`] keeps the half line between two
+//! pieces, its first `N` bytes at most, and takes no memory. Whoever wants lines says what a line
+//! is read as, by a [`LineReading`], and of a line of more than `N` bytes from its first `N` alone.
+//!
+//! ```
+//! let mut half: HalfLine<16> = HalfLine::new();
+//! let taken = half.take(b"lock\nst", &Commands);      // 5 bytes, and what `lock` is read as
+//! let taken = half.take(b"st", &Commands);            // 2 bytes, and no line
+//! let told = half.push(b'\n', &Commands);             // what `st` is read as
+//! ```
+//!
+//! The trap: one call of `take` ends at the first newline of its piece; take again from the byte
+//! behind it.
+#![tactic(auto)]
+
+mod half_line;
+pub mod laws;
+mod reading;
+mod split;
+
+pub use half_line::{HalfLine, Taken};
+pub use reading::LineReading;
+pub use split::split_line;
