@@ -1,8 +1,11 @@
-//! What one step makes of copies that are right so far: how a breadth-first tree forms, round by round.
+//! What one step makes of copies that are right so far: how a breadth-first tree forms, round by
+//! round.
 ghost use Rattle.bfs_tree.specs.Laws.{StageRises, StageIncludes, FirstStage, LastStage, ExactDistance, ExactParent, StepDistanceFits, StepParentFits};
 
-/// One round of the tree. Copies that are exact below k and at least k elsewhere give a distance that is exact below k + 1 and at least k + 1 elsewhere.
-/// Everything is of stage 0, and what is of stage n is exact, so n rounds do from any start. What is of a later stage is of each earlier one too, so no step undoes a round.
+/// One round of the tree. Copies that are exact below k and at least k elsewhere give a distance
+/// that is exact below k + 1 and at least k + 1 elsewhere. Everything is of stage 0, and what is of
+/// stage n is exact, so n rounds do from any start. What is of a later stage is of each earlier one
+/// too, so no step undoes a round.
 pub fn one_round()
     ensures rises { StageRises }
     ensures includes { StageIncludes }
@@ -14,7 +17,8 @@ pub fn one_round()
     topology::laws::joined();
 }
 
-/// Exact copies give the true distance and the true parent: the neighbour of smallest id that is one nearer to the root. So a tree that is reached stays.
+/// Exact copies give the true distance and the true parent: the neighbour of smallest id that is
+/// one nearer to the root. So a tree that is reached stays.
 pub fn exact_step()
     ensures distance { ExactDistance }
     ensures parent { ExactParent }
@@ -24,7 +28,8 @@ pub fn exact_step()
     topology::laws::joined();
 }
 
-/// Whatever the copies, a step's distance is at most n, and its parent is a node or none. Whoever keeps both needs it.
+/// Whatever the copies, a step's distance is at most n, and its parent is a node or none. Whoever
+/// keeps both needs it.
 pub fn step_in_range()
     ensures distance { StepDistanceFits }
     ensures parent { StepParentFits }

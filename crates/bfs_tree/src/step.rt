@@ -1,15 +1,19 @@
 ghost use Rattle.std.specs.Prelude.{◌≡◌, ℕ, Contains};
 ghost use Rattle.bfs_tree.specs.Step.{new_distance, new_parent};
 
-/// One step of a node of a network of `n` nodes: its own distance, 0 to `n`, and its parent, from its copies of its neighbours' distances.
+/// One step of a node of a network of `n` nodes: its own distance, 0 to `n`, and its parent, from
+/// its copies of its neighbours' distances.
 ///
-/// The root is at distance 0 and has no parent. Any other node is one further than its least copy, and at most at `n`; its parent is the first of
-/// `neighbours` with that copy, so the one of smallest id where they ascend, and none where there are no neighbours.
+/// The root is at distance 0 and has no parent. Any other node is one further than its least copy,
+/// and at most at `n`; its parent is the first of `neighbours` with that copy, so the one of
+/// smallest id where they ascend, and none where there are no neighbours.
 ///
-/// `copied` gives a neighbour's copied distance, and is called for neighbours alone: copies stay where a node keeps them. What `copied` gives is to be
-/// a function of the neighbour, as it is where it reads a field; the clause names that function.
+/// `copied` gives a neighbour's copied distance, and is called for neighbours alone: copies stay
+/// where a node keeps them. What `copied` gives is to be a function of the neighbour, as it is
+/// where it reads a field; the clause names that function.
 ///
-/// Source of the rule: Dolev, Israeli, Moran (1993). That the smallest id wins a tie is this project's.
+/// Source of the rule: Dolev, Israeli, Moran (1993). That the smallest id wins a tie is this
+/// project's.
 pub fn recompute<F: Fn(u16) -> u16>(
     is_root: bool,
     n: u16,

@@ -5,6 +5,8 @@ mod PortRange
 pub mod Stable
 pub mod Marks
 pub mod Sweeping
+pub mod Known
+pub mod SixSweeps
 pub mod Refresh
 pub mod Strict
 mod Rows

@@ -9,6 +9,7 @@ use Rattle.link_model.specs.declared.item.Item.{Item}
 use Rattle.link_model.specs.declared.item.Item.TheVariants as item
 use Rattle.k_state.specs.Ring.{HasFront, IsFrontThen}
 use Rattle.k_state.specs.Laws.{GoodHasFront}
+use Rattle.data_link.specs.Refreshing.{StagedPasses}
 use Rattle.data_link.specs.Port.{PortState, frame_of, port_after}
 use Rattle.data_link.specs.Edge.{EdgeState, EdgeEvent, SendOut, SendBack, TakeOut, TakeBack, LoseOut, LoseBack, Elsewhere, CarriesItsPayload, IsEdgeInRange, IsStable, modulus_of, edge_step, edge_run, link_ring, moves, moves_in, newest_first, payload_under, port_taking}
 use Rattle.data_link.specs.Sweep.{Takes, act_out, list_after, Origin, Before, Sent, takes_sent, hands_over_sent, IsSweep, PresentPasses, Sweeps}
@@ -147,21 +148,37 @@ module _ (good_front : GoodHasFront) (stable-event : (capacity : ℕ) (s : EdgeS
   first-copied test capacity s (LoseBack i) h t g = absurd cc
   first-copied test capacity s Elsewhere h t g = absurd cc
 
-  waiting-run : (test : Payload → Bool) (capacity i : ℕ) (s : EdgeState) (es : List EdgeEvent) (os : List Origin) → IsEdgeInRange capacity s → IsStable capacity s → AllByRecursion (PresentPasses test) es → IsTrue (test s.near.staged) →
-      IsMarked (HasPayload test) os s.out → hands_over_sent capacity i (map act_out es) os ≡ true → IsTrue (test (edge_run capacity s es).near.staged) × IsTrue (test (edge_run capacity s es).far.copy)
-  waiting-run test capacity i s [] os r h p a m l = absurd cc
-  waiting-run test capacity i s (e ∷ es) os r h p a m l =
+  -- what holds of the staged payload throughout goes on holding of far's copy,
+  copies-run : (test : Payload → Bool) (capacity : ℕ) (s : EdgeState) (es : List EdgeEvent) → IsEdgeInRange capacity s → IsStable capacity s →
+      StagedPasses test capacity s es → IsTrue (test s.far.copy) → IsTrue (test (edge_run capacity s es).far.copy)
+  copies-run test capacity s [] r h p b = b
+  copies-run test capacity s (e ∷ es) r h p b =
+      copies-run test capacity (edge_step capacity s e) es (range-event capacity s e r) (stable-event capacity s e r h) p.1
+      (elim (copy-staged capacity s e r h) [ inl i ↦ (rw i b) | inr i ↦ (rw i p.0) ])
+
+  -- and once an item that was sent since is taken it holds of the copy
+  waiting-run : (test : Payload → Bool) (capacity i : ℕ) (s : EdgeState) (es : List EdgeEvent) (os : List Origin) → IsEdgeInRange capacity s → IsStable capacity s → StagedPasses test capacity s es →
+      IsMarked (HasPayload test) os s.out → hands_over_sent capacity i (map act_out es) os ≡ true → IsTrue (test (edge_run capacity s es).far.copy)
+  waiting-run test capacity i s [] os r h p m l = absurd cc
+  waiting-run test capacity i s (e ∷ es) os r h p m l =
       let after = edge_step capacity s e in
-      let staged = staged-event test capacity s e p.0 a in
       by_taken (takes_sent (act_out e) os) (hands_over_sent capacity (suc i) (map act_out es) (list_after capacity (Sent i) (act_out e) os)) l
       (λ t. let g = marked-taken (HasPayload test) (act_out e) os s.out t m in
-      payloads-run test capacity after es (range-event capacity s e r) (stable-event capacity s e r h) p.1 staged (first-copied test capacity s e h g.0 g.1))
-      (λ t k. waiting-run test capacity (suc i) after es (list_after capacity (Sent i) (act_out e) os) (range-event capacity s e r) (stable-event capacity s e r h) p.1 staged
-      (subst (IsMarked (HasPayload test) (list_after capacity (Sent i) (act_out e) os)) (out-after capacity s e) (marked-after (HasPayload test) capacity i (item.Frame (frame_of s.near)) (act_out e) os s.out a m)) k)
+      copies-run test capacity after es (range-event capacity s e r) (stable-event capacity s e r h) p.1 (first-copied test capacity s e h g.0 g.1))
+      (λ t k. waiting-run test capacity (suc i) after es (list_after capacity (Sent i) (act_out e) os) (range-event capacity s e r) (stable-event capacity s e r h) p.1
+      (subst (IsMarked (HasPayload test) (list_after capacity (Sent i) (act_out e) os)) (out-after capacity s e) (marked-after (HasPayload test) capacity i (item.Frame (frame_of s.near)) (act_out e) os s.out p.0 m)) k)
+
+  pub sweep-copies : (test : Payload → Bool) (capacity : ℕ) (s : EdgeState) (es : List EdgeEvent) → IsEdgeInRange capacity s → IsStable capacity s → IsSweep capacity s es → StagedPasses test capacity s es →
+      IsTrue (test (edge_run capacity s es).far.copy)
+  sweep-copies test capacity s es r h w p = waiting-run test capacity 0 s es (map (λ x. Before) s.out) r h p (marked-start (HasPayload test) s.out) w.out
+
+  staged-throughout : (test : Payload → Bool) (capacity : ℕ) (s : EdgeState) (es : List EdgeEvent) → AllByRecursion (PresentPasses test) es → IsTrue (test s.near.staged) → StagedPasses test capacity s es
+  staged-throughout test capacity s [] p a = a
+  staged-throughout test capacity s (e ∷ es) p a = (a, staged-throughout test capacity (edge_step capacity s e) es p.1 (staged-event test capacity s e p.0 a))
 
   pub sweep-refreshes : (test : Payload → Bool) (capacity : ℕ) (s : EdgeState) (es : List EdgeEvent) → IsEdgeInRange capacity s → IsStable capacity s → IsSweep capacity s es → AllByRecursion (PresentPasses test) es → IsTrue (test s.near.staged) →
       IsTrue (test (edge_run capacity s es).near.staged) × IsTrue (test (edge_run capacity s es).far.copy)
-  sweep-refreshes test capacity s es r h w p a = waiting-run test capacity 0 s es (map (λ x. Before) s.out) r h p a (marked-start (HasPayload test) s.out) w.out
+  sweep-refreshes test capacity s es r h w p a = (staged-run test capacity s es p a, sweep-copies test capacity s es r h w (staged-throughout test capacity s es p a))
 
   -- ---- three sweeps
 

@@ -7,7 +7,7 @@ use Rattle.link_model.specs.declared.item.Item.{Item}
 use Rattle.link_model.specs.declared.item.Item.TheVariants as item
 use Rattle.data_link.specs.Port.{PortState, default_port, heard_of, port_after, port_fits}
 use Rattle.data_link.specs.Edge.{EdgeState, EdgeEvent, SendOut, SendBack, TakeOut, TakeBack, LoseOut, IsStable, IsStableWith, edge_run, edge_step_with, moves_in}
-use Rattle.data_link.specs.Sweep.{IsSweep, is_out_served, is_back_served}
+use Rattle.data_link.specs.Sweep.{IsSweep, is_out_renewed, is_back_renewed}
 
 abbrev old : Payload
 old = record { distance = 2; parent = None; ring = 0 }
@@ -90,19 +90,19 @@ behind_an_old_item : IsSweep 1 (loaded (item.Frame (frame 0 0 old)))
 behind_an_old_item = record { out = refl; back = refl }
 
 -- only items that stood there are taken
-not_by_an_old_item : is_out_served 1 (loaded (item.Frame (frame 0 0 old))) (TakeOut old ∷ TakeBack new ∷ []) ≡ false
+not_by_an_old_item : is_out_renewed 1 (loaded (item.Frame (frame 0 0 old))) (TakeOut old ∷ TakeBack new ∷ []) ≡ false
 not_by_an_old_item = refl
 
 -- the same where the item is noise; and what is sent on a full link is lost
-not_by_noise : is_out_served 1 (loaded item.Noise) (SendOut ∷ TakeOut old ∷ SendBack ∷ TakeBack new ∷ []) ≡ false
+not_by_noise : is_out_renewed 1 (loaded item.Noise) (SendOut ∷ TakeOut old ∷ SendBack ∷ TakeBack new ∷ []) ≡ false
 not_by_noise = refl
 
 -- a take on an empty link
-not_by_an_empty_link : is_back_served 1 empty (SendOut ∷ TakeOut old ∷ TakeBack new ∷ SendBack ∷ []) ≡ false
+not_by_an_empty_link : is_back_renewed 1 empty (SendOut ∷ TakeOut old ∷ TakeBack new ∷ SendBack ∷ []) ≡ false
 not_by_an_empty_link = refl
 
 -- what was sent is lost before it is taken
-not_by_a_lost_item : is_out_served 1 empty (SendOut ∷ LoseOut 0 ∷ TakeOut old ∷ []) ≡ false
+not_by_a_lost_item : is_out_renewed 1 empty (SendOut ∷ LoseOut 0 ∷ TakeOut old ∷ []) ≡ false
 not_by_a_lost_item = refl
 
 -- ---- C + 1 numbers are too few

@@ -38,7 +38,7 @@ carries-under p other n x h = λ j. grind (arith, common_steps)
 carries-old : (p : PortState) (other : Payload) (n : ℕ) (x : Payload) → n ≢ p.seq → x ≡ other → Carries p other n x
 carries-old p other n x ne e = grind (arith, common_steps)
 
-seq-moves : (capacity : ℕ) (s : EdgeState) (e : EdgeEvent) → moves s e ≡ 1 → (edge_step capacity s e).near.seq ≡ root_moved s.near.seq (modulus_of capacity)
+pub seq-moves : (capacity : ℕ) (s : EdgeState) (e : EdgeEvent) → moves s e ≡ 1 → (edge_step capacity s e).near.seq ≡ root_moved s.near.seq (modulus_of capacity)
 seq-moves capacity s e i = grind (arith, common_steps)
 
 -- ---- sums along a run
@@ -114,7 +114,7 @@ module _ (stays : GoodStays) (good_front : GoodHasFront) (fresh_front : FreshHas
   pub stable-run : StableOutlastsRuns
   stable-run = stays-in_runs stable-event
 
-  ready-run : (capacity : ℕ) (s : EdgeState) (es : List EdgeEvent) → IsEdgeInRange capacity s → IsReady s → 0 < moves_in capacity s es → IsStable capacity (edge_run capacity s es)
+  pub ready-run : (capacity : ℕ) (s : EdgeState) (es : List EdgeEvent) → IsEdgeInRange capacity s → IsReady s → 0 < moves_in capacity s es → IsStable capacity (edge_run capacity s es)
   ready-run capacity s [] r h l = absurd (omega arith)
   ready-run capacity s (e ∷ es) r h l = elim (ready-event capacity s e r h) [
     | inl v ↦ ready-run capacity (edge_step capacity s e) es (range-event capacity s e r) v.1 (omega (arith, l, v.0))
@@ -122,7 +122,7 @@ module _ (stays : GoodStays) (good_front : GoodHasFront) (fresh_front : FreshHas
   ]
 
   -- a number that stands nowhere else: no frame carries it
-  fresh-ready : (s : EdgeState) → IsFresh (link_ring s) → IsReady s
+  pub fresh-ready : (s : EdgeState) → IsFresh (link_ring s) → IsReady s
   fresh-ready s f = (fresh_front (link_ring s) f, all-weaker (λ n x. n ≢ s.near.seq) (UnderNumber s.near) (λ n x ne j. absurd (ne j)) s (all-ring (λ n. n ≢ s.near.seq) s f))
 
   from_fresh : (capacity : ℕ) (s mid : EdgeState) (es rest : List EdgeEvent) → edge_run capacity mid rest ≡ edge_run capacity s es → IsEdgeInRange capacity mid → IsFresh (link_ring mid)

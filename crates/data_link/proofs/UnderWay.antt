@@ -1,5 +1,5 @@
 -- Facts of all items on a link, and of each number on its way out with its payload
-use Rattle.std.proofs.Common.{◌≡◌, ℕ, ◌+◌, ◌*◌, ◌≤◌, nat_lt, zero, suc, List, [], ◌∷◌, ◌++◌, length, drop, remove, arith, length-append}
+use Rattle.std.proofs.Common.{◌≡◌, ℕ, ◌+◌, ◌*◌, ◌≤◌, nat_lt, List, [], ◌∷◌, ◌++◌, length, drop, arith, length-append}
 use Rattle.std.specs.List.{AllByRecursion}
 use Rattle.std.proofs.lemmas.Bool.{ltb-true}
 use Rattle.std.proofs.lemmas.Grind.{common_steps}
@@ -7,15 +7,13 @@ use Rattle.topology.specs.declared.frame.Frame.{Frame}
 use Rattle.topology.specs.declared.frame.Payload.{Payload}
 use Rattle.link_model.specs.declared.item.Item.{Item}
 use Rattle.link_model.specs.declared.item.Item.TheVariants as item
+use Rattle.link_model.specs.Acts.{put_last}
+pub use Rattle.link_model.proofs.Lists.{All-push, All-remove, length-remove}
 use Rattle.data_link.specs.Port.{PortState, port_after}
-use Rattle.data_link.specs.Edge.{EdgeState, EdgeEvent, SendOut, SendBack, TakeOut, TakeBack, LoseOut, LoseBack, Elsewhere, put_last, port_taking, edge_step, moves, newest_first}
+use Rattle.data_link.specs.Edge.{EdgeState, EdgeEvent, SendOut, SendBack, TakeOut, TakeBack, LoseOut, LoseBack, Elsewhere, port_taking, edge_step, moves, newest_first}
 use Rattle.data_link.proofs.LinkSteps.{by_test}
 
 -- ---- all items of a list
-
-pub All-push : {X : Type 0} (P : X → Type 0) (xs : List X) (y : X) → AllByRecursion P xs → P y → AllByRecursion P (xs ++ y ∷ [])
-All-push P [] y ps p = (p, tt)
-All-push P (x ∷ xs) y ps p = (ps.0, All-push P xs y ps.1 p)
 
 pub All-put : {X : Type 0} (P : X → Type 0) (capacity : ℕ) (xs : List X) (y : X) → AllByRecursion P xs → P y → AllByRecursion P (put_last capacity xs y)
 All-put P capacity xs y ps p = by_test (AllByRecursion P) (nat_lt (length xs) capacity) (xs ++ y ∷ []) xs (λ t. All-push P xs y ps p) (λ t. ps)
@@ -23,12 +21,6 @@ All-put P capacity xs y ps p = by_test (AllByRecursion P) (nat_lt (length xs) ca
 pub All-rest : {X : Type 0} (P : X → Type 0) (xs : List X) → AllByRecursion P xs → AllByRecursion P (drop 1 xs)
 All-rest P [] ps = tt
 All-rest P (x ∷ xs) ps = ps.1
-
-pub All-remove : {X : Type 0} (P : X → Type 0) (xs : List X) (i : ℕ) → AllByRecursion P xs → AllByRecursion P (remove xs i)
-All-remove P [] zero ps = tt
-All-remove P [] (suc i) ps = tt
-All-remove P (x ∷ xs) zero ps = ps.1
-All-remove P (x ∷ xs) (suc i) ps = (ps.0, All-remove P xs i ps.1)
 
 pub All-weaker : {X : Type 0} (P Q : X → Type 0) → ((x : X) → P x → Q x) → (xs : List X) → AllByRecursion P xs → AllByRecursion Q xs
 All-weaker P Q f [] ps = tt
@@ -50,12 +42,6 @@ length-put capacity xs y l = by_test (λ zs. length zs ≤ capacity) (nat_lt (le
 pub length-rest : {X : Type 0} (xs : List X) → length (drop 1 xs) ≤ length xs
 length-rest [] = omega arith
 length-rest (x ∷ xs) = omega arith
-
-pub length-remove : {X : Type 0} (xs : List X) (i : ℕ) → length (remove xs i) ≤ length xs
-length-remove [] zero = omega arith
-length-remove [] (suc i) = omega arith
-length-remove (x ∷ xs) zero = omega arith
-length-remove (x ∷ xs) (suc i) = omega (arith, length-remove xs i)
 
 -- ---- a fact of each number that goes out with its payload, and of what far has accepted
 

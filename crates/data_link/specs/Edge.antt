@@ -1,22 +1,26 @@
--- One edge between two nodes, near and far. All here is of the direction in which near sends its payloads; the other one is the same, seen from far.
-use Rattle.std.specs.Prelude.{◌≡◌, ℕ, ◌+◌, ◌*◌, ◌<◌, ◌≤◌, ◌==◌, nat_lt, List, [], ◌∷◌, ◌++◌, length, drop, remove, if◌then◌else◌}
+-- One edge between two nodes, near and far. All here is of the direction in which near sends its
+-- payloads; the other one is the same, seen from far.
+use Rattle.std.specs.Prelude.{◌≡◌, ℕ, ◌+◌, ◌*◌, ◌<◌, ◌≤◌, ◌==◌, List, [], ◌∷◌, ◌++◌, length, drop, remove, if◌then◌else◌}
 use Rattle.std.specs.List.{AllByRecursion}
 use Rattle.topology.specs.declared.frame.Frame.{Frame}
 use Rattle.topology.specs.declared.frame.Payload.{Payload}
 use Rattle.link_model.specs.declared.item.Item.{Item}
 use Rattle.link_model.specs.declared.item.Item.TheVariants as item
+use Rattle.link_model.specs.Acts.{put_last}
 use Rattle.k_state.specs.Ring.{IsGood}
 use Rattle.data_link.specs.Port.{PortState, frame_of, port_after}
 
--- the ports of the two nodes to each other, and the items under way, oldest first: out from near to far, and back
+-- the ports of the two nodes to each other, and the items under way, oldest first: out from near to
+-- far, and back
 pub record EdgeState : Type 0 where
   pub near : PortState
   pub far : PortState
   pub out : List Item
   pub back : List Item
 
--- What can happen to an edge. Who takes an item hands in the payload that is present: what it has to say to the other before the item. The last case
--- is an event of the network that does not touch this edge.
+-- What can happen to an edge. Who takes an item hands in the payload that is present: what it has
+-- to say to the other before the item. The last case is an event of the network that does not touch
+-- this edge.
 pub data EdgeEvent : Type 0 where
   SendOut : EdgeEvent
   SendBack : EdgeEvent
@@ -31,10 +35,6 @@ abbrev pub modulus_of : ℕ → ℕ
 modulus_of capacity = 2 * capacity + 3
 
 -- ---- steps
-
--- an item goes last where there is room, and else it is lost
-abbrev pub put_last : {X : Type 0} → ℕ → List X → X → List X
-put_last capacity items x = if nat_lt (length items) capacity then items ++ x ∷ [] else items
 
 -- a port takes the oldest of these items, if any; noise changes nothing in it
 abbrev pub port_taking : ℕ → PortState → List Item → Payload → PortState
@@ -102,12 +102,13 @@ newest_first number [] = []
 newest_first number (item.Noise ∷ items) = newest_first number items
 newest_first number (item.Frame f ∷ items) = newest_first number items ++ number f ∷ []
 
--- The link ring: near's number; the numbers of the frames on their way out, newest first; the last number that far accepted; the acknowledgements on
--- their way back, newest first.
+-- The link ring: near's number; the numbers of the frames on their way out, newest first; the last
+-- number that far accepted; the acknowledgements on their way back, newest first.
 abbrev pub link_ring : EdgeState → List ℕ
 link_ring s = s.near.seq ∷ (newest_first (λ f. f.seq) s.out ++ s.far.last ∷ newest_first (λ f. f.ack) s.back)
 
--- the payload that belongs to a number: the staged one to the port's own, another one to every other
+-- the payload that belongs to a number: the staged one to the port's own, another one to every
+-- other
 abbrev pub payload_under : PortState → Payload → ℕ → Payload
 payload_under p other number = if number == p.seq then p.staged else other
 
@@ -116,8 +117,9 @@ abbrev pub CarriesItsPayload : PortState → Payload → Item → Type 0
 CarriesItsPayload p other item.Noise = Unit {0}
 CarriesItsPayload p other (item.Frame f) = f.payload ≡ payload_under p other f.seq
 
--- The link is stable for numbers with this modulus: its ring is good, and there is one other payload such that each frame on its way out, and far's copy,
--- is what near has staged where it came with near's number, and that other payload else.
+-- The link is stable for numbers with this modulus: its ring is good, and there is one other
+-- payload such that each frame on its way out, and far's copy, is what near has staged where it
+-- came with near's number, and that other payload else.
 pub record IsStableWith (modulus : ℕ) (s : EdgeState) : Type 0 where
   pub good : IsGood modulus (link_ring s)
   pub other : Payload

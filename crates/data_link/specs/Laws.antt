@@ -1,4 +1,5 @@
--- The laws of one edge, for every capacity of its links and whatever payloads are handed in as present. Each is of the direction from near to far.
+-- The laws of one edge, for every capacity of its links and whatever payloads are handed in as
+-- present. Each is of the direction from near to far.
 use Rattle.std.specs.Prelude.{◌≡◌, ℕ, ◌+◌, ◌*◌, ◌<◌, ◌≤◌, ◌⊎◌, Bool, IsTrue, List, ◌∷◌, ◌++◌}
 use Rattle.std.specs.List.{AllByRecursion}
 use Rattle.topology.specs.Ranges.{frame_fits, payload_fits}
@@ -22,7 +23,8 @@ PortStaysInRange =
 
 -- ---- steps
 
--- an event is some changes of the link ring, and then as many head moves as near's number makes; with every modulus of the numbers
+-- an event is some changes of the link ring, and then as many head moves as near's number makes;
+-- with every modulus of the numbers
 abbrev pub EventIsStep : Type 0
 EventIsStep = (modulus capacity : ℕ) (s : EdgeState) (e : EdgeEvent) → Step modulus (moves s e) (link_ring s) (link_ring (edge_step_with modulus capacity s e))
 
@@ -82,33 +84,38 @@ CopyIsStaged =
     (capacity : ℕ) (s : EdgeState) (e : EdgeEvent) → IsEdgeInRange capacity s → IsStable capacity s
     → ((edge_step capacity s e).far.copy ≡ s.far.copy) ⊎ ((edge_step capacity s e).far.copy ≡ s.near.staged)
 
--- on a stable link far's copy is the payload of each frame as it is taken, whether its number is new or not
+-- on a stable link far's copy is the payload of each frame as it is taken, whether its number is
+-- new or not
 abbrev pub TakenIsCopied : Type 0
 TakenIsCopied =
     (capacity : ℕ) (s : EdgeState) (present : Payload) (f : Frame) (items : List Item) → IsStable capacity s → s.out ≡ item.Frame f ∷ items
     → (edge_step capacity s (TakeOut present)).far.copy ≡ f.payload
 
--- on a stable link, what holds of the staged payload, of far's copy and of each payload handed in goes on holding of both
+-- on a stable link, what holds of the staged payload, of far's copy and of each payload handed in
+-- goes on holding of both
 abbrev pub PayloadsKeep : Type 0
 PayloadsKeep =
     (test : Payload → Bool) (capacity : ℕ) (s : EdgeState) (e : EdgeEvent) → IsEdgeInRange capacity s → IsStable capacity s → PresentPasses test e
     → IsTrue (test s.near.staged) → IsTrue (test s.far.copy)
     → IsTrue (test (edge_step capacity s e).near.staged) × IsTrue (test (edge_step capacity s e).far.copy)
 
--- a payload that was handed in is staged once near's number has moved: what holds of each payload handed in holds of the staged one then
+-- a payload that was handed in is staged once near's number has moved: what holds of each payload
+-- handed in holds of the staged one then
 abbrev pub MoveRefreshesStaged : Type 0
 MoveRefreshesStaged =
     (test : Payload → Bool) (capacity : ℕ) (s : EdgeState) (es : List EdgeEvent) → AllByRecursion (PresentPasses test) es → 0 < moves_in capacity s es
     → IsTrue (test (edge_run capacity s es).near.staged)
 
--- on a stable link a sweep brings the staged payload to far's copy: what holds of the staged payload and of each payload handed in holds of both after it
+-- on a stable link a sweep brings the staged payload to far's copy: what holds of the staged
+-- payload and of each payload handed in holds of both after it
 abbrev pub SweepRefreshesCopy : Type 0
 SweepRefreshesCopy =
     (test : Payload → Bool) (capacity : ℕ) (s : EdgeState) (es : List EdgeEvent) → IsEdgeInRange capacity s → IsStable capacity s → IsSweep capacity s es
     → AllByRecursion (PresentPasses test) es → IsTrue (test s.near.staged)
     → IsTrue (test (edge_run capacity s es).near.staged) × IsTrue (test (edge_run capacity s es).far.copy)
 
--- so on a stable link, what holds of each payload handed in within three sweeps holds of the staged payload and of far's copy at their end
+-- so on a stable link, what holds of each payload handed in within three sweeps holds of the staged
+-- payload and of far's copy at their end
 abbrev pub ThreeSweepsRefresh : Type 0
 ThreeSweepsRefresh =
     (test : Payload → Bool) (capacity : ℕ) (s : EdgeState) (es : List EdgeEvent) → IsEdgeInRange capacity s → IsStable capacity s → Sweeps capacity s 3 es

@@ -1,4 +1,6 @@
 pub mod Port
 pub mod Edge
 pub mod Sweep
+pub mod SixSweeps
+pub mod Refreshing
 pub mod Laws

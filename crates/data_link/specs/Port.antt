@@ -7,8 +7,8 @@ use Rattle.topology.specs.declared.frame.Ranges.{Ranges}
 use Rattle.k_state.specs.Machine.{root_moved}
 use Rattle.data_link.specs.declared.heard.Heard.{Heard}
 
--- The number under which the staged payload goes out, the last number that was accepted from the neighbour, and the copy of the neighbour's payload
--- that came with it.
+-- The number under which the staged payload goes out, the last number that was accepted from the
+-- neighbour, and the copy of the neighbour's payload that came with it.
 pub record PortState : Type 0 where
   pub seq : ℕ
   pub last : ℕ
@@ -36,11 +36,13 @@ default_payload r = record { distance = r.nodes; parent = None; ring = 0 }
 abbrev pub default_port : Ranges → PortState
 default_port r = record { seq = 0; last = 0; staged = default_payload r; copy = default_payload r }
 
--- what a port sends: the staged payload under its number, with the last accepted number as the acknowledgement
+-- what a port sends: the staged payload under its number, with the last accepted number as the
+-- acknowledgement
 abbrev pub frame_of : PortState → Frame
 frame_of p = record { seq = p.seq; ack = p.last; payload = p.staged }
 
--- a frame that acknowledges the port's number moves it on by one, and the payload that is present then is staged
+-- a frame that acknowledges the port's number moves it on by one, and the payload that is present
+-- then is staged
 abbrev pub port_acked : ℕ → PortState → Frame → Payload → PortState
 port_acked modulus p f present = if f.ack == p.seq then record p { seq = root_moved p.seq modulus; staged = present } else p
 

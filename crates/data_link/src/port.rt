@@ -11,7 +11,8 @@ use std::marker::Model;
 use topology::{Frame, Net, Payload, Ranges};
 
 /// What a node keeps of one neighbour: the number of its staged payload, the last number that it
-/// accepted, the staged payload, and the copy of the neighbour's payload. Each field is in its range.
+/// accepted, the staged payload, and the copy of the neighbour's payload. Each field is in its
+/// range.
 #[derive(Debug, Drop)]
 pub struct Port {
     ranges: Ranges,
@@ -120,13 +121,14 @@ impl Port {
         }
     }
 
-    /// Takes a frame from the neighbour. `present` is what the node has to say to the neighbour in the
-    /// state *before* the frame: it is staged where the frame acknowledges the port's number. Then the
-    /// frame is accepted where its number is not the last one.
+    /// Takes a frame from the neighbour. `present` is what the node has to say to the neighbour in
+    /// the state *before* the frame: it is staged where the frame acknowledges the port's number.
+    /// Then the frame is accepted where its number is not the last one.
     pub fn on_frame(&mut self, frame: &Frame, present: Payload) -> Heard
         requires frame_fits { IsTrue (frame_fits self.old.ranges frame.now) }
         requires present_fits { IsTrue (payload_fits self.old.ranges present) }
-        ensures port { self.new ≡ record self.old { state = port_after self.old.ranges.counter self.old.state frame.now present } }
+        ensures port { self.new
+            ≡ record self.old { state = port_after self.old.ranges.counter self.old.state frame.now present } }
         ensures heard { result ≡ heard_of self.old.state frame.now }
     {
         let moved = frame.ack == self.seq;
@@ -142,10 +144,12 @@ impl Port {
         Heard { moved, accepted }
     }
 
-    /// Writes both numbers. `OutOfRange` comes exactly where one is not below the counters' modulus.
+    /// Writes both numbers. `OutOfRange` comes exactly where one is not below the counters'
+    /// modulus.
     pub fn set_counters(&mut self, seq: u16, last: u16) -> Result<(), OutOfRange>
         ensures variant { IsOk result ↔ IsTrue (counters_fit self.old.ranges seq last) }
-        ensures ok { OnOk result (self.new ≡ record self.old { state = record self.old.state { seq = seq; last = last } }) }
+        ensures ok { OnOk result (self.new
+            ≡ record self.old { state = record self.old.state { seq = seq; last = last } }) }
         ensures out_of_range { OnErr result (self.new ≡ self.old) }
     {
         if seq >= self.ranges.counter || last >= self.ranges.counter {
@@ -156,10 +160,12 @@ impl Port {
         Ok(())
     }
 
-    /// Writes the staged payload. `OutOfRange` comes exactly where a field of it is not in its range.
+    /// Writes the staged payload. `OutOfRange` comes exactly where a field of it is not in its
+    /// range.
     pub fn set_staged(&mut self, payload: Payload) -> Result<(), OutOfRange>
         ensures variant { IsOk result ↔ IsTrue (payload_fits self.old.ranges payload) }
-        ensures ok { OnOk result (self.new ≡ record self.old { state = record self.old.state { staged = payload } }) }
+        ensures ok { OnOk result (self.new
+            ≡ record self.old { state = record self.old.state { staged = payload } }) }
         ensures out_of_range { OnErr result (self.new ≡ self.old) }
     {
         if !self.ranges.fits_payload(&payload) {
@@ -169,11 +175,12 @@ impl Port {
         Ok(())
     }
 
-    /// Writes the copy of the neighbour's payload. `OutOfRange` comes exactly where a field of it is
-    /// not in its range.
+    /// Writes the copy of the neighbour's payload. `OutOfRange` comes exactly where a field of it
+    /// is not in its range.
     pub fn set_copy(&mut self, payload: Payload) -> Result<(), OutOfRange>
         ensures variant { IsOk result ↔ IsTrue (payload_fits self.old.ranges payload) }
-        ensures ok { OnOk result (self.new ≡ record self.old { state = record self.old.state { copy = payload } }) }
+        ensures ok { OnOk result (self.new
+            ≡ record self.old { state = record self.old.state { copy = payload } }) }
         ensures out_of_range { OnErr result (self.new ≡ self.old) }
     {
         if !self.ranges.fits_payload(&payload) {

@@ -1,5 +1,6 @@
--- The tree neighbours of a node, and their order round it: ascending ids, and after the largest the smallest.
--- An Euler tour of a tree leaves a node towards the tree neighbour after the one that it came in from.
+-- The tree neighbours of a node, and their order round it: ascending ids, and after the largest the
+-- smallest. An Euler tour of a tree leaves a node towards the tree neighbour after the one that it
+-- came in from.
 use Rattle.std.specs.Prelude.{ℕ, ◌==◌, ◌||◌, Bool, false, List, [], ◌∷◌, if◌then◌else◌, nat_lt, Option, Some, None, filter, unwrap_or}
 use Rattle.std.specs.List.{list_any}
 
@@ -12,7 +13,8 @@ is_named (Some p) v = p == v
 abbrev pub is_on : List ℕ → ℕ → Bool
 is_on ts w = list_any (λ t. t == w) ts
 
--- an edge of the tree joins v and its neighbour w, by v's own word and its copies: w is v's parent, or names v as its own
+-- an edge of the tree joins v and its neighbour w, by v's own word and its copies: w is v's parent,
+-- or names v as its own
 abbrev pub is_tree_neighbour : Option ℕ → ℕ → (ℕ → Option ℕ) → ℕ → Bool
 is_tree_neighbour parent v copied_parent w = is_named parent w || is_named (copied_parent w) v
 
@@ -41,10 +43,12 @@ below t ts = filter (λ u. nat_lt u t) ts
 abbrev pub next_after : List ℕ → ℕ → ℕ
 next_after ts t = unwrap_or (lowest (above t ts)) (unwrap_or (lowest ts) t)
 
--- the tree neighbour after which w comes: the highest below it, and before the lowest the highest of all
+-- the tree neighbour after which w comes: the highest below it, and before the lowest the highest
+-- of all
 abbrev pub source_for : List ℕ → ℕ → ℕ
 source_for ts w = unwrap_or (highest (below w ts)) (unwrap_or (highest ts) w)
 
--- the special machine is the root's for its smallest tree neighbour; no other node has one, nor has a root alone
+-- the special machine is the root's for its smallest tree neighbour; no other node has one, nor has
+-- a root alone
 abbrev pub special : Bool → List ℕ → Option ℕ
 special is_root ts = if is_root then lowest ts else None

@@ -39,7 +39,8 @@ TrueNeighboursAre = (net : Network) (v w : ℕ) → IsAcceptedNetwork net → Is
 abbrev pub TrueNeighboursAscend : Type 0
 TrueNeighboursAscend = (net : Network) (v : ℕ) → IsStrictlyIncreasing (true_neighbours net v)
 
--- where v knows its true parent and has copied those of its neighbours, its own tree neighbours are the true ones
+-- where v knows its true parent and has copied those of its neighbours, its own tree neighbours are
+-- the true ones
 abbrev pub OwnViewIsTrue : Type 0
 OwnViewIsTrue = (net : Network) (v : ℕ) (parent : Option ℕ) (copied_parent : ℕ → Option ℕ) → IsAcceptedNetwork net → parent ≡ parent_of net v
     → ((w : ℕ) → IsTrue (are_joined net.edges v w) → copied_parent w ≡ parent_of net w)

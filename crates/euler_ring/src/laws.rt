@@ -1,8 +1,10 @@
-//! What holds of the tour, and of a node's own view of it: the crates above lay Dijkstra's ring along it and know it by these laws alone.
+//! What holds of the tour, and of a node's own view of it: the crates above lay Dijkstra's ring
+//! along it and know it by these laws alone.
 ghost use Rattle.euler_ring.specs.Laws.{SourceOfNext, NextOfSource, NextIsOn, SourceIsOn, TrueNeighboursAre, TrueNeighboursAscend, OwnViewIsTrue, TourGoesRound, TourHasEachEdge, TourHasNoneTwice, TourLength, TourComesToEach};
 
-/// Round one node, `next_after` and `source_for` undo each other and stay among the tree neighbours: each machine's value leaves towards one neighbour, and each
-/// neighbour is left to by one machine.
+/// Round one node, `next_after` and `source_for` undo each other and stay among the tree
+/// neighbours: each machine's value leaves towards one neighbour, and each neighbour is left to by
+/// one machine.
 pub fn round_a_node()
     ensures source_of_next { SourceOfNext }
     ensures next_of_source { NextOfSource }
@@ -10,7 +12,8 @@ pub fn round_a_node()
     ensures source_on { SourceIsOn }
 {}
 
-/// Where a node knows its own true parent and those of its neighbours, its tree neighbours are the true ones: exactly the nodes to which an edge of the true tree leads.
+/// Where a node knows its own true parent and those of its neighbours, its tree neighbours are the
+/// true ones: exactly the nodes to which an edge of the true tree leads.
 pub fn true_view()
     ensures are { TrueNeighboursAre }
     ensures ascend { TrueNeighboursAscend }
@@ -21,8 +24,9 @@ pub fn true_view()
     topology::laws::joined();
 }
 
-/// The tour begins at the special machine, goes on from each stop as the node there sees it, and comes round to its beginning. It goes along each edge of the true tree once
-/// in each direction, so it has 2(n-1) stops and comes to each node.
+/// The tour begins at the special machine, goes on from each stop as the node there sees it, and
+/// comes round to its beginning. It goes along each edge of the true tree once in each direction,
+/// so it has 2(n-1) stops and comes to each node.
 pub fn the_tour()
     ensures round { TourGoesRound }
     ensures each_edge { TourHasEachEdge }

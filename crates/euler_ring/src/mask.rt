@@ -1,4 +1,5 @@
-//! A set of node ids as the bits of a word: id i is in it where bit i is 1. A network has at most 64 nodes.
+//! A set of node ids as the bits of a word: id i is in it where bit i is 1. A network has at most
+//! 64 nodes.
 ghost use Rattle.std.specs.Prelude.{◌≡◌, ◌≢◌, ℕ, ◌<◌, length, drop, true};
 ghost use Rattle.euler_ring.specs.Cycle.{lowest, highest, above, below};
 ghost use Rattle.euler_ring.specs.Mask.{has_id, ids_of};

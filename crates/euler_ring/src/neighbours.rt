@@ -5,7 +5,8 @@ ghost use Rattle.euler_ring.specs.Cycle.{is_named, is_on, tree_neighbours, next_
 use super::mask;
 use std::marker::Model;
 
-/// The tree neighbours of a node: the neighbours to which an edge of the tree leads, as far as the node knows. Contracts see them as an ascending list.
+/// The tree neighbours of a node: the neighbours to which an edge of the tree leads, as far as the
+/// node knows. Contracts see them as an ascending list.
 ///
 /// They are kept as the bits of one word, so what comes next is found without going through them.
 #[derive(Debug, Drop)]
@@ -57,7 +58,8 @@ impl TreeNeighbours {
         mask::lowest(rest).unwrap()
     }
 
-    /// Where the tour goes on that came in from the tree neighbour `t`: the next one up, and after the largest the smallest. Of a single one it is `t` itself.
+    /// Where the tour goes on that came in from the tree neighbour `t`: the next one up, and after
+    /// the largest the smallest. Of a single one it is `t` itself.
     pub fn next_after(&self, t: u16) -> u16
         requires { IsTrue (is_on self.now t) }
         ensures next { result ≡ next_after self.now t }
@@ -68,7 +70,8 @@ impl TreeNeighbours {
             .unwrap_or(t)
     }
 
-    /// Where the tour came in from that leaves towards the tree neighbour `w`: the next one down, and before the smallest the largest.
+    /// Where the tour came in from that leaves towards the tree neighbour `w`: the next one down,
+    /// and before the smallest the largest.
     pub fn source_for(&self, w: u16) -> u16
         requires { IsTrue (is_on self.now w) }
         ensures source { result ≡ source_for self.now w }
@@ -79,7 +82,8 @@ impl TreeNeighbours {
             .unwrap_or(w)
     }
 
-    /// The tree neighbour from which the special machine comes in: the smallest, at the root; none at another node, or where there is none.
+    /// The tree neighbour from which the special machine comes in: the smallest, at the root; none
+    /// at another node, or where there is none.
     pub fn special(&self, is_root: bool) -> Option<u16>
         ensures { result ≡ special is_root self.now }
     {
@@ -98,10 +102,12 @@ fn is_named(parent: Option<u16>, id: u16) -> bool
     parent == Some(id)
 }
 
-/// A node's tree neighbours, from what it believes: its parent, where that is a neighbour, and each neighbour whose copied parent is the node `id`.
+/// A node's tree neighbours, from what it believes: its parent, where that is a neighbour, and each
+/// neighbour whose copied parent is the node `id`.
 ///
-/// `neighbours` ascend and are below 64, as those of an accepted network. `copied_parent` gives a neighbour's copied parent, and is called for neighbours
-/// alone. What it gives is to be a function of the neighbour, as it is where it reads a field; the clause names that function.
+/// `neighbours` ascend and are below 64, as those of an accepted network. `copied_parent` gives a
+/// neighbour's copied parent, and is called for neighbours alone. What it gives is to be a function
+/// of the neighbour, as it is where it reads a field; the clause names that function.
 pub fn tree_neighbours<F: Fn(u16) -> Option<u16>>(
     parent: Option<u16>,
     id: u16,

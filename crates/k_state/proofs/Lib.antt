@@ -4,5 +4,6 @@ pub mod Steps
 pub mod Histories
 pub mod Runs
 pub mod Parallel
+pub mod Ages
 mod Rows
 pub mod Boundary

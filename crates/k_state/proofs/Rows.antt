@@ -2,6 +2,7 @@
 use Rattle.std.proofs.Common.{◌≡◌, ℕ, [], ◌∷◌, refl, arith, rules, true, false, map}
 use Rattle.k_state.specs.Machine.{root_moved, is_privileged}
 use Rattle.k_state.specs.Ring.{Written, Further, Moved, Run, Done, Move_first, Change_first, IsParallel, IsGood, IsFresh, HasFront, is_privileged_at}
+use Rattle.k_state.specs.Ages.{age, HasFallingAges}
 use Rattle.k_state.proofs.Parallel.{joined}
 
 last_value_wraps : root_moved 6 7 ≡ 0
@@ -62,6 +63,38 @@ too_few_values = joined 2 (half_round 0 1 refl) (half_round 1 0 refl)
 
 not_good_after_two_moves : IsGood 2 (0 ∷ 1 ∷ 0 ∷ 1 ∷ []) → ⊥
 not_good_after_two_moves h = grind arith
+
+-- the head went from 5 on to 6 and 0: these are of ages 0, 1 and 2
+ages_of_values : (age 7 5 5 ≡ 0) × (age 7 5 6 ≡ 1) × (age 7 5 0 ≡ 2)
+ages_of_values = (refl, refl, refl)
+
+ages_fall : HasFallingAges 7 5 (0 ∷ 0 ∷ 6 ∷ 6 ∷ 5 ∷ [])
+ages_fall = search (rules, arith)
+
+-- 4 is none of the values that the head has had: of all ages its own is the greatest
+not_falling_initial : HasFallingAges 7 5 (0 ∷ 6 ∷ 4 ∷ []) → ⊥
+not_falling_initial h = grind arith
+
+not_falling_back_again : HasFallingAges 7 5 (0 ∷ 6 ∷ 0 ∷ []) → ⊥
+not_falling_back_again h = grind arith
+
+-- where ages fall, the head moves only once all items have its value
+falling_turns_good : Run 7 1 (0 ∷ 6 ∷ 5 ∷ []) (1 ∷ 0 ∷ 0 ∷ [])
+falling_turns_good =
+    let all_equal : Run 7 1 (0 ∷ 0 ∷ 0 ∷ []) (1 ∷ 0 ∷ 0 ∷ []) = Move_first (Moved refl) Done in
+    let two_equal : Run 7 1 (0 ∷ 0 ∷ 5 ∷ []) (1 ∷ 0 ∷ 0 ∷ []) = Change_first (Further Written) all_equal in
+    Change_first Written two_equal
+
+-- With two values for four items ages are of no use: within three head moves each item has become a copy of what the head held meanwhile, and the fourth move
+-- leads to a ring that is not good.
+copied_all : Run 2 3 (0 ∷ 1 ∷ 0 ∷ 1 ∷ []) (1 ∷ 0 ∷ 1 ∷ 0 ∷ [])
+copied_all = joined 2 too_few_values (half_round 0 1 refl)
+
+copied_all_and_moved : Run 2 1 (1 ∷ 0 ∷ 1 ∷ 0 ∷ []) (0 ∷ 1 ∷ 0 ∷ 1 ∷ [])
+copied_all_and_moved = half_round 1 0 refl
+
+not_falling_with_two_values : HasFallingAges 2 0 (1 ∷ 0 ∷ 1 ∷ 0 ∷ []) → ⊥
+not_falling_with_two_values h = grind arith
 
 -- in a good ring the item behind the boundary alone is privileged, and the head where there is none
 privileged_at_boundary : map (is_privileged_at (2 ∷ 2 ∷ 1 ∷ 1 ∷ [])) (0 ∷ 1 ∷ 2 ∷ 3 ∷ []) ≡ false ∷ false ∷ true ∷ false ∷ []

@@ -11,7 +11,7 @@ good-run q Done g = g
 good-run q (Move_first m r) g = good-run q r (good-step q (Moves m) g)
 good-run q (Change_first c r) g = good-run q r (good-step q (Changes c Stays) g)
 
-front-run : (q a : ℕ) {n : ℕ} {xs ys : List ℕ} → Run q n xs ys → HasFront a xs → 0 < n → IsGood q ys
+pub front-run : (q a : ℕ) {n : ℕ} {xs ys : List ℕ} → Run q n xs ys → HasFront a xs → 0 < n → IsGood q ys
 front-run q a Done h l = absurd (omega arith)
 front-run q a (Move_first m r) h l = elim (front-step q a (Moves m) h) [ inl w ↦ absurd (omega (arith, w.0)) | inr w ↦ good-run q r w.1 ]
 front-run q a (Change_first c r) h l = elim (front-step q a (Changes c Stays) h) [ inl w ↦ front-run q a r w.1 l | inr w ↦ absurd (omega (arith, w.0)) ]

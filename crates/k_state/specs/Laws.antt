@@ -1,7 +1,9 @@
 -- The laws of the copying ring, for every modulus q.
 use Rattle.std.specs.Prelude.{◌≡◌, ℕ, ◌+◌, ◌<◌, ◌≤◌, ◌⊎◌, IsTrue, List, ◌∷◌, length}
 use Rattle.std.specs.List.{AllByRecursion}
+use Rattle.k_state.specs.Machine.{root_moved}
 use Rattle.k_state.specs.Ring.{HasFront, IsFresh, IsFreshMoment, IsGood, IsHistory, IsParallel, IsRing, Run, Step, Turn, head_of, is_privileged_at, moves_until, tail_of}
+use Rattle.k_state.specs.Ages.{age, HasFallingAges}
 
 -- ---- a good ring
 
@@ -27,14 +29,15 @@ RingStays = (q moves : ℕ) (old new : List ℕ) → Step q moves old new → Is
 abbrev pub FreshHasFront : Type 0
 FreshHasFront = (ring : List ℕ) → IsFresh ring → HasFront (head_of ring) ring
 
--- the items that are a stay in front until the head moves; then the ring is good, and every item but the head is a
+-- the items that are a stay in front until the head moves; then the ring is good, and every item
+-- but the head is a
 abbrev pub FrontStaysOrTurnsGood : Type 0
 FrontStaysOrTurnsGood =
     (q a moves : ℕ) (old new : List ℕ) → Step q moves old new → HasFront a old
     → ((moves ≡ 0) × HasFront a new) ⊎ ((moves ≡ 1) × IsGood q new × AllByRecursion (λ x. x ≡ a) (tail_of new))
 
--- where the head makes as many moves as there were items, at most q, it holds before the last of them a value that stands nowhere else
--- when the head first holds it
+-- where the head makes as many moves as there were items, at most q, it holds before the last of
+-- them a value that stands nowhere else when the head first holds it
 abbrev pub SomeValueIsFresh : Type 0
 SomeValueIsFresh =
     (q n : ℕ) (ring : ℕ → List ℕ) (moves : ℕ → ℕ) → IsHistory q n ring moves → IsRing q (ring 0) → length (ring 0) ≤ q
@@ -82,3 +85,37 @@ abbrev pub PrivilegePasses : Type 0
 PrivilegePasses =
     (q n i : ℕ) (ring : ℕ → List ℕ) (moves : ℕ → ℕ) → 1 < q → ((k : ℕ) → k < n → Turn q (moves k) (ring k) (ring (k + 1))) → IsRing q (ring 0) → IsGood q (ring 0)
     → 2 ≤ moves_until moves n → i < length (ring 0) → (k : ℕ) × (k ≤ n) × (moves_until moves k ≡ 1) × IsTrue (is_privileged_at (ring k) i)
+
+-- ---- ages
+
+-- a value that the head has just had is of age 0
+abbrev pub AgeOfStart : Type 0
+AgeOfStart = (q start : ℕ) → start < q → age q start start ≡ 0
+
+-- values of one age are equal
+abbrev pub AgesDiffer : Type 0
+AgesDiffer = (q start x y : ℕ) → x < q → y < q → age q start x ≡ age q start y → x ≡ y
+
+-- the next value is one move further, while there is a further one
+abbrev pub AgeGoesOn : Type 0
+AgeGoesOn = (q start x : ℕ) → age q start x + 1 < q → age q start (root_moved x q) ≡ age q start x + 1
+
+-- ages that fall along a ring fall along it after every run, as long as the head's own counts its
+-- moves
+abbrev pub AgesStay : Type 0
+AgesStay =
+    (q start moves : ℕ) (old new : List ℕ) → Run q moves old new → HasFallingAges q start old
+    → age q start (head_of old) + moves < q
+    → HasFallingAges q start new × (age q start (head_of new) ≡ age q start (head_of old) + moves)
+
+-- where ages fall along a ring, the items that equal its head stand in front
+abbrev pub FallingHasFront : Type 0
+FallingHasFront =
+    (q start : ℕ) (ring : List ℕ) → IsRing q ring → HasFallingAges q start ring
+    → HasFront (head_of ring) ring
+
+-- so one move of the head makes the ring good
+abbrev pub AgesTurnGood : Type 0
+AgesTurnGood =
+    (q start moves : ℕ) (old new : List ℕ) → Run q moves old new → IsRing q old
+    → HasFallingAges q start old → 0 < moves → IsGood q new

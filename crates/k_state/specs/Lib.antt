@@ -1,3 +1,4 @@
 pub mod Machine
 pub mod Ring
+pub mod Ages
 pub mod Laws

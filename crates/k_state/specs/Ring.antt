@@ -5,8 +5,8 @@ use Rattle.k_state.specs.Machine.{is_privileged, root_moved}
 
 -- ---- what may happen to a ring
 
--- a change that leaves the head as it is, somewhere in the list: an item is copied to its right, an item is written over
--- its right neighbour, or an item's right neighbour is removed
+-- a change that leaves the head as it is, somewhere in the list: an item is copied to its right, an
+-- item is written over its right neighbour, or an item's right neighbour is removed
 pub data Change : List ℕ → List ℕ → Type 0 where
   Copied : {x : ℕ} {xs : List ℕ} → Change (x ∷ xs) (x ∷ x ∷ xs)
   Written : {x y : ℕ} {xs : List ℕ} → Change (x ∷ y ∷ xs) (x ∷ x ∷ xs)
@@ -23,7 +23,8 @@ abbrev pub but_last : ℕ → List ℕ → List ℕ
 but_last x [] = []
 but_last x (y ∷ ys) = x ∷ but_last y ys
 
--- where the last item equals the head, the head goes on to the next value; the last item, if another than the head, may go
+-- where the last item equals the head, the head goes on to the next value; the last item, if
+-- another than the head, may go
 pub data HeadMove (q : ℕ) : List ℕ → List ℕ → Type 0 where
   Moved : {x : ℕ} {xs : List ℕ} → last_of x xs ≡ x → HeadMove q (x ∷ xs) (root_moved x q ∷ xs)
   Dropped : {x y : ℕ} {ys : List ℕ} → last_of y ys ≡ x → HeadMove q (x ∷ y ∷ ys) (root_moved x q ∷ but_last y ys)
@@ -40,7 +41,8 @@ pub data Run (q : ℕ) : ℕ → List ℕ → List ℕ → Type 0 where
   Move_first : {n : ℕ} {xs ys zs : List ℕ} → HeadMove q xs ys → Run q n ys zs → Run q (suc n) xs zs
   Change_first : {n : ℕ} {xs ys zs : List ℕ} → Change xs ys → Run q n ys zs → Run q n xs zs
 
--- a parallel step of what stands behind `left`: each item keeps its value or takes that of its left neighbour, all at once
+-- a parallel step of what stands behind `left`: each item keeps its value or takes that of its left
+-- neighbour, all at once
 abbrev pub IsParallel : ℕ → List ℕ → List ℕ → Type 0
 IsParallel left [] [] = Unit {0}
 IsParallel left [] (y ∷ ys) = ⊥
@@ -80,7 +82,8 @@ HasFront a ring = (head_of ring ≡ a) × IsFrontThen (λ x. x ≡ a) (λ x. x �
 
 -- ---- a ring along time
 
--- the ring at each of the moments 0 to n, and how many head moves (0 or 1) lead from each to the next
+-- the ring at each of the moments 0 to n, and how many head moves (0 or 1) lead from each to the
+-- next
 abbrev pub IsHistory : ℕ → ℕ → (ℕ → List ℕ) → (ℕ → ℕ) → Type 0
 IsHistory q n ring moves = (k : ℕ) → k < n → Step q (moves k) (ring k) (ring (k + 1))
 
@@ -89,8 +92,8 @@ abbrev pub moves_until : (ℕ → ℕ) → ℕ → ℕ
 moves_until moves zero = 0
 moves_until moves (suc n) = moves_until moves n + moves n
 
--- a moment before the last of as many head moves as the ring had items, at which the head holds a value for the first time, and this
--- value stands nowhere else
+-- a moment before the last of as many head moves as the ring had items, at which the head holds a
+-- value for the first time, and this value stands nowhere else
 pub record IsFreshMoment (ring : ℕ → List ℕ) (moves : ℕ → ℕ) (k : ℕ) : Type 0 where
   pub early : moves_until moves k < length (ring 0)
   pub fresh : IsFresh (ring k)
@@ -109,7 +112,8 @@ sees_another left [] i = false
 sees_another left (x ∷ xs) zero = is_privileged false x left
 sees_another left (x ∷ xs) (suc i) = sees_another x xs i
 
--- the item at place i is privileged: the head where the last item has its value, every other where the item before it has another
+-- the item at place i is privileged: the head where the last item has its value, every other where
+-- the item before it has another
 abbrev pub is_privileged_at : List ℕ → ℕ → Bool
 is_privileged_at [] i = false
 is_privileged_at (x ∷ xs) zero = is_privileged true x (last_of x xs)

@@ -1,10 +1,10 @@
 //! The laws of the copying ring, each the contract of a function that does nothing. A proof that
 //! needs one calls it and cites its clauses.
-ghost use Rattle.k_state.specs.Laws.{FreshHasFront, FrontStaysOrTurnsGood, GoodHasFront, GoodOutlastsRuns, GoodStays, OneItemIsPrivileged, ParallelIsRun, PrivilegePasses, RingStays, RunTurnsGood, RunsJoin, SomeItemIsPrivileged, SomeValueIsFresh, StepIsRun, TurnsGood};
+ghost use Rattle.k_state.specs.Laws.{AgeGoesOn, AgeOfStart, AgesDiffer, AgesStay, AgesTurnGood, FallingHasFront, FreshHasFront, FrontStaysOrTurnsGood, GoodHasFront, GoodOutlastsRuns, GoodStays, OneItemIsPrivileged, ParallelIsRun, PrivilegePasses, RingStays, RunTurnsGood, RunsJoin, SomeItemIsPrivileged, SomeValueIsFresh, StepIsRun, TurnsGood};
 
-/// A good ring stays good, whatever changes and head moves follow. Links need it to stay stable, the
-/// token ring to keep its one token.
-pub fn good_law()
+/// A good ring stays good, whatever changes and head moves follow. Links need it to stay stable,
+/// the token ring to keep its one token.
+pub fn stays_good()
     ensures stays { GoodStays }
     ensures stays_in_runs { GoodOutlastsRuns }
     ensures front { GoodHasFront }
@@ -12,8 +12,9 @@ pub fn good_law()
 
 /// A head value that stands nowhere else: it is in front, stays in front until the head moves, and
 /// then the ring is good. Among the values that the head holds up to the last of as many moves as
-/// there were items, one is such a value. A link needs the moment itself: no frame carries that number.
-pub fn fresh_law()
+/// there were items, one is such a value. A link needs the moment itself: no frame carries that
+/// number.
+pub fn fresh_value()
     ensures below { RingStays }
     ensures front { FreshHasFront }
     ensures front_stays_or_turns_good { FrontStaysOrTurnsGood }
@@ -22,23 +23,36 @@ pub fn fresh_law()
 
 /// A ring of at most as many items as there are values is good after as many head moves as it had
 /// items; over moments of time, and over a run.
-pub fn convergence_law()
+pub fn turns_good()
     ensures turns_good { TurnsGood }
     ensures run_turns_good { RunTurnsGood }
 {}
 
 /// Many machines that copy at once are changes one after the other, from the right to the left: so
 /// one call that moves several machines is a run, and runs join.
-pub fn parallel_law()
+pub fn parallel_copies()
     ensures is_run { ParallelIsRun }
     ensures step_is_run { StepIsRun }
     ensures join { RunsJoin }
 {}
 
-/// Privilege: some item always has it, in a good ring only one, and between two head moves of a good
-/// ring whose items stay in their places it comes to each item.
-pub fn privilege_law()
+/// Privilege: some item always has it, in a good ring only one, and between two head moves of a
+/// good ring whose items stay in their places it comes to each item.
+pub fn privilege()
     ensures some { SomeItemIsPrivileged }
     ensures one { OneItemIsPrivileged }
     ensures passes { PrivilegePasses }
+{}
+
+/// Ages since a moment: how many moves lead from the head's value then to an item's. Where each
+/// item is a copy of what the head held since, ages fall along the ring, and go on to do so; the
+/// items that equal the head stand in front, and its next move makes the ring good, however few its
+/// moves were. What fewer moves than items bring about needs it.
+pub fn ages()
+    ensures start { AgeOfStart }
+    ensures apart { AgesDiffer }
+    ensures next { AgeGoesOn }
+    ensures stay { AgesStay }
+    ensures front { FallingHasFront }
+    ensures turn_good { AgesTurnGood }
 {}

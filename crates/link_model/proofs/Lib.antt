@@ -1,1 +1,3 @@
 pub mod Turning
+pub mod Lists
+pub mod Marks

@@ -1,7 +1,8 @@
 //! A directed link between two neighbours: at most `capacity` items under way, oldest first.
 //!
-//! A link keeps the order of its items. It may lose any of them (`lose`), and a fault may put noise among them, but it neither copies an item nor
-//! lets one overtake another. It is a list with a limit, and no channel between threads: one owner puts and takes.
+//! A link keeps the order of its items. It may lose any of them (`lose`), and a fault may put noise
+//! among them, but it neither copies an item nor lets one overtake another. It is a list with a
+//! limit, and no channel between threads: one owner puts and takes.
 //!
 //! ```
 //! let mut link = Link::new(alloc, 2)?;
@@ -9,10 +10,12 @@
 //! let oldest = link.take();      // None where no item stands
 //! ```
 //!
-//! All places are reserved by `new`: no other call takes memory. A full link refuses an item and never overwrites one.
+//! All places are reserved by `new`: no other call takes memory. A full link refuses an item and
+//! never overwrites one.
 //!
-//! Source: the bounded links without reordering of Dolev, Israeli and Moran, "Self-Stabilization of Dynamic Systems Assuming Only Read/Write
-//! Atomicity" (1993), and Dolev, Self-Stabilization (2000), chapter 4.
+//! Source: the bounded links without reordering of Dolev, Israeli and Moran, "Self-Stabilization of
+//! Dynamic Systems Assuming Only Read/Write Atomicity" (1993), and Dolev, Self-Stabilization
+//! (2000), chapter 4.
 #![tactic(auto)]
 
 mod fault;

@@ -26,7 +26,8 @@ impl<A: Allocator> Model for Link<A> {
 }
 
 impl<A: Allocator> Link<A> {
-    /// An empty link. It reserves all its places here, and answers `AllocError` only where that memory is refused.
+    /// An empty link. It reserves all its places here, and answers `AllocError` only where that
+    /// memory is refused.
     pub fn new(alloc: A, capacity: usize) -> Result<Link<A>, AllocError>
         ensures { IfOk result (λ l. l ≡ link capacity []) }
     {
@@ -90,7 +91,8 @@ impl<A: Allocator> Link<A> {
 
     /// Takes the oldest item.
     pub fn take(&mut self) -> Option<Item>
-        ensures some { IfSome result (λ item. self.old ≡ link self.new.capacity (item ∷ self.new.items)) }
+        ensures some { IfSome result (λ item. self.old
+            ≡ link self.new.capacity (item ∷ self.new.items)) }
         ensures none { IfNone result ((self.old.items ≡ []) × (self.new ≡ self.old)) }
     {
         self.items.pop_front()

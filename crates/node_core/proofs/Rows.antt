@@ -3,13 +3,15 @@ use Rattle.std.proofs.Common.{◌≡◌, ℕ, true, false, [], ◌∷◌, Some, 
 use Rattle.std.proofs.lemmas.Fmt.{decimal_digit}
 use Rattle.topology.specs.Network.{Network}
 use Rattle.topology.specs.Ranges.{ranges_of}
-use Rattle.link_model.specs.declared.item.Item.TheVariants.{Noise}
+use Rattle.topology.specs.declared.frame.Frame.{Frame}
+use Rattle.link_model.specs.declared.item.Item.TheVariants as item
 use Rattle.data_link.specs.Port.{default_port}
 use Rattle.lock_desk.specs.Desk.{no_desk}
 use Rattle.node_core.specs.Site.{Site, site_of}
-use Rattle.node_core.specs.State.{NodeState, default_node}
+use Rattle.node_core.specs.State.{LocalState, default_node}
 use Rattle.node_core.specs.Machines.{tree_of, moved_value, is_node_privileged, payload_for}
 use Rattle.node_core.specs.Step.{taken, ticked}
+use Rattle.node_core.specs.Rewire.{rewired}
 use Rattle.node_core.specs.Status.{status_line}
 
 abbrev two : Network
@@ -25,7 +27,7 @@ site_of_far : far ≡ record { id = 1; is_root = false; ranges = record { nodes 
 site_of_far = refl
 
 -- the root of the reached tree: its neighbour's copy names it, and says the ring value x
-abbrev root_with : ℕ → ℕ → NodeState
+abbrev root_with : ℕ → ℕ → LocalState
 root_with value x = record {
   distance = 0;
   parent = None;
@@ -35,7 +37,7 @@ root_with value x = record {
 }
 
 -- its child
-abbrev child_with : ℕ → ℕ → NodeState
+abbrev child_with : ℕ → ℕ → LocalState
 child_with value x = record {
   distance = 1;
   parent = Some 0;
@@ -78,7 +80,7 @@ child_copied : (ticked far (child_with 3 4)).value 0 ≡ 4
 child_copied = refl
 
 -- but not where the node lends after it: who waits borrows, and the machine stands still
-abbrev asked_for : NodeState → NodeState
+abbrev asked_for : LocalState → LocalState
 asked_for s = record s { desk = record no_desk { waiting = 9 ∷ [] } }
 
 lending_stays : (ticked near (asked_for (root_with 3 3))).value 1 ≡ 3
@@ -101,8 +103,31 @@ root_says = refl
 stranger_hears_zero : (payload_for far (record (child_with 3 4) { parent = None }) 0).ring ≡ 0
 stranger_hears_zero = refl
 
-noise_changes_nothing : taken far 0 Noise (child_with 3 4) ≡ child_with 3 4
+noise_changes_nothing : taken far 0 item.Noise (child_with 3 4) ≡ child_with 3 4
 noise_changes_nothing = refl
+
+-- a frame of the root with a distance; on two nodes 2 is the greatest
+abbrev frame_with : ℕ → Frame
+frame_with distance = record { seq = 1; ack = 4; payload = record { distance = distance; parent = None; ring = 6 } }
+
+frame_is_copied : ((taken far 0 (item.Frame (frame_with 2)) (child_with 3 4)).port 0).copy ≡ (frame_with 2).payload
+frame_is_copied = refl
+
+frame_out_of_range_changes_nothing : taken far 0 (item.Frame (frame_with 3)) (child_with 3 4) ≡ child_with 3 4
+frame_out_of_range_changes_nothing = refl
+
+-- a child that loses its only neighbour drops the value from there, and still names it as its parent; one that gets another keeps it
+value_dropped : (rewired (ranges_of two) (0 ∷ []) [] (child_with 3 4)).value 0 ≡ 0
+value_dropped = refl
+
+parent_kept : (rewired (ranges_of two) (0 ∷ []) [] (child_with 3 4)).parent ≡ Some 0
+parent_kept = refl
+
+value_kept : (rewired (ranges_of two) (0 ∷ []) (0 ∷ 2 ∷ []) (child_with 3 4)).value 0 ≡ 3
+value_kept = refl
+
+new_port_is_default : (rewired (ranges_of two) (0 ∷ []) (0 ∷ 2 ∷ []) (child_with 3 4)).port 2 ≡ default_port (ranges_of two)
+new_port_is_default = refl
 
 -- the line of the root after its first tick
 line : status_line near (root_with 0 0) ≡ codes "node 0 distance 0 parent none token yes lent none waiting 0\n"

@@ -1,7 +1,8 @@
 -- A tick of the code is a tick: what the desk and the machines made of a node is what the definition says.
 use Rattle.std.proofs.Common.{◌≡◌, ◌∙◌, ℕ, Bool, true, false, ◌&&◌, List, is_none, refl, sym, ap, if◌then◌else◌}
 use Rattle.std.specs.List.{list_any}
-use Rattle.lock_desk.specs.Desk.{DeskView, desk_ticked}
+use Rattle.lock_desk.specs.Desk.{desk_ticked}
+use Rattle.lock_desk.specs.View.{DeskView}
 use Rattle.registers.specs.Registers.{RegistersView, port_of, value_of}
 use Rattle.euler_ring.specs.Cycle.{is_on, special}
 use Rattle.node_core.specs.Machines.{tree_of, may_move, moved_value, is_node_privileged}

@@ -1,7 +1,9 @@
 pub mod Site
 pub mod State
+pub mod Writes
 pub mod Machines
 pub mod Step
+pub mod Rewire
 pub mod Status
 pub mod OnRegisters
 pub mod View

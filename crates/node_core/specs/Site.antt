@@ -4,7 +4,8 @@ use Rattle.topology.specs.Network.{Network, neighbours_of}
 use Rattle.topology.specs.Ranges.{ranges_of}
 use Rattle.topology.specs.declared.frame.Ranges.{Ranges}
 
--- a node's id, whether it is the root, the ranges of its fields, the length of a loan, and its neighbours, ascending
+-- a node's id, whether it is the root, the ranges of its fields, the length of a loan, and its
+-- neighbours, ascending
 pub record Site : Type 0 where
   pub id : ℕ
   pub is_root : Bool

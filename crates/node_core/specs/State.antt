@@ -1,14 +1,14 @@
--- The state of one node.
-use Rattle.std.specs.Prelude.{ℕ, ◌<◌, ◌≤◌, Bool, ◌&&◌, nat_le, Option, None, IsTrue, All}
-use Rattle.topology.specs.At.{at}
+-- The state of one node, its range, and how it begins.
+use Rattle.std.specs.Prelude.{ℕ, ◌<◌, ◌≤◌, Option, None, IsTrue, All}
 use Rattle.topology.specs.Ranges.{parent_fits}
 use Rattle.topology.specs.declared.frame.Ranges.{Ranges}
 use Rattle.data_link.specs.Port.{PortState, port_fits, default_port}
 use Rattle.lock_desk.specs.Desk.{DeskState, desk_fits, no_desk}
 use Rattle.node_core.specs.Site.{Site}
 
--- A node's distance and parent; by the neighbour's id its port, and the value of the machine that comes in from there; its lock desk.
-pub record NodeState : Type 0 where
+-- A node's distance and parent; by the neighbour's id its port, and the value of the machine that
+-- comes in from there; its lock desk.
+pub record LocalState : Type 0 where
   pub distance : ℕ
   pub parent : Option ℕ
   pub port : ℕ → PortState
@@ -16,7 +16,7 @@ pub record NodeState : Type 0 where
   pub desk : DeskState
 
 -- Each field is in its range; of the ports and values, those of neighbours.
-pub record IsNodeInRange (site : Site) (s : NodeState) : Type 0 where
+pub record IsNodeInRange (site : Site) (s : LocalState) : Type 0 where
   pub distance : s.distance ≤ site.ranges.nodes
   pub parent : IsTrue (parent_fits site.ranges.nodes s.parent)
   pub ports : All (λ w. IsTrue (port_fits site.ranges (s.port w))) site.neighbours
@@ -24,7 +24,7 @@ pub record IsNodeInRange (site : Site) (s : NodeState) : Type 0 where
   pub desk : IsTrue (desk_fits site.lease s.desk)
 
 -- what a node starts with: the greatest distance, no parent, zeros, and an empty desk
-abbrev pub default_node : Ranges → NodeState
+abbrev pub default_node : Ranges → LocalState
 default_node ranges = record {
   distance = ranges.nodes;
   parent = None;
@@ -32,11 +32,3 @@ default_node ranges = record {
   value = λ w. 0;
   desk = no_desk;
 }
-
--- a distance is at most the number of nodes, and a parent is none or a node
-abbrev pub own_fits : Ranges → ℕ → Option ℕ → Bool
-own_fits ranges distance parent = nat_le distance ranges.nodes && parent_fits ranges.nodes parent
-
--- the state with another port to w
-abbrev pub with_port : NodeState → ℕ → PortState → NodeState
-with_port s w p = record s { port = at s.port w p }

@@ -1,7 +1,7 @@
 -- The line of text that shows a node.
 use Rattle.std.specs.Prelude.{ℕ, Bool, true, false, List, ◌++◌, length, Option, Some, None, codes, decimal}
 use Rattle.node_core.specs.Site.{Site}
-use Rattle.node_core.specs.State.{NodeState}
+use Rattle.node_core.specs.State.{LocalState}
 use Rattle.node_core.specs.Machines.{is_node_privileged}
 
 -- an id or a ticket as a decimal number, and `none` where there is none
@@ -13,9 +13,9 @@ abbrev pub yes_or_no : Bool → List ℕ
 yes_or_no true = codes "yes"
 yes_or_no false = codes "no"
 
--- `node V distance D parent P token T lent L waiting W` and a newline: T is yes where the node is privileged, L the ticket that the lock is lent to, W the
--- number of those that wait
-abbrev pub status_line : Site → NodeState → List ℕ
+-- `node V distance D parent P token T lent L waiting W` and a newline: T is yes where the node is
+-- privileged, L the ticket that the lock is lent to, W the number of those that wait
+abbrev pub status_line : Site → LocalState → List ℕ
 status_line site s =
     codes "node " ++ decimal site.id
     ++ codes " distance " ++ decimal s.distance

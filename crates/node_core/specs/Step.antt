@@ -3,47 +3,53 @@ use Rattle.std.specs.Prelude.{ℕ, Bool, true, ◌&&◌, is_none, if◌then◌el
 use Rattle.euler_ring.specs.Cycle.{is_on}
 use Rattle.topology.specs.At.{at}
 use Rattle.topology.specs.Ranges.{frame_fits}
+use Rattle.topology.specs.declared.frame.Frame.{Frame}
 use Rattle.topology.specs.declared.frame.Ranges.{Ranges}
 use Rattle.link_model.specs.declared.item.Item.{Item}
-use Rattle.link_model.specs.declared.item.Item.TheVariants.{Frame, Noise}
+use Rattle.link_model.specs.declared.item.Item.TheVariants as item
 use Rattle.data_link.specs.Port.{port_after}
 use Rattle.bfs_tree.specs.Step.{new_distance, new_parent}
 use Rattle.lock_desk.specs.Desk.{desk_ticked}
 use Rattle.node_core.specs.Site.{Site}
-use Rattle.node_core.specs.State.{NodeState}
+use Rattle.node_core.specs.State.{LocalState}
 use Rattle.node_core.specs.Machines.{tree_of, may_move, moved_value, is_node_privileged, payload_for}
 
 -- an item is noise, or a frame whose fields are in range
 abbrev pub item_fits : Ranges → Item → Bool
-item_fits r (Frame f) = frame_fits r f
-item_fits r Noise = true
+item_fits r (item.Frame f) = frame_fits r f
+item_fits r item.Noise = true
 
--- a frame from neighbour w is taken at that port, and what the node says to w before it may be staged; noise changes nothing
-abbrev pub taken : Site → ℕ → Item → NodeState → NodeState
-taken site w (Frame f) s = record s { port = at s.port w (port_after site.ranges.counter (s.port w) f (payload_for site s w)) }
-taken site w Noise s = s
+-- a frame from neighbour w at its port, where what the node says to w before it may be staged
+abbrev pub heard : Site → ℕ → Frame → LocalState → LocalState
+heard site w f s = record s { port = at s.port w (port_after site.ranges.counter (s.port w) f (payload_for site s w)) }
+
+-- an item from neighbour w: a frame in range is heard; a frame out of range changes nothing, nor
+-- does noise
+abbrev pub taken : Site → ℕ → Item → LocalState → LocalState
+taken site w (item.Frame f) s = if frame_fits site.ranges f then heard site w f s else s
+taken site w item.Noise s = s
 
 -- a node's copied distance of its neighbour w
-abbrev pub copied_distance : NodeState → ℕ → ℕ
+abbrev pub copied_distance : LocalState → ℕ → ℕ
 copied_distance s w = (s.port w).copy.distance
 
 -- first part of a tick: distance and parent follow from the copies
-abbrev pub recomputed : Site → NodeState → NodeState
+abbrev pub recomputed : Site → LocalState → LocalState
 recomputed site s = record s {
   distance = new_distance site.is_root site.ranges.nodes (copied_distance s) site.neighbours;
   parent = new_parent site.is_root (copied_distance s) site.neighbours;
 }
 
 -- second and third part: the desk ends a loan or begins one
-abbrev pub desk_done : Site → NodeState → NodeState
+abbrev pub desk_done : Site → LocalState → LocalState
 desk_done site s = record s { desk = desk_ticked site.lease (is_node_privileged site s) s.desk }
 
 -- last part: where the desk lends to nobody, each machine that may move does, all at once
-abbrev pub machines_moved : Site → NodeState → NodeState
+abbrev pub machines_moved : Site → LocalState → LocalState
 machines_moved site s = record s {
   value = λ t. if is_none s.desk.lent && (is_on (tree_of site s) t && may_move site s t) then moved_value site s t else s.value t;
 }
 
 -- a tick
-abbrev pub ticked : Site → NodeState → NodeState
+abbrev pub ticked : Site → LocalState → LocalState
 ticked site s = machines_moved site (desk_done site (recomputed site s))

@@ -1,7 +1,10 @@
-//! One node of the network: its distance and parent, its ports, its machines and its lock desk, and what it does with them.
+//! One node of the network: its distance and parent, its ports, its machines and its lock desk, and
+//! what it does with them.
 //!
-//! A [`Node`] is moved by four calls: it takes an item that a neighbour sent (`take`), it ticks (`tick`), and its clients `ask` and `leave`. What it
-//! sends is `frame_for` a neighbour. All that it knows of the network is its own id, whether it is the root, the ranges of numbers, and its neighbours' ids.
+//! A [`Node`] is moved by four calls: it takes an item that a neighbour sent (`take`), it ticks
+//! (`tick`), and its clients `ask` and `leave`. What it sends is `frame_for` a neighbour. All that
+//! it knows of the network is its own id, whether it is the root, the ranges of numbers, and its
+//! neighbours' ids.
 //!
 //! ```
 //! let mut node = Node::new(alloc, &net, 1)?;
@@ -9,15 +12,20 @@
 //! node.take(0, &Item::Frame(frame));     // what neighbour 0 sent
 //! ```
 //!
-//! This is no network and no thread: who calls when, and what becomes of a frame under way, stands elsewhere. Every state in range is a possible start, so no
-//! call rests on how the state came about.
+//! This is no network and no thread: who calls when, and what becomes of a frame under way, stands
+//! elsewhere. Every state in range is a possible start, so no call rests on how the state came
+//! about.
 //!
-//! The traps: what a node says to a neighbour is what it had to say *before* the frame that it takes; and a node that lends does not let the token go, so its machines
-//! stand still until a tick after which it lends to nobody.
+//! The traps: what a node says to a neighbour is what it had to say *before* the frame that it
+//! takes; and a node that lends does not let the token go, so its machines stand still until a tick
+//! after which it lends to nobody.
 //!
-//! `Node::new` reserves all memory. No other call takes any, and none copies the state.
+//! `Node::new` reserves all memory. No other call takes any (that is tested, and not part of the
+//! contracts), and none copies the state. `rewire` gives a node the neighbours that it has in a
+//! network whose edges have changed.
 //!
-//! Source: Dijkstra, Self-stabilizing systems in spite of distributed control, 1974; Dolev, Self-Stabilization, 2000.
+//! Source: Dijkstra, Self-stabilizing systems in spite of distributed control, 1974; Dolev,
+//! Self-Stabilization, 2000.
 #![tactic(auto)]
 
 mod machines;

@@ -12,7 +12,8 @@ use std::alloc::Allocator;
 
 /// The neighbours on the tree, by the node's own parent and the copied ones.
 pub fn tree<A: Allocator>(registers: &Registers<A>, parent: Option<u16>, id: u16) -> TreeNeighbours
-    ensures tree { result ≡ tree_neighbours parent id registers.now.neighbours (λ w. (port_of registers.now w).copy.parent) }
+    ensures tree { result
+        ≡ tree_neighbours parent id registers.now.neighbours (λ w. (port_of registers.now w).copy.parent) }
     ensures within { IsTreeWithin registers.now result }
 {
     tree_neighbours(parent, id, registers.neighbours(), |w| {
@@ -67,10 +68,12 @@ pub fn some_may_move<A: Allocator>(
     false
 }
 
-/// The ring value for `w`: that of the machine which leaves towards `w`, and 0 where `w` is no tree neighbour.
+/// The ring value for `w`: that of the machine which leaves towards `w`, and 0 where `w` is no tree
+/// neighbour.
 pub fn ring_for<A: Allocator>(registers: &Registers<A>, tree: &TreeNeighbours, w: u16) -> u16
     requires { IsTreeWithin registers.now tree.now }
-    ensures value { result ≡ (if is_on tree.now w then value_of registers.now (source_for tree.now w) else 0) }
+    ensures value { result
+        ≡ (if is_on tree.now w then value_of registers.now (source_for tree.now w) else 0) }
     ensures below { result < registers.now.ranges.ring }
 {
     if tree.contains(w) {
@@ -80,14 +83,16 @@ pub fn ring_for<A: Allocator>(registers: &Registers<A>, tree: &TreeNeighbours, w
     }
 }
 
-/// Moves each machine that may move. Each reads its own value and its own port's copy alone, so the order is no matter.
+/// Moves each machine that may move. Each reads its own value and its own port's copy alone, so the
+/// order is no matter.
 pub fn move_machines<A: Allocator>(
     registers: &mut Registers<A>,
     tree: &TreeNeighbours,
     is_root: bool,
 )
     requires { IsTreeWithin registers.old tree.now }
-    ensures values { value_of registers.new ≡ values_moved registers.old tree.now (special is_root tree.now) }
+    ensures values { value_of registers.new
+        ≡ values_moved registers.old tree.now (special is_root tree.now) }
     ensures rest { registers.new ≡ record registers.old { values = registers.new.values } }
 {
     let chosen = tree.special(is_root);

@@ -1,13 +1,18 @@
 //! One node.
 ghost use Rattle.std.specs.Prelude.{◌≡◌, ◌↔◌, ◌<◌, ◌≤◌, ℕ, Bool, true, false, not, List, IsTrue, IfOk, IfErr, IsOk, OnOk, OnErr, Some, None, is_none, Contains, length, take, drop};
 ghost use Rattle.topology.specs.At.{at};
+ghost use Rattle.topology.specs.Network.{neighbours_of};
 ghost use Rattle.topology.specs.Ranges.{frame_fits, payload_fits, parent_fits, ranges_of};
 ghost use Rattle.data_link.specs.Port.{counters_fit, frame_of};
-ghost use Rattle.lock_desk.specs.Desk.{ask_fault, asked, desk_act, is_stranger, after_leave, loan_fits, with_loan};
+ghost use Rattle.lock_desk.specs.Desk.{ask_fault, asked, is_stranger, after_leave, loan_fits, with_loan};
+ghost use Rattle.lock_desk.specs.Act.{desk_act};
+ghost use Rattle.lock_desk.specs.Queue.{queue_fits, with_queue};
 ghost use Rattle.node_core.specs.Site.{site_of};
-ghost use Rattle.node_core.specs.State.{IsNodeInRange, default_node, own_fits, with_port};
+ghost use Rattle.node_core.specs.State.{IsNodeInRange, default_node};
+ghost use Rattle.node_core.specs.Writes.{own_fits, with_port};
 ghost use Rattle.node_core.specs.Machines.{is_node_privileged, payload_for};
-ghost use Rattle.node_core.specs.Step.{desk_done, item_fits, machines_moved, recomputed, taken, ticked};
+ghost use Rattle.node_core.specs.Step.{desk_done, machines_moved, recomputed, taken, ticked};
+ghost use Rattle.node_core.specs.Rewire.{rewired};
 ghost use Rattle.node_core.specs.Status.{status_line};
 ghost use Rattle.node_core.specs.View.{NodeView, site_in, state_of};
 
@@ -50,8 +55,9 @@ impl<A: Allocator> Model for Node<A> {
 }
 
 impl<A: Allocator + Copy> Node<A> {
-    /// A node that knows nothing yet: the greatest distance, no parent, zeros, and an empty desk. All memory that a node ever needs is reserved here;
-    /// `AllocError` comes only where that is refused.
+    /// A node that knows nothing yet: the greatest distance, no parent, zeros, and an empty desk.
+    /// All memory that a node ever needs is reserved here; `AllocError` comes only where that is
+    /// refused.
     pub fn new<N: Allocator + Copy>(alloc: A, net: &Net<N>, id: u16) -> Result<Node<A>, AllocError>
         requires { id < net.now.nodes }
         ensures site { IfOk result (λ node. site_in node ≡ site_of net.now id) }
@@ -184,7 +190,7 @@ impl<A: Allocator> Node<A> {
         self.desk.left()
     }
 
-    /// Whether the desk lent the lock since its last full tick.
+    /// Whether a loan ended since the last full tick; until the next one the desk lends to nobody.
     pub fn served(&self) -> bool
         ensures { result ≡ (state_of self.now).desk.served }
     {
@@ -215,22 +221,26 @@ impl<A: Allocator> Node<A> {
         self.registers.frame_for(port)
     }
 
-    /// A client's ticket asks for the lock. Refused as `Full` where 64 tickets wait, and else as `Twice` where this one waits or the lock is lent to it;
-    /// then nothing has changed.
+    /// A client's ticket asks for the lock. Refused as `Full` where 64 tickets wait, and else as
+    /// `Twice` where this one waits or the lock is lent to it; then nothing has changed.
     pub fn ask(&mut self, ticket: u16) -> Result<(), AskFault>
         ensures accepted { OnOk result (ask_fault ticket (state_of self.old).desk ≡ None) }
-        ensures asked { OnOk result (state_of self.new ≡ record (state_of self.old) { desk = asked ticket (state_of self.old).desk }) }
-        ensures refused { IfErr result (λ fault. ask_fault ticket (state_of self.old).desk ≡ Some fault) }
+        ensures asked { OnOk result (state_of self.new
+            ≡ record (state_of self.old) { desk = asked ticket (state_of self.old).desk }) }
+        ensures refused { IfErr result (λ fault. ask_fault ticket (state_of self.old).desk
+            ≡ Some fault) }
         ensures unchanged { OnErr result (self.new ≡ self.old) }
         ensures site { site_in self.new ≡ site_in self.old }
     {
         self.desk.ask(ticket)
     }
 
-    /// A client's ticket gives the lock back, or waits no longer. Refused where it does neither; then nothing has changed.
+    /// A client's ticket gives the lock back, or waits no longer. Refused where it does neither;
+    /// then nothing has changed.
     pub fn leave(&mut self, ticket: u16) -> Result<(), Stranger>
         ensures known { OnOk result (is_stranger ticket (state_of self.old).desk ≡ false) }
-        ensures left { OnOk result (state_of self.new ≡ record (state_of self.old) { desk = after_leave ticket (state_of self.old).desk }) }
+        ensures left { OnOk result (state_of self.new
+            ≡ record (state_of self.old) { desk = after_leave ticket (state_of self.old).desk }) }
         ensures refused { OnErr result (is_stranger ticket (state_of self.old).desk ≡ true) }
         ensures unchanged { OnErr result (self.new ≡ self.old) }
         ensures site { site_in self.new ≡ site_in self.old }
@@ -238,11 +248,12 @@ impl<A: Allocator> Node<A> {
         self.desk.leave(ticket)
     }
 
-    /// Writes the distance and the parent. `OutOfRange` comes exactly where the distance is above the number of nodes, or the parent is no node; then nothing
-    /// has changed.
+    /// Writes the distance and the parent. `OutOfRange` comes exactly where the distance is above
+    /// the number of nodes, or the parent is no node; then nothing has changed.
     pub fn set_own(&mut self, distance: u16, parent: Option<u16>) -> Result<(), OutOfRange>
         ensures variant { IsOk result ↔ IsTrue (own_fits (site_in self.old).ranges distance parent) }
-        ensures ok { OnOk result (state_of self.new ≡ record (state_of self.old) { distance = distance; parent = parent }) }
+        ensures ok { OnOk result (state_of self.new
+            ≡ record (state_of self.old) { distance = distance; parent = parent }) }
         ensures out_of_range { OnErr result (self.new ≡ self.old) }
         ensures site { site_in self.new ≡ site_in self.old }
     {
@@ -255,60 +266,84 @@ impl<A: Allocator> Node<A> {
         Ok(())
     }
 
-    /// Writes both numbers of the neighbour `port`. `OutOfRange` comes exactly where one is not below the counters' modulus; then nothing has changed.
+    /// Writes both numbers of the neighbour `port`. `OutOfRange` comes exactly where one is not
+    /// below the counters' modulus; then nothing has changed.
     pub fn set_counters(&mut self, port: u16, seq: u16, last: u16) -> Result<(), OutOfRange>
         requires { Contains (site_in self.old).neighbours port }
         ensures variant { IsOk result ↔ IsTrue (counters_fit (site_in self.old).ranges seq last) }
-        ensures ok { OnOk result (state_of self.new ≡ with_port (state_of self.old) port (record ((state_of self.old).port port) { seq = seq; last = last })) }
+        ensures ok { OnOk result (state_of self.new
+            ≡ with_port (state_of self.old) port (record ((state_of self.old).port port) { seq = seq; last = last })) }
         ensures out_of_range { OnErr result (self.new ≡ self.old) }
         ensures site { site_in self.new ≡ site_in self.old }
     {
         self.registers.set_counters(port, seq, last)
     }
 
-    /// Writes the staged payload for the neighbour `port`. `OutOfRange` comes exactly where a field of it is not in its range; then nothing has changed.
+    /// Writes the staged payload for the neighbour `port`. `OutOfRange` comes exactly where a field
+    /// of it is not in its range; then nothing has changed.
     pub fn set_staged(&mut self, port: u16, payload: Payload) -> Result<(), OutOfRange>
         requires { Contains (site_in self.old).neighbours port }
         ensures variant { IsOk result ↔ IsTrue (payload_fits (site_in self.old).ranges payload) }
-        ensures ok { OnOk result (state_of self.new ≡ with_port (state_of self.old) port (record ((state_of self.old).port port) { staged = payload })) }
+        ensures ok { OnOk result (state_of self.new
+            ≡ with_port (state_of self.old) port (record ((state_of self.old).port port) { staged = payload })) }
         ensures out_of_range { OnErr result (self.new ≡ self.old) }
         ensures site { site_in self.new ≡ site_in self.old }
     {
         self.registers.set_staged(port, payload)
     }
 
-    /// Writes the copy of what the neighbour `port` said last. `OutOfRange` comes exactly where a field of it is not in its range; then nothing has changed.
+    /// Writes the copy of what the neighbour `port` said last. `OutOfRange` comes exactly where a
+    /// field of it is not in its range; then nothing has changed.
     pub fn set_copy(&mut self, port: u16, payload: Payload) -> Result<(), OutOfRange>
         requires { Contains (site_in self.old).neighbours port }
         ensures variant { IsOk result ↔ IsTrue (payload_fits (site_in self.old).ranges payload) }
-        ensures ok { OnOk result (state_of self.new ≡ with_port (state_of self.old) port (record ((state_of self.old).port port) { copy = payload })) }
+        ensures ok { OnOk result (state_of self.new
+            ≡ with_port (state_of self.old) port (record ((state_of self.old).port port) { copy = payload })) }
         ensures out_of_range { OnErr result (self.new ≡ self.old) }
         ensures site { site_in self.new ≡ site_in self.old }
     {
         self.registers.set_copy(port, payload)
     }
 
-    /// Writes the value of the machine that comes in from the neighbour `port`. `OutOfRange` comes exactly where it is not below the ring values' modulus;
-    /// then nothing has changed.
+    /// Writes the value of the machine that comes in from the neighbour `port`. `OutOfRange` comes
+    /// exactly where it is not below the ring values' modulus; then nothing has changed.
     pub fn set_value(&mut self, port: u16, value: u16) -> Result<(), OutOfRange>
         requires { Contains (site_in self.old).neighbours port }
         ensures variant { IsOk result ↔ (value < (site_in self.old).ranges.ring) }
-        ensures ok { OnOk result (state_of self.new ≡ record (state_of self.old) { value = at (state_of self.old).value port value }) }
+        ensures ok { OnOk result (state_of self.new
+            ≡ record (state_of self.old) { value = at (state_of self.old).value port value }) }
         ensures out_of_range { OnErr result (self.new ≡ self.old) }
         ensures site { site_in self.new ≡ site_in self.old }
     {
         self.registers.set_value(port, value)
     }
 
-    /// Writes the loan. `OutOfRange` comes exactly where its ticket waits, where more is left than the lease, or where anything is left of no loan; then
-    /// nothing has changed.
+    /// Writes the loan. `OutOfRange` comes exactly where its ticket waits, where more is left than
+    /// the lease, or where anything is left of no loan; then nothing has changed.
     pub fn set_desk(&mut self, lent: Option<u16>, left: u16, served: bool) -> Result<(), OutOfRange>
         ensures variant { IsOk result ↔ IsTrue (loan_fits (site_in self.old).lease (state_of self.old).desk lent left) }
-        ensures ok { OnOk result (state_of self.new ≡ record (state_of self.old) { desk = with_loan (state_of self.old).desk lent left served }) }
+        ensures ok { OnOk result (state_of self.new
+            ≡ record (state_of self.old) { desk = with_loan (state_of self.old).desk lent left served }) }
         ensures out_of_range { OnErr result (self.new ≡ self.old) }
         ensures site { site_in self.new ≡ site_in self.old }
     {
         match self.desk.set_loan(lent, left, served) {
+            Ok(()) => Ok(()),
+            Err(_refused) => Err(OutOfRange),
+        }
+    }
+
+    /// Writes the tickets that wait, the next one first. `OutOfRange` comes exactly where they are
+    /// more than 64, where one stands twice, or where one of them borrows; then nothing has
+    /// changed.
+    pub fn set_waiting(&mut self, tickets: &[u16]) -> Result<(), OutOfRange>
+        ensures variant { IsOk result ↔ IsTrue (queue_fits tickets.now (state_of self.old).desk.lent) }
+        ensures ok { OnOk result (state_of self.new
+            ≡ record (state_of self.old) { desk = with_queue (state_of self.old).desk tickets.now }) }
+        ensures out_of_range { OnErr result (self.new ≡ self.old) }
+        ensures site { site_in self.new ≡ site_in self.old }
+    {
+        match self.desk.set_waiting(tickets) {
             Ok(()) => Ok(()),
             Err(_refused) => Err(OutOfRange),
         }
@@ -327,18 +362,38 @@ impl<A: Allocator> Node<A> {
         }
     }
 
-    /// Takes an item that the neighbour `port` sent. Noise changes nothing. Of a frame, what the node had to say *before* it is staged where the frame
-    /// acknowledges the port's number; then its payload is copied where its number is new. No other port changes.
+    /// Takes an item that the neighbour `port` sent. Noise changes nothing, nor does a frame with a
+    /// field out of its range. Of any other frame, what the node had to say *before* it is staged
+    /// where the frame acknowledges the port's number; then its payload is copied where its number
+    /// is new. No other port changes.
     pub fn take(&mut self, port: u16, item: &Item)
-        requires neighbour { Contains (site_in self.old).neighbours port }
-        requires fits { IsTrue (item_fits (site_in self.old).ranges item.now) }
-        ensures state { state_of self.new ≡ taken (site_in self.old) port item.now (state_of self.old) }
+        requires { Contains (site_in self.old).neighbours port }
+        ensures state { state_of self.new
+            ≡ taken (site_in self.old) port item.now (state_of self.old) }
         ensures site { site_in self.new ≡ site_in self.old }
     {
-        if let Item::Frame(frame) = item {
-            let present = self.payload_for(port);
-            let _heard = self.registers.hear(port, frame, present);
+        let Item::Frame(frame) = item else {
+            return;
+        };
+        if !self.registers.ranges().fits(frame) {
+            return;
         }
+        let present = self.payload_for(port);
+        let _heard = self.registers.hear(port, frame, present);
+    }
+
+    /// Takes up the neighbours that it has in a network with the same nodes, root, capacity and
+    /// lease (`Net::same_frame`). The port and the value of a neighbour that stays are kept whole,
+    /// those of a new one are as at the start, and those of one that is gone are dropped. Distance,
+    /// parent and desk stay.
+    pub fn rewire<N: Allocator + Copy>(&mut self, net: &Net<N>)
+        requires { site_of net.now (site_in self.old).id
+            ≡ record (site_in self.old) { neighbours = neighbours_of net.now (site_in self.old).id } }
+        ensures state { state_of self.new
+            ≡ rewired (site_in self.old).ranges (site_in self.old).neighbours (neighbours_of net.now (site_in self.old).id) (state_of self.old) }
+        ensures site { site_in self.new ≡ site_of net.now (site_in self.old).id }
+    {
+        self.registers.rewire(net, self.id);
     }
 
     /// Whether one of its machines may move.
@@ -360,9 +415,11 @@ impl<A: Allocator> Node<A> {
         self.parent = own.1;
     }
 
-    /// Second and last part of a tick: the desk ends a loan or begins one, and where it then lends to nobody, each machine that may move does.
+    /// Second and last part of a tick: the desk ends a loan or begins one, and where it then lends
+    /// to nobody, each machine that may move does.
     fn serve(&mut self) -> Ticked
-        ensures state { state_of self.new ≡ machines_moved (site_in self.old) (desk_done (site_in self.old) (state_of self.old)) }
+        ensures state { state_of self.new
+            ≡ machines_moved (site_in self.old) (desk_done (site_in self.old) (state_of self.old)) }
         ensures site { site_in self.new ≡ site_in self.old }
         ensures act { result.act ≡ desk_act (state_of self.old).desk (state_of self.new).desk }
         ensures full { result.full ≡ is_none (state_of self.new).desk.lent }
@@ -378,8 +435,8 @@ impl<A: Allocator> Node<A> {
         Ticked { act, full }
     }
 
-    /// One tick, in this order: distance and parent follow from the copies; the desk ends a loan or begins one; and where it then lends to nobody, each
-    /// machine that may move does.
+    /// One tick, in this order: distance and parent follow from the copies; the desk ends a loan or
+    /// begins one; and where it then lends to nobody, each machine that may move does.
     pub fn tick(&mut self) -> Ticked
         ensures state { state_of self.new ≡ ticked (site_in self.old) (state_of self.old) }
         ensures site { site_in self.new ≡ site_in self.old }
@@ -390,8 +447,9 @@ impl<A: Allocator> Node<A> {
         self.serve()
     }
 
-    /// Writes the node's status line, with its newline, to the front of `line` and says how many bytes it has; the rest stays as it was. The line is
-    /// `node V distance D parent P token T lent L waiting W`: T is `yes` where the node is privileged and else `no`, P and L may be `none`.
+    /// Writes the node's status line, with its newline, to the front of `line` and says how many
+    /// bytes it has; the rest stays as it was. The line is `node V distance D parent P token T lent
+    /// L waiting W`: T is `yes` where the node is privileged and else `no`, P and L may be `none`.
     pub fn status(&self, line: &mut [u8; 96]) -> usize
         ensures text { take result line.new ≡ status_line (site_in self.now) (state_of self.now) }
         ensures rest { drop result line.new ≡ drop result line.old }

@@ -1,3 +1,4 @@
 pub mod Places
+pub mod Rewired
 mod Rows
 pub mod Start

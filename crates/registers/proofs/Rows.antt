@@ -1,8 +1,9 @@
 -- The registers of node 0 of two.
 use Rattle.std.proofs.Common.{◌≡◌, ℕ, ◌<◌, [], ◌∷◌, refl, arith}
 use Rattle.topology.specs.declared.frame.Ranges.{Ranges}
-use Rattle.data_link.specs.Port.{PortView, default_port}
+use Rattle.data_link.specs.Port.{PortState, PortView, default_port}
 use Rattle.registers.specs.Registers.{RegistersView, IsRegisters, port_of, value_of}
+use Rattle.registers.specs.Rewire.{rewired_ports, rewired_values}
 
 abbrev ranges : Ranges
 ranges = record { nodes = 2; counter = 5; ring = 7 }
@@ -31,3 +32,19 @@ not_from_itself : IsRegisters (record (with_value 3) { values = 4 ∷ 3 ∷ [] }
 not_from_itself h =
     let none : 4 ≡ 0 = h.other_values 0 (λ near. grind arith) in
     omega (arith, none)
+
+-- neighbours 1 and 2 before, 2 and 3 after: what 2 has stays, and 1 and 3 are as at the start
+stays_with_2 : rewired_values (1 ∷ 2 ∷ []) (2 ∷ 3 ∷ []) (λ w. 5) 2 ≡ 5
+stays_with_2 = refl
+
+gone_with_1 : rewired_values (1 ∷ 2 ∷ []) (2 ∷ 3 ∷ []) (λ w. 5) 1 ≡ 0
+gone_with_1 = refl
+
+new_with_3 : rewired_values (1 ∷ 2 ∷ []) (2 ∷ 3 ∷ []) (λ w. 5) 3 ≡ 0
+new_with_3 = refl
+
+kept_port : (port : ℕ → PortState) → rewired_ports ranges (1 ∷ 2 ∷ []) (2 ∷ 3 ∷ []) port 2 ≡ port 2
+kept_port port = refl
+
+dropped_port : (port : ℕ → PortState) → rewired_ports ranges (1 ∷ 2 ∷ []) (2 ∷ 3 ∷ []) port 1 ≡ default_port ranges
+dropped_port port = refl

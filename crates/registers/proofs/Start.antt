@@ -37,7 +37,7 @@ port_of-start net v = fun_ext (λ w. ap (λ p. p.state) (same_read net.nodes w (
 pub value_of-start : (net : Network) (v : ℕ) → value_of (start_of net v) ≡ (λ w. 0)
 value_of-start net v = fun_ext (λ w. same_read net.nodes w 0)
 
-default_fits : (net : Network) → IsAcceptedNetwork net → IsPortOf (ranges_of net) (default_view net)
+pub default_fits : (net : Network) → IsAcceptedNetwork net → IsPortOf (ranges_of net) (default_view net)
 default_fits net ok = record { same = refl; fits = search (rules, arith) }
 
 pub registers-start : (net : Network) (v : ℕ) → IsAcceptedNetwork net → IsRegisters (start_of net v)

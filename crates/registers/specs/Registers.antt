@@ -4,8 +4,8 @@ use Rattle.std.specs.List.Sorted.{IsStrictlyIncreasing}
 use Rattle.topology.specs.declared.frame.Ranges.{Ranges}
 use Rattle.data_link.specs.Port.{PortState, PortView, port_fits, default_port}
 
--- The ranges of all fields, the ids of the neighbours, ascending, and for each node id a port to that node and the value of the machine that comes in
--- from it.
+-- The ranges of all fields, the ids of the neighbours, ascending, and for each node id a port to
+-- that node and the value of the machine that comes in from it.
 pub record RegistersView : Type 0 where
   pub ranges : Ranges
   pub neighbours : List ℕ
@@ -25,8 +25,8 @@ pub record IsPortOf (ranges : Ranges) (p : PortView) : Type 0 where
   pub same : p.ranges ≡ ranges
   pub fits : IsTrue (port_fits ranges p.state)
 
--- At most 64 nodes, and one place for each; each port and value is in its range; the neighbours are nodes, ascending; and the place of a node that is no neighbour is as at
--- the start.
+-- At most 64 nodes, and one place for each; each port and value is in its range; the neighbours are
+-- nodes, ascending; and the place of a node that is no neighbour is as at the start.
 pub record IsRegisters (r : RegistersView) : Type 0 where
   pub most : r.ranges.nodes ≤ 64
   pub some_values : 0 < r.ranges.ring

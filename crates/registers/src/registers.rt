@@ -1,18 +1,20 @@
 //! The registers of one node.
-ghost use Rattle.std.specs.Prelude.{◌≡◌, ◌↔◌, ◌<◌, ◌≤◌, ℕ, List, IsTrue, IfOk, IsOk, OnOk, OnErr, Contains, replicate};
+ghost use Rattle.std.specs.Prelude.{◌≡◌, ◌↔◌, ◌<◌, ◌≤◌, ℕ, List, IsTrue, IfOk, Bool, IsOk, OnOk, OnErr, Contains, length, nat_lt, not, ◌&&◌, if◌then◌else◌, replicate, slice_index, slice_index_or};
 ghost use Rattle.std.specs.Vec.{vec_capacity};
 ghost use Rattle.topology.specs.At.{at};
 ghost use Rattle.topology.specs.Network.{neighbours_of};
 ghost use Rattle.topology.specs.Ranges.{frame_fits, payload_fits, ranges_of};
-ghost use Rattle.data_link.specs.Port.{PortState, counters_fit, default_port, frame_of, heard_of, port_after};
+ghost use Rattle.data_link.specs.Port.{PortState, PortView, counters_fit, default_port, frame_of, heard_of, port_after};
 ghost use Rattle.registers.specs.Registers.{RegistersView, IsRegisters, port_of, value_of};
+ghost use Rattle.registers.specs.Rewire.{is_among, port_or_new, rewired_ports, rewired_values};
 
 use data_link::{Heard, OutOfRange, Port};
 use std::alloc::{AllocError, Allocator, Global};
 use std::marker::Model;
 use topology::{Frame, Net, Payload, Ranges};
 
-/// What a node keeps of every other node: a port to it, and the value of the machine that comes in from it.
+/// What a node keeps of every other node: a port to it, and the value of the machine that comes in
+/// from it.
 #[derive(Drop)]
 pub struct Registers<A: Allocator = Global> {
     ranges: Ranges,
@@ -35,8 +37,8 @@ impl<A: Allocator> Model for Registers<A> {
 }
 
 impl<A: Allocator + Copy> Registers<A> {
-    /// The registers of a node that knows nothing yet. All places are reserved here, also for nodes that become neighbours later; `AllocError` comes only
-    /// where that memory is refused.
+    /// The registers of a node that knows nothing yet. All places are reserved here, also for nodes
+    /// that become neighbours later; `AllocError` comes only where that memory is refused.
     pub fn new<N: Allocator + Copy>(
         alloc: A,
         net: &Net<N>,
@@ -136,20 +138,23 @@ impl<A: Allocator> Registers<A> {
         self.ports[port as usize].frame()
     }
 
-    /// Takes a frame from the neighbour `port`; `present` is what the node had to say to it before the frame. No other port changes.
+    /// Takes a frame from the neighbour `port`; `present` is what the node had to say to it before
+    /// the frame. No other port changes.
     pub fn hear(&mut self, port: u16, frame: &Frame, present: Payload) -> Heard
         requires neighbour { Contains self.old.neighbours port }
         requires frame_fits { IsTrue (frame_fits self.old.ranges frame.now) }
         requires present_fits { IsTrue (payload_fits self.old.ranges present) }
-        ensures port { port_of self.new ≡ at (port_of self.old) port (port_after self.old.ranges.counter (port_of self.old port) frame.now present) }
+        ensures port { port_of self.new
+            ≡ at (port_of self.old) port (port_after self.old.ranges.counter (port_of self.old port) frame.now present) }
         ensures rest { self.new ≡ record self.old { ports = self.new.ports } }
         ensures heard { result ≡ heard_of (port_of self.old port) frame.now }
     {
-        data_link::laws::port_law();
+        data_link::laws::ports();
         self.ports[port as usize].on_frame(frame, present)
     }
 
-    /// Writes the value of the machine that comes in from the neighbour `port`, as a move of that machine does. No other value changes.
+    /// Writes the value of the machine that comes in from the neighbour `port`, as a move of that
+    /// machine does. No other value changes.
     pub fn write_value(&mut self, port: u16, value: u16)
         requires neighbour { Contains self.old.neighbours port }
         requires below { value < self.old.ranges.ring }
@@ -159,7 +164,8 @@ impl<A: Allocator> Registers<A> {
         self.values[port as usize] = value;
     }
 
-    /// Writes the value of the machine that comes in from the neighbour `port`. `OutOfRange` comes exactly where it is not below the ring values' modulus.
+    /// Writes the value of the machine that comes in from the neighbour `port`. `OutOfRange` comes
+    /// exactly where it is not below the ring values' modulus.
     pub fn set_value(&mut self, port: u16, value: u16) -> Result<(), OutOfRange>
         requires { Contains self.old.neighbours port }
         ensures variant { IsOk result ↔ (value < self.old.ranges.ring) }
@@ -174,37 +180,112 @@ impl<A: Allocator> Registers<A> {
         Ok(())
     }
 
-    /// Writes both numbers of the neighbour `port`. `OutOfRange` comes exactly where one is not below the counters' modulus.
+    /// Writes both numbers of the neighbour `port`. `OutOfRange` comes exactly where one is not
+    /// below the counters' modulus.
     pub fn set_counters(&mut self, port: u16, seq: u16, last: u16) -> Result<(), OutOfRange>
         requires { Contains self.old.neighbours port }
         ensures variant { IsOk result ↔ IsTrue (counters_fit self.old.ranges seq last) }
-        ensures port { OnOk result (port_of self.new ≡ at (port_of self.old) port (record (port_of self.old port) { seq = seq; last = last })) }
+        ensures port { OnOk result (port_of self.new
+            ≡ at (port_of self.old) port (record (port_of self.old port) { seq = seq; last = last })) }
         ensures rest { self.new ≡ record self.old { ports = self.new.ports } }
         ensures out_of_range { OnErr result (self.new ≡ self.old) }
     {
         self.ports[port as usize].set_counters(seq, last)
     }
 
-    /// Writes the staged payload for the neighbour `port`. `OutOfRange` comes exactly where a field of it is not in its range.
+    /// Writes the staged payload for the neighbour `port`. `OutOfRange` comes exactly where a field
+    /// of it is not in its range.
     pub fn set_staged(&mut self, port: u16, payload: Payload) -> Result<(), OutOfRange>
         requires { Contains self.old.neighbours port }
         ensures variant { IsOk result ↔ IsTrue (payload_fits self.old.ranges payload) }
-        ensures port { OnOk result (port_of self.new ≡ at (port_of self.old) port (record (port_of self.old port) { staged = payload })) }
+        ensures port { OnOk result (port_of self.new
+            ≡ at (port_of self.old) port (record (port_of self.old port) { staged = payload })) }
         ensures rest { self.new ≡ record self.old { ports = self.new.ports } }
         ensures out_of_range { OnErr result (self.new ≡ self.old) }
     {
         self.ports[port as usize].set_staged(payload)
     }
 
-    /// Writes the copy of what the neighbour `port` said last. `OutOfRange` comes exactly where a field of it is not in its range.
+    /// Writes the copy of what the neighbour `port` said last. `OutOfRange` comes exactly where a
+    /// field of it is not in its range.
     pub fn set_copy(&mut self, port: u16, payload: Payload) -> Result<(), OutOfRange>
         requires { Contains self.old.neighbours port }
         ensures variant { IsOk result ↔ IsTrue (payload_fits self.old.ranges payload) }
-        ensures port { OnOk result (port_of self.new ≡ at (port_of self.old) port (record (port_of self.old port) { copy = payload })) }
+        ensures port { OnOk result (port_of self.new
+            ≡ at (port_of self.old) port (record (port_of self.old port) { copy = payload })) }
         ensures rest { self.new ≡ record self.old { ports = self.new.ports } }
         ensures out_of_range { OnErr result (self.new ≡ self.old) }
     {
         self.ports[port as usize].set_copy(payload)
+    }
+
+    /// Takes up the neighbours that node `id` has in a network of the same ranges: the port and the
+    /// value of a neighbour that stays are kept whole, and those of a new one and of one that is
+    /// gone are as at the start.
+    pub fn rewire<N: Allocator + Copy>(&mut self, net: &Net<N>, id: u16)
+        requires node { id < net.now.nodes }
+        requires same_ranges { ranges_of net.now ≡ self.old.ranges }
+        ensures ranges { self.new.ranges ≡ self.old.ranges }
+        ensures neighbours { self.new.neighbours ≡ neighbours_of net.now id }
+        ensures ports { port_of self.new
+            ≡ rewired_ports self.old.ranges self.old.neighbours (neighbours_of net.now id) (port_of self.old) }
+        ensures values { value_of self.new
+            ≡ rewired_values self.old.neighbours (neighbours_of net.now id) (value_of self.old) }
+    {
+        let neighbours = net.neighbours(id);
+        let nodes = net.nodes();
+        write_ids(&mut self.neighbours, neighbours);
+        reset_others(&mut self.ports, nodes, neighbours);
+        clear_others(&mut self.values, nodes, neighbours);
+    }
+}
+
+/// Writes ids over those of the list.
+fn write_ids<A: Allocator>(list: &mut Vec<u16, A>, ids: &[u16])
+    requires { length ids.now ≤ vec_capacity list.old }
+    ensures ids { list.new.items ≡ ids.now }
+    ensures room { vec_capacity list.new ≡ vec_capacity list.old }
+{
+    list.clear();
+    for id in ids {
+        list.push_reserved(*id);
+    }
+}
+
+/// Whether a node is one of the neighbours.
+fn is_among(neighbours: &[u16], id: u16) -> bool
+    ensures { result ≡ is_among neighbours.now id }
+{
+    neighbours.iter().any(|neighbour| *neighbour == id)
+}
+
+/// Makes each port as at the start that is no neighbour's.
+fn reset_others(ports: &mut [Port], nodes: u16, neighbours: &[u16])
+    requires { length ports.old ≡ nodes }
+    ensures length { length ports.new ≡ length ports.old }
+    ensures each { (w : ℕ) (d : PortView)
+        → slice_index_or ports.new w d
+        ≡ port_or_new (nat_lt w nodes && not (is_among neighbours.now w)) (slice_index_or ports.old w d) }
+{
+    for w in 0..nodes {
+        if !is_among(neighbours, w) {
+            ports[usize::from(w)].reset();
+        }
+    }
+}
+
+/// Makes each value 0 that comes in from no neighbour.
+fn clear_others(values: &mut [u16], nodes: u16, neighbours: &[u16])
+    requires { length values.old ≡ nodes }
+    ensures length { length values.new ≡ length values.old }
+    ensures each { (w : ℕ)
+        → slice_index values.new w
+        ≡ (if nat_lt w nodes && not (is_among neighbours.now w) then 0 else slice_index values.old w) }
+{
+    for w in 0..nodes {
+        if !is_among(neighbours, w) {
+            values[usize::from(w)] = 0;
+        }
     }
 }
 
@@ -223,7 +304,8 @@ fn default_ports<A: Allocator, N: Allocator + Copy>(
     alloc: A,
     net: &Net<N>,
 ) -> Result<Vec<Port, A>, AllocError>
-    ensures { IfOk result (λ ports. ports.items ≡ replicate net.now.nodes (record { ranges = ranges_of net.now; state = default_port (ranges_of net.now) })) }
+    ensures { IfOk result (λ ports. ports.items
+        ≡ replicate net.now.nodes (record { ranges = ranges_of net.now; state = default_port (ranges_of net.now) })) }
 {
     let mut ports = Vec::with_capacity(alloc, usize::from(net.nodes()))?;
     for _ in 0..net.nodes() {

@@ -8,7 +8,7 @@ use Rattle.registers.proofs.registers.Registers.hear.Goals as goal
 pub invariant_of-self : goal.invariant_of-self
 invariant_of-self g c =
     let was : IsPortOf c.self.inside.ranges c.index_mut.result.now = search rules in
-    let heard : IsPortOf c.self.inside.ranges c.on_frame.new.self = search (rules, c.port_law.ensures, c.on_frame.ensures.port) in
+    let heard : IsPortOf c.self.inside.ranges c.on_frame.new.self = search (rules, c.ports.ensures, c.on_frame.ensures.port) in
     (c.self.invariant.0, registers-with_port _ _ _ c.self.invariant.1 (search rules) heard)
 
 -- src/registers.rt:128:5

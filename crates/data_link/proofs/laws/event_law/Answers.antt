@@ -1,9 +1,0 @@
-use Rattle.data_link.proofs.LinkSteps.{event-step}
-use Rattle.data_link.proofs.Ranges.{range-event}
-use Rattle.data_link.proofs.laws.event_law.Goals as goal
-
-pub returns-clause-ring : goal.returns-clause-ring
-returns-clause-ring c = event-step
-
-pub returns-clause-range : goal.returns-clause-range
-returns-clause-range c = range-event

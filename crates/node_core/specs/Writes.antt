@@ -1,0 +1,15 @@
+-- What the writers of a node ask for and make of its state.
+use Rattle.std.specs.Prelude.{ℕ, Bool, ◌&&◌, nat_le, Option}
+use Rattle.topology.specs.At.{at}
+use Rattle.topology.specs.Ranges.{parent_fits}
+use Rattle.topology.specs.declared.frame.Ranges.{Ranges}
+use Rattle.data_link.specs.Port.{PortState}
+use Rattle.node_core.specs.State.{LocalState}
+
+-- a distance is at most the number of nodes, and a parent is none or a node
+abbrev pub own_fits : Ranges → ℕ → Option ℕ → Bool
+own_fits ranges distance parent = nat_le distance ranges.nodes && parent_fits ranges.nodes parent
+
+-- the state with another port to w
+abbrev pub with_port : LocalState → ℕ → PortState → LocalState
+with_port s w p = record s { port = at s.port w p }
