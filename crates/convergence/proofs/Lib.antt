@@ -1,10 +1,7 @@
-mod Settled
-mod NodeEvents
-mod LegEvents
-mod RingEvents
-mod Carried
-mod HeadMoves
 mod Desks
 mod SaidWithin
 mod Whole
-mod Rows
+mod Visited
+mod Passes
+mod Served
+mod RowsServed

@@ -52,7 +52,7 @@ pub payloads-converge : Below → PayloadsConverge
 payloads-converge b w first es u v r undamaged joined early three =
     let p = b.parts w first es undamaged in
     let mid = run w first in
-    let on : are_joined mid.net.edges u v ≡ true = ap (λ n. are_joined n.edges u v) (b.network w first) ∙ joined in
+    let on : are_joined mid.net.edges u v ≡ true = ap (λ n. are_joined n.edges u v) (b.network w first p.0) ∙ joined in
     let said = said_in mid es u v in
     let f = b.fresh (was_said said) mid es u v (b.ranges w first r) p.1 on (b.links w first r p.0 early u v on) three (always-said said mid es u v (λ p h. h)) in (
       Contains-from_any same-are (((run mid es).node u).port v).staged said f.0,

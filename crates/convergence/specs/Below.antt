@@ -1,42 +1,41 @@
--- What this crate knows of the layers below: each field is a law of one of them, and nothing else of them is used.
-use Rattle.topology.specs.Laws.{JoinedBack, JoinedAreNodes, NeighboursAreJoined, DistanceIs, ParentIs, EachTree}
-use Rattle.k_state.specs.Laws as ring
-use Rattle.euler_ring.specs.Laws.{OwnViewIsTrue}
-use Rattle.lock_desk.specs.Laws.{LoansNeedPrivilege, OnlyTicksLend}
+-- What this crate knows of the layers below: each field is a law of one of them, and nothing else
+-- of them is used.
+use Rattle.topology.specs.Laws.{DistanceIs, ParentIs, EachTree}
+use Rattle.lock_desk.specs.Laws.{LoansNeedPrivilege, PassesOnlyServed, FullTicksClear, FirstComeFirstServed}
 use Rattle.run_model.specs.Laws as run
-use Rattle.run_model.specs.Legs.{EachTour}
+use Rattle.run_model.specs.Ticks.{NodesMoveInTicks}
 use Rattle.tree_convergence.specs.Laws as tree
+use Rattle.token_ring.specs.Laws as ring
+use Rattle.token_ring.specs.Service.{PrivilegeVisits, MachinesMove}
 
--- of networks: who is joined to whom, distances, parents; of copying rings; of a desk; of the tour and of privilege; of runs and sweeps; of links,
--- payloads and the tree
+-- of networks: distances and parents; of a desk; of runs, sweeps and ticks; of links, payloads and
+-- the tree; of the token ring and its one token
 pub record Below : Type 0 where
-  pub back : JoinedBack
-  pub nodes : JoinedAreNodes
-  pub near : NeighboursAreJoined
   pub distances : DistanceIs
   pub parents : ParentIs
   pub known : EachTree
-  pub parallel : ring.ParallelIsRun
-  pub step_run : ring.StepIsRun
-  pub ring_join : ring.RunsJoin
-  pub ring_turns : ring.RunTurnsGood
-  pub ring_stays : ring.GoodOutlastsRuns
-  pub one_item : ring.OneItemIsPrivileged
   pub loans : LoansNeedPrivilege
-  pub only_ticks : OnlyTicksLend
-  pub view : OwnViewIsTrue
-  pub tours : EachTour
-  pub one_privileged : run.OnePrivileged
-  pub one_lending : run.OneLending
+  pub passes : PassesOnlyServed
+  pub clears : FullTicksClear
+  pub in_turn : FirstComeFirstServed
   pub network : run.NetworkStays
   pub ranges : run.RangesStay
   pub join : run.RunsJoin
   pub parts : run.UndamagedSplits
   pub split : run.SweepsSplit
+  pub moves : NodesMoveInTicks
   pub links : tree.LinksTurnStable
-  pub reached : tree.TreeIsReached
-  pub stable : tree.LinksStayStable
-  pub staged : tree.StagedIsPresent
-  pub copied : tree.CopyIsStaged
+  pub links_in_six : tree.LinksTurnStableInSix
+  pub stable : tree.LinksOutlastRuns
   pub fresh : tree.PayloadsTurnFresh
-  pub tree : tree.TreeStays
+  pub reached : tree.TreeIsReached
+  pub reached_sooner : tree.TreeIsReachedByDepth
+  pub one_privileged : ring.OnePrivileged
+  pub one_lending : ring.OneLending
+  pub privilege_stays : ring.PrivilegeStays
+  pub settled : ring.SettledStays
+  pub good : ring.TokenRingStaysGood
+  pub turns_good : ring.TokenRingTurnsGood
+  pub turns_good_soon : ring.TokenRingTurnsGoodSoon
+  pub visits : PrivilegeVisits
+  pub machines : MachinesMove

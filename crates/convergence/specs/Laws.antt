@@ -1,62 +1,25 @@
--- The token ring becomes good, the world becomes legitimate and stays so: each law for the number of sweeps that it uses.
-use Rattle.std.specs.Prelude.{◌≡◌, ℕ, ◌+◌, ◌-◌, ◌*◌, ◌<◌, ◌≤◌, false, IsTrue, List, ◌++◌, Contains}
-use Rattle.topology.specs.Network.{are_joined, bound_of, ring_of}
-use Rattle.k_state.specs.Ring.{Run}
+-- The world becomes legitimate, stays so, and serves: each law for the number of sweeps that it
+-- uses.
+use Rattle.std.specs.Prelude.{◌≡◌, ℕ, ◌+◌, ◌-◌, ◌*◌, ◌<◌, false, IsTrue, List, ◌++◌, Contains}
+use Rattle.topology.specs.Network.{are_joined, bound_of}
 use Rattle.run_model.specs.World.{World, IsWorldInRange}
 use Rattle.run_model.specs.Step.{step}
 use Rattle.run_model.specs.Run.{run, is_damage, IsUndamaged}
-use Rattle.run_model.specs.Count.{Sweeps}
+use Rattle.run_model.specs.Sweep.{Sweeps}
 use Rattle.run_model.specs.Tree.{IsTreeReached}
-use Rattle.run_model.specs.Ring.{token_ring, IsTokenRingGood}
-use Rattle.run_model.specs.Legitimate.{AreLinksStable, IsLegitimate, is_privileged, is_lending}
+use Rattle.token_ring.specs.Ring.{IsTokenRingGood}
+use Rattle.run_model.specs.Links.{AreLinksStable}
+use Rattle.run_model.specs.Privilege.{is_privileged, is_lending}
+use Rattle.token_ring.specs.Legitimate.{IsLegitimate}
+use Rattle.token_ring.specs.Settled.{IsSettled}
 use Rattle.run_model.specs.Headline.{IsServing}
 use Rattle.run_model.specs.declared.event.Event.{Event}
 use Rattle.convergence.specs.Said.{said_in}
-use Rattle.convergence.specs.Moves.{head_move, head_moves}
-
--- a world on whose tree the token ring is laid: every link is stable, and the tree is reached
-pub record IsSettled (w : World) : Type 0 where
-  pub range : IsWorldInRange w
-  pub links : AreLinksStable w
-  pub tree : IsTreeReached w
-
--- ---- the token ring, by moves of its head
-
--- On the token ring of a settled world an event is a run of copies to the right and at most one move of the head.
-abbrev pub EventIsRingRun : Type 0
-EventIsRingRun =
-    (w : World) (e : Event) → IsSettled w → is_damage w e ≡ false → Run (ring_of w.net) (head_move w e) (token_ring w) (token_ring (step w e))
-
--- so it is good once the head has made 6(n - 1) moves, as many as the ring has values
-abbrev pub MovesTurnRingGood : Type 0
-MovesTurnRingGood =
-    (w : World) (es : List Event) → IsSettled w → IsUndamaged w es → 6 * (w.net.nodes - 1) ≤ head_moves w es → IsTokenRingGood (run w es)
-
--- the head moves at least once in any 8(n - 1) sweeps
-abbrev pub HeadMoves : Type 0
-HeadMoves = (w : World) (es : List Event) → IsSettled w → IsUndamaged w es → Sweeps w (8 * (w.net.nodes - 1)) es → 0 < head_moves w es
-
--- ---- the token ring, by sweeps
-
--- an event that is no damage keeps a good token ring good
-abbrev pub TokenRingStaysGood : Type 0
-TokenRingStaysGood = (w : World) (e : Event) → IsSettled w → is_damage w e ≡ false → IsTokenRingGood w → IsTokenRingGood (step w e)
-
--- 48(n - 1)(n - 1) sweeps make it good
-abbrev pub TokenRingTurnsGood : Type 0
-TokenRingTurnsGood =
-    (w : World) (es : List Event) → IsSettled w → IsUndamaged w es → Sweeps w (48 * (w.net.nodes - 1) * (w.net.nodes - 1)) es
-    → IsTokenRingGood (run w es)
 
 -- ---- desks
 
--- a privileged node whose machines keep their values in an event stays privileged
-abbrev pub PrivilegeStays : Type 0
-PrivilegeStays =
-    (w : World) (e : Event) (v : ℕ) → IsSettled w → is_damage w e ≡ false → IsTokenRingGood w → v < w.net.nodes
-    → ((step w e).node v).value ≡ (w.node v).value → IsTrue (is_privileged w v) → IsTrue (is_privileged (step w e) v)
-
--- so a node whose loan is with privilege, or that does not lend, stays such a node
+-- on a good token ring a node whose loan is with privilege, or that does not lend, stays such a
+-- node in an event
 abbrev pub LoansStayPrivileged : Type 0
 LoansStayPrivileged =
     (w : World) (e : Event) (v : ℕ) → IsSettled w → is_damage w e ≡ false → IsTokenRingGood w → v < w.net.nodes
@@ -64,15 +27,19 @@ LoansStayPrivileged =
 
 -- one more sweep ends each loan without privilege
 abbrev pub DesksTurnPrivileged : Type 0
-DesksTurnPrivileged = (w : World) (es : List Event) → IsSettled w → IsUndamaged w es → IsTokenRingGood w → Sweeps w 1 es → IsLegitimate (run w es)
+DesksTurnPrivileged =
+    (w : World) (es : List Event) → IsSettled w → IsUndamaged w es → IsTokenRingGood w
+    → Sweeps w 1 es → IsLegitimate (run w es)
 
 -- ---- legitimate worlds
 
--- closure: from a legitimate world every list without damage leads to a legitimate world, and so through such worlds alone
+-- closure: from a legitimate world every list without damage leads to a legitimate world, and so
+-- through such worlds alone
 abbrev pub LegitimateStays : Type 0
 LegitimateStays = (w : World) (es : List Event) → IsWorldInRange w → IsUndamaged w es → IsLegitimate w → IsLegitimate (run w es)
 
--- a legitimate world serves: distances and parents are those of walks, at most one node is privileged, and at most one lends
+-- a legitimate world serves: distances and parents are those of walks, at most one node is
+-- privileged, and at most one lends
 abbrev pub LegitimateServes : Type 0
 LegitimateServes = (w : World) → IsWorldInRange w → IsLegitimate w → IsServing w
 
@@ -80,9 +47,12 @@ LegitimateServes = (w : World) → IsWorldInRange w → IsLegitimate w → IsSer
 
 -- after 4(C + 1) sweeps every link is stable
 abbrev pub LinksConverge : Type 0
-LinksConverge = (w : World) (es : List Event) → IsWorldInRange w → IsUndamaged w es → Sweeps w (4 * (w.net.capacity + 1)) es → AreLinksStable (run w es)
+LinksConverge =
+    (w : World) (es : List Event) → IsWorldInRange w → IsUndamaged w es
+    → Sweeps w (4 * (w.net.capacity + 1)) es → AreLinksStable (run w es)
 
--- from then on, after any three more, what u has staged for v and what v has copied from u is what u had to say to v at some moment of these three
+-- from then on, after any three more, what u has staged for v and what v has copied from u is what
+-- u had to say to v at some moment of these three
 abbrev pub PayloadsConverge : Type 0
 PayloadsConverge =
     (w : World) (first es : List Event) (u v : ℕ) → IsWorldInRange w → IsUndamaged w (first ++ es) → IsTrue (are_joined w.net.edges u v)
@@ -98,8 +68,12 @@ TreeConverges =
 
 -- after R - 1 sweeps the token ring is good
 abbrev pub TokenRingConverges : Type 0
-TokenRingConverges = (w : World) (es : List Event) → IsWorldInRange w → IsUndamaged w es → Sweeps w (bound_of w.net - 1) es → IsTokenRingGood (run w es)
+TokenRingConverges =
+    (w : World) (es : List Event) → IsWorldInRange w → IsUndamaged w es
+    → Sweeps w (bound_of w.net - 1) es → IsTokenRingGood (run w es)
 
 -- after R sweeps the world is legitimate
 abbrev pub WorldConverges : Type 0
-WorldConverges = (w : World) (es : List Event) → IsWorldInRange w → IsUndamaged w es → Sweeps w (bound_of w.net) es → IsLegitimate (run w es)
+WorldConverges =
+    (w : World) (es : List Event) → IsWorldInRange w → IsUndamaged w es
+    → Sweeps w (bound_of w.net) es → IsLegitimate (run w es)

@@ -1,79 +1,95 @@
-//! From any state to a world that serves, and no way back: each law is the contract of a function that does nothing.
+//! From any state to a world that serves, and no way back: each law is the contract of a function
+//! that does nothing.
 ghost use Rattle.convergence.specs.Below.{Below};
-ghost use Rattle.convergence.specs.Laws.{EventIsRingRun, MovesTurnRingGood, HeadMoves, TokenRingStaysGood, TokenRingTurnsGood, PrivilegeStays, LoansStayPrivileged, DesksTurnPrivileged, LegitimateStays, LegitimateServes, LinksConverge, PayloadsConverge, TreeConverges, TokenRingConverges, WorldConverges};
+ghost use Rattle.convergence.specs.Laws.{LoansStayPrivileged, DesksTurnPrivileged, LegitimateStays};
+ghost use Rattle.convergence.specs.Laws.{LegitimateServes, LinksConverge, PayloadsConverge, TreeConverges};
+ghost use Rattle.convergence.specs.Laws.{TokenRingConverges, WorldConverges};
+ghost use Rattle.convergence.specs.Sharp.{LinksConvergeSooner, TreeConvergesSooner, TokenRingConvergesSooner};
+ghost use Rattle.convergence.specs.Sharp.{WorldConvergesSooner, SharpHeadline};
+ghost use Rattle.convergence.specs.Service.{LegitimateVisits, EachStateVisits, MovesPassServed, MovesClearDesks};
+ghost use Rattle.convergence.specs.Service.{WaitingAreServed};
 ghost use Rattle.run_model.specs.Headline.{Headline};
 
 /// All that this crate knows of the layers below it. Each law here is proved from these alone.
 pub fn below()
     ensures { Below }
 {
-    topology::laws::joined();
-    topology::laws::neighbours();
     topology::laws::tree();
-    k_state::laws::good_law();
-    k_state::laws::convergence_law();
-    k_state::laws::parallel_law();
-    k_state::laws::privilege_law();
-    euler_ring::laws::true_view();
     lock_desk::laws::loans_need_privilege();
-    lock_desk::laws::only_ticks_lend();
+    lock_desk::laws::waiting_tickets_are_served();
+    lock_desk::laws::one_loan_a_stay();
     run_model::laws::runs();
     run_model::laws::in_range();
     run_model::laws::sweep_numbers();
-    run_model::ring_laws::legs();
-    run_model::ring_laws::one_token();
+    run_model::laws::ticks();
     tree_convergence::laws::links();
     tree_convergence::laws::payloads();
     tree_convergence::laws::tree();
+    token_ring::laws::one_token();
+    token_ring::laws::settled();
+    token_ring::laws::ring();
+    token_ring::laws::visits();
 }
 
-/// The token ring of a settled world, by moves of its head: an event copies values to the right and moves the head at most once, 6(n - 1) moves make
-/// the ring good, and any 8(n - 1) sweeps have one. A sharper count of sweeps needs another bound of the moves alone.
-pub fn head_law()
-    ensures runs { EventIsRingRun }
-    ensures moves_turn_good { MovesTurnRingGood }
-    ensures moves { HeadMoves }
-{
-    below();
-}
-
-/// The token ring of a settled world, by sweeps: 48(n - 1)(n - 1) make it good, and it stays good.
-pub fn token_ring_law()
-    ensures stays { TokenRingStaysGood }
-    ensures turns { TokenRingTurnsGood }
-{
-    below();
-}
-
-/// Privilege and loans on a good token ring: a privileged node stays privileged until one of its machines moves, so a loan with privilege keeps it,
-/// and one sweep ends every other loan.
-pub fn desk_law()
-    ensures privilege_stays { PrivilegeStays }
+/// Loans on a good token ring: a loan with privilege keeps it, and one sweep ends every other loan.
+pub fn desks()
     ensures loans_stay { LoansStayPrivileged }
     ensures turns { DesksTurnPrivileged }
 {
     below();
 }
 
-/// Closure: from a legitimate world every list of events without damage leads only through legitimate worlds, and a legitimate world serves: each
-/// distance is the least length of a walk and each parent the true one, at most one node is privileged, and at most one lends.
-pub fn closure_law()
+/// Closure: from a legitimate world every list of events without damage leads only through
+/// legitimate worlds, and a legitimate world serves: each distance is the least length of a walk
+/// and each parent the true one, at most one node is privileged, and at most one lends.
+pub fn closure()
     ensures stays { LegitimateStays }
     ensures serves { LegitimateServes }
 {
     below();
 }
 
-/// Convergence: from every world in range, over every list of events without damage, the links are stable after 4(C + 1) sweeps, and from then on any
-/// three sweeps replace all that is staged and copied; the tree is reached after 4(n + 1) more, and the token ring is good after 48(n - 1)(n - 1) more;
-/// after one more, the R-th, the world is legitimate. So it serves.
-pub fn converge_law()
+/// Convergence: from every world in range, over every list of events without damage, the links are
+/// stable after 4(C + 1) sweeps, and from then on any three sweeps replace all that is staged and
+/// copied; the tree is reached after 4(n + 1) more, and the token ring is good after 48(n - 1)(n -
+/// 1) more; after one more, the R-th, the world is legitimate. So it serves.
+pub fn converge()
     ensures links { LinksConverge }
     ensures payloads { PayloadsConverge }
     ensures tree { TreeConverges }
     ensures token_ring { TokenRingConverges }
     ensures world { WorldConverges }
     ensures headline { Headline }
+{
+    below();
+}
+
+/// Convergence by the sharper count, with e the greatest distance of a node from the root: the
+/// links are stable after 6 sweeps, whatever their capacity; the tree is reached after 4(e + 2)
+/// more, and the token ring is good after 16(n - 1) more; after one more, 16(n - 1) + 4e + 15 in
+/// all, the world is legitimate. So it serves.
+pub fn sharp()
+    ensures links { LinksConvergeSooner }
+    ensures tree { TreeConvergesSooner }
+    ensures token_ring { TokenRingConvergesSooner }
+    ensures world { WorldConvergesSooner }
+    ensures headline { SharpHeadline }
+{
+    below();
+}
+
+/// Service: from a legitimate world, over every list of events without damage, each node is
+/// privileged at some moment of any 16(n - 1) sweeps; from any world, of as many behind those after
+/// which it is legitimate. The privilege passes a desk at which a ticket waits only where that had
+/// served, or a loan ends in that very tick; and behind it the desk is ready to lend. So a ticket
+/// that waits behind i others, and does not leave while it waits, is lent the lock within
+/// 8(n - 1)(i + 2) sweeps.
+pub fn service()
+    ensures legitimate { LegitimateVisits }
+    ensures each_state { EachStateVisits }
+    ensures passes { MovesPassServed }
+    ensures clears { MovesClearDesks }
+    ensures served { WaitingAreServed }
 {
     below();
 }

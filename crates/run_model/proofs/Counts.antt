@@ -4,13 +4,13 @@ use Rattle.std.proofs.lemmas.Bool.{cases_order}
 use Rattle.std.proofs.lemmas.List.{append-nil}
 use Rattle.run_model.specs.World.{World}
 use Rattle.run_model.specs.Run.{run, IsUndamaged}
-use Rattle.run_model.specs.Sweep.{IsSweep}
-use Rattle.run_model.specs.Count.{Sweeps, IsGreatestCount}
+use Rattle.run_model.specs.Sweep.{IsSweep, Sweeps}
+use Rattle.run_model.specs.Count.{IsGreatestCount}
 use Rattle.run_model.specs.Greedy.{IsEarliest, IsUnfinished, EarliestSweeps, IsCounted}
 use Rattle.run_model.specs.declared.event.Event.{Event}
 use Rattle.run_model.proofs.Runs.{run-network, runs-join, undamaged-joins, undamaged-splits}
 use Rattle.run_model.proofs.Splits.{fewer-sweeps}
-use Rattle.run_model.proofs.Serving.{sweep-late}
+use Rattle.run_model.proofs.Renewing.{sweep-late}
 use Rattle.run_model.proofs.Joined.{AreEdges}
 
 -- undamaged events before some sweeps belong to the first of them
@@ -33,7 +33,7 @@ sweeps-join w (suc r) s first rest edges fine (one, others, e, sweep, a) b (suc 
   others ++ rest,
   ap (λ l. l ++ rest) e ∙ append_assoc one others rest,
   sweep,
-  sweeps-join (run w one) r s others rest (subst AreEdges (sym (run-network w one)) edges)
+  sweeps-join (run w one) r s others rest (subst AreEdges (sym (run-network w one sweep.undamaged)) edges)
       (undamaged-splits w one others (subst (IsUndamaged w) e fine)).1 a
       (subst (λ x. Sweeps x s rest) (ap (run w) e ∙ runs-join w one others) b) n (omega arith),
 )
@@ -59,7 +59,7 @@ earliest-best w r first rest edges fine earliest (other, behind, e, sweep, s) = 
   | Longer mid f g ↦
       let after : Sweeps (run (run w first) mid) r behind = subst (λ x. Sweeps x r behind) (ap (run w) f ∙ runs-join w first mid) s in
       subst (Sweeps (run w first) r) (sym g)
-      (sweeps-late (run w first) r mid behind (subst AreEdges (sym (run-network w first)) edges)
+      (sweeps-late (run w first) r mid behind (subst AreEdges (sym (run-network w first (undamaged-splits w first rest fine).0)) edges)
       (undamaged-splits (run w first) mid behind (subst (IsUndamaged (run w first)) g (undamaged-splits w first rest fine).1)).0 after)
 ]
 
@@ -85,7 +85,7 @@ counted-greatest w (suc r) done rest edges fine (first, others, e, sweep, earlie
     let all = subst (IsUndamaged w) split fine in
     subst (λ l. IsGreatestCount w l (suc r)) (sym split)
     (greedy-count w r first (others ++ rest) edges all sweep earliest
-    (counted-greatest (run w first) r others rest (subst AreEdges (sym (run-network w first)) edges) (undamaged-splits w first (others ++ rest) all).1 later
+    (counted-greatest (run w first) r others rest (subst AreEdges (sym (run-network w first sweep.undamaged)) edges) (undamaged-splits w first (others ++ rest) all).1 later
     (subst (λ x. IsUnfinished x rest) (ap (run w) e ∙ runs-join w first others) unfinished)))
 
 -- no events are no sweep, since there is a node
@@ -130,13 +130,13 @@ sweeps-rise w (suc r) done last (first, others, e, one, early, later) sweep earl
       sweeps-rise (run w first) r others last later (subst (λ x. IsSweep x last) there sweep) (subst (λ x. IsEarliest x last) there earliest),
     )
 
-pub count-rises : (w : World) (r : ℕ) (done rest : List Event) (e : Event) → 0 < w.net.nodes → IsCounted w done rest r → IsSweep (run w done) (rest ++ e ∷ [])
+pub count-rises : (w : World) (r : ℕ) (done rest : List Event) (e : Event) → 0 < (run w (done ++ (rest ++ e ∷ []))).net.nodes → IsCounted w done rest r → IsSweep (run w done) (rest ++ e ∷ [])
     → IsCounted w (done ++ (rest ++ e ∷ [])) [] (suc r)
 count-rises w r done rest e some count sweep =
     let all = done ++ (rest ++ e ∷ []) in record {
       sweeps = sweeps-rise w r done (rest ++ e ∷ []) count.sweeps sweep
           (λ front back same early. (one-more (run w done) rest e front back count.unfinished same early).1);
-      unfinished = nothing-unfinished (run w all) (subst (λ net. 0 < net.nodes) (sym (run-network w all)) some);
+      unfinished = nothing-unfinished (run w all) some;
     }
 
 -- ---- one count

@@ -12,7 +12,7 @@ use Rattle.link_model.specs.declared.item.Item.TheVariants.{Frame, Noise}
 use Rattle.data_link.specs.Port.{PortState, port_fits}
 use Rattle.data_link.specs.Edge.{modulus_of, IsPortBelow, IsItemBelow, IsEdgeInRange}
 use Rattle.run_model.specs.World.{World, IsWorldInRange, item_fits}
-use Rattle.run_model.specs.Legitimate.{edge_of}
+use Rattle.run_model.specs.Project.{edge_of}
 use Rattle.run_model.proofs.Joined.{IsEdge}
 use Rattle.run_model.proofs.Ranges.{AllFit, port-in_range}
 

@@ -1,6 +1,9 @@
 pub mod Steps
 pub mod Runs
+pub mod RunMoments
+pub mod Touches
 pub mod Splits
+pub mod LinkSteps
 pub mod EdgeSteps
 pub mod Joined
 pub mod Edges
@@ -8,20 +11,16 @@ pub mod NodeRanges
 pub mod Ranges
 pub mod RunRanges
 pub mod EdgeRanges
-pub mod Serving
+pub mod Renewing
 pub mod Stretches
 pub mod Counts
 pub mod Moments
+pub mod NodeEvents
 pub mod Strict
-mod RowsTour
-mod RowsTwo
-mod RowsRound
+pub mod RowsTwo
+pub mod RowsServing
+pub mod RowsRound
 mod RowsSweep
 mod RowsCount
-mod RowsFaults
-pub mod LegPlaces
-pub mod TreeLists
-pub mod TrueTree
-pub mod RingPlaces
-pub mod Privileges
-pub mod TourLegs
+pub mod RowsFaults
+mod RowsHappened

@@ -7,7 +7,7 @@ use Rattle.run_model.specs.World.{World, IsWorldInRange}
 use Rattle.run_model.specs.Step.{step}
 use Rattle.run_model.specs.Run.{run, is_damage, has_damage, IsUndamaged}
 use Rattle.run_model.specs.Count.{Moment, after_damage}
-use Rattle.run_model.specs.Legitimate.{is_privileged}
+use Rattle.run_model.specs.Privilege.{is_privileged}
 use Rattle.run_model.specs.Visited.{is_privileged_once, is_visited}
 use Rattle.run_model.specs.declared.event.Event.{Event}
 

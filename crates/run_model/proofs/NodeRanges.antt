@@ -7,10 +7,11 @@ use Rattle.std.proofs.lemmas.List.Elements.{All-head, All-tail, All-filter, All-
 use Rattle.std.specs.Prelude.{◌==◌, ◌&&◌, ◌%◌, nat_lt, unwrap_or, is_none, slice_index_or}
 use Rattle.std.specs.List.{All, list_any}
 use Rattle.topology.specs.At.{at}
-use Rattle.topology.specs.Ranges.{parent_fits, payload_fits}
+use Rattle.topology.specs.Ranges.{parent_fits, payload_fits, frame_fits}
+use Rattle.topology.specs.declared.frame.Frame.{Frame}
 use Rattle.topology.specs.declared.frame.Ranges.{Ranges}
 use Rattle.link_model.specs.declared.item.Item.{Item}
-use Rattle.link_model.specs.declared.item.Item.TheVariants.{Frame, Noise}
+use Rattle.link_model.specs.declared.item.Item.TheVariants as item
 use Rattle.data_link.specs.Port.{PortState, port_fits, port_after}
 use Rattle.k_state.specs.Machine.{root_moved}
 use Rattle.topology.specs.Laws.{NeighboursAreJoined}
@@ -19,10 +20,9 @@ use Rattle.bfs_tree.specs.Laws.{StepDistanceFits, StepParentFits}
 use Rattle.lock_desk.specs.Laws.{TicksKeepRanges, AsksKeepRanges, LeavesKeepRanges, LoansKeepRanges}
 use Rattle.euler_ring.specs.Cycle.{is_on, is_tree_neighbour, highest, below, source_for}
 use Rattle.node_core.specs.Site.{Site}
-use Rattle.node_core.specs.State.{NodeState, IsNodeInRange}
+use Rattle.node_core.specs.State.{LocalState, IsNodeInRange}
 use Rattle.node_core.specs.Machines.{tree_of, ring_for, payload_for, before, is_special, may_move, moved_value, is_node_privileged}
-use Rattle.node_core.specs.Step.{taken, copied_distance, recomputed, desk_done, machines_moved, ticked}
-use Rattle.run_model.specs.World.{item_fits}
+use Rattle.node_core.specs.Step.{heard, taken, copied_distance, recomputed, desk_done, machines_moved, ticked}
 
 -- laws of the layers below, by which each part of a node stays in range
 pub record KeepRanges : Type 0 where
@@ -61,7 +61,7 @@ pub record IsSiteSound (site : Site) : Type 0 where
   pub ring : 0 < site.ranges.ring
   pub neighbours : All (λ w. w < site.ranges.nodes) site.neighbours
 
-ring-fits : (site : Site) (s : NodeState) (w : ℕ) → IsSiteSound site → IsNodeInRange site s → ring_for site s w < site.ranges.ring
+ring-fits : (site : Site) (s : LocalState) (w : ℕ) → IsSiteSound site → IsNodeInRange site s → ring_for site s w < site.ranges.ring
 ring-fits site s w sound range = elim (cases_Bool (list_any (λ t. t == w) (tree_of site s))) [
   | inl there ↦
       let x = source-is (λ t. s.value t < site.ranges.ring) (tree_of site s) w there
@@ -70,7 +70,7 @@ ring-fits site s w sound range = elim (cases_Bool (list_any (λ t. t == w) (tree
   | inr out ↦ rw (cond-false (list_any (λ t. t == w) (tree_of site s)) (s.value (source_for (tree_of site s) w)) 0 out) sound.ring
 ]
 
-pub payload-fits : (site : Site) (s : NodeState) (w : ℕ) → IsSiteSound site → IsNodeInRange site s → payload_fits site.ranges (payload_for site s w) ≡ true
+pub payload-fits : (site : Site) (s : LocalState) (w : ℕ) → IsSiteSound site → IsNodeInRange site s → payload_fits site.ranges (payload_for site s w) ≡ true
 payload-fits site s w sound range =
     fits-from site.ranges s.distance s.parent (ring_for site s w) range.distance range.parent (ring-fits site s w sound range)
 
@@ -84,10 +84,9 @@ at-fits r ws port u p all new = All-weaker (λ w. IsTrue (port_fits r (port w)))
       | inr ne ↦ rw (cond-false (w == u) p (port w) (ne_eqb w u ne)) old
     ]) ws all
 
-pub taken-range : KeepRanges → (site : Site) (s : NodeState) (u : ℕ) (item : Item) → IsSiteSound site → IsNodeInRange site s → IsTrue (item_fits site.ranges item)
-    → IsNodeInRange site (taken site u item s)
-taken-range keep site s u Noise sound range fits = range
-taken-range keep site s u (Frame f) sound range fits = record {
+heard-range : KeepRanges → (site : Site) (s : LocalState) (u : ℕ) (f : Frame) → IsSiteSound site → IsNodeInRange site s → IsTrue (frame_fits site.ranges f)
+    → IsNodeInRange site (heard site u f s)
+heard-range keep site s u f sound range fits = record {
   distance = range.distance;
   parent = range.parent;
   ports = at-fits site.ranges site.neighbours s.port u (port_after site.ranges.counter (s.port u) f (payload_for site s u)) range.ports
@@ -96,18 +95,25 @@ taken-range keep site s u (Frame f) sound range fits = record {
   desk = range.desk;
 }
 
+-- whatever the item, since one out of range changes nothing
+pub taken-range : KeepRanges → (site : Site) (s : LocalState) (u : ℕ) (item : Item) → IsSiteSound site → IsNodeInRange site s
+    → IsNodeInRange site (taken site u item s)
+taken-range keep site s u item.Noise sound range = range
+taken-range keep site s u (item.Frame f) sound range = cond_both (frame_fits site.ranges f) (heard site u f s) s (IsNodeInRange site)
+    (λ fits. heard-range keep site s u f sound range fits) (λ _. range)
+
 -- ---- a node ticks
 
 pub copy-below : (r : Ranges) (p : PortState) → port_fits r p ≡ true → p.copy.ring < r.ring
 copy-below r p fits = grind (arith, common_steps, nat_tests)
 
-moved-below : (site : Site) (s : NodeState) (t : ℕ) → IsSiteSound site → IsTrue (port_fits site.ranges (s.port t)) → moved_value site s t < site.ranges.ring
+moved-below : (site : Site) (s : LocalState) (t : ℕ) → IsSiteSound site → IsTrue (port_fits site.ranges (s.port t)) → moved_value site s t < site.ranges.ring
 moved-below site s t sound fits = elim (cases_Bool (is_special site s t)) [
   | inl e ↦ rw (cond-true (is_special site s t) (root_moved (s.value t) site.ranges.ring) (before s t) e) (mod-below (s.value t + 1) site.ranges.ring sound.ring)
   | inr e ↦ rw (cond-false (is_special site s t) (root_moved (s.value t) site.ranges.ring) (before s t) e) (copy-below site.ranges (s.port t) fits)
 ]
 
-machines-range : (site : Site) (s : NodeState) → IsSiteSound site → IsNodeInRange site s → IsNodeInRange site (machines_moved site s)
+machines-range : (site : Site) (s : LocalState) → IsSiteSound site → IsNodeInRange site s → IsNodeInRange site (machines_moved site s)
 machines-range site s sound range = record {
   distance = range.distance;
   parent = range.parent;
@@ -120,7 +126,7 @@ machines-range site s sound range = record {
 }
 
 module _ (keep : KeepRanges) where
-  recomputed-range : (site : Site) (s : NodeState) → IsSiteSound site → IsNodeInRange site s → IsNodeInRange site (recomputed site s)
+  recomputed-range : (site : Site) (s : LocalState) → IsSiteSound site → IsNodeInRange site s → IsNodeInRange site (recomputed site s)
   recomputed-range site s sound range = record {
     distance = keep.distances site.is_root site.ranges.nodes (copied_distance s) site.neighbours;
     parent = keep.parents site.is_root site.ranges.nodes (copied_distance s) site.neighbours sound.neighbours;
@@ -129,7 +135,7 @@ module _ (keep : KeepRanges) where
     desk = range.desk;
   }
 
-  desk-range : (site : Site) (s : NodeState) → IsNodeInRange site s → IsNodeInRange site (desk_done site s)
+  desk-range : (site : Site) (s : LocalState) → IsNodeInRange site s → IsNodeInRange site (desk_done site s)
   desk-range site s range = record {
     distance = range.distance;
     parent = range.parent;
@@ -138,6 +144,6 @@ module _ (keep : KeepRanges) where
     desk = keep.ticks site.lease (is_node_privileged site s) s.desk range.desk;
   }
 
-  pub ticked-range : (site : Site) (s : NodeState) → IsSiteSound site → IsNodeInRange site s → IsNodeInRange site (ticked site s)
+  pub ticked-range : (site : Site) (s : LocalState) → IsSiteSound site → IsNodeInRange site s → IsNodeInRange site (ticked site s)
   ticked-range site s sound range =
       machines-range site (desk_done site (recomputed site s)) sound (desk-range site (recomputed site s) (recomputed-range site s sound range))

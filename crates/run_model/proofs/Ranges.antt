@@ -3,7 +3,7 @@ use Rattle.std.proofs.Common.{◌≡◌, ℕ, ◌<◌, ◌≤◌, suc, List, [],
 use Rattle.std.proofs.lemmas.Grind.{common_steps}
 use Rattle.std.proofs.lemmas.Bool.{cases_eq, cond-true, cond-false, cond_both, eq-eqb, ne_eqb}
 use Rattle.std.proofs.lemmas.Bool.Decides.{nat_tests}
-use Rattle.std.proofs.lemmas.List.Elements.{All-nil, All-head, All-tail, All-weaker, All-append, All-push, All-take, All-drop, All-contains, All-contains_itself}
+use Rattle.std.proofs.lemmas.List.Elements.{All-nil, All-tail, All-weaker, All-append, All-push, All-take, All-drop, All-contains, All-contains_itself}
 use Rattle.std.specs.Prelude.{◌==◌, ◌&&◌, is_some}
 use Rattle.std.specs.List.{All, Contains, remove}
 use Rattle.topology.specs.At.{at}
@@ -16,12 +16,13 @@ use Rattle.link_model.specs.declared.item.Item.TheVariants.{Frame}
 use Rattle.data_link.specs.Port.{PortState, port_fits, frame_of, default_port}
 use Rattle.lock_desk.specs.Desk.{DeskState, desk_fits, no_desk}
 use Rattle.node_core.specs.Site.{site_of}
-use Rattle.node_core.specs.State.{NodeState, IsNodeInRange}
+use Rattle.node_core.specs.State.{LocalState, IsNodeInRange}
 use Rattle.node_core.specs.Step.{taken}
-use Rattle.run_model.specs.World.{World, IsWorldInRange, item_fits, site, with_node, with_link, default_world}
+use Rattle.run_model.specs.World.{World, IsWorldInRange, item_fits, site, with_node, with_link}
+use Rattle.run_model.specs.Start.{default_world}
 use Rattle.run_model.specs.Step.{first_fault, unless, link_fault, has_room, sent, handed_over, with_port, with_desk}
 use Rattle.run_model.specs.declared.event.EventFault.{EventFault}
-use Rattle.data_link.proofs.UnderWay.{length-remove}
+use Rattle.link_model.proofs.Lists.{length-remove}
 use Rattle.run_model.proofs.NodeRanges.{KeepRanges, IsSiteSound, at-fits, taken-range}
 
 pub site-sound : NeighboursAreJoined → (net : Network) (v : ℕ) → IsAcceptedNetwork net → IsSiteSound (site_of net v)
@@ -59,7 +60,7 @@ start-range net ok = record {
 
 -- ---- one node, or one link, is written
 
-pub node-range : (w : World) (v : ℕ) (s : NodeState) → IsWorldInRange w → (v < w.net.nodes → IsNodeInRange (site w v) s) → IsWorldInRange (with_node w v s)
+pub node-range : (w : World) (v : ℕ) (s : LocalState) → IsWorldInRange w → (v < w.net.nodes → IsNodeInRange (site w v) s) → IsWorldInRange (with_node w v s)
 node-range w v s range new = record {
   network = range.network;
   nodes = λ u l. elim (cases_eq u v) [
@@ -155,7 +156,7 @@ handed-range keep w u v (item ∷ rest) range few fit =
     let P = λ (item : Item). IsTrue (item_fits (ranges_of w.net) item) in
     let s = taken (site w v) u item (w.node v) in
     link-range (with_node w v s) u v rest
-    (node-range w v s range (λ l. taken-range keep (site w v) (w.node v) u item (site-sound keep.near w.net v range.network) (range.nodes v l) (All-head P item rest fit)))
+    (node-range w v s range (λ l. taken-range keep (site w v) (w.node v) u item (site-sound keep.near w.net v range.network) (range.nodes v l)))
     (omega arith) (All-tail P item rest fit)
 
 pub lost-range : (w : World) (u v i : ℕ) → IsWorldInRange w → IsLinked w u v → IsWorldInRange (with_link w u v (remove (w.link u v) i))

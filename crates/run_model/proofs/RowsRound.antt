@@ -1,40 +1,29 @@
--- Two nodes and links of capacity 1: the token ring after the first rounds, and who is privileged.
+-- Two nodes and links of capacity 1: who is privileged after the first rounds.
 use Rattle.std.proofs.Common.{◌≡◌, ℕ, zero, suc, List, [], ◌∷◌, ◌++◌, true, false, refl}
-use Rattle.run_model.specs.World.{World, default_world}
+use Rattle.run_model.specs.World.{World}
+use Rattle.run_model.specs.Start.{default_world}
 use Rattle.run_model.specs.Run.{run}
-use Rattle.run_model.specs.Ring.{token_ring}
-use Rattle.run_model.specs.Legitimate.{is_privileged, privileged_count}
+use Rattle.run_model.specs.Privilege.{is_privileged}
+use Rattle.run_model.specs.NodeCounts.{privileged_count}
 use Rattle.run_model.specs.Visited.{is_visited}
 use Rattle.run_model.specs.declared.event.Event.{Event}
-use Rattle.run_model.specs.declared.event.Event.TheVariants.{Send, Take, Tick}
+use Rattle.run_model.specs.declared.event.Event.TheVariants.{Send, Take, Tick, Damage}
+use Rattle.run_model.specs.declared.event.Harm.TheVariants as harm
 use Rattle.run_model.proofs.RowsTwo.{two_nodes}
 
 -- both tick, and then two frames go from 0 to 1, and two from 1 to 0
-abbrev round : List Event
+abbrev pub round : List Event
 round = Tick 0 ∷ Tick 1 ∷ Send 0 1 ∷ Take 0 1 ∷ Send 0 1 ∷ Take 0 1 ∷ Send 1 0 ∷ Take 1 0 ∷ Send 1 0 ∷ Take 1 0 ∷ []
 
-abbrev rounds : ℕ → List Event
+abbrev pub rounds : ℕ → List Event
 rounds zero = []
 rounds (suc n) = round ++ rounds n
 
--- the world after so many rounds from the start
-abbrev after : ℕ → World
+-- the world after n rounds from the start
+abbrev pub after : ℕ → World
 after n = run (default_world two_nodes) (rounds n)
 
--- the values: node 0's machine, what is staged for 1, 1's copy; 1's machine, what is staged for 0, 0's copy
-ring-after_four : token_ring (after 4) ≡ (1 ∷ 1 ∷ 1 ∷ 1 ∷ 1 ∷ 1 ∷ [])
-ring-after_four = refl
-
-ring-after_five : token_ring (after 5) ≡ (2 ∷ 2 ∷ 1 ∷ 1 ∷ 1 ∷ 1 ∷ [])
-ring-after_five = refl
-
-ring-after_six : token_ring (after 6) ≡ (2 ∷ 2 ∷ 2 ∷ 1 ∷ 1 ∷ 1 ∷ [])
-ring-after_six = refl
-
-ring-after_seven : token_ring (after 7) ≡ (2 ∷ 2 ∷ 2 ∷ 2 ∷ 2 ∷ 2 ∷ [])
-ring-after_seven = refl
-
--- where all are equal, the special machine may move: node 0 is privileged, alone
+-- where all values of the token ring are equal, the special machine may move: node 0 is privileged, alone
 node-0_after_four : is_privileged (after 4) 0 ≡ true
 node-0_after_four = refl
 
@@ -64,3 +53,17 @@ one-visited = refl
 
 both-visited : is_visited (after 4) (rounds 2) 1 ≡ true
 both-visited = refl
+
+-- Damage begins anew, with the nodes that are privileged right after it: an emptied link takes the visit of node 1 away, and node 0's machine is where it was.
+visited-before_damage : is_visited (after 4) (rounds 2 ++ round) 1 ≡ true
+visited-before_damage = refl
+
+not-visited_since_damage : is_visited (after 4) (rounds 3 ++ Damage (harm.Empty 0 1) ∷ []) 1 ≡ false
+not-visited_since_damage = refl
+
+still-visited_at_damage : is_visited (after 4) (rounds 3 ++ Damage (harm.Empty 0 1) ∷ []) 0 ≡ true
+still-visited_at_damage = refl
+
+-- a refused harm is no damage
+refused-harm_takes_nothing : is_visited (after 4) (rounds 2 ++ round ++ Damage (harm.Empty 0 2) ∷ []) 1 ≡ true
+refused-harm_takes_nothing = refl

@@ -1,10 +1,12 @@
 -- Stretches of two nodes that are sweeps, and stretches that only look like one.
 use Rattle.std.proofs.Common.{◌≡◌, ◌<◌, List, [], ◌∷◌, true, false, refl, arith}
 use Rattle.link_model.specs.declared.item.Item.TheVariants.{Noise}
-use Rattle.run_model.specs.World.{World, default_world, with_link}
+use Rattle.run_model.specs.World.{World, with_link}
+use Rattle.run_model.specs.Start.{default_world}
 use Rattle.run_model.specs.Step.{step}
 use Rattle.run_model.specs.Run.{has_damage}
-use Rattle.run_model.specs.Sweep.{has_full_tick, handed_in, is_served, IsSweep, IsStrictSweep}
+use Rattle.run_model.specs.Sweep.{has_full_tick, is_renewed, IsSweep}
+use Rattle.run_model.specs.Strict.{handed_in, IsStrictSweep}
 use Rattle.run_model.specs.declared.event.Event.{Event}
 use Rattle.run_model.specs.declared.event.Event.TheVariants.{Send, Take, Lose, Tick, Ask, Leave, Damage}
 use Rattle.run_model.specs.declared.event.Harm.TheVariants as harm
@@ -24,7 +26,7 @@ pub least-is_sweep : IsSweep start least
 least-is_sweep = record {
   undamaged = refl;
   ticked = each-node (λ v. has_full_tick start least v ≡ true) refl refl;
-  served = each-link (λ u v. is_served start least u v ≡ true) refl refl;
+  renewed = each-link (λ u v. is_renewed start least u v ≡ true) refl refl;
 }
 
 -- the order does not matter, nor does a loss, nor a refused event, nor a send that finds the link full
@@ -36,7 +38,7 @@ mixed-is_sweep : IsSweep start mixed
 mixed-is_sweep = record {
   undamaged = refl;
   ticked = each-node (λ v. has_full_tick start mixed v ≡ true) refl refl;
-  served = each-link (λ u v. is_served start mixed u v ≡ true) refl refl;
+  renewed = each-link (λ u v. is_renewed start mixed u v ≡ true) refl refl;
 }
 
 -- on links of capacity 1 a strict sweep hands over two items each way
@@ -59,26 +61,26 @@ least-is_not_strict s = absurd (let h = s.handed 0 1 refl in omega arith)
 abbrev noisy : World
 noisy = with_link start 0 1 (Noise ∷ [])
 
-noise-is_taken : is_served noisy (Tick 0 ∷ Tick 1 ∷ Take 0 1 ∷ Send 1 0 ∷ Take 1 0 ∷ []) 0 1 ≡ false
+noise-is_taken : is_renewed noisy (Tick 0 ∷ Tick 1 ∷ Take 0 1 ∷ Send 1 0 ∷ Take 1 0 ∷ []) 0 1 ≡ false
 noise-is_taken = refl
 
 -- a frame is under way from 0 to 1; the new one finds the link full and is lost, and the old one is taken
 abbrev busy : World
 busy = step start (Send 0 1)
 
-old-item_is_taken : is_served busy (Tick 0 ∷ Tick 1 ∷ Send 0 1 ∷ Take 0 1 ∷ Send 1 0 ∷ Take 1 0 ∷ []) 0 1 ≡ false
+old-item_is_taken : is_renewed busy (Tick 0 ∷ Tick 1 ∷ Send 0 1 ∷ Take 0 1 ∷ Send 1 0 ∷ Take 1 0 ∷ []) 0 1 ≡ false
 old-item_is_taken = refl
 
 -- the take comes before the send, and finds nothing
-empty-link : is_served start (Tick 0 ∷ Tick 1 ∷ Take 0 1 ∷ Send 0 1 ∷ Send 1 0 ∷ Take 1 0 ∷ []) 0 1 ≡ false
+empty-link : is_renewed start (Tick 0 ∷ Tick 1 ∷ Take 0 1 ∷ Send 0 1 ∷ Send 1 0 ∷ Take 1 0 ∷ []) 0 1 ≡ false
 empty-link = refl
 
 -- the item that was sent inside is lost
-fresh-item_is_lost : is_served start (Tick 0 ∷ Tick 1 ∷ Send 0 1 ∷ Lose 0 1 0 ∷ Take 0 1 ∷ Send 1 0 ∷ Take 1 0 ∷ []) 0 1 ≡ false
+fresh-item_is_lost : is_renewed start (Tick 0 ∷ Tick 1 ∷ Send 0 1 ∷ Lose 0 1 0 ∷ Take 0 1 ∷ Send 1 0 ∷ Take 1 0 ∷ []) 0 1 ≡ false
 fresh-item_is_lost = refl
 
 -- the other direction does not count
-other-direction : is_served start (Tick 0 ∷ Tick 1 ∷ Send 1 0 ∷ Take 1 0 ∷ []) 0 1 ≡ false
+other-direction : is_renewed start (Tick 0 ∷ Tick 1 ∷ Send 1 0 ∷ Take 1 0 ∷ []) 0 1 ≡ false
 other-direction = refl
 
 -- node 0 is privileged and somebody asks, so its tick begins a loan and is not full

@@ -1,4 +1,4 @@
--- The least network, two nodes and links of capacity 1; worlds on it that are in range, legitimate, and forged.
+-- The least network, two nodes and links of capacity 1; worlds on it that are in range, calm, and forged.
 use Rattle.std.proofs.Common.{◌≡◌, ℕ, ◌<◌, zero, suc, List, [], ◌∷◌, false, IsTrue, Some, None, refl, inl, arith}
 use Rattle.std.proofs.lemmas.Bool.Decides.{nat_tests}
 use Rattle.std.specs.Prelude.{◌==◌, if◌then◌else◌}
@@ -8,12 +8,14 @@ use Rattle.topology.specs.Tree.{distance_of, parent_of}
 use Rattle.data_link.specs.Edge.{IsStable}
 use Rattle.topology.specs.declared.frame.Payload.{Payload}
 use Rattle.lock_desk.specs.Desk.{DeskState, no_desk}
-use Rattle.node_core.specs.State.{NodeState}
-use Rattle.run_model.specs.World.{World, IsWorldInRange, default_world}
+use Rattle.node_core.specs.State.{LocalState}
+use Rattle.run_model.specs.World.{World, IsWorldInRange}
+use Rattle.run_model.specs.Start.{default_world}
 use Rattle.run_model.proofs.Ranges.{start-range}
-use Rattle.run_model.specs.Ring.{token_ring, IsTokenRingGood}
 use Rattle.run_model.specs.Tree.{IsTrueOf, IsTreeReached}
-use Rattle.run_model.specs.Legitimate.{edge_of, AreLinksStable, IsLegitimate, privileged_count, lending_count}
+use Rattle.run_model.specs.Links.{AreLinksStable}
+use Rattle.run_model.specs.NodeCounts.{privileged_count, lending_count}
+use Rattle.run_model.specs.Project.{edge_of}
 
 abbrev pub two_nodes : Network
 two_nodes = record { nodes = 2; root = 0; capacity = 1; lease = 0; edges = (0, 1) ∷ [] }
@@ -58,7 +60,7 @@ is-accepted = record {
 start-in_range : IsWorldInRange (default_world two_nodes)
 start-in_range = start-range two_nodes is-accepted
 
--- ---- a legitimate world
+-- ---- a calm world
 
 -- node 0 is the root, and node 1 its child; both know it, and every ring value is 0
 abbrev pub shown : ℕ → ℕ → Payload
@@ -66,7 +68,7 @@ shown zero ring = record { distance = 0; parent = None; ring = ring }
 shown (suc v) ring = record { distance = 1; parent = Some 0; ring = ring }
 
 -- a node of such a world, with the values of its machine, of what it has staged, and of its copy
-abbrev pub node_with : ℕ → DeskState → ℕ → ℕ → ℕ → NodeState
+abbrev pub node_with : ℕ → DeskState → ℕ → ℕ → ℕ → LocalState
 node_with v desk x staged copy = record {
   distance = (shown v 0).distance;
   parent = (shown v 0).parent;
@@ -78,12 +80,12 @@ node_with v desk x staged copy = record {
 abbrev pub calm : World
 calm = record { net = two_nodes; node = λ v. node_with v no_desk 0 0 0; link = λ u v. [] }
 
-calm-links_stable : AreLinksStable calm
+pub calm-links_stable : AreLinksStable calm
 calm-links_stable = each-link (λ u v. IsStable 1 (edge_of calm u v))
     (record { good = inl (refl, inl (refl, tt)); other = shown 0 0; out = tt; copied = refl })
     (record { good = inl (refl, inl (refl, tt)); other = shown 1 0; out = tt; copied = refl })
 
-calm-tree_reached : IsTreeReached calm
+pub calm-tree_reached : IsTreeReached calm
 calm-tree_reached = record {
   distance = each-node (λ v. (calm.node v).distance ≡ distance_of two_nodes v) refl refl;
   parent = each-node (λ v. (calm.node v).parent ≡ parent_of two_nodes v) refl refl;
@@ -91,17 +93,9 @@ calm-tree_reached = record {
   copied = each-link (λ v u. IsTrueOf calm v ((calm.node u).port v).copy) (record { distance = refl; parent = refl }) (record { distance = refl; parent = refl });
 }
 
-pub calm-is_legitimate : IsLegitimate calm
-calm-is_legitimate = record {
-  links = calm-links_stable;
-  tree = calm-tree_reached;
-  ring = inl (refl, inl (refl, inl (refl, inl (refl, inl (refl, inl (refl, tt))))));
-  desks = λ v l lends. absurd cc;
-}
-
 -- ---- a forged world
 
-abbrev lending_desk : DeskState
+abbrev pub lending_desk : DeskState
 lending_desk = record { waiting = []; lent = Some 5; left = 0; served = false }
 
 -- links and tree are as they should be, but node 1's machine has a value of its own, and both nodes lend
@@ -112,18 +106,9 @@ forged = record {
   link = λ u v. [];
 }
 
-forged-ring : token_ring forged ≡ (0 ∷ 0 ∷ 0 ∷ 1 ∷ 0 ∷ 0 ∷ [])
-forged-ring = refl
-
 -- two nodes are privileged, and both lend
 two-privileged : privileged_count forged ≡ 2
 two-privileged = refl
 
 two-lending : lending_count forged ≡ 2
 two-lending = refl
-
-ring-not_good : ¬ IsTokenRingGood forged
-ring-not_good h = grind arith
-
-pub forged-not_legitimate : ¬ IsLegitimate forged
-forged-not_legitimate l = ring-not_good l.ring

@@ -2,7 +2,7 @@
 use Rattle.std.proofs.Common.{◌≡◌, ℕ, ◌+◌, ◌≤◌, zero, suc, List, [], ◌++◌, refl, sym, ◌∙◌, ap, subst, arith, append_assoc}
 use Rattle.run_model.specs.World.{World}
 use Rattle.run_model.specs.Run.{run}
-use Rattle.run_model.specs.Count.{Sweeps}
+use Rattle.run_model.specs.Sweep.{Sweeps}
 use Rattle.run_model.specs.declared.event.Event.{Event}
 use Rattle.run_model.proofs.Runs.{runs-join}
 

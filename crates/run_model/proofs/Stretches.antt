@@ -10,19 +10,19 @@ use Rattle.std.proofs.lemmas.List.{map-append}
 use Rattle.link_model.specs.declared.item.Item.{Item}
 use Rattle.link_model.specs.declared.item.Item.TheVariants.{Frame}
 use Rattle.data_link.specs.Port.{frame_of}
-use Rattle.data_link.specs.Edge.{put_last}
-use Rattle.data_link.specs.Sweep.{Origin, Before, Sent, LinkAct, Puts, Takes, Loses, Rests, takes_sent, list_after, hands_over_sent}
-use Rattle.data_link.proofs.UnderWay.{All-push, All-remove}
-use Rattle.data_link.proofs.Marks.{marked-start, marked-length, marked-after}
+use Rattle.link_model.specs.Acts.{Origin, Before, Sent, LinkAct, Puts, Takes, Loses, Rests, takes_sent, list_after, hands_over_sent, put_last}
+use Rattle.link_model.proofs.Lists.{All-push, All-remove}
+use Rattle.link_model.proofs.Marks.{marked-start, marked-length, marked-after}
 use Rattle.run_model.specs.World.{World}
 use Rattle.run_model.specs.Step.{step}
 use Rattle.run_model.specs.Run.{run, is_damage, has_damage, IsUndamaged}
-use Rattle.run_model.specs.Sweep.{is_full_tick, has_full_tick, link_act, is_served}
-use Rattle.run_model.specs.Stretch.{origins_after, origins_in, old_count, old_items, old_after, takes_new}
+use Rattle.run_model.specs.Sweep.{is_full_tick, has_full_tick, link_act, is_renewed}
+use Rattle.link_model.specs.OldItems.{origins_after, old_count, old_after, takes_new}
+use Rattle.run_model.specs.Stretch.{origins_in, old_items}
 use Rattle.run_model.specs.declared.event.Event.{Event}
 use Rattle.run_model.proofs.Joined.{IsEdge}
 use Rattle.run_model.proofs.Steps.{step-network}
-use Rattle.run_model.proofs.Serving.{IsSent, IsBeside}
+use Rattle.run_model.proofs.Renewing.{IsSent, IsBeside}
 use Rattle.run_model.proofs.Edges.{link-after}
 
 pub ticks-go_on : (w : World) (es : List Event) (e : Event) (v : ℕ) → has_full_tick w (es ++ e ∷ []) v ≡ (has_full_tick w es v || is_full_tick (run w es) e v)
@@ -134,8 +134,8 @@ beside w i [] u v os pair fine m = m
 beside w i (e ∷ es) u v os pair fine m =
     let parts = or_parts (is_damage w e) (has_damage (step w e) es) fine in
     let later = list_after w.net.capacity (Sent i) (link_act u v e) os in
-    subst (λ net. IsBeside (origins_after net.capacity (suc i) (map (link_act u v) es) later) ((run (step w e) es).link u v)) (step-network w e)
-    (beside (step w e) (suc i) es u v later (subst (λ net. IsEdge net u v) (sym (step-network w e)) pair) parts.1
+    subst (λ net. IsBeside (origins_after net.capacity (suc i) (map (link_act u v) es) later) ((run (step w e) es).link u v)) (step-network w e parts.0)
+    (beside (step w e) (suc i) es u v later (subst (λ net. IsEdge net u v) (sym (step-network w e parts.0)) pair) parts.1
     (subst (IsBeside later) (sym (link-after w e u v pair parts.0))
     (marked-after (λ item. Unit {0}) w.net.capacity i (Frame (frame_of ((w.node u).port v))) (link_act u v e) os (w.link u v) tt m)))
 
@@ -152,13 +152,13 @@ old-few (Sent i ∷ os) = omega (arith, old-few os)
 pub old-are_there : (w : World) (es : List Event) (u v : ℕ) → IsEdge w.net u v → IsUndamaged w es → old_items w es u v ≤ length ((run w es).link u v)
 old-are_there w es u v pair fine = omega (arith, as-many w es u v pair fine, old-few (origins_in w es u v))
 
-pub served-goes_on : (w : World) (es : List Event) (e : Event) (u v : ℕ) → IsEdge w.net u v → IsUndamaged w es
-    → is_served w (es ++ e ∷ []) u v
-    ≡ (is_served w es u v || takes_new (link_act u v e) (old_items w es u v) (length ((run w es).link u v)))
-served-goes_on w es e u v pair fine =
+pub renewed-goes_on : (w : World) (es : List Event) (e : Event) (u v : ℕ) → IsEdge w.net u v → IsUndamaged w es
+    → is_renewed w (es ++ e ∷ []) u v
+    ≡ (is_renewed w es u v || takes_new (link_act u v e) (old_items w es u v) (length ((run w es).link u v)))
+renewed-goes_on w es e u v pair fine =
     let start = map (λ item. Before) (w.link u v) in
     ap (λ l. hands_over_sent w.net.capacity 0 l start) (map-append (link_act u v) es (e ∷ []))
     ∙ hands-join w.net.capacity 0 (map (link_act u v) es) (link_act u v e) start
-    ∙ ap (λ b. is_served w es u v || b)
+    ∙ ap (λ b. is_renewed w es u v || b)
     (takes-new (link_act u v e) (origins_in w es u v) (first-in w es u v)
     ∙ ap (takes_new (link_act u v e) (old_items w es u v)) (as-many w es u v pair fine))

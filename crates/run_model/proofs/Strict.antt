@@ -5,42 +5,42 @@ use Rattle.topology.specs.Network.{Network, IsAcceptedNetwork}
 use Rattle.topology.specs.Laws.{NeighboursAreJoined}
 use Rattle.data_link.specs.Laws.{StrictSweepIsSweep}
 use Rattle.data_link.specs.Sweep as edge
-use Rattle.data_link.specs.Sweep.{act_out, act_back, takes_item, handed_out, handed_back}
+use Rattle.link_model.specs.HandOver.{takes_item}
+use Rattle.data_link.specs.Sweep.{act_out, act_back, handed_out, handed_back}
 use Rattle.run_model.specs.World.{World, IsWorldInRange}
 use Rattle.run_model.specs.Step.{step}
 use Rattle.run_model.specs.Run.{run, is_damage, has_damage, IsUndamaged}
-use Rattle.run_model.specs.Sweep.{handed_in, IsSweep, IsStrictSweep}
-use Rattle.run_model.specs.Count.{Sweeps, StrictSweeps}
-use Rattle.run_model.specs.Legitimate.{edge_of}
-use Rattle.run_model.specs.Project.{edge_events}
+use Rattle.run_model.specs.Sweep.{IsSweep, Sweeps}
+use Rattle.run_model.specs.Strict.{handed_in, IsStrictSweep, StrictSweeps}
+use Rattle.run_model.specs.Project.{edge_of, edge_events}
 use Rattle.run_model.specs.Laws.{RangesStay}
 use Rattle.run_model.specs.declared.event.Event.{Event}
 use Rattle.run_model.proofs.Joined.{IsEdge, AreEdges}
 use Rattle.run_model.proofs.Steps.{step-network}
-use Rattle.run_model.proofs.Edges.{act-out, act-back, edge-steps, served-out}
+use Rattle.run_model.proofs.Edges.{act-out, act-back, edge-steps, renewed-out}
 use Rattle.run_model.proofs.EdgeRanges.{edge-range}
 
 -- what a stretch hands over on a link is what the edge's own events do
-handed-out : (w : World) (es : List Event) (u v : ℕ) → IsEdge w.net u v → IsUndamaged w es
+handed-out : RangesStay → (w : World) (es : List Event) (u v : ℕ) → IsWorldInRange w → IsEdge w.net u v → IsUndamaged w es
     → handed_out w.net.capacity (edge_of w u v) (edge_events w es u v) ≡ handed_in w es u v
-handed-out w [] u v pair fine = refl
-handed-out w (e ∷ es) u v pair fine =
+handed-out stay w [] u v range pair fine = refl
+handed-out stay w (e ∷ es) u v range pair fine =
     let parts = or_parts (is_damage w e) (has_damage (step w e) es) fine in
-    let same = sym (step-network w e) in
-    let later = handed-out (step w e) es u v (subst (λ net. IsEdge net u v) same pair) parts.1 in
-    let moved = ap (λ s. handed_out w.net.capacity s (edge_events (step w e) es u v)) (sym (edge-steps w e u v pair parts.0)) in
+    let same = sym (step-network w e parts.0) in
+    let later = handed-out stay (step w e) es u v (stay w (e ∷ []) range) (subst (λ net. IsEdge net u v) same pair) parts.1 in
+    let moved = ap (λ s. handed_out w.net.capacity s (edge_events (step w e) es u v)) (sym (edge-steps w e u v range pair parts.0)) in
     let kept = ap (λ net. handed_out net.capacity (edge_of (step w e) u v) (edge_events (step w e) es u v)) same in
     let now = ap (λ act. takes_item act (w.link u v)) (act-out w e u v pair.apart) in
     omega (arith, now, moved, kept, later)
 
-handed-back : (w : World) (es : List Event) (u v : ℕ) → IsEdge w.net u v → IsUndamaged w es
+handed-back : RangesStay → (w : World) (es : List Event) (u v : ℕ) → IsWorldInRange w → IsEdge w.net u v → IsUndamaged w es
     → handed_back w.net.capacity (edge_of w u v) (edge_events w es u v) ≡ handed_in w es v u
-handed-back w [] u v pair fine = refl
-handed-back w (e ∷ es) u v pair fine =
+handed-back stay w [] u v range pair fine = refl
+handed-back stay w (e ∷ es) u v range pair fine =
     let parts = or_parts (is_damage w e) (has_damage (step w e) es) fine in
-    let same = sym (step-network w e) in
-    let later = handed-back (step w e) es u v (subst (λ net. IsEdge net u v) same pair) parts.1 in
-    let moved = ap (λ s. handed_back w.net.capacity s (edge_events (step w e) es u v)) (sym (edge-steps w e u v pair parts.0)) in
+    let same = sym (step-network w e parts.0) in
+    let later = handed-back stay (step w e) es u v (stay w (e ∷ []) range) (subst (λ net. IsEdge net u v) same pair) parts.1 in
+    let moved = ap (λ s. handed_back w.net.capacity s (edge_events (step w e) es u v)) (sym (edge-steps w e u v range pair parts.0)) in
     let kept = ap (λ net. handed_back net.capacity (edge_of (step w e) u v) (edge_events (step w e) es u v)) same in
     let now = ap (λ act. takes_item act (w.link v u)) (act-back w e u v pair.apart) in
     omega (arith, now, moved, kept, later)
@@ -50,13 +50,13 @@ module _ (strict : StrictSweepIsSweep) (near : NeighboursAreJoined) (edges : (ne
   strict-sweep w es range sweep = record {
     undamaged = sweep.undamaged;
     ticked = sweep.ticked;
-    served = λ u v joined.
+    renewed = λ u v joined.
         let pair = edges w.net range.network u v joined in
         let one : edge.IsStrictSweep w.net.capacity (edge_of w u v) (edge_events w es u v) = record {
-          out = omega (arith, sweep.handed u v joined, handed-out w es u v pair sweep.undamaged);
-          back = omega (arith, sweep.handed v u pair.back, handed-back w es u v pair sweep.undamaged);
+          out = omega (arith, sweep.handed u v joined, handed-out stay w es u v range pair sweep.undamaged);
+          back = omega (arith, sweep.handed v u pair.back, handed-back stay w es u v range pair sweep.undamaged);
         } in
-        served-out w es u v pair.apart
+        renewed-out w es u v pair.apart
         ∙ (strict w.net.capacity (edge_of w u v) (edge_events w es u v) (edge-range near w u v range pair) one).out;
   }
 

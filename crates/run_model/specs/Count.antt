@@ -1,20 +1,10 @@
 -- How many sweeps a run holds.
-use Rattle.std.specs.Prelude.{◌≡◌, ℕ, if◌then◌else◌, zero, suc, List, [], ◌∷◌, ◌++◌}
+use Rattle.std.specs.Prelude.{ℕ, if◌then◌else◌, suc, List, [], ◌∷◌}
 use Rattle.run_model.specs.World.{World}
 use Rattle.run_model.specs.Step.{step}
-use Rattle.run_model.specs.Run.{run, has_damage}
-use Rattle.run_model.specs.Sweep.{IsSweep, IsStrictSweep}
+use Rattle.run_model.specs.Run.{has_damage}
+pub use Rattle.run_model.specs.Sweep.{Sweeps}
 use Rattle.run_model.specs.declared.event.Event.{Event}
-
--- a list holds r sweeps where it splits into r sweeps, one after the other, and a rest
-abbrev pub Sweeps : World → ℕ → List Event → Type 0
-Sweeps w zero es = Unit {0}
-Sweeps w (suc r) es = (first rest : List Event) × (es ≡ first ++ rest) × IsSweep w first × Sweeps (run w first) r rest
-
--- the same with strict sweeps
-abbrev pub StrictSweeps : World → ℕ → List Event → Type 0
-StrictSweeps w zero es = Unit {0}
-StrictSweeps w (suc r) es = (first rest : List Event) × (es ≡ first ++ rest) × IsStrictSweep w first × StrictSweeps (run w first) r rest
 
 -- r is the greatest number of sweeps that a list holds
 pub record IsGreatestCount (w : World) (es : List Event) (r : ℕ) : Type 0 where

@@ -1,21 +1,25 @@
 -- The plain laws of runs and sweeps, for every network, world and list of events.
 use Rattle.std.specs.Prelude.{◌≡◌, ℕ, ◌+◌, ◌<◌, ◌≤◌, true, false, IsTrue, is_some, suc, List, [], ◌∷◌, ◌++◌, ◌||◌, length, if◌then◌else◌}
 use Rattle.topology.specs.Network.{Network, IsAcceptedNetwork, are_joined}
+use Rattle.run_model.specs.SameFrame.{IsSameFrame}
 use Rattle.data_link.specs.Edge.{IsEdgeInRange, edge_step, edge_run}
 use Rattle.data_link.specs.Sweep as edge
-use Rattle.data_link.specs.Sweep.{is_out_served, is_back_served}
-use Rattle.run_model.specs.World.{World, IsWorldInRange, default_world}
+use Rattle.data_link.specs.Sweep.{is_out_renewed, is_back_renewed}
+use Rattle.run_model.specs.World.{World, IsWorldInRange}
+use Rattle.run_model.specs.Start.{default_world}
 use Rattle.run_model.specs.Step.{refusal, step}
 use Rattle.run_model.specs.Run.{run, is_damage, IsUndamaged}
-use Rattle.run_model.specs.Sweep.{IsSweep, link_act, is_full_tick, has_full_tick, is_served}
-use Rattle.run_model.specs.Count.{Sweeps, StrictSweeps, IsGreatestCount, after_damage, IsSweepCount}
-use Rattle.run_model.specs.Stretch.{old_items, old_after, takes_new}
+use Rattle.run_model.specs.Sweep.{IsSweep, Sweeps, link_act, is_full_tick, has_full_tick, is_renewed}
+use Rattle.run_model.specs.Strict.{StrictSweeps}
+use Rattle.run_model.specs.Count.{IsGreatestCount, after_damage, IsSweepCount}
+use Rattle.link_model.specs.OldItems.{old_after, takes_new}
+use Rattle.run_model.specs.Stretch.{old_items}
 use Rattle.run_model.specs.Greedy.{IsEarliest, IsUnfinished, IsCounted}
-use Rattle.run_model.specs.Ring.{IsTokenRingGood}
-use Rattle.run_model.specs.Tree.{IsTreeReached}
-use Rattle.run_model.specs.Legitimate.{IsLegitimate, edge_of, is_privileged, is_lending}
+use Rattle.run_model.specs.Privilege.{is_privileged}
 use Rattle.run_model.specs.Visited.{is_visited}
-use Rattle.run_model.specs.Project.{edge_event, edge_events}
+use Rattle.run_model.specs.Project.{edge_of, edge_event, edge_events}
+use Rattle.run_model.specs.Moments.{moment}
+use Rattle.run_model.specs.Touched.{is_node_touched, is_link_touched}
 use Rattle.run_model.specs.declared.event.Event.{Event}
 
 -- ---- steps and runs
@@ -24,9 +28,13 @@ use Rattle.run_model.specs.declared.event.Event.{Event}
 abbrev pub RefusedChangesNothing : Type 0
 RefusedChangesNothing = (w : World) (e : Event) → IsTrue (is_some (refusal w e)) → step w e ≡ w
 
--- no event changes the network
+-- a list without damage leaves the network as it is
 abbrev pub NetworkStays : Type 0
-NetworkStays = (w : World) (es : List Event) → (run w es).net ≡ w.net
+NetworkStays = (w : World) (es : List Event) → IsUndamaged w es → (run w es).net ≡ w.net
+
+-- every list leaves the network its nodes, root, capacity and lease
+abbrev pub FrameStays : Type 0
+FrameStays = (w : World) (es : List Event) → IsSameFrame w.net (run w es).net
 
 -- the default world of each accepted network is in range
 abbrev pub StartIsInRange : Type 0
@@ -40,13 +48,43 @@ RangesStay = (w : World) (es : List Event) → IsWorldInRange w → IsWorldInRan
 abbrev pub RunsJoin : Type 0
 RunsJoin = (w : World) (xs ys : List Event) → run w (xs ++ ys) ≡ run (run w xs) ys
 
--- two lists, one after the other, are without damage where the first is, and the second from where the first led,
+-- two lists, one after the other, are without damage where the first is, and the second from where
+-- the first led,
 abbrev pub UndamagedJoins : Type 0
 UndamagedJoins = (w : World) (xs ys : List Event) → IsUndamaged w xs → IsUndamaged (run w xs) ys → IsUndamaged w (xs ++ ys)
 
 -- and only there
 abbrev pub UndamagedSplits : Type 0
 UndamagedSplits = (w : World) (xs ys : List Event) → IsUndamaged w (xs ++ ys) → IsUndamaged w xs × IsUndamaged (run w xs) ys
+
+-- an event that is none of v's own leaves v as it is
+abbrev pub OwnNodeAlone : Type 0
+OwnNodeAlone = (w : World) (e : Event) (v : ℕ) → is_node_touched e v ≡ false → (step w e).node v ≡ w.node v
+
+-- and one that is none of a link's own leaves its items
+abbrev pub OwnLinkAlone : Type 0
+OwnLinkAlone = (w : World) (e : Event) (u v : ℕ) → is_link_touched e u v ≡ false → (step w e).link u v ≡ w.link u v
+
+-- ---- a run moment by moment
+
+-- From each moment of a run without damage an event that is no damage leads on to the next one, and
+-- each world on the way is in range. So what each such event keeps, a run keeps.
+abbrev pub MomentsFollow : Type 0
+MomentsFollow =
+    (w : World) (es : List Event) (k : ℕ) → IsWorldInRange w → IsUndamaged w es → k < length es
+    → (e : Event) × IsWorldInRange (moment w es k) × (is_damage (moment w es k) e ≡ false) × (moment w es (suc k) ≡ step (moment w es k) e)
+
+-- the last moment is the run's end
+abbrev pub LastMoment : Type 0
+LastMoment = (w : World) (es : List Event) → moment w es (length es) ≡ run w es
+
+-- A list that has a full tick of v has it between two moments. So what a full tick brings about,
+-- and each event keeps, a sweep brings about.
+abbrev pub FullTickAtMoment : Type 0
+FullTickAtMoment =
+    (w : World) (es : List Event) (v : ℕ) → IsWorldInRange w → IsUndamaged w es → IsTrue (has_full_tick w es v)
+    → (k : ℕ) × (k < length es) × (e : Event) × (is_damage (moment w es k) e ≡ false) × (moment w es (suc k) ≡ step (moment w es k) e)
+    × IsTrue (is_full_tick (moment w es k) e v)
 
 -- ---- one edge of a world
 
@@ -67,12 +105,12 @@ EdgeRuns =
     (w : World) (es : List Event) (u v : ℕ) → IsWorldInRange w → IsTrue (are_joined w.net.edges u v) → IsUndamaged w es
     → edge_of (run w es) u v ≡ edge_run w.net.capacity (edge_of w u v) (edge_events w es u v)
 
--- a stretch serves a link where the edge's own events do
-abbrev pub EdgeIsServed : Type 0
-EdgeIsServed =
+-- a stretch renews a link where the edge's own events do
+abbrev pub EdgeIsRenewed : Type 0
+EdgeIsRenewed =
     (w : World) (es : List Event) (u v : ℕ) → IsWorldInRange w → IsTrue (are_joined w.net.edges u v)
-    → (is_served w es u v ≡ is_out_served w.net.capacity (edge_of w u v) (edge_events w es u v))
-    × (is_served w es v u ≡ is_back_served w.net.capacity (edge_of w u v) (edge_events w es u v))
+    → (is_renewed w es u v ≡ is_out_renewed w.net.capacity (edge_of w u v) (edge_events w es u v))
+    × (is_renewed w es v u ≡ is_back_renewed w.net.capacity (edge_of w u v) (edge_events w es u v))
 
 -- and r sweeps are r sweeps of the edge's own events
 abbrev pub EdgeSweeps : Type 0
@@ -94,7 +132,8 @@ SweepsSplit =
     (w : World) (r s : ℕ) (es : List Event) → Sweeps w (r + s) es
     → (first rest : List Event) × (es ≡ first ++ rest) × Sweeps w r first × Sweeps (run w first) s rest
 
--- And the other way round. Behind its r sweeps the first list may go on; the next sweep then takes those events in, so there is to be no damage among them.
+-- And the other way round. Behind its r sweeps the first list may go on; the next sweep then takes
+-- those events in, so there is to be no damage among them.
 abbrev pub SweepsJoin : Type 0
 SweepsJoin =
     (w : World) (r s : ℕ) (first rest : List Event) → IsWorldInRange w → IsUndamaged w first → Sweeps w r first → Sweeps (run w first) s rest
@@ -118,12 +157,12 @@ StrictSweepsAreSweeps = (w : World) (r : ℕ) (es : List Event) → IsWorldInRan
 abbrev pub TicksGoOn : Type 0
 TicksGoOn = (w : World) (es : List Event) (e : Event) (v : ℕ) → has_full_tick w (es ++ e ∷ []) v ≡ (has_full_tick w es v || is_full_tick (run w es) e v)
 
--- a link is served by the event, where this takes a new item, or was before
-abbrev pub ServedGoesOn : Type 0
-ServedGoesOn =
+-- a link is renewed by the event, where this takes a new item, or was before
+abbrev pub RenewedGoesOn : Type 0
+RenewedGoesOn =
     (w : World) (es : List Event) (e : Event) (u v : ℕ) → IsWorldInRange w → IsTrue (are_joined w.net.edges u v) → IsUndamaged w es
-    → is_served w (es ++ e ∷ []) u v
-    ≡ (is_served w es u v || takes_new (link_act u v e) (old_items w es u v) (length ((run w es).link u v)))
+    → is_renewed w (es ++ e ∷ []) u v
+    ≡ (is_renewed w es u v || takes_new (link_act u v e) (old_items w es u v) (length ((run w es).link u v)))
 
 -- at the start all items of a link are old ones,
 abbrev pub OldItemsStart : Type 0
@@ -141,7 +180,8 @@ OldItemsAreThere =
 
 -- ---- counting greedily
 
--- Ending a sweep at the first event at which it is one loses none: if the list holds one sweep more than r, the rest behind the earliest sweep holds r.
+-- Ending a sweep at the first event at which it is one loses none: if the list holds one sweep more
+-- than r, the rest behind the earliest sweep holds r.
 abbrev pub EarliestIsBest : Type 0
 EarliestIsBest =
     (w : World) (r : ℕ) (first rest : List Event) → IsWorldInRange w → IsUndamaged w (first ++ rest) → IsEarliest w first
@@ -185,7 +225,8 @@ OneCount = (w : World) (es : List Event) (r s : ℕ) → IsSweepCount w es r →
 
 -- ---- since the last damage
 
--- the world right after the last damage of a run is in range, and leads to the run's end without damage
+-- the world right after the last damage of a run is in range, and leads to the run's end without
+-- damage
 abbrev pub MomentLeads : Type 0
 MomentLeads =
     (w : World) (es : List Event) → IsWorldInRange w
@@ -205,22 +246,9 @@ MomentMoves =
     (w : World) (es : List Event) (e : Event) → is_damage (run w es) e ≡ true
     → after_damage w (es ++ e ∷ []) ≡ record { world = step (run w es) e; rest = [] }
 
--- what the privilege has visited after one more event: damage begins anew, and any other event adds who is privileged then
+-- what the privilege has visited after one more event: damage begins anew, and any other event adds
+-- who is privileged then
 abbrev pub VisitsGoOn : Type 0
 VisitsGoOn =
     (w : World) (es : List Event) (e : Event) (v : ℕ)
     → is_visited w (es ++ e ∷ []) v ≡ ((if is_damage (run w es) e then false else is_visited w es v) || is_privileged (step (run w es) e) v)
-
--- ---- privilege and loans
-
--- where the tree is reached and the token ring is good, at most one node is privileged
-abbrev pub OnePrivileged : Type 0
-OnePrivileged =
-    (w : World) (u v : ℕ) → IsWorldInRange w → IsTreeReached w → IsTokenRingGood w → u < w.net.nodes → v < w.net.nodes
-    → IsTrue (is_privileged w u) → IsTrue (is_privileged w v) → u ≡ v
-
--- in a legitimate world at most one node lends
-abbrev pub OneLending : Type 0
-OneLending =
-    (w : World) (u v : ℕ) → IsWorldInRange w → IsLegitimate w → u < w.net.nodes → v < w.net.nodes
-    → IsTrue (is_lending w u) → IsTrue (is_lending w v) → u ≡ v

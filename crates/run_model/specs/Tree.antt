@@ -6,8 +6,9 @@ use Rattle.topology.specs.declared.frame.Payload.{Payload}
 use Rattle.bfs_tree.specs.Stage.{is_of_stage}
 use Rattle.run_model.specs.World.{World}
 
--- Stage k of the tree: every distance written for a node is exact where its true distance is below k, and at least k elsewhere. It is written
--- in three places: at the node itself, staged at each of its ports, and copied at each of its neighbours.
+-- Stage k of the tree: every distance written for a node is exact where its true distance is below
+-- k, and at least k elsewhere. It is written in three places: at the node itself, staged at each of
+-- its ports, and copied at each of its neighbours.
 pub record IsTreeAtStage (k : ℕ) (w : World) : Type 0 where
   pub own : (v : ℕ) → v < w.net.nodes → IsTrue (is_of_stage k (distance_of w.net v) (w.node v).distance)
   pub staged : (v u : ℕ) → IsTrue (are_joined w.net.edges v u) → IsTrue (is_of_stage k (distance_of w.net v) ((w.node v).port u).staged.distance)
@@ -18,7 +19,8 @@ pub record IsTrueOf (w : World) (v : ℕ) (p : Payload) : Type 0 where
   pub distance : p.distance ≡ distance_of w.net v
   pub parent : p.parent ≡ parent_of w.net v
 
--- The tree is reached: every node, staged payload and copy shows the true distance and the true parent of the node that it speaks of.
+-- The tree is reached: every node, staged payload and copy shows the true distance and the true
+-- parent of the node that it speaks of.
 pub record IsTreeReached (w : World) : Type 0 where
   pub distance : (v : ℕ) → v < w.net.nodes → (w.node v).distance ≡ distance_of w.net v
   pub parent : (v : ℕ) → v < w.net.nodes → (w.node v).parent ≡ parent_of w.net v

@@ -1,36 +1,35 @@
--- A world: a network, the state of each node, and the items under way on each directed link. It is read as functions of the nodes' ids.
-use Rattle.std.specs.Prelude.{ℕ, ◌<◌, ◌≤◌, ◌==◌, ◌&&◌, if◌then◌else◌, IsTrue, List, [], All, length}
+-- A world: a network, the state of each node, and the items under way on each directed link. It is
+-- read as functions of the nodes' ids.
+use Rattle.std.specs.Prelude.{ℕ, ◌<◌, ◌≤◌, ◌==◌, ◌&&◌, if◌then◌else◌, IsTrue, List, All, length}
 use Rattle.topology.specs.At.{at}
 use Rattle.topology.specs.Network.{Network, IsAcceptedNetwork, are_joined}
 use Rattle.topology.specs.Ranges.{ranges_of}
 use Rattle.link_model.specs.declared.item.Item.{Item}
 use Rattle.node_core.specs.Site.{Site, site_of}
 pub use Rattle.node_core.specs.Step.{item_fits}
-use Rattle.node_core.specs.State.{NodeState, IsNodeInRange, default_node}
+use Rattle.node_core.specs.State.{LocalState, IsNodeInRange}
 
--- The network stands in the world, since a later kind of event may change it. `link u v` holds what is under way from u to v, oldest first.
+-- The network stands in the world, since a later kind of event may change it. `link u v` holds what
+-- is under way from u to v, oldest first.
 pub record World : Type 0 where
   pub net : Network
-  pub node : ℕ → NodeState
+  pub node : ℕ → LocalState
   pub link : ℕ → ℕ → List Item
 
--- Each node is in range, and each link of an edge holds at most as many items as its capacity, all in range. Every such world is a possible start.
+-- Each node is in range, and each link of an edge holds at most as many items as its capacity, all
+-- in range. Every such world is a possible start.
 pub record IsWorldInRange (w : World) : Type 0 where
   pub network : IsAcceptedNetwork w.net
   pub nodes : (v : ℕ) → v < w.net.nodes → IsNodeInRange (site_of w.net v) (w.node v)
   pub capacity : (u v : ℕ) → IsTrue (are_joined w.net.edges u v) → length (w.link u v) ≤ w.net.capacity
   pub items : (u v : ℕ) → IsTrue (are_joined w.net.edges u v) → All (λ item. IsTrue (item_fits (ranges_of w.net) item)) (w.link u v)
 
--- the world in which every node is as it starts and nothing is under way
-abbrev pub default_world : Network → World
-default_world net = record { net = net; node = λ v. default_node (ranges_of net); link = λ u v. [] }
-
 -- what v knows of the network, and what it is
 abbrev pub site : World → ℕ → Site
 site w v = site_of w.net v
 
 -- the world with another state of v
-abbrev pub with_node : World → ℕ → NodeState → World
+abbrev pub with_node : World → ℕ → LocalState → World
 with_node w v s = record w { node = at w.node v s }
 
 -- a function of two ids, with x at u and v

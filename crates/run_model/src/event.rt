@@ -3,16 +3,20 @@
 use link_model::{Item, Payload};
 use thiserror::Error;
 
-/// One atomic step of the network: what one thread does between two moments at which others may look.
+/// One atomic step of the network: what one thread does between two moments at which others may
+/// look.
 #[derive(Clone, Copy, Debug, PartialEq, Eq)]
 pub enum Event {
-    /// The node `from` puts the frame of its port to `to` on that link. On a full link the frame is lost.
+    /// The node `from` puts the frame of its port to `to` on that link. On a full link the frame is
+    /// lost.
     Send { from: u16, to: u16 },
-    /// The node `to` takes the oldest item of the link from `from`. On an empty link nothing happens.
+    /// The node `to` takes the oldest item of the link from `from`. On an empty link nothing
+    /// happens.
     Take { from: u16, to: u16 },
     /// An item of a link is lost under way; 0 is the oldest.
     Lose { from: u16, to: u16, item: u16 },
-    /// The node recomputes its distance and parent, serves its desk, and moves its privileged machines.
+    /// The node recomputes its distance and parent, serves its desk, and moves its privileged
+    /// machines.
     Tick { node: u16 },
     /// A client of the node asks for the lock, with its ticket.
     Ask { node: u16, ticket: u16 },
@@ -56,7 +60,8 @@ pub enum Harm {
         neighbour: u16,
         value: u16,
     },
-    /// A desk's loan: the ticket that it lends to, the ticks left, and whether a loan ended since the last full tick.
+    /// A desk's loan: the ticket that it lends to, the ticks left, and whether a loan ended since
+    /// the last full tick.
     Desk {
         node: u16,
         lent: Option<u16>,
@@ -76,7 +81,8 @@ pub enum Harm {
     },
 }
 
-/// Why an event is refused, in the order in which the causes are looked for. A refused event changes nothing.
+/// Why an event is refused, in the order in which the causes are looked for. A refused event
+/// changes nothing.
 #[derive(Clone, Copy, Debug, PartialEq, Eq, Drop, Error)]
 pub enum EventFault {
     /// An id is no node's.

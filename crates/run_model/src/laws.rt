@@ -1,46 +1,74 @@
-//! What holds of runs and sweeps, for the crates above: each law is the contract of a function that does nothing.
-ghost use Rattle.run_model.specs.Laws.{RefusedChangesNothing, NetworkStays, RunsJoin, UndamagedJoins, UndamagedSplits, StartIsInRange, RangesStay, EdgesAreInRange, EdgeSteps, EdgeRuns, EdgeIsServed, EdgeSweeps, SweepGrows, SweepsSplit, SweepsJoin, FewerSweeps, SweepsGrow, StrictSweepsAreSweeps, TicksGoOn, ServedGoesOn, OldItemsStart, OldItemsGoOn, OldItemsAreThere, EarliestIsBest, GreedyCount, NoSweepCount, CountedIsGreatest, CountStarts, CountStays, CountRises, OneCount, MomentLeads, MomentStays, MomentMoves, VisitsGoOn};
+//! What holds of runs and sweeps, for the crates above: each law is the contract of a function that
+//! does nothing.
+ghost use Rattle.run_model.specs.Ticks.{NodesMoveInTicks, TicksAreAccepted};
+ghost use Rattle.run_model.specs.Laws.{RefusedChangesNothing, NetworkStays, FrameStays, RunsJoin, UndamagedJoins, UndamagedSplits, StartIsInRange, RangesStay, EdgesAreInRange, EdgeSteps, EdgeRuns, EdgeIsRenewed, EdgeSweeps, SweepGrows, SweepsSplit, SweepsJoin, FewerSweeps, SweepsGrow, StrictSweepsAreSweeps, TicksGoOn, RenewedGoesOn, OldItemsStart, OldItemsGoOn, OldItemsAreThere, EarliestIsBest, GreedyCount, NoSweepCount, CountedIsGreatest, CountStarts, CountStays, CountRises, OneCount, OwnNodeAlone, OwnLinkAlone, MomentsFollow, LastMoment, FullTickAtMoment, MomentLeads, MomentStays, MomentMoves, VisitsGoOn};
 
-/// A refused event changes nothing, and no event changes the network; the run of two lists is the run of the second from where the
-/// first led, and is without damage where both are. Whoever speaks of a moment of a run needs these.
+/// A refused event changes nothing; a list without damage leaves the network as it is, and every
+/// list its nodes, root, capacity and lease; the run of two lists is the run of the second from
+/// where the first led, and is without damage where both are. Whoever speaks of a moment of a run
+/// needs these.
 pub fn runs()
     ensures refused { RefusedChangesNothing }
     ensures network { NetworkStays }
+    ensures frame { FrameStays }
     ensures join { RunsJoin }
     ensures undamaged_joins { UndamagedJoins }
     ensures undamaged_splits { UndamagedSplits }
 {}
 
-/// The world in which every node is as it starts and nothing is under way is in range, as each possible start is to be.
+/// The world in which every node is as it starts and nothing is under way is in range, as each
+/// possible start is to be.
 pub fn start()
     ensures { StartIsInRange }
 {}
 
-/// Every world in range leads to worlds in range alone: whatever holds of each world in range holds at each moment of a run.
+/// Every world in range leads to worlds in range alone: whatever holds of each world in range holds
+/// at each moment of a run.
 pub fn in_range()
     ensures { RangesStay }
 {
     topology::laws::neighbours();
-    data_link::laws::port_law();
+    data_link::laws::ports();
     bfs_tree::laws::step_in_range();
     lock_desk::laws::ranges_are_kept();
 }
 
-/// One edge of a world: an event that is no damage is one event of the edge, so a run is a run of the edge and a sweep is a sweep of
-/// it. By these the laws of one edge hold of every edge of a world.
+/// An event changes its own node and its own link alone. Whoever follows one node or one edge
+/// passes over all other events by this.
+pub fn own_changes()
+    ensures node { OwnNodeAlone }
+    ensures link { OwnLinkAlone }
+{}
+
+/// A run moment by moment: what each event keeps that is no damage, a run keeps, by an induction
+/// over its moments; and what a full tick of a node brings about, a list with such a tick brings
+/// about.
+pub fn run_moments()
+    ensures follow { MomentsFollow }
+    ensures last { LastMoment }
+    ensures full_tick { FullTickAtMoment }
+{
+    in_range();
+}
+
+/// One edge of a world: an event that is no damage is one event of the edge, so a run is a run of
+/// the edge and a sweep is a sweep of it. By these the laws of one edge hold of every edge of a
+/// world.
 pub fn edges()
     ensures in_range { EdgesAreInRange }
     ensures steps { EdgeSteps }
     ensures runs { EdgeRuns }
-    ensures served { EdgeIsServed }
+    ensures renewed { EdgeIsRenewed }
     ensures sweeps { EdgeSweeps }
 {
     topology::laws::joined();
     topology::laws::neighbours();
+    in_range();
 }
 
-/// Lists that hold sweeps: r + s sweeps are r and then s, and the other way round; a list that holds some holds fewer; events before
-/// or behind take none away. Convergence goes in stages, each with sweeps of its own.
+/// Lists that hold sweeps: r + s sweeps are r and then s, and the other way round; a list that
+/// holds some holds fewer; events before or behind take none away. Convergence goes in stages, each
+/// with sweeps of its own.
 pub fn sweep_numbers()
     ensures grows { SweepGrows }
     ensures split { SweepsSplit }
@@ -57,15 +85,16 @@ pub fn strict_sweeps()
 {
     topology::laws::joined();
     topology::laws::neighbours();
-    data_link::laws::sweep_law();
+    data_link::laws::sweeps();
     in_range();
 }
 
-/// A stretch event by event: which nodes have had a full tick and which links are served follows from the event, and from how many of a
-/// link's items stood there before the stretch. Those are the oldest, so their number is all that is to be kept of them.
+/// A stretch event by event: which nodes have had a full tick and which links are renewed follows
+/// from the event, and from how many of a link's items stood there before the stretch. Those are
+/// the oldest, so their number is all that is to be kept of them.
 pub fn stretches()
     ensures ticks { TicksGoOn }
-    ensures served { ServedGoesOn }
+    ensures renewed { RenewedGoesOn }
     ensures old_start { OldItemsStart }
     ensures old_go_on { OldItemsGoOn }
     ensures old_are_there { OldItemsAreThere }
@@ -73,8 +102,8 @@ pub fn stretches()
     topology::laws::joined();
 }
 
-/// The greatest number of sweeps is found greedily: end each sweep at the first event at which it is one. So whoever reads a run event
-/// by event keeps the count and the unfinished stretch alone.
+/// The greatest number of sweeps is found greedily: end each sweep at the first event at which it
+/// is one. So whoever reads a run event by event keeps the count and the unfinished stretch alone.
 pub fn sweep_counts()
     ensures earliest { EarliestIsBest }
     ensures greedy { GreedyCount }
@@ -86,9 +115,11 @@ pub fn sweep_counts()
     ensures one { OneCount }
 {
     topology::laws::joined();
+    in_range();
 }
 
-/// The moment after the last damage, and whom the privilege has visited since, as events come. Sweeps and visits are counted from there.
+/// The moment after the last damage, and whom the privilege has visited since, as events come.
+/// Sweeps and visits are counted from there.
 pub fn moments()
     ensures leads { MomentLeads }
     ensures stays { MomentStays }
@@ -96,4 +127,13 @@ pub fn moments()
     ensures visits { VisitsGoOn }
 {
     in_range();
+}
+
+/// Machines move, and loans begin, in a node's own ticks alone. Whoever speaks of one node along a
+/// run needs no other event.
+pub fn ticks()
+    ensures moves { NodesMoveInTicks }
+    ensures accepted { TicksAreAccepted }
+{
+    lock_desk::laws::only_ticks_lend();
 }

@@ -15,6 +15,10 @@ use Rattle.run_model.specs.declared.event.Event.{Event}
 pub undamaged-front : (w : World) (e : Event) (es : List Event) → IsUndamaged w (e ∷ es) → (is_damage w e ≡ false) × IsUndamaged (step w e) es
 undamaged-front w e es h = grind (arith, common_steps)
 
+-- one event that is no damage is a list without damage
+pub undamaged-one : (w : World) (e : Event) → is_damage w e ≡ false → IsUndamaged w (e ∷ [])
+undamaged-one w e h = grind (arith, common_steps)
+
 -- a fact of worlds that each event keeps which is no damage, while worlds are in range
 abbrev pub IsKept : (World → Type 0) → Type 0
 IsKept P = (w : World) (e : Event) → IsWorldInRange w → is_damage w e ≡ false → P w → P (step w e)

@@ -11,15 +11,14 @@ use Rattle.node_core.specs.Step.{copied_distance}
 use Rattle.run_model.specs.World.{World, IsWorldInRange}
 use Rattle.run_model.specs.Step.{step}
 use Rattle.run_model.specs.Run.{run, is_damage, IsUndamaged}
-use Rattle.run_model.specs.Sweep.{IsSweep, is_full_tick}
-use Rattle.run_model.specs.Count.{Sweeps}
+use Rattle.run_model.specs.Sweep.{IsSweep, is_full_tick, Sweeps}
 use Rattle.run_model.specs.Tree.{IsTreeAtStage, IsTreeReached}
-use Rattle.run_model.specs.Legitimate.{AreLinksStable}
+use Rattle.run_model.specs.Links.{AreLinksStable}
 use Rattle.run_model.specs.Laws as runs
 use Rattle.run_model.specs.declared.event.Event.{Event}
 use Rattle.tree_convergence.specs.Laws.{LinksStayStable, StagedIsPresent, CopyIsStaged, PayloadsTurnFresh, StageStays, ParentsTurnTrue, TreeStays}
 use Rattle.tree_convergence.proofs.SameParent.{same_parent, same-is, same-self}
-use Rattle.tree_convergence.proofs.Along.{IsKept, kept, ticked, always}
+use Rattle.tree_convergence.proofs.Along.{undamaged-one, IsKept, kept, ticked, always}
 use Rattle.tree_convergence.proofs.Own.{next_parent, own-parent, tick-parent}
 
 -- every link is stable, and every distance is exact
@@ -50,12 +49,12 @@ module _ (net-stays : runs.NetworkStays) (ranges : runs.RangesStay) (splits : ru
     exact-kept : IsKept IsExact
     exact-kept w e r d h = record {
       links = links-stay w e r d h.links;
-      stage = subst (λ n. IsTreeAtStage n (step w e)) (ap (λ n. n.nodes) (sym (net-stays w (e ∷ [])))) (stage-stays w.net.nodes w e r d h.links h.stage);
+      stage = subst (λ n. IsTreeAtStage n (step w e)) (ap (λ n. n.nodes) (sym (net-stays w (e ∷ []) (undamaged-one w e d)))) (stage-stays w.net.nodes w e r d h.links h.stage);
     }
 
     parent-kept : (v : ℕ) (w : World) (e : Event) → IsWorldInRange w → is_damage w e ≡ false → IsExact w → HasParent v w → HasParent v (step w e)
     parent-kept v w e r d h own b =
-        let net : (step w e).net ≡ w.net = net-stays w (e ∷ []) in
+        let net : (step w e).net ≡ w.net = net-stays w (e ∷ []) (undamaged-one w e d) in
         let b' : v < w.net.nodes = subst (λ n. v < n.nodes) net b in
         subst (λ n. ((step w e).node v).parent ≡ parent_of n v) (sym net) (elim (own-parent w e v d) [
           | inl same ↦ same ∙ own b'
@@ -64,7 +63,7 @@ module _ (net-stays : runs.NetworkStays) (ranges : runs.RangesStay) (splits : ru
 
     parent-ticked : (v : ℕ) (w : World) (e : Event) → IsWorldInRange w → is_damage w e ≡ false → IsExact w → is_full_tick w e v ≡ true → HasParent v (step w e)
     parent-ticked v w e r d h tick b =
-        let net : (step w e).net ≡ w.net = net-stays w (e ∷ []) in
+        let net : (step w e).net ≡ w.net = net-stays w (e ∷ []) (undamaged-one w e d) in
         let b' : v < w.net.nodes = subst (λ n. v < n.nodes) net b in
         subst (λ n. ((step w e).node v).parent ≡ parent_of n v) (sym net) (tick-parent w e v b' tick ∙ next-true w v r b' h.stage)
 
@@ -76,7 +75,7 @@ module _ (net-stays : runs.NetworkStays) (ranges : runs.RangesStay) (splits : ru
     parents-there w es r h sweep = record {
       exact = kept ranges IsExact exact-kept w es r sweep.undamaged h;
       own = λ v b. ticked ranges IsExact (HasParent v) v exact-kept (parent-kept v) (parent-ticked v) w es r sweep.undamaged h
-          (inr (sweep.ticked v (subst (λ n. v < n.nodes) (net-stays w es) b))) b;
+          (inr (sweep.ticked v (subst (λ n. v < n.nodes) (net-stays w es sweep.undamaged) b))) b;
     }
 
     -- exact distances, as equations
@@ -93,14 +92,14 @@ module _ (net-stays : runs.NetworkStays) (ranges : runs.RangesStay) (splits : ru
       -- three more
       reached : (w : World) (es : List Event) → IsWorldInRange w → IsUndamaged w es → HasParents w → Sweeps w 3 es → IsTreeReached (run w es)
       reached w es r d h sweeps =
-          let net : (run w es).net ≡ w.net = net-stays w es in
+          let net : (run w es).net ≡ w.net = net-stays w es d in
           let end : HasParents (run w es) = kept ranges HasParents parents-kept w es r d h in
           let r' : IsWorldInRange (run w es) = ranges w es r in
           let test : ℕ → Payload → Bool = λ v p. same_parent p.parent (parent_of w.net v) in
           let fresh = λ (v u : ℕ) (j : IsTrue (are_joined w.net.edges v u)).
           turn-fresh (test v) w es v u r d j (h.exact.links v u j) sweeps
           (always ranges (λ x. (x.net ≡ w.net) × HasParents x)
-          (λ x e rx dx hx. (net-stays x (e ∷ []) ∙ hx.0, parents-kept x e rx dx hx.1)) (test v) v u
+          (λ x e rx dx hx. (net-stays x (e ∷ []) (undamaged-one x e dx) ∙ hx.0, parents-kept x e rx dx hx.1)) (test v) v u
           (λ x rx hx. same-self (x.node v).parent (parent_of w.net v)
           (subst (λ n. (x.node v).parent ≡ parent_of n v) hx.0 (hx.1.own v (subst (λ n. v < n.nodes) (sym hx.0) (joined-nodes w.net v u r.network j).0))))
           w es r d (refl, h)) in
@@ -140,7 +139,7 @@ module _ (net-stays : runs.NetworkStays) (ranges : runs.RangesStay) (splits : ru
   module _ (links-stay : LinksStayStable) (stage-stays : StageStays) (staged-present : StagedIsPresent) (copy-staged : CopyIsStaged) where
     pub tree-stays : TreeStays
     tree-stays w e r d links t =
-        let net : (step w e).net ≡ w.net = net-stays w (e ∷ []) in
+        let net : (step w e).net ≡ w.net = net-stays w (e ∷ []) (undamaged-one w e d) in
         let r' : IsWorldInRange (step w e) = ranges w (e ∷ []) r in
         let exact : IsExact w = record { links = links; stage = exact-stage w t } in
         let s' : IsTreeAtStage (step w e).net.nodes (step w e) = (exact-kept links-stay stage-stays w e r d exact).stage in

@@ -1,17 +1,19 @@
--- Links become stable, payloads become fresh, and the tree is reached: each law for the number of sweeps that it uses.
-use Rattle.std.specs.Prelude.{◌≡◌, ℕ, ◌+◌, ◌*◌, ◌⊎◌, Bool, true, false, IsTrue, List}
+-- Links become stable, payloads become fresh, and the tree is reached: each law for the number of
+-- sweeps that it uses.
+use Rattle.std.specs.Prelude.{◌≡◌, ℕ, ◌+◌, ◌*◌, ◌<◌, ◌⊎◌, Bool, true, false, IsTrue, List}
 use Rattle.topology.specs.Network.{are_joined}
+use Rattle.topology.specs.Eccentricity.{eccentricity_of}
 use Rattle.topology.specs.declared.frame.Payload.{Payload}
 use Rattle.data_link.specs.Edge.{IsStable}
 use Rattle.run_model.specs.World.{World, IsWorldInRange}
 use Rattle.run_model.specs.Step.{step}
 use Rattle.run_model.specs.Run.{run, is_damage, IsUndamaged}
-use Rattle.run_model.specs.Count.{Sweeps}
+use Rattle.run_model.specs.Sweep.{IsSweep, Sweeps}
 use Rattle.run_model.specs.Tree.{IsTreeAtStage, IsTreeReached}
-use Rattle.run_model.specs.Legitimate.{AreLinksStable, edge_of}
-use Rattle.run_model.specs.Project.{present}
+use Rattle.run_model.specs.Links.{AreLinksStable}
+use Rattle.run_model.specs.Project.{edge_of, present}
 use Rattle.run_model.specs.declared.event.Event.{Event}
-use Rattle.tree_convergence.specs.Present.{AlwaysPresent}
+use Rattle.tree_convergence.specs.Present.{AlwaysPresent, AlwaysStaged, number_moves}
 
 -- ---- links
 
@@ -19,9 +21,27 @@ use Rattle.tree_convergence.specs.Present.{AlwaysPresent}
 abbrev pub LinksStayStable : Type 0
 LinksStayStable = (w : World) (e : Event) → IsWorldInRange w → is_damage w e ≡ false → AreLinksStable w → AreLinksStable (step w e)
 
+-- and so does a list without damage
+abbrev pub LinksOutlastRuns : Type 0
+LinksOutlastRuns =
+    (w : World) (es : List Event) → IsWorldInRange w → IsUndamaged w es → AreLinksStable w → AreLinksStable (run w es)
+
 -- after 4(C + 1) sweeps every link is stable
 abbrev pub LinksTurnStable : Type 0
-LinksTurnStable = (w : World) (es : List Event) → IsWorldInRange w → IsUndamaged w es → Sweeps w (4 * (w.net.capacity + 1)) es → AreLinksStable (run w es)
+LinksTurnStable =
+    (w : World) (es : List Event) → IsWorldInRange w → IsUndamaged w es
+    → Sweeps w (4 * (w.net.capacity + 1)) es → AreLinksStable (run w es)
+
+-- after six sweeps every link is stable, whatever its capacity
+abbrev pub LinksTurnStableInSix : Type 0
+LinksTurnStableInSix =
+    (w : World) (es : List Event) → IsWorldInRange w → IsUndamaged w es → Sweeps w 6 es → AreLinksStable (run w es)
+
+-- two sweeps move the number that u sends to v
+abbrev pub NumbersMove : Type 0
+NumbersMove =
+    (w : World) (es : List Event) (u v : ℕ) → IsWorldInRange w → IsTrue (are_joined w.net.edges u v) → Sweeps w 2 es
+    → 0 < number_moves w es u v
 
 -- ---- payloads on a stable link
 
@@ -34,15 +54,34 @@ StagedIsPresent =
 -- on a stable link an event leaves what v has copied from u, or copies what u then has staged for v
 abbrev pub CopyIsStaged : Type 0
 CopyIsStaged =
-    (w : World) (e : Event) (u v : ℕ) → IsWorldInRange w → is_damage w e ≡ false → IsTrue (are_joined w.net.edges u v) → IsStable w.net.capacity (edge_of w u v)
+    (w : World) (e : Event) (u v : ℕ) → IsWorldInRange w → is_damage w e ≡ false
+    → IsTrue (are_joined w.net.edges u v) → IsStable w.net.capacity (edge_of w u v)
     → (((step w e).node v).port u).copy ≡ ((w.node v).port u).copy ⊎ (((step w e).node v).port u).copy ≡ ((w.node u).port v).staged
 
--- on a stable link, whatever holds of what u says of itself to v throughout three sweeps holds of what is staged and copied at their end
+-- on a stable link, whatever holds of what u says of itself to v throughout three sweeps holds of
+-- what is staged and copied at their end
 abbrev pub PayloadsTurnFresh : Type 0
 PayloadsTurnFresh =
-    (test : Payload → Bool) (w : World) (es : List Event) (u v : ℕ) → IsWorldInRange w → IsUndamaged w es → IsTrue (are_joined w.net.edges u v)
+    (test : Payload → Bool) (w : World) (es : List Event) (u v : ℕ) → IsWorldInRange w
+    → IsUndamaged w es → IsTrue (are_joined w.net.edges u v)
     → IsStable w.net.capacity (edge_of w u v) → Sweeps w 3 es → AlwaysPresent test w es u v
     → (test (((run w es).node u).port v).staged ≡ true) × (test (((run w es).node v).port u).copy ≡ true)
+
+-- whatever holds of what u says of itself to v throughout two sweeps holds of what is staged at
+-- their end
+abbrev pub StagedTurnsFresh : Type 0
+StagedTurnsFresh =
+    (test : Payload → Bool) (w : World) (es : List Event) (u v : ℕ) → IsWorldInRange w → IsUndamaged w es
+    → IsTrue (are_joined w.net.edges u v) → Sweeps w 2 es → AlwaysPresent test w es u v
+    → test (((run w es).node u).port v).staged ≡ true
+
+-- on a stable link, whatever holds of what u has staged for v throughout a sweep holds of what v
+-- has copied at its end
+abbrev pub CopyTurnsStaged : Type 0
+CopyTurnsStaged =
+    (test : Payload → Bool) (w : World) (es : List Event) (u v : ℕ) → IsWorldInRange w → IsTrue (are_joined w.net.edges u v)
+    → IsStable w.net.capacity (edge_of w u v) → IsSweep w es → AlwaysStaged test w es u v
+    → test (((run w es).node v).port u).copy ≡ true
 
 -- ---- the tree, on stable links
 
@@ -53,7 +92,8 @@ StageZero = (w : World) → IsWorldInRange w → IsTreeAtStage 0 w
 -- an event that is no damage keeps the stage
 abbrev pub StageStays : Type 0
 StageStays =
-    (k : ℕ) (w : World) (e : Event) → IsWorldInRange w → is_damage w e ≡ false → AreLinksStable w → IsTreeAtStage k w → IsTreeAtStage k (step w e)
+    (k : ℕ) (w : World) (e : Event) → IsWorldInRange w → is_damage w e ≡ false → AreLinksStable w
+    → IsTreeAtStage k w → IsTreeAtStage k (step w e)
 
 -- four sweeps reach the next stage
 abbrev pub StageRises : Type 0
@@ -73,6 +113,14 @@ TreeIsReached =
     (w : World) (es : List Event) → IsWorldInRange w → IsUndamaged w es → AreLinksStable w → Sweeps w (4 * (w.net.nodes + 1)) es
     → IsTreeReached (run w es)
 
+-- and 4(e + 2) of them do, where e is the greatest distance of a node from the root,
+abbrev pub TreeIsReachedByDepth : Type 0
+TreeIsReachedByDepth =
+    (w : World) (es : List Event) → IsWorldInRange w → IsUndamaged w es → AreLinksStable w
+    → Sweeps w (4 * (eccentricity_of w.net + 2)) es → IsTreeReached (run w es)
+
 -- and an event that is no damage keeps it reached
 abbrev pub TreeStays : Type 0
-TreeStays = (w : World) (e : Event) → IsWorldInRange w → is_damage w e ≡ false → AreLinksStable w → IsTreeReached w → IsTreeReached (step w e)
+TreeStays =
+    (w : World) (e : Event) → IsWorldInRange w → is_damage w e ≡ false → AreLinksStable w
+    → IsTreeReached w → IsTreeReached (step w e)

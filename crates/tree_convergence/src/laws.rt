@@ -1,29 +1,50 @@
-//! How links become stable, payloads fresh and the tree reached: each law is the contract of a function that does nothing.
-ghost use Rattle.tree_convergence.specs.Laws.{LinksStayStable, LinksTurnStable, StagedIsPresent, CopyIsStaged, PayloadsTurnFresh, StageZero, StageStays, StageRises, ParentsTurnTrue, TreeIsReached, TreeStays};
+//! How links become stable, payloads fresh and the tree reached: each law is the contract of a
+//! function that does nothing.
+ghost use Rattle.tree_convergence.specs.Laws.{LinksStayStable, LinksOutlastRuns, LinksTurnStable};
+ghost use Rattle.tree_convergence.specs.Laws.{LinksTurnStableInSix, NumbersMove, StagedTurnsFresh, CopyTurnsStaged};
+ghost use Rattle.tree_convergence.specs.Laws.{StagedIsPresent, CopyIsStaged, PayloadsTurnFresh, StageZero};
+ghost use Rattle.tree_convergence.specs.Laws.{StageStays, StageRises, ParentsTurnTrue, TreeIsReached};
+ghost use Rattle.tree_convergence.specs.Laws.{TreeIsReachedByDepth, TreeStays};
 
-/// Links: each is stable after 4(C + 1) sweeps, from any state, and stays so. All that is above a link rests on this.
+/// Links: each is stable after 4(C + 1) sweeps, from any state, and after six whatever its
+/// capacity, and stays so; and any two sweeps move the number of each sender. All that is above a
+/// link rests on this.
 pub fn links()
     ensures stay { LinksStayStable }
+    ensures stay_in_runs { LinksOutlastRuns }
     ensures turn { LinksTurnStable }
+    ensures turn_in_six { LinksTurnStableInSix }
+    ensures numbers_move { NumbersMove }
 {
-    data_link::laws::closure_law();
-    data_link::laws::convergence_law();
+    data_link::laws::stays_stable();
+    data_link::laws::turns_stable();
+    data_link::laws::six_sweeps();
+    data_link::laws::sweeps();
     run_model::laws::runs();
+    run_model::laws::in_range();
     run_model::laws::edges();
 }
 
-/// Payloads: what is staged was present, what a stable link copies was staged, and three sweeps replace both. The tree needs it of distances
-/// and parents, the token ring of ring values.
+/// Payloads: what is staged was present, what a stable link copies was staged, and three sweeps
+/// replace both: two what is staged, and one more the copy. The tree needs it of distances and
+/// parents, the token ring of ring values.
 pub fn payloads()
     ensures staged { StagedIsPresent }
     ensures copied { CopyIsStaged }
     ensures turn_fresh { PayloadsTurnFresh }
+    ensures staged_turns { StagedTurnsFresh }
+    ensures copy_turns { CopyTurnsStaged }
 {
-    data_link::laws::payload_law();
+    data_link::laws::payloads();
+    data_link::laws::sweeps();
+    run_model::laws::runs();
+    run_model::laws::in_range();
     run_model::laws::edges();
+    topology::laws::joined();
 }
 
-/// The stages of the tree, on stable links: stage 0 holds of any world, each stage stays, and four sweeps raise it by one.
+/// The stages of the tree, on stable links: stage 0 holds of any world, each stage stays, and four
+/// sweeps raise it by one.
 pub fn stages()
     ensures zero { StageZero }
     ensures stay { StageStays }
@@ -37,7 +58,8 @@ pub fn stages()
     topology::laws::joined();
 }
 
-/// Parents, on stable links: once every distance is exact, four sweeps make every parent true, at each node, staged and copied.
+/// Parents, on stable links: once every distance is exact, four sweeps make every parent true, at
+/// each node, staged and copied.
 pub fn parents()
     ensures { ParentsTurnTrue }
 {
@@ -51,10 +73,12 @@ pub fn parents()
     topology::laws::joined();
 }
 
-/// The tree, on stable links: 4(n + 1) sweeps reach it from any state, four for each stage and four for the parents, and it stays reached. The token
-/// ring is laid on it.
+/// The tree, on stable links: 4(n + 1) sweeps reach it from any state, four for each stage and four
+/// for the parents, and so do 4(e + 2) where e is the greatest distance from the root; and it stays
+/// reached. The token ring is laid on it.
 pub fn tree()
     ensures reached { TreeIsReached }
+    ensures reached_by_depth { TreeIsReachedByDepth }
     ensures stay { TreeStays }
 {
     links();
@@ -67,4 +91,6 @@ pub fn tree()
     bfs_tree::laws::one_round();
     bfs_tree::laws::exact_step();
     topology::laws::joined();
+    topology::laws::tree();
+    topology::laws::eccentricity();
 }

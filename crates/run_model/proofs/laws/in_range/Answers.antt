@@ -7,7 +7,7 @@ returns c =
     let step = c.step_in_range.ensures in
     run-range record {
       near = c.neighbours.ensures.joined;
-      ports = c.port_law.ensures;
+      ports = c.ports.ensures;
       distances = step.distance;
       parents = step.parent;
       ticks = desk.ticks;

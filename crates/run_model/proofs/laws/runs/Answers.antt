@@ -1,5 +1,5 @@
 use Rattle.run_model.proofs.Steps.{refused-stays}
-use Rattle.run_model.proofs.Runs.{run-network, runs-join, undamaged-joins, undamaged-splits}
+use Rattle.run_model.proofs.Runs.{run-network, run-frame, runs-join, undamaged-joins, undamaged-splits}
 use Rattle.run_model.proofs.laws.runs.Goals as goal
 
 pub returns-clause-refused : goal.returns-clause-refused
@@ -7,6 +7,9 @@ returns-clause-refused c = refused-stays
 
 pub returns-clause-network : goal.returns-clause-network
 returns-clause-network c = run-network
+
+pub returns-clause-frame : goal.returns-clause-frame
+returns-clause-frame c = run-frame
 
 pub returns-clause-join : goal.returns-clause-join
 returns-clause-join c = runs-join

@@ -1,14 +1,14 @@
 use Rattle.run_model.proofs.Joined.{are-edges}
-use Rattle.run_model.proofs.Stretches.{ticks-go_on, served-goes_on, old-starts, old-goes_on, old-are_there}
+use Rattle.run_model.proofs.Stretches.{ticks-go_on, renewed-goes_on, old-starts, old-goes_on, old-are_there}
 use Rattle.run_model.proofs.laws.stretches.Goals as goal
 
 pub returns-clause-ticks : goal.returns-clause-ticks
 returns-clause-ticks c = ticks-go_on
 
-pub returns-clause-served : goal.returns-clause-served
-returns-clause-served c =
+pub returns-clause-renewed : goal.returns-clause-renewed
+returns-clause-renewed c =
     let known = c.joined.ensures in λ w es e u v range joined.
-    served-goes_on w es e u v (are-edges known.back known.nodes known.not_to_itself w.net range.network u v joined)
+    renewed-goes_on w es e u v (are-edges known.back known.nodes known.not_to_itself w.net range.network u v joined)
 
 pub returns-clause-old_start : goal.returns-clause-old_start
 returns-clause-old_start c = old-starts

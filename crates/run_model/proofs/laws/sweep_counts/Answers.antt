@@ -1,7 +1,8 @@
 use Rattle.run_model.proofs.Joined.{are-edges}
 use Rattle.run_model.proofs.Counts.{earliest-best, greedy-count, no-sweep_count, counted-greatest, nothing-unfinished, count-stays, count-rises, one-count}
-use Rattle.std.proofs.Common.{refl, arith, ◌<◌}
+use Rattle.std.proofs.Common.{refl, arith, ◌<◌, [], ◌∷◌, ◌++◌}
 use Rattle.run_model.specs.World.{World, IsWorldInRange}
+use Rattle.run_model.specs.Run.{run}
 use Rattle.run_model.specs.Count.{after_damage}
 use Rattle.run_model.proofs.laws.sweep_counts.Goals as goal
 
@@ -36,4 +37,4 @@ pub returns-clause-stays : goal.returns-clause-stays
 returns-clause-stays c = count-stays
 
 pub returns-clause-rises : goal.returns-clause-rises
-returns-clause-rises c = λ w r done rest e range count sweep. count-rises w r done rest e (some-node w range) count sweep
+returns-clause-rises c = λ w r done rest e range count sweep. count-rises w r done rest e (some-node (run w (done ++ (rest ++ e ∷ []))) (c.in_range.ensures w (done ++ (rest ++ e ∷ [])) range)) count sweep

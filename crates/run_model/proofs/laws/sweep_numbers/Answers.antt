@@ -1,6 +1,6 @@
 use Rattle.std.proofs.Common.{refl, ◌+◌}
 use Rattle.run_model.proofs.Joined.{are-edges}
-use Rattle.run_model.proofs.Serving.{sweep-grows}
+use Rattle.run_model.proofs.Renewing.{sweep-grows}
 use Rattle.run_model.proofs.Counts.{sweeps-join}
 use Rattle.run_model.proofs.Splits.{sweeps-split_sum, fewer-sweeps, sweeps-grow}
 use Rattle.run_model.proofs.laws.sweep_numbers.Goals as goal

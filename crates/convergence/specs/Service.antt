@@ -1,0 +1,71 @@
+-- Whom the privilege visits, and what it passes.
+use Rattle.std.specs.Prelude.{◌≡◌, ◌≢◌, ℕ, zero, suc, ◌+◌, ◌-◌, ◌*◌, ◌<◌, ◌⊎◌, List, [], ◌∷◌, length}
+use Rattle.std.specs.Prelude.{Bool, true, false, ◌==◌, ◌&&◌, ◌||◌, IsTrue, IsFalse}
+use Rattle.lock_desk.specs.Act.{desk_act}
+use Rattle.lock_desk.specs.Desk.{waits, borrows}
+use Rattle.lock_desk.specs.declared.act.DeskAct.TheVariants.{Lost}
+use Rattle.topology.specs.Eccentricity.{sharp_of}
+use Rattle.run_model.specs.World.{World, IsWorldInRange}
+use Rattle.run_model.specs.Step.{step}
+use Rattle.run_model.specs.Run.{is_damage, IsUndamaged}
+use Rattle.run_model.specs.Privilege.{is_lending}
+use Rattle.run_model.specs.Sweep.{Sweeps}
+use Rattle.run_model.specs.Visited.{is_privileged_once}
+use Rattle.run_model.specs.declared.event.Event.{Event}
+use Rattle.run_model.specs.declared.event.Event.TheVariants.{Leave}
+use Rattle.token_ring.specs.Legitimate.{IsLegitimate}
+
+-- from a legitimate world, each node is privileged at some moment of any 16(n - 1) sweeps
+abbrev pub LegitimateVisits : Type 0
+LegitimateVisits =
+    (w : World) (es : List Event) (v : ℕ) → IsWorldInRange w → IsUndamaged w es → IsLegitimate w → v < w.net.nodes
+    → Sweeps w (16 * (w.net.nodes - 1)) es → IsTrue (is_privileged_once w es v)
+
+-- from any, at some moment of as many sweeps behind those that make it legitimate
+abbrev pub EachStateVisits : Type 0
+EachStateVisits =
+    (w : World) (es : List Event) (v : ℕ) → IsWorldInRange w → IsUndamaged w es → v < w.net.nodes
+    → Sweeps w (sharp_of w.net + 16 * (w.net.nodes - 1)) es → IsTrue (is_privileged_once w es v)
+
+-- Where a machine of v moves while a ticket waits at its desk, the desk had served, or a loan ends
+-- in that very tick,
+abbrev pub MovesPassServed : Type 0
+MovesPassServed =
+    (w : World) (e : Event) (v t : ℕ) → is_damage w e ≡ false → ((step w e).node v).value t ≢ (w.node v).value t
+    → 0 < length (w.node v).desk.waiting
+    → ((w.node v).desk.served ≡ true) ⊎ ((ticket : ℕ) × (desk_act (w.node v).desk ((step w e).node v).desk ≡ Lost ticket))
+
+-- and in any case the desk then lends to nobody and has not served.
+abbrev pub MovesClearDesks : Type 0
+MovesClearDesks =
+    (w : World) (e : Event) (v t : ℕ) → is_damage w e ≡ false → ((step w e).node v).value t ≢ (w.node v).value t
+    → IsFalse (is_lending (step w e) v) × (((step w e).node v).desk.served ≡ false)
+
+-- the ticket stands at that place of the list, 0 the first
+abbrev pub IsAtPlace : ℕ → ℕ → List ℕ → Type 0
+IsAtPlace t i [] = ⊥
+IsAtPlace t zero (x ∷ xs) = x ≡ t
+IsAtPlace t (suc i) (x ∷ xs) = IsAtPlace t i xs
+
+-- the lock is lent to the ticket at v at some moment of a run, its start and its end among them
+abbrev pub is_lent_once : World → List Event → ℕ → ℕ → Bool
+is_lent_once w [] v t = borrows (w.node v).desk t
+is_lent_once w (e ∷ es) v t = borrows (w.node v).desk t || is_lent_once (step w e) es v t
+
+-- the event is that the ticket leaves at v
+abbrev pub is_leave : Event → ℕ → ℕ → Bool
+is_leave (Leave u s) v t = (u == v) && (s == t)
+is_leave _ v t = false
+
+-- the ticket leaves at v while it waits there
+abbrev pub gives_up : World → List Event → ℕ → ℕ → Bool
+gives_up w [] v t = false
+gives_up w (e ∷ es) v t = (is_leave e v t && waits (w.node v).desk t) || gives_up (step w e) es v t
+
+-- Service: a ticket at place i of a desk's list, which does not leave while it waits, is lent the
+-- lock within 8(n - 1)(i + 2) sweeps.
+abbrev pub WaitingAreServed : Type 0
+WaitingAreServed =
+    (w : World) (es : List Event) (v t i : ℕ) → IsWorldInRange w → IsUndamaged w es → IsLegitimate w → v < w.net.nodes
+    → IsAtPlace t i (w.node v).desk.waiting → IsFalse (gives_up w es v t)
+    → Sweeps w (8 * (w.net.nodes - 1) * (i + 2)) es → IsTrue (is_lent_once w es v t)
