@@ -1,7 +1,7 @@
 -- Harms that write a node.
-use Rattle.std.proofs.Common.{rules, ◌≡◌, ◌∙◌, ◌↔◌, ◌<◌, ap, sym, arith, refl, ℕ, IsTrue, None, Some, Result, Ok, Err, IsOk, OnOk, OnErr, IfErr, nat_lt, slice_set, Bool, true, false, ◌&&◌, ◌++◌, ◌∷◌, [], length, if◌then◌else◌}
+use Rattle.std.proofs.Common.{rules, ◌≡◌, ◌∙◌, ◌↔◌, ◌<◌, ap, sym, arith, refl, ℕ, IsTrue, None, Some, Result, Ok, Err, IsOk, OnOk, OnErr, IfOk, IfErr, nat_lt, slice_set, Bool, true, false, ◌&&◌, ◌++◌, ◌∷◌, [], length, if◌then◌else◌}
 use Rattle.std.proofs.lemmas.Grind.{common_steps}
-use Rattle.node_core.specs.State.{NodeState}
+use Rattle.node_core.specs.State.{LocalState}
 use Rattle.node_core.specs.View.{NodeView, state_of}
 use Rattle.run_model.specs.World.{World, at_pair, item_fits, with_node}
 use Rattle.run_model.specs.Step.{harm_fits, harm_place_fault, harmed, has_room, link_fault, refusal, step, unless}
@@ -13,9 +13,12 @@ use Rattle.run_model.specs.declared.event.Harm.TheVariants as harm
 use Rattle.link_model.specs.declared.item.Item.{Item}
 use Rattle.topology.specs.Ranges.{ranges_of}
 use Rattle.configuration.specs.LinksView.{LinksView, under_way}
-use Rattle.configuration.specs.WorldView.{WorldView, world_of}
+use Rattle.configuration.specs.ConfigurationView.{ConfigurationView, world_of}
 use Rattle.configuration.proofs.NodePlaces.{IsNodeAt}
-use Rattle.configuration.proofs.WorldSteps.{first-none, links-world, step-is, unless-holds, unless-fails, node-done, node-refused}
+use Rattle.run_model.specs.declared.happened.Happened.{Happened}
+use Rattle.run_model.specs.declared.happened.Happened.TheVariants.{Damaged}
+use Rattle.configuration.specs.Answers.{Answers}
+use Rattle.configuration.proofs.WorldSteps.{accepted, first-none, links-world, step-is, unless-holds, unless-fails, node-done, node-refused}
 
 module _ (w : World) (harm : Harm) (found : harm_place_fault w harm ≡ None) where
   refusal-is : refusal w (Damage harm) ≡ unless (harm_fits w harm) OutOfRange
@@ -29,17 +32,17 @@ module _ (w : World) (harm : Harm) (found : harm_place_fault w harm ≡ None) wh
 
   -- what a writer answers is what the event is answered
   module _ {T : Type 0} where
-    pub harm-ok : (r : Result T EventFault) → (IsOk r ↔ IsTrue (harm_fits w harm)) → OnOk r (refusal w (Damage harm) ≡ None)
+    harm-ok : (r : Result T EventFault) → (IsOk r ↔ IsTrue (harm_fits w harm)) → OnOk r (refusal w (Damage harm) ≡ None)
     harm-ok (Ok x) iff = harm-none (iff.0 refl)
     harm-ok (Err x) iff = search rules
 
-    pub harm-err : (r : Result T EventFault) → (IsOk r ↔ IsTrue (harm_fits w harm)) → IfErr r (λ fault. fault ≡ OutOfRange)
+    harm-err : (r : Result T EventFault) → (IsOk r ↔ IsTrue (harm_fits w harm)) → IfErr r (λ fault. fault ≡ OutOfRange)
         → IfErr r (λ fault. refusal w (Damage harm) ≡ Some fault)
     harm-err (Ok x) iff fault = search rules
     harm-err (Err x) iff fault = rw fault (harm-some (λ fits. let t = iff.1 fits in absurd cc))
 
 -- two answers that are given in the same cases
-pub same-cases : {A B C : Type 0} → (A ↔ B) → (B ↔ C) → A ↔ C
+same-cases : {A B C : Type 0} → (A ↔ B) → (B ↔ C) → A ↔ C
 same-cases one two = (λ a. two.0 (one.0 a), λ c. one.1 (two.1 c))
 
 -- a number below another, as a test
@@ -47,7 +50,7 @@ pub less-test : {A : Type 0} (x y : ℕ) → (A ↔ (x < y)) → A ↔ IsTrue (n
 less-test x y iff = (λ a. let less = iff.0 a in grind (arith, common_steps, less), λ t. iff.1 (grind (arith, common_steps, t)))
 
 -- a node that a harm has written, or that the writer left as it was
-pub harm-world : {T E : Type 0} (w : WorldView) (v p : ℕ) (old new : NodeView) (harm : Harm) (f : NodeState → NodeState) (r : Result T E) → IsNodeAt w.links.net w.nodes v p old
+harm-world : {T E : Type 0} (w : ConfigurationView) (v p : ℕ) (old new : NodeView) (harm : Harm) (f : LocalState → LocalState) (r : Result T E) → IsNodeAt w.links.net w.nodes v p old
     → harm_place_fault (world_of w) harm ≡ None → (IsOk r ↔ IsTrue (harm_fits (world_of w) harm))
     → harmed (world_of w) harm ≡ with_node (world_of w) v (f ((world_of w).node v)) → OnOk r (state_of new ≡ f (state_of old)) → OnErr r (new ≡ old)
     → world_of (record w { nodes = slice_set w.nodes p new }) ≡ step (world_of w) (Damage harm)
@@ -56,20 +59,34 @@ harm-world w v p old new harm f (Ok x) h found iff makes ok err =
 harm-world w v p old new harm f (Err x) h found iff makes ok err =
     node-refused w v p old h (Damage harm) OutOfRange new (harm-some (world_of w) harm found (λ fits. let t = iff.1 fits in absurd cc)) err
 
+-- what a writer answers, and with it what the damage is answered
+pub harm-answers : {T E : Type 0} (w : ConfigurationView) (v p : ℕ) (old new : NodeView) (harm : Harm) (f : LocalState → LocalState) (r : Result T E)
+    (answer : Result Happened EventFault) → IsNodeAt w.links.net w.nodes v p old
+    → harm_place_fault (world_of w) harm ≡ None → (IsOk r ↔ IsTrue (harm_fits (world_of w) harm))
+    → harmed (world_of w) harm ≡ with_node (world_of w) v (f ((world_of w).node v)) → OnOk r (state_of new ≡ f (state_of old)) → OnErr r (new ≡ old)
+    → (IsOk answer ↔ IsOk r) → IfOk answer (λ did. did ≡ Damaged) → IfErr answer (λ fault. fault ≡ OutOfRange)
+    → Answers w (Damage harm) (record w { nodes = slice_set w.nodes p new }) answer
+harm-answers w v p old new harm f r answer h found iff makes ok err same did fault = record {
+  world = harm-world w v p old new harm f r h found iff makes ok err;
+  ok = harm-ok (world_of w) harm found answer (same-cases same iff);
+  did = did;
+  err = harm-err (world_of w) harm found answer (same-cases same iff) fault;
+}
+
 -- one more item, where it fits and there is room, is one more on its link
 item-there : (a b : Bool) → IsTrue (a && b) → IsTrue a × IsTrue b
 item-there true true both = (refl, refl)
 item-there true false both = absurd cc
 item-there false b both = absurd cc
 
-module _ (w : WorldView) (u v : ℕ) (it : Item) (fits : IsTrue (harm_fits (world_of w) (harm.Item u v it))) where
+module _ (w : ConfigurationView) (u v : ℕ) (it : Item) (fits : IsTrue (harm_fits (world_of w) (harm.Item u v it))) where
   pub item-fits : IsTrue (item_fits (ranges_of w.links.net) it)
   item-fits = (item-there (item_fits (ranges_of w.links.net) it) (has_room (world_of w) u v) fits).0
 
   room : has_room (world_of w) u v ≡ true
   room = (item-there (item_fits (ranges_of w.links.net) it) (has_room (world_of w) u v) fits).1
 
-  pub item-world : (links : LinksView) → link_fault (world_of w) u v ≡ None → links.net ≡ w.links.net
+  item-world : (links : LinksView) → link_fault (world_of w) u v ≡ None → links.net ≡ w.links.net
       → under_way links ≡ (if nat_lt (length (under_way w.links u v)) w.links.net.capacity
       then at_pair (under_way w.links) u v (under_way w.links u v ++ it ∷ []) else under_way w.links)
       → world_of (record w { links = links }) ≡ step (world_of w) (Damage (harm.Item u v it))
@@ -77,3 +94,10 @@ module _ (w : WorldView) (u v : ℕ) (it : Item) (fits : IsTrue (harm_fits (worl
       links-world w links net
       ∙ ap (λ l. record (world_of w) { link = l }) (is ∙ ap (λ test. if test then at_pair (under_way w.links) u v (under_way w.links u v ++ it ∷ []) else under_way w.links) room)
       ∙ sym (step-is (world_of w) (Damage (harm.Item u v it)) (harm-none (world_of w) (harm.Item u v it) found fits))
+
+  pub item-answers : (links : LinksView) → link_fault (world_of w) u v ≡ None → links.net ≡ w.links.net
+      → under_way links ≡ (if nat_lt (length (under_way w.links u v)) w.links.net.capacity
+      then at_pair (under_way w.links) u v (under_way w.links u v ++ it ∷ []) else under_way w.links)
+      → Answers w (Damage (harm.Item u v it)) (record w { links = links }) (Ok Damaged)
+  item-answers links found net is =
+      accepted w (record w { links = links }) (Damage (harm.Item u v it)) Damaged (harm-none (world_of w) (harm.Item u v it) found fits) (item-world links found net is) refl

@@ -1,9 +1,10 @@
-pub mod LinkPlaces
-mod LinkMoves
-mod EmptyLinks
-mod NodePlaces
-mod WorldSteps
 mod Harms
+mod Laying
+mod LinkMoves
 mod NewNodes
 mod NodeCounts
+mod NodePlaces
 mod WorldRanges
+mod WorldSteps
+pub mod LinkPlaces
+pub mod PairTables

@@ -1,16 +1,18 @@
 -- What the calls of one link do to all links.
-use Rattle.std.proofs.Common.{rules, ◌≡◌, ◌∙◌, ◌↔◌, sym, ap, subst, true, false, ℕ, ◌<◌, ◌≤◌, arith, refl, IsTrue, List, [], ◌∷◌, ◌++◌, All, length, slice_set, slice_index_or, suc, nat_lt, if◌then◌else◌, Result, Ok, Err, IsOk, OnOk, OnErr, remove, take, drop, slice_get, Option, Some, None, IfSome, IfNone}
+use Rattle.std.proofs.Common.{◌+◌, rules, ◌≡◌, ◌∙◌, ◌↔◌, sym, ap, subst, true, false, ℕ, ◌<◌, ◌≤◌, arith, refl, IsTrue, List, [], ◌∷◌, ◌++◌, All, length, slice_set, slice_index_or, suc, nat_lt, if◌then◌else◌, Result, Ok, Err, IsOk, OnOk, OnErr, remove, take, drop, slice_get, Option, Some, None, IfSome, IfNone}
 use Rattle.std.proofs.Math.Path.{fun_ext}
 use Rattle.std.proofs.lemmas.Grind.{common_steps}
-use Rattle.std.proofs.lemmas.List.Elements.{All-append, All-drop, All-get_or, All-tail, All-take}
+use Rattle.std.proofs.lemmas.List.{length-append}
+use Rattle.std.proofs.lemmas.List.Elements.{All-append, All-drop, All-get_or, All-nil, All-tail, All-take}
 use Rattle.data_link.proofs.UnderWay.{length-remove}
 use Rattle.topology.specs.Network.{are_joined}
 use Rattle.topology.specs.Ranges.{ranges_of}
 use Rattle.link_model.specs.Link.{LinkView, link}
 use Rattle.link_model.specs.declared.item.Item.{Item}
 use Rattle.run_model.specs.World.{item_fits, at_pair}
-use Rattle.configuration.specs.LinksView.{LinksView, IsLinks, place_of, link_between, under_way}
-use Rattle.configuration.proofs.LinkPlaces.{place-in, under_way-with_link, links-with_link}
+use Rattle.configuration.specs.LinksView.{LinksView, IsLinks, link_between, under_way}
+use Rattle.configuration.specs.PairTable.{value_at}
+use Rattle.configuration.proofs.LinkPlaces.{under_way-with_link, links-with_link}
 
 -- what holds of each item of a list holds of those that are left when one is lost
 all-remove : {X : Type 0} (P : X → Type 0) (xs : List X) (i : ℕ) → All P xs → All P (remove xs i)
@@ -21,29 +23,29 @@ pub record IsAt (l : LinksView) (u v p : ℕ) (old : LinkView) : Type 0 where
   pub links : IsLinks l
   pub from_in : u < l.net.nodes
   pub to_in : v < l.net.nodes
-  pub place : p ≡ place_of l.net.nodes u v
+  pub place : p ≡ value_at l.places u v
   pub value : old ≡ slice_index_or l.links p old
 
 module _ (l : LinksView) (u v p : ℕ) (old : LinkView) (h : IsAt l u v p old) where
-  there : place_of l.net.nodes u v < length l.links
-  there = subst (λ k. place_of l.net.nodes u v < k) (sym h.links.all_links) (place-in l.net.nodes u v h.from_in h.to_in)
+  there : value_at l.places u v < length l.links
+  there = h.links.inside u v h.from_in h.to_in
 
   default-free : (xs : List LinkView) (i : ℕ) (a b : LinkView) → i < length xs → slice_index_or xs i a ≡ slice_index_or xs i b
   default-free xs i a b within = grind (arith, common_steps)
 
   pub between-is : link_between l u v ≡ old
   between-is =
-      let same : slice_index_or l.links p old ≡ slice_index_or l.links (place_of l.net.nodes u v) old = ap (λ k. slice_index_or l.links k old) h.place in
-      default-free l.links (place_of l.net.nodes u v) (link 0 []) old there ∙ sym (h.value ∙ same)
+      let same : slice_index_or l.links p old ≡ slice_index_or l.links (value_at l.places u v) old = ap (λ k. slice_index_or l.links k old) h.place in
+      default-free l.links (value_at l.places u v) (link 0 []) old there ∙ sym (h.value ∙ same)
 
   pub under-is : under_way l u v ≡ old.items
-  under-is = let b = between-is in let vn = h.to_in in grind (arith, common_steps)
+  under-is = let b = between-is in let un = h.from_in in let vn = h.to_in in grind (arith, common_steps)
 
   pub within-is : length old.items ≤ old.capacity
-  within-is = rw (← between-is) (All-get_or (λ link. length link.items ≤ link.capacity) l.links (place_of l.net.nodes u v) (link 0 []) there h.links.within)
+  within-is = rw (← between-is) (All-get_or (λ link. length link.items ≤ link.capacity) l.links (value_at l.places u v) (link 0 []) there h.links.within)
 
   pub fits-is : All (λ item. IsTrue (item_fits (ranges_of l.net) item)) old.items
-  fits-is = rw (← between-is) (All-get_or (λ link. All (λ item. IsTrue (item_fits (ranges_of l.net) item)) link.items) l.links (place_of l.net.nodes u v) (link 0 []) there h.links.fits)
+  fits-is = rw (← between-is) (All-get_or (λ link. All (λ item. IsTrue (item_fits (ranges_of l.net) item)) link.items) l.links (value_at l.places u v) (link 0 []) there h.links.fits)
 
   pub capacity-is : old.capacity ≡ (if are_joined l.net.edges u v then l.net.capacity else 0)
   capacity-is = ap (λ k. k.capacity) (sym between-is) ∙ h.links.capacity u v h.from_in h.to_in
@@ -55,10 +57,11 @@ module _ (l : LinksView) (u v p : ℕ) (old : LinkView) (h : IsAt l u v p old) w
       subst (λ k. IsLinks (record l { links = slice_set l.links k new })) (sym h.place)
       (links-with_link l u v new h.links h.from_in h.to_in (same ∙ ap (λ k. k.capacity) (sym between-is)) within fits)
 
-  pub now-under : (new : LinkView) → under_way (record l { links = slice_set l.links p new }) ≡ at_pair (under_way l) u v new.items
-  now-under new =
+  pub now-under : (new : LinkView) → new.capacity ≡ old.capacity → length new.items ≤ new.capacity
+      → under_way (record l { links = slice_set l.links p new }) ≡ at_pair (under_way l) u v new.items
+  now-under new same within =
       subst (λ k. under_way (record l { links = slice_set l.links k new }) ≡ at_pair (under_way l) u v new.items) (sym h.place)
-      (under_way-with_link l u v new h.to_in there)
+      (under_way-with_link l u v new h.links h.from_in h.to_in (same ∙ ap (λ k. k.capacity) (sym between-is)) within)
 
   -- what is under way, written where it stands, changes nothing
   same-one : (i j : ℕ) → at_pair (under_way l) u v (under_way l u v) i j ≡ under_way l i j
@@ -66,6 +69,11 @@ module _ (l : LinksView) (u v p : ℕ) (old : LinkView) (h : IsAt l u v p old) w
 
   pub same-under : at_pair (under_way l) u v old.items ≡ under_way l
   same-under = ap (λ xs. at_pair (under_way l) u v xs) (sym under-is) ∙ fun_ext (λ i. fun_ext (λ j. same-one i j))
+
+  -- the same link, written where it stands, changes nothing
+  now-same : (new : LinkView) → new ≡ old → under_way (record l { links = slice_set l.links p new }) ≡ under_way l
+  now-same new is =
+      now-under new (ap (λ k. k.capacity) is) (rw is within-is) ∙ ap (λ k. at_pair (under_way l) u v k.items) is ∙ same-under
 
   -- ---- an item is put
 
@@ -95,7 +103,9 @@ module _ (l : LinksView) (u v p : ℕ) (old : LinkView) (h : IsAt l u v p old) w
       let w = under-is in
       let test : nat_lt (length (under_way l u v)) l.net.capacity ≡ true = grind (arith, common_steps, c, w, room) in
       let items : new.items ≡ under_way l u v ++ item ∷ [] = ap (λ k. k.items) is ∙ ap (λ xs. xs ++ item ∷ []) (sym w) in
-      rw test (now-under new ∙ ap (λ xs. at_pair (under_way l) u v xs) items)
+      let same : new.capacity ≡ old.capacity = ap (λ k. k.capacity) is in
+      let within : length new.items ≤ new.capacity = (let l = length-append old.items (item ∷ []) in rw is (omega (arith, room, l))) in
+      rw test (now-under new same within ∙ ap (λ xs. at_pair (under_way l) u v xs) items)
 
   under-full : (item : Item) (new : LinkView) → IsTrue (are_joined l.net.edges u v) → ¬ (length old.items < old.capacity) → new ≡ old
       → under_way (record l { links = slice_set l.links p new }) ≡ under-put item
@@ -103,7 +113,7 @@ module _ (l : LinksView) (u v p : ℕ) (old : LinkView) (h : IsAt l u v p old) w
       let c = full-capacity joined in
       let w = under-is in
       let test : nat_lt (length (under_way l u v)) l.net.capacity ≡ false = grind (arith, common_steps, c, w, full) in
-      rw test (now-under new ∙ ap (λ k. at_pair (under_way l) u v k.items) is ∙ same-under)
+      rw test (now-same new is)
 
   pub put-under : {T E : Type 0} (r : Result T E) (item : Item) (new : LinkView) → IsTrue (are_joined l.net.edges u v)
       → (IsOk r ↔ (length old.items < old.capacity)) → OnOk r (new ≡ link old.capacity (old.items ++ item ∷ [])) → OnErr r (new ≡ old)
@@ -123,6 +133,14 @@ module _ (l : LinksView) (u v p : ℕ) (old : LinkView) (h : IsAt l u v p old) w
     take-from (Some item) some none = some
     take-from None some none = none
 
+    take-same : (r : Option Item) → IsTakenFrom r → (new.capacity ≡ old.capacity) × (length new.items ≤ new.capacity)
+    take-same (Some item) is =
+        let same : old.capacity ≡ new.capacity = ap (λ k. k.capacity) is in
+        let more : length old.items ≡ length new.items + 1 = ap (λ k. length k.items) is ∙ omega arith in
+        let within = within-is in
+        (sym same, omega (arith, same, more, within))
+    take-same None is = (ap (λ k. k.capacity) is.1, rw is.1 within-is)
+
     pub take-items : (r : Option Item) → IsTakenFrom r → new.items ≡ drop 1 (under_way l u v)
     take-items (Some item) is = let w = under-is in grind (arith, common_steps, w, is)
     take-items None is = let w = under-is in grind (arith, common_steps, w, is)
@@ -135,7 +153,8 @@ module _ (l : LinksView) (u v p : ℕ) (old : LinkView) (h : IsAt l u v p old) w
     take-links None is = rw is.1 (now-links old refl within-is fits-is)
 
     pub take-under : (r : Option Item) → IsTakenFrom r → under_way (record l { links = slice_set l.links p new }) ≡ at_pair (under_way l) u v (drop 1 (under_way l u v))
-    take-under r is = now-under new ∙ ap (λ xs. at_pair (under_way l) u v xs) (take-items r is)
+    take-under r is =
+        let fits = take-same r is in now-under new fits.0 fits.1 ∙ ap (λ xs. at_pair (under_way l) u v xs) (take-items r is)
 
     pub take-result : (r : Option Item) → IsTakenFrom r → r ≡ slice_get (under_way l u v) 0
     take-result (Some item) is = let w = under-is in grind (arith, common_steps, w, is)
@@ -160,9 +179,19 @@ module _ (l : LinksView) (u v p : ℕ) (old : LinkView) (h : IsAt l u v p old) w
         → OnOk r (under_way (record l { links = slice_set l.links p new }) ≡ at_pair (under_way l) u v (remove (under_way l u v) i))
     lose-under (Ok x) i is =
         let w = under-is in
-        now-under new ∙ ap (λ k. at_pair (under_way l) u v k.items) is ∙ ap (λ xs. at_pair (under_way l) u v (remove xs i)) (sym w)
+        let same : new.capacity ≡ old.capacity = ap (λ k. k.capacity) is in
+        let before = within-is in
+        let within : length new.items ≤ new.capacity = rw is (omega (arith, before, length-remove old.items i)) in
+        now-under new same within ∙ ap (λ k. at_pair (under_way l) u v k.items) is ∙ ap (λ xs. at_pair (under_way l) u v (remove xs i)) (sym w)
     lose-under (Err x) i is = search rules
 
     pub lose-none : {T E : Type 0} (r : Result T E) → OnErr r (new ≡ old) → OnErr r (under_way (record l { links = slice_set l.links p new }) ≡ under_way l)
     lose-none (Ok x) is = search rules
-    lose-none (Err x) is = now-under new ∙ ap (λ k. at_pair (under_way l) u v k.items) is ∙ same-under
+    lose-none (Err x) is = now-same new is
+
+    pub clear-under : new ≡ link old.capacity [] → under_way (record l { links = slice_set l.links p new }) ≡ at_pair (under_way l) u v []
+    clear-under is =
+        now-under new (ap (λ k. k.capacity) is) (rw is (omega arith)) ∙ ap (λ k. at_pair (under_way l) u v k.items) is
+
+    pub clear-links : new ≡ link old.capacity [] → IsLinks (record l { links = slice_set l.links p new })
+    clear-links is = rw is (now-links (link old.capacity []) refl (omega arith) (All-nil (λ item. IsTrue (item_fits (ranges_of l.net) item))))

@@ -1,71 +1,82 @@
 -- What a changed link at one place does to all links.
-use Rattle.std.proofs.Common.{◌≡◌, sym, ap, subst, ℕ, ◌+◌, ◌*◌, ◌<◌, ◌≤◌, ◌⊎◌, inl, inr, arith, IsTrue, All, length, slice_set, if◌then◌else◌, ◌==◌, ◌&&◌}
+use Rattle.std.proofs.Common.{refl, List, [], ◌∷◌, ◌∙◌, slice_index_or, ◌≡◌, sym, ap, subst, ℕ, ◌+◌, ◌*◌, ◌<◌, ◌≤◌, ◌⊎◌, inl, inr, arith, IsTrue, All, length, slice_set, if◌then◌else◌, ◌==◌, ◌&&◌}
 use Rattle.std.proofs.Math.Path.{fun_ext}
-use Rattle.std.proofs.Math.Nat.{mul-le-mul_right}
 use Rattle.std.proofs.lemmas.Grind.{common_steps}
 use Rattle.std.proofs.lemmas.List.{length-set}
-use Rattle.std.proofs.lemmas.List.Elements.{All-set}
+use Rattle.std.proofs.lemmas.List.Elements.{All-get_or, All-set}
 use Rattle.topology.specs.Ranges.{ranges_of}
-use Rattle.link_model.specs.Link.{LinkView}
+use Rattle.link_model.specs.Link.{LinkView, link}
 use Rattle.run_model.specs.World.{item_fits, at_pair}
-use Rattle.configuration.specs.LinksView.{LinksView, IsLinks, place_of, link_between, under_way}
+use Rattle.configuration.specs.LinksView.{LinksView, IsLinks, link_between, under_way}
+use Rattle.configuration.specs.PairTable.{value_at}
+
+-- a list of length 0 is empty
+none-of : {X : Type 0} (xs : List X) → length xs ≡ 0 → xs ≡ []
+none-of [] none = refl
+none-of (x ∷ xs) none = absurd (omega (arith, none))
 
 -- the links with another one from u to v
 abbrev pub with_link : LinksView → ℕ → ℕ → LinkView → LinksView
-with_link l u v new = record l { links = slice_set l.links (place_of l.net.nodes u v) new }
+with_link l u v new = record l { links = slice_set l.links (value_at l.places u v) new }
 
--- rows of n places each: a later row begins where the earlier one has ended
-later-row : (n i u : ℕ) → i < u → i * n + n ≤ u * n
-later-row n i u less =
-    let more : i + 1 ≤ u = omega arith in
-    omega (arith, mul-le-mul_right {m = i + 1} {n = u} n more)
+module _ (l : LinksView) (u v : ℕ) (new : LinkView) (ok : IsLinks l) (un : u < l.net.nodes) (vn : v < l.net.nodes)
+    (same : new.capacity ≡ (link_between l u v).capacity) (within : length new.items ≤ new.capacity) where
+  there : value_at l.places u v < length l.links
+  there = ok.inside u v un vn
 
--- two links at one place are one
-pub one-place : (n i j u v : ℕ) → j < n → v < n → place_of n i j ≡ place_of n u v → (i ≡ u) × (j ≡ v)
-one-place n i j u v jn vn e =
-    let order : (i ≡ u) ⊎ ((i < u) ⊎ (u < i)) = grind arith in
-    elim order [
-      | inl same ↦ (same, omega (arith, e, ap (λ k. k * n) same))
-      | inr (inl less) ↦ absurd (omega (arith, e, later-row n i u less))
-      | inr (inr more) ↦ absurd (omega (arith, e, later-row n u i more))
-    ]
+  -- a link is read at its own place
+  read-one : (p : ℕ) → slice_index_or (slice_set l.links (value_at l.places u v) new) p (link 0 [])
+      ≡ (if p == value_at l.places u v then new else slice_index_or l.links p (link 0 []))
+  read-one p = let t = there in grind (arith, common_steps, t)
 
--- the place of a link between nodes is one of the n * n
-pub place-in : (n u v : ℕ) → u < n → v < n → place_of n u v < n * n
-place-in n u v un vn = omega (arith, later-row n u n un)
+  -- the first link holds nothing, and so does another one in its place
+  nothing-first : (slice_index_or l.links 0 (link 0 [])).items ≡ []
+  nothing-first =
+      let some : 0 < length l.links = (let t = there in omega (arith, t)) in
+      let few : length (slice_index_or l.links 0 (link 0 [])).items ≤ (slice_index_or l.links 0 (link 0 [])).capacity =
+      All-get_or (λ link. length link.items ≤ link.capacity) l.links 0 (link 0 []) some ok.within in
+      let none = ok.none in
+      none-of (slice_index_or l.links 0 (link 0 [])).items (omega (arith, few, none))
 
--- a link from u to v is read at its own place, and no other link is
-link-one : (l : LinksView) (u v : ℕ) (new : LinkView) (i j : ℕ) → v < l.net.nodes → j < l.net.nodes → place_of l.net.nodes u v < length l.links
-    → link_between (with_link l u v new) i j ≡ (if (i == u) && (j == v) then new else link_between l i j)
-link-one l u v new i j vn jn there =
-    let apart : place_of l.net.nodes i j ≡ place_of l.net.nodes u v → (i ≡ u) × (j ≡ v) = one-place l.net.nodes i j u v jn vn in
-    grind (arith, common_steps, apart)
+  nothing-new : value_at l.places u v ≡ 0 → new.items ≡ []
+  nothing-new zero =
+      let none : new.capacity ≡ 0 = same ∙ ap (λ p. (slice_index_or l.links p (link 0 [])).capacity) zero ∙ ok.none in
+      none-of new.items (omega (arith, within, none))
 
-under-one : (l : LinksView) (u v : ℕ) (new : LinkView) (i j : ℕ) → v < l.net.nodes → place_of l.net.nodes u v < length l.links
-    → under_way (with_link l u v new) i j ≡ at_pair (under_way l) u v new.items i j
-under-one l u v new i j vn there =
-    let cases : (j < l.net.nodes) ⊎ (l.net.nodes ≤ j) = grind arith in
-    elim cases [
-      | inl jn ↦ let one = link-one l u v new i j vn jn there in grind (arith, common_steps, one)
-      | inr past ↦ grind (arith, common_steps)
-    ]
+  -- what a link from i to j holds
+  items-one : (i j : ℕ) → i < l.net.nodes → j < l.net.nodes
+      → (link_between (with_link l u v new) i j).items ≡ (if (i == u) && (j == v) then new.items else (link_between l i j).items)
+  items-one i j im jn =
+      let read = read-one (value_at l.places i j) in
+      let apart = ok.apart u v i j un vn im jn in
+      let first = nothing-first in
+      let none = nothing-new in
+      grind (arith, common_steps, read, apart, first, none)
 
-pub under_way-with_link : (l : LinksView) (u v : ℕ) (new : LinkView) → v < l.net.nodes → place_of l.net.nodes u v < length l.links
-    → under_way (with_link l u v new) ≡ at_pair (under_way l) u v new.items
-under_way-with_link l u v new vn there = fun_ext (λ i. fun_ext (λ j. under-one l u v new i j vn there))
+  under-one : (i j : ℕ) → under_way (with_link l u v new) i j ≡ at_pair (under_way l) u v new.items i j
+  under-one i j =
+      let cases : ((i < l.net.nodes) × (j < l.net.nodes)) ⊎ ((l.net.nodes ≤ i) ⊎ (l.net.nodes ≤ j)) = grind arith in
+      elim cases [
+        | inl ends ↦ let one = items-one i j ends.0 ends.1 in let a = ends.0 in let b = ends.1 in grind (arith, common_steps, one, a, b)
+        | inr (inl past) ↦ let a = un in grind (arith, common_steps, past, a)
+        | inr (inr past) ↦ let a = vn in grind (arith, common_steps, past, a)
+      ]
 
--- a link that fits, put at its place, leaves links that fit
-pub links-with_link : (l : LinksView) (u v : ℕ) (new : LinkView) → IsLinks l → u < l.net.nodes → v < l.net.nodes
-    → new.capacity ≡ (link_between l u v).capacity → length new.items ≤ new.capacity → All (λ item. IsTrue (item_fits (ranges_of l.net) item)) new.items
-    → IsLinks (with_link l u v new)
-links-with_link l u v new ok un vn same within fits = record {
-  network = ok.network;
-  all_links = rw (length-set l.links (place_of l.net.nodes u v) new) ok.all_links;
-  capacity = λ i j im jn.
-      let there : place_of l.net.nodes u v < length l.links = subst (λ k. place_of l.net.nodes u v < k) (sym ok.all_links) (place-in l.net.nodes u v un vn) in
-      let one = link-one l u v new i j vn jn there in
-      let old = ok.capacity i j im jn in
-      grind (arith, common_steps, one, old, same);
-  within = All-set (λ link. length link.items ≤ link.capacity) l.links (place_of l.net.nodes u v) new within ok.within;
-  fits = All-set (λ link. All (λ item. IsTrue (item_fits (ranges_of l.net) item)) link.items) l.links (place_of l.net.nodes u v) new fits ok.fits;
-}
+  pub under_way-with_link : under_way (with_link l u v new) ≡ at_pair (under_way l) u v new.items
+  under_way-with_link = fun_ext (λ i. fun_ext (λ j. under-one i j))
+
+  -- a link that fits, put at its place, leaves links that fit
+  capacity-one : (p : ℕ) → (slice_index_or (slice_set l.links (value_at l.places u v) new) p (link 0 [])).capacity ≡ (slice_index_or l.links p (link 0 [])).capacity
+  capacity-one p = let read = read-one p in let s = same in grind (arith, common_steps, read, s)
+
+  pub links-with_link : All (λ item. IsTrue (item_fits (ranges_of l.net) item)) new.items → IsLinks (with_link l u v new)
+  links-with_link fits = record {
+    network = ok.network;
+    table = ok.table;
+    inside = λ i j im jn. rw (length-set l.links (value_at l.places u v) new) (ok.inside i j im jn);
+    apart = ok.apart;
+    none = capacity-one 0 ∙ ok.none;
+    capacity = λ i j im jn. capacity-one (value_at l.places i j) ∙ ok.capacity i j im jn;
+    within = All-set (λ link. length link.items ≤ link.capacity) l.links (value_at l.places u v) new within ok.within;
+    fits = All-set (λ link. All (λ item. IsTrue (item_fits (ranges_of l.net) item)) link.items) l.links (value_at l.places u v) new fits ok.fits;
+  }

@@ -7,9 +7,9 @@ use Rattle.topology.specs.Ranges.{ranges_of}
 use Rattle.node_core.specs.Site.{site_of}
 use Rattle.node_core.specs.State.{default_node}
 use Rattle.node_core.specs.View.{NodeView, site_in, state_of}
-use Rattle.run_model.specs.World.{default_world}
+use Rattle.run_model.specs.Start.{default_world}
 use Rattle.configuration.specs.LinksView.{LinksView, under_way}
-use Rattle.configuration.specs.WorldView.{AreNodesOf, node_at, states_of, world_of}
+use Rattle.configuration.specs.ConfigurationView.{AreNodesOf, node_at, states_of, world_of}
 
 -- the nodes below k, each at its site and as it starts
 pub record AreNew (net : Network) (nodes : List NodeView) (k : ℕ) : Type 0 where

@@ -7,7 +7,7 @@ use Rattle.topology.specs.At.{at}
 use Rattle.topology.specs.Network.{Network}
 use Rattle.node_core.specs.Site.{site_of}
 use Rattle.node_core.specs.View.{NodeView, site_in, state_of}
-use Rattle.configuration.specs.WorldView.{AreNodesOf, no_node, node_at, states_of}
+use Rattle.configuration.specs.ConfigurationView.{AreNodesOf, no_node, node_at, states_of}
 
 -- the node v stands at place p, and is `old`
 pub record IsNodeAt (net : Network) (nodes : List NodeView) (v p : ℕ) (old : NodeView) : Type 0 where
@@ -15,6 +15,11 @@ pub record IsNodeAt (net : Network) (nodes : List NodeView) (v p : ℕ) (old : N
   pub in_net : v < net.nodes
   pub place : p ≡ v
   pub value : old ≡ slice_index_or nodes p old
+
+-- the node is there where it was found
+pub found-there : (net : Network) (nodes : List NodeView) (v p : ℕ) (old : NodeView) {T : Type 0} → AreNodesOf net nodes → (p ≡ v) × (v < net.nodes) × T
+    → old ≡ slice_index_or nodes p old → IsNodeAt net nodes v p old
+found-there net nodes v p old are found value = record { nodes_are = are; in_net = found.1; place = found.0; value = value }
 
 module _ (net : Network) (nodes : List NodeView) (v p : ℕ) (old : NodeView) (h : IsNodeAt net nodes v p old) where
   there : v < length nodes

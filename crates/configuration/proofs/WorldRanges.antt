@@ -9,16 +9,16 @@ use Rattle.run_model.specs.World.{IsWorldInRange, item_fits}
 use Rattle.node_core.specs.Site.{site_of}
 use Rattle.node_core.specs.State.{IsNodeInRange}
 use Rattle.node_core.specs.View.{NodeView, site_in, state_of}
-use Rattle.configuration.specs.LinksView.{IsLinks, place_of, link_between, under_way}
-use Rattle.configuration.specs.WorldView.{WorldView, AreNodesOf, node_at, states_of, world_of}
+use Rattle.configuration.specs.LinksView.{IsLinks, link_between, under_way}
+use Rattle.configuration.specs.PairTable.{value_at}
+use Rattle.configuration.specs.ConfigurationView.{ConfigurationView, AreNodesOf, node_at, states_of, world_of}
 use Rattle.topology.specs.Laws.{JoinedAreNodes}
-use Rattle.configuration.proofs.LinkPlaces.{place-in}
 
 -- the first nodes are in range
-abbrev pub AreInRange : WorldView → ℕ → Type 0
+abbrev pub AreInRange : ConfigurationView → ℕ → Type 0
 AreInRange w n = (v : ℕ) → v < n → IsNodeInRange (site_of w.links.net v) (states_of w.links.net w.nodes v)
 
-pub next-in_range : (w : WorldView) (n : ℕ) (node : NodeView) → AreNodesOf w.links.net w.nodes → n < w.links.net.nodes → node ≡ node_at w.nodes n
+pub next-in_range : (w : ConfigurationView) (n : ℕ) (node : NodeView) → AreNodesOf w.links.net w.nodes → n < w.links.net.nodes → node ≡ node_at w.nodes n
     → IsNodeInRange (site_in node) (state_of node) → AreInRange w n → AreInRange w (n + 1)
 next-in_range w n node nodes within is one all v less =
     let order : (v ≡ n) ⊎ (v < n) = grind (arith, less) in
@@ -33,11 +33,11 @@ next-in_range w n node nodes within is one all v less =
     here : IsNodeInRange (site_of w.links.net n) (states_of w.links.net w.nodes n)
     here = subst (λ s. IsNodeInRange s (states_of w.links.net w.nodes n)) (ap site_in is ∙ nodes.sites n within) (subst (λ s. IsNodeInRange (site_in node) s) state one)
 
-module _ (joined_nodes : JoinedAreNodes) (w : WorldView) (links : IsLinks w.links) where
-  link-there : (u v : ℕ) → IsTrue (are_joined w.links.net.edges u v) → (v < w.links.net.nodes) × (place_of w.links.net.nodes u v < length w.links.links) × (u < w.links.net.nodes)
+module _ (joined_nodes : JoinedAreNodes) (w : ConfigurationView) (links : IsLinks w.links) where
+  link-there : (u v : ℕ) → IsTrue (are_joined w.links.net.edges u v) → (v < w.links.net.nodes) × (value_at w.links.places u v < length w.links.links) × (u < w.links.net.nodes)
   link-there u v joined =
       let ends = joined_nodes w.links.net u v links.network joined in
-      (ends.1, subst (λ n. place_of w.links.net.nodes u v < n) (sym links.all_links) (place-in w.links.net.nodes u v ends.0 ends.1), ends.0)
+      (ends.1, links.inside u v ends.0 ends.1, ends.0)
 
   pub world-in_range : AreInRange w w.links.net.nodes → IsWorldInRange (world_of w)
   world-in_range nodes = record {
@@ -45,14 +45,15 @@ module _ (joined_nodes : JoinedAreNodes) (w : WorldView) (links : IsLinks w.link
     nodes = nodes;
     capacity = λ u v joined.
         let t = link-there u v joined in
-        let a = All-get_or (λ link. length link.items ≤ link.capacity) w.links.links (place_of w.links.net.nodes u v) (link 0 []) t.1 links.within in
+        let a = All-get_or (λ link. length link.items ≤ link.capacity) w.links.links (value_at w.links.places u v) (link 0 []) t.1 links.within in
         let c = links.capacity u v t.2 t.0 in
         let l = t.0 in
-        grind (arith, common_steps, a, c, l, joined);
+        let k = t.2 in
+        grind (arith, common_steps, a, c, l, k, joined);
     items = λ u v joined.
         let t = link-there u v joined in
-        let a = All-get_or (λ link. All (λ item. IsTrue (item_fits (ranges_of w.links.net) item)) link.items) w.links.links (place_of w.links.net.nodes u v) (link 0 []) t.1 links.fits in
-        let same : under_way w.links u v ≡ (link_between w.links u v).items = (let l = t.0 in grind (arith, common_steps, l)) in
+        let a = All-get_or (λ link. All (λ item. IsTrue (item_fits (ranges_of w.links.net) item)) link.items) w.links.links (value_at w.links.places u v) (link 0 []) t.1 links.fits in
+        let same : under_way w.links u v ≡ (link_between w.links u v).items = (let l = t.0 in let k = t.2 in grind (arith, common_steps, l, k)) in
         subst (λ items. All (λ item. IsTrue (item_fits (ranges_of w.links.net) item)) items) (sym same) a;
   }
 

@@ -1,5 +1,5 @@
 -- A changed node or link, as a step of the world.
-use Rattle.std.proofs.Common.{◌≡◌, ◌∙◌, sym, ap, subst, Bool, true, false, ℕ, ◌<◌, ◌++◌, [], ◌∷◌, arith, refl, IsTrue, List, Option, None, Some, Result, Err, IsOk, ◌↔◌, length, slice_set, slice_get, drop, remove, not, nat_lt, if◌then◌else◌}
+use Rattle.std.proofs.Common.{◌≡◌, ◌∙◌, sym, ap, subst, Bool, true, false, ℕ, ◌<◌, ◌++◌, [], ◌∷◌, arith, refl, IsTrue, List, Option, None, Some, Result, Ok, Err, is_none, IsOk, ◌↔◌, length, slice_set, slice_get, drop, remove, not, nat_lt, if◌then◌else◌}
 use Rattle.std.proofs.lemmas.Grind.{common_steps}
 use Rattle.link_model.specs.declared.item.Item.{Item}
 use Rattle.link_model.specs.declared.item.Item.TheVariants as item
@@ -9,17 +9,22 @@ use Rattle.topology.specs.Ranges.{ranges_of}
 use Rattle.node_core.specs.Step.{item_fits, taken, ticked}
 use Rattle.node_core.specs.View.{NodeView, site_in, state_of}
 use Rattle.run_model.specs.World.{World, at_pair, site, with_link, with_node}
-use Rattle.lock_desk.specs.Desk.{ask_fault, is_number, is_stranger}
+use Rattle.lock_desk.specs.Desk.{after_leave, ask_fault, asked, is_number, is_stranger}
+use Rattle.lock_desk.specs.declared.fault.AskFault.{AskFault}
 use Rattle.run_model.specs.Step.{changed, desk_fault, first_fault, handed_over, link_fault, node_fault, refusal, step, ticket_fault, unless}
 use Rattle.std.proofs.Math.Path.{fun_ext}
 use Rattle.topology.specs.At.{at}
-use Rattle.node_core.specs.State.{NodeState}
+use Rattle.node_core.specs.State.{LocalState}
 use Rattle.run_model.specs.declared.event.EventFault.{EventFault}
 use Rattle.run_model.specs.declared.event.EventFault.TheVariants.{NoItem, OutOfRange, Stranger}
 use Rattle.run_model.specs.declared.event.Event.{Event}
 use Rattle.run_model.specs.declared.event.Event.TheVariants.{Send, Take, Lose, Tick, Ask, Leave}
 use Rattle.configuration.specs.LinksView.{LinksView, under_way}
-use Rattle.configuration.specs.WorldView.{WorldView, states_of, world_of}
+use Rattle.configuration.specs.ConfigurationView.{ConfigurationView, states_of, world_of}
+use Rattle.run_model.specs.Happened.{happened, taken_of}
+use Rattle.run_model.specs.declared.happened.Happened.{Happened}
+use Rattle.run_model.specs.declared.happened.Happened.TheVariants.{FullTick, LendingTick, Taken, NothingTaken, Lost, Other}
+use Rattle.configuration.specs.Answers.{Answers}
 use Rattle.configuration.proofs.NodePlaces.{IsNodeAt, state-is, site-is, now-states}
 
 -- an event that is not refused makes its change
@@ -27,16 +32,40 @@ pub step-is : (w : World) (e : Event) → refusal w e ≡ None → step w e ≡ 
 step-is w e none = grind (arith, common_steps)
 
 -- a node changed is a node changed in the world
-pub now-world : (w : WorldView) (v p : ℕ) (old new : NodeView) → IsNodeAt w.links.net w.nodes v p old
+pub now-world : (w : ConfigurationView) (v p : ℕ) (old new : NodeView) → IsNodeAt w.links.net w.nodes v p old
     → world_of (record w { nodes = slice_set w.nodes p new }) ≡ with_node (world_of w) v (state_of new)
 now-world w v p old new h = ap (λ f. record { net = w.links.net; node = f; link = under_way w.links }) (now-states w.links.net w.nodes v p old h new)
 
-pub tick-world : (w : WorldView) (v p : ℕ) (old new : NodeView) → IsNodeAt w.links.net w.nodes v p old → refusal (world_of w) (Tick v) ≡ None
+-- an event that is not refused is answered with what it did, and one that is refused with the refusal
+pub accepted : (w new : ConfigurationView) (e : Event) (did : Happened) → refusal (world_of w) e ≡ None → world_of new ≡ step (world_of w) e
+    → did ≡ happened (world_of w) e → Answers w e new (Ok did)
+accepted w new e did none leads is = record { world = leads; ok = none; did = is; err = tt }
+
+pub refused : (w new : ConfigurationView) (e : Event) (fault : EventFault) → refusal (world_of w) e ≡ Some fault → world_of new ≡ step (world_of w) e
+    → Answers w e new (Err fault)
+refused w new e fault some leads = record { world = leads; ok = tt; did = tt; err = some }
+
+pub tick-world : (w : ConfigurationView) (v p : ℕ) (old new : NodeView) → IsNodeAt w.links.net w.nodes v p old → refusal (world_of w) (Tick v) ≡ None
     → state_of new ≡ ticked (site_in old) (state_of old) → world_of (record w { nodes = slice_set w.nodes p new }) ≡ step (world_of w) (Tick v)
 tick-world w v p old new h none is =
     let state : state_of new ≡ ticked (site_of w.links.net v) (states_of w.links.net w.nodes v) =
     is ∙ ap (λ s. ticked s (state_of old)) (site-is w.links.net w.nodes v p old h) ∙ ap (ticked (site_of w.links.net v)) (sym (state-is w.links.net w.nodes v p old h)) in
     now-world w v p old new h ∙ ap (with_node (world_of w) v) state ∙ sym (step-is (world_of w) (Tick v) none)
+
+-- the node in the world behind its tick is the node that has ticked
+node-there : (f : ℕ → LocalState) (v : ℕ) (s : LocalState) → at f v s v ≡ s
+node-there f v s = grind (arith, common_steps)
+
+pub tick-answers : (w : ConfigurationView) (v p : ℕ) (old new : NodeView) → IsNodeAt w.links.net w.nodes v p old → refusal (world_of w) (Tick v) ≡ None
+    → state_of new ≡ ticked (site_in old) (state_of old) → (did : Happened)
+    → did ≡ (if is_none (state_of new).desk.lent then FullTick v else LendingTick v)
+    → Answers w (Tick v) (record w { nodes = slice_set w.nodes p new }) (Ok did)
+tick-answers w v p old new h none is did did-is =
+    let leads = tick-world w v p old new h none is in
+    let there : (step (world_of w) (Tick v)).node v ≡ state_of new =
+    ap (λ k. k.node v) (sym leads) ∙ ap (λ f. f v) (now-states w.links.net w.nodes v p old h new) ∙ node-there (states_of w.links.net w.nodes) v (state_of new) in
+    accepted w (record w { nodes = slice_set w.nodes p new }) (Tick v) did none leads
+    (did-is ∙ ap (λ s. if is_none s.desk.lent then FullTick v else LendingTick v) (sym there))
 
 -- one test decides the links, or the whole world
 either-links : (w : World) (test : Bool) (links : ℕ → ℕ → List Item)
@@ -45,12 +74,12 @@ either-links w true links = refl
 either-links w false links = refl
 
 -- other links of the same network are other links of the world
-pub links-world : (w : WorldView) (links : LinksView) → links.net ≡ w.links.net
+pub links-world : (w : ConfigurationView) (links : LinksView) → links.net ≡ w.links.net
     → world_of (record w { links = links }) ≡ record (world_of w) { link = under_way links }
 links-world w links net = ap (λ n. record { net = n; node = states_of n w.nodes; link = under_way links }) net
 
 -- an item put on a link is a frame sent in the world
-pub send-world : (w : WorldView) (links : LinksView) (u v : ℕ) → refusal (world_of w) (Send u v) ≡ None → links.net ≡ w.links.net
+send-world : (w : ConfigurationView) (links : LinksView) (u v : ℕ) → refusal (world_of w) (Send u v) ≡ None → links.net ≡ w.links.net
     → under_way links ≡ (if nat_lt (length (under_way w.links u v)) w.links.net.capacity
     then at_pair (under_way w.links) u v (under_way w.links u v ++ item.Frame (frame_of ((states_of w.links.net w.nodes u).port v)) ∷ []) else under_way w.links)
     → world_of (record w { links = links }) ≡ step (world_of w) (Send u v)
@@ -63,6 +92,12 @@ send-world w links u v none net is =
 -- an event that is refused changes nothing
 pub step-refused : (w : World) (e : Event) (fault : EventFault) → refusal w e ≡ Some fault → step w e ≡ w
 step-refused w e fault some = grind (arith, common_steps)
+
+pub send-answers : (w : ConfigurationView) (links : LinksView) (u v : ℕ) → refusal (world_of w) (Send u v) ≡ None → links.net ≡ w.links.net
+    → under_way links ≡ (if nat_lt (length (under_way w.links u v)) w.links.net.capacity
+    then at_pair (under_way w.links) u v (under_way w.links u v ++ item.Frame (frame_of ((states_of w.links.net w.nodes u).port v)) ∷ []) else under_way w.links)
+    → Answers w (Send u v) (record w { links = links }) (Ok Other)
+send-answers w links u v none net is = accepted w (record w { links = links }) (Send u v) Other none (send-world w links u v none net is) refl
 
 -- a node written as it is changes nothing
 same-node : (w : World) (v i : ℕ) → at w.node v (w.node v) i ≡ w.node i
@@ -85,12 +120,12 @@ unless-fails false fault fails = refl
 
 -- ---- an event at the node v, which stands at place p and was `old`
 
-module _ (w : WorldView) (v p : ℕ) (old : NodeView) (h : IsNodeAt w.links.net w.nodes v p old) where
+module _ (w : ConfigurationView) (v p : ℕ) (old : NodeView) (h : IsNodeAt w.links.net w.nodes v p old) where
   state-there : (world_of w).node v ≡ state_of old
   state-there = state-is w.links.net w.nodes v p old h
 
   -- it makes of the node what f says
-  pub node-done : (e : Event) (f : NodeState → NodeState) (new : NodeView) → refusal (world_of w) e ≡ None
+  pub node-done : (e : Event) (f : LocalState → LocalState) (new : NodeView) → refusal (world_of w) e ≡ None
       → changed (world_of w) e ≡ with_node (world_of w) v (f ((world_of w).node v)) → state_of new ≡ f (state_of old)
       → world_of (record w { nodes = slice_set w.nodes p new }) ≡ step (world_of w) e
   node-done e f new none makes is =
@@ -99,29 +134,52 @@ module _ (w : WorldView) (v p : ℕ) (old : NodeView) (h : IsNodeAt w.links.net 
   -- it is refused and leaves the node as it is
   pub node-refused : (e : Event) (fault : EventFault) (new : NodeView) → refusal (world_of w) e ≡ Some fault → new ≡ old
       → world_of (record w { nodes = slice_set w.nodes p new }) ≡ step (world_of w) e
-  node-refused e fault new refused same =
+  node-refused e fault new some same =
       let state : state_of new ≡ (world_of w).node v = ap state_of same ∙ sym state-there in
-      now-world w v p old new h ∙ ap (with_node (world_of w) v) state ∙ unchanged (world_of w) v ∙ sym (step-refused (world_of w) e fault refused)
+      now-world w v p old new h ∙ ap (with_node (world_of w) v) state ∙ unchanged (world_of w) v ∙ sym (step-refused (world_of w) e fault some)
 
   -- what the desk refuses is refused
-  pub ask-refusal : (t : ℕ) → IsTrue (is_number t) → node_fault (world_of w) v ≡ None → refusal (world_of w) (Ask v t) ≡ desk_fault (ask_fault t (state_of old).desk)
+  ask-refusal : (t : ℕ) → IsTrue (is_number t) → node_fault (world_of w) v ≡ None → refusal (world_of w) (Ask v t) ≡ desk_fault (ask_fault t (state_of old).desk)
   ask-refusal t number found =
       first-none (node_fault (world_of w) v) (first_fault (ticket_fault t) (desk_fault (ask_fault t ((world_of w).node v).desk))) found
       ∙ first-none (ticket_fault t) (desk_fault (ask_fault t ((world_of w).node v).desk)) (unless-holds (is_number t) OutOfRange number)
       ∙ ap (λ s. desk_fault (ask_fault t s.desk)) state-there
 
-  -- what fits the network fits the node
-  pub fits-node : (it : Item) → IsTrue (item_fits (ranges_of w.links.net) it) → IsTrue (item_fits (site_in old).ranges it)
-  fits-node it fits = subst (λ s. IsTrue (item_fits s.ranges it)) (sym (site-is w.links.net w.nodes v p old h)) fits
+  pub ask-refused : (t : ℕ) (cause : AskFault) (fault : EventFault) (new : NodeView) → IsTrue (is_number t) → node_fault (world_of w) v ≡ None
+      → ask_fault t (state_of old).desk ≡ Some cause → desk_fault (Some cause) ≡ Some fault → new ≡ old
+      → Answers w (Ask v t) (record w { nodes = slice_set w.nodes p new }) (Err fault)
+  ask-refused t cause fault new number found why is same =
+      let some : refusal (world_of w) (Ask v t) ≡ Some fault = ask-refusal t number found ∙ ap desk_fault why ∙ is in
+      refused w (record w { nodes = slice_set w.nodes p new }) (Ask v t) fault some (node-refused (Ask v t) fault new some same)
 
-  pub leave-refusal : (t : ℕ) → node_fault (world_of w) v ≡ None → refusal (world_of w) (Leave v t) ≡ unless (not (is_stranger t (state_of old).desk)) Stranger
+  pub ask-accepted : (t : ℕ) (new : NodeView) → IsTrue (is_number t) → node_fault (world_of w) v ≡ None → ask_fault t (state_of old).desk ≡ None
+      → state_of new ≡ record (state_of old) { desk = asked t (state_of old).desk } → Answers w (Ask v t) (record w { nodes = slice_set w.nodes p new }) (Ok Other)
+  ask-accepted t new number found free is =
+      let none : refusal (world_of w) (Ask v t) ≡ None = ask-refusal t number found ∙ ap desk_fault free in
+      accepted w (record w { nodes = slice_set w.nodes p new }) (Ask v t) Other none
+      (node-done (Ask v t) (λ s. record s { desk = asked t s.desk }) new none refl is) refl
+
+  leave-refusal : (t : ℕ) → node_fault (world_of w) v ≡ None → refusal (world_of w) (Leave v t) ≡ unless (not (is_stranger t (state_of old).desk)) Stranger
   leave-refusal t found =
       first-none (node_fault (world_of w) v) (unless (not (is_stranger t ((world_of w).node v).desk)) Stranger) found
       ∙ ap (λ s. unless (not (is_stranger t s.desk)) Stranger) state-there
 
+  pub leave-refused : (t : ℕ) (new : NodeView) → node_fault (world_of w) v ≡ None → is_stranger t (state_of old).desk ≡ true → new ≡ old
+      → Answers w (Leave v t) (record w { nodes = slice_set w.nodes p new }) (Err Stranger)
+  leave-refused t new found stranger same =
+      let some : refusal (world_of w) (Leave v t) ≡ Some Stranger = leave-refusal t found ∙ ap (λ test. unless (not test) Stranger) stranger in
+      refused w (record w { nodes = slice_set w.nodes p new }) (Leave v t) Stranger some (node-refused (Leave v t) Stranger new some same)
+
+  pub leave-accepted : (t : ℕ) (new : NodeView) → node_fault (world_of w) v ≡ None → is_stranger t (state_of old).desk ≡ false
+      → state_of new ≡ record (state_of old) { desk = after_leave t (state_of old).desk } → Answers w (Leave v t) (record w { nodes = slice_set w.nodes p new }) (Ok Other)
+  leave-accepted t new found known is =
+      let none : refusal (world_of w) (Leave v t) ≡ None = leave-refusal t found ∙ ap (λ test. unless (not test) Stranger) known in
+      accepted w (record w { nodes = slice_set w.nodes p new }) (Leave v t) Other none
+      (node-done (Leave v t) (λ s. record s { desk = after_leave t s.desk }) new none refl is) refl
+
 -- ---- an event on the link from u to v
 
-module _ (w : WorldView) (u v : ℕ) (found : link_fault (world_of w) u v ≡ None) where
+module _ (w : ConfigurationView) (u v : ℕ) (found : link_fault (world_of w) u v ≡ None) where
   pub take-refusal : refusal (world_of w) (Take u v) ≡ None
   take-refusal = found
 
@@ -138,17 +196,23 @@ module _ (w : WorldView) (u v : ℕ) (found : link_fault (world_of w) u v ≡ No
       lose-refusal i ∙ unless-fails (nat_lt i (length (under_way w.links u v))) NoItem (λ less. let t = iff.1 (grind (arith, common_steps, less)) in absurd cc)
 
   -- an item of it is lost
-  pub lose-done : (links : LinksView) (i : ℕ) → refusal (world_of w) (Lose u v i) ≡ None → links.net ≡ w.links.net
+  lose-done : (links : LinksView) (i : ℕ) → refusal (world_of w) (Lose u v i) ≡ None → links.net ≡ w.links.net
       → under_way links ≡ at_pair (under_way w.links) u v (remove (under_way w.links u v) i)
       → world_of (record w { links = links }) ≡ step (world_of w) (Lose u v i)
   lose-done links i none net is =
       links-world w links net ∙ ap (λ l. record (world_of w) { link = l }) is ∙ sym (step-is (world_of w) (Lose u v i) none)
 
+  pub lose-answers : (links : LinksView) (i : ℕ) → refusal (world_of w) (Lose u v i) ≡ None → links.net ≡ w.links.net
+      → under_way links ≡ at_pair (under_way w.links) u v (remove (under_way w.links u v) i)
+      → Answers w (Lose u v i) (record w { links = links }) (Ok (Lost u v i))
+  lose-answers links i none net is = accepted w (record w { links = links }) (Lose u v i) (Lost u v i) none (lose-done links i none net is) refl
+
   -- a link that was not changed
   pub links-refused : (links : LinksView) (e : Event) (fault : EventFault) → refusal (world_of w) e ≡ Some fault → links.net ≡ w.links.net
-      → under_way links ≡ under_way w.links → world_of (record w { links = links }) ≡ step (world_of w) e
-  links-refused links e fault refused net is =
-      links-world w links net ∙ ap (λ l. record (world_of w) { link = l }) is ∙ sym (step-refused (world_of w) e fault refused)
+      → under_way links ≡ under_way w.links → Answers w e (record w { links = links }) (Err fault)
+  links-refused links e fault some net is =
+      refused w (record w { links = links }) e fault some
+      (links-world w links net ∙ ap (λ l. record (world_of w) { link = l }) is ∙ sym (step-refused (world_of w) e fault some))
 
   -- the oldest item is handed over, if there is one
   handed-some : (world : World) (items : List Item) (taken-item : Item) → Some taken-item ≡ slice_get items 0
@@ -161,26 +225,35 @@ module _ (w : WorldView) (u v : ℕ) (found : link_fault (world_of w) u v ≡ No
   same-link : (l : ℕ → ℕ → List Item) (i j : ℕ) → l u v ≡ [] → at_pair l u v (drop 1 (l u v)) i j ≡ l i j
   same-link l i j none = grind (arith, common_steps, none)
 
+  found-some : (world : World) (items : List Item) (taken-item : Item) → Some taken-item ≡ slice_get items 0 → Taken u v ≡ taken_of u v items
+  found-some world [] taken-item some = absurd cc
+  found-some world (first ∷ rest) taken-item some = refl
+
   handed-none : (items : List Item) → None ≡ slice_get items 0 → items ≡ []
   handed-none [] none = refl
   handed-none (first ∷ rest) none = absurd cc
 
-  pub take-none : (links : LinksView) → links.net ≡ w.links.net → None ≡ slice_get (under_way w.links u v) 0
-      → under_way links ≡ at_pair (under_way w.links) u v (drop 1 (under_way w.links u v))
-      → world_of (record w { links = links }) ≡ step (world_of w) (Take u v)
-  take-none links net none is =
-      let empty : under_way w.links u v ≡ [] = handed-none (under_way w.links u v) none in
+  none-leads : (links : LinksView) → links.net ≡ w.links.net → under_way links ≡ at_pair (under_way w.links) u v (drop 1 (under_way w.links u v))
+      → under_way w.links u v ≡ [] → world_of (record w { links = links }) ≡ step (world_of w) (Take u v)
+  none-leads links net is empty =
       links-world w links net
       ∙ ap (λ l. record (world_of w) { link = l }) (is ∙ fun_ext (λ i. fun_ext (λ j. same-link (under_way w.links) i j empty)))
       ∙ sym (step-is (world_of w) (Take u v) found ∙ ap (handed_over (world_of w) u v) empty)
 
-  pub take-some : (p : ℕ) (old new : NodeView) (links : LinksView) (item : Item) → IsNodeAt w.links.net w.nodes v p old
+  pub take-none : (links : LinksView) → links.net ≡ w.links.net → None ≡ slice_get (under_way w.links u v) 0
+      → under_way links ≡ at_pair (under_way w.links) u v (drop 1 (under_way w.links u v))
+      → Answers w (Take u v) (record w { links = links }) (Ok (NothingTaken u v))
+  take-none links net none is =
+      let empty : under_way w.links u v ≡ [] = handed-none (under_way w.links u v) none in
+      accepted w (record w { links = links }) (Take u v) (NothingTaken u v) found (none-leads links net is empty) (sym (ap (taken_of u v) empty))
+
+  some-leads : (p : ℕ) (old new : NodeView) (links : LinksView) (item : Item) → IsNodeAt w.links.net w.nodes v p old
       → links.net ≡ w.links.net → Some item ≡ slice_get (under_way w.links u v) 0
       → under_way links ≡ at_pair (under_way w.links) u v (drop 1 (under_way w.links u v))
       → state_of new ≡ taken (site_in old) u item (state_of old)
       → world_of (record { nodes = slice_set w.nodes p new; links = links }) ≡ step (world_of w) (Take u v)
-  take-some p old new links item h net some is state =
-      let with-new : WorldView = record w { nodes = slice_set w.nodes p new } in
+  some-leads p old new links item h net some is state =
+      let with-new : ConfigurationView = record w { nodes = slice_set w.nodes p new } in
       let state-new : state_of new ≡ taken (site_of w.links.net v) u item (states_of w.links.net w.nodes v) =
       state ∙ ap (λ s. taken s u item (state_of old)) (site-is w.links.net w.nodes v p old h)
       ∙ ap (taken (site_of w.links.net v) u item) (sym (state-is w.links.net w.nodes v p old h)) in
@@ -189,3 +262,12 @@ module _ (w : WorldView) (u v : ℕ) (found : link_fault (world_of w) u v ≡ No
       ∙ ap {A = World} (λ k. record k { link = at_pair (under_way w.links) u v (drop 1 (under_way w.links u v)) })
       (now-world w v p old new h ∙ ap (with_node (world_of w) v) state-new)
       ∙ sym (step-is (world_of w) (Take u v) found ∙ handed-some (world_of w) (under_way w.links u v) item some)
+
+  pub take-some : (p : ℕ) (old new : NodeView) (links : LinksView) (item : Item) → IsNodeAt w.links.net w.nodes v p old
+      → links.net ≡ w.links.net → Some item ≡ slice_get (under_way w.links u v) 0
+      → under_way links ≡ at_pair (under_way w.links) u v (drop 1 (under_way w.links u v))
+      → state_of new ≡ taken (site_in old) u item (state_of old)
+      → Answers w (Take u v) (record { nodes = slice_set w.nodes p new; links = links }) (Ok (Taken u v))
+  take-some p old new links item h net some is state =
+      accepted w (record { nodes = slice_set w.nodes p new; links = links }) (Take u v) (Taken u v) found (some-leads p old new links item h net some is state)
+      (found-some (world_of w) (under_way w.links u v) item some)

@@ -1,2 +1,5 @@
+pub mod PairTable
+pub mod Laid
 pub mod LinksView
-pub mod WorldView
+pub mod ConfigurationView
+pub mod Answers

@@ -1,14 +1,17 @@
-//! What a world is at one moment: the state of each node, and what is under way on each link.
-ghost use Rattle.std.specs.Prelude.{◌≡◌, ◌↔◌, ◌<◌, ◌≤◌, IsTrue, IfOk, IfErr, IsOk, OnOk, OnErr, None, Some, Contains, length};
+//! What all nodes and links of a network hold at one moment.
+ghost use Rattle.std.specs.Prelude.{◌≡◌, ◌<◌, ◌≤◌, IsTrue, if◌then◌else◌, IfOk, IfErr, OnOk, None, Some, Contains, length};
 ghost use Rattle.topology.specs.Network.{are_joined, neighbours_of};
 ghost use Rattle.node_core.specs.View.{state_of, site_in};
-ghost use Rattle.run_model.specs.World.{IsWorldInRange, default_world, site};
-ghost use Rattle.run_model.specs.Legitimate.{lending_count, privileged_count};
-ghost use Rattle.run_model.specs.Step.{desk_fault, link_fault, node_fault, refusal, step};
+ghost use Rattle.run_model.specs.World.{IsWorldInRange, site};
+ghost use Rattle.run_model.specs.Start.{default_world};
+ghost use Rattle.run_model.specs.NodeCounts.{lending_count, privileged_count};
+ghost use Rattle.run_model.specs.Step.{desk_fault, link_fault, node_fault};
+ghost use Rattle.run_model.specs.declared.happened.Happened.TheVariants.{FullTick, LendingTick};
 ghost use Rattle.run_model.specs.declared.event.Event.TheVariants.{Send, Take, Lose, Tick, Ask, Leave, Damage};
 ghost use Rattle.topology.specs.Ranges.{ranges_of};
 ghost use Rattle.node_core.specs.State.{default_node};
-ghost use Rattle.configuration.specs.WorldView.{AreNodesOf, states_of, world_of};
+ghost use Rattle.configuration.specs.ConfigurationView.{AreNodesOf, states_of, world_of};
+ghost use Rattle.configuration.specs.Answers.{Answers};
 
 mod harms;
 
@@ -16,7 +19,7 @@ use crate::links::Links;
 use link_model::{Item, NoItem};
 use lock_desk::{AskFault, Stranger};
 use node_core::Node;
-use run_model::{Event, EventFault};
+use run_model::{Event, EventFault, Happened};
 use std::alloc::{AllocError, Allocator, Global};
 use std::marker::Model;
 use topology::Net;
@@ -31,7 +34,19 @@ fn desk_fault(fault: AskFault) -> EventFault
     }
 }
 
-/// What a world is at one moment: its nodes, and its links with what is under way.
+/// What a tick did that was full, or was not.
+fn tick_of(node: u16, full: bool) -> Happened
+    ensures { result ≡ (if full then FullTick node else LendingTick node) }
+{
+    if full {
+        Happened::FullTick { node }
+    } else {
+        Happened::LendingTick { node }
+    }
+}
+
+/// What all nodes and links of a network hold at one moment: the state of each node, and what is
+/// under way on each link.
 #[derive(Drop)]
 pub struct Configuration<A: Allocator + Copy = Global> {
     nodes: Vec<Node<A>, A>,
@@ -39,9 +54,9 @@ pub struct Configuration<A: Allocator + Copy = Global> {
 }
 
 impl<A: Allocator + Copy> Model for Configuration<A> {
-    ghost use Rattle.configuration.specs.WorldView.{WorldView, AreNodesOf};
+    ghost use Rattle.configuration.specs.ConfigurationView.{ConfigurationView, AreNodesOf};
 
-    ghost Value = { WorldView };
+    ghost Value = { ConfigurationView };
 
     ghost view = { λ w. record { nodes = w.nodes.items; links = w.links } };
 
@@ -54,7 +69,8 @@ fn new_nodes<A: Allocator + Copy, N: Allocator + Copy>(
     net: &Net<N>,
 ) -> Result<Vec<Node<A>, A>, AllocError>
     ensures nodes { IfOk result (λ nodes. AreNodesOf net.now nodes.items) }
-    ensures states { IfOk result (λ nodes. states_of net.now nodes.items ≡ λ v. default_node (ranges_of net.now)) }
+    ensures states { IfOk result (λ nodes. states_of net.now nodes.items
+        ≡ λ v. default_node (ranges_of net.now)) }
 {
     let mut nodes = Vec::new(alloc);
     for id in 0..net.nodes() {
@@ -64,9 +80,10 @@ fn new_nodes<A: Allocator + Copy, N: Allocator + Copy>(
 }
 
 impl<A: Allocator + Copy> Configuration<A> {
-    /// Every node as it starts, and nothing under way. It keeps a copy of the network, and reserves all memory that any step needs.
+    /// Every node as it starts, and nothing under way. It keeps a copy of the network, and reserves
+    /// all memory that any step needs.
     pub fn new<N: Allocator + Copy>(alloc: A, net: &Net<N>) -> Result<Configuration<A>, AllocError>
-        ensures { IfOk result (λ world. world_of world ≡ default_world net.now) }
+        ensures { IfOk result (λ configuration. world_of configuration ≡ default_world net.now) }
     {
         let links = Links::new(alloc, net)?;
         let nodes = new_nodes(alloc, net)?;
@@ -82,7 +99,8 @@ impl<A: Allocator + Copy> Configuration<A> {
         (self.nodes, self.links)
     }
 
-    /// The configuration of these nodes and links. There is to be a node for each id of the links' network, at its place. No memory is taken.
+    /// The configuration of these nodes and links. There is to be a node for each id of the links'
+    /// network, at its place. No memory is taken.
     pub fn from_parts(nodes: Vec<Node<A>, A>, links: Links<A>) -> Configuration<A>
         requires { AreNodesOf links.net nodes.items }
         ensures { result ≡ record { nodes = nodes.items; links = links } }
@@ -106,7 +124,8 @@ impl<A: Allocator + Copy> Configuration<A> {
         &self.nodes[usize::from(v)]
     }
 
-    /// Every configuration is in range: each field of a node, and what is under way on each link. It looks at each node once, and changes nothing.
+    /// Every configuration is in range: each field of a node, and what is under way on each link.
+    /// It looks at each node once, and changes nothing.
     pub fn assure_ranges(&self)
         ensures { IsWorldInRange (world_of self.now) }
     {
@@ -155,7 +174,8 @@ impl<A: Allocator + Copy> Configuration<A> {
 
     /// Refuses what is no node.
     fn find_node(&self, v: u16) -> Result<usize, EventFault>
-        ensures ok { IfOk result (λ place. (place ≡ v) × (v < (world_of self.now).net.nodes) × (node_fault (world_of self.now) v ≡ None)) }
+        ensures ok { IfOk result (λ place. (place ≡ v) × (v < (world_of self.now).net.nodes)
+            × (node_fault (world_of self.now) v ≡ None)) }
         ensures err { IfErr result (λ fault. node_fault (world_of self.now) v ≡ Some fault) }
     {
         if v < self.links.net().nodes() {
@@ -167,9 +187,11 @@ impl<A: Allocator + Copy> Configuration<A> {
 
     /// Refuses what are no two neighbours.
     fn find_link(&self, from: u16, to: u16) -> Result<(), EventFault>
-        ensures ok { OnOk result ((from < (world_of self.now).net.nodes) × (to < (world_of self.now).net.nodes)
+        ensures ok { OnOk result ((from < (world_of self.now).net.nodes)
+            × (to < (world_of self.now).net.nodes)
             × IsTrue (are_joined (world_of self.now).net.edges from to) × (link_fault (world_of self.now) from to ≡ None)) }
-        ensures near { OnOk result (Contains (neighbours_of (world_of self.now).net from) to × Contains (neighbours_of (world_of self.now).net to) from) }
+        ensures near { OnOk result (Contains (neighbours_of (world_of self.now).net from) to
+            × Contains (neighbours_of (world_of self.now).net to) from) }
         ensures err { IfErr result (λ fault. link_fault (world_of self.now) from to ≡ Some fault) }
     {
         topology::laws::neighbours();
@@ -185,87 +207,77 @@ impl<A: Allocator + Copy> Configuration<A> {
     }
 
     /// The node `from` sends the frame of its port to `to`.
-    fn send(&mut self, from: u16, to: u16) -> Result<(), EventFault>
-        ensures world { world_of self.new ≡ step (world_of self.old) (Send from to) }
-        ensures ok { OnOk result (refusal (world_of self.old) (Send from to) ≡ None) }
-        ensures err { IfErr result (λ fault. refusal (world_of self.old) (Send from to) ≡ Some fault) }
+    fn send(&mut self, from: u16, to: u16) -> Result<Happened, EventFault>
+        ensures { Answers self.old (Send from to) self.new result }
     {
         self.find_link(from, to)?;
         let frame = self.nodes[usize::from(from)].frame_for(to);
         self.links.put(from, to, Item::Frame(frame));
-        Ok(())
+        Ok(Happened::Other)
     }
 
     /// A node ticks.
-    fn tick(&mut self, node: u16) -> Result<(), EventFault>
-        ensures world { world_of self.new ≡ step (world_of self.old) (Tick node) }
-        ensures ok { OnOk result (refusal (world_of self.old) (Tick node) ≡ None) }
-        ensures err { IfErr result (λ fault. refusal (world_of self.old) (Tick node) ≡ Some fault) }
+    fn tick(&mut self, node: u16) -> Result<Happened, EventFault>
+        ensures { Answers self.old (Tick node) self.new result }
     {
         let place = self.find_node(node)?;
-        let _ticked = self.nodes[place].tick();
-        Ok(())
+        let ticked = self.nodes[place].tick();
+        Ok(tick_of(node, ticked.full))
     }
 
     /// The node `to` takes the oldest item of the link from `from`, if there is one.
-    fn take(&mut self, from: u16, to: u16) -> Result<(), EventFault>
-        ensures world { world_of self.new ≡ step (world_of self.old) (Take from to) }
-        ensures ok { OnOk result (refusal (world_of self.old) (Take from to) ≡ None) }
-        ensures err { IfErr result (λ fault. refusal (world_of self.old) (Take from to) ≡ Some fault) }
+    fn take(&mut self, from: u16, to: u16) -> Result<Happened, EventFault>
+        ensures { Answers self.old (Take from to) self.new result }
     {
         self.find_link(from, to)?;
-        if let Some(item) = self.links.take(from, to) {
-            self.nodes[usize::from(to)].take(from, &item);
+        match self.links.take(from, to) {
+            Some(item) => {
+                self.nodes[usize::from(to)].take(from, &item);
+                Ok(Happened::Taken { from, to })
+            }
+            None => Ok(Happened::NothingTaken { from, to }),
         }
-        Ok(())
     }
 
     /// An item of a link is lost; 0 is the oldest.
-    fn lose(&mut self, from: u16, to: u16, item: u16) -> Result<(), EventFault>
-        ensures world { world_of self.new ≡ step (world_of self.old) (Lose from to item) }
-        ensures ok { OnOk result (refusal (world_of self.old) (Lose from to item) ≡ None) }
-        ensures err { IfErr result (λ fault. refusal (world_of self.old) (Lose from to item) ≡ Some fault) }
+    fn lose(&mut self, from: u16, to: u16, item: u16) -> Result<Happened, EventFault>
+        ensures { Answers self.old (Lose from to item) self.new result }
     {
         self.find_link(from, to)?;
         if let Err(NoItem) = self.links.lose(from, to, usize::from(item)) {
             return Err(EventFault::NoItem);
         }
-        Ok(())
+        Ok(Happened::Lost { from, to, item })
     }
 
     /// A client asks a node for the lock.
-    fn ask(&mut self, node: u16, ticket: u16) -> Result<(), EventFault>
-        ensures world { world_of self.new ≡ step (world_of self.old) (Ask node ticket) }
-        ensures ok { OnOk result (refusal (world_of self.old) (Ask node ticket) ≡ None) }
-        ensures err { IfErr result (λ fault. refusal (world_of self.old) (Ask node ticket) ≡ Some fault) }
+    fn ask(&mut self, node: u16, ticket: u16) -> Result<Happened, EventFault>
+        ensures { Answers self.old (Ask node ticket) self.new result }
     {
         let place = self.find_node(node)?;
         if let Err(fault) = self.nodes[place].ask(ticket) {
             return Err(desk_fault(fault));
         }
-        Ok(())
+        Ok(Happened::Other)
     }
 
     /// A client gives the lock back to a node, or waits no longer.
-    fn leave(&mut self, node: u16, ticket: u16) -> Result<(), EventFault>
-        ensures world { world_of self.new ≡ step (world_of self.old) (Leave node ticket) }
-        ensures ok { OnOk result (refusal (world_of self.old) (Leave node ticket) ≡ None) }
-        ensures err { IfErr result (λ fault. refusal (world_of self.old) (Leave node ticket) ≡ Some fault) }
+    fn leave(&mut self, node: u16, ticket: u16) -> Result<Happened, EventFault>
+        ensures { Answers self.old (Leave node ticket) self.new result }
     {
         let place = self.find_node(node)?;
         if let Err(Stranger) = self.nodes[place].leave(ticket) {
             return Err(EventFault::Stranger);
         }
-        Ok(())
+        Ok(Happened::Other)
     }
 
-    /// One event happens. Refused for the first cause that holds, in the order of `EventFault`; then nothing has changed.
+    /// One event happens, and what it did is answered. Refused for the first cause that holds, in
+    /// the order of `EventFault`; then nothing has changed.
     ///
     /// No step takes memory, looks through the network, or copies a state.
-    pub fn step(&mut self, event: &Event) -> Result<(), EventFault>
-        ensures world { world_of self.new ≡ step (world_of self.old) event.now }
-        ensures ok { OnOk result (refusal (world_of self.old) event.now ≡ None) }
-        ensures err { IfErr result (λ fault. refusal (world_of self.old) event.now ≡ Some fault) }
+    pub fn step(&mut self, event: &Event) -> Result<Happened, EventFault>
+        ensures { Answers self.old event.now self.new result }
     {
         match *event {
             Event::Send { from, to } => self.send(from, to),

@@ -1,21 +1,25 @@
 //! The links of a network, with what is under way on them.
-ghost use Rattle.std.specs.Prelude.{◌≡◌, ◌↔◌, ◌+◌, ◌*◌, ◌<◌, ◌≤◌, ◌++◌, [], ◌∷◌, if◌then◌else◌, nat_lt, IsTrue, IfOk, IsOk, OnOk, OnErr, IfSome, length, remove, map, drop, slice_get};
-ghost use Rattle.std.specs.List.{range_with_len};
+ghost use Rattle.std.specs.Prelude.{◌≡◌, ◌↔◌, ◌+◌, ◌<◌, ℕ, ◌≤◌, ◌++◌, [], ◌∷◌, if◌then◌else◌, nat_lt, IsTrue, IfOk, IsOk, OnOk, OnErr, IfSome, length, remove, drop, slice_get};
 ghost use Rattle.topology.specs.Network.{IsAcceptedNetwork, are_joined};
 ghost use Rattle.topology.specs.Ranges.{ranges_of};
 ghost use Rattle.run_model.specs.World.{item_fits, at_pair};
 ghost use Rattle.link_model.specs.Link.{link};
-ghost use Rattle.configuration.specs.LinksView.{IsLinks, place_of, places_at, under_way};
+ghost use Rattle.configuration.specs.Laid.{IsLaid};
+ghost use Rattle.configuration.specs.LinksView.{IsLinks, under_way};
+ghost use Rattle.configuration.specs.PairTable.{value_at};
 
+use crate::pair_table::PairTable;
 use link_model::{Item, Link, NoItem};
 use std::alloc::{AllocError, Allocator, Global};
 use std::marker::Model;
 use topology::Net;
 
-/// The links of a network: one from each node to each node. A link where no edge is has no places.
+/// The links of a network: one each way for each edge, close together, behind one without places
+/// that stands for every two nodes that no edge joins.
 #[derive(Drop)]
 pub struct Links<A: Allocator + Copy = Global> {
     net: Net<A>,
+    places: PairTable<A>,
     links: Vec<Link<A>, A>,
 }
 
@@ -24,40 +28,50 @@ impl<A: Allocator + Copy> Model for Links<A> {
 
     ghost Value = { LinksView };
 
-    ghost view = { λ l. record { net = l.net; links = l.links.items } };
+    ghost view = { λ l. record { net = l.net; places = l.places; links = l.links.items } };
 
-    ghost invariant = { λ l. IsLinks (record { net = l.net; links = l.links.items }) };
+    ghost invariant = { λ l. IsLinks (record { net = l.net; places = l.places; links = l.links.items }) };
 }
 
-/// How many places the link at an index has: the network's capacity where an edge joins its ends, and else none.
-fn places_at<N: Allocator + Copy>(net: &Net<N>, index: usize) -> usize
-    requires { index < net.now.nodes * net.now.nodes }
-    ensures { result ≡ places_at net.now index }
+/// Lays one more link, empty, from one node to another, behind those that are there.
+fn lay<A: Allocator + Copy>(
+    alloc: A,
+    capacity: usize,
+    ends: (u16, u16),
+    places: &mut PairTable<A>,
+    links: &mut Vec<Link<A>, A>,
+) -> Result<(), AllocError>
+    requires first { ends.0 < places.old.nodes }
+    requires second { ends.1 < places.old.nodes }
+    requires few { length links.old.items < 65536 }
+    ensures nodes { places.new.nodes ≡ places.old.nodes }
+    ensures values { OnOk result ((u v : ℕ) → v < places.old.nodes → value_at places.new u v
+        ≡ at_pair (value_at places.old) ends.0 ends.1 (length links.old.items) u v) }
+    ensures links { OnOk result (links.new.items ≡ links.old.items ++ link capacity [] ∷ []) }
 {
-    let nodes = usize::from(net.nodes());
-    let from = (index / nodes) as u16;
-    let to = (index % nodes) as u16;
-    if net.are_joined(from, to) {
-        usize::from(net.capacity())
-    } else {
-        0
-    }
+    let place = links.len() as u16;
+    links.push(Link::new(alloc, capacity)?)?;
+    places.set(ends.0, ends.1, place);
+    Ok(())
 }
 
-/// A link for each two nodes, all of them empty.
-fn empty_links<A: Allocator + Copy, N: Allocator + Copy>(
+/// Where each link stands, and the links, all of them empty.
+fn lay_all<A: Allocator + Copy, N: Allocator + Copy>(
     alloc: A,
     net: &Net<N>,
-) -> Result<Vec<Link<A>, A>, AllocError>
+) -> Result<(PairTable<A>, Vec<Link<A>, A>), AllocError>
     ensures network { IsAcceptedNetwork net.now }
-    ensures links { IfOk result (λ links. links.items ≡ map (λ i. link (places_at net.now i) []) (range_with_len 0 (net.now.nodes * net.now.nodes))) }
+    ensures laid { IfOk result (λ laid. IsLaid net.now (are_joined net.now.edges) laid.0 laid.1.items) }
 {
-    let nodes = usize::from(net.nodes());
+    let capacity = usize::from(net.capacity());
+    let mut places = PairTable::new(alloc, net.nodes())?;
     let mut links = Vec::new(alloc);
-    for index in 0..nodes * nodes {
-        links.push(Link::new(alloc, places_at(net, index))?)?;
+    links.push(Link::new(alloc, 0)?)?;
+    for edge in net.edges() {
+        lay(alloc, capacity, (edge.0, edge.1), &mut places, &mut links)?;
+        lay(alloc, capacity, (edge.1, edge.0), &mut places, &mut links)?;
     }
-    Ok(links)
+    Ok((places, links))
 }
 
 impl<A: Allocator + Copy> Links<A> {
@@ -66,9 +80,12 @@ impl<A: Allocator + Copy> Links<A> {
         ensures net { IfOk result (λ links. links.net ≡ net.now) }
         ensures empty { IfOk result (λ links. under_way links ≡ λ u v. []) }
     {
+        let copy = net.copy(alloc)?;
+        let (places, links) = lay_all(alloc, net)?;
         Ok(Links {
-            net: net.copy(alloc)?,
-            links: empty_links(alloc, net)?,
+            net: copy,
+            places,
+            links,
         })
     }
 
@@ -84,10 +101,10 @@ impl<A: Allocator + Copy> Links<A> {
     fn place(&self, from: u16, to: u16) -> usize
         requires from_in { from < self.now.net.nodes }
         requires to_in { to < self.now.net.nodes }
-        ensures place { result ≡ place_of self.now.net.nodes from to }
+        ensures place { result ≡ value_at self.now.places from to }
         ensures there { result < length self.now.links }
     {
-        usize::from(from) * usize::from(self.net.nodes()) + usize::from(to)
+        usize::from(self.places.get(from, to))
     }
 
     /// Whether an edge joins the two nodes.
@@ -107,7 +124,8 @@ impl<A: Allocator + Copy> Links<A> {
         requires joined { IsTrue (are_joined self.old.net.edges from to) }
         requires fits { IsTrue (item_fits (ranges_of self.old.net) item) }
         ensures net { self.new.net ≡ self.old.net }
-        ensures put { under_way self.new ≡ (if nat_lt (length (under_way self.old from to)) self.old.net.capacity
+        ensures put { under_way self.new
+            ≡ (if nat_lt (length (under_way self.old from to)) self.old.net.capacity
             then at_pair (under_way self.old) from to (under_way self.old from to ++ item ∷ []) else under_way self.old) }
     {
         let place = self.place(from, to);
@@ -131,7 +149,8 @@ impl<A: Allocator + Copy> Links<A> {
         requires to_in { to < self.old.net.nodes }
         ensures net { self.new.net ≡ self.old.net }
         ensures taken { result ≡ slice_get (under_way self.old from to) 0 }
-        ensures rest { under_way self.new ≡ at_pair (under_way self.old) from to (drop 1 (under_way self.old from to)) }
+        ensures rest { under_way self.new
+            ≡ at_pair (under_way self.old) from to (drop 1 (under_way self.old from to)) }
         ensures fits { IfSome result (λ item. IsTrue (item_fits (ranges_of self.old.net) item)) }
     {
         let place = self.place(from, to);
@@ -144,7 +163,8 @@ impl<A: Allocator + Copy> Links<A> {
         requires to_in { to < self.old.net.nodes }
         ensures variant { IsOk result ↔ (index < length (under_way self.old from to)) }
         ensures net { self.new.net ≡ self.old.net }
-        ensures ok { OnOk result (under_way self.new ≡ at_pair (under_way self.old) from to (remove (under_way self.old from to) index)) }
+        ensures ok { OnOk result (under_way self.new
+            ≡ at_pair (under_way self.old) from to (remove (under_way self.old from to) index)) }
         ensures no_item { OnErr result (under_way self.new ≡ under_way self.old) }
     {
         let place = self.place(from, to);

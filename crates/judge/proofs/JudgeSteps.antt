@@ -1,21 +1,25 @@
 -- A judge's step, on each of its ways.
-use Rattle.std.proofs.Common.{◌≡◌, ◌∙◌, sym, ap, subst, ℕ, ◌+◌, ◌-◌, ◌^◌, ◌<◌, ◌≤◌, min, Bool, true, false, ◌&&◌, not, IsTrue, Some, None, List, [], ◌∷◌, ◌++◌, arith, refl}
+use Rattle.std.proofs.Common.{◌≡◌, ◌∙◌, sym, ap, subst, ℕ, ◌+◌, ◌-◌, ◌^◌, ◌<◌, ◌≤◌, min, Bool, true, false, ◌&&◌, not, nat_lt, if◌then◌else◌, is_none, length, Option, IsTrue, Some, None, List, [], ◌∷◌, ◌++◌, arith, refl}
 use Rattle.std.proofs.lemmas.Grind.{common_steps}
-use Rattle.topology.specs.Network.{Network}
+use Rattle.topology.specs.Network.{Network, are_joined}
+use Rattle.configuration.specs.PairTable.{PairTableView}
 use Rattle.run_model.specs.World.{World}
-use Rattle.run_model.specs.Step.{refusal, step}
-use Rattle.run_model.specs.Run.{is_damage}
-use Rattle.run_model.specs.Sweep.{link_act}
+use Rattle.run_model.specs.Step.{first_fault, link_fault, node_fault, refusal, step, unless}
+use Rattle.run_model.specs.Run.{is_damage, IsUndamaged}
+use Rattle.run_model.specs.Happened.{happened, taken_of}
 use Rattle.run_model.specs.Count.{IsSweepCount}
 use Rattle.run_model.specs.declared.event.Event.{Event}
 use Rattle.run_model.specs.declared.event.Event.TheVariants.{Send, Take, Lose, Tick, Ask, Leave, Damage}
-use Rattle.run_model.specs.declared.event.Harm.{Harm}
+use Rattle.run_model.specs.declared.happened.Happened.{Happened}
+use Rattle.run_model.specs.declared.happened.Happened.TheVariants.{FullTick, LendingTick, Damaged}
 use Rattle.run_model.specs.declared.event.EventFault.{EventFault}
-use Rattle.judge.specs.Tallies.{tally_of, tally_after}
-use Rattle.judge.specs.Stretch.{StretchView, IsRoomFor, has_bit, is_tick_of, names_nodes, IsComplete, IsFullThen, IsWaiting, IsKept}
+use Rattle.run_model.specs.declared.event.EventFault.TheVariants.{NoItem}
+use Rattle.link_model.specs.declared.item.Item.{Item}
+use Rattle.judge.specs.Tallies.{has_place, no_tally, tally_of, tally_behind}
+use Rattle.judge.specs.Stretch.{StretchView, IsRoomFor, has_bit, is_full_tick_of, names_below, names_place, IsComplete, IsKept}
 use Rattle.judge.specs.Judging.{IsJudging}
 use Rattle.judge.specs.Below.{Below}
-use Rattle.judge.proofs.Kept.{IsNoted, noted}
+use Rattle.judge.proofs.Kept.{IsNoted, noted, still-renewed}
 use Rattle.judge.proofs.Judging.{judging-refused, judging-goes_on, judging-sweeps, judging-damage, judging-counts, sweep-counted}
 
 -- the stretch with its looks counted from 0 again
@@ -23,7 +27,7 @@ abbrev pub cleared : StretchView → StretchView
 cleared s = record s { tallies = record s.tallies { looked = 0 } }
 
 kept-cleared : (w : World) (es : List Event) (s : StretchView) → IsKept w es s → IsKept w es (cleared s)
-kept-cleared w es s kept = record { nodes = kept.nodes; lacking = kept.lacking; old = kept.old; served = kept.served; apart = kept.apart }
+kept-cleared w es s kept = record { nodes = kept.nodes; lacking = kept.lacking; old = kept.old; renewed = kept.renewed; apart = kept.apart }
 
 pub judging-cleared : (start : World) (es : List Event) (now : World) (s : StretchView) (sweeps refused : ℕ) → IsJudging start es now s sweeps refused
     → IsJudging start es now (cleared s) sweeps refused
@@ -46,36 +50,91 @@ few-looks s before new is_before few = let none = ap (λ k. k.tallies.looked) is
 -- ---- the room
 
 pub room-cleared : (net : Network) (s before : StretchView) → before ≡ cleared s → IsRoomFor net s → IsRoomFor net before
-room-cleared net s before is_before room = rw is_before (record { nodes = room.nodes; apart = room.apart })
+room-cleared net s before is_before room = rw is_before (record { nodes = room.nodes; placed = room.placed; apart = room.apart })
 
-pub kept-room : (w : World) (es : List Event) (s before : StretchView) → before ≡ cleared s → IsKept w es s → IsRoomFor w.net before
-kept-room w es s before is_before kept = room-cleared w.net s before is_before (record { nodes = kept.nodes; apart = kept.apart })
-
-pub room-noted : (net : Network) (e : Event) (under_way : ℕ) (s new : StretchView) → IsRoomFor net s → new.tallies.nodes ≡ s.tallies.nodes
-    → ((u v : ℕ) → v < s.tallies.nodes → tally_of new.tallies u v ≡ tally_after (link_act u v e) under_way (tally_of s.tallies u v)) → IsRoomFor net new
-room-noted net e under_way s new room nodes tallies = record {
-  nodes = nodes ∙ room.nodes;
+pub room-noted : (net : Network) (did : Happened) (s new : StretchView) → IsRoomFor net s → new.tallies.table ≡ s.tallies.table
+    → ((u v : ℕ) → v < s.tallies.table.nodes → tally_of new.tallies u v ≡ tally_behind u v did (tally_of s.tallies u v)) → IsRoomFor net new
+room-noted net did s new room table tallies = record {
+  nodes = ap (λ t. t.nodes) table ∙ room.nodes;
+  placed = λ u v joined. rw table (room.placed u v joined);
   apart = λ u v un vn none.
-      let a = ap (λ t. t.served) (tallies u v (subst (λ n. v < n) (sym room.nodes) vn)) in
-      let b = room.apart u v un vn none in
-      grind (arith, common_steps, a, b);
+      ap (λ t. t.renewed) (tallies u v (subst (λ n. v < n) (sym room.nodes) vn)) ∙ still-renewed did u v (tally_of s.tallies u v) (room.apart u v un vn none);
 }
 
--- what is not refused names nodes
-pub names : (w : World) (e : Event) → refusal w e ≡ None → IsTrue (names_nodes w.net.nodes e)
-names w e fits = grind (arith, common_steps)
+-- what an event does that is not refused names nodes
+tick-names : (b : Bool) (n v : ℕ) → IsTrue (nat_lt v n) → IsTrue (names_below n (if b then FullTick v else LendingTick v))
+tick-names true n v there = there
+tick-names false n v there = refl
 
-pub accepted-damage : (w : World) (e : Event) (h : Harm) → e ≡ Damage h → refusal w e ≡ None → is_damage w e ≡ true
-accepted-damage w e h is fits = rw is (let same : refusal w (Damage h) ≡ None = subst (λ x. refusal w x ≡ None) is fits in rw same refl)
+take-names : (n u v : ℕ) (items : List Item) → IsTrue (nat_lt u n && nat_lt v n) → IsTrue (names_below n (taken_of u v items))
+take-names n u v [] there = refl
+take-names n u v (item ∷ items) there = there
 
-pub no-damage : (w : World) (e : Event) → ((h : Harm) → e ≡ Damage h → ⊥) → is_damage w e ≡ false
+both-there : (w : World) (u v : ℕ) → link_fault w u v ≡ None → IsTrue (nat_lt u w.net.nodes && nat_lt v w.net.nodes)
+both-there w u v none = grind (arith, common_steps)
+
+node-there : (w : World) (v : ℕ) → node_fault w v ≡ None → IsTrue (nat_lt v w.net.nodes)
+node-there w v none = grind (arith, common_steps)
+
+first-none : (a b : Option EventFault) → first_fault a b ≡ None → a ≡ None
+first-none None b none = refl
+first-none (Some fault) b none = absurd cc
+
+pub names : (w : World) (e : Event) → refusal w e ≡ None → IsTrue (names_below w.net.nodes (happened w e))
+names w (Tick v) fits = tick-names (is_none ((step w (Tick v)).node v).desk.lent) w.net.nodes v (node-there w v fits)
+names w (Take u v) fits = take-names w.net.nodes u v (w.link u v) (both-there w u v fits)
+names w (Lose u v i) fits = both-there w u v (first-none (link_fault w u v) (unless (nat_lt i (length (w.link u v))) NoItem) fits)
+names w (Send u v) fits = refl
+names w (Ask v t) fits = refl
+names w (Leave v t) fits = refl
+names w (Damage h) fits = refl
+
+-- what an event takes or loses goes from a link that has a place
+tick-placed : (b : Bool) (table : PairTableView) (v : ℕ) → IsTrue (names_place table (if b then FullTick v else LendingTick v))
+tick-placed true table v = refl
+tick-placed false table v = refl
+
+take-placed : (table : PairTableView) (u v : ℕ) (items : List Item) → IsTrue (has_place table u v) → IsTrue (names_place table (taken_of u v items))
+take-placed table u v [] there = refl
+take-placed table u v (item ∷ items) there = there
+
+both-joined : (w : World) (u v : ℕ) → link_fault w u v ≡ None → IsTrue (are_joined w.net.edges u v)
+both-joined w u v none = grind (arith, common_steps)
+
+pub placed : (w : World) (e : Event) (table : PairTableView) → ((u v : ℕ) → IsTrue (are_joined w.net.edges u v) → IsTrue (has_place table u v)) → refusal w e ≡ None
+    → IsTrue (names_place table (happened w e))
+placed w (Tick v) table all fits = tick-placed (is_none ((step w (Tick v)).node v).desk.lent) table v
+placed w (Take u v) table all fits = take-placed table u v (w.link u v) (all u v (both-joined w u v fits))
+placed w (Lose u v i) table all fits = all u v (both-joined w u v (first-none (link_fault w u v) (unless (nat_lt i (length (w.link u v))) NoItem) fits))
+placed w (Send u v) table all fits = refl
+placed w (Ask v t) table all fits = refl
+placed w (Leave v t) table all fits = refl
+placed w (Damage h) table all fits = refl
+
+-- every event leaves the network as it is
+pub same-network : (w : World) (e : Event) → (step w e).net ≡ w.net
+same-network w e = grind (arith, common_steps)
+
+-- an event that is no damage is a list without damage
+pub undamaged-one : (w : World) (e : Event) → is_damage w e ≡ false → IsUndamaged w (e ∷ [])
+undamaged-one w e none = rw none refl
+
+-- room that no tally takes is room for every network of as many nodes whose links have places
+pub room-empty : (net : Network) (s : StretchView) → s.tallies.table.nodes ≡ net.nodes
+    → ((u v : ℕ) → IsTrue (are_joined net.edges u v) → IsTrue (has_place s.tallies.table u v)) → ((u v : ℕ) → tally_of s.tallies u v ≡ no_tally) → IsRoomFor net s
+room-empty net s nodes placed empty = record { nodes = nodes; placed = placed; apart = λ u v un vn none. ap (λ t. t.renewed) (empty u v) }
+
+pub accepted-damage : (w : World) (e : Event) → happened w e ≡ Damaged → refusal w e ≡ None → is_damage w e ≡ true
+accepted-damage w e did fits = grind (arith, common_steps)
+
+pub no-damage : (w : World) (e : Event) → ¬ (happened w e ≡ Damaged) → is_damage w e ≡ false
 no-damage w (Send u v) other = refl
 no-damage w (Take u v) other = refl
 no-damage w (Lose u v i) other = refl
 no-damage w (Tick v) other = refl
 no-damage w (Ask v t) other = refl
 no-damage w (Leave v t) other = refl
-no-damage w (Damage h) other = absurd (other h refl)
+no-damage w (Damage h) other = absurd (other refl)
 
 module _ (laws : Below) (start : World) (es : List Event) (e : Event) (now next : World) (s before : StretchView) (sweeps refused : ℕ) (is_next : next ≡ step now e)
     (is_before : before ≡ cleared s) (j : IsJudging start es now s sweeps refused) where
@@ -92,18 +151,12 @@ module _ (laws : Below) (start : World) (es : List Event) (e : Event) (now next 
   damage-step fresh fits damage kept =
       rw is_next (judging-damage laws start es e now before sweeps refused seen fresh (rw fits refl) damage (subst (λ w. IsKept w [] fresh) is_next kept))
 
-  module _ (fits : refusal now e ≡ None) (other : is_damage now e ≡ false) (new : StretchView) (under_way : ℕ) (full : Bool)
-      (waiting : IsTrue (names_nodes now.net.nodes e) → IsWaiting now e under_way) (is_full : IsTrue (names_nodes next.net.nodes e) → IsFullThen next e full)
-      (nodes : new.tallies.nodes ≡ before.tallies.nodes)
-      (lacking : (v : ℕ) → has_bit new.lacking v ≡ (has_bit before.lacking v && not (is_tick_of e v && full)))
-      (tallies : (u v : ℕ) → v < before.tallies.nodes → tally_of new.tallies u v ≡ tally_after (link_act u v e) under_way (tally_of before.tallies u v)) where
+  module _ (fits : refusal now e ≡ None) (other : is_damage now e ≡ false) (new : StretchView) (did : Happened) (is : did ≡ happened now e)
+      (nodes : new.tallies.table.nodes ≡ before.tallies.table.nodes)
+      (lacking : (v : ℕ) → has_bit new.lacking v ≡ (has_bit before.lacking v && not (is_full_tick_of v did)))
+      (tallies : (u v : ℕ) → v < before.tallies.table.nodes → tally_of new.tallies u v ≡ tally_behind u v did (tally_of before.tallies u v)) where
     is-noted : IsNoted now e before new
-    is-noted =
-        let named = names now e fits in
-        let net = laws.network now (e ∷ []) in
-        let same : next.net.nodes ≡ now.net.nodes = ap (λ w. w.net.nodes) is_next ∙ ap (λ n. n.nodes) net in
-        let full_then : IsFullThen next e full = is_full (subst (λ n. IsTrue (names_nodes n e)) (sym same) named) in
-        noted now e before new under_way full (waiting named) (subst (λ w. IsFullThen w e full) is_next full_then) nodes lacking tallies
+    is-noted = noted now e did before new is nodes lacking tallies
 
     pub other-step : ¬ IsComplete new → IsJudging start (es ++ e ∷ []) next new sweeps refused
     other-step incomplete = rw is_next (judging-goes_on laws start es e now before sweeps refused seen new (rw fits refl) other is-noted incomplete)

@@ -1,16 +1,22 @@
 -- What is kept of a stretch tells when it is a sweep, and goes on with each event.
-use Rattle.std.proofs.Common.{◌≡◌, ◌∙◌, sym, ap, subst, ℕ, ◌<◌, ◌≤◌, ◌⊎◌, inl, inr, Bool, true, false, not, ◌&&◌, ◌||◌, nat_lt, IsTrue, is_some, List, [], ◌∷◌, ◌++◌, length, arith, refl}
+use Rattle.std.proofs.Common.{◌≡◌, ◌∙◌, sym, ap, subst, ℕ, ◌<◌, ◌≤◌, ◌⊎◌, inl, inr, Bool, true, false, not, ◌&&◌, ◌||◌, nat_lt, ◌==◌, suc, if◌then◌else◌, is_none, IsTrue, is_some, List, [], ◌∷◌, ◌++◌, length, arith, refl}
 use Rattle.std.proofs.lemmas.Grind.{common_steps}
 use Rattle.topology.specs.Network.{are_joined}
 use Rattle.run_model.specs.World.{World, IsWorldInRange}
 use Rattle.run_model.specs.Step.{refusal, step}
 use Rattle.run_model.specs.Run.{run, IsUndamaged}
-use Rattle.run_model.specs.Sweep.{IsSweep, link_act, is_full_tick, is_served}
+use Rattle.run_model.specs.Sweep.{IsSweep, is_link, link_act, is_full_tick, is_renewed}
 use Rattle.run_model.specs.Stretch.{old_items, old_after, takes_new}
 use Rattle.run_model.specs.declared.event.Event.{Event}
+use Rattle.run_model.specs.Happened.{happened, taken_of}
+use Rattle.run_model.specs.declared.happened.Happened.{Happened}
+use Rattle.run_model.specs.declared.happened.Happened.TheVariants.{FullTick, LendingTick}
+use Rattle.run_model.specs.declared.event.Event.TheVariants.{Send, Take, Lose, Tick, Ask, Leave, Damage}
+use Rattle.data_link.specs.Sweep.{Puts, Takes, Loses, Rests}
+use Rattle.link_model.specs.declared.item.Item.{Item}
 use Rattle.judge.specs.declared.tallies.Tally.{Tally}
-use Rattle.judge.specs.Tallies.{tally_of, tally_after}
-use Rattle.judge.specs.Stretch.{StretchView, has_bit, is_tick_of, IsFullThen, IsWaiting, IsComplete, IsKept}
+use Rattle.judge.specs.Tallies.{tally_of, tally_after, tally_behind}
+use Rattle.judge.specs.Stretch.{StretchView, has_bit, is_full_tick_of, IsComplete, IsKept}
 use Rattle.judge.specs.Below.{Below}
 
 -- ---- a sweep
@@ -20,11 +26,11 @@ module _ (laws : Below) (w : World) (es : List Event) (s : StretchView) (ok : Is
   complete-sweep fine complete = record {
     undamaged = fine;
     ticked = λ v l. let a = kept.lacking v in let b = complete.0 v in grind (arith, common_steps, a, b, l);
-    served = λ u v joined.
+    renewed = λ u v joined.
         let ends = laws.joined_nodes w.net u v ok.network joined in
         let same = kept.nodes in
         let a = complete.1 u v (omega (arith, ends.0, same)) (omega (arith, ends.1, same)) in
-        sym (kept.served u v joined) ∙ a;
+        sym (kept.renewed u v joined) ∙ a;
   }
 
   pub sweep-complete : IsSweep w es → IsComplete s
@@ -42,17 +48,19 @@ module _ (laws : Below) (w : World) (es : List Event) (s : StretchView) (ok : Is
             | inr more ↦ grind (arith, common_steps, a, more)
           ]
 
-      by-joined : (u v : ℕ) → u < s.tallies.nodes → v < s.tallies.nodes → (b : Bool) → are_joined w.net.edges u v ≡ b → (tally_of s.tallies u v).served ≡ true
-      by-joined u v un vn true e = kept.served u v e ∙ sweep.served u v e
+      by-joined : (u v : ℕ) → u < s.tallies.table.nodes → v < s.tallies.table.nodes → (b : Bool) → are_joined w.net.edges u v ≡ b → (tally_of s.tallies u v).renewed ≡ true
+      by-joined u v un vn true e = kept.renewed u v e ∙ sweep.renewed u v e
       by-joined u v un vn false e = let same = kept.nodes in kept.apart u v (omega (arith, un, same)) (omega (arith, vn, same)) e
 
 -- ---- one more event
 
 -- what one more event makes of what is kept, where it is not refused and no damage
 pub record IsNoted (now : World) (e : Event) (s new : StretchView) : Type 0 where
-  pub nodes : new.tallies.nodes ≡ s.tallies.nodes
+  pub nodes : new.tallies.table.nodes ≡ s.tallies.table.nodes
   pub lacking : (v : ℕ) → has_bit new.lacking v ≡ (has_bit s.lacking v && not (is_full_tick now e v))
-  pub tallies : (u v : ℕ) → v < s.tallies.nodes → tally_of new.tallies u v ≡ tally_after (link_act u v e) (length (now.link u v)) (tally_of s.tallies u v)
+  pub tallies : (u v : ℕ) → v < s.tallies.table.nodes → (tally_of s.tallies u v).old ≤ length (now.link u v)
+      → tally_of new.tallies u v ≡ tally_after (link_act u v e) (length (now.link u v)) (tally_of s.tallies u v)
+  pub still : (u v : ℕ) → v < s.tallies.table.nodes → (tally_of s.tallies u v).renewed ≡ true → (tally_of new.tallies u v).renewed ≡ true
 
 module _ (laws : Below) (w : World) (es : List Event) (e : Event) (ok : IsWorldInRange w) (fine : IsUndamaged w es) (s : StretchView) (kept : IsKept w es s) where
   pub kept-noted : (new : StretchView) → IsNoted (run w es) e s new → IsKept w (es ++ e ∷ []) new
@@ -62,23 +70,23 @@ module _ (laws : Below) (w : World) (es : List Event) (e : Event) (ok : IsWorldI
         let a = kept.lacking v in let b = noted.lacking v in let c = laws.ticks w es e v in
         grind (arith, common_steps, a, b, c);
     old = λ u v joined.
-        let t = noted.tallies u v (in-places u v joined) in
+        let t = noted.tallies u v (in-places u v joined) (there u v joined) in
         ap (λ x. x.old) t ∙ ap (old_after (link_act u v e)) (kept.old u v joined) ∙ sym (laws.old_go_on w es e u v);
-    served = λ u v joined.
-        let t = noted.tallies u v (in-places u v joined) in
-        ap (λ x. x.served) t
-        ∙ ap (λ b. b || takes_new (link_act u v e) (tally_of s.tallies u v).old (length ((run w es).link u v))) (kept.served u v joined)
-        ∙ ap (λ n. is_served w es u v || takes_new (link_act u v e) n (length ((run w es).link u v))) (kept.old u v joined)
-        ∙ sym (laws.served w es e u v ok joined fine);
+    renewed = λ u v joined.
+        let t = noted.tallies u v (in-places u v joined) (there u v joined) in
+        ap (λ x. x.renewed) t
+        ∙ ap (λ b. b || takes_new (link_act u v e) (tally_of s.tallies u v).old (length ((run w es).link u v))) (kept.renewed u v joined)
+        ∙ ap (λ n. is_renewed w es u v || takes_new (link_act u v e) n (length ((run w es).link u v))) (kept.old u v joined)
+        ∙ sym (laws.renewed w es e u v ok joined fine);
     apart = λ u v un vn no.
         let same = kept.nodes in
-        let t = noted.tallies u v (omega (arith, vn, same)) in
-        let a = kept.apart u v un vn no in
-        let f = ap (λ x. x.served) t in
-        grind (arith, common_steps, a, f);
+        noted.still u v (omega (arith, vn, same)) (kept.apart u v un vn no);
   }
     where
-      in-places : (u v : ℕ) → IsTrue (are_joined w.net.edges u v) → v < s.tallies.nodes
+      there : (u v : ℕ) → IsTrue (are_joined w.net.edges u v) → (tally_of s.tallies u v).old ≤ length ((run w es).link u v)
+      there u v joined = let is = kept.old u v joined in let few = laws.old_there w es u v ok joined fine in omega (arith, is, few)
+
+      in-places : (u v : ℕ) → IsTrue (are_joined w.net.edges u v) → v < s.tallies.table.nodes
       in-places u v joined = let ends = laws.joined_nodes w.net u v ok.network joined in let same = kept.nodes in omega (arith, ends.1, same)
 
   -- a refused event takes nothing from a link, loses nothing of it, and is no full tick of a node
@@ -88,7 +96,7 @@ module _ (laws : Below) (w : World) (es : List Event) (e : Event) (ok : IsWorldI
   refused-old u v refused joined =
       let ends = laws.joined_nodes w.net u v ok.network joined in
       let there = laws.old_there w es u v ok joined fine in
-      let net = laws.network w es in
+      let net = laws.network w es fine in
       let first : u < (run w es).net.nodes = subst (λ n. u < n.nodes) (sym net) ends.0 in
       let second : v < (run w es).net.nodes = subst (λ n. v < n.nodes) (sym net) ends.1 in
       let still : IsTrue (are_joined (run w es).net.edges u v) = subst (λ n. IsTrue (are_joined n.edges u v)) (sym net) joined in
@@ -107,36 +115,98 @@ module _ (laws : Below) (w : World) (es : List Event) (e : Event) (ok : IsWorldI
         let f = no-tick v in
         grind (arith, common_steps, a, c, f);
     old = λ u v joined. kept.old u v joined ∙ sym (refused-old u v refused joined).0 ∙ sym (laws.old_go_on w es e u v);
-    served = λ u v joined.
-        let a = kept.served u v joined in
-        let b = laws.served w es e u v ok joined fine in
+    renewed = λ u v joined.
+        let b = laws.renewed w es e u v ok joined fine in
         let f = (refused-old u v refused joined).1 in
-        grind (arith, common_steps, a, b, f);
+        let same : is_renewed w es u v ≡ is_renewed w (es ++ e ∷ []) u v = grind (arith, common_steps, b, f) in
+        kept.renewed u v joined ∙ same;
     apart = kept.apart;
   }
     where
       no-tick : (v : ℕ) → (nat_lt v w.net.nodes && is_full_tick (run w es) e v) ≡ false
-      no-tick v = let net = laws.network w es in out-of (run w es) e v w.net.nodes (ap (λ n. n.nodes) net) refused
+      no-tick v = let net = laws.network w es fine in out-of (run w es) e v w.net.nodes (ap (λ n. n.nodes) net) refused
         where
           out-of : (now : World) (e : Event) (v n : ℕ) → now.net.nodes ≡ n → IsTrue (is_some (refusal now e)) → (nat_lt v n && is_full_tick now e v) ≡ false
           out-of now e v n same refused = grind (arith, common_steps)
 
 -- ---- what the code notes
 
-full-tick : (now : World) (e : Event) (v : ℕ) (full : Bool) → IsFullThen (step now e) e full → (is_tick_of e v && full) ≡ is_full_tick now e v
-full-tick now e v full is = grind (arith, common_steps)
+tick-full : (f : ℕ → Bool) (u v : ℕ) → is_full_tick_of v (if f u then FullTick u else LendingTick u) ≡ ((u == v) && f v)
+tick-full f u v = grind (arith, common_steps)
 
-same-after : (now : World) (e : Event) (u v under_way : ℕ) (t : Tally) → IsWaiting now e under_way
-    → tally_after (link_act u v e) under_way t ≡ tally_after (link_act u v e) (length (now.link u v)) t
-same-after now e u v under_way t is = grind (arith, common_steps)
+take-full : (a b v : ℕ) (items : List Item) → is_full_tick_of v (taken_of a b items) ≡ false
+take-full a b v [] = refl
+take-full a b v (item ∷ items) = refl
 
-pub noted : (now : World) (e : Event) (s new : StretchView) (under_way : ℕ) (full : Bool) → IsWaiting now e under_way → IsFullThen (step now e) e full
-    → new.tallies.nodes ≡ s.tallies.nodes
-    → ((v : ℕ) → has_bit new.lacking v ≡ (has_bit s.lacking v && not (is_tick_of e v && full)))
-    → ((u v : ℕ) → v < s.tallies.nodes → tally_of new.tallies u v ≡ tally_after (link_act u v e) under_way (tally_of s.tallies u v))
+full-tick : (now : World) (e : Event) (v : ℕ) → is_full_tick_of v (happened now e) ≡ is_full_tick now e v
+full-tick now (Tick u) v = tick-full (λ k. is_none ((step now (Tick u)).node k).desk.lent) u v
+full-tick now (Take a b) v = take-full a b v (now.link a b)
+full-tick now (Send a b) v = refl
+full-tick now (Lose a b i) v = refl
+full-tick now (Ask u t) v = refl
+full-tick now (Leave u t) v = refl
+full-tick now (Damage h) v = refl
+
+rests-after : (n : ℕ) (t : Tally) → t ≡ tally_after Rests n t
+rests-after n t = grind (arith, common_steps)
+
+put-after : (b : Bool) (n : ℕ) (t : Tally) → t ≡ tally_after (if b then Puts else Rests) n t
+put-after true n t = grind (arith, common_steps)
+put-after false n t = rests-after n t
+
+lost-after : (b : Bool) (i n : ℕ) (t : Tally) → (if b then tally_after (Loses i) 0 t else t) ≡ tally_after (if b then Loses i else Rests) n t
+lost-after true i n t = refl
+lost-after false i n t = rests-after n t
+
+tick-after : (b : Bool) (a u v n : ℕ) (t : Tally) → tally_behind u v (if b then FullTick a else LendingTick a) t ≡ tally_after Rests n t
+tick-after true a u v n t = rests-after n t
+tick-after false a u v n t = rests-after n t
+
+-- a take of an empty link leaves its tally, in which nothing is old
+empty-after : (t : Tally) → t.old ≤ 0 → t ≡ tally_after Takes 0 t
+empty-after t few = grind (arith, common_steps)
+
+one-after : (n : ℕ) (t : Tally) → tally_after Takes 1 t ≡ tally_after Takes (suc n) t
+one-after n t = grind (arith, common_steps)
+
+same-take : (u v : ℕ) (items : List Item) (t : Tally) → t.old ≤ length items → tally_behind u v (taken_of u v items) t ≡ tally_after Takes (length items) t
+same-take u v [] t few = empty-after t few
+same-take u v (item ∷ items) t few =
+    let here : is_link u v u v ≡ true = grind (arith, common_steps) in
+    rw here (one-after (length items) t)
+
+other-take : (u v a b : ℕ) (items : List Item) (n : ℕ) (t : Tally) → is_link u v a b ≡ false → tally_behind u v (taken_of a b items) t ≡ tally_after Rests n t
+other-take u v a b [] n t other = rests-after n t
+other-take u v a b (item ∷ items) n t other = rw other (rests-after n t)
+
+take-after : (link : ℕ → ℕ → List Item) (u v a b : ℕ) (t : Tally) → t.old ≤ length (link u v) → (test : Bool) → is_link u v a b ≡ test
+    → tally_behind u v (taken_of a b (link a b)) t ≡ tally_after (if test then Takes else Rests) (length (link u v)) t
+take-after link u v a b t few true is =
+    let one : a ≡ u = grind (arith, common_steps, is) in
+    let two : b ≡ v = grind (arith, common_steps, is) in
+    rw (one, two) (same-take u v (link u v) t few)
+take-after link u v a b t few false is = other-take u v a b (link a b) (length (link u v)) t is
+
+same-after : (now : World) (e : Event) (u v : ℕ) (t : Tally) → t.old ≤ length (now.link u v)
+    → tally_behind u v (happened now e) t ≡ tally_after (link_act u v e) (length (now.link u v)) t
+same-after now (Send a b) u v t few = put-after (is_link u v a b) (length (now.link u v)) t
+same-after now (Take a b) u v t few = take-after now.link u v a b t few (is_link u v a b) refl
+same-after now (Lose a b i) u v t few = lost-after (is_link u v a b) i (length (now.link u v)) t
+same-after now (Tick a) u v t few = tick-after (is_none ((step now (Tick a)).node a).desk.lent) a u v (length (now.link u v)) t
+same-after now (Ask a x) u v t few = rests-after (length (now.link u v)) t
+same-after now (Leave a x) u v t few = rests-after (length (now.link u v)) t
+same-after now (Damage h) u v t few = rests-after (length (now.link u v)) t
+
+pub still-renewed : (did : Happened) (u v : ℕ) (t : Tally) → t.renewed ≡ true → (tally_behind u v did t).renewed ≡ true
+still-renewed did u v t renewed = grind (arith, common_steps)
+
+pub noted : (now : World) (e : Event) (did : Happened) (s new : StretchView) → did ≡ happened now e → new.tallies.table.nodes ≡ s.tallies.table.nodes
+    → ((v : ℕ) → has_bit new.lacking v ≡ (has_bit s.lacking v && not (is_full_tick_of v did)))
+    → ((u v : ℕ) → v < s.tallies.table.nodes → tally_of new.tallies u v ≡ tally_behind u v did (tally_of s.tallies u v))
     → IsNoted now e s new
-noted now e s new under_way full waiting is nodes lacking tallies = record {
+noted now e did s new is nodes lacking tallies = record {
   nodes = nodes;
-  lacking = λ v. lacking v ∙ ap (λ b. has_bit s.lacking v && not b) (full-tick now e v full is);
-  tallies = λ u v within. tallies u v within ∙ same-after now e u v under_way (tally_of s.tallies u v) waiting;
+  lacking = λ v. lacking v ∙ ap (λ d. has_bit s.lacking v && not (is_full_tick_of v d)) is ∙ ap (λ b. has_bit s.lacking v && not b) (full-tick now e v);
+  tallies = λ u v within few. tallies u v within ∙ ap (λ d. tally_behind u v d (tally_of s.tallies u v)) is ∙ same-after now e u v (tally_of s.tallies u v) few;
+  still = λ u v within renewed. ap (λ t. t.renewed) (tallies u v within) ∙ still-renewed did u v (tally_of s.tallies u v) renewed;
 }

@@ -3,7 +3,7 @@ pub mod TallyPlaces
 pub mod Masks
 pub mod Kept
 pub mod Judging
+mod Laying
 mod Begun
 mod JudgeSteps
-mod Headline
-mod RowsRuns
+mod RowsRefused

@@ -1,17 +1,18 @@
 -- What the judge's crate knows of runs and networks: laws of the crates below.
 use Rattle.topology.specs.Laws.{JoinedAreNodes, Limits}
-use Rattle.run_model.specs.Laws.{RefusedChangesNothing, NetworkStays, RunsJoin, UndamagedSplits, RangesStay, TicksGoOn, ServedGoesOn, OldItemsStart, OldItemsGoOn, OldItemsAreThere, CountedIsGreatest, CountStarts, CountStays, CountRises, MomentLeads, MomentStays, MomentMoves}
+use Rattle.run_model.specs.Laws.{RefusedChangesNothing, NetworkStays, FrameStays, RunsJoin, UndamagedSplits, RangesStay, TicksGoOn, RenewedGoesOn, OldItemsStart, OldItemsGoOn, OldItemsAreThere, CountedIsGreatest, CountStarts, CountStays, CountRises, MomentLeads, MomentStays, MomentMoves}
 
 pub record Below : Type 0 where
   pub joined_nodes : JoinedAreNodes
   pub limits : Limits
   pub refused : RefusedChangesNothing
   pub network : NetworkStays
+  pub frame : FrameStays
   pub joins : RunsJoin
   pub splits : UndamagedSplits
   pub ranges : RangesStay
   pub ticks : TicksGoOn
-  pub served : ServedGoesOn
+  pub renewed : RenewedGoesOn
   pub old_start : OldItemsStart
   pub old_go_on : OldItemsGoOn
   pub old_there : OldItemsAreThere

@@ -5,31 +5,32 @@ use Rattle.run_model.specs.Count.{IsSweepCount}
 use Rattle.run_model.specs.declared.event.Event.{Event}
 use Rattle.judge.specs.Judging.{counted_up_to, refused_in, IsJudging}
 use Rattle.judge.specs.Stretch.{StretchView}
-use Rattle.configuration.specs.WorldView.{WorldView, world_of}
+use Rattle.configuration.specs.ConfigurationView.{ConfigurationView, world_of}
 
--- the world now, what is kept of the unfinished stretch, and the counts
+-- nodes and links now, what is kept of the unfinished stretch, and the counts
 pub record JudgeView : Type 0 where
-  pub world : WorldView
+  pub configuration : ConfigurationView
   pub stretch : StretchView
   pub sweeps : ℕ
   pub refused : ℕ
 
 -- the judge has seen these events happen from the start on
 abbrev pub HasSeen : JudgeView → World → List Event → Type 0
-HasSeen j start es = IsJudging start es (world_of j.world) j.stretch j.sweeps j.refused
+HasSeen j start es = IsJudging start es (world_of j.configuration) j.stretch j.sweeps j.refused
 
 -- whatever the one judge has seen, the other has seen that and then the event
 abbrev pub HasSeenNext : JudgeView → Event → JudgeView → Type 0
 HasSeenNext old e new = (start : World) (es : List Event) → HasSeen old start es → HasSeen new start (es ++ e ∷ [])
 
--- whatever the judge has seen, the event ends a sweep: with it there is one more since the last damage
+-- whatever the judge has seen, the event ends a sweep: with it there is one more since the last
+-- damage
 abbrev pub EndsSweep : JudgeView → Event → Type 0
 EndsSweep j e = (start : World) (es : List Event) → HasSeen j start es → (count : ℕ) × IsSweepCount start es count × IsSweepCount start (es ++ e ∷ []) (count + 1)
 
--- whatever the judge has seen, so many sweeps there have been since the last damage
+-- whatever the judge has seen, there have been `sweeps` sweeps since the last damage
 abbrev pub AreSweepsSeen : JudgeView → ℕ → Type 0
 AreSweepsSeen j sweeps = (start : World) (es : List Event) → HasSeen j start es → (count : ℕ) × IsSweepCount start es count × (sweeps ≡ counted_up_to count)
 
--- whatever the judge has seen, so many of its events were refused
+-- whatever the judge has seen, `refused` of its events were refused
 abbrev pub AreRefusalsSeen : JudgeView → ℕ → Type 0
 AreRefusalsSeen j refused = (start : World) (es : List Event) → HasSeen j start es → refused ≡ counted_up_to (refused_in start es)

@@ -1,8 +1,7 @@
 pub mod Tallies
+pub mod Laid
 pub mod Stretch
 pub mod Judging
 pub mod Below
 pub mod JudgeView
-pub mod Payloads
-pub mod Closure
 pub mod Parts

@@ -1,13 +1,15 @@
 -- What a judge keeps of the unfinished stretch of a run, and what is to hold of it.
-use Rattle.std.specs.Prelude.{◌≡◌, ℕ, ◌<◌, Bool, true, false, not, ◌==◌, ◌&&◌, nat_lt, IsTrue, List, is_none, length}
+use Rattle.std.specs.Prelude.{◌≡◌, ℕ, ◌<◌, Bool, true, false, not, ◌==◌, ◌&&◌, nat_lt, IsTrue, List}
 use Rattle.std.specs.Int.{bit_at}
 use Rattle.topology.specs.Network.{Network, are_joined}
 use Rattle.run_model.specs.World.{World}
-use Rattle.run_model.specs.Sweep.{has_full_tick, is_served}
+use Rattle.run_model.specs.Sweep.{has_full_tick, is_renewed}
 use Rattle.run_model.specs.Stretch.{old_items}
 use Rattle.run_model.specs.declared.event.Event.{Event}
-use Rattle.run_model.specs.declared.event.Event.TheVariants.{Take, Lose, Tick}
-use Rattle.judge.specs.Tallies.{TalliesView, tally_of}
+use Rattle.run_model.specs.declared.happened.Happened.{Happened}
+use Rattle.run_model.specs.declared.happened.Happened.TheVariants.{FullTick, Taken, Lost}
+use Rattle.configuration.specs.PairTable.{PairTableView}
+use Rattle.judge.specs.Tallies.{TalliesView, tally_of, has_place}
 
 -- a mask with a bit for each node that still lacks a full tick, and the tallies of the links
 pub record StretchView : Type 0 where
@@ -18,42 +20,41 @@ pub record StretchView : Type 0 where
 abbrev pub has_bit : ℕ → ℕ → Bool
 has_bit mask v = bit_at mask v == 1
 
--- no node lacks a full tick, and every link is served
+-- no node lacks a full tick, and every link is renewed
 abbrev pub IsComplete : StretchView → Type 0
-IsComplete s = ((v : ℕ) → has_bit s.lacking v ≡ false) × ((u v : ℕ) → u < s.tallies.nodes → v < s.tallies.nodes → IsTrue (tally_of s.tallies u v).served)
+IsComplete s = ((v : ℕ) → has_bit s.lacking v ≡ false) × ((u v : ℕ) → u < s.tallies.table.nodes → v < s.tallies.table.nodes → IsTrue (tally_of s.tallies u v).renewed)
 
--- the event is a tick of v
-abbrev pub is_tick_of : Event → ℕ → Bool
-is_tick_of (Tick u) v = v == u
-is_tick_of _ v = false
+-- v has had a full tick
+abbrev pub is_full_tick_of : ℕ → Happened → Bool
+is_full_tick_of v (FullTick u) = v == u
+is_full_tick_of v _ = false
 
--- where an event takes, loses or ticks, it names nodes below n
-abbrev pub names_nodes : ℕ → Event → Bool
-names_nodes n (Take u v) = nat_lt u n && nat_lt v n
-names_nodes n (Lose u v i) = nat_lt u n && nat_lt v n
-names_nodes n (Tick v) = nat_lt v n
-names_nodes n _ = true
+-- the nodes that it ticked, or whose link it took from, are below n
+abbrev pub names_below : ℕ → Happened → Bool
+names_below n (FullTick v) = nat_lt v n
+names_below n (Taken u v) = nat_lt u n && nat_lt v n
+names_below n (Lost u v i) = nat_lt u n && nat_lt v n
+names_below n _ = true
 
--- a tick is full where the node lends to nobody in the world behind it
-abbrev pub IsFullThen : World → Event → Bool → Type 0
-IsFullThen next (Tick u) full = full ≡ is_none (next.node u).desk.lent
-IsFullThen next _ full = Unit {0}
+-- the link from which an item has gone has a place of its own
+abbrev pub names_place : PairTableView → Happened → Bool
+names_place table (Taken u v) = has_place table u v
+names_place table (Lost u v i) = has_place table u v
+names_place table _ = true
 
--- so many items stand on the link that an event takes from
-abbrev pub IsWaiting : World → Event → ℕ → Type 0
-IsWaiting now (Take u v) under_way = under_way ≡ length (now.link u v)
-IsWaiting now _ under_way = Unit {0}
-
--- there is room for the stretches of a network: a tally for each two nodes, where what is no link lacks nothing
+-- there is room for the stretches of a network: each link has a tally of its own, and what is no
+-- link lacks nothing
 pub record IsRoomFor (net : Network) (s : StretchView) : Type 0 where
-  pub nodes : s.tallies.nodes ≡ net.nodes
-  pub apart : (u v : ℕ) → u < net.nodes → v < net.nodes → are_joined net.edges u v ≡ false → (tally_of s.tallies u v).served ≡ true
+  pub nodes : s.tallies.table.nodes ≡ net.nodes
+  pub placed : (u v : ℕ) → IsTrue (are_joined net.edges u v) → IsTrue (has_place s.tallies.table u v)
+  pub apart : (u v : ℕ) → u < net.nodes → v < net.nodes → are_joined net.edges u v ≡ false → (tally_of s.tallies u v).renewed ≡ true
 
--- What is kept of a stretch from a world: the mask has the nodes that had no full tick in it, and a tally says of its link how many of the items that stood
--- there when the stretch began stand there still, and whether it is served. What is no link lacks nothing.
+-- What is kept of a stretch from a world: the mask has the nodes that had no full tick in it, and a
+-- tally says of its link how many of the items that stood there when the stretch began stand there
+-- still, and whether it is renewed. What is no link lacks nothing.
 pub record IsKept (w : World) (es : List Event) (s : StretchView) : Type 0 where
-  pub nodes : s.tallies.nodes ≡ w.net.nodes
+  pub nodes : s.tallies.table.nodes ≡ w.net.nodes
   pub lacking : (v : ℕ) → has_bit s.lacking v ≡ (nat_lt v w.net.nodes && not (has_full_tick w es v))
   pub old : (u v : ℕ) → IsTrue (are_joined w.net.edges u v) → (tally_of s.tallies u v).old ≡ old_items w es u v
-  pub served : (u v : ℕ) → IsTrue (are_joined w.net.edges u v) → (tally_of s.tallies u v).served ≡ is_served w es u v
-  pub apart : (u v : ℕ) → u < w.net.nodes → v < w.net.nodes → are_joined w.net.edges u v ≡ false → (tally_of s.tallies u v).served ≡ true
+  pub renewed : (u v : ℕ) → IsTrue (are_joined w.net.edges u v) → (tally_of s.tallies u v).renewed ≡ is_renewed w es u v
+  pub apart : (u v : ℕ) → u < w.net.nodes → v < w.net.nodes → are_joined w.net.edges u v ≡ false → (tally_of s.tallies u v).renewed ≡ true

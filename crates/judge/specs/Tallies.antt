@@ -1,43 +1,65 @@
 -- What contracts see of a judge's tallies, one for each link.
-use Rattle.std.specs.Prelude.{◌≡◌, ℕ, ◌+◌, ◌*◌, true, false, ◌||◌, if◌then◌else◌, List, [], ◌∷◌, length, slice_index_or}
-use Rattle.data_link.specs.Sweep.{LinkAct}
+use Rattle.std.specs.Prelude.{◌≡◌, ℕ, ◌+◌, ◌<◌, ◌⊎◌, Bool, true, false, not, ◌==◌, ◌||◌, IsTrue, if◌then◌else◌, List, [], ◌∷◌, length, slice_index_or}
+use Rattle.data_link.specs.Sweep.{LinkAct, Takes, Loses}
 use Rattle.run_model.specs.World.{World}
 use Rattle.run_model.specs.Stretch.{old_after, takes_new}
+use Rattle.run_model.specs.Sweep.{is_link}
+use Rattle.run_model.specs.declared.happened.Happened.{Happened}
+use Rattle.run_model.specs.declared.happened.Happened.TheVariants.{Taken, Lost}
 use Rattle.judge.specs.declared.tallies.Tally.{Tally}
-pub use Rattle.configuration.specs.LinksView.{place_of}
+use Rattle.configuration.specs.PairTable.{PairTableView, value_at}
 
--- how many nodes there are; n tallies for each, those of the links that lead from it; and how often one was looked at
+-- for each two nodes the place of the tally of the link between them; the tallies, one behind the
+-- other; and how often one was looked at
 pub record TalliesView : Type 0 where
-  pub nodes : ℕ
+  pub table : PairTableView
   pub places : List Tally
   pub looked : ℕ
 
 -- the tally of a link that is not there: it has nothing old and lacks nothing
 abbrev pub no_tally : Tally
-no_tally = record { old = 0; served = true }
+no_tally = record { old = 0; renewed = true }
 
--- the tally of the link from u to v
+-- the tally of the link from u to v; the first place stands for all links that are not there
 abbrev pub tally_of : TalliesView → ℕ → ℕ → Tally
-tally_of t u v = slice_index_or t.places (place_of t.nodes u v) no_tally
+tally_of t u v = slice_index_or t.places (value_at t.table u v) no_tally
 
--- what an act makes of a tally, where so many items stand on the link
+-- the link from u to v has a place of its own
+abbrev pub has_place : PairTableView → ℕ → ℕ → Bool
+has_place table u v = not (value_at table u v == 0)
+
+-- what an act makes of a tally, where `under_way` items stand on the link
 abbrev pub tally_after : LinkAct → ℕ → Tally → Tally
-tally_after act under_way t = record { old = old_after act t.old; served = t.served || takes_new act t.old under_way }
+tally_after act under_way t = record { old = old_after act t.old; renewed = t.renewed || takes_new act t.old under_way }
 
--- 1 where the link is not served, else 0
+-- what has happened makes of the tally of the link from u to v: only what leaves the link does
+abbrev pub tally_behind : ℕ → ℕ → Happened → Tally → Tally
+tally_behind u v (Taken a b) t = if is_link u v a b then tally_after Takes 1 t else t
+tally_behind u v (Lost a b i) t = if is_link u v a b then tally_after (Loses i) 0 t else t
+tally_behind u v _ t = t
+
+-- the place is that of two nodes
+abbrev pub IsOfNodes : PairTableView → ℕ → Type 0
+IsOfNodes table p = (u : ℕ) × (v : ℕ) × (u < table.nodes) × (v < table.nodes) × (value_at table u v ≡ p)
+
+-- 1 where the link is not renewed, else 0
 abbrev pub missing : Tally → ℕ
-missing t = if t.served then 0 else 1
+missing t = if t.renewed then 0 else 1
 
--- how many of these tallies do not say that their link is served
-abbrev pub unserved_in : List Tally → ℕ
-unserved_in [] = 0
-unserved_in (t ∷ ts) = missing t + unserved_in ts
+-- how many of these tallies do not say that their link is renewed
+abbrev pub unrenewed_in : List Tally → ℕ
+unrenewed_in [] = 0
+unrenewed_in (t ∷ ts) = missing t + unrenewed_in ts
 
--- there are n tallies for each of n nodes, and so many of them are not served
-pub record IsTallied (nodes : ℕ) (places : List Tally) (unserved : ℕ) : Type 0 where
-  pub all_links : length places ≡ nodes * nodes
-  pub few : unserved ≡ unserved_in places
+-- Different pairs have different places, but for those that have the first. `unrenewed` of the
+-- tallies are not renewed, each at the place of two nodes.
+pub record IsTallied (table : PairTableView) (places : List Tally) (unrenewed : ℕ) : Type 0 where
+  pub inside : (u v : ℕ) → v < table.nodes → value_at table u v < length places
+  pub apart : (u v i j : ℕ) → v < table.nodes → j < table.nodes
+      → value_at table u v ≡ value_at table i j → ((u ≡ i) × (v ≡ j)) ⊎ (value_at table u v ≡ 0)
+  pub own : (p : ℕ) → IsOfNodes table p ⊎ ((slice_index_or places p no_tally).renewed ≡ true)
+  pub few : unrenewed ≡ unrenewed_in places
 
 -- the tally of the link from u to v as a stretch begins: all that is under way is old
 abbrev pub first_tally : World → ℕ → ℕ → Tally
-first_tally w u v = record { old = length (w.link u v); served = false }
+first_tally w u v = record { old = length (w.link u v); renewed = false }

@@ -1,18 +1,23 @@
-//! A network's run, judged: how many sweeps it has held since the last damage, which is what the guarantee of the network asks for.
+//! A network's run, judged: how many sweeps it has held since the last damage, which is what the
+//! guarantee of the network asks for.
 //!
-//! A [`World`] is a network at one moment with all the memory that a run of it and its judge need. `World::new` reserves it; each `step` is one event, and takes
-//! none.
+//! A [`World`] is a network at one moment with all the memory that a run of it and its judge need.
+//! `World::new` reserves it; each `step` is one event, and takes none.
 //!
-//! [`report::judge`] lets a list of events happen and counts its sweeps and refusals. Where the sweeps since the last damage are as many as `Net::bound`
-//! says, the world that it reports serves, whatever state it began in:
+//! A [`Judge`] lets events happen one by one, counts sweeps and refusals, and lends the
+//! configuration, nodes and links as they are now. Judging takes no memory: its room is the
+//! world's:
 //!
 //! ```
-//! let report = report::judge(world, &events);      // report.world, report.sweeps, report.refused
+//! let mut judge = Judge::new(world);
+//! judge.step(&Event::Tick { node: 0 })?;      // refused, as NoNode is, it is counted, and changes nothing else
+//! let sweeps = judge.sweeps();
 //! ```
 //!
-//! A [`Judge`] does the same event by event, and lends the configuration, nodes and links as they are now. Judging takes no memory: its room is the world's.
+//! What a number of sweeps leads to is said where the theorem is known: by the crate `world`.
 //!
-//! Who runs the nodes by other means, as on threads, takes a world apart, and puts it together again:
+//! Who runs the nodes by other means, as on threads, takes a world apart, and puts it together
+//! again:
 //!
 //! ```
 //! let Parts { nodes, links, room } = world.into_parts();      // links.net() is the network
@@ -25,7 +30,6 @@
 mod judge;
 mod laws;
 mod parts;
-pub mod report;
 mod stretch;
 mod tallies;
 mod world;

@@ -34,7 +34,8 @@ impl<A: Allocator + Copy> World<A> {
         Parts { nodes, links, room }
     }
 
-    /// The world that has these parts, which are to be one world's: each node at the place of its id. No memory is taken.
+    /// The world that has these parts, which are to be one world's: each node at the place of its
+    /// id. No memory is taken.
     pub fn from_parts(parts: Parts<A>) -> World<A>
         requires { AreOneWorlds parts.nodes.items parts.links parts.room }
         ensures { result ≡ record { nodes = parts.nodes.items; links = parts.links } }

@@ -1,17 +1,18 @@
 //! What a judge keeps of the unfinished stretch of a run.
 ghost use Rattle.std.specs.Prelude.{◌≡◌, ◌↔◌, ◌+◌, ◌<◌, ◌≤◌, ◌==◌, ◌&&◌, ℕ, not, nat_lt, IfOk, IsTrue};
 ghost use Rattle.data_link.specs.Sweep.{Takes, Loses};
+ghost use Rattle.topology.specs.Network.{are_joined};
 ghost use Rattle.run_model.specs.World.{at_pair};
-ghost use Rattle.run_model.specs.Sweep.{link_act};
-ghost use Rattle.judge.specs.Tallies.{no_tally, tally_of, tally_after};
-ghost use Rattle.judge.specs.Stretch.{has_bit, is_tick_of, names_nodes, IsComplete};
+ghost use Rattle.judge.specs.Tallies.{has_place, no_tally, tally_of, tally_after, tally_behind};
+ghost use Rattle.judge.specs.Stretch.{has_bit, is_full_tick_of, names_below, names_place, IsComplete};
 
 use crate::tallies::{Tallies, Tally};
-use run_model::Event;
+use run_model::Happened;
 use std::alloc::{AllocError, Allocator, Global};
 use std::marker::Model;
+use topology::Net;
 
-/// A mask with the bits of so many nodes.
+/// A mask with the bits of the nodes below a number.
 fn all_nodes(nodes: u16) -> u64
     requires some { 0 < nodes }
     requires few { nodes ≤ 64 }
@@ -44,40 +45,44 @@ impl<A: Allocator> Model for Stretch<A> {
 }
 
 impl<A: Allocator + Copy> Stretch<A> {
-    /// Room for the stretches of so many nodes. All memory is reserved here.
-    pub(crate) fn new(alloc: A, nodes: u16) -> Result<Stretch<A>, AllocError>
-        ensures nodes { IfOk result (λ s. s.tallies.nodes ≡ nodes) }
+    /// Room for the stretches of a network. All memory is reserved here.
+    pub(crate) fn new<N: Allocator + Copy>(alloc: A, net: &Net<N>) -> Result<Stretch<A>, AllocError>
+        ensures nodes { IfOk result (λ s. s.tallies.table.nodes ≡ net.now.nodes) }
+        ensures placed { IfOk result (λ s. (u v : ℕ) → IsTrue (are_joined net.now.edges u v)
+            → IsTrue (has_place s.tallies.table u v)) }
         ensures empty { IfOk result (λ s. (u v : ℕ) → tally_of s.tallies u v ≡ no_tally) }
     {
         Ok(Stretch {
             lacking: 0,
-            tallies: Tallies::new(alloc, nodes)?,
+            tallies: Tallies::new(alloc, net)?,
         })
     }
 }
 
 impl<A: Allocator> Stretch<A> {
-    /// The oldest item of a link is taken, where so many stand on it.
-    fn take(&mut self, from: u16, to: u16, under_way: usize)
-        requires from_in { from < self.old.tallies.nodes }
-        requires to_in { to < self.old.tallies.nodes }
+    /// The oldest item of a link is taken.
+    fn take(&mut self, from: u16, to: u16)
+        requires from_in { from < self.old.tallies.table.nodes }
+        requires to_in { to < self.old.tallies.table.nodes }
+        requires placed { IsTrue (has_place self.old.tallies.table from to) }
         ensures lacking { self.new.lacking ≡ self.old.lacking }
-        ensures nodes { self.new.tallies.nodes ≡ self.old.tallies.nodes }
-        ensures tallies { (u v : ℕ) → v < self.old.tallies.nodes
-            → tally_of self.new.tallies u v ≡ at_pair (tally_of self.old.tallies) from to (tally_after Takes under_way (tally_of self.old.tallies from to)) u v }
+        ensures table { self.new.tallies.table ≡ self.old.tallies.table }
+        ensures tallies { (u v : ℕ) → v < self.old.tallies.table.nodes
+            → tally_of self.new.tallies u v ≡ at_pair (tally_of self.old.tallies) from to (tally_after Takes 1 (tally_of self.old.tallies from to)) u v }
         ensures looked { self.new.tallies.looked ≤ self.old.tallies.looked + 2 }
     {
         let tally = self.tallies.get(from, to);
-        self.tallies.set(from, to, tally.taken(under_way));
+        self.tallies.set(from, to, tally.taken());
     }
 
     /// An item of a link is lost.
     fn lose(&mut self, from: u16, to: u16, item: u16)
-        requires from_in { from < self.old.tallies.nodes }
-        requires to_in { to < self.old.tallies.nodes }
+        requires from_in { from < self.old.tallies.table.nodes }
+        requires to_in { to < self.old.tallies.table.nodes }
+        requires placed { IsTrue (has_place self.old.tallies.table from to) }
         ensures lacking { self.new.lacking ≡ self.old.lacking }
-        ensures nodes { self.new.tallies.nodes ≡ self.old.tallies.nodes }
-        ensures tallies { (u v : ℕ) → v < self.old.tallies.nodes
+        ensures table { self.new.tallies.table ≡ self.old.tallies.table }
+        ensures tallies { (u v : ℕ) → v < self.old.tallies.table.nodes
             → tally_of self.new.tallies u v ≡ at_pair (tally_of self.old.tallies) from to (tally_after (Loses item) 0 (tally_of self.old.tallies from to)) u v }
         ensures looked { self.new.tallies.looked ≤ self.old.tallies.looked + 2 }
     {
@@ -85,50 +90,65 @@ impl<A: Allocator> Stretch<A> {
         self.tallies.set(from, to, tally.lost(item));
     }
 
-    /// Adds an event that is no damage and is not refused. So many items stood on the link that it takes from, and a tick was full or was not.
-    pub(crate) fn note(&mut self, event: &Event, under_way: usize, is_full: bool)
-        requires few { self.old.tallies.nodes ≤ 64 }
-        requires nodes { IsTrue (names_nodes self.old.tallies.nodes event.now) }
-        ensures nodes { self.new.tallies.nodes ≡ self.old.tallies.nodes }
-        ensures lacking { (v : ℕ) → has_bit self.new.lacking v ≡ (has_bit self.old.lacking v && not (is_tick_of event.now v && is_full)) }
-        ensures tallies { (u v : ℕ) → v < self.old.tallies.nodes
-            → tally_of self.new.tallies u v ≡ tally_after (link_act u v event.now) under_way (tally_of self.old.tallies u v) }
+    /// Adds what an event did, where it is no damage.
+    pub(crate) fn note(&mut self, happened: &Happened)
+        requires few { self.old.tallies.table.nodes ≤ 64 }
+        requires nodes { IsTrue (names_below self.old.tallies.table.nodes happened.now) }
+        requires placed { IsTrue (names_place self.old.tallies.table happened.now) }
+        ensures table { self.new.tallies.table ≡ self.old.tallies.table }
+        ensures lacking { (v : ℕ)
+            → has_bit self.new.lacking v
+            ≡ (has_bit self.old.lacking v && not (is_full_tick_of v happened.now)) }
+        ensures tallies { (u v : ℕ) → v < self.old.tallies.table.nodes
+            → tally_of self.new.tallies u v ≡ tally_behind u v happened.now (tally_of self.old.tallies u v) }
         ensures looked { self.new.tallies.looked ≤ self.old.tallies.looked + 2 }
     {
-        match *event {
-            Event::Take { from, to } => self.take(from, to, under_way),
-            Event::Lose { from, to, item } => self.lose(from, to, item),
-            Event::Tick { node } if is_full => self.lacking = without(self.lacking, node),
+        match *happened {
+            Happened::FullTick { node } => self.lacking = without(self.lacking, node),
+            Happened::Taken { from, to } => self.take(from, to),
+            Happened::Lost { from, to, item } => self.lose(from, to, item),
             _ => {}
         }
     }
 
     /// Begins anew: every node lacks a full tick. The tally of each link is then to be begun.
     pub(crate) fn begin(&mut self)
-        requires some { 0 < self.old.tallies.nodes }
-        requires few { self.old.tallies.nodes ≤ 64 }
-        ensures lacking { (v : ℕ) → has_bit self.new.lacking v ≡ nat_lt v self.old.tallies.nodes }
+        requires some { 0 < self.old.tallies.table.nodes }
+        requires few { self.old.tallies.table.nodes ≤ 64 }
+        ensures lacking { (v : ℕ) → has_bit self.new.lacking v ≡ nat_lt v self.old.tallies.table.nodes }
         ensures tallies { self.new.tallies ≡ self.old.tallies }
     {
         self.lacking = all_nodes(self.tallies.nodes());
     }
 
+    /// No link is to be renewed any more, as where the network's edges may have changed. The tally
+    /// of each link is then to be begun.
+    pub(crate) fn clear(&mut self)
+        ensures table { self.new.tallies.table ≡ self.old.tallies.table }
+        ensures empty { (u v : ℕ) → tally_of self.new.tallies u v ≡ no_tally }
+    {
+        self.tallies.clear();
+    }
+
     /// Begins the tally of a link anew.
     pub(crate) fn begin_link(&mut self, from: u16, to: u16, tally: Tally)
-        requires from_in { from < self.old.tallies.nodes }
-        requires to_in { to < self.old.tallies.nodes }
+        requires from_in { from < self.old.tallies.table.nodes }
+        requires to_in { to < self.old.tallies.table.nodes }
+        requires placed { IsTrue (has_place self.old.tallies.table from to) }
         ensures lacking { self.new.lacking ≡ self.old.lacking }
-        ensures nodes { self.new.tallies.nodes ≡ self.old.tallies.nodes }
-        ensures tallies { (u v : ℕ) → v < self.old.tallies.nodes → tally_of self.new.tallies u v ≡ at_pair (tally_of self.old.tallies) from to tally u v }
+        ensures table { self.new.tallies.table ≡ self.old.tallies.table }
+        ensures tallies { (u v : ℕ) → v < self.old.tallies.table.nodes
+            → tally_of self.new.tallies u v
+            ≡ at_pair (tally_of self.old.tallies) from to tally u v }
     {
         self.tallies.set(from, to, tally);
     }
 
-    /// Whether no node lacks a full tick and every link is served.
+    /// Whether no node lacks a full tick and every link is renewed.
     pub(crate) fn is_complete(&self) -> bool
         ensures { IsTrue result ↔ IsComplete self.now }
     {
-        self.lacking == 0 && self.tallies.are_served()
+        self.lacking == 0 && self.tallies.are_renewed()
     }
 
     /// How many tallies were looked at since the count was cleared.

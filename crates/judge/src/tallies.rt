@@ -1,32 +1,38 @@
 //! What a judge keeps of the links in an unfinished stretch of a run.
-ghost use Rattle.std.specs.Prelude.{◌≡◌, ◌↔◌, ◌+◌, ◌-◌, ◌*◌, ◌^◌, ◌<◌, ℕ, min, length, replicate, IfOk, IsTrue};
+ghost use Rattle.std.specs.Prelude.{◌≡◌, ◌↔◌, ◌+◌, ◌-◌, ◌^◌, ◌<◌, ◌++◌, [], ◌∷◌, ℕ, min, length, replicate, IfOk, OnOk, IsTrue};
+ghost use Rattle.topology.specs.Network.{IsAcceptedNetwork, are_joined};
 ghost use Rattle.data_link.specs.Sweep.{Takes, Loses};
 ghost use Rattle.run_model.specs.World.{at_pair};
-ghost use Rattle.judge.specs.Tallies.{place_of, tally_of, tally_after, missing, no_tally};
+ghost use Rattle.configuration.specs.PairTable.{value_at};
+ghost use Rattle.judge.specs.Tallies.{has_place, tally_of, tally_after, missing, no_tally};
+ghost use Rattle.judge.specs.Laid.{IsLaid};
 
+use configuration::PairTable;
 use std::alloc::{AllocError, Allocator, Global};
 use std::marker::Model;
+use topology::Net;
 
-/// What is known of one link in a stretch: how many of the items that stood there when the stretch began stand there still (they
-/// are the oldest ones), and whether an item that was sent inside the stretch has been taken.
+/// What is known of one link in a stretch: how many of the items that stood there when the stretch
+/// began stand there still (they are the oldest ones), and whether an item that was sent inside the
+/// stretch has been taken.
 #[derive(Clone, Copy, Debug, PartialEq, Eq)]
 pub struct Tally {
     pub old: u16,
-    pub served: bool,
+    pub renewed: bool,
 }
 
 impl Tally {
-    /// 1 where the link is not served, else 0.
+    /// 1 where the link is not renewed, else 0.
     fn missing(self) -> usize
         ensures { result ≡ missing self }
     {
-        if self.served { 0 } else { 1 }
+        if self.renewed { 0 } else { 1 }
     }
 
-    /// The tally after a take from the link, on which so many items stand: an old one goes while there is any, and else an item that was
-    /// sent inside the stretch, if there is one.
-    pub fn taken(self, under_way: usize) -> Tally
-        ensures { result ≡ tally_after Takes under_way self }
+    /// The tally after an item was taken from the link: an old one while there is any, and else one
+    /// that was sent inside the stretch.
+    pub fn taken(self) -> Tally
+        ensures { result ≡ tally_after Takes 1 self }
     {
         if self.old > 0 {
             Tally {
@@ -35,7 +41,7 @@ impl Tally {
             }
         } else {
             Tally {
-                served: self.served || under_way > 0,
+                renewed: true,
                 ..self
             }
         }
@@ -56,12 +62,70 @@ impl Tally {
     }
 }
 
-/// The tallies of all links of a network: one from each node to each node. `get` and `set` are the only ways to one, and are counted.
+/// Leaves no link to be renewed.
+fn forget<A: Allocator>(tallies: &mut Vec<Tally, A>)
+    ensures { tallies.new.items ≡ replicate (length tallies.old.items) no_tally }
+{
+    let _all = tallies.as_slice();
+    tallies.fill(Tally {
+        old: 0,
+        renewed: true,
+    });
+}
+
+/// Lays one more tally, for the link from one node to another, behind those that are there.
+fn lay<A: Allocator>(
+    ends: (u16, u16),
+    table: &mut PairTable<A>,
+    places: &mut Vec<Tally, A>,
+) -> Result<(), AllocError>
+    requires first { ends.0 < table.old.nodes }
+    requires second { ends.1 < table.old.nodes }
+    requires few { length places.old.items < 65536 }
+    ensures nodes { table.new.nodes ≡ table.old.nodes }
+    ensures values { OnOk result ((u v : ℕ) → v < table.old.nodes → value_at table.new u v
+        ≡ at_pair (value_at table.old) ends.0 ends.1 (length places.old.items) u v) }
+    ensures places { OnOk result (places.new.items ≡ places.old.items ++ no_tally ∷ []) }
+{
+    let place = places.len() as u16;
+    places.push(Tally {
+        old: 0,
+        renewed: true,
+    })?;
+    table.set(ends.0, ends.1, place);
+    Ok(())
+}
+
+/// Where each tally stands, and the tallies, with no link to be renewed.
+fn lay_all<A: Allocator + Copy, N: Allocator + Copy>(
+    alloc: A,
+    net: &Net<N>,
+) -> Result<(PairTable<A>, Vec<Tally, A>), AllocError>
+    ensures network { IsAcceptedNetwork net.now }
+    ensures laid { IfOk result (λ laid.
+        IsLaid net.now.nodes (are_joined net.now.edges) laid.0 laid.1.items) }
+{
+    let mut table = PairTable::new(alloc, net.nodes())?;
+    let mut places = Vec::new(alloc);
+    places.push(Tally {
+        old: 0,
+        renewed: true,
+    })?;
+    for edge in net.edges() {
+        lay((edge.0, edge.1), &mut table, &mut places)?;
+        lay((edge.1, edge.0), &mut table, &mut places)?;
+    }
+    Ok((table, places))
+}
+
+/// The tallies of all links of a network: one each way for each edge, close together, behind one
+/// that stands for every two nodes that no edge joins. `get` and `set` are the only ways to one,
+/// and are counted.
 #[derive(Drop)]
 pub struct Tallies<A: Allocator = Global> {
-    nodes: u16,
+    table: PairTable<A>,
     places: Vec<Tally, A>,
-    unserved: usize,
+    unrenewed: usize,
     looked: u32,
 }
 
@@ -70,25 +134,26 @@ impl<A: Allocator> Model for Tallies<A> {
 
     ghost Value = { TalliesView };
 
-    ghost view = { λ t. record { nodes = t.nodes; places = t.places.items; looked = t.looked } };
+    ghost view = { λ t. record { table = t.table; places = t.places.items; looked = t.looked } };
 
-    ghost invariant = { λ t. IsTallied t.nodes t.places.items t.unserved };
+    ghost invariant = { λ t. IsTallied t.table t.places.items t.unrenewed };
 }
 
 impl<A: Allocator + Copy> Tallies<A> {
-    /// Tallies for so many nodes, with no link to be served. All memory is reserved here.
-    pub fn new(alloc: A, nodes: u16) -> Result<Tallies<A>, AllocError>
-        ensures { IfOk result (λ t. t ≡ record { nodes = nodes; places = replicate (nodes * nodes) no_tally; looked = 0 }) }
+    /// Tallies for the links of a network, none of them to be renewed. All memory is reserved here.
+    pub fn new<N: Allocator + Copy>(alloc: A, net: &Net<N>) -> Result<Tallies<A>, AllocError>
+        ensures nodes { IfOk result (λ t. t.table.nodes ≡ net.now.nodes) }
+        ensures placed { IfOk result (λ t. (u v : ℕ) → IsTrue (are_joined net.now.edges u v)
+            → IsTrue (has_place t.table u v)) }
+        ensures empty { IfOk result (λ t. (u v : ℕ) → tally_of t u v ≡ no_tally) }
+        ensures looked { IfOk result (λ t. t.looked ≡ 0) }
     {
-        let count = usize::from(nodes) * usize::from(nodes);
-        let no_tally = Tally {
-            old: 0,
-            served: true,
-        };
+        topology::laws::joined();
+        let (table, places) = lay_all(alloc, net)?;
         Ok(Tallies {
-            nodes,
-            places: vec![in alloc; no_tally; count]?,
-            unserved: 0,
+            table,
+            places,
+            unrenewed: 0,
             looked: 0,
         })
     }
@@ -97,53 +162,66 @@ impl<A: Allocator + Copy> Tallies<A> {
 impl<A: Allocator> Tallies<A> {
     /// How many nodes there are.
     pub fn nodes(&self) -> u16
-        ensures { result ≡ self.now.nodes }
+        ensures { result ≡ self.now.table.nodes }
     {
-        self.nodes
+        self.table.nodes()
     }
 
     /// Where the tally of the link from one node to another stands.
     fn place(&self, from: u16, to: u16) -> usize
-        requires from_in { from < self.now.nodes }
-        requires to_in { to < self.now.nodes }
-        ensures place { result ≡ place_of self.now.nodes from to }
+        requires from_in { from < self.now.table.nodes }
+        requires to_in { to < self.now.table.nodes }
+        ensures place { result ≡ value_at self.now.table from to }
         ensures there { result < length self.now.places }
     {
-        usize::from(from) * usize::from(self.nodes) + usize::from(to)
+        usize::from(self.table.get(from, to))
     }
 
     /// The tally of a link.
     pub fn get(&mut self, from: u16, to: u16) -> Tally
-        requires from_in { from < self.old.nodes }
-        requires to_in { to < self.old.nodes }
+        requires from_in { from < self.old.table.nodes }
+        requires to_in { to < self.old.table.nodes }
         ensures tally { result ≡ tally_of self.old from to }
-        ensures looked { self.new ≡ record self.old { looked = min (self.old.looked + 1) (2 ^ 32 - 1) } }
+        ensures looked { self.new
+            ≡ record self.old { looked = min (self.old.looked + 1) (2 ^ 32 - 1) } }
     {
         self.looked = self.looked.saturating_add(1);
         let place = self.place(from, to);
         self.places[place]
     }
 
-    /// Writes the tally of a link.
+    /// Writes the tally of a link, which has a place.
     pub fn set(&mut self, from: u16, to: u16, tally: Tally)
-        requires from_in { from < self.old.nodes }
-        requires to_in { to < self.old.nodes }
-        ensures nodes { self.new.nodes ≡ self.old.nodes }
-        ensures tallies { (u v : ℕ) → v < self.old.nodes → tally_of self.new u v ≡ at_pair (tally_of self.old) from to tally u v }
+        requires from_in { from < self.old.table.nodes }
+        requires to_in { to < self.old.table.nodes }
+        requires placed { IsTrue (has_place self.old.table from to) }
+        ensures table { self.new.table ≡ self.old.table }
+        ensures tallies { (u v : ℕ) → v < self.old.table.nodes
+            → tally_of self.new u v ≡ at_pair (tally_of self.old) from to tally u v }
         ensures looked { self.new.looked ≡ min (self.old.looked + 1) (2 ^ 32 - 1) }
     {
         self.looked = self.looked.saturating_add(1);
         let place = self.place(from, to);
         let before = self.places[place];
-        self.unserved = self.unserved + tally.missing() - before.missing();
+        self.unrenewed = self.unrenewed - before.missing() + tally.missing();
         self.places[place] = tally;
     }
 
-    /// Whether every link is served.
-    pub fn are_served(&self) -> bool
-        ensures { IsTrue result ↔ ((u v : ℕ) → u < self.now.nodes → v < self.now.nodes → IsTrue (tally_of self.now u v).served) }
+    /// Whether every link is renewed.
+    pub fn are_renewed(&self) -> bool
+        ensures { IsTrue result ↔ ((u v : ℕ) → u < self.now.table.nodes → v < self.now.table.nodes
+            → IsTrue (tally_of self.now u v).renewed) }
     {
-        self.unserved == 0
+        self.unrenewed == 0
+    }
+
+    /// No link is to be renewed any more: no tally of an edge that is gone is left.
+    pub fn clear(&mut self)
+        ensures table { self.new.table ≡ self.old.table }
+        ensures empty { (u v : ℕ) → tally_of self.new u v ≡ no_tally }
+    {
+        forget(&mut self.places);
+        self.unrenewed = 0;
     }
 
     /// How many tallies were looked at since the count was cleared.

@@ -1,10 +1,11 @@
 //! A network at one moment, with all the memory that a run of it and its judge need.
 ghost use Rattle.std.specs.Prelude.{◌≡◌, ◌<◌, ◌≤◌, IfOk, IfErr, OnOk, None, Some, length};
 ghost use Rattle.node_core.specs.View.{state_of, site_in};
-ghost use Rattle.run_model.specs.World.{IsWorldInRange, default_world, site};
-ghost use Rattle.run_model.specs.Legitimate.{lending_count, privileged_count};
+ghost use Rattle.run_model.specs.World.{IsWorldInRange, site};
+ghost use Rattle.run_model.specs.Start.{default_world};
+ghost use Rattle.run_model.specs.NodeCounts.{lending_count, privileged_count};
 ghost use Rattle.run_model.specs.Step.{refusal, step};
-ghost use Rattle.configuration.specs.WorldView.{world_of};
+ghost use Rattle.configuration.specs.ConfigurationView.{world_of};
 
 use crate::stretch::Stretch;
 use configuration::Configuration;
@@ -24,10 +25,10 @@ pub struct World<A: Allocator + Copy = Global> {
 }
 
 impl<A: Allocator + Copy> Model for World<A> {
-    ghost use Rattle.configuration.specs.WorldView.{WorldView};
+    ghost use Rattle.configuration.specs.ConfigurationView.{ConfigurationView};
     ghost use Rattle.judge.specs.Stretch.{IsRoomFor};
 
-    ghost Value = { WorldView };
+    ghost Value = { ConfigurationView };
 
     ghost view = { λ w. w.configuration };
 
@@ -35,14 +36,15 @@ impl<A: Allocator + Copy> Model for World<A> {
 }
 
 impl<A: Allocator + Copy> World<A> {
-    /// The world in which every node is as it starts and nothing is under way. It keeps a copy of the network, and reserves all memory that any step needs,
-    /// and any judge; `AllocError` comes only where that is refused.
+    /// The world in which every node is as it starts and nothing is under way. It keeps a copy of
+    /// the network, and reserves all memory that any step needs, and any judge; `AllocError` comes
+    /// only where that is refused.
     pub fn new<N: Allocator + Copy>(alloc: A, net: &Net<N>) -> Result<World<A>, AllocError>
         ensures { IfOk result (λ world. world_of world ≡ default_world net.now) }
     {
         Ok(World {
             configuration: Configuration::new(alloc, net)?,
-            room: Stretch::new(alloc, net.nodes())?,
+            room: Stretch::new(alloc, net)?,
         })
     }
 
@@ -69,7 +71,8 @@ impl<A: Allocator + Copy> World<A> {
         self.configuration.node(v)
     }
 
-    /// Every world is in range: each field of a node, and what is under way on each link. It looks at each node once, and changes nothing.
+    /// Every world is in range: each field of a node, and what is under way on each link. It looks
+    /// at each node once, and changes nothing.
     pub fn assure_ranges(&self)
         ensures { IsWorldInRange (world_of self.now) }
     {
@@ -100,7 +103,8 @@ impl<A: Allocator + Copy> World<A> {
         self.configuration.lending()
     }
 
-    /// One event happens. Refused for the first cause that holds, in the order of `EventFault`; then nothing has changed.
+    /// One event happens. Refused for the first cause that holds, in the order of `EventFault`;
+    /// then nothing has changed.
     ///
     /// No step takes memory, looks through the network, or copies a state.
     pub fn step(&mut self, event: &Event) -> Result<(), EventFault>
@@ -108,6 +112,7 @@ impl<A: Allocator + Copy> World<A> {
         ensures ok { OnOk result (refusal (world_of self.old) event.now ≡ None) }
         ensures err { IfErr result (λ fault. refusal (world_of self.old) event.now ≡ Some fault) }
     {
-        self.configuration.step(event)
+        let _happened = self.configuration.step(event)?;
+        Ok(())
     }
 }

@@ -2,7 +2,8 @@
 use Rattle.std.proofs.Common.{◌≡◌, ℕ, ◌++◌, List, [], ◌∷◌, Some, None, codes, decimal, refl, arith}
 use Rattle.std.proofs.lemmas.Fmt.{decimal_digit}
 use Rattle.topology.specs.Network.{Network}
-use Rattle.run_model.specs.World.{World, default_world}
+use Rattle.run_model.specs.World.{World}
+use Rattle.run_model.specs.Start.{default_world}
 use Rattle.run_model.specs.declared.event.Event.TheVariants.{Ask, Tick}
 use Rattle.events_text.specs.declared.text_line.TextLine.TheVariants.{Passed, Unread, Told}
 use Rattle.events_text.specs.EventsText.{text_lines}

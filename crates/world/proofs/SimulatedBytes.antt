@@ -3,63 +3,38 @@ use Rattle.std.proofs.Common.{◌≡◌, ◌∙◌, ap, sym, ℕ, ◌+◌, ◌-�
 use Rattle.std.proofs.lemmas.Grind.{common_steps}
 use Rattle.std.proofs.lemmas.List.{map-append}
 use Rattle.std.proofs.Math.Seq.{take-add}
-use Rattle.lock_desk.specs.Lines.{is_newline, led_by, whole_lines}
+use Rattle.byte_lines.specs.Lines.{lines_after, half_line, whole_lines}
+use Rattle.byte_lines.specs.Kept.{Kept, StandsAfter}
+use Rattle.byte_lines.proofs.Cutting.{lines_cut}
 use Rattle.run_model.specs.World.{World}
 use Rattle.run_model.specs.Run.{run}
 use Rattle.events_text.specs.declared.text_line.TextLine.{TextLine}
 use Rattle.events_text.specs.EventsText.{text_line, ended_lines}
-use Rattle.events_text.specs.LineReader.{Begun, StandsAfter}
 use Rattle.world.specs.SimulatedText.{told_events, refusals_of, refusal_lines}
 use Rattle.byte_streams.specs.Streams.{TakesABeginning}
 use Rattle.world.specs.UnderWay.{SimulationView, HasRun, IsUnderWay, GoesOn}
 use Rattle.world.proofs.SimulatedLines.{refusals_both}
-use Rattle.byte_streams.proofs.Writing.{take_rest, beginning_of_more}
+use Rattle.world.proofs.Writing.{take_rest, beginning_of_more}
 
 -- the first bytes of a piece, and more of them
 pub piece_more : (piece : List ℕ) (at used : ℕ) → at ≤ length piece
     → take (at + used) piece ≡ take at piece ++ take used (take (length piece - at) (drop at piece))
 piece_more piece at used within = take-add at used piece ∙ ap (λ xs. take at piece ++ take used xs) (sym (take_rest piece at within))
 
--- lines that a text begins with, led by a byte
-record LedMore (byte : ℕ) (lines more : List (List ℕ)) : Type 0 where
-  rest : List (List ℕ)
-  is : led_by byte (lines ++ more) ≡ led_by byte lines ++ rest
-
-led_more : (byte : ℕ) (lines more : List (List ℕ)) → LedMore byte lines more
-led_more byte [] more = record { rest = led_by byte more; is = refl }
-led_more byte (line ∷ lines) more = record { rest = more; is = refl }
-
--- the whole lines of bytes are the first ones of more bytes
-record WholeMore (bytes more : List ℕ) : Type 0 where
-  rest : List (List ℕ)
-  is : whole_lines (bytes ++ more) ≡ whole_lines bytes ++ rest
-
-whole_by : (newline : Bool) (byte : ℕ) (bytes more : List ℕ) → is_newline byte ≡ newline → WholeMore bytes more → WholeMore (byte ∷ bytes) more
-whole_by true byte bytes more is w = record { rest = w.rest; is = let same = w.is in grind (arith, common_steps) }
-whole_by false byte bytes more is w =
-    let l = led_more byte (whole_lines bytes) w.rest in
-    let same = w.is in
-    let led = l.is in
-    record { rest = l.rest; is = grind (arith, common_steps) }
-
-whole_more : (bytes more : List ℕ) → WholeMore bytes more
-whole_more [] more = record { rest = whole_lines more; is = refl }
-whole_more (byte ∷ bytes) more = whole_by (is_newline byte) byte bytes more refl (whole_more bytes more)
-
 -- the refusal lines of the whole lines of bytes are the first ones of more bytes
 pub beginning_of_bytes : (start : World) (bytes more : List ℕ) (before after : Option (List ℕ))
     → TakesABeginning (refusals_of start (ended_lines bytes)) before after → TakesABeginning (refusals_of start (ended_lines (bytes ++ more))) before after
 beginning_of_bytes start bytes more before after b =
-    let w = whole_more bytes more in
-    let behind = refusal_lines (run start (told_events (ended_lines bytes))) (1 + length (ended_lines bytes)) (map text_line w.rest) in
-    let both : ended_lines (bytes ++ more) ≡ ended_lines bytes ++ map text_line w.rest = ap (map text_line) w.is ∙ map-append text_line (whole_lines bytes) w.rest in
+    let rest = lines_after (half_line bytes) more in
+    let behind = refusal_lines (run start (told_events (ended_lines bytes))) (1 + length (ended_lines bytes)) (map text_line rest) in
+    let both : ended_lines (bytes ++ more) ≡ ended_lines bytes ++ map text_line rest = ap (map text_line) (lines_cut [] bytes more) ∙ map-append text_line (whole_lines bytes) rest in
     let parts : refusals_of start (ended_lines (bytes ++ more)) ≡ refusals_of start (ended_lines bytes) ++ behind =
-    ap (refusals_of start) both ∙ refusals_both start 1 (ended_lines bytes) (map text_line w.rest) in
+    ap (refusals_of start) both ∙ refusals_both start 1 (ended_lines bytes) (map text_line rest) in
     rw parts (beginning_of_more (refusals_of start (ended_lines bytes)) behind before after b)
 
 -- a line more is ended, and has been run
-pub line_ends : (start : World) (bytes more : List ℕ) (line : TextLine) (before between after : Option (List ℕ)) (s t : SimulationView) (reader : Begun)
-    → IsUnderWay start bytes before between s → StandsAfter (bytes ++ more) reader → ended_lines (bytes ++ more) ≡ ended_lines bytes ++ line ∷ []
+pub line_ends : (start : World) (bytes more : List ℕ) (line : TextLine) (before between after : Option (List ℕ)) (s t : SimulationView) (reader : Kept)
+    → IsUnderWay start bytes before between s → StandsAfter 64 (bytes ++ more) reader → ended_lines (bytes ++ more) ≡ ended_lines bytes ++ line ∷ []
     → (HasRun start (ended_lines bytes) before between (record s { reader = reader }) → HasRun start (ended_lines bytes ++ line ∷ []) before after t)
     → t.reader ≡ reader → IsUnderWay start (bytes ++ more) before after t
 line_ends start bytes more line before between after s t reader u stands ends runs same = record {
@@ -68,7 +43,7 @@ line_ends start bytes more line before between after s t reader u stands ends ru
 }
 
 -- a line more is ended, and the sink failed
-pub line_fails : (start : World) (bytes more behind : List ℕ) (line : TextLine) (before between after : Option (List ℕ)) (s : SimulationView) (reader : Begun)
+pub line_fails : (start : World) (bytes more behind : List ℕ) (line : TextLine) (before between after : Option (List ℕ)) (s : SimulationView) (reader : Kept)
     → IsUnderWay start bytes before between s → ended_lines (bytes ++ more) ≡ ended_lines bytes ++ line ∷ []
     → (HasRun start (ended_lines bytes) before between (record s { reader = reader }) → TakesABeginning (refusals_of start (ended_lines bytes ++ line ∷ [])) before after)
     → TakesABeginning (refusals_of start (ended_lines (bytes ++ more ++ behind))) before after

@@ -16,8 +16,8 @@ use Rattle.world.specs.Simulating.{longest_text, IsShown, IsHalfShown, IsSimulat
 use Rattle.world.specs.StateText.{state_text}
 use Rattle.byte_streams.specs.Streams.{Takes, TakesABeginning, Rose, CountsFailures}
 use Rattle.world.specs.UnderWay.{SimulationView, HasRun, Reads, Finishes}
-use Rattle.configuration.specs.WorldView.{world_of}
-use Rattle.byte_streams.proofs.Writing.{takes_both, then_beginning}
+use Rattle.configuration.specs.ConfigurationView.{world_of}
+use Rattle.world.proofs.Writing.{takes_both, then_beginning}
 
 module _ (start : World) (bytes : List ℕ) (before between after : Option (List ℕ)) (s : SimulationView) (sweeps : ℕ) (seen : AreSweepsSeen s.judge sweeps)
     (h : HasRun start (text_lines bytes) before between s) where
@@ -27,11 +27,11 @@ module _ (start : World) (bytes : List ℕ) (before between after : Option (List
   abbrev shown_text : List ℕ
   shown_text = state_text (run start (events_of bytes)) (counted_up_to counted.0)
 
-  same_text : state_text (world_of s.judge.world) sweeps ≡ shown_text
+  same_text : state_text (world_of s.judge.configuration) sweeps ≡ shown_text
   same_text = ap (λ w. state_text w sweeps) h.seen.now_is ∙ ap (state_text (run start (events_of bytes))) counted.2
 
   -- the text of the world was written
-  pub is_shown : Takes (state_text (world_of s.judge.world) sweeps) between after → IsShown start bytes before after (record { refused = s.refused; sweeps = sweeps })
+  pub is_shown : Takes (state_text (world_of s.judge.configuration) sweeps) between after → IsShown start bytes before after (record { refused = s.refused; sweeps = sweeps })
   is_shown written = record {
     count = counted.0;
     counted = counted.1;
@@ -41,7 +41,7 @@ module _ (start : World) (bytes : List ℕ) (before between after : Option (List
   }
 
   -- only a beginning of it was written
-  pub is_half_shown : TakesABeginning (state_text (world_of s.judge.world) sweeps) between after → IsHalfShown start bytes before after
+  pub is_half_shown : TakesABeginning (state_text (world_of s.judge.configuration) sweeps) between after → IsHalfShown start bytes before after
   is_half_shown b = record {
     count = counted.0;
     counted = counted.1;

@@ -12,8 +12,8 @@ use Rattle.judge.specs.Judging.{counted_up_to}
 use Rattle.world.specs.SimulatedText.{line_refusal, refusal_line, refusal_lines, refused_lines, told_events, refusals_of}
 use Rattle.byte_streams.specs.Streams.{Takes, TakesABeginning, WritesAll}
 use Rattle.world.specs.UnderWay.{SimulationView, HasRun, HasSeenLine, Runs}
-use Rattle.configuration.specs.WorldView.{world_of}
-use Rattle.byte_streams.proofs.Writing.{takes_both, takes_nothing, then_beginning}
+use Rattle.configuration.specs.ConfigurationView.{world_of}
+use Rattle.world.proofs.Writing.{takes_both, takes_nothing, then_beginning}
 
 -- the events of lines and then more lines
 pub told_both : (lines more : List TextLine) → told_events (lines ++ more) ≡ told_events lines ++ told_events more
@@ -104,25 +104,25 @@ fails_at_line start lines line before between after s h b =
 
 -- a line that is not refused has been run
 pub line_passes : (start : World) (lines : List TextLine) (line : TextLine) (before now : Option (List ℕ)) (s t : SimulationView)
-    → HasRun start lines before now s → None ≡ line_refusal (world_of s.judge.world) line → HasSeenLine s.judge line t.judge
+    → HasRun start lines before now s → None ≡ line_refusal (world_of s.judge.configuration) line → HasSeenLine s.judge line t.judge
     → t.lines ≡ s.lines + 1 → t.refused ≡ s.refused → HasRun start (lines ++ line ∷ []) before now t
 line_passes start lines line before now s t h not_refused seen number same =
-    let world : world_of s.judge.world ≡ run start (told_events lines) = h.seen.now_is in
+    let world : world_of s.judge.configuration ≡ run start (told_events lines) = h.seen.now_is in
     let none : line_refusal (run start (told_events lines)) line ≡ None = ap (λ w. line_refusal w line) (sym world) ∙ sym not_refused in
     has_run_more start lines line before now now s t h (seen start (told_events lines) h.seen) number
     (same ∙ ap (one_more s.refused) (sym none)) (rw none (takes_nothing now))
 
 -- a line that is refused has been run, and told, or the sink failed
 pub line_told : {E : Type 0} (result : Result (Unit {0}) E) (start : World) (lines : List TextLine) (line : TextLine) (before between after : Option (List ℕ)) (s t : SimulationView)
-    (name : List ℕ) (failures more : ℕ) → HasRun start lines before between s → Some name ≡ line_refusal (world_of s.judge.world) line → HasSeenLine s.judge line t.judge
+    (name : List ℕ) (failures more : ℕ) → HasRun start lines before between s → Some name ≡ line_refusal (world_of s.judge.configuration) line → HasSeenLine s.judge line t.judge
     → t.lines ≡ s.lines + 1 → t.refused ≡ min (s.refused + 1) (2 ^ 64 - 1)
     → WritesAll result (refusal_line (s.lines + 1) (Some name)) between after failures more → Runs result start (lines ++ line ∷ []) before after t
 line_told (Ok value) start lines line before between after s t name failures more h is_refused seen number count written =
-    let world : world_of s.judge.world ≡ run start (told_events lines) = h.seen.now_is in
+    let world : world_of s.judge.configuration ≡ run start (told_events lines) = h.seen.now_is in
     let some : line_refusal (run start (told_events lines)) line ≡ Some name = ap (λ w. line_refusal w line) (sym world) ∙ sym is_refused in
     has_run_more start lines line before between after s t h (seen start (told_events lines) h.seen) number
     (count ∙ ap (one_more s.refused) (sym some)) (rw some written.0)
 line_told (Err e) start lines line before between after s t name failures more h is_refused seen number count written =
-    let world : world_of s.judge.world ≡ run start (told_events lines) = h.seen.now_is in
+    let world : world_of s.judge.configuration ≡ run start (told_events lines) = h.seen.now_is in
     let some : line_refusal (run start (told_events lines)) line ≡ Some name = ap (λ w. line_refusal w line) (sym world) ∙ sym is_refused in
     fails_at_line start lines line before between after s h (rw some written.0)

@@ -3,7 +3,7 @@ use Rattle.std.proofs.Common.{◌≡◌, ◌∙◌, ap, sym, refl, ℕ, zero, su
 use Rattle.std.proofs.lemmas.Grind.{common_steps}
 use Rattle.std.proofs.Math.Seq.{take-add}
 use Rattle.std.proofs.lemmas.List.{take-append-drop, length-drop, append-nil}
-use Rattle.lock_desk.specs.Lines.{half_line}
+use Rattle.byte_lines.specs.Lines.{half_line}
 use Rattle.run_model.specs.World.{World}
 use Rattle.run_model.specs.Run.{run}
 use Rattle.events_text.specs.EventsText.{text_line, ended_lines, last_line, text_lines}
@@ -12,7 +12,7 @@ use Rattle.world.specs.Simulating.{HasRead}
 use Rattle.byte_streams.specs.Streams.{Gives, GivesNext, TakesABeginning}
 use Rattle.world.proofs.SimulatedBytes.{beginning_of_bytes}
 use Rattle.world.proofs.SimulatedLines.{refusals_both}
-use Rattle.byte_streams.proofs.Writing.{beginning_of_more}
+use Rattle.world.proofs.Writing.{beginning_of_more}
 
 -- what a source gives that still has these bytes to give
 pub given : (count : ℕ) (before after : Option (List ℕ)) (buffer rest : List ℕ) → before ≡ Some rest → Gives count before after buffer → GivesNext count rest after buffer

@@ -4,3 +4,4 @@ pub mod Simulating
 pub mod UnderWay
 pub use Rattle.convergence.specs.Laws
 pub use Rattle.run_model.specs.Headline
+pub mod Numbers

@@ -1,4 +1,5 @@
--- The text that a simulation writes: a line for each refused line of the events text, and then the text of the world that it leads to.
+-- The text that a simulation writes: a line for each refused line of the events text, and then the
+-- text of the world that it leads to.
 use Rattle.std.specs.Prelude.{ℕ, ◌+◌, List, [], ◌∷◌, ◌++◌, is_some, if◌then◌else◌, Option, Some, None, option_map, codes, decimal}
 use Rattle.run_model.specs.World.{World}
 use Rattle.run_model.specs.Step.{refusal, step}
@@ -62,6 +63,7 @@ events_of bytes = told_events (text_lines bytes)
 abbrev pub refusals_of : World → List TextLine → List ℕ
 refusals_of start lines = refusal_lines start 1 lines
 
--- the simulated text of a text whose events hold so many sweeps: its refusal lines, and then the world to which it leads
+-- the simulated text of a text whose events hold that number of sweeps: its refusal lines, and then the
+-- world to which it leads
 abbrev pub simulated_text : World → List ℕ → ℕ → List ℕ
 simulated_text start bytes sweeps = refusals_of start (text_lines bytes) ++ state_text (run start (events_of bytes)) (counted_up_to sweeps)

@@ -28,18 +28,20 @@ pub record IsHalfShown (start : World) (bytes : List ℕ) (before after : Option
   pub counted : IsSweepCount start (events_of bytes) count
   pub written : TakesABeginning (simulated_text start bytes count) before after
 
--- so many bytes were read, the first ones
+-- the first `count` bytes were read
 abbrev pub HasRead : ℕ → List ℕ → Option (List ℕ) → Type 0
 HasRead count bytes rest = (count ≤ length bytes) × (rest ≡ Some (drop count bytes))
 
--- The first bytes were read, no more than a text may have, and the refusal lines of the whole lines in them were written.
+-- The first bytes were read, no more than a text may have, and the refusal lines of the whole lines
+-- in them were written.
 pub record IsCutShort (start : World) (bytes : List ℕ) (rest before after : Option (List ℕ)) : Type 0 where
   pub count : ℕ
   pub read : HasRead count bytes rest
   pub short : count ≤ longest_text
   pub written : Takes (refusals_of start (ended_lines (take count bytes))) before after
 
--- More was read than a text may have, and the refusal lines of the whole lines in what it may have were written.
+-- More was read than a text may have, and the refusal lines of the whole lines in what it may have
+-- were written.
 pub record IsTooLong (start : World) (bytes : List ℕ) (rest before after : Option (List ℕ)) : Type 0 where
   pub count : ℕ
   pub read : HasRead count bytes rest
@@ -52,7 +54,8 @@ pub record IsStopped (start : World) (bytes : List ℕ) (rest before after : Opt
   pub read : HasRead count bytes rest
   pub written : TakesABeginning (refusals_of start (text_lines (take count bytes))) before after
 
--- What an answer says: of the bytes that the source had to give and what it has still to give, and of what the sink had taken before and has taken after.
+-- What an answer says: of the bytes that the source had to give and what it has still to give, and
+-- of what the sink had taken before and has taken after.
 abbrev pub IsSimulated : World → List ℕ → Option (List ℕ) → Option (List ℕ) → Option (List ℕ) → Result Summary SimFault → Type 0
 IsSimulated start bytes rest before after (Ok summary) = (rest ≡ Some []) × (length bytes ≤ longest_text) × IsShown start bytes before after summary
 IsSimulated start bytes rest before after (Err Memory) = (rest ≡ Some bytes) × (after ≡ before)
@@ -61,7 +64,8 @@ IsSimulated start bytes rest before after (Err Long) = IsTooLong start bytes res
 IsSimulated start bytes rest before after (Err Write) =
     IsStopped start bytes rest before after ⊎ ((rest ≡ Some []) × (length bytes ≤ longest_text) × IsHalfShown start bytes before after)
 
--- The source's failure is answered only where its count rose, and the sink's only where its count rose.
+-- The source's failure is answered only where its count rose, and the sink's only where its count
+-- rose.
 abbrev pub HasCause : {T : Type 0} → Result T SimFault → ℕ → ℕ → ℕ → ℕ → Type 0
 HasCause (Err Read) source source_after sink sink_after = Rose source source_after
 HasCause (Err Write) source source_after sink sink_after = Rose sink sink_after

@@ -4,7 +4,7 @@ use Rattle.std.specs.List.{flat_map, range_with_len}
 use Rattle.topology.specs.Network.{neighbours_of, bound_of}
 use Rattle.node_core.specs.Status.{status_line}
 use Rattle.run_model.specs.World.{World, site}
-use Rattle.run_model.specs.Legitimate.{privileged_count, lending_count}
+use Rattle.run_model.specs.NodeCounts.{privileged_count, lending_count}
 
 -- the status line of a node
 abbrev pub node_line : World → ℕ → List ℕ
@@ -26,7 +26,7 @@ node_lines w = flat_map (node_line w) (range_with_len 0 w.net.nodes)
 abbrev pub link_lines : World → List ℕ
 link_lines w = flat_map (links_from w) (range_with_len 0 w.net.nodes)
 
--- `privileged P lending L` and a newline: so many nodes are privileged, and so many lend
+-- `privileged P lending L` and a newline: how many nodes are privileged, P, and how many lend, L
 abbrev pub counts_line : World → List ℕ
 counts_line w = codes "privileged " ++ decimal (privileged_count w) ++ codes " lending " ++ decimal (lending_count w) ++ codes "\n"
 

@@ -9,23 +9,26 @@ use Rattle.world.specs.declared.simulation.SimFault.TheVariants.{Memory, Read, L
 use Rattle.events_text.specs.EventsText.{ended_lines, text_lines}
 use Rattle.judge.specs.JudgeView.{JudgeView, HasSeen}
 use Rattle.judge.specs.Judging.{counted_up_to}
-use Rattle.events_text.specs.LineReader.{Begun, StandsAfter}
+use Rattle.byte_lines.specs.Kept.{Kept, StandsAfter}
 use Rattle.world.specs.SimulatedText.{refused_lines, told_events, refusals_of}
 use Rattle.world.specs.Simulating.{longest_text, IsShown, IsHalfShown, IsCutShort, IsTooLong, IsStopped}
 use Rattle.byte_streams.specs.Streams.{Takes, TakesABeginning}
 
--- a judge, what is kept of the line under way, how many lines there have been, and how many of them were refused
+-- a judge, what is kept of the line under way, how many lines there have been, and how many of them
+-- were refused
 pub record SimulationView : Type 0 where
   pub judge : JudgeView
-  pub reader : Begun
+  pub reader : Kept
   pub lines : ℕ
   pub refused : ℕ
 
--- whatever the one judge has seen, the other has seen that and then the event of the line, if it tells one
+-- whatever the one judge has seen, the other has seen that and then the event of the line, if it
+-- tells one
 abbrev pub HasSeenLine : JudgeView → TextLine → JudgeView → Type 0
 HasSeenLine old line new = (start : World) (es : List Event) → HasSeen old start es → HasSeen new start (es ++ told_events (line ∷ []))
 
--- These lines have been run from the start on, and their refusal lines were written behind what the sink had taken before.
+-- These lines have been run from the start on, and their refusal lines were written behind what the
+-- sink had taken before.
 pub record HasRun (start : World) (lines : List TextLine) (before now : Option (List ℕ)) (s : SimulationView) : Type 0 where
   pub seen : HasSeen s.judge start (told_events lines)
   pub lines_are : s.lines ≡ length lines
@@ -34,7 +37,7 @@ pub record HasRun (start : World) (lines : List TextLine) (before now : Option (
 
 -- The lines that a newline ended in these bytes have been run, and the line under way is kept.
 pub record IsUnderWay (start : World) (bytes : List ℕ) (before now : Option (List ℕ)) (s : SimulationView) : Type 0 where
-  pub stands : StandsAfter bytes s.reader
+  pub stands : StandsAfter 64 bytes s.reader
   pub has_run : HasRun start (ended_lines bytes) before now s
 
 -- these lines have been run, or the sink failed before all their refusal lines were written
@@ -42,7 +45,8 @@ abbrev pub Runs : {E : Type 0} → Result (Unit {0}) E → World → List TextLi
 Runs (Ok _) start lines before now s = HasRun start lines before now s
 Runs (Err _) start lines before now s = TakesABeginning (refusals_of start lines) before now
 
--- whatever lines have been run, the next one is run behind them; the sink's bytes are those before the call and behind it
+-- whatever lines have been run, the next one is run behind them; the sink's bytes are those before
+-- the call and behind it
 abbrev pub RunsNext : {E : Type 0} → SimulationView → Option (List ℕ) → TextLine → Result (Unit {0}) E → SimulationView → Option (List ℕ) → Type 0
 RunsNext old taken line result new taken_now =
     (start : World) (lines : List TextLine) (before : Option (List ℕ)) → HasRun start lines before taken old → Runs result start (lines ++ line ∷ []) before taken_now new
@@ -52,7 +56,8 @@ abbrev pub RunsLast : {E : Type 0} → SimulationView → Option (List ℕ) → 
 RunsLast old taken result new taken_now =
     (start : World) (bytes : List ℕ) (before : Option (List ℕ)) → IsUnderWay start bytes before taken old → Runs result start (text_lines bytes) before taken_now new
 
--- these bytes have been taken, or the sink failed before all refusal lines of their whole lines were written
+-- these bytes have been taken, or the sink failed before all refusal lines of their whole lines
+-- were written
 abbrev pub GoesOn : {E : Type 0} → Result (Unit {0}) E → World → List ℕ → Option (List ℕ) → Option (List ℕ) → SimulationView → Type 0
 GoesOn (Ok _) start bytes before now s = IsUnderWay start bytes before now s
 GoesOn (Err _) start bytes before now s = TakesABeginning (refusals_of start (ended_lines bytes)) before now

@@ -1,14 +1,24 @@
 //! The laws of a run from any state.
 //!
-//! A law is a function that does nothing, with what is proved as its contract. Whoever proves something of a world calls it and cites its clauses,
-//! whose statements are `Rattle.world.specs.Laws` and `Rattle.world.specs.Headline`:
+//! A law is a function that does nothing, with what is proved as its contract. Whoever proves
+//! something of a world calls it and cites its clauses, whose statements are
+//! `Rattle.convergence.specs.Laws` and `Rattle.run_model.specs.Headline`:
 //!
-//! - `converge_law`, convergence: from every world in range, over every list of events without damage, links are stable after 4(C + 1) sweeps, and from
-//!   then on any three sweeps replace all that is staged and copied; the tree is reached after 4(n + 1) more; the token ring is good after R - 1 sweeps, and
-//!   after R the world is legitimate. So it serves: each distance is the least length of a walk to the root, each parent is the true one, at most
-//!   one node is privileged, and at most one lends.
-//! - `closure_law`, closure: over every list of events without damage a legitimate world stays legitimate, and every legitimate world serves.
+//! - `converge`, convergence: from every world in range, over every list of events without damage,
+//!   links are stable after 4(C + 1) sweeps, and from then on any three sweeps replace all that is
+//!   staged and copied; the tree is reached after 4(n + 1) more; the token ring is good after R - 1
+//!   sweeps, and after R the world is legitimate. So it serves: each distance is the least length
+//!   of a walk to the root, each parent is the true one, at most one node is privileged, and at
+//!   most one lends.
+//! - `sharp`, the same after 16(n - 1) + 4e + 15 sweeps, e being the greatest distance of a node:
+//!   links are stable after 6 sweeps, and the tree is reached after 4(e + 2) more.
+//! - `service`: from a legitimate world each node is privileged at some moment of any 16(n - 1)
+//!   sweeps, and a ticket that waits behind i others, and does not leave while it waits, is lent
+//!   the lock within 8(n - 1)(i + 2).
+//! - `closure`, closure: over every list of events without damage a legitimate world stays
+//!   legitimate, and every legitimate world serves.
 //!
-//! The trap: neither claims that sweeps occur. A sweep needs a full tick of each node, so none ends while a client keeps the lock for ever.
+//! The trap: none claims that sweeps occur. A sweep needs a full tick of each node, so none ends
+//! while a client keeps the lock for ever.
 
-pub use convergence::laws::{closure_law, converge_law};
+pub use convergence::laws::{closure, converge, service, sharp};

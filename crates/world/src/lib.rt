@@ -1,30 +1,37 @@
 //! The world of a network, and the events text that tells what happens in it.
 //!
-//! [`events`] reads that text, in pieces of any size: a line is `send U V`, `take U V`, `tick V` and so on, or one that begins with `harm` and writes a part of
-//! the world, as a fault would.
+//! [`events`] reads that text, in pieces of any size: a line is `send U V`, `take U V`, `tick V`
+//! and so on, or one that begins with `harm` and writes a part of the world, as a fault would.
 //!
-//! A [`World`] is a network at one moment: its nodes, and what is under way on each link. `World::new` reserves all memory; each `step` is one event,
-//! and takes none:
+//! A [`World`] is a network at one moment: its nodes, and what is under way on each link.
+//! `World::new` reserves all memory; each `step` is one event, and takes none:
 //!
 //! ```
+//! use world::{Event, Net, World};
+//!
+//! let net = Net::make(alloc, 3, 0, 1, 0, &[(0, 1), (1, 2)])?;
 //! let mut world = World::new(alloc, &net)?;
 //! world.step(&Event::Tick { node: 0 })?;      // refused, as NoNode is, it changes nothing
 //! ```
 //!
 //! The trap: a send on a full link is no refusal; the frame is lost, and the step is `Ok`.
 //!
-//! [`laws`] has what is proved of every world and every list of events, for proofs about programs: convergence from any state, and closure.
+//! [`laws`] has what is proved of every world and every list of events, for proofs about programs:
+//! convergence from any state, and closure.
 //!
-//! [`report::judge`] lets a list of events happen and counts its sweeps and refusals. Where the sweeps since the last damage are as many as `Net::bound`
-//! says, the world that it reports serves, whatever state it began in:
+//! [`report::judge`] lets a list of events happen and counts its sweeps and refusals. Where the
+//! sweeps since the last damage are as many as `Net::bound` says, the world that it reports serves,
+//! whatever state it began in:
 //!
 //! ```
 //! let report = report::judge(world, &events);      // report.world, report.sweeps, report.refused
 //! ```
 //!
-//! A [`Judge`] does the same event by event, and lends the [`Configuration`], nodes and links as they are now. Judging takes no memory: its room is the world's.
+//! A [`Judge`] does the same event by event, and lends the [`Configuration`], nodes and links as
+//! they are now. Judging takes no memory: its room is the world's.
 //!
-//! Who runs the nodes by other means, as on threads, takes a world apart, and puts it together again:
+//! Who runs the nodes by other means, as on threads, takes a world apart, and puts it together
+//! again:
 //!
 //! ```
 //! let Parts { nodes, links, room } = world.into_parts();      // links.net() is the network
@@ -33,8 +40,9 @@
 //!
 //! The trap: the parts are to be one world's, each node at the place of its id.
 //!
-//! [`simulation::simulate`] does the same from bytes to bytes: it reads an events text from a source, in pieces, and writes to a sink what becomes of it. `streams`
-//! has sources and sinks over memory; a program puts files behind the two traits:
+//! [`simulation::simulate`] does the same from bytes to bytes: it reads an events text from a
+//! source, in pieces, and writes to a sink what becomes of it. `streams` has sources and sinks over
+//! memory; a program puts files behind the two traits:
 //!
 //! ```
 //! let summary = simulate(alloc, &net, &mut source, &mut sink)?;      // summary.refused, summary.sweeps
@@ -49,3 +57,7 @@ pub mod streams;
 
 pub use configuration::{Configuration, Links};
 pub use judge::{Judge, Parts, Stretch, World};
+pub use link_model::{Frame, Item, NoItem, Payload};
+pub use node_core::Node;
+pub use run_model::{Event, EventFault, Happened, Harm};
+pub use topology::{Net, NetFault};

@@ -1,3 +1,91 @@
-//! A whole run, judged: offered again for users of this crate alone.
+//! A whole run, judged: here the code meets the theorem.
+ghost use Rattle.std.specs.Prelude.{◌≡◌, ◌+◌, ◌-◌, ◌*◌, ◌≤◌, ℕ};
+ghost use Rattle.topology.specs.Network.{bound_of};
+ghost use Rattle.topology.specs.Eccentricity.{sharp_of};
+ghost use Rattle.run_model.specs.Links.{AreLinksStable};
+ghost use Rattle.run_model.specs.Tree.{IsTreeReached};
+ghost use Rattle.run_model.specs.Headline.{IsServing};
+ghost use Rattle.run_model.specs.Run.{run, IsUndamaged};
+ghost use Rattle.run_model.specs.Count.{IsSweepCount};
+ghost use Rattle.token_ring.specs.Ring.{IsTokenRingGood};
+ghost use Rattle.token_ring.specs.Legitimate.{IsLegitimate};
+ghost use Rattle.convergence.specs.Closure.{IsLegitimateThroughout};
+ghost use Rattle.convergence.specs.Payloads.{ArePayloadsFresh};
+ghost use Rattle.world.specs.Numbers.{DoNumbersMove};
+ghost use Rattle.judge.specs.Judging.{refused_in, counted_up_to};
+ghost use Rattle.configuration.specs.ConfigurationView.{world_of};
 
-pub use judge::report::{Report, judge};
+use judge::{Judge, World};
+use run_model::Event;
+use std::alloc::{Allocator, Global};
+
+/// What a judge has counted of a run, and where the run has led.
+#[derive(Drop)]
+pub struct Report<A: Allocator + Copy = Global> {
+    /// The world now.
+    pub world: World<A>,
+    /// The sweeps since the last accepted damage; the count stays at its greatest value.
+    pub sweeps: u64,
+    /// The refused events; the count stays at its greatest value.
+    pub refused: u64,
+}
+
+/// Lets events happen one after the other, from a world on, and counts sweeps and refusals.
+///
+/// From whatever state, any two sweeps move the number of each sender; the links are stable after
+/// 4(C + 1) sweeps, and from then on whatever is staged and copied was said within the last three;
+/// the tree is reached after 4(n + 1) more; and after as many as `Net::bound` says the world is
+/// legitimate: each distance is the least length of a walk and each parent the true one, and at
+/// most one node is privileged and at most one lends. `Net::sharp_bound` is never more than that,
+/// and says the same. C, n and the bounds are those of the network that stands at the end. The sweeps are those since the last damage: how it came to its state
+/// does not matter. From a legitimate world, events without damage lead through legitimate worlds
+/// alone.
+pub fn judge<A: Allocator + Copy>(start: World<A>, events: &[Event]) -> Report<A>
+    ensures world { world_of result.world ≡ run (world_of start) events.now }
+    // the counts are exact, up to the greatest value of their type
+    ensures sweeps { (count : ℕ) × IsSweepCount (world_of start) events.now count
+        × (result.sweeps ≡ counted_up_to count) }
+    ensures refused { result.refused ≡ counted_up_to (refused_in (world_of start) events.now) }
+    // what the counted sweeps have brought about, stage by stage
+    ensures links { 4 * ((world_of result.world).net.capacity + 1) ≤ result.sweeps
+        → AreLinksStable (world_of result.world) }
+    ensures payloads { ArePayloadsFresh (world_of start) events.now (world_of result.world) }
+    ensures numbers { DoNumbersMove (world_of start) events.now (world_of result.world) }
+    ensures tree { 4 * ((world_of result.world).net.capacity + 1) + 4 * ((world_of result.world).net.nodes + 1)
+        ≤ result.sweeps → IsTreeReached (world_of result.world) }
+    ensures token_ring { bound_of (world_of result.world).net - 1 ≤ result.sweeps
+        → IsTokenRingGood (world_of result.world) }
+    // the headline
+    ensures legitimate { bound_of (world_of result.world).net ≤ result.sweeps
+        → IsLegitimate (world_of result.world) }
+    ensures serving { bound_of (world_of result.world).net ≤ result.sweeps
+        → IsServing (world_of result.world) }
+    // the same after far fewer sweeps, of which a greater capacity asks no more
+    ensures sharp_legitimate { sharp_of (world_of result.world).net ≤ result.sweeps
+        → IsLegitimate (world_of result.world) }
+    ensures sharp_serving { sharp_of (world_of result.world).net ≤ result.sweeps
+        → IsServing (world_of result.world) }
+    // and no way back
+    ensures closure { IsLegitimate (world_of start) → IsUndamaged (world_of start) events.now
+        → IsLegitimateThroughout (world_of start) events.now }
+{
+    run_model::laws::runs();
+    run_model::laws::in_range();
+    run_model::laws::moments();
+    run_model::laws::sweep_numbers();
+    tree_convergence::laws::links();
+    convergence::laws::closure();
+    convergence::laws::converge();
+    convergence::laws::sharp();
+    let mut judge = Judge::new(start);
+    for event in events {
+        let _answer = judge.step(event);
+    }
+    let sweeps = judge.sweeps();
+    let refused = judge.refused();
+    Report {
+        world: judge.into_world(),
+        sweeps,
+        refused,
+    }
+}

@@ -6,13 +6,14 @@
 //! let summary = simulate(alloc, &net, &mut source, &mut sink)?;      // summary.refused, summary.sweeps
 //! ```
 //!
-//! The events text may be as long as [`LONGEST_TEXT`] says; whatever its length, memory is taken for the network alone.
+//! The events text may be as long as [`LONGEST_TEXT`] says; whatever its length, memory is taken
+//! for the network alone.
 ghost use Rattle.std.specs.Prelude.{◌≡◌, ◌≤◌, List, ℕ, Some, IfErr};
-ghost use Rattle.run_model.specs.World.{default_world};
+ghost use Rattle.run_model.specs.Start.{default_world};
 ghost use Rattle.world.specs.Simulating.{IsSimulated, HasCause};
 ghost use Rattle.world.specs.StateText.{state_text};
 ghost use Rattle.byte_streams.specs.Streams.{WritesAll};
-ghost use Rattle.configuration.specs.WorldView.{world_of};
+ghost use Rattle.configuration.specs.ConfigurationView.{world_of};
 ghost use Rattle.world.specs.declared.simulation.SimFault.TheVariants.{Write};
 
 mod line;
@@ -37,7 +38,8 @@ const PIECE: usize = 8192;
 /// What a simulation has counted.
 #[derive(Clone, Copy, Debug, PartialEq, Eq)]
 pub struct Summary {
-    /// The refused lines, which are those that have a refusal line in the output; the count stays at its greatest value.
+    /// The refused lines, which are those that have a refusal line in the output; the count stays
+    /// at its greatest value.
     pub refused: u64,
     /// The sweeps since the last accepted damage; the count stays at its greatest value.
     pub sweeps: u64,
@@ -52,7 +54,8 @@ pub enum SimFault {
     /// The source failed. The refusal lines of the whole lines that it gave were written.
     #[error("Read")]
     Read,
-    /// The text has more bytes than `LONGEST_TEXT`. The refusal lines of the whole lines in the first so many bytes were written.
+    /// The text has more bytes than `LONGEST_TEXT`. The refusal lines of the whole lines in the
+    /// first `LONGEST_TEXT` bytes were written.
     #[error("Long")]
     Long,
     /// The sink failed. A beginning of the simulated text was written.
@@ -71,9 +74,10 @@ impl From<AllocError> for SimFault {
     }
 }
 
-/// Writes the text that shows a world: the status line of each node by ascending id; `link U V items I` for each directed link, by ascending source and then
-/// destination; `privileged P lending L`, the numbers of nodes that are privileged and that lend; and `sweeps A of R`, where A is what is given here and R is
-/// `Net::bound`. Each line ends with a newline.
+/// Writes the text that shows a world: the status line of each node by ascending id; `link U V
+/// items I` for each directed link, by ascending source and then destination; `privileged P lending
+/// L`, the numbers of nodes that are privileged and that lend; and `sweeps A of R`, where A is what
+/// is given here and R is `Net::bound`. Each line ends with a newline.
 ///
 /// # Errors
 /// [`SimFault::Write`] where the sink failed; then a beginning of the text was written.
@@ -91,13 +95,15 @@ pub fn state_text<A: Allocator + Copy, W: Sink>(
     Ok(())
 }
 
-/// Runs the events of a text, from the network's default nodes and empty links on, and writes what comes of them: for each refused line, as it is met,
-/// `line N: NAME`, where lines are numbered from 1 and NAME is the refusal of its event, or `Unread`; and at the end the text of the world, as
-/// [`state_text`] writes it with the count of sweeps since the last accepted damage.
+/// Runs the events of a text, from the network's default nodes and empty links on, and writes what
+/// comes of them: for each refused line, as it is met, `line N: NAME`, where lines are numbered
+/// from 1 and NAME is the refusal of its event, or `Unread`; and at the end the text of the world,
+/// as [`state_text`] writes it with the count of sweeps since the last accepted damage.
 ///
 /// # Errors
-/// The first that is met: [`SimFault::Memory`], before anything is read; [`SimFault::Read`] where the source failed; [`SimFault::Long`] where it gave more bytes
-/// than [`LONGEST_TEXT`]; [`SimFault::Write`] where the sink failed.
+/// The first that is met: [`SimFault::Memory`], before anything is read; [`SimFault::Read`] where
+/// the source failed; [`SimFault::Long`] where it gave more bytes than [`LONGEST_TEXT`];
+/// [`SimFault::Write`] where the sink failed.
 pub fn simulate<A: Allocator + Copy, N: Allocator + Copy, R: Source, W: Sink>(
     alloc: A,
     net: &Net<N>,
@@ -106,7 +112,8 @@ pub fn simulate<A: Allocator + Copy, N: Allocator + Copy, R: Source, W: Sink>(
 ) -> Result<Summary, SimFault>
     ensures text { (bytes : List ℕ) → R.rest source.old ≡ Some bytes
         → IsSimulated (default_world net.now) bytes (R.rest source.new) (W.taken sink.old) (W.taken sink.new) result }
-    ensures counts { (R.failures source.old ≤ R.failures source.new) × (W.failures sink.old ≤ W.failures sink.new) }
+    ensures counts { (R.failures source.old ≤ R.failures source.new)
+        × (W.failures sink.old ≤ W.failures sink.new) }
     ensures cause { HasCause result (R.failures source.old) (R.failures source.new) (W.failures sink.old) (W.failures sink.new) }
 {
     let world = World::new(alloc, net)?;

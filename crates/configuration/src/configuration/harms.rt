@@ -1,27 +1,31 @@
 //! Harms: what a transient fault writes into a configuration.
-ghost use Rattle.std.specs.Prelude.{◌≡◌, ◌↔◌, ◌<◌, IfErr, IsOk, OnOk, None, Some};
+ghost use Rattle.std.specs.Prelude.{◌≡◌, ◌↔◌, ◌<◌, IfOk, IfErr, IsOk};
 ghost use Rattle.topology.specs.Ranges.{ranges_of};
 ghost use Rattle.run_model.specs.World.{item_fits};
-ghost use Rattle.run_model.specs.Step.{harm_fits, refusal, step};
+ghost use Rattle.run_model.specs.Step.{harm_fits};
 ghost use Rattle.run_model.specs.declared.event.Event.TheVariants.{Damage};
 ghost use Rattle.run_model.specs.declared.event.EventFault.TheVariants as fault;
 ghost use Rattle.run_model.specs.declared.event.Harm.TheVariants as harm;
-ghost use Rattle.configuration.specs.WorldView.{world_of};
+ghost use Rattle.run_model.specs.declared.happened.Happened.TheVariants.{Damaged};
+ghost use Rattle.configuration.specs.ConfigurationView.{world_of};
+ghost use Rattle.configuration.specs.Answers.{Answers};
 
 use crate::configuration::Configuration;
 use link_model::{Item, Payload};
 use registers::OutOfRange;
-use run_model::{EventFault, Harm};
+use run_model::{EventFault, Happened, Harm};
 use std::alloc::Allocator;
 use topology::Net;
 
-/// A value out of its range, as an event's refusal.
-fn in_range(written: Result<(), OutOfRange>) -> Result<(), EventFault>
+/// What the writing of a value is answered as an event: damage, or that the value was out of its
+/// range.
+fn damaged(written: Result<(), OutOfRange>) -> Result<Happened, EventFault>
     ensures ok { IsOk result ↔ IsOk written }
+    ensures did { IfOk result (λ did. did ≡ Damaged) }
     ensures err { IfErr result (λ refused. refused ≡ fault.OutOfRange) }
 {
     match written {
-        Ok(()) => Ok(()),
+        Ok(()) => Ok(Happened::Damaged),
         Err(OutOfRange) => Err(EventFault::OutOfRange),
     }
 }
@@ -38,13 +42,16 @@ fn fits<A: Allocator + Copy>(net: &Net<A>, item: &Item) -> bool
 
 impl<A: Allocator + Copy> Configuration<A> {
     /// Writes a node's distance and parent.
-    fn write_own(&mut self, node: u16, distance: u16, parent: Option<u16>) -> Result<(), EventFault>
-        ensures world { world_of self.new ≡ step (world_of self.old) (Damage (harm.Own node distance parent)) }
-        ensures ok { OnOk result (refusal (world_of self.old) (Damage (harm.Own node distance parent)) ≡ None) }
-        ensures err { IfErr result (λ fault. refusal (world_of self.old) (Damage (harm.Own node distance parent)) ≡ Some fault) }
+    fn write_own(
+        &mut self,
+        node: u16,
+        distance: u16,
+        parent: Option<u16>,
+    ) -> Result<Happened, EventFault>
+        ensures { Answers self.old (Damage (harm.Own node distance parent)) self.new result }
     {
         let place = self.find_node(node)?;
-        in_range(self.nodes[place].set_own(distance, parent))
+        damaged(self.nodes[place].set_own(distance, parent))
     }
 
     /// Writes the two numbers of a port.
@@ -54,13 +61,11 @@ impl<A: Allocator + Copy> Configuration<A> {
         neighbour: u16,
         seq: u16,
         last: u16,
-    ) -> Result<(), EventFault>
-        ensures world { world_of self.new ≡ step (world_of self.old) (Damage (harm.Counters node neighbour seq last)) }
-        ensures ok { OnOk result (refusal (world_of self.old) (Damage (harm.Counters node neighbour seq last)) ≡ None) }
-        ensures err { IfErr result (λ fault. refusal (world_of self.old) (Damage (harm.Counters node neighbour seq last)) ≡ Some fault) }
+    ) -> Result<Happened, EventFault>
+        ensures { Answers self.old (Damage (harm.Counters node neighbour seq last)) self.new result }
     {
         self.find_link(node, neighbour)?;
-        in_range(self.nodes[usize::from(node)].set_counters(neighbour, seq, last))
+        damaged(self.nodes[usize::from(node)].set_counters(neighbour, seq, last))
     }
 
     /// Writes the staged payload of a port.
@@ -69,33 +74,32 @@ impl<A: Allocator + Copy> Configuration<A> {
         node: u16,
         neighbour: u16,
         payload: Payload,
-    ) -> Result<(), EventFault>
-        ensures world { world_of self.new ≡ step (world_of self.old) (Damage (harm.Staged node neighbour payload)) }
-        ensures ok { OnOk result (refusal (world_of self.old) (Damage (harm.Staged node neighbour payload)) ≡ None) }
-        ensures err { IfErr result (λ fault. refusal (world_of self.old) (Damage (harm.Staged node neighbour payload)) ≡ Some fault) }
+    ) -> Result<Happened, EventFault>
+        ensures { Answers self.old (Damage (harm.Staged node neighbour payload)) self.new result }
     {
         self.find_link(node, neighbour)?;
-        in_range(self.nodes[usize::from(node)].set_staged(neighbour, payload))
+        damaged(self.nodes[usize::from(node)].set_staged(neighbour, payload))
     }
 
     /// Writes the copied payload of a port.
-    fn write_copy(&mut self, node: u16, neighbour: u16, payload: Payload) -> Result<(), EventFault>
-        ensures world { world_of self.new ≡ step (world_of self.old) (Damage (harm.Copy node neighbour payload)) }
-        ensures ok { OnOk result (refusal (world_of self.old) (Damage (harm.Copy node neighbour payload)) ≡ None) }
-        ensures err { IfErr result (λ fault. refusal (world_of self.old) (Damage (harm.Copy node neighbour payload)) ≡ Some fault) }
+    fn write_copy(
+        &mut self,
+        node: u16,
+        neighbour: u16,
+        payload: Payload,
+    ) -> Result<Happened, EventFault>
+        ensures { Answers self.old (Damage (harm.Copy node neighbour payload)) self.new result }
     {
         self.find_link(node, neighbour)?;
-        in_range(self.nodes[usize::from(node)].set_copy(neighbour, payload))
+        damaged(self.nodes[usize::from(node)].set_copy(neighbour, payload))
     }
 
     /// Writes the value of a machine.
-    fn write_value(&mut self, node: u16, neighbour: u16, value: u16) -> Result<(), EventFault>
-        ensures world { world_of self.new ≡ step (world_of self.old) (Damage (harm.Value node neighbour value)) }
-        ensures ok { OnOk result (refusal (world_of self.old) (Damage (harm.Value node neighbour value)) ≡ None) }
-        ensures err { IfErr result (λ fault. refusal (world_of self.old) (Damage (harm.Value node neighbour value)) ≡ Some fault) }
+    fn write_value(&mut self, node: u16, neighbour: u16, value: u16) -> Result<Happened, EventFault>
+        ensures { Answers self.old (Damage (harm.Value node neighbour value)) self.new result }
     {
         self.find_link(node, neighbour)?;
-        in_range(self.nodes[usize::from(node)].set_value(neighbour, value))
+        damaged(self.nodes[usize::from(node)].set_value(neighbour, value))
     }
 
     /// Writes a desk's loan.
@@ -105,13 +109,11 @@ impl<A: Allocator + Copy> Configuration<A> {
         lent: Option<u16>,
         left: u16,
         served: bool,
-    ) -> Result<(), EventFault>
-        ensures world { world_of self.new ≡ step (world_of self.old) (Damage (harm.Desk node lent left served)) }
-        ensures ok { OnOk result (refusal (world_of self.old) (Damage (harm.Desk node lent left served)) ≡ None) }
-        ensures err { IfErr result (λ fault. refusal (world_of self.old) (Damage (harm.Desk node lent left served)) ≡ Some fault) }
+    ) -> Result<Happened, EventFault>
+        ensures { Answers self.old (Damage (harm.Desk node lent left served)) self.new result }
     {
         let place = self.find_node(node)?;
-        in_range(self.nodes[place].set_desk(lent, left, served))
+        damaged(self.nodes[place].set_desk(lent, left, served))
     }
 
     /// Whether an item is in range and its link has room for it.
@@ -125,35 +127,29 @@ impl<A: Allocator + Copy> Configuration<A> {
     }
 
     /// Puts one more item on a link, as the newest.
-    fn write_item(&mut self, from: u16, to: u16, item: Item) -> Result<(), EventFault>
-        ensures world { world_of self.new ≡ step (world_of self.old) (Damage (harm.Item from to item)) }
-        ensures ok { OnOk result (refusal (world_of self.old) (Damage (harm.Item from to item)) ≡ None) }
-        ensures err { IfErr result (λ fault. refusal (world_of self.old) (Damage (harm.Item from to item)) ≡ Some fault) }
+    fn write_item(&mut self, from: u16, to: u16, item: Item) -> Result<Happened, EventFault>
+        ensures { Answers self.old (Damage (harm.Item from to item)) self.new result }
     {
         self.find_link(from, to)?;
         if !self.may_put(from, to, &item) {
             return Err(EventFault::OutOfRange);
         }
         self.links.put(from, to, item);
-        Ok(())
+        Ok(Happened::Damaged)
     }
 
     /// Leaves no item on a link.
-    fn write_empty(&mut self, from: u16, to: u16) -> Result<(), EventFault>
-        ensures world { world_of self.new ≡ step (world_of self.old) (Damage (harm.Empty from to)) }
-        ensures ok { OnOk result (refusal (world_of self.old) (Damage (harm.Empty from to)) ≡ None) }
-        ensures err { IfErr result (λ fault. refusal (world_of self.old) (Damage (harm.Empty from to)) ≡ Some fault) }
+    fn write_empty(&mut self, from: u16, to: u16) -> Result<Happened, EventFault>
+        ensures { Answers self.old (Damage (harm.Empty from to)) self.new result }
     {
         self.find_link(from, to)?;
         self.links.clear(from, to);
-        Ok(())
+        Ok(Happened::Damaged)
     }
 
     /// A transient fault writes one part of the world.
-    pub(super) fn damage(&mut self, harm: &Harm) -> Result<(), EventFault>
-        ensures world { world_of self.new ≡ step (world_of self.old) (Damage harm.now) }
-        ensures ok { OnOk result (refusal (world_of self.old) (Damage harm.now) ≡ None) }
-        ensures err { IfErr result (λ fault. refusal (world_of self.old) (Damage harm.now) ≡ Some fault) }
+    pub(super) fn damage(&mut self, harm: &Harm) -> Result<Happened, EventFault>
+        ensures { Answers self.old (Damage harm.now) self.new result }
     {
         match *harm {
             Harm::Own {

@@ -5,7 +5,7 @@ ghost use Rattle.byte_streams.specs.Streams.{CountsFailures};
 ghost use Rattle.world.specs.declared.simulation.SimFault.TheVariants.{Write};
 ghost use Rattle.world.specs.SimulatedText.{line_refusal};
 ghost use Rattle.world.specs.UnderWay.{HasSeenLine, IsUnderWay, RunsNext, RunsLast, TakesNext, ReadsAll, EndsThere};
-ghost use Rattle.configuration.specs.WorldView.{world_of};
+ghost use Rattle.configuration.specs.ConfigurationView.{world_of};
 
 use super::refusal::{UNREAD, fault_name, write_refusal};
 use super::state::write_state;
@@ -39,7 +39,8 @@ impl<A: Allocator + Copy> Simulation<A> {
     /// A simulation from a world on, to which no byte came.
     pub fn new(world: World<A>) -> Simulation<A>
         ensures lines { result.lines ≡ 0 }
-        ensures under_way { (before : Option (List ℕ)) → IsUnderWay (world_of world) [] before before result }
+        ensures under_way { (before : Option (List ℕ))
+            → IsUnderWay (world_of world) [] before before result }
     {
         Simulation {
             judge: Judge::new(world),
@@ -81,7 +82,8 @@ impl<A: Allocator + Copy> Simulation<A> {
         }
     }
 
-    /// The text has ended: its last line, if no newline ended it, and then the world to which it has led.
+    /// The text has ended: its last line, if no newline ended it, and then the world to which it
+    /// has led.
     pub fn finish<W: Sink>(&mut self, sink: &mut W) -> Result<Summary, SimFault>
         requires { self.old.lines < 2 ^ 64 - 1 }
         ensures text { EndsThere self.old (W.taken sink.old) result (W.taken sink.new) }
@@ -151,7 +153,8 @@ impl<A: Allocator + Copy> Simulation<A> {
 
 /// Lets the event of a line happen. The answer is why the line is refused, if it is.
 fn refusal<A: Allocator + Copy>(judge: &mut Judge<A>, line: TextLine) -> Option<&'static str>
-    ensures name { option_map (λ name. name.now) result ≡ line_refusal (world_of judge.old.world) line }
+    ensures name { option_map (λ name. name.now) result
+        ≡ line_refusal (world_of judge.old.configuration) line }
     ensures seen { HasSeenLine judge.old line judge.new }
     ensures short { IfSome result (λ name. length name.now ≤ 10) }
 {

@@ -1,4 +1,4 @@
-use Rattle.run_model.specs.World.{default_world}
+use Rattle.run_model.specs.Start.{default_world}
 use Rattle.world.proofs.SimulatedEnd.{fault_is, not_read, all_was_read, has_cause, higher_then}
 use Rattle.world.proofs.simulation.simulate.Goals as goal
 

@@ -1,6 +1,6 @@
 use Rattle.std.proofs.Common.{rules, ◌≡◌, ◌∙◌, ◌≤◌, ◌+◌, ap, sym, subst, is_some}
-use Rattle.run_model.specs.Legitimate.{is_lending}
-use Rattle.configuration.specs.WorldView.{world_of}
+use Rattle.run_model.specs.Privilege.{is_lending}
+use Rattle.configuration.specs.ConfigurationView.{world_of}
 use Rattle.configuration.proofs.NodeCounts.{count-yes, count-no, count-most}
 use Rattle.configuration.proofs.configuration.Configuration.lending.Goals as goal
 use Rattle.configuration.proofs.configuration.Configuration.lending.Goals.{then-is_some, else-is_some}

@@ -1,7 +1,7 @@
 use Rattle.std.proofs.Common.{◌≡◌, count_by}
 use Rattle.std.specs.List.{range_with_len}
-use Rattle.run_model.specs.Legitimate.{is_lending}
-use Rattle.configuration.specs.WorldView.{world_of}
+use Rattle.run_model.specs.Privilege.{is_lending}
+use Rattle.configuration.specs.ConfigurationView.{world_of}
 use Rattle.configuration.proofs.configuration.Configuration.lending.Given as goal
 
 abbrev pub invariant-loop-v : goal.invariant-loop-v

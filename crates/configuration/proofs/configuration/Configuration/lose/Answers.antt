@@ -2,38 +2,22 @@ use Rattle.std.proofs.Common.{rules, ◌≡◌, None, Some}
 use Rattle.run_model.specs.declared.event.Event.TheVariants.{Lose}
 use Rattle.run_model.specs.declared.event.EventFault.TheVariants.{NoItem}
 use Rattle.run_model.specs.Step.{refusal}
-use Rattle.configuration.specs.WorldView.{WorldView, world_of}
-use Rattle.configuration.proofs.WorldSteps.{lose-done, lose-there, lose-past, links-refused}
+use Rattle.configuration.specs.ConfigurationView.{ConfigurationView, world_of}
+use Rattle.configuration.proofs.WorldSteps.{lose-answers, lose-there, lose-past, links-refused}
 use Rattle.configuration.proofs.configuration.Configuration.lose.Goals as goal
 
-pub returns-in-Err-clause-world : goal.returns-in-Err-clause-world
-returns-in-Err-clause-world g c =
-    let w : WorldView = record { nodes = c.self.inside.nodes.items; links = c.self.inside.links } in
+pub returns-in-Err : goal.returns-in-Err
+returns-in-Err g c =
+    let w : ConfigurationView = record { nodes = c.self.inside.nodes.items; links = c.self.inside.links } in
     let ok = rw (← c.self.view_is) at c.in_ok-find_link.ensures.ok in
-    let refused : refusal (world_of w) (Lose c.args.from c.args.to c.args.item) ≡ Some NoItem =
+    let some : refusal (world_of w) (Lose c.args.from c.args.to c.args.item) ≡ Some NoItem =
     lose-past w c.args.from c.args.to ok.3 c.in-Err.field-0 c.args.item (rw c.from.ensures at c.in-Err.ensures.variant) in
-    rw (← c.self.view_is) (links-refused w c.args.from c.args.to ok.3 c.lose.new.self (Lose c.args.from c.args.to c.args.item) NoItem refused c.lose.ensures.net c.in-Err.ensures.no_item)
+    rw (← c.self.view_is) (links-refused w c.args.from c.args.to ok.3 c.lose.new.self (Lose c.args.from c.args.to c.args.item) NoItem some c.lose.ensures.net c.in-Err.ensures.no_item)
 
-pub returns-in-Err-clause-err : goal.returns-in-Err-clause-err
-returns-in-Err-clause-err g c =
-    let w : WorldView = record { nodes = c.self.inside.nodes.items; links = c.self.inside.links } in
-    let ok = rw (← c.self.view_is) at c.in_ok-find_link.ensures.ok in
-    let refused : refusal (world_of w) (Lose c.args.from c.args.to c.args.item) ≡ Some NoItem =
-    lose-past w c.args.from c.args.to ok.3 c.in-Err.field-0 c.args.item (rw c.from.ensures at c.in-Err.ensures.variant) in
-    rw (← c.self.view_is) refused
-
-pub returns-clause-world : goal.returns-clause-world
-returns-clause-world g c =
-    let w : WorldView = record { nodes = c.self.inside.nodes.items; links = c.self.inside.links } in
+pub returns : goal.returns
+returns g c =
+    let w : ConfigurationView = record { nodes = c.self.inside.nodes.items; links = c.self.inside.links } in
     let ok = rw (← c.self.view_is) at c.in_ok-find_link.ensures.ok in
     let none : refusal (world_of w) (Lose c.args.from c.args.to c.args.item) ≡ None =
     lose-there w c.args.from c.args.to ok.3 c.lose.result c.args.item (rw c.from.ensures at c.lose.ensures.variant) (let e = c.in_default.is in search (rules, e)) in
-    rw (← c.self.view_is) (lose-done w c.args.from c.args.to ok.3 c.lose.new.self c.args.item none c.lose.ensures.net (rw c.from.ensures at c.in_default.ensures.ok))
-
-pub returns-clause-ok : goal.returns-clause-ok
-returns-clause-ok g c =
-    let w : WorldView = record { nodes = c.self.inside.nodes.items; links = c.self.inside.links } in
-    let ok = rw (← c.self.view_is) at c.in_ok-find_link.ensures.ok in
-    let none : refusal (world_of w) (Lose c.args.from c.args.to c.args.item) ≡ None =
-    lose-there w c.args.from c.args.to ok.3 c.lose.result c.args.item (rw c.from.ensures at c.lose.ensures.variant) (let e = c.in_default.is in search (rules, e)) in
-    rw (← c.self.view_is) none
+    rw (← c.self.view_is) (lose-answers w c.args.from c.args.to ok.3 c.lose.new.self c.args.item none c.lose.ensures.net (rw c.from.ensures at c.in_default.ensures.ok))

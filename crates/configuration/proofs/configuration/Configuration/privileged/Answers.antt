@@ -1,8 +1,8 @@
 use Rattle.std.proofs.Common.{rules, ◌≡◌, ◌∙◌, ◌≤◌, ◌+◌, ap, sym, subst}
 use Rattle.node_core.specs.Machines.{is_node_privileged}
 use Rattle.node_core.specs.View.{site_in}
-use Rattle.run_model.specs.Legitimate.{is_privileged}
-use Rattle.configuration.specs.WorldView.{world_of}
+use Rattle.run_model.specs.Privilege.{is_privileged}
+use Rattle.configuration.specs.ConfigurationView.{world_of}
 use Rattle.configuration.proofs.NodeCounts.{count-yes, count-no, count-most}
 use Rattle.configuration.proofs.configuration.Configuration.privileged.Goals as goal
 use Rattle.configuration.proofs.configuration.Configuration.privileged.Goals.{then-privileged, else-privileged}

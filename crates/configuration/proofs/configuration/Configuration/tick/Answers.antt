@@ -1,32 +1,28 @@
-use Rattle.std.proofs.Common.{◌≡◌, None}
+use Rattle.std.proofs.Common.{◌≡◌, ◌∙◌, ap, None, if◌then◌else◌}
 use Rattle.run_model.specs.declared.event.Event.TheVariants.{Tick}
+use Rattle.run_model.specs.declared.happened.Happened.TheVariants.{FullTick, LendingTick}
 use Rattle.run_model.specs.Step.{refusal}
-use Rattle.configuration.specs.WorldView.{WorldView, world_of}
+use Rattle.configuration.specs.ConfigurationView.{ConfigurationView, world_of}
 use Rattle.configuration.proofs.NodePlaces.{IsNodeAt, now-nodes}
-use Rattle.configuration.proofs.WorldSteps.{tick-world}
+use Rattle.configuration.proofs.WorldSteps.{tick-answers}
+use Rattle.configuration.proofs.configuration.Configuration.tick.Given as given
 use Rattle.configuration.proofs.configuration.Configuration.tick.Goals as goal
 
-pub invariant_of-self : goal.invariant_of-self
-invariant_of-self g c =
-    let w : WorldView = record { nodes = c.self.inside.nodes.items; links = c.self.inside.links } in
-    let ok = c.in_ok-place.ensures.ok in
-    let h : IsNodeAt w.links.net w.nodes c.args.node c.in_ok-place.place c.index_mut.result.now = record {
-      nodes_are = c.self.invariant;
-      in_net = rw (← c.self.view_is) at ok.1;
-      place = ok.0;
-      value = c.index_mut.ensures.value;
-    } in
-    now-nodes w.links.net w.nodes c.args.node c.in_ok-place.place c.index_mut.result.now h c.tick-ticked.new.self c.tick-ticked.ensures.site
+-- the configuration before, and where the node is
+module _ (g : given.Over) (c : goal.After-tick_of g) where
+  abbrev old : ConfigurationView
+  old = record { nodes = c.self.inside.nodes.items; links = c.self.inside.links }
 
-pub returns-clause-world : goal.returns-clause-world
-returns-clause-world g c =
-    let w : WorldView = record { nodes = c.self.inside.nodes.items; links = c.self.inside.links } in
-    let ok = c.in_ok-place.ensures.ok in
-    let h : IsNodeAt w.links.net w.nodes c.args.node c.in_ok-place.place c.index_mut.result.now = record {
-      nodes_are = c.self.invariant;
-      in_net = rw (← c.self.view_is) at ok.1;
-      place = ok.0;
-      value = c.index_mut.ensures.value;
-    } in
-    let none : refusal (world_of w) (Tick c.args.node) ≡ None = rw (← c.self.view_is) at ok.2 in
-    rw (← c.self.view_is) (tick-world w c.args.node c.in_ok-place.place c.index_mut.result.now c.tick-ticked.new.self h none c.tick-ticked.ensures.state)
+  here : IsNodeAt old.links.net old.nodes c.args.node c.in_ok-place.place c.index_mut.result.now
+  here =
+      let ok = c.in_ok-place.ensures.ok in
+      record { nodes_are = c.self.invariant; in_net = rw (← c.self.view_is) at ok.1; place = ok.0; value = c.index_mut.ensures.value }
+
+pub invariant_of-self : goal.invariant_of-self
+invariant_of-self g c = now-nodes _ _ _ _ _ (here g c) c.tick-ticked.new.self c.tick-ticked.ensures.site
+
+pub returns : goal.returns
+returns g c =
+    let none : refusal (world_of (old g c)) (Tick c.args.node) ≡ None = rw (← c.self.view_is) at c.in_ok-place.ensures.ok.2 in
+    rw (← c.self.view_is) (tick-answers (old g c) c.args.node c.in_ok-place.place c.index_mut.result.now c.tick-ticked.new.self (here g c) none c.tick-ticked.ensures.state
+    c.tick_of.result (c.tick_of.ensures ∙ ap (λ full. if full then FullTick c.args.node else LendingTick c.args.node) c.tick-ticked.ensures.full))

@@ -4,15 +4,15 @@ use Rattle.node_core.specs.View.{state_of}
 use Rattle.run_model.specs.declared.event.Harm.{Harm}
 use Rattle.run_model.specs.declared.event.Harm.TheVariants.{Desk}
 use Rattle.run_model.specs.Step.{harm_fits, harm_place_fault}
-use Rattle.configuration.specs.WorldView.{WorldView, world_of}
+use Rattle.configuration.specs.ConfigurationView.{ConfigurationView, world_of}
 use Rattle.configuration.proofs.NodePlaces.{IsNodeAt, now-nodes, site-is, state-is}
-use Rattle.configuration.proofs.Harms.{harm-world, harm-ok, harm-err, same-cases}
+use Rattle.configuration.proofs.Harms.{harm-answers}
 use Rattle.configuration.proofs.configuration.Configuration.write_desk.Given as given
 use Rattle.configuration.proofs.configuration.Configuration.write_desk.Goals as goal
 
 -- the world before, the harm, where the node is, and that the harm's place is there
-module _ (g : given.Over) (c : goal.After-in_range g) where
-  abbrev old : WorldView
+module _ (g : given.Over) (c : goal.After-damaged g) where
+  abbrev old : ConfigurationView
   old = record { nodes = c.self.inside.nodes.items; links = c.self.inside.links }
 
   abbrev written : Harm
@@ -34,14 +34,8 @@ module _ (g : given.Over) (c : goal.After-in_range g) where
 pub invariant_of-self : goal.invariant_of-self
 invariant_of-self g c = now-nodes _ _ _ _ _ (here g c) c.set_desk.new.self c.set_desk.ensures.site
 
-pub returns-clause-world : goal.returns-clause-world
-returns-clause-world g c =
-    rw (← c.self.view_is) (harm-world (old g c) _ _ _ _ (written g c) (λ s. record s { desk = with_loan s.desk c.args.lent c.args.left c.args.served })
-    c.set_desk.result (here g c) (found g c) (fits g c) refl c.set_desk.ensures.ok c.set_desk.ensures.out_of_range)
-
-pub returns-clause-ok : goal.returns-clause-ok
-returns-clause-ok g c = rw (← c.self.view_is) (harm-ok (world_of (old g c)) (written g c) (found g c) c.in_range.result (same-cases c.in_range.ensures.ok (fits g c)))
-
-pub returns-clause-err : goal.returns-clause-err
-returns-clause-err g c =
-    rw (← c.self.view_is) (harm-err (world_of (old g c)) (written g c) (found g c) c.in_range.result (same-cases c.in_range.ensures.ok (fits g c)) c.in_range.ensures.err)
+pub returns : goal.returns
+returns g c =
+    rw (← c.self.view_is) (harm-answers (old g c) _ _ _ _ (written g c) (λ s. record s { desk = with_loan s.desk c.args.lent c.args.left c.args.served })
+    c.set_desk.result c.damaged.result (here g c) (found g c) (fits g c) refl c.set_desk.ensures.ok c.set_desk.ensures.out_of_range
+    c.damaged.ensures.ok c.damaged.ensures.did c.damaged.ensures.err)

@@ -3,15 +3,15 @@ use Rattle.topology.specs.At.{at}
 use Rattle.run_model.specs.declared.event.Harm.{Harm}
 use Rattle.run_model.specs.declared.event.Harm.TheVariants.{Value}
 use Rattle.run_model.specs.Step.{harm_fits, harm_place_fault}
-use Rattle.configuration.specs.WorldView.{WorldView, world_of}
+use Rattle.configuration.specs.ConfigurationView.{ConfigurationView, world_of}
 use Rattle.configuration.proofs.NodePlaces.{IsNodeAt, now-nodes, site-is}
-use Rattle.configuration.proofs.Harms.{harm-world, harm-ok, harm-err, same-cases, less-test}
+use Rattle.configuration.proofs.Harms.{harm-answers, less-test}
 use Rattle.configuration.proofs.configuration.Configuration.write_value.Given as given
 use Rattle.configuration.proofs.configuration.Configuration.write_value.Goals as goal
 
 pub set_value-requires : goal.set_value-requires
 set_value-requires g c =
-    let w : WorldView = record { nodes = c.self.inside.nodes.items; links = c.self.inside.links } in
+    let w : ConfigurationView = record { nodes = c.self.inside.nodes.items; links = c.self.inside.links } in
     let ok = rw (← c.self.view_is) at c.in_ok-find_link.ensures.ok in
     let near = rw (← c.self.view_is) at c.in_ok-find_link.ensures.near in
     let here : IsNodeAt w.links.net w.nodes c.args.node c.from.result c.index_mut.result.now =
@@ -19,8 +19,8 @@ set_value-requires g c =
     subst (λ s. Contains s.neighbours c.args.neighbour) (sym (site-is _ _ _ _ _ here)) near.0
 
 -- the world before, the harm, where the node is, and that the harm's place is there
-module _ (g : given.Over) (c : goal.After-in_range g) where
-  abbrev old : WorldView
+module _ (g : given.Over) (c : goal.After-damaged g) where
+  abbrev old : ConfigurationView
   old = record { nodes = c.self.inside.nodes.items; links = c.self.inside.links }
 
   abbrev written : Harm
@@ -40,14 +40,8 @@ module _ (g : given.Over) (c : goal.After-in_range g) where
 pub invariant_of-self : goal.invariant_of-self
 invariant_of-self g c = now-nodes _ _ _ _ _ (here g c) c.set_value.new.self c.set_value.ensures.site
 
-pub returns-clause-world : goal.returns-clause-world
-returns-clause-world g c =
-    rw (← c.self.view_is) (harm-world (old g c) _ _ _ _ (written g c) (λ s. record s { value = at s.value c.args.neighbour c.args.value })
-    c.set_value.result (here g c) (found g c) (fits g c) refl c.set_value.ensures.ok c.set_value.ensures.out_of_range)
-
-pub returns-clause-ok : goal.returns-clause-ok
-returns-clause-ok g c = rw (← c.self.view_is) (harm-ok (world_of (old g c)) (written g c) (found g c) c.in_range.result (same-cases c.in_range.ensures.ok (fits g c)))
-
-pub returns-clause-err : goal.returns-clause-err
-returns-clause-err g c =
-    rw (← c.self.view_is) (harm-err (world_of (old g c)) (written g c) (found g c) c.in_range.result (same-cases c.in_range.ensures.ok (fits g c)) c.in_range.ensures.err)
+pub returns : goal.returns
+returns g c =
+    rw (← c.self.view_is) (harm-answers (old g c) _ _ _ _ (written g c) (λ s. record s { value = at s.value c.args.neighbour c.args.value })
+    c.set_value.result c.damaged.result (here g c) (found g c) (fits g c) refl c.set_value.ensures.ok c.set_value.ensures.out_of_range
+    c.damaged.ensures.ok c.damaged.ensures.did c.damaged.ensures.err)

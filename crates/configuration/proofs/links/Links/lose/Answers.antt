@@ -4,7 +4,7 @@ use Rattle.configuration.proofs.links.Links.lose.Goals as goal
 
 pub invariant_of-self : goal.invariant_of-self
 invariant_of-self g c =
-    let l : LinksView = record { net = c.self.inside.net; links = c.self.inside.links.items } in
+    let l : LinksView = record { net = c.self.inside.net; places = c.self.inside.places; links = c.self.inside.links.items } in
     let h : IsAt l c.args.from c.args.to c.place-place.result c.index_mut.result.now = record {
       links = c.self.invariant;
       from_in = rw (← c.self.view_is) at c.requires.from_in;
@@ -16,7 +16,7 @@ invariant_of-self g c =
 
 pub returns-clause-ok : goal.returns-clause-ok
 returns-clause-ok g c =
-    let l : LinksView = record { net = c.self.inside.net; links = c.self.inside.links.items } in
+    let l : LinksView = record { net = c.self.inside.net; places = c.self.inside.places; links = c.self.inside.links.items } in
     let h : IsAt l c.args.from c.args.to c.place-place.result c.index_mut.result.now = record {
       links = c.self.invariant;
       from_in = rw (← c.self.view_is) at c.requires.from_in;
@@ -28,7 +28,7 @@ returns-clause-ok g c =
 
 pub returns-clause-no_item : goal.returns-clause-no_item
 returns-clause-no_item g c =
-    let l : LinksView = record { net = c.self.inside.net; links = c.self.inside.links.items } in
+    let l : LinksView = record { net = c.self.inside.net; places = c.self.inside.places; links = c.self.inside.links.items } in
     let h : IsAt l c.args.from c.args.to c.place-place.result c.index_mut.result.now = record {
       links = c.self.invariant;
       from_in = rw (← c.self.view_is) at c.requires.from_in;

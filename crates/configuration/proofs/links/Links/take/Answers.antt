@@ -4,7 +4,7 @@ use Rattle.configuration.proofs.links.Links.take.Goals as goal
 
 pub invariant_of-self : goal.invariant_of-self
 invariant_of-self g c =
-    let l : LinksView = record { net = c.self.inside.net; links = c.self.inside.links.items } in
+    let l : LinksView = record { net = c.self.inside.net; places = c.self.inside.places; links = c.self.inside.links.items } in
     let h : IsAt l c.args.from c.args.to c.place-place.result c.index_mut.result.now = record {
       links = c.self.invariant;
       from_in = rw (← c.self.view_is) at c.requires.from_in;
@@ -17,7 +17,7 @@ invariant_of-self g c =
 
 pub returns-clause-taken : goal.returns-clause-taken
 returns-clause-taken g c =
-    let l : LinksView = record { net = c.self.inside.net; links = c.self.inside.links.items } in
+    let l : LinksView = record { net = c.self.inside.net; places = c.self.inside.places; links = c.self.inside.links.items } in
     let h : IsAt l c.args.from c.args.to c.place-place.result c.index_mut.result.now = record {
       links = c.self.invariant;
       from_in = rw (← c.self.view_is) at c.requires.from_in;
@@ -30,7 +30,7 @@ returns-clause-taken g c =
 
 pub returns-clause-rest : goal.returns-clause-rest
 returns-clause-rest g c =
-    let l : LinksView = record { net = c.self.inside.net; links = c.self.inside.links.items } in
+    let l : LinksView = record { net = c.self.inside.net; places = c.self.inside.places; links = c.self.inside.links.items } in
     let h : IsAt l c.args.from c.args.to c.place-place.result c.index_mut.result.now = record {
       links = c.self.invariant;
       from_in = rw (← c.self.view_is) at c.requires.from_in;
@@ -43,7 +43,7 @@ returns-clause-rest g c =
 
 pub returns-clause-fits : goal.returns-clause-fits
 returns-clause-fits g c =
-    let l : LinksView = record { net = c.self.inside.net; links = c.self.inside.links.items } in
+    let l : LinksView = record { net = c.self.inside.net; places = c.self.inside.places; links = c.self.inside.links.items } in
     let h : IsAt l c.args.from c.args.to c.place-place.result c.index_mut.result.now = record {
       links = c.self.invariant;
       from_in = rw (← c.self.view_is) at c.requires.from_in;

@@ -1,70 +1,92 @@
 use Rattle.std.proofs.Common.{◌≡◌, ◌∙◌, ap, sym, subst, IsTrue, [], ◌∷◌, inl, inr, arith, refl}
-use Rattle.topology.specs.Network.{IsAcceptedNetwork}
-use Rattle.configuration.specs.WorldView.{world_of}
-use Rattle.judge.specs.Stretch.{IsRoomFor, names_nodes}
-use Rattle.judge.proofs.JudgeSteps.{names, accepted-damage, no-damage, refused-step, damage-step, other-step, sweep-step, sweep-ends, few-looks, room-cleared, room-noted}
+use Rattle.topology.specs.Network.{IsAcceptedNetwork, are_joined}
+use Rattle.configuration.specs.ConfigurationView.{world_of}
+use Rattle.judge.specs.Stretch.{IsRoomFor, names_below, names_place}
+use Rattle.judge.proofs.JudgeSteps.{names, placed, same-network, accepted-damage, no-damage, refused-step, damage-step, other-step, sweep-step, sweep-ends, few-looks, room-cleared, room-empty, room-noted, undamaged-one}
 use Rattle.judge.proofs.judge.Judge.step.Goals as goal
 
 pub returns-in-Err-clause-judging : goal.returns-in-Err-clause-judging
 returns-in-Err-clause-judging g c = rw (← c.self.view_is) (λ start es seen.
-    refused-step c.below.ensures start es c.args.event.now (world_of c.self.inside.world) (world_of c.step.new.self) c.self.inside.stretch c.clear_looked.new.self
+    refused-step c.below.ensures start es c.args.event.now (world_of c.self.inside.configuration) (world_of c.step.new.self) c.self.inside.stretch c.clear_looked.new.self
     c.self.inside.sweeps c.self.inside.refused c.step.ensures.world c.clear_looked.ensures seen c.in-Err.fault c.saturating_add-self-inside.result c.in-Err.ensures.err
     c.saturating_add-self-inside.ensures)
 
-pub returns-in-Damage-clause-judging : goal.returns-in-Damage-clause-judging
-returns-in-Damage-clause-judging g c = rw (← c.self.view_is) (λ start es seen.
-    damage-step c.below.ensures start es c.args.event.now (world_of c.self.inside.world) (world_of c.step.new.self) c.self.inside.stretch c.clear_looked.new.self
-    c.self.inside.sweeps c.self.inside.refused c.step.ensures.world c.clear_looked.ensures seen c.begin.new.stretch c.in_default.ensures.ok
-    (accepted-damage (world_of c.self.inside.world) c.args.event.now c.in-Damage.field-0 c.in-Damage.is c.in_default.ensures.ok) c.begin.ensures)
+pub returns-in-Damaged-clause-judging : goal.returns-in-Damaged-clause-judging
+returns-in-Damaged-clause-judging g c = rw (← c.self.view_is) (λ start es seen.
+    damage-step c.below.ensures start es c.args.event.now (world_of c.self.inside.configuration) (world_of c.step.new.self) c.self.inside.stretch c.clear_looked.new.self
+    c.self.inside.sweeps c.self.inside.refused c.step.ensures.world c.clear_looked.ensures seen c.begin.new.stretch c.in-Ok.ensures.ok
+    (accepted-damage (world_of c.self.inside.configuration) c.args.event.now (sym c.in-Ok.ensures.did ∙ c.in-Damaged.is) c.in-Ok.ensures.ok) c.begin.ensures.kept)
+
+pub begin-requires : goal.begin-requires
+begin-requires g c =
+    let now = world_of c.self.inside.configuration in
+    let net : (world_of c.step.new.self).net ≡ now.net = ap (λ w. w.net) c.step.ensures.world ∙ same-network now c.args.event.now in
+    let table : c.clear.new.self.tallies.table ≡ c.self.inside.stretch.tallies.table = c.clear.ensures.table ∙ ap (λ s. s.tallies.table) c.clear_looked.ensures in
+    room-empty (world_of c.step.new.self).net c.clear.new.self (ap (λ t. t.nodes) table ∙ c.self.invariant.nodes ∙ sym (ap (λ n. n.nodes) net))
+    (λ u v joined. rw table (c.self.invariant.placed u v (subst (λ n. IsTrue (are_joined n.edges u v)) net joined))) c.clear.ensures.empty
 
 pub note-requires : goal.note-requires
 note-requires g c =
-    let w = world_of c.self.inside.world in
+    let w = world_of c.self.inside.configuration in
     let ok : IsAcceptedNetwork w.net = rw c.net.ensures at c.nodes-nodes.ensures.network in
     let limits = c.below.ensures.limits w.net ok in
-    let same : c.clear_looked.new.self.tallies.nodes ≡ w.net.nodes = ap (λ s. s.tallies.nodes) c.clear_looked.ensures ∙ c.self.invariant.nodes in
+    let same : c.clear_looked.new.self.tallies.table.nodes ≡ w.net.nodes = ap (λ s. s.tallies.table.nodes) c.clear_looked.ensures ∙ c.self.invariant.nodes in
+    let room = room-cleared w.net c.self.inside.stretch c.clear_looked.new.self c.clear_looked.ensures c.self.invariant in
     record {
       few = omega (arith, limits.1, same);
-      nodes = subst (λ n. IsTrue (names_nodes n c.args.event.now)) (sym same) (names w c.args.event.now c.in_default.ensures.ok);
+      placed = subst (λ did. IsTrue (names_place c.clear_looked.new.self.tallies.table did)) (sym c.in-Ok.ensures.did)
+          (placed w c.args.event.now c.clear_looked.new.self.tallies.table room.placed c.in-Ok.ensures.ok);
+      nodes = subst (λ n. IsTrue (names_below n c.in-Ok.happened)) (sym same)
+          (subst (λ did. IsTrue (names_below w.net.nodes did)) (sym c.in-Ok.ensures.did) (names w c.args.event.now c.in-Ok.ensures.ok));
     }
 
 pub returns-then-is_complete : goal.returns-then-is_complete
 returns-then-is_complete g c = record {
   world = rw (← c.self.view_is) c.step.ensures.world;
-  ok = rw (← c.self.view_is) c.in_default.ensures.ok;
+  ok = rw (← c.self.view_is) c.in-Ok.ensures.ok;
   err = tt;
   judging = rw (← c.self.view_is) (λ start es seen.
-      sweep-step c.below.ensures start es c.args.event.now (world_of c.self.inside.world) (world_of c.step.new.self) c.self.inside.stretch c.clear_looked.new.self
-      c.self.inside.sweeps c.self.inside.refused c.step.ensures.world c.clear_looked.ensures seen c.in_default.ensures.ok
-      (no-damage (world_of c.self.inside.world) c.args.event.now c.in_default-event.not-Damage) c.note.new.self c.waiting-waiting.result c.is_full-is_full.result
-      c.waiting-waiting.ensures c.is_full-is_full.ensures c.note.ensures.nodes c.note.ensures.lacking c.note.ensures.tallies
-      c.begin-then-is_complete.new.stretch c.saturating_add-self-inside-then-is_complete.result (c.if-is_complete.ensures.0 refl) c.begin-then-is_complete.ensures
+      sweep-step c.below.ensures start es c.args.event.now (world_of c.self.inside.configuration) (world_of c.step.new.self) c.self.inside.stretch c.clear_looked.new.self
+      c.self.inside.sweeps c.self.inside.refused c.step.ensures.world c.clear_looked.ensures seen c.in-Ok.ensures.ok
+      (no-damage (world_of c.self.inside.configuration) c.args.event.now (λ damaged. c.in_default.not-Damaged (c.in-Ok.ensures.did ∙ damaged)))
+      c.note.new.self c.in-Ok.happened c.in-Ok.ensures.did (ap (λ t. t.nodes) c.note.ensures.table) c.note.ensures.lacking c.note.ensures.tallies
+      c.begin-then-is_complete.new.stretch c.saturating_add-self-inside-then-is_complete.result (c.if-is_complete.ensures.0 refl) c.begin-then-is_complete.ensures.kept
       c.saturating_add-self-inside-then-is_complete.ensures);
   looked = rw (← c.self.view_is) (inr (inr (λ start es seen.
-      sweep-ends c.below.ensures start es c.args.event.now (world_of c.self.inside.world) (world_of c.step.new.self) c.self.inside.stretch c.clear_looked.new.self
-      c.self.inside.sweeps c.self.inside.refused c.step.ensures.world c.clear_looked.ensures seen c.in_default.ensures.ok
-      (no-damage (world_of c.self.inside.world) c.args.event.now c.in_default-event.not-Damage) c.note.new.self c.waiting-waiting.result c.is_full-is_full.result
-      c.waiting-waiting.ensures c.is_full-is_full.ensures c.note.ensures.nodes c.note.ensures.lacking c.note.ensures.tallies (c.if-is_complete.ensures.0 refl))));
+      sweep-ends c.below.ensures start es c.args.event.now (world_of c.self.inside.configuration) (world_of c.step.new.self) c.self.inside.stretch c.clear_looked.new.self
+      c.self.inside.sweeps c.self.inside.refused c.step.ensures.world c.clear_looked.ensures seen c.in-Ok.ensures.ok
+      (no-damage (world_of c.self.inside.configuration) c.args.event.now (λ damaged. c.in_default.not-Damaged (c.in-Ok.ensures.did ∙ damaged)))
+      c.note.new.self c.in-Ok.happened c.in-Ok.ensures.did (ap (λ t. t.nodes) c.note.ensures.table) c.note.ensures.lacking c.note.ensures.tallies (c.if-is_complete.ensures.0 refl))));
 }
 
 pub returns-else-is_complete : goal.returns-else-is_complete
 returns-else-is_complete g c = record {
   world = rw (← c.self.view_is) c.step.ensures.world;
-  ok = rw (← c.self.view_is) c.in_default.ensures.ok;
+  ok = rw (← c.self.view_is) c.in-Ok.ensures.ok;
   err = tt;
   judging = rw (← c.self.view_is) (λ start es seen.
-      other-step c.below.ensures start es c.args.event.now (world_of c.self.inside.world) (world_of c.step.new.self) c.self.inside.stretch c.clear_looked.new.self
-      c.self.inside.sweeps c.self.inside.refused c.step.ensures.world c.clear_looked.ensures seen c.in_default.ensures.ok
-      (no-damage (world_of c.self.inside.world) c.args.event.now c.in_default-event.not-Damage) c.note.new.self c.waiting-waiting.result c.is_full-is_full.result
-      c.waiting-waiting.ensures c.is_full-is_full.ensures c.note.ensures.nodes c.note.ensures.lacking c.note.ensures.tallies
+      other-step c.below.ensures start es c.args.event.now (world_of c.self.inside.configuration) (world_of c.step.new.self) c.self.inside.stretch c.clear_looked.new.self
+      c.self.inside.sweeps c.self.inside.refused c.step.ensures.world c.clear_looked.ensures seen c.in-Ok.ensures.ok
+      (no-damage (world_of c.self.inside.configuration) c.args.event.now (λ damaged. c.in_default.not-Damaged (c.in-Ok.ensures.did ∙ damaged)))
+      c.note.new.self c.in-Ok.happened c.in-Ok.ensures.did (ap (λ t. t.nodes) c.note.ensures.table) c.note.ensures.lacking c.note.ensures.tallies
       (λ complete. let wrong = c.if-is_complete.ensures.1 complete in absurd cc));
   looked = inl (few-looks c.self.inside.stretch c.clear_looked.new.self c.note.new.self c.clear_looked.ensures c.note.ensures.looked);
 }
 
 pub invariant_of-self-else-is_complete : goal.invariant_of-self-else-is_complete
 invariant_of-self-else-is_complete g c =
-    let now = world_of c.self.inside.world in
-    let same : now.net ≡ c.step.new.self.links.net = sym (ap (λ w. w.net) c.step.ensures.world ∙ c.below.ensures.network now (c.args.event.now ∷ [])) in
+    let now = world_of c.self.inside.configuration in
+    let same : now.net ≡ c.step.new.self.links.net = sym (ap (λ w. w.net) c.step.ensures.world ∙ c.below.ensures.network now (c.args.event.now ∷ [])
+    (undamaged-one now c.args.event.now (no-damage now c.args.event.now (λ damaged. c.in_default.not-Damaged (c.in-Ok.ensures.did ∙ damaged))))) in
     let room = room-cleared now.net c.self.inside.stretch c.clear_looked.new.self c.clear_looked.ensures c.self.invariant in
     subst (λ net. IsRoomFor net c.note.new.self) same
-    (room-noted now.net c.args.event.now c.waiting-waiting.result c.clear_looked.new.self c.note.new.self room c.note.ensures.nodes c.note.ensures.tallies)
+    (room-noted now.net c.in-Ok.happened c.clear_looked.new.self c.note.new.self room c.note.ensures.table c.note.ensures.tallies)
+
+pub begin-requires-then-is_complete : goal.begin-requires-then-is_complete
+begin-requires-then-is_complete g c =
+    let now = world_of c.self.inside.configuration in
+    let same : now.net ≡ c.step.new.self.links.net = sym (ap (λ w. w.net) c.step.ensures.world ∙ c.below.ensures.network now (c.args.event.now ∷ [])
+    (undamaged-one now c.args.event.now (no-damage now c.args.event.now (λ damaged. c.in_default.not-Damaged (c.in-Ok.ensures.did ∙ damaged))))) in
+    let room = room-cleared now.net c.self.inside.stretch c.clear_looked.new.self c.clear_looked.ensures c.self.invariant in
+    subst (λ net. IsRoomFor net c.note.new.self) same
+    (room-noted now.net c.in-Ok.happened c.clear_looked.new.self c.note.new.self room c.note.ensures.table c.note.ensures.tallies)

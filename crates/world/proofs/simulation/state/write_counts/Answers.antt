@@ -1,12 +1,12 @@
 use Rattle.std.proofs.Common.{◌≡◌, ◌∙◌, ap, ◌++◌, codes, decimal}
-use Rattle.run_model.specs.Legitimate.{privileged_count, lending_count}
+use Rattle.run_model.specs.NodeCounts.{privileged_count, lending_count}
 use Rattle.world.specs.StateText.{counts_line}
-use Rattle.configuration.specs.WorldView.{world_of}
+use Rattle.configuration.specs.ConfigurationView.{world_of}
 use Rattle.world.proofs.simulation.state.write_counts.Goals as goal
 
 pub returns : goal.returns
 returns g c =
-    let w = world_of c.args.world.now in
+    let w = world_of c.args.configuration.now in
     let first : c.push_number.new.line.bytes ≡ codes "privileged " ++ decimal (privileged_count w) =
     c.push_number.ensures.bytes ∙ ap (λ n. c.new-line.result.bytes ++ codes "privileged " ++ decimal n) c.privileged.ensures ∙ ap (λ bytes. bytes ++ codes "privileged " ++ decimal (privileged_count w)) c.new-line.ensures in
     let second : c.push_number-2.new.line.bytes ≡ codes "privileged " ++ decimal (privileged_count w) ++ codes " lending " ++ decimal (lending_count w) =

@@ -4,13 +4,13 @@ use Rattle.std.proofs.lemmas.Grind.{common_steps}
 use Rattle.std.proofs.lemmas.List.FromFn.{length-range_with_len}
 use Rattle.world.specs.StateText.{links_from}
 use Rattle.byte_streams.specs.Streams.{Takes, TakesABeginning}
-use Rattle.configuration.specs.WorldView.{world_of}
-use Rattle.byte_streams.proofs.Writing.{fails_within, texts_fail, texts_go_on, number_at, all_numbers}
+use Rattle.configuration.specs.ConfigurationView.{world_of}
+use Rattle.world.proofs.Writing.{fails_within, texts_fail, texts_go_on, number_at, all_numbers}
 use Rattle.world.proofs.simulation.state.write_links.Goals as goal
 
 pub returns-in_err-write_links_from : goal.returns-in_err-write_links_from
 returns-in_err-write_links_from g c =
-    let w = world_of c.args.world.now in
+    let w = world_of c.args.configuration.now in
     let nodes = range_with_len 0 w.net.nodes in
     let below : c.loop-from.from < w.net.nodes = grind (arith, common_steps) in
     let there : c.loop-from.from < length nodes = rw (length-range_with_len 0 w.net.nodes) below in
@@ -22,7 +22,7 @@ returns-in_err-write_links_from g c =
 
 pub loop-from-preserved : goal.loop-from-preserved
 loop-from-preserved g c =
-    let w = world_of c.args.world.now in
+    let w = world_of c.args.configuration.now in
     let nodes = range_with_len 0 w.net.nodes in
     let below : c.loop-from.from < w.net.nodes = grind (arith, common_steps) in
     let there : c.loop-from.from < length nodes = rw (length-range_with_len 0 w.net.nodes) below in
@@ -33,7 +33,7 @@ loop-from-preserved g c =
 
 pub returns : goal.returns
 returns g c =
-    let w = world_of c.args.world.now in
+    let w = world_of c.args.configuration.now in
     let all : take c.loop-from.from (range_with_len 0 w.net.nodes) ≡ range_with_len 0 w.net.nodes =
     all_numbers w.net.nodes c.loop-from.from (grind (arith, common_steps)) in
     (rw all at c.loop-from.invariant.0, c.loop-from.invariant.1)

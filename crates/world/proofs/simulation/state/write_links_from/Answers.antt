@@ -5,23 +5,23 @@ use Rattle.std.proofs.lemmas.List.Elements.{Contains-get_or}
 use Rattle.topology.specs.Network.{neighbours_of}
 use Rattle.world.specs.StateText.{link_line}
 use Rattle.byte_streams.specs.Streams.{Takes, TakesABeginning}
-use Rattle.configuration.specs.WorldView.{world_of}
-use Rattle.byte_streams.proofs.Writing.{fails_within, texts_fail, texts_go_on}
+use Rattle.configuration.specs.ConfigurationView.{world_of}
+use Rattle.world.proofs.Writing.{fails_within, texts_fail, texts_go_on}
 use Rattle.world.proofs.simulation.state.write_links_from.Goals as goal
 
 pub write_link-requires-clause-to_in : goal.write_link-requires-clause-to_in
 write_link-requires-clause-to_in g c =
-    let same : c.neighbours-to-items.result.now ≡ neighbours_of c.args.world.now.links.net c.args.from =
+    let same : c.neighbours-to-items.result.now ≡ neighbours_of c.args.configuration.now.links.net c.args.from =
     c.neighbours-to-items.ensures ∙ ap (λ n. neighbours_of n c.args.from) c.net.ensures in
-    let near = neighbours_of c.args.world.now.links.net c.args.from in
+    let near = neighbours_of c.args.configuration.now.links.net c.args.from in
     let there : c.loop-to.to-index < length near = rw same at c.loop-to-test.true in
     let holds : Contains near (get_or c.neighbours-to-items.result.now c.loop-to.to-index 0) =
     rw same (Contains-get_or near c.loop-to.to-index 0 there) in
-    ((c.neighbours.ensures.joined c.args.world.now.links.net c.args.from (get_or c.neighbours-to-items.result.now c.loop-to.to-index 0)).0 holds).0
+    ((c.neighbours.ensures.joined c.args.configuration.now.links.net c.args.from (get_or c.neighbours-to-items.result.now c.loop-to.to-index 0)).0 holds).0
 
 pub returns-in_err-write_link : goal.returns-in_err-write_link
 returns-in_err-write_link g c =
-    let w = world_of c.args.world.now in
+    let w = world_of c.args.configuration.now in
     let near = neighbours_of w.net c.args.from in
     let same : c.neighbours-to-items.result.now ≡ near = c.neighbours-to-items.ensures ∙ ap (λ n. neighbours_of n c.args.from) c.net.ensures in
     let there : c.loop-to.to-index < length near = rw same at c.loop-to-test.true in
@@ -33,7 +33,7 @@ returns-in_err-write_link g c =
 
 pub loop-to-preserved : goal.loop-to-preserved
 loop-to-preserved g c =
-    let w = world_of c.args.world.now in
+    let w = world_of c.args.configuration.now in
     let near = neighbours_of w.net c.args.from in
     let same : c.neighbours-to-items.result.now ≡ near = c.neighbours-to-items.ensures ∙ ap (λ n. neighbours_of n c.args.from) c.net.ensures in
     let there : c.loop-to.to-index < length near = rw same at c.loop-to-test.true in

@@ -7,13 +7,13 @@ use Rattle.node_core.specs.View.{state_of}
 use Rattle.run_model.specs.World.{site}
 use Rattle.world.specs.StateText.{node_line}
 use Rattle.byte_streams.specs.Streams.{Takes, TakesABeginning}
-use Rattle.configuration.specs.WorldView.{world_of}
-use Rattle.byte_streams.proofs.Writing.{fails_within, texts_fail, texts_go_on, number_at, all_numbers}
+use Rattle.configuration.specs.ConfigurationView.{world_of}
+use Rattle.world.proofs.Writing.{fails_within, texts_fail, texts_go_on, number_at, all_numbers}
 use Rattle.world.proofs.simulation.state.write_nodes.Goals as goal
 
 pub returns-in_err-write_all : goal.returns-in_err-write_all
 returns-in_err-write_all g c =
-    let w = world_of c.args.world.now in
+    let w = world_of c.args.configuration.now in
     let nodes = range_with_len 0 w.net.nodes in
     let below : c.loop-v.v < w.net.nodes = grind (arith, common_steps) in
     let there : c.loop-v.v < length nodes = rw (length-range_with_len 0 w.net.nodes) below in
@@ -29,7 +29,7 @@ returns-in_err-write_all g c =
 
 pub loop-v-preserved : goal.loop-v-preserved
 loop-v-preserved g c =
-    let w = world_of c.args.world.now in
+    let w = world_of c.args.configuration.now in
     let nodes = range_with_len 0 w.net.nodes in
     let below : c.loop-v.v < w.net.nodes = grind (arith, common_steps) in
     let there : c.loop-v.v < length nodes = rw (length-range_with_len 0 w.net.nodes) below in
@@ -44,7 +44,7 @@ loop-v-preserved g c =
 
 pub returns : goal.returns
 returns g c =
-    let w = world_of c.args.world.now in
+    let w = world_of c.args.configuration.now in
     let all : take c.loop-v.v (range_with_len 0 w.net.nodes) ≡ range_with_len 0 w.net.nodes =
     all_numbers w.net.nodes c.loop-v.v (grind (arith, common_steps)) in
     (rw all at c.loop-v.invariant.0, c.loop-v.invariant.1)

@@ -1,13 +1,13 @@
 use Rattle.std.proofs.Common.{◌++◌, arith}
 use Rattle.std.proofs.lemmas.Grind.{common_steps}
 use Rattle.world.specs.StateText.{node_lines, link_lines, counts_line, sweeps_line}
-use Rattle.configuration.specs.WorldView.{world_of}
-use Rattle.byte_streams.proofs.Writing.{then_beginning, beginning_of_more, fails_within, writes_then}
+use Rattle.configuration.specs.ConfigurationView.{world_of}
+use Rattle.world.proofs.Writing.{then_beginning, beginning_of_more, fails_within, writes_then}
 use Rattle.world.proofs.simulation.state.write_state.Goals as goal
 
 pub returns-in_err-write_links : goal.returns-in_err-write_links
 returns-in_err-write_links g c =
-    let w = world_of c.args.world.now in
+    let w = world_of c.args.configuration.now in
     let behind = counts_line w ++ sweeps_line w c.args.sweeps in
     let nodes = c.in_ok-write_nodes.ensures in
     let failed = c.in_err-write_links.ensures in
@@ -17,7 +17,7 @@ returns-in_err-write_links g c =
 
 pub returns-in_err-write_counts : goal.returns-in_err-write_counts
 returns-in_err-write_counts g c =
-    let w = world_of c.args.world.now in
+    let w = world_of c.args.configuration.now in
     let behind = sweeps_line w c.args.sweeps in
     let nodes = c.in_ok-write_nodes.ensures in
     let links = c.in_ok-write_links.ensures in
@@ -30,7 +30,7 @@ returns-in_err-write_counts g c =
 
 pub returns : goal.returns
 returns g c =
-    let w = world_of c.args.world.now in
+    let w = world_of c.args.configuration.now in
     let nodes = c.in_ok-write_nodes.ensures in
     let links = c.in_ok-write_links.ensures in
     let counts = c.in_ok-write_counts.ensures in

@@ -1,6 +1,6 @@
 use Rattle.std.proofs.Common.{arith, refl}
 use Rattle.std.proofs.lemmas.Grind.{common_steps}
-use Rattle.byte_streams.proofs.Writing.{takes_nothing}
+use Rattle.world.proofs.Writing.{takes_nothing}
 use Rattle.world.proofs.simulation.under_way.Simulation.new.Goals as goal
 
 pub returns-clause-under_way : goal.returns-clause-under_way

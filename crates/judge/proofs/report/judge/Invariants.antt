@@ -1,7 +1,0 @@
-use Rattle.std.proofs.Common.{take}
-use Rattle.configuration.specs.WorldView.{world_of}
-use Rattle.judge.specs.JudgeView.{HasSeen}
-use Rattle.judge.proofs.report.judge.Given as goal
-
-abbrev pub invariant-loop-event : goal.invariant-loop-event
-invariant-loop-event g l = HasSeen l.judge (world_of l.fn.start) (take l.event-index l.events)

@@ -1,0 +1,7 @@
+use Rattle.std.proofs.Common.{take}
+use Rattle.configuration.specs.ConfigurationView.{world_of}
+use Rattle.judge.specs.JudgeView.{HasSeen}
+use Rattle.world.proofs.report.judge.Given as goal
+
+abbrev pub invariant-loop-event : goal.invariant-loop-event
+invariant-loop-event g l = HasSeen l.judge (world_of l.fn.start) (take l.event-index l.events)

@@ -1,0 +1,16 @@
+-- What a run says of the numbers of its senders.
+use Rattle.std.specs.Prelude.{◌≡◌, ℕ, ◌<◌, IsTrue, List, ◌++◌}
+use Rattle.topology.specs.Network.{are_joined}
+use Rattle.run_model.specs.World.{World}
+use Rattle.run_model.specs.Run.{run}
+use Rattle.run_model.specs.Sweep.{Sweeps}
+use Rattle.run_model.specs.Count.{after_damage}
+use Rattle.run_model.specs.declared.event.Event.{Event}
+use Rattle.tree_convergence.specs.Present.{number_moves}
+
+-- wherever the events since the last damage hold two sweeps behind some first ones, the number that
+-- u sends to v moves in them
+abbrev pub DoNumbersMove : World → List Event → World → Type 0
+DoNumbersMove start es now =
+    (first last : List Event) (u v : ℕ) → (after_damage start es).rest ≡ first ++ last → IsTrue (are_joined now.net.edges u v)
+    → Sweeps (run (after_damage start es).world first) 2 last → 0 < number_moves (run (after_damage start es).world first) last u v
