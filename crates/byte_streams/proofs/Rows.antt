@@ -1,7 +1,7 @@
 -- Small examples of what sources give and sinks take, and some that look like them and are none.
 use Rattle.std.proofs.Common.{◌≡◌, [], ◌∷◌, None, Some, refl, arith, inr}
 use Rattle.byte_streams.specs.Streams.{Gives, Takes, Rose}
-use Rattle.byte_streams.specs.Fuse.{left_after}
+use Rattle.byte_streams.specs.Fuse.{left_after, failures_of}
 
 -- a source gives its next bytes; it does not give others, and nothing only at its end or where there is no room
 gives-two : Gives 2 (Some (1 ∷ 2 ∷ 3 ∷ [])) (Some (3 ∷ [])) (1 ∷ 2 ∷ 0 ∷ 0 ∷ [])
@@ -42,3 +42,16 @@ left_after-last = refl
 
 left_after_not-again : ¬ (left_after None ≡ Some 0)
 left_after_not-again = λ e. grind arith
+
+-- a fuse that lets two calls pass fails the third, and has failed once from then on
+failures_of-passes : failures_of (left_after (left_after (Some 2))) ≡ 0
+failures_of-passes = refl
+
+failures_of-fails : failures_of (left_after (left_after (left_after (Some 2)))) ≡ 1
+failures_of-fails = refl
+
+failures_of-once : failures_of (left_after (left_after (Some 0))) ≡ 1
+failures_of-once = refl
+
+failures_of-not_before : ¬ (failures_of (Some 0) ≡ 1)
+failures_of-not_before = λ e. grind arith

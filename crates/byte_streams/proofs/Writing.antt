@@ -33,70 +33,8 @@ takes_more bytes n count before between after within first second =
 pub first_taken : (bytes : List ℕ) (n : ℕ) (before after : Option (List ℕ)) → Takes (take n bytes) before after → TakesABeginning bytes before after
 first_taken bytes n before after taken = record { front = take n bytes; back = drop n bytes; parts = sym (take-append-drop n bytes); taken = taken }
 
--- all were taken, and there are more
-pub all_of_more : (xs ys : List ℕ) (before after : Option (List ℕ)) → Takes xs before after → TakesABeginning (xs ++ ys) before after
-all_of_more xs ys before after taken = record { front = xs; back = ys; parts = refl; taken = taken }
-
--- a beginning of the bytes is one of more bytes
-pub beginning_of_more : (xs ys : List ℕ) (before after : Option (List ℕ)) → TakesABeginning xs before after → TakesABeginning (xs ++ ys) before after
-beginning_of_more xs ys before after b =
-    record { front = b.front; back = b.back ++ ys; parts = ap (λ zs. zs ++ ys) b.parts ∙ append_assoc b.front b.back ys; taken = b.taken }
-
--- all of these were taken, and then a beginning of those
-pub then_beginning : (xs ys : List ℕ) (before between after : Option (List ℕ))
-    → Takes xs before between → TakesABeginning ys between after → TakesABeginning (xs ++ ys) before after
-then_beginning xs ys before between after first b =
-    record {
-      front = xs ++ b.front;
-      back = b.back;
-      parts = ap (λ zs. xs ++ zs) b.parts ∙ sym (append_assoc xs b.front b.back);
-      taken = takes_both xs b.front before between after first b.taken;
-    }
-
 -- the sink failed after a beginning
 pub fails_within : {E : Type 0} (result : Result (Unit {0}) E) (bytes : List ℕ) (before after : Option (List ℕ)) (failures more : ℕ)
     → IsErr result → TakesABeginning bytes before after → failures ≤ more → Rose failures more → WritesAll result bytes before after failures more
 fails_within (Ok value) bytes before after failures more failed b higher rose = grind (arith, common_steps)
 fails_within (Err e) bytes before after failures more failed b higher rose = (b, higher, rose)
-
--- all of these were written, and then those were, or the sink failed
-pub writes_then : {E : Type 0} (result : Result (Unit {0}) E) (xs ys : List ℕ) (before between after : Option (List ℕ)) (failures more most : ℕ)
-    → Takes xs before between → failures ≤ more → WritesAll result ys between after more most → WritesAll result (xs ++ ys) before after failures most
-writes_then (Ok value) xs ys before between after failures more most first higher second =
-    (takes_both xs ys before between after first second.0, grind (arith, common_steps))
-writes_then (Err e) xs ys before between after failures more most first higher second =
-    (then_beginning xs ys before between after first second.0, grind (arith, common_steps), grind (arith, common_steps))
-
--- a list is what stands in front of an item, the item, and what stands behind it
-pub item_parts : (xs : List ℕ) (i : ℕ) → i < length xs → xs ≡ take i xs ++ (get_or xs i 0 ∷ drop (i + 1) xs)
-item_parts xs i there = grind (arith, common_steps)
-
--- the texts of the items up to one were taken, and then a beginning of its text
-pub texts_fail : (f : ℕ → List ℕ) (xs : List ℕ) (i : ℕ) (before between after : Option (List ℕ)) → i < length xs
-    → Takes (flat_map f (take i xs)) before between → TakesABeginning (f (get_or xs i 0)) between after → TakesABeginning (flat_map f xs) before after
-texts_fail f xs i before between after there first b =
-    let behind = flat_map f (drop (i + 1) xs) in
-    let parts : flat_map f xs ≡ flat_map f (take i xs) ++ (f (get_or xs i 0) ++ behind) =
-    ap (flat_map f) (item_parts xs i there) ∙ flat_map-append f (take i xs) (get_or xs i 0 ∷ drop (i + 1) xs) in
-    rw parts (then_beginning (flat_map f (take i xs)) (f (get_or xs i 0) ++ behind) before between after first
-    (beginning_of_more (f (get_or xs i 0)) behind between after b))
-
--- the texts of the items up to one were taken, and then its text
-pub texts_go_on : (f : ℕ → List ℕ) (xs : List ℕ) (i : ℕ) (before between after : Option (List ℕ)) → i < length xs
-    → Takes (flat_map f (take i xs)) before between → Takes (f (get_or xs i 0)) between after → Takes (flat_map f (take (i + 1) xs)) before after
-texts_go_on f xs i before between after there first more =
-    let one : take (i + 1) xs ≡ take i xs ++ get_or xs i 0 ∷ [] = grind (arith, common_steps) in
-    let parts : flat_map f (take (i + 1) xs) ≡ flat_map f (take i xs) ++ f (get_or xs i 0) =
-    ap (flat_map f) one ∙ flat_map-append f (take i xs) (get_or xs i 0 ∷ []) ∙ ap (λ ys. flat_map f (take i xs) ++ ys) (append-nil (f (get_or xs i 0))) in
-    rw parts (takes_both (flat_map f (take i xs)) (f (get_or xs i 0)) before between after first more)
-
--- the number at a place of the numbers below n
-pub number_at : (n v : ℕ) → v < n → get_or (range_with_len 0 n) v 0 ≡ v
-number_at n v below =
-    let from_v : 0 + v ≡ v = omega arith in
-    get_or-range_with_len 0 n v 0 below ∙ from_v
-
--- all numbers below n
-pub all_numbers : (n v : ℕ) → v ≡ n → take v (range_with_len 0 n) ≡ range_with_len 0 n
-all_numbers n v all =
-    ap (λ k. take k (range_with_len 0 n)) (all ∙ sym (length-range_with_len 0 n)) ∙ take-length (range_with_len 0 n)

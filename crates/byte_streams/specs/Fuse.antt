@@ -1,4 +1,4 @@
--- What a fuse does: it fails the call after so many others, and that one alone.
+-- What a fuse does: it fails the call after a chosen number of others, and that one alone.
 use Rattle.std.specs.Prelude.{ℕ, zero, suc, Option, None, Some}
 
 -- the calls that pass before the one that fails, after one more call; none once it has failed
@@ -6,3 +6,8 @@ abbrev pub left_after : Option ℕ → Option ℕ
 left_after None = None
 left_after (Some zero) = None
 left_after (Some (suc calls)) = Some calls
+
+-- how often a fuse has failed: once, where no call is left before the one that fails
+abbrev pub failures_of : Option ℕ → ℕ
+failures_of None = 1
+failures_of (Some calls) = 0

@@ -6,17 +6,20 @@ use Rattle.byte_streams.specs.declared.streams.Failed.{Failed}
 abbrev pub Rose : ℕ → ℕ → Type 0
 Rose before after = (before < after) ⊎ (2 ^ 64 - 1 ≤ after)
 
--- The source gave its next bytes into the front of the buffer, as many as it says; none only where it has no more, or where there is no room for any.
+-- The source gave its next bytes into the front of the buffer, as many as it says; none only where
+-- it has no more, or where there is no room for any.
 abbrev pub GivesNext : ℕ → List ℕ → Option (List ℕ) → List ℕ → Type 0
 GivesNext count rest after buffer =
     (count ≤ length rest) × (take count buffer ≡ take count rest) × (after ≡ Some (drop count rest)) × (count ≡ 0 → 0 < length buffer → rest ≡ [])
 
--- what a read says of the bytes that the source has still to give, before it and after it; nothing of one that does not tell
+-- what a read says of the bytes that the source has still to give, before it and after it; nothing
+-- of one that does not tell
 abbrev pub Gives : ℕ → Option (List ℕ) → Option (List ℕ) → List ℕ → Type 0
 Gives count None after buffer = after ≡ None
 Gives count (Some rest) after buffer = GivesNext count rest after buffer
 
--- a read gives at most as many bytes as there is room for, or fails; a failed one gives none, and is counted
+-- a read gives at most as many bytes as there is room for, or fails; a failed one gives none, and
+-- is counted
 abbrev pub Reads : Result ℕ Failed → Option (List ℕ) → Option (List ℕ) → List ℕ → ℕ → ℕ → Type 0
 Reads (Ok count) before after buffer failures more = (count ≤ length buffer) × Gives count before after buffer × (failures ≤ more)
 Reads (Err _) before after buffer failures more = (after ≡ before) × (failures ≤ more) × Rose failures more
@@ -25,7 +28,8 @@ Reads (Err _) before after buffer failures more = (after ≡ before) × (failure
 abbrev pub Takes : List ℕ → Option (List ℕ) → Option (List ℕ) → Type 0
 Takes bytes before after = after ≡ option_map (λ taken. taken ++ bytes) before
 
--- a write takes the first bytes, at least one where there is any, or fails; a failed one takes none, and is counted
+-- a write takes the first bytes, at least one where there is any, or fails; a failed one takes
+-- none, and is counted
 abbrev pub Writes : Result ℕ Failed → List ℕ → Option (List ℕ) → Option (List ℕ) → ℕ → ℕ → Type 0
 Writes (Ok count) bytes before after failures more =
     (count ≤ length bytes) × (0 < length bytes → 0 < count) × Takes (take count bytes) before after × (failures ≤ more)

@@ -1,22 +1,28 @@
 //! Where bytes are read from, and where they are written to.
 //!
-//! [`Source`] and [`Sink`] are the two ends, as traits: a program puts files behind them, a test the forms over memory. Each counts its failures, and may tell
-//! its bytes to contracts; one that does not tell them, as a file, says nothing of them.
+//! [`Source`] and [`Sink`] are the two ends, as traits: a program puts files behind them, a test
+//! the forms over memory. Each counts its failures, and may tell its bytes to contracts; one that
+//! does not tell them, as a file, says nothing of them.
 //!
 //! ```
 //! let mut sink = MemorySink::new(alloc, 4096)?;
 //! write_all(&mut sink, b"tick 0\n")?;      // in as many writes as that takes
 //! ```
 //!
-//! [`Fused`] fails once, after a number of calls that is chosen: it tests what becomes of a call whose source or sink fails.
+//! [`Fused`] is a source or a sink that fails once, after a chosen number of calls: it tests what
+//! becomes of a call that fails. The [`Fuse`] in it counts the calls, and other traits can be fused
+//! with it too.
 //!
-//! The trap: a failed [`write_all`] has written a beginning of its bytes, and does not say how long a one.
+//! The trap: a failed [`write_all`] has written a beginning of its bytes, and does not say how long
+//! a one.
 #![tactic(auto)]
 
+mod fuse;
 mod fused;
 mod memory;
 mod streams;
 
+pub use fuse::Fuse;
 pub use fused::Fused;
 pub use memory::{MemorySink, MemorySource};
 pub use streams::{Failed, Sink, Source, write_all};

@@ -26,7 +26,7 @@ impl<'a> Model for MemorySource<'a> {
 }
 
 impl<'a> MemorySource<'a> {
-    /// A source of these bytes, which gives at most so many in one read, and at least one.
+    /// A source of these bytes, which gives at most `piece` in one read, and at least one.
     pub fn new(bytes: &'a [u8], piece: usize) -> MemorySource<'a>
         ensures { result ≡ record { rest = bytes.now; piece = max piece 1 } }
     {
@@ -46,7 +46,8 @@ impl<'a> Source for MemorySource<'a> {
     fn read(&mut self, buffer: &mut [u8]) -> Result<usize, Failed>
         ensures len { length buffer.new ≡ length buffer.old }
         ensures reads { Reads result (Some self.old.rest) (Some self.new.rest) buffer.new 0 0 }
-        ensures count { result ≡ Ok (min (min (length buffer.old) self.old.piece) (length self.old.rest)) }
+        ensures count { result
+            ≡ Ok (min (min (length buffer.old) self.old.piece) (length self.old.rest)) }
         ensures piece { self.new.piece ≡ self.old.piece }
     {
         let count = buffer.len().min(self.piece).min(self.rest.len());
@@ -77,7 +78,8 @@ impl<A: Allocator + Copy> Model for MemorySink<A> {
 }
 
 impl<A: Allocator + Copy> MemorySink<A> {
-    /// A sink with room for so many bytes. All memory is reserved here; `AllocError` comes only where that is refused.
+    /// A sink with room for `room` bytes. All memory is reserved here; `AllocError` comes only
+    /// where that is refused.
     pub fn new(alloc: A, room: usize) -> Result<MemorySink<A>, AllocError>
         ensures { IfOk result (λ sink. sink ≡ record { taken = []; room = room; failures = 0 }) }
     {
@@ -104,7 +106,8 @@ impl<A: Allocator + Copy> Sink for MemorySink<A> {
     /// As many bytes as there is room for; it fails where there is none.
     fn write(&mut self, bytes: &[u8]) -> Result<usize, Failed>
         ensures writes { Writes result bytes.now (Some self.old.taken) (Some self.new.taken) self.old.failures self.new.failures }
-        ensures fits { (0 < self.old.room) ⊎ (bytes.now ≡ []) → result ≡ Ok (min (length bytes.now) self.old.room) }
+        ensures fits { (0 < self.old.room) ⊎ (bytes.now ≡ [])
+            → result ≡ Ok (min (length bytes.now) self.old.room) }
         ensures full { self.old.room ≡ 0 → bytes.now ≢ [] → IsErr result }
         ensures room { self.new.room ≡ self.old.room - length bytes.now }
     {

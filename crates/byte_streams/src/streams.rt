@@ -14,7 +14,8 @@ pub trait Source {
     /// How often it has failed; the count may stay at 2^64 - 1.
     ghost failures: { Self → ℕ };
 
-    /// Puts its next bytes at the front of the buffer, and says how many: 0 only at its end, or where the buffer is empty.
+    /// Puts its next bytes at the front of the buffer, and says how many: 0 only at its end, or
+    /// where the buffer is empty.
     ///
     /// # Errors
     /// [`Failed`] where it failed in this call; then it gave nothing, and may be read again.

@@ -1,0 +1,2 @@
+pub mod JunkBytes
+pub mod Ports

@@ -1,0 +1,39 @@
+-- The parts of a port are written one after the other.
+use Rattle.std.proofs.Common.{◌≡◌, ◌∙◌, ap, Result, Ok, Err, IsOk, OnOk, ℕ, arith}
+use Rattle.std.proofs.Math.Path.{fun_ext}
+use Rattle.std.proofs.lemmas.Grind.{common_steps}
+use Rattle.topology.specs.At.{at}
+use Rattle.data_link.specs.Port.{PortState}
+use Rattle.node_core.specs.State.{LocalState}
+use Rattle.node_core.specs.Writes.{with_port}
+use Rattle.damage_tool.specs.declared.draws.PortDraw.{PortDraw}
+use Rattle.damage_tool.specs.Scrambled.{port_written}
+
+-- where a call that answers Ok does something, it is done
+pub on-ok : {T E P : Type 0} (r : Result T E) → IsOk r → OnOk r P → P
+on-ok (Ok x) ok done = done
+on-ok (Err e) ok done = absurd (grind arith)
+
+abbrev pub numbered : ℕ → PortDraw → LocalState → LocalState
+numbered w d s = with_port s w (record (s.port w) { seq = d.seq; last = d.last })
+
+abbrev pub staged : ℕ → PortDraw → LocalState → LocalState
+staged w d s = with_port s w (record (s.port w) { staged = d.staged })
+
+abbrev pub copied : ℕ → PortDraw → LocalState → LocalState
+copied w d s = with_port s w (record (s.port w) { copy = d.copy })
+
+abbrev pub valued : ℕ → PortDraw → LocalState → LocalState
+valued w d s = record s { value = at s.value w d.value }
+
+port-at : (w : ℕ) (d : PortDraw) (s : LocalState) (i : ℕ)
+    → (copied w d (staged w d (numbered w d s))).port i ≡ at s.port w (record { seq = d.seq; last = d.last; staged = d.staged; copy = d.copy }) i
+port-at w d s i = grind (arith, common_steps)
+
+whole : (w : ℕ) (d : PortDraw) (s : LocalState) → valued w d (copied w d (staged w d (numbered w d s))) ≡ port_written w d s
+whole w d s = ap (λ (p : ℕ → PortState). record s { port = p; value = at s.value w d.value }) (fun_ext (port-at w d s))
+
+pub written : (w : ℕ) (d : PortDraw) (s0 s1 s2 s3 s4 : LocalState) → s1 ≡ numbered w d s0 → s2 ≡ staged w d s1 → s3 ≡ copied w d s2 → s4 ≡ valued w d s3
+    → s4 ≡ port_written w d s0
+written w d s0 s1 s2 s3 s4 a b c e =
+    e ∙ ap (valued w d) (c ∙ ap (copied w d) (b ∙ ap (staged w d) a)) ∙ whole w d s0

@@ -1,0 +1,2 @@
+pub mod Flowing
+mod Rows

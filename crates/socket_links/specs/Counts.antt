@@ -1,0 +1,12 @@
+-- How often a pipe said what it has to say.
+use Rattle.std.specs.Prelude.{ℕ, ◌≤◌}
+
+-- how often a pipe answered Later, Closed and Failed; a count may stay at 2^64 - 1
+pub record Counts : Type 0 where
+  pub later : ℕ
+  pub closed : ℕ
+  pub failed : ℕ
+
+-- no count fell
+abbrev pub NoneFell : Counts → Counts → Type 0
+NoneFell before after = (before.later ≤ after.later) × (before.closed ≤ after.closed) × (before.failed ≤ after.failed)

@@ -1,0 +1,4 @@
+pub mod Counts
+pub mod Pipes
+pub mod Writing
+pub mod Links

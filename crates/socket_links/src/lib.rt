@@ -1,0 +1,30 @@
+//! Frames over a connection that may fail: what a node sends to one neighbour and takes from it, as
+//! lines on a pipe.
+//!
+//! A [`SocketLink`] keeps one frame that is on its way out, and what it read of the frames that
+//! come. It has a [`Pipe`] or is loose. `offer` accepts a frame, `push_out` writes it, and `pull`
+//! reads the next frame; none of them waits, and none takes memory.
+//!
+//! ```
+//! let old = link.attach(pipe);            // the pipe that stood there before, if any
+//! if link.offer(&frame) == Offer::Taken { /* sent */ }
+//! match link.push_out() { Flow::Done => {}, Flow::Later => { /* again, later */ }, Flow::Broken => { /* loose */ } }
+//! match link.pull(&net) { Pull::Frame(frame) => { /* taken */ }, Pull::Later => {}, Pull::Broken => {} }
+//! ```
+//!
+//! A pipe that closed or failed is let go, with the half lines of both sides: the next pipe's bytes
+//! are read as from the start.
+//!
+//! The trap: a frame that was accepted may be lost with its pipe. Nobody is told, so whoever needs
+//! it sends again.
+#![tactic(auto)]
+
+mod link;
+mod memory;
+mod pipe;
+mod writing;
+
+pub use link::{Offer, Pull, SocketLink};
+pub use memory::{FusedPipe, MemoryPipe};
+pub use pipe::{Pipe, ReadAnswer, WriteAnswer};
+pub use writing::Flow;

@@ -1,0 +1,150 @@
+//! Pipes over memory, and pipes that fail once.
+ghost use Rattle.std.specs.Prelude.{◌≡◌, ◌≤◌, ◌<◌, ◌+◌, [], Some, IfOk, take, max, length, vec_len, vec_capacity};
+ghost use Rattle.byte_streams.specs.Fuse.{failures_of};
+
+use crate::pipe::{Pipe, ReadAnswer, WriteAnswer};
+use byte_streams::Fuse;
+use std::alloc::{AllocError, Allocator, Global};
+
+/// A pipe over memory. It gives the bytes of a slice, a piece at a time, and then answers `Closed`
+/// or, where it stays open, `Later`; and it keeps what it takes, in room that its maker reserved,
+/// and answers `Later` where that is full.
+#[derive(Drop)]
+pub struct MemoryPipe<'a, A: Allocator + Copy = Global> {
+    input: &'a [u8],
+    given: usize,
+    /// The most bytes of one read or write, at least 1.
+    piece: usize,
+    stays_open: bool,
+    output: Vec<u8, A>,
+    later: u64,
+    closed: u64,
+    failed: u64,
+    ghost within: { (given ≤ length input.now) × (0 < piece) },
+}
+
+impl<'a, A: Allocator + Copy> MemoryPipe<'a, A> {
+    /// A pipe that gives these bytes, at most `piece` in one read and at least one, and has room
+    /// for `room` bytes. All memory is reserved here; `AllocError` comes only where that is
+    /// refused.
+    pub fn new(
+        alloc: A,
+        input: &'a [u8],
+        piece: usize,
+        stays_open: bool,
+        room: usize,
+    ) -> Result<MemoryPipe<'a, A>, AllocError>
+        ensures { IfOk result (λ pipe. (pipe.input.now ≡ input.now) × (pipe.given ≡ 0)
+            × (pipe.output.items ≡ [])) }
+    {
+        Ok(MemoryPipe {
+            input,
+            given: 0,
+            piece: piece.max(1),
+            stays_open,
+            output: Vec::with_capacity(alloc, room)?,
+            later: 0,
+            closed: 0,
+            failed: 0,
+        })
+    }
+
+    /// The bytes that it took.
+    pub fn taken(&self) -> &[u8]
+        ensures { result.now ≡ self.now.output.items }
+    {
+        self.output.as_slice()
+    }
+}
+
+impl<'a, A: Allocator + Copy> Pipe for MemoryPipe<'a, A> {
+    ghost gave = { λ p. Some (take p.given p.input.now) };
+
+    ghost took = { λ p. Some p.output.items };
+
+    ghost counts = { λ p. record { later = p.later; closed = p.closed; failed = p.failed } };
+
+    fn try_read(&mut self, buffer: &mut [u8]) -> ReadAnswer {
+        let count = buffer
+            .len()
+            .min(self.piece)
+            .min(self.input.len() - self.given);
+        if count == 0 {
+            if self.stays_open {
+                self.later = self.later.saturating_add(1);
+                return ReadAnswer::Later;
+            }
+            self.closed = self.closed.saturating_add(1);
+            return ReadAnswer::Closed;
+        }
+        buffer[..count].copy_from_slice(&self.input[self.given..self.given + count]);
+        self.given += count;
+        ReadAnswer::Got(count)
+    }
+
+    fn try_write(&mut self, bytes: &[u8]) -> WriteAnswer {
+        let room = self.output.capacity() - self.output.len();
+        let count = bytes.len().min(self.piece).min(room);
+        if count == 0 {
+            self.later = self.later.saturating_add(1);
+            return WriteAnswer::Later;
+        }
+        match self.output.extend_from_slice(&bytes[..count]) {
+            Ok(()) => WriteAnswer::Wrote(count),
+            Err(_) => {
+                self.failed = self.failed.saturating_add(1);
+                WriteAnswer::Failed
+            }
+        }
+    }
+}
+
+/// Passes some calls on to the pipe that it holds, fails one, and passes on all others. It tests
+/// what becomes of a link whose pipe fails.
+#[derive(Drop)]
+pub struct FusedPipe<P> {
+    inner: P,
+    fuse: Fuse,
+}
+
+impl<P> FusedPipe<P> {
+    /// Passes `calls` calls on and fails the next one.
+    pub fn new(inner: P, calls: u64) -> FusedPipe<P>
+        ensures inner { result.inner ≡ inner }
+        ensures fuse { result.fuse ≡ Some calls }
+    {
+        FusedPipe {
+            inner,
+            fuse: Fuse::new(calls),
+        }
+    }
+
+    /// What it holds.
+    pub fn inner(&self) -> &P
+        ensures { result.now ≡ self.now.inner }
+    {
+        &self.inner
+    }
+}
+
+impl<P: Pipe> Pipe for FusedPipe<P> {
+    ghost gave = { λ p. P.gave p.inner };
+
+    ghost took = { λ p. P.took p.inner };
+
+    ghost counts = { λ p. record (P.counts p.inner) { failed = (P.counts p.inner).failed + failures_of p.fuse } };
+
+    fn try_read(&mut self, buffer: &mut [u8]) -> ReadAnswer {
+        if self.fuse.pass().is_err() {
+            return ReadAnswer::Failed;
+        }
+        self.inner.try_read(buffer)
+    }
+
+    fn try_write(&mut self, bytes: &[u8]) -> WriteAnswer {
+        if self.fuse.pass().is_err() {
+            return WriteAnswer::Failed;
+        }
+        self.inner.try_write(bytes)
+    }
+}

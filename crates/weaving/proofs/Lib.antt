@@ -1,0 +1,11 @@
+pub mod Above
+pub mod Changed
+pub mod LinkSteps
+pub mod OneWoven
+mod Rows
+pub mod Steps
+pub mod Weaving
+pub mod FirstOf
+pub mod FirstSoFar
+pub mod Unread
+pub mod WeaveSteps

@@ -1,0 +1,44 @@
+-- Journals in a row, and what of them is not yet read.
+use Rattle.std.specs.Prelude.{◌≡◌, ◌+◌, ℕ, ◌<◌, Option, Some, None, if◌then◌else◌, nat_le}
+use Rattle.std.specs.Prelude.{List, [], ◌∷◌, map, drop, length, slice_index_or}
+use Rattle.weaving.specs.declared.journal.Entry.{Entry}
+use Rattle.weaving.specs.declared.journal.Journal.{Journal}
+use Rattle.weaving.specs.Woven.{IsNoLater}
+
+-- the entries of each journal
+abbrev pub entries_in : {A : Type 0} → List (Journal A) → List (List Entry)
+entries_in journals = map (λ j. j.entries.items) journals
+
+-- the journal of v; it is empty where v is no node
+abbrev pub journal_of : List (List Entry) → ℕ → List Entry
+journal_of journals v = slice_index_or journals v []
+
+-- how many entries there are
+abbrev pub entry_count : List (List Entry) → ℕ
+entry_count [] = 0
+entry_count (j ∷ js) = length j + entry_count js
+
+-- each journal without as many of its first entries as were read
+abbrev pub unread : List (List Entry) → List ℕ → List (List Entry)
+unread [] read = []
+unread (j ∷ js) [] = j ∷ js
+unread (j ∷ js) (k ∷ ks) = drop k j ∷ unread js ks
+
+-- the entry that comes first of two, by stamp; of two with one stamp it is the first
+abbrev pub earlier : Option (ℕ × Entry) → ℕ → Entry → Option (ℕ × Entry)
+earlier None n e = Some (n, e)
+earlier (Some first) n e = if nat_le first.1.stamp e.stamp then Some first else Some (n, e)
+
+-- the entry that comes first, where the next entry of one more node is looked at
+abbrev pub with_next : Option (ℕ × Entry) → ℕ → List Entry → Option (ℕ × Entry)
+with_next first n [] = first
+with_next first n (e ∷ es) = earlier first n e
+
+-- Of the entries of the first n journals this is the one that comes first, with its node;
+-- there is none where they are all empty.
+abbrev pub IsFirst : List (List Entry) → ℕ → Option (ℕ × Entry) → Type 0
+IsFirst journals n None = (u : ℕ) → u < n → journal_of journals u ≡ []
+IsFirst journals n (Some first) =
+    (later : List Entry) × (journal_of journals first.0 ≡ first.1 ∷ later) × (first.0 < n)
+    × ((u : ℕ) (e : Entry) (es : List Entry) → u < n → journal_of journals u ≡ e ∷ es
+    → IsNoLater (record { node = first.0; entry = first.1 }) (record { node = u; entry = e }))

@@ -1,0 +1,31 @@
+//! What a node notes of its run, and what it puts on a link.
+
+use link_model::Item;
+use run_model::Event;
+use std::alloc::{Allocator, Global};
+
+/// An event of one node, with the time of that node's clock. Of two events of which one waited for
+/// the other, that one has the greater stamp.
+#[derive(Clone, Copy, Debug, PartialEq, Eq)]
+pub struct Entry {
+    /// The clock's time.
+    pub stamp: u64,
+    /// What the node did.
+    pub event: Event,
+}
+
+/// An item of a link, with the time of its sender's clock when it was sent.
+#[derive(Clone, Copy, Debug, PartialEq, Eq)]
+pub struct Stamped {
+    /// The clock's time.
+    pub stamp: u64,
+    /// What was sent.
+    pub item: Item,
+}
+
+/// What one node did, in order.
+#[derive(Drop)]
+pub struct Journal<A: Allocator = Global> {
+    /// Its entries, with stamps that rise.
+    pub entries: Vec<Entry, A>,
+}

@@ -1,0 +1,78 @@
+//! One list of events of many journals.
+ghost use Rattle.std.specs.Prelude.{◌≡◌, ◌+◌, ◌≤◌, ℕ, [], length, map, drop, slice_index, vec_len, vec_capacity};
+ghost use Rattle.weaving.specs.Woven.{AreRising, IsWoven};
+ghost use Rattle.weaving.specs.Journals.{entries_in, journal_of, unread, entry_count, IsFirst, earlier, with_next};
+
+use crate::journal::{Entry, Journal};
+use run_model::Event;
+use std::alloc::Allocator;
+
+/// The most journals that are woven.
+const MOST: usize = 64;
+
+/// The entry that comes first of two, by stamp; of two with one stamp it is the first.
+fn earlier(first: Option<(usize, Entry)>, node: usize, entry: Entry) -> Option<(usize, Entry)>
+    ensures { result ≡ earlier first node entry }
+{
+    match first {
+        Some((_, best)) if best.stamp <= entry.stamp => first,
+        _ => Some((node, entry)),
+    }
+}
+
+/// The entry that comes first, where the next entry of one more node is looked at, if it has one.
+fn with_next<A: Allocator>(
+    first: Option<(usize, Entry)>,
+    node: usize,
+    journal: &Journal<A>,
+    read: usize,
+) -> Option<(usize, Entry)>
+    ensures { result ≡ with_next first node (drop read journal.now.entries.items) }
+{
+    match journal.entries.get(read) {
+        Some(entry) => earlier(first, node, *entry),
+        None => first,
+    }
+}
+
+/// Of the entries that are not yet read, the one that comes first, by stamp and then by node, with
+/// its node.
+fn first_unread<A: Allocator>(
+    journals: &[Journal<A>],
+    read: &[usize; MOST],
+) -> Option<(usize, Entry)>
+    requires { length journals.now ≤ 64 }
+    ensures { IsFirst (unread (entries_in journals.now) read.now) (length journals.now) result }
+{
+    let mut first = None;
+    for node in 0..journals.len() {
+        first = with_next(first, node, &journals[node], read[node]);
+    }
+    first
+}
+
+/// Nothing is read of any journal.
+fn nothing_read() -> [usize; MOST]
+    ensures len { length result ≡ 64 }
+    ensures zero { (i : ℕ) → slice_index result i ≡ 0 }
+{
+    [0; MOST]
+}
+
+/// Weaves journals, one of each node at the place of its id: all their entries, by stamp, then by
+/// node. `out` is to be empty, with room for all of them; no memory is taken.
+pub fn weave<A: Allocator, B: Allocator>(journals: &[Journal<A>], out: &mut Vec<Event, B>)
+    requires few { length journals.now ≤ 64 }
+    // A journal's own order is that of its stamps.
+    requires rising { (v : ℕ) → AreRising (journal_of (entries_in journals.now) v) }
+    requires empty { out.old.items ≡ [] }
+    requires room { entry_count (entries_in journals.now) ≤ vec_capacity out.old }
+    ensures woven { IsWoven (journal_of (entries_in journals.now)) out.new.items }
+    ensures room { vec_capacity out.new ≡ vec_capacity out.old }
+{
+    let mut read = nothing_read();
+    while let Some((node, entry)) = first_unread(journals, &read) {
+        out.push_reserved(entry.event);
+        read[node] += 1;
+    }
+}
