@@ -1,8 +1,9 @@
--- The text that `bound` prints of a network: eight lines, with one space between words.
-use Rattle.std.specs.Prelude.{ℕ, List, [], ◌∷◌, ◌++◌, length, map, Option, Some, None, codes, decimal}
+-- The text that `bound` prints of a network: eight lines, or nine, with one space between words.
+use Rattle.std.specs.Prelude.{ℕ, Bool, if◌then◌else◌, List, [], ◌∷◌, ◌++◌, length, map, Option, Some, None, codes, decimal}
 use Rattle.std.specs.List.{range_with_len}
 use Rattle.topology.specs.Network.{Network, counter_of, ring_of, bound_of}
 use Rattle.topology.specs.Tree.{distance_of, parent_of}
+use Rattle.topology.specs.Eccentricity.{sharp_of}
 
 -- a line of a word and a number
 abbrev pub number_line : List ℕ → ℕ → List ℕ
@@ -29,3 +30,7 @@ bound_text net =
     ++ (number_line (codes "counter") (counter_of net) ++ (number_line (codes "ring") (ring_of net)
     ++ (nodes_line (codes "distances") net.nodes (λ v. decimal (distance_of net v)) ++ (nodes_line (codes "parents") net.nodes (λ v. parent_word (parent_of net v))
     ++ number_line (codes "sweeps") (bound_of net)))))))
+
+-- the eight lines and, where it is asked for, the line of the sharp bound
+abbrev pub shown_text : Network → Bool → List ℕ
+shown_text net sharp = if sharp then bound_text net ++ number_line (codes "sharp") (sharp_of net) else bound_text net

@@ -1,3 +1,5 @@
 pub mod NetworkFile
 pub mod Bound
 pub mod SimulationFault
+pub mod FaultText
+pub mod Simulated

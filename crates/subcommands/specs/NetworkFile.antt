@@ -15,7 +15,8 @@ most_bytes = 1048576
 abbrev pub IsNetworkOf : List ℕ → Network → Type 0
 IsNetworkOf bytes net = (length bytes ≤ most_bytes) × IsReadFrom bytes net
 
--- the bytes are too many; or few enough and no UTF-8, so no TOML; or a text that is refused for the fault
+-- the bytes are too many; or few enough and no UTF-8, so no TOML; or a text that is refused for the
+-- fault
 abbrev pub IsRefusedFor : List ℕ → Fault → Type 0
 IsRefusedFor bytes NetworkUnreadable = most_bytes < length bytes
 IsRefusedFor bytes (Refused fault) = (length bytes ≤ most_bytes) × ((¬ IsUtf8 bytes × (fault ≡ NotToml)) ⊎ (IsUtf8 bytes × IsUnread bytes fault))

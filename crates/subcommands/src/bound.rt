@@ -1,6 +1,8 @@
-//! `bound FILE`: what the lock's guarantee costs on a network.
-ghost use Rattle.std.specs.Prelude.{◌≡◌, ℕ, ◌++◌, IfOk, OnOk, string_bytes, codes, decimal};
-ghost use Rattle.subcommands.specs.Bound.{number_line, nodes_line, parent_word, bound_text};
+//! `bound FILE`, with `--sharp` or without: what the lock's guarantee costs on a network.
+ghost use Rattle.std.specs.Prelude.{◌≡◌, ◌↔◌, ℕ, ◌++◌, IfOk, IfErr, IsOk, OnOk, string_bytes, codes, decimal};
+ghost use Rattle.std.specs.Process.{exit_status};
+ghost use Rattle.subcommands.specs.Bound.{number_line, nodes_line, parent_word, bound_text, shown_text};
+ghost use Rattle.subcommands.specs.declared.fault.Fault.TheVariants.{Output};
 ghost use Rattle.topology.specs.Tree.{distance_of, parent_of};
 
 use crate::fault::Fault;
@@ -11,15 +13,43 @@ use std::process::ExitCode;
 use std::rt::Files;
 use topology::Net;
 
-/// Prints the text of the network of a file.
+/// Prints the text of the network of a file, with the line of the sharp bound where that is asked
+/// for.
 ///
 /// # Errors
-/// Where no network is read of the file, memory runs out, or standard output does not take the text.
-pub fn run<R: Files + Print + AllocGlobal>(rt: &R, path: &str) -> Result<ExitCode, Fault> {
+/// Where no network is read of the file, memory runs out, or standard output does not take the
+/// text.
+pub fn run<R: Files + Print + AllocGlobal>(
+    rt: &R,
+    path: &str,
+    sharp: bool,
+) -> Result<ExitCode, Fault> {
     let net = read_network(rt, path)?;
-    let text = bound_text(rt.alloc(), &net).map_err(|_| Fault::Memory)?;
-    rt.print(text.as_str()).map_err(|_| Fault::Output)?;
-    Ok(ExitCode::SUCCESS)
+    let text = shown_text(rt.alloc(), &net, sharp).map_err(|_| Fault::Memory)?;
+    done(rt.print(text.as_str()))
+}
+
+/// How the command ends, by what printing its text answered.
+fn done<E: Drop>(printed: Result<(), E>) -> Result<ExitCode, Fault>
+    ensures printed { IsOk printed ↔ IsOk result }
+    ensures ok { IfOk result (λ status. exit_status status ≡ 0) }
+    ensures err { IfErr result (λ fault. fault ≡ Output) }
+{
+    match printed {
+        Ok(()) => Ok(ExitCode::SUCCESS),
+        Err(_) => Err(Fault::Output),
+    }
+}
+
+/// The eight lines of a network and, where it is asked for, the line of its sharp bound.
+pub fn shown_text(alloc: Global, net: &Net, sharp: bool) -> Result<String, AllocError>
+    ensures { IfOk result (λ text. string_bytes text ≡ shown_text net.now sharp) }
+{
+    let mut text = bound_text(alloc, net)?;
+    if sharp {
+        push_number(&mut text, "sharp", net.sharp_bound())?;
+    }
+    Ok(text)
 }
 
 /// The eight lines of a network.
@@ -40,14 +70,17 @@ pub fn bound_text(alloc: Global, net: &Net) -> Result<String, AllocError>
 
 /// Adds a line of a word and a number.
 fn push_number(text: &mut String, word: &str, number: u32) -> Result<(), AllocError>
-    ensures { OnOk result (string_bytes text.new ≡ string_bytes text.old ++ number_line word.now number) }
+    ensures { OnOk result (string_bytes text.new
+        ≡ string_bytes text.old ++ number_line word.now number) }
 {
     writeln!(text, "{word} {number}")
 }
 
 /// Adds the line of distances.
 fn push_distances(text: &mut String, net: &Net) -> Result<(), AllocError>
-    ensures { OnOk result (string_bytes text.new ≡ string_bytes text.old ++ nodes_line (codes "distances") net.now.nodes (λ v. decimal (distance_of net.now v))) }
+    ensures { OnOk result (string_bytes text.new
+        ≡ string_bytes text.old
+        ++ nodes_line (codes "distances") net.now.nodes (λ v. decimal (distance_of net.now v))) }
 {
     text.push_str("distances")?;
     for v in 0..net.nodes() {
@@ -58,7 +91,9 @@ fn push_distances(text: &mut String, net: &Net) -> Result<(), AllocError>
 
 /// Adds the line of true parents.
 fn push_parents(text: &mut String, net: &Net) -> Result<(), AllocError>
-    ensures { OnOk result (string_bytes text.new ≡ string_bytes text.old ++ nodes_line (codes "parents") net.now.nodes (λ v. parent_word (parent_of net.now v))) }
+    ensures { OnOk result (string_bytes text.new
+        ≡ string_bytes text.old
+        ++ nodes_line (codes "parents") net.now.nodes (λ v. parent_word (parent_of net.now v))) }
 {
     text.push_str("parents")?;
     for v in 0..net.nodes() {
@@ -69,7 +104,8 @@ fn push_parents(text: &mut String, net: &Net) -> Result<(), AllocError>
 
 /// Adds a space, and a parent's id or `none`.
 fn push_parent(text: &mut String, parent: Option<u16>) -> Result<(), AllocError>
-    ensures { OnOk result (string_bytes text.new ≡ string_bytes text.old ++ (codes " " ++ parent_word parent)) }
+    ensures { OnOk result (string_bytes text.new
+        ≡ string_bytes text.old ++ (codes " " ++ parent_word parent)) }
 {
     match parent {
         Some(parent) => write!(text, " {parent}"),

@@ -1,30 +1,47 @@
 //! Why a command ends without its work.
-use thiserror::Error;
+use std::fmt;
 use topology::NetFault;
 use world::simulation::SimFault;
 
 /// Why a command ends with status 1. Printed, it is what a fault line has after `tokentree: `.
-#[derive(Clone, Copy, Debug, PartialEq, Eq, Drop, Error)]
+#[derive(Clone, Copy, Debug, PartialEq, Eq, Drop)]
 pub enum Fault {
     /// The network file cannot be read, or has too many bytes.
-    #[error("network Unreadable")]
     NetworkUnreadable,
     /// The network file was read, and is refused.
-    #[error("network {0}")]
     Network(NetFault),
     /// The events file cannot be opened, or a read of the events failed.
-    #[error("events Unreadable")]
     EventsUnreadable,
     /// The events text has more bytes than it may have.
-    #[error("events Long")]
     EventsLong,
     /// Memory ran out in the command's own work.
-    #[error("memory Refused")]
     Memory,
     /// Standard output did not take the text.
-    #[error("output Refused")]
     Output,
 }
+
+impl fmt::Display for Fault {
+    ghost use Rattle.std.specs.Prelude.{Some};
+    ghost use Rattle.subcommands.specs.FaultText.{fault_text};
+
+    ghost output = { λ fault. Some (fault_text fault) };
+
+    fn fmt<W: fmt::Write>(&self, f: &mut fmt::Formatter<W>) -> fmt::Result {
+        match *self {
+            Fault::NetworkUnreadable => f.write_str("network Unreadable"),
+            Fault::Network(fault) => {
+                f.write_str("network ")?;
+                f.write_str(fault.name())
+            }
+            Fault::EventsUnreadable => f.write_str("events Unreadable"),
+            Fault::EventsLong => f.write_str("events Long"),
+            Fault::Memory => f.write_str("memory Refused"),
+            Fault::Output => f.write_str("output Refused"),
+        }
+    }
+}
+
+impl std::error::Error for Fault {}
 
 impl From<SimFault> for Fault {
     ghost use Rattle.std.specs.Prelude.{◌≡◌};

@@ -15,8 +15,9 @@ const MOST_BYTES: u64 = 1_048_576;
 /// Reads the network of a file.
 ///
 /// # Errors
-/// [`Fault::NetworkUnreadable`] where the file cannot be read or has more than 1,048,576 bytes, and else [`Fault::Network`]: where memory runs
-/// out, where the bytes are not UTF-8, which is no TOML either, and for whatever refuses the text.
+/// [`Fault::NetworkUnreadable`] where the file cannot be read or has more than 1,048,576 bytes, and
+/// else [`Fault::Network`]: where memory runs out, where the bytes are not UTF-8, which is no TOML
+/// either, and for whatever refuses the text.
 pub fn read_network<R: Files + AllocGlobal>(rt: &R, path: &str) -> Result<Net, Fault> {
     match bytes_of(rt, path) {
         Ok(bytes) => network_of(rt.alloc(), bytes.as_slice()),

@@ -1,13 +1,12 @@
 //! `simulate FILE EVENTS`: what a list of events leads to on a network.
-ghost use Rattle.std.specs.Prelude.{◌≡◌, [], ◌==◌, if◌then◌else◌, OnOk, IfErr};
+ghost use Rattle.std.specs.Prelude.{◌≡◌, ℕ, List, [], Some, ◌==◌, if◌then◌else◌, OnOk};
 ghost use Rattle.std.specs.Process.{exit_status};
-ghost use Rattle.std.specs.Io.Buffered.{writer_buffer};
-ghost use Rattle.subcommands.specs.declared.fault.Fault.TheVariants.{EventsUnreadable};
-ghost use Rattle.byte_streams.specs.Streams.{Rose};
+ghost use Rattle.run_model.specs.Start.{default_world};
+ghost use Rattle.subcommands.specs.Simulated.{IsCaused, IsDone};
 
 use crate::fault::Fault;
 use crate::network_file::read_network;
-use crate::streams::{ReadSource, WriteSink};
+use crate::streams::{Flush, ReadSource, WriteSink};
 use std::alloc::Global;
 use std::fs;
 use std::io::{BufWriter, Input, Read, Write, writer};
@@ -15,6 +14,7 @@ use std::process::ExitCode;
 use std::rt::Files;
 use topology::Net;
 use world::simulation::{Summary, simulate};
+use world::streams::Source;
 
 /// The name of standard input.
 const STANDARD_INPUT: &str = "-";
@@ -22,11 +22,12 @@ const STANDARD_INPUT: &str = "-";
 /// The status where a line was refused.
 const LINES_REFUSED: u8 = 3;
 
-/// Prints what the events of a file, or of standard input for `-`, lead to on the network of a file.
+/// Prints what the events of a file, or of standard input for `-`, lead to on the network of a
+/// file.
 ///
 /// # Errors
-/// Where no network is read of the file, the events cannot be read or are too long, memory runs out, or standard output does not take the text: the first of
-/// these that is met.
+/// Where no network is read of the file, the events cannot be read or are too long, memory runs
+/// out, or standard output does not take the text: the first of these that is met.
 pub fn run<R: Files + Input + Print + AllocGlobal>(
     rt: &R,
     network: &str,
@@ -56,15 +57,24 @@ fn print_simulation<R: Print + AllocGlobal, E: Read + Drop>(
     simulate_between(rt.alloc(), net, &mut source, &mut sink)
 }
 
-/// Simulates from the source to the sink, and sees to it that all the text is written: after a fault too, as far as it had come.
-fn simulate_between<E: Read, W: Write + Drop>(
+/// Simulates from the source to the sink, and sees to it that all the text is written: after a
+/// fault too, as far as it had come.
+///
+/// What is unproved: that the events of a file, or of standard input, are the bytes that were
+/// simulated, and that the text stands in standard output. Neither end tells its bytes, so of them
+/// the contract says when a fault comes; of ends that tell theirs it says all that [`simulate`]
+/// says.
+fn simulate_between<S: Source, W: Flush>(
     alloc: Global,
     net: &Net,
-    source: &mut ReadSource<E>,
-    sink: &mut WriteSink<W>,
+    source: &mut S,
+    sink: &mut W,
 ) -> Result<Summary, Fault>
-    ensures written { OnOk result (writer_buffer sink.new.writer ≡ []) }
-    ensures cause { IfErr result (λ fault. fault ≡ EventsUnreadable → Rose source.old.failures source.new.failures) }
+    // Where both ends tell their bytes, the answer is that of a simulation of them.
+    ensures text { (bytes : List ℕ) → S.rest source.old ≡ Some bytes
+        → IsDone (default_world net.now) bytes (S.rest source.new) (W.taken sink.old) (W.taken sink.new) result }
+    ensures written { OnOk result (W.unwritten sink.new ≡ []) }
+    ensures cause { IsCaused result (S.failures source.old) (S.failures source.new) (W.failures sink.old) (W.failures sink.new) }
 {
     let simulated = simulate(alloc, net, source, sink);
     let flushed = sink.flush();

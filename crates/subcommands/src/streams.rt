@@ -1,8 +1,9 @@
 //! Readers and writers as the ends of a simulation.
 //!
-//! Std's readers and writers may tell their bytes to contracts (`remaining`, `contents`). A file tells nothing of them, so neither do these ends; but each of
-//! their calls says what it read of such a reader, or wrote to such a writer.
-ghost use Rattle.std.specs.Prelude.{◌≡◌, ◌≤◌, [], None, OnOk, length};
+//! Std's readers and writers may tell their bytes to contracts (`remaining`, `contents`). A file
+//! tells nothing of them, so neither do these ends; but each of their calls says what it read of
+//! such a reader, or wrote to such a writer.
+ghost use Rattle.std.specs.Prelude.{◌≡◌, ◌≤◌, ℕ, List, [], None, OnOk, length};
 ghost use Rattle.std.specs.Io.Buffered.{writer_buffer, writer_contents};
 ghost use Rattle.std.specs.Io.KnownBytes.{Appends, Keeps, ReadConsumes};
 ghost use Rattle.byte_streams.specs.Streams.{CountsFailures, Reads, Rose, Writes};
@@ -20,7 +21,8 @@ pub struct ReadSource<R> {
 impl<R> ReadSource<R> {
     /// A source that gives what the reader gives.
     pub fn new(reader: R) -> ReadSource<R>
-        ensures { result.reader ≡ reader }
+        ensures reader { result.reader ≡ reader }
+        ensures failures { result.failures ≡ 0 }
     {
         ReadSource {
             reader,
@@ -51,7 +53,22 @@ impl<R: Read> Source for ReadSource<R> {
     }
 }
 
-/// A buffered writer as a sink. What it has taken is all written only after [`WriteSink::flush`].
+/// A sink that may hold back what it takes until it is flushed.
+pub trait Flush: Sink {
+    /// The bytes that it has taken and not yet written.
+    ghost unwritten: { Self → List ℕ };
+
+    /// Writes all that it has taken.
+    ///
+    /// # Errors
+    /// [`Failed`] where it failed in this call; then some of it may be unwritten.
+    fn flush(&mut self) -> Result<(), Failed>
+        ensures written { OnOk result (unwritten self.new ≡ []) }
+        ensures taken { Self.taken self.new ≡ Self.taken self.old }
+        ensures cause { CountsFailures result (Self.failures self.old) (Self.failures self.new) };
+}
+
+/// A buffered writer as a sink. What it has taken is all written only after [`Flush::flush`].
 #[derive(Drop)]
 pub struct WriteSink<W: Write + Drop> {
     writer: BufWriter<W>,
@@ -61,19 +78,20 @@ pub struct WriteSink<W: Write + Drop> {
 impl<W: Write + Drop> WriteSink<W> {
     /// A sink that hands on to the writer.
     pub fn new(writer: BufWriter<W>) -> WriteSink<W>
-        ensures { result.writer ≡ writer }
+        ensures writer { result.writer ≡ writer }
+        ensures failures { result.failures ≡ 0 }
     {
         WriteSink {
             writer,
             failures: 0,
         }
     }
+}
 
-    /// Writes all that it has taken.
-    ///
-    /// # Errors
-    /// [`Failed`] where the writer failed; then some of it may be unwritten.
-    pub fn flush(&mut self) -> Result<(), Failed>
+impl<W: Write + Drop> Flush for WriteSink<W> {
+    ghost unwritten = { λ s. writer_buffer s.writer };
+
+    fn flush(&mut self) -> Result<(), Failed>
         ensures written { OnOk result (writer_buffer self.new.writer ≡ []) }
         ensures bytes { Keeps (writer_contents W.contents self.old.writer) (writer_contents W.contents self.new.writer) }
         ensures cause { CountsFailures result self.old.failures self.new.failures }

@@ -1,5 +1,5 @@
 //! The numbers of networks, what files are refused for, and which fault is met first.
-use crate::bound::bound_text;
+use crate::bound::{bound_text, shown_text};
 use crate::fault::Fault;
 use crate::network_file::{network_of, read_network};
 use crate::simulate;
@@ -53,6 +53,33 @@ fn prints_the_star_of_sixty_four(rt: HostRuntime) -> Result<(), Fail> {
         "nodes 64\nedges 63\ncapacity 4096\ncounter 8195\nring 379\ndistances 0{ones}\nparents none{zeros}\nsweeps 207161\n"
     )?;
     assert_eq!(rt; bound_text(alloc, &net)?, want);
+    Ok(())
+}
+
+#[test]
+fn shows_the_sharp_bound_where_it_is_asked_for(rt: HostRuntime) -> Result<(), Fail> {
+    let alloc = rt.alloc();
+    let mut star = Vec::new(alloc);
+    for leaf in 1..64 {
+        star.push((0, leaf))?;
+    }
+    for (nodes, capacity, edges, want) in [
+        (2, 1, [(0, 1)].as_slice(), "sharp 35\n"),
+        (3, 1, [(0, 1), (1, 2)].as_slice(), "sharp 55\n"),
+        (
+            4,
+            1,
+            [(0, 1), (0, 2), (1, 3), (2, 3)].as_slice(),
+            "sharp 71\n",
+        ),
+        (64, 4096, star.as_slice(), "sharp 1027\n"),
+    ] {
+        let net = Net::make(alloc, nodes, 0, capacity, 0, edges)?;
+        let eight = bound_text(alloc, &net)?;
+        let nine = format!(in alloc; "{eight}{want}")?;
+        assert_eq!(rt; shown_text(alloc, &net, true)?, nine);
+        assert_eq!(rt; shown_text(alloc, &net, false)?, eight);
+    }
     Ok(())
 }
 

@@ -1,9 +1,10 @@
 //! The command line.
-ghost use Rattle.std.specs.Prelude.{◌≡◌, ◌≢◌, ◌≤◌};
+ghost use Rattle.std.specs.Prelude.{◌≡◌, ◌≢◌, ◌≤◌, if◌then◌else◌, is_ok};
 ghost use Rattle.std.specs.Process.{exit_status};
 ghost use Rattle.clap.specs.Values.{kind_of};
 ghost use Rattle.clap.specs.declared.error.kind.ErrorKind.TheVariants.{DisplayHelp, DisplayVersion};
 
+use crate::fault_line::FaultLine;
 use crate::help;
 use clap::{Arg, ArgAction, ArgMatches, Command};
 use std::alloc::{AllocError, Global};
@@ -57,7 +58,7 @@ fn run_command<R: Files + Input + Print + AllocGlobal>(
 ) -> Result<ExitCode, Fault> {
     match matches.subcommand() {
         Some(("bound", given)) => match given.get_str("FILE") {
-            Some(network) => bound::run(rt, network),
+            Some(network) => bound::run(rt, network, given.get_flag("sharp")),
             None => Ok(ExitCode::from(LINE_REFUSED)),
         },
         Some(("simulate", given)) => match (given.get_str("FILE"), given.get_str("EVENTS")) {
@@ -70,13 +71,22 @@ fn run_command<R: Files + Input + Print + AllocGlobal>(
 
 /// Shows the help that was asked for, or why the command line was refused.
 fn shows<R: Print + Eprint>(rt: &R, error: &clap::Error) -> ExitCode
-    ensures mistake { kind_of error.now ≢ DisplayHelp → kind_of error.now ≢ DisplayVersion → exit_status result ≡ 2 }
+    ensures mistake { kind_of error.now ≢ DisplayHelp → kind_of error.now ≢ DisplayVersion
+        → exit_status result ≡ 2 }
     ensures help { kind_of error.now ≡ DisplayHelp → exit_status result ≤ 1 }
 {
     let printed = error.print(rt);
     if error.use_stderr() {
         return ExitCode::from(LINE_REFUSED);
     }
+    help_status(rt, printed)
+}
+
+/// The status of help that was asked for, by what printing it answered: a fault is shown where it
+/// could not be printed.
+fn help_status<R: Eprint, E: Drop>(rt: &R, printed: Result<(), E>) -> ExitCode
+    ensures { exit_status result ≡ (if is_ok printed then 0 else 1) }
+{
     match printed {
         Ok(()) => ExitCode::SUCCESS,
         Err(_) => fails(rt, Fault::Output),
@@ -87,7 +97,7 @@ fn shows<R: Print + Eprint>(rt: &R, error: &clap::Error) -> ExitCode
 fn fails<R: Eprint>(rt: &R, fault: Fault) -> ExitCode
     ensures { exit_status result ≡ 1 }
 {
-    let _ = eprintln!(rt; "tokentree: {fault}");
+    let _ = rt.eprintln(FaultLine(fault));
     ExitCode::FAILURE
 }
 
@@ -110,7 +120,16 @@ fn bound_command<'a>(alloc: Global) -> Result<Command<'a>, AllocError> {
             "Shows a network's numbers, distances and parents, and after how many sweeps its lock works from any state",
         )
         .after_help(help::BOUND)
-        .arg(file(alloc, "FILE", NETWORK_FILE))
+        .arg(file(alloc, "FILE", NETWORK_FILE))?
+        .arg(sharp(alloc))
+}
+
+/// The flag by which `bound` shows one more line.
+fn sharp<'a>(alloc: Global) -> Arg<'a> {
+    Arg::new(alloc, "sharp")
+        .long("sharp")
+        .action(ArgAction::SetTrue)
+        .help("Show the bound in which the capacity has no part, too")
 }
 
 /// What `simulate` takes.

@@ -34,7 +34,8 @@ ticks the lock is lent at most (0: no limit), and the edges:
 counter and ring are the moduli of the links' counters and of the token's values; distances and parents are those of
 the nodes 0, 1, .. in the tree to the root. From whatever state, the lock works after 69 sweeps: stretches of a run in
 each of which every node makes a full tick, one after which it lends to nobody, and takes from each neighbour an item
-that was sent within the stretch.";
+that was sent within the stretch. With --sharp one more line is shown, here sharp 35: a bound in which the capacity has
+no part, and which is never above the other one.";
 
 /// What follows the help of `simulate`.
 pub const SIMULATE: &str = "\

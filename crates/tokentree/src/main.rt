@@ -1,4 +1,5 @@
-//! `tokentree`, the program of a self-stabilising lock over a spanning tree. Each command is a subcommand, and a module of the crate `subcommands`.
+//! `tokentree`, the program of a self-stabilising lock over a spanning tree. Each command is a
+//! subcommand, and a module of the crate `subcommands`.
 //!
 //! ```text
 //! $ tokentree bound two-nodes.toml
@@ -14,13 +15,16 @@
 //! sweeps 1 of 69
 //! ```
 //!
-//! It keeps no state of its own and no lock by itself: what a command does stands in the crates below, this one reads its words and tells its faults.
+//! It keeps no state of its own and no lock by itself: what a command does stands in the crates
+//! below, this one reads its words and tells its faults.
 //!
-//! Statuses: 0 done, help too; 1 a file, memory or the output refused, with one line `tokentree: ..` on standard error; 2 the command line refused;
-//! 3 `simulate` is done, and refused some lines. Faults are looked for in this order: the command line, the network, the events.
+//! Statuses: 0 done, help too; 1 a file, memory or the output refused, with one line `tokentree:
+//! ..` on standard error; 2 the command line refused; 3 `simulate` is done, and refused some lines.
+//! Faults are looked for in this order: the command line, the network, the events.
 #![tactic(auto)]
 
 mod commands;
+mod fault_line;
 mod help;
 
 use std::process::ExitCode;

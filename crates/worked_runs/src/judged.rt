@@ -1,18 +1,19 @@
-//! Runs of events, judged: what they lead to was worked out by hand. A row tells its events as a text, a line each.
+//! Runs of events, judged: what they lead to was worked out by hand. A row tells its events as a
+//! text, a line each.
 use crate::texts::{FORGED, ROUND, round_of};
+use crate::worlds::{event_of, net_of, start, step, told};
 use link_model::Item;
 use run_model::{Event, EventFault, Harm};
-use std::alloc::{AllocError, AllocFailed, Allocator, Global};
+use std::alloc::{AllocFailed, Allocator, Global};
 use std::process::Abort;
 use std::test::Fail;
-use topology::{Net, NetFault};
-use world::events::parse_line;
 use world::report::{Report, judge};
 use world::{Judge, World};
 
 mod long_runs;
 mod memory;
 mod parts;
+mod replay;
 mod three_rounds;
 
 /// An item that no node sent.
@@ -21,33 +22,6 @@ const JUNK: Event = Event::Damage(Harm::Item {
     to: 1,
     item: Item::Noise,
 });
-
-/// The event that a line spells. Rows need nothing of what the contracts of this call and the next ones say, and where they are called so the prover need not
-/// carry that along.
-fn event_of(line: &str) -> Option<Event> {
-    parse_line(line.as_bytes())
-}
-
-/// A network whose links hold one item, with node 0 as its root.
-fn net_of(alloc: Global, nodes: i64, lease: i64, edges: &[(i64, i64)]) -> Result<Net, NetFault> {
-    Net::make(alloc, nodes, 0, 1, lease, edges)
-}
-
-/// A network's default world.
-fn start<A: Allocator + Copy>(alloc: A, net: &Net) -> Result<World<A>, AllocError> {
-    World::new(alloc, net)
-}
-
-/// Lets an event happen to a world.
-fn step(world: &mut World, event: &Event) -> Result<(), EventFault> {
-    world.step(event)
-}
-
-/// What a world answers to the event of a line; none where the line spells none.
-fn told(world: &mut World, line: &str) -> Option<Result<(), EventFault>> {
-    let event = event_of(line)?;
-    Some(step(world, &event))
-}
 
 /// Distance, parent, and whether it is privileged, of the far one of two nodes.
 fn far(world: &World) -> Option<(u16, Option<u16>, bool)> {
@@ -58,7 +32,8 @@ fn far(world: &World) -> Option<(u16, Option<u16>, bool)> {
     Some((node.distance(), node.parent(), node.privileged()))
 }
 
-/// Lets an event happen to a judge's world, and says at how many tallies the judge has looked; none where it is refused.
+/// Lets an event happen to a judge's world, and says at how many tallies the judge has looked; none
+/// where it is refused.
 fn looked<A: Allocator + Copy>(judge: &mut Judge<A>, event: &Event) -> Option<u32> {
     judge.step(event).ok()?;
     Some(judge.looked())
@@ -86,7 +61,8 @@ fn events_of(alloc: Global, text: &str) -> Result<Vec<Event>, Fail> {
     Ok(events)
 }
 
-/// The numbers of events, of sweeps and of refusals of a text, told so many times to two nodes over links of one place.
+/// The numbers of events, of sweeps and of refusals of a text, told `times` times to two nodes over
+/// links of one place.
 fn counts(alloc: Global, text: &str, times: usize) -> Result<(usize, u64, u64), Fail> {
     let net = net_of(alloc, 2, 0, &[(0, 1)])?;
     let mut events = Vec::new(alloc);
@@ -116,7 +92,7 @@ fn what_serves_and_what_does_not(rt: HostRuntime) -> Result<(), Fail> {
             "tick 0\ntick 1\nsend 0 1\ntake 0 1\nsend 0 1\ntake 0 1\nsend 1 0\ntake 1 0\nsend 1 0",
             (9, 1, 0),
         ),
-        // items from before serve nothing
+        // items from before renew nothing
         (
             "harm junk 0 1\nharm junk 1 0\ntick 0\ntick 1\ntake 0 1\ntake 1 0",
             (6, 0, 0),
@@ -130,7 +106,7 @@ fn what_serves_and_what_does_not(rt: HostRuntime) -> Result<(), Fail> {
             "harm junk 0 1\ntick 0\ntick 1\nlose 0 1 0\nsend 0 1\ntake 0 1\nsend 1 0\ntake 1 0",
             (8, 1, 0),
         ),
-        // takes on empty links serve nothing, and there is no node 2
+        // takes on empty links renew nothing, and there is no node 2
         ("tick 0\ntick 1\ntake 0 1\ntake 1 0\ntick 2", (5, 0, 1)),
     ];
     for (text, expected) in rows {

@@ -1,7 +1,9 @@
-//! Worked runs: what whole networks do, event by event, judged, and told and shown as texts, with every expected value computed by hand.
+//! Worked runs: what whole networks do, event by event, judged, and told and shown as texts, with
+//! every expected value computed by hand.
 //!
-//! Nothing but tests stands here: of the events text, of worlds and their judge, and of simulations. They are not in the crates that they test because a crate's
-//! tests prove all of that crate once more. The rows of single layers stand in `worked_rows`.
+//! Nothing but tests stands here: of the events text, of worlds and their judge, and of
+//! simulations. They are not in the crates that they test because a crate's tests prove all of that
+//! crate once more. The rows of single layers stand in `worked_rows`.
 #![tactic(auto)]
 
 #[cfg(test)]
@@ -12,3 +14,5 @@ mod judged;
 mod simulated;
 #[cfg(test)]
 mod texts;
+#[cfg(test)]
+mod worlds;

@@ -1,5 +1,7 @@
-//! Texts and what they lead to, worked out by hand. Each comes in pieces of one byte, of seven, and whole.
+//! Texts and what they lead to, worked out by hand. Each comes in pieces of one byte, of seven, and
+//! whole.
 use crate::texts::{FORGED, ROUND, round_of};
+use crate::worlds::net_of;
 use std::alloc::{AllocError, Allocator, Global};
 use std::fmt::Write;
 use std::process::Abort;
@@ -48,7 +50,7 @@ struct Row<'a> {
 
 /// Two nodes, over links of one place.
 fn two_nodes(alloc: Global, lease: i64) -> Result<Net, Fail> {
-    Ok(Net::make(alloc, 2, 0, 1, lease, &[(0, 1)])?)
+    Ok(net_of(alloc, 2, lease, &[(0, 1)])?)
 }
 
 /// The pieces, each as often as it comes.
@@ -62,7 +64,8 @@ fn joined(alloc: Global, pieces: &[(&str, usize)]) -> Result<String, AllocError>
     Ok(whole)
 }
 
-/// Simulates. Rows need nothing of what its contract says, and where it is called so the prover need not carry that along.
+/// Simulates. Rows need nothing of what its contract says, and where it is called so the prover
+/// need not carry that along.
 fn run<A: Allocator + Copy, R: Source, W: Sink>(
     alloc: A,
     net: &Net,
@@ -72,7 +75,7 @@ fn run<A: Allocator + Copy, R: Source, W: Sink>(
     simulate(alloc, net, source, sink)
 }
 
-/// What the text, in pieces of at most so many bytes, leads to.
+/// What the text, in pieces of at most `piece` bytes, leads to.
 fn simulated(
     alloc: Global,
     net: &Net,

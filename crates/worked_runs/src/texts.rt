@@ -19,7 +19,8 @@ harm desk 0 5 0 no
 harm desk 1 6 0 no
 ";
 
-/// One round of a network: each node ticks, and then each sends to each neighbour, which takes, so often that one item more than the link holds goes over.
+/// One round of a network: each node ticks, and then each sends to each neighbour, which takes, so
+/// often that one item more than the link holds goes over.
 pub fn round_of(alloc: Global, net: &Net) -> Result<String, AllocError> {
     let mut text = String::new(alloc);
     for v in 0..net.nodes() {

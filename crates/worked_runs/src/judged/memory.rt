@@ -1,5 +1,6 @@
 //! What memory a judge takes: none.
 use super::*;
+use crate::worlds::happen;
 use linked_list_allocator::LocalHeap;
 
 /// Takes what a heap has left, so that it refuses every growth from then on.
@@ -14,13 +15,44 @@ fn fill<'h>(alloc: Global, heap: &'h LocalHeap) -> Result<Vec<Vec<u8, &'h LocalH
     Ok(taken)
 }
 
-/// Whether each of these events is accepted.
+/// An event of each kind that does not stand in a round.
+const OTHERS: &str = "\
+ask 1 7
+ask 1 8
+leave 1 8
+leave 0 5
+harm counters 1 0 3 4
+harm value 1 0 5
+harm junk 0 1
+lose 0 1 0
+harm frame 0 1 4 3 0 none 6
+harm empty 0 1
+";
+
+/// Whether a judge accepts each of these events.
 fn all_happen<A: Allocator + Copy>(judge: &mut Judge<A>, events: &[Event]) -> bool {
     let mut accepted = true;
     for event in events {
         accepted &= looked(judge, event).is_some();
     }
     accepted
+}
+
+#[test]
+fn a_world_takes_no_memory(rt: HostRuntime) -> Result<(), Fail> {
+    let net = net_of(rt.alloc(), 2, 0, &[(0, 1)])?;
+    let forged = events_of(rt.alloc(), FORGED)?;
+    let round = events_of(rt.alloc(), ROUND)?;
+    let others = events_of(rt.alloc(), OTHERS)?;
+    let heap = LocalHeap::new(rt.alloc(), 16384)?;
+    let mut world = start(&heap, &net)?;
+    let taken = fill(rt.alloc(), &heap)?;
+    assert_eq!(rt; heap.free(), 0);
+    assert!(rt; happen(&mut world, &forged) && happen(&mut world, &round));
+    assert_eq!(rt; (world.privileged(), world.lending()), (2, 2));
+    assert!(rt; happen(&mut world, &others));
+    drop(taken);
+    Ok(())
 }
 
 #[test]
@@ -41,7 +73,7 @@ fn each_growth_of_a_world_may_be_refused_and_judging_takes_none(
             assert_eq!(rt; (report.sweeps, report.refused), (1, 0));
             let mut judge = Judge::new(report.world);
             assert!(rt; all_happen(&mut judge, &events));
-            assert_eq!(rt; judge.report().world.lending(), 1);
+            assert_eq!(rt; judge.into_world().lending(), 1);
             drop(taken);
             assert_eq!(rt; heap.used(), 0);
             return Ok(());

@@ -9,7 +9,8 @@ fn taken_apart(world: World) -> (World, usize, usize) {
     (World::from_parts(parts), nodes, edges)
 }
 
-/// Does three rounds and takes the world apart after each event; says whether each event happened and the parts were always those of two nodes.
+/// Does three rounds and takes the world apart after each event; says whether each event happened
+/// and the parts were always those of two nodes.
 fn three_rounds(mut world: World, round: &[Event]) -> (World, bool) {
     let mut well = true;
     for _ in 0..3 {

@@ -1,14 +1,6 @@
 //! A world that is moved event by event, without a judge.
 use super::*;
-
-/// Whether each of these events is accepted.
-fn all_happen(world: &mut World, events: &[Event]) -> bool {
-    let mut accepted = true;
-    for event in events {
-        accepted &= step(world, event).is_ok();
-    }
-    accepted
-}
+use crate::worlds::happen;
 
 /// How many nodes are privileged, and how many lend.
 fn counted(world: &World) -> (usize, usize) {
@@ -31,7 +23,7 @@ fn all_hold(rt: &(impl Eprint + AllocGlobal + Abort), stages: &[Stage<'_>]) -> R
     let mut world = start(rt.alloc(), &net)?;
     for (at, stage) in stages.iter().enumerate() {
         let events = events_of(rt.alloc(), stage.events)?;
-        assert!(rt; all_happen(&mut world, &events), "stage {at}");
+        assert!(rt; happen(&mut world, &events), "stage {at}");
         assert_eq!(rt; counted(&world), stage.counted, "stage {at}");
         assert_eq!(rt; far(&world), Some(stage.far), "stage {at}");
     }

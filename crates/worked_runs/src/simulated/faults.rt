@@ -35,7 +35,7 @@ privileged 0 lending 0
 sweeps 0 of 69
 ";
 
-/// The refusal lines of the lines that end within so many bytes.
+/// The refusal lines of the lines that end within the first `bytes` bytes.
 fn refusals_within(alloc: Global, bytes: usize) -> Result<String, AllocError> {
     let mut text = String::new(alloc);
     for (end, line) in REFUSALS {
@@ -138,7 +138,8 @@ fn refused_memory_leaves_all_unread_and_unwritten(rt: HostRuntime) -> Result<(),
         let answer = run(&heap, &net, &mut source, &mut sink);
         assert_eq!(rt; heap.used(), 0);
         if answer != Err(SimFault::Memory) {
-            // The same as with all memory there is; the source still had all its bytes, and the sink all its room.
+            // The same as with all memory there is; the source still had all its bytes, and the
+            // sink all its room.
             assert_eq!(rt;
                 answer,
                 Ok(Summary {

@@ -81,7 +81,8 @@ fn lines_are_counted_and_a_last_one_needs_no_newline(rt: HostRuntime) -> Result<
 #[test]
 fn a_long_line_is_refused_once(rt: HostRuntime) -> Result<(), Fail> {
     let rows: [Refused<'_>; 3] = [
-        // No event has 64 bytes: the longest line that is looked at is refused as the shortest that is not.
+        // No event has 64 bytes: the longest line that is looked at is refused as the shortest that
+        // is not.
         (
             &[
                 ("tick 200", 8),
@@ -137,7 +138,8 @@ fn almost_events_are_unread(rt: HostRuntime) -> Result<(), Fail> {
     Ok(())
 }
 
-/// A text after which node 0 has no room for another ticket, ticket 7 waits at node 1, and an item is on the link from node 0.
+/// A text after which node 0 has no room for another ticket, ticket 7 waits at node 1, and an item
+/// is on the link from node 0.
 fn busy(alloc: Global) -> Result<String, AllocError> {
     let mut text = String::from_str(alloc, ROUND)?;
     for ticket in 0..64 {

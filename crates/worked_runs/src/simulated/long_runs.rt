@@ -1,6 +1,5 @@
 //! Runs of as many sweeps as a network's lock needs to work from any state.
 use super::*;
-use topology::NetFault;
 
 /// Rounds of a network, and what they lead to.
 #[derive(Clone, Copy)]
@@ -18,11 +17,6 @@ struct LongRun<'a> {
     beginnings: &'a [&'a str],
 }
 
-/// A network whose links hold one item, with node 0 as its root.
-fn net_of(alloc: Global, nodes: i64, lease: i64, edges: &[(i64, i64)]) -> Result<Net, NetFault> {
-    Net::make(alloc, nodes, 0, 1, lease, edges)
-}
-
 /// Whether the lines of the text, from its first on, begin so.
 fn lines_begin(text: &str, beginnings: &[&str]) -> bool {
     let mut lines = text.lines();
@@ -35,7 +29,8 @@ fn lines_begin(text: &str, beginnings: &[&str]) -> bool {
     true
 }
 
-/// Holds that it ends so: at most one node is privileged and none lends, after as many sweeps as there are rounds.
+/// Holds that it ends so: at most one node is privileged and none lends, after as many sweeps as
+/// there are rounds.
 fn holds(rt: &(impl Eprint + AllocGlobal + Abort), run: &LongRun<'_>) -> Result<(), Fail> {
     let alloc = rt.alloc();
     let net = net_of(alloc, run.nodes, run.lease, run.edges)?;

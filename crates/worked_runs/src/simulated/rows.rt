@@ -256,7 +256,8 @@ sweeps 1 of 69
     all_hold(&rt, &rows)
 }
 
-/// Of noise on a link of one place the second is refused, and of two frames there the one whose number is out of range.
+/// Of noise on a link of one place the second is refused, and of two frames there the one whose
+/// number is out of range.
 const ITEMS: &str = "\
 harm junk 0 1
 harm junk 0 1

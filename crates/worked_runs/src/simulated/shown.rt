@@ -1,7 +1,6 @@
 //! The text that shows a world.
 use super::*;
-use run_model::EventFault;
-use world::events::parse_line;
+use crate::worlds::{start, told};
 
 /// A world of two nodes with a frame under way, shown with 7 sweeps.
 const SHOWN: &str = "\
@@ -12,24 +11,6 @@ link 1 0 items 0
 privileged 0 lending 0
 sweeps 7 of 69
 ";
-
-/// A network's default world. Rows need nothing of what the contracts of this call and the next ones say.
-fn start(
-    alloc: Global,
-    nodes: i64,
-    root: i64,
-    capacity: i64,
-    edges: &[(i64, i64)],
-) -> Result<World, Fail> {
-    let net = Net::make(alloc, nodes, root, capacity, 0, edges)?;
-    Ok(World::new(alloc, &net)?)
-}
-
-/// What a world answers to the event of a line; none where the line spells none.
-fn told(world: &mut World, line: &str) -> Option<Result<(), EventFault>> {
-    let event = parse_line(line.as_bytes())?;
-    Some(world.step(&event))
-}
 
 /// Whether the event of each line happens.
 fn all_happen(world: &mut World, lines: &[&str]) -> bool {
@@ -47,7 +28,7 @@ fn show(world: &World, sweeps: u64, sink: &mut MemorySink) -> Result<(), SimFaul
 
 #[test]
 fn a_world_is_shown_as_far_as_there_is_room(rt: HostRuntime) -> Result<(), Fail> {
-    let mut world = start(rt.alloc(), 2, 0, 1, &[(0, 1)])?;
+    let mut world = start(rt.alloc(), &two_nodes(rt.alloc(), 0)?)?;
     assert!(rt; all_happen(&mut world, &["send 0 1", "ask 1 9"]));
     for room in 0..=SHOWN.len() {
         let mut sink = MemorySink::new(rt.alloc(), room)?;
@@ -65,7 +46,8 @@ fn a_world_is_shown_as_far_as_there_is_room(rt: HostRuntime) -> Result<(), Fail>
 
 #[test]
 fn links_stand_by_source_and_then_destination(rt: HostRuntime) -> Result<(), Fail> {
-    let mut world = start(rt.alloc(), 3, 2, 4, &[(2, 1), (0, 2)])?;
+    let net = Net::make(rt.alloc(), 3, 2, 4, 0, &[(2, 1), (0, 2)])?;
+    let mut world = start(rt.alloc(), &net)?;
     let lines = [
         "send 2 0", "send 2 1", "send 2 1", "send 1 2", "send 1 2", "send 1 2",
     ];

@@ -44,7 +44,7 @@ sweeps 1 of 69
 ",
             sweeps: 1,
         },
-        // Items from before serve no link.
+        // Items from before renew no link.
         Row {
             lease: 0,
             text: &[(
@@ -79,7 +79,7 @@ sweeps 1 of 69
             state: HEARD,
             sweeps: 1,
         },
-        // A take that finds nothing serves no link.
+        // A take that finds nothing renews no link.
         Row {
             lease: 0,
             text: &[("tick 0\ntick 1\ntake 0 1\ntake 1 0\n", 1)],

@@ -1,4 +1,5 @@
 //! A desk from its first ticket to its last, its memory refused, and client lines in any cutting.
+use crate::full_heap::fill;
 use linked_list_allocator::LocalHeap;
 use lock_desk::{AskFault, ClientLine, ClientReader, Desk, DeskAct, OutOfRange, Stranger};
 use std::alloc::{AllocFailed, Allocator, Global};
@@ -12,7 +13,8 @@ enum Deed<'a> {
     Leaves(u16, Result<(), Stranger>),
     /// A tick, with the privilege or without it.
     Ticks(bool, DeskAct),
-    /// A loan is written: its ticket, the ticks that are left of it, and whether the desk has served.
+    /// A loan is written: its ticket, the ticks that are left of it, and whether the desk has
+    /// served.
     LoanIsSet((Option<u16>, u16, bool), Result<(), OutOfRange>),
     QueueIsSet(&'a [u16], Result<(), OutOfRange>),
     /// Nothing is done: this is the loan.
@@ -181,6 +183,33 @@ fn memory_is_refused_once_and_then_needed_no_more(rt: HostRuntime) -> Result<(),
         }
     }
     panic!(rt; "always refused")
+}
+
+#[test]
+fn a_desk_takes_no_memory(rt: HostRuntime) -> Result<(), Fail> {
+    let heap = LocalHeap::new(rt.alloc(), 4096)?;
+    let mut desk = Desk::new(&heap, 2)?;
+    let taken = fill(rt.alloc(), &heap)?;
+    assert_eq!(rt; heap.free(), 0);
+    for ticket in 0..64 {
+        all_hold(&rt, &mut desk, &[Asks(ticket, Ok(()))]);
+    }
+    let deeds = [
+        Asks(64, Err(AskFault::Full)),
+        Ticks(true, DeskAct::Granted(0)),
+        Leaves(0, Ok(())),
+        Leaves(63, Ok(())),
+        Asks(63, Ok(())),
+        Ticks(true, DeskAct::Quiet),
+        QueueIsSet(&[9; 2], Err(OutOfRange)),
+        QueueIsSet(&[3, 1, 2], Ok(())),
+        LoanIsSet((Some(5), 1, false), Ok(())),
+        Ticks(false, DeskAct::Lost(5)),
+        HasQueue(&[3, 1, 2]),
+    ];
+    all_hold(&rt, &mut desk, &deeds);
+    drop(taken);
+    Ok(())
 }
 
 /// What a new reader answers to these bytes.

@@ -1,4 +1,5 @@
-//! Frame lines and hellos, at the ends of their ranges, cut at every place, and with memory refused.
+//! Frame lines and hellos, at the ends of their ranges, cut at every place, and with memory
+//! refused.
 use frame_codec::{LineReader, decode, decode_hello, encode, encode_hello};
 use linked_list_allocator::LocalHeap;
 use std::alloc::{AllocError, Global};

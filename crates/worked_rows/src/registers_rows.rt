@@ -1,4 +1,5 @@
 //! All ports of a node in one table, and its memory refused.
+use crate::full_heap::fill;
 use linked_list_allocator::LocalHeap;
 use registers::{Heard, OutOfRange, Registers};
 use std::alloc::{AllocError, Allocator};
@@ -38,9 +39,16 @@ fn hear<A: Allocator>(registers: &mut Registers<A>, port: u16, frame: &Frame) ->
     None
 }
 
-/// Uses the registers of the root, and says whether its two neighbours and no other node could be written.
+/// Uses the registers of the root, and says whether its two neighbours and no other node could be
+/// written.
 fn used<A: Allocator + Copy>(alloc: A, net: &Net) -> Result<bool, AllocError> {
     let mut registers = Registers::new(alloc, net, net.root())?;
+    Ok(are_written(&mut registers))
+}
+
+/// Writes all that can be written, and says whether the neighbours 1 and 2 and no other node could
+/// be.
+fn are_written<A: Allocator>(registers: &mut Registers<A>) -> bool {
     let frame = Frame {
         seq: 4,
         ack: 0,
@@ -55,15 +63,15 @@ fn used<A: Allocator + Copy>(alloc: A, net: &Net) -> Result<bool, AllocError> {
         accepted: true,
     };
     let mut written = 0u16;
-    for id in 0..net.nodes() {
-        if hear(&mut registers, id, &frame) == Some(news)
-            && write(&mut registers, id, (1, 2)) == Ok(())
-            && write_value(&mut registers, id, 6) == Ok(())
+    for id in 0..registers.ranges().nodes {
+        if hear(registers, id, &frame) == Some(news)
+            && write(registers, id, (1, 2)) == Ok(())
+            && write_value(registers, id, 6) == Ok(())
         {
             written |= id;
         }
     }
-    Ok(written == 3)
+    written == 3
 }
 
 /// The numbers of a port and the value of its machine; none of a node that is none of the network.
@@ -104,4 +112,16 @@ fn each_growth_of_new_may_be_refused(rt: HostRuntime) -> Result<(), Fail> {
         }
     }
     panic!(rt; "always refused")
+}
+
+#[test]
+fn registers_take_no_memory(rt: HostRuntime) -> Result<(), Fail> {
+    let net = Net::make(rt.alloc(), 4, 0, 1, 0, &[(0, 1), (0, 2), (1, 3), (2, 3)])?;
+    let heap = LocalHeap::new(rt.alloc(), 4096)?;
+    let mut registers = Registers::new(&heap, &net, net.root())?;
+    let taken = fill(rt.alloc(), &heap)?;
+    assert_eq!(rt; heap.free(), 0);
+    assert!(rt; are_written(&mut registers));
+    drop(taken);
+    Ok(())
 }

@@ -1,4 +1,5 @@
 //! One node, and two that hear each other, event by event.
+use crate::full_heap::fill;
 use linked_list_allocator::LocalHeap;
 use node_core::{AskFault, DeskAct, Item, Node, OutOfRange, Payload, Stranger, Ticked};
 use std::alloc::{AllocError, Allocator, Global};
@@ -31,7 +32,7 @@ enum Deed<'a> {
 use Deed::{FarShows, Forgery, NearIsAsked, NearIsLeft, NearShows, NearTicks, Round};
 
 /// Does it, and says whether the nodes answer so.
-fn answer_so(near: &mut Node, far: &mut Node, deed: &Deed<'_>) -> bool {
+fn answer_so<A: Allocator + Copy>(near: &mut Node<A>, far: &mut Node<A>, deed: &Deed<'_>) -> bool {
     match *deed {
         Round => {
             round(near, far);
@@ -55,14 +56,24 @@ fn all_hold(
     let net = two(rt.alloc(), lease)?;
     let mut near = Node::new(rt.alloc(), &net, 0)?;
     let mut far = Node::new(rt.alloc(), &net, 1)?;
-    for (at, deed) in deeds.iter().enumerate() {
-        assert!(rt; answer_so(&mut near, &mut far, deed), "deed {at}");
-    }
+    all_hold_of(rt, &mut near, &mut far, deeds);
     Ok(())
 }
 
+/// Holds that two nodes answer each deed so.
+fn all_hold_of<A: Allocator + Copy>(
+    rt: &(impl Eprint + Abort),
+    near: &mut Node<A>,
+    far: &mut Node<A>,
+    deeds: &[Deed<'_>],
+) {
+    for (at, deed) in deeds.iter().enumerate() {
+        assert!(rt; answer_so(near, far, deed), "deed {at}");
+    }
+}
+
 /// Both tick, and then each frame goes over twice.
-fn round(near: &mut Node, far: &mut Node) {
+fn round<A: Allocator + Copy>(near: &mut Node<A>, far: &mut Node<A>) {
     near.tick();
     far.tick();
     for _ in 0..2 {
@@ -74,7 +85,7 @@ fn round(near: &mut Node, far: &mut Node) {
 }
 
 /// The frame of `from` goes to `to`, if they are neighbours.
-fn hand_over(from: &Node, to: &mut Node) {
+fn hand_over<A: Allocator + Copy>(from: &Node<A>, to: &mut Node<A>) {
     let (sender, taker) = (from.id(), to.id());
     if from.is_neighbour(taker) && to.is_neighbour(sender) {
         let item = Item::Frame(from.frame_for(taker));
@@ -83,7 +94,7 @@ fn hand_over(from: &Node, to: &mut Node) {
 }
 
 /// Takes an item that is in range.
-fn take(to: &mut Node, port: u16, item: Item) {
+fn take<A: Allocator + Copy>(to: &mut Node<A>, port: u16, item: Item) {
     let fits = match &item {
         Item::Frame(frame) => to.ranges().fits(frame),
         Item::Noise => true,
@@ -94,15 +105,15 @@ fn take(to: &mut Node, port: u16, item: Item) {
 }
 
 /// Whether this is the node's status line.
-fn shows(node: &Node, line: &str) -> bool {
+fn shows<A: Allocator + Copy>(node: &Node<A>, line: &str) -> bool {
     let mut text = [b'#'; 96];
     let count = node.status(&mut text);
     &text[..count] == line.as_bytes() && text[count..].iter().all(|b| *b == b'#')
 }
 
 /// Writes the state of a node that holds a token and lends it to a ticket.
-fn forge(
-    node: &mut Node,
+fn forge<A: Allocator + Copy>(
+    node: &mut Node<A>,
     distance: u16,
     parent: Option<u16>,
     copy: Payload,
@@ -124,7 +135,10 @@ fn forge(
 }
 
 /// Writes the state of two nodes that hold a token each.
-fn forge_both(near: &mut Node, far: &mut Node) -> Result<(), OutOfRange> {
+fn forge_both<A: Allocator + Copy>(
+    near: &mut Node<A>,
+    far: &mut Node<A>,
+) -> Result<(), OutOfRange> {
     let child = Payload {
         distance: 1,
         parent: Some(0),
@@ -262,4 +276,34 @@ fn each_growth_of_new_may_be_refused(rt: HostRuntime) -> Result<(), Fail> {
         }
     }
     panic!(rt; "always refused")
+}
+
+#[test]
+fn nodes_take_no_memory(rt: HostRuntime) -> Result<(), Fail> {
+    let net = two(rt.alloc(), 0)?;
+    let heap = LocalHeap::new(rt.alloc(), 8192)?;
+    let mut near = Node::new(&heap, &net, 0)?;
+    let mut far = Node::new(&heap, &net, 1)?;
+    let taken = fill(rt.alloc(), &heap)?;
+    assert_eq!(rt; heap.free(), 0);
+    for ticket in 10..74 {
+        all_hold_of(&rt, &mut near, &mut far, &[NearIsAsked(ticket, Ok(()))]);
+    }
+    let deeds = [
+        NearIsAsked(74, Err(AskFault::Full)),
+        Forgery,
+        NearShows("node 0 distance 0 parent none token yes lent 5 waiting 64\n"),
+        FarShows("node 1 distance 1 parent 0 token yes lent 6 waiting 0\n"),
+        Round,
+        Round,
+        Round,
+        FarShows("node 1 distance 1 parent 0 token no lent none waiting 0\n"),
+        NearIsLeft(5, Ok(())),
+        NearIsLeft(10, Ok(())),
+        NearTicks(DeskAct::Quiet, true),
+        NearShows("node 0 distance 0 parent none token no lent none waiting 63\n"),
+    ];
+    all_hold_of(&rt, &mut near, &mut far, &deeds);
+    drop(taken);
+    Ok(())
 }

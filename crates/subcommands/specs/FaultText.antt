@@ -1,0 +1,14 @@
+-- How a fault of the program is told.
+use Rattle.std.specs.Prelude.{ℕ, List, ◌++◌, codes}
+use Rattle.topology.specs.FaultName.{fault_name}
+use Rattle.subcommands.specs.declared.fault.Fault.{Fault}
+use Rattle.subcommands.specs.declared.fault.Fault.TheVariants.{NetworkUnreadable, Network, EventsUnreadable, EventsLong, Memory, Output}
+
+-- what was refused, and by which name
+abbrev pub fault_text : Fault → List ℕ
+fault_text NetworkUnreadable = codes "network Unreadable"
+fault_text (Network fault) = codes "network " ++ fault_name fault
+fault_text EventsUnreadable = codes "events Unreadable"
+fault_text EventsLong = codes "events Long"
+fault_text Memory = codes "memory Refused"
+fault_text Output = codes "output Refused"

@@ -1,0 +1,175 @@
+//! A long run over which sweeps are counted twice: by a judge, and plainly, as the definition of a
+//! sweep says.
+use super::*;
+
+/// The nodes of the square.
+const NODES: usize = 4;
+
+/// A link as the plain count sees it. It holds one item at most.
+#[derive(Clone, Copy)]
+struct PlainLink {
+    is_link: bool,
+    /// Whether an item is under way.
+    holds_item: bool,
+    /// Whether that item was there when the stretch began.
+    is_old: bool,
+    /// Whether an item that was sent within the stretch was taken.
+    renewed: bool,
+}
+
+/// What is no link.
+const NO_LINK: PlainLink = PlainLink {
+    is_link: false,
+    holds_item: false,
+    is_old: false,
+    renewed: false,
+};
+
+/// A stretch of a run of the square: which nodes have made a full tick, and what has become of each
+/// link; and how many sweeps there were before it.
+#[derive(Clone, Copy)]
+struct Plain {
+    ticked: [bool; NODES],
+    /// The link from `u` to `v` stands at `4u + v`.
+    links: [PlainLink; NODES * NODES],
+    sweeps: u64,
+}
+
+impl Plain {
+    /// The beginning of a run with these edges and nothing under way.
+    fn new(edges: &[(u16, u16)]) -> Plain {
+        let mut plain = Plain {
+            ticked: [false; NODES],
+            links: [NO_LINK; NODES * NODES],
+            sweeps: 0,
+        };
+        for (u, v) in edges {
+            plain.connect(usize::from(*u), usize::from(*v));
+            plain.connect(usize::from(*v), usize::from(*u));
+        }
+        plain
+    }
+
+    /// There is a link from one node to another.
+    fn connect(&mut self, from: usize, to: usize) {
+        if let Some(link) = self.link(from, to) {
+            link.is_link = true;
+        }
+    }
+
+    fn link(&mut self, from: usize, to: usize) -> Option<&mut PlainLink> {
+        self.links
+            .get_mut(from.saturating_mul(NODES).saturating_add(to))
+    }
+
+    /// Nobody asks for the lock, so that each tick is a full one; and each event is accepted.
+    fn step(&mut self, event: &Event) {
+        match *event {
+            Event::Tick { node } => {
+                if let Some(ticked) = self.ticked.get_mut(usize::from(node)) {
+                    *ticked = true;
+                }
+            }
+            Event::Send { from, to } => self.send(usize::from(from), usize::from(to)),
+            Event::Take { from, to } => self.take(usize::from(from), usize::from(to)),
+            _ => {}
+        }
+        if self.is_sweep() {
+            self.sweeps = self.sweeps.saturating_add(1);
+            self.begin();
+        }
+    }
+
+    /// A full link loses what is sent.
+    fn send(&mut self, from: usize, to: usize) {
+        if let Some(link) = self.link(from, to) {
+            link.holds_item = true;
+        }
+    }
+
+    fn take(&mut self, from: usize, to: usize) {
+        if let Some(link) = self.link(from, to) {
+            link.renewed |= link.holds_item && !link.is_old;
+            link.holds_item = false;
+            link.is_old = false;
+        }
+    }
+
+    /// Whether each node has ticked and each link was renewed.
+    fn is_sweep(&self) -> bool {
+        self.ticked.iter().all(|ticked| *ticked)
+            && self.links.iter().all(|link| link.renewed || !link.is_link)
+    }
+
+    /// A stretch begins: what is under way is old from now on.
+    fn begin(&mut self) {
+        self.ticked = [false; NODES];
+        for link in &mut self.links {
+            link.is_old = link.holds_item;
+            link.renewed = false;
+        }
+    }
+}
+
+/// Rounds of a network of which every third take is left out: the first `count` events.
+fn rounds_with_gaps(alloc: Global, round: &str, count: usize) -> Result<Vec<Event>, Fail> {
+    let mut events = Vec::with_capacity(alloc, count)?;
+    let mut takes = 0u32;
+    for _ in 0..count {
+        for line in round.lines() {
+            let Some(event) = event_of(line) else {
+                continue;
+            };
+            if let Event::Take { .. } = event {
+                takes = takes.wrapping_add(1);
+                if takes % 3 == 0 {
+                    continue;
+                }
+            }
+            if events.len() == count {
+                return Ok(events);
+            }
+            events.push(event)?;
+        }
+    }
+    Ok(events)
+}
+
+/// How many sweeps a judge has counted after an event; none where it is refused.
+fn swept(judge: &mut Judge, event: &Event) -> Option<u64> {
+    judge.step(event).ok()?;
+    Some(judge.sweeps())
+}
+
+/// The first event after which the judge and the plain count differ, if there is one; and how many
+/// sweeps there were.
+fn first_difference(
+    judge: &mut Judge,
+    plain: &mut Plain,
+    events: &[Event],
+) -> (Option<usize>, u64) {
+    for (at, event) in events.iter().enumerate() {
+        plain.step(event);
+        if swept(judge, event) != Some(plain.sweeps) {
+            return (Some(at), plain.sweeps);
+        }
+    }
+    (None, plain.sweeps)
+}
+
+#[test]
+fn ten_thousand_events_with_every_third_take_left_out(rt: HostRuntime) -> Result<(), Fail> {
+    let net = net_of(rt.alloc(), 4, 0, &[(0, 1), (0, 2), (1, 3), (2, 3)])?;
+    let round = round_of(rt.alloc(), &net)?;
+    let events = rounds_with_gaps(rt.alloc(), &round, 10_000)?;
+    assert_eq!(rt; events.len(), 10_000);
+    let mut judge = Judge::new(start(rt.alloc(), &net)?);
+    let mut plain = Plain::new(net.edges());
+    let (difference, sweeps) = first_difference(&mut judge, &mut plain, &events);
+    assert_eq!(rt; difference, None);
+    // Each link takes at least once a round, right behind a send, and at most one of its items is
+    // old: so of two whole rounds each renews it. A stretch has at most one round more, in parts,
+    // and no round has more than 36 events.
+    assert!(rt; sweeps >= 10_000 / (3 * 36));
+    Ok(())
+}

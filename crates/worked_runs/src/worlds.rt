@@ -1,0 +1,50 @@
+//! Networks, worlds and events as rows tell them. Rows need nothing of what the contracts of these
+//! calls say, and where they are called from here the prover need not carry that along.
+use run_model::{Event, EventFault};
+use std::alloc::{AllocError, Allocator, Global};
+use topology::{Net, NetFault};
+use world::World;
+use world::events::parse_line;
+
+/// A network whose links hold one item, with node 0 as its root.
+pub fn net_of(
+    alloc: Global,
+    nodes: i64,
+    lease: i64,
+    edges: &[(i64, i64)],
+) -> Result<Net, NetFault> {
+    Net::make(alloc, nodes, 0, 1, lease, edges)
+}
+
+/// A network's default world.
+pub fn start<A: Allocator + Copy>(alloc: A, net: &Net) -> Result<World<A>, AllocError> {
+    World::new(alloc, net)
+}
+
+/// The event that a line spells.
+pub fn event_of(line: &str) -> Option<Event> {
+    parse_line(line.as_bytes())
+}
+
+/// Lets an event happen to a world.
+pub fn step<A: Allocator + Copy>(world: &mut World<A>, event: &Event) -> Result<(), EventFault> {
+    world.step(event)
+}
+
+/// What a world answers to the event of a line; none where the line spells none.
+pub fn told<A: Allocator + Copy>(
+    world: &mut World<A>,
+    line: &str,
+) -> Option<Result<(), EventFault>> {
+    let event = event_of(line)?;
+    Some(step(world, &event))
+}
+
+/// Whether each of these events is accepted.
+pub fn happen<A: Allocator + Copy>(world: &mut World<A>, events: &[Event]) -> bool {
+    let mut accepted = true;
+    for event in events {
+        accepted &= step(world, event).is_ok();
+    }
+    accepted
+}
