@@ -9,7 +9,9 @@ use Rattle.bfs_tree.specs.Step.{new_distance, new_parent}
 
 -- what v copied of each neighbour's distance is of stage k
 abbrev pub AreOfStage : Network → ℕ → (ℕ → ℕ) → ℕ → Type 0
-AreOfStage net k copied v = (w : ℕ) → IsTrue (are_joined net.edges v w) → IsTrue (is_of_stage k (distance_of net w) (copied w))
+AreOfStage net k copied v =
+    (w : ℕ) → IsTrue (are_joined net.edges v w)
+    → IsTrue (is_of_stage k (distance_of net w) (copied w))
 
 -- what v copied of each neighbour's distance is that neighbour's true distance
 abbrev pub AreExact : Network → (ℕ → ℕ) → ℕ → Type 0
@@ -24,12 +26,16 @@ stepped_parent net copied v = new_parent (v == net.root) copied (neighbours_of n
 
 -- copies of stage k give a distance of stage k + 1
 abbrev pub StageRises : Type 0
-StageRises = (net : Network) (k v : ℕ) (copied : ℕ → ℕ) → IsAcceptedNetwork net → v < net.nodes → AreOfStage net k copied v
+StageRises =
+    (net : Network) (k v : ℕ) (copied : ℕ → ℕ) → IsAcceptedNetwork net → v < net.nodes
+    → AreOfStage net k copied v
     → IsTrue (is_of_stage (k + 1) (distance_of net v) (stepped_distance net copied v))
 
 -- what is of stage k + 1 is of stage k
 abbrev pub StageIncludes : Type 0
-StageIncludes = (k true_distance written : ℕ) → IsTrue (is_of_stage (k + 1) true_distance written) → IsTrue (is_of_stage k true_distance written)
+StageIncludes =
+    (k true_distance written : ℕ) → IsTrue (is_of_stage (k + 1) true_distance written)
+    → IsTrue (is_of_stage k true_distance written)
 
 -- every number is of stage 0
 abbrev pub FirstStage : Type 0
@@ -37,22 +43,30 @@ FirstStage = (true_distance written : ℕ) → IsTrue (is_of_stage 0 true_distan
 
 -- what is of stage n, the number of nodes, is exact
 abbrev pub LastStage : Type 0
-LastStage = (net : Network) (v written : ℕ) → IsAcceptedNetwork net → v < net.nodes → IsTrue (is_of_stage net.nodes (distance_of net v) written)
+LastStage =
+    (net : Network) (v written : ℕ) → IsAcceptedNetwork net → v < net.nodes
+    → IsTrue (is_of_stage net.nodes (distance_of net v) written)
     → written ≡ distance_of net v
 
 -- exact copies give the true distance
 abbrev pub ExactDistance : Type 0
-ExactDistance = (net : Network) (v : ℕ) (copied : ℕ → ℕ) → IsAcceptedNetwork net → v < net.nodes → AreExact net copied v
+ExactDistance =
+    (net : Network) (v : ℕ) (copied : ℕ → ℕ) → IsAcceptedNetwork net → v < net.nodes
+    → AreExact net copied v
     → stepped_distance net copied v ≡ distance_of net v
 
 -- exact copies give the true parent
 abbrev pub ExactParent : Type 0
-ExactParent = (net : Network) (v : ℕ) (copied : ℕ → ℕ) → IsAcceptedNetwork net → v < net.nodes → AreExact net copied v
+ExactParent =
+    (net : Network) (v : ℕ) (copied : ℕ → ℕ) → IsAcceptedNetwork net → v < net.nodes
+    → AreExact net copied v
     → stepped_parent net copied v ≡ parent_of net v
 
 -- whatever is copied, a step gives a distance of at most n
 abbrev pub StepDistanceFits : Type 0
-StepDistanceFits = (is_root : Bool) (n : ℕ) (copied : ℕ → ℕ) (neighbours : List ℕ) → new_distance is_root n copied neighbours ≤ n
+StepDistanceFits =
+    (is_root : Bool) (n : ℕ) (copied : ℕ → ℕ) (neighbours : List ℕ)
+    → new_distance is_root n copied neighbours ≤ n
 
 -- and, where the neighbours are nodes, a parent that is a node, or none
 abbrev pub StepParentFits : Type 0

@@ -12,7 +12,8 @@ least n copied (w ∷ ws) = min (copied w) (least n copied ws)
 
 -- the root is at distance 0; any other node is one further than its least copy, and at most n
 abbrev pub new_distance : Bool → ℕ → (ℕ → ℕ) → List ℕ → ℕ
-new_distance is_root n copied neighbours = if is_root then 0 else min n (least n copied neighbours + 1)
+new_distance is_root n copied neighbours =
+    if is_root then 0 else min n (least n copied neighbours + 1)
 
 -- no listed neighbour has a lesser copy than w
 abbrev pub has_least_copy : (ℕ → ℕ) → List ℕ → ℕ → Bool
@@ -21,4 +22,5 @@ has_least_copy copied neighbours w = list_all (λ u. nat_le (copied w) (copied u
 -- the root has no parent; any other node's is the first neighbour, so the one of smallest id, with
 -- the least copy
 abbrev pub new_parent : Bool → (ℕ → ℕ) → List ℕ → Option ℕ
-new_parent is_root copied neighbours = if is_root then None else find (has_least_copy copied neighbours) neighbours
+new_parent is_root copied neighbours =
+    if is_root then None else find (has_least_copy copied neighbours) neighbours

@@ -1,6 +1,7 @@
 //! What one step makes of copies that are right so far: how a breadth-first tree forms, round by
 //! round.
-ghost use Rattle.bfs_tree.specs.Laws.{StageRises, StageIncludes, FirstStage, LastStage, ExactDistance, ExactParent, StepDistanceFits, StepParentFits};
+ghost use Rattle.bfs_tree.specs.Laws.{StageRises, StageIncludes, FirstStage, LastStage};
+ghost use Rattle.bfs_tree.specs.Laws.{ExactDistance, ExactParent, StepDistanceFits, StepParentFits};
 
 /// One round of the tree. Copies that are exact below k and at least k elsewhere give a distance
 /// that is exact below k + 1 and at least k + 1 elsewhere. Everything is of stage 0, and what is of

@@ -23,7 +23,10 @@ pub fn recompute<F: Fn(u16) -> u16>(
     requires readable { (w : ℕ) → Contains neighbours.now w → F.pre copied w }
     ensures { (distance : ℕ → ℕ)
         → ((w d : ℕ) → Contains neighbours.now w → F.post copied w d → d ≡ distance w)
-        → result ≡ (new_distance is_root n distance neighbours.now, new_parent is_root distance neighbours.now) }
+        → result ≡ (
+          new_distance is_root n distance neighbours.now,
+          new_parent is_root distance neighbours.now,
+        ) }
 {
     if is_root {
         return (0, None);

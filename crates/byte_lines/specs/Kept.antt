@@ -13,11 +13,16 @@ kept n line = record { first = take n line; is_long = nat_lt n (length line) }
 
 -- what is then kept of the line with more bytes behind it
 abbrev pub kept_more : ℕ → Kept → List ℕ → Kept
-kept_more n k more = record { first = take n (k.first ++ more); is_long = k.is_long || nat_lt n (length (k.first ++ more)) }
+kept_more n k more = record {
+  first = take n (k.first ++ more);
+  is_long = k.is_long
+      || nat_lt n (length (k.first ++ more));
+}
 
 -- Whatever half line was kept, what is kept now is the half line that then stands at the end of
 -- these bytes; and this is what the lines that end in them are read as.
-pub record Reads {X : Type 0} (n : ℕ) (reading : List ℕ → X) (old new : Kept) (bytes : List ℕ) (told : List X) : Type 0 where
+pub record Reads {X : Type 0} (n : ℕ) (reading : List ℕ
+    → X) (old new : Kept) (bytes : List ℕ) (told : List X) : Type 0 where
   pub half : (half : List ℕ) → old ≡ kept n half → new ≡ kept n (half_after half bytes)
   pub lines : (half : List ℕ) → old ≡ kept n half → told ≡ map reading (lines_after half bytes)
 
@@ -30,4 +35,5 @@ StandsAfter n bytes k = k ≡ kept n (half_line bytes)
 abbrev pub ReadsOn : {X : Type 0} → ℕ → (List ℕ → X) → Kept → Kept → List ℕ → List X → Type 0
 ReadsOn n reading old new more told =
     (bytes : List ℕ) → StandsAfter n bytes old
-    → StandsAfter n (bytes ++ more) new × (map reading (whole_lines (bytes ++ more)) ≡ map reading (whole_lines bytes) ++ told)
+    → StandsAfter n (bytes ++ more) new
+    × (map reading (whole_lines (bytes ++ more)) ≡ map reading (whole_lines bytes) ++ told)

@@ -16,12 +16,17 @@ TextIsItsLines = (text : List ℕ) → IsItsLines text
 -- the lines of a text that was cut in two are those of the front, and then those of the back behind
 -- the front's half line
 pub record LinesAreCut : Type 0 where
-  pub lines : (half front back : List ℕ) → lines_after half (front ++ back) ≡ lines_after half front ++ lines_after (half_after half front) back
-  pub half : (half front back : List ℕ) → half_after half (front ++ back) ≡ half_after (half_after half front) back
+  pub lines : (half front back : List ℕ)
+      → lines_after half (front ++ back)
+      ≡ lines_after half front ++ lines_after (half_after half front) back
+  pub half : (half front back : List ℕ)
+      → half_after half (front ++ back) ≡ half_after (half_after half front) back
 
 -- a newline makes a whole line of the half one, and bytes that are none go on with it
 pub record LinesGrow : Type 0 where
-  pub ended : (half line text : List ℕ) → HasNoNewline line → lines_after half (line ++ newline ∷ text) ≡ (half ++ line) ∷ lines_after [] text
-  pub begun : (half line text : List ℕ) → HasNoNewline line → half_after half (line ++ newline ∷ text) ≡ half_after [] text
+  pub ended : (half line text : List ℕ) → HasNoNewline line
+      → lines_after half (line ++ newline ∷ text) ≡ (half ++ line) ∷ lines_after [] text
+  pub begun : (half line text : List ℕ) → HasNoNewline line
+      → half_after half (line ++ newline ∷ text) ≡ half_after [] text
   pub same : (half more : List ℕ) → HasNoNewline more → lines_after half more ≡ []
   pub longer : (half more : List ℕ) → HasNoNewline more → half_after half more ≡ half ++ more

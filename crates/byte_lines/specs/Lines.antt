@@ -14,7 +14,8 @@ HasNoNewline line = AllByRecursion (λ b. b ≢ newline) line
 -- half line that came before
 abbrev pub lines_after : List ℕ → List ℕ → List (List ℕ)
 lines_after half [] = []
-lines_after half (b ∷ bs) = if b == newline then half ∷ lines_after [] bs else lines_after (half ++ b ∷ []) bs
+lines_after half (b ∷ bs) =
+    if b == newline then half ∷ lines_after [] bs else lines_after (half ++ b ∷ []) bs
 
 -- the half line that then stands at the end
 abbrev pub half_after : List ℕ → List ℕ → List ℕ

@@ -1,5 +1,6 @@
 //! The line under way.
-ghost use Rattle.std.specs.Prelude.{◌≡◌, ◌↔◌, ◌<◌, ◌≤◌, ◌++◌, ℕ, List, [], ◌∷◌, length, take, IfNone, OnSome, IsTrue};
+ghost use Rattle.std.specs.Prelude.{◌≡◌, ◌↔◌, ◌<◌, ◌≤◌, ◌++◌, ℕ, List, [], ◌∷◌, length, take};
+ghost use Rattle.std.specs.Prelude.{IfNone, OnSome, IsTrue};
 ghost use Rattle.std.specs.Option.{option_to_list};
 ghost use Rattle.byte_lines.specs.Kept.{kept, kept_more, Reads, ReadsOn};
 
@@ -55,9 +56,11 @@ impl<const N: usize> HalfLine<N> {
         ensures used { result.used ≤ length piece.now }
         ensures all { IfNone result.line (result.used ≡ length piece.now) }
         ensures some { OnSome result.line (0 < result.used) }
-        ensures reads { Reads N (R.reading reading.now) self.old self.new (take result.used piece.now)
+        ensures reads { Reads N (R.reading reading.now) self.old self.new
+            (take result.used piece.now)
             (option_to_list result.line) }
-        ensures so_far { ReadsOn N (R.reading reading.now) self.old self.new (take result.used piece.now)
+        ensures so_far { ReadsOn N (R.reading reading.now) self.old self.new
+            (take result.used piece.now)
             (option_to_list result.line) }
     {
         let Some((line, _)) = split_line(piece) else {
@@ -75,8 +78,10 @@ impl<const N: usize> HalfLine<N> {
 
     /// Takes one byte: what the line is read as that it ends, if it is a newline.
     pub fn push<R: LineReading<N>>(&mut self, byte: u8, reading: &R) -> Option<R::Read>
-        ensures reads { Reads N (R.reading reading.now) self.old self.new (byte ∷ []) (option_to_list result) }
-        ensures so_far { ReadsOn N (R.reading reading.now) self.old self.new (byte ∷ []) (option_to_list result) }
+        ensures reads { Reads N (R.reading reading.now) self.old self.new (byte ∷ [])
+            (option_to_list result) }
+        ensures so_far { ReadsOn N (R.reading reading.now) self.old self.new (byte ∷ [])
+            (option_to_list result) }
     {
         if byte == b'\n' {
             return Some(self.end_line(&[], reading));

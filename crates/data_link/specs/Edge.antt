@@ -44,10 +44,14 @@ port_taking modulus p (item.Frame f ∷ items) present = port_after modulus p f 
 
 -- the edge after an event, with this modulus of the numbers
 abbrev pub edge_step_with : ℕ → ℕ → EdgeState → EdgeEvent → EdgeState
-edge_step_with modulus capacity s SendOut = record s { out = put_last capacity s.out (item.Frame (frame_of s.near)) }
-edge_step_with modulus capacity s SendBack = record s { back = put_last capacity s.back (item.Frame (frame_of s.far)) }
-edge_step_with modulus capacity s (TakeOut present) = record s { far = port_taking modulus s.far s.out present; out = drop 1 s.out }
-edge_step_with modulus capacity s (TakeBack present) = record s { near = port_taking modulus s.near s.back present; back = drop 1 s.back }
+edge_step_with modulus capacity s SendOut =
+    record s { out = put_last capacity s.out (item.Frame (frame_of s.near)) }
+edge_step_with modulus capacity s SendBack =
+    record s { back = put_last capacity s.back (item.Frame (frame_of s.far)) }
+edge_step_with modulus capacity s (TakeOut present) =
+    record s { far = port_taking modulus s.far s.out present; out = drop 1 s.out }
+edge_step_with modulus capacity s (TakeBack present) =
+    record s { near = port_taking modulus s.near s.back present; back = drop 1 s.back }
 edge_step_with modulus capacity s (LoseOut i) = record s { out = remove s.out i }
 edge_step_with modulus capacity s (LoseBack i) = record s { back = remove s.back i }
 edge_step_with modulus capacity s Elsewhere = s
@@ -105,7 +109,8 @@ newest_first number (item.Frame f ∷ items) = newest_first number items ++ numb
 -- The link ring: near's number; the numbers of the frames on their way out, newest first; the last
 -- number that far accepted; the acknowledgements on their way back, newest first.
 abbrev pub link_ring : EdgeState → List ℕ
-link_ring s = s.near.seq ∷ (newest_first (λ f. f.seq) s.out ++ s.far.last ∷ newest_first (λ f. f.ack) s.back)
+link_ring s =
+    s.near.seq ∷ (newest_first (λ f. f.seq) s.out ++ s.far.last ∷ newest_first (λ f. f.ack) s.back)
 
 -- the payload that belongs to a number: the staged one to the port's own, another one to every
 -- other

@@ -44,7 +44,8 @@ frame_of p = record { seq = p.seq; ack = p.last; payload = p.staged }
 -- a frame that acknowledges the port's number moves it on by one, and the payload that is present
 -- then is staged
 abbrev pub port_acked : ℕ → PortState → Frame → Payload → PortState
-port_acked modulus p f present = if f.ack == p.seq then record p { seq = root_moved p.seq modulus; staged = present } else p
+port_acked modulus p f present =
+    if f.ack == p.seq then record p { seq = root_moved p.seq modulus; staged = present } else p
 
 -- a frame with another number than the last one is accepted: number and payload are taken from it
 abbrev pub port_heard : PortState → Frame → PortState

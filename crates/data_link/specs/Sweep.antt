@@ -34,18 +34,22 @@ pub record IsSweep (capacity : ℕ) (s : EdgeState) (es : List EdgeEvent) : Type
 -- the events split into r sweeps, one after the other, and a rest
 abbrev pub Sweeps : ℕ → EdgeState → ℕ → List EdgeEvent → Type 0
 Sweeps capacity s zero es = Unit {0}
-Sweeps capacity s (suc r) es = (first rest : List EdgeEvent) × (es ≡ first ++ rest) × IsSweep capacity s first × Sweeps capacity (edge_run capacity s first) r rest
+Sweeps capacity s (suc r) es =
+    (first rest : List EdgeEvent) × (es ≡ first ++ rest) × IsSweep capacity s first
+    × Sweeps capacity (edge_run capacity s first) r rest
 
 -- ---- strict sweeps
 
 -- how many items a list of events hands over on the way out, and on the way back
 abbrev pub handed_out : ℕ → EdgeState → List EdgeEvent → ℕ
 handed_out capacity s [] = 0
-handed_out capacity s (e ∷ es) = takes_item (act_out e) s.out + handed_out capacity (edge_step capacity s e) es
+handed_out capacity s (e ∷ es) =
+    takes_item (act_out e) s.out + handed_out capacity (edge_step capacity s e) es
 
 abbrev pub handed_back : ℕ → EdgeState → List EdgeEvent → ℕ
 handed_back capacity s [] = 0
-handed_back capacity s (e ∷ es) = takes_item (act_back e) s.back + handed_back capacity (edge_step capacity s e) es
+handed_back capacity s (e ∷ es) =
+    takes_item (act_back e) s.back + handed_back capacity (edge_step capacity s e) es
 
 -- each direction hands over more items than it can hold
 pub record IsStrictSweep (capacity : ℕ) (s : EdgeState) (es : List EdgeEvent) : Type 0 where

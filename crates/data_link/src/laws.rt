@@ -2,7 +2,12 @@
 //! calls it and cites its clauses. They hold for every capacity, and whatever payloads are handed
 //! in as present. Each speaks of one direction; the other is the same edge seen from its other end.
 ghost use Rattle.data_link.specs.Refreshing.{SweepCopiesStaged};
-ghost use Rattle.data_link.specs.Laws.{CopyIsStaged, EventIsStep, MoveRefreshesStaged, PayloadsKeep, PortStaysInRange, RangeStays, StableAfterMoves, StableAfterSweeps, StableOutlastsRuns, StableStays, StagedIsPresent, StrictSweepIsSweep, SweepRefreshesCopy, SweepsMove, TakenIsCopied, ThreeSweepsRefresh, TwoSweepsMove};
+ghost use Rattle.data_link.specs.Laws.{CopyIsStaged, EventIsStep, MoveRefreshesStaged};
+ghost use Rattle.data_link.specs.Laws.{PayloadsKeep, PortStaysInRange, RangeStays};
+ghost use Rattle.data_link.specs.Laws.{StableAfterMoves, StableAfterSweeps, StableOutlastsRuns};
+ghost use Rattle.data_link.specs.Laws.{StableStays, StagedIsPresent, StrictSweepIsSweep};
+ghost use Rattle.data_link.specs.Laws.{SweepRefreshesCopy, SweepsMove, TakenIsCopied};
+ghost use Rattle.data_link.specs.Laws.{ThreeSweepsRefresh, TwoSweepsMove};
 ghost use Rattle.data_link.specs.SixSweeps.{StableAfterSixSweeps};
 
 /// A port in range stays in range, whatever frame in range it takes. Whoever keeps ports needs it.

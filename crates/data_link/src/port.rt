@@ -1,7 +1,8 @@
 //! One end of an edge.
 ghost use Rattle.std.specs.Prelude.{◌≡◌, ◌↔◌, ◌<◌, IsTrue, IsOk, OnOk, OnErr};
 ghost use Rattle.topology.specs.Ranges.{frame_fits, payload_fits, ranges_of};
-ghost use Rattle.data_link.specs.Port.{counters_fit, default_port, frame_of, heard_of, port_after, port_fits};
+ghost use Rattle.data_link.specs.Port.{counters_fit, default_port, frame_of, heard_of, port_after};
+ghost use Rattle.data_link.specs.Port.{port_fits};
 
 use crate::fault::OutOfRange;
 use crate::heard::Heard;
@@ -28,15 +29,20 @@ impl Model for Port {
 
     ghost Value = { PortView };
 
-    ghost view = { λ p. record { ranges = p.ranges; state = record { seq = p.seq; last = p.last; staged = p.staged; copy = p.copy } } };
+    ghost view = { λ p. record {
+      ranges = p.ranges;
+      state = record { seq = p.seq; last = p.last; staged = p.staged; copy = p.copy };
+    } };
 
-    ghost invariant = { λ p. IsTrue (port_fits p.ranges (record { seq = p.seq; last = p.last; staged = p.staged; copy = p.copy })) };
+    ghost invariant = { λ p. IsTrue (port_fits p.ranges
+        (record { seq = p.seq; last = p.last; staged = p.staged; copy = p.copy })) };
 }
 
 impl Port {
     /// A port of a node that knows nothing yet: both numbers 0, the greatest distance, no parent.
     pub fn new<A: Allocator + Copy>(net: &Net<A>) -> Port
-        ensures { result ≡ record { ranges = ranges_of net.now; state = default_port (ranges_of net.now) } }
+        ensures { result
+            ≡ record { ranges = ranges_of net.now; state = default_port (ranges_of net.now) } }
     {
         let ranges = net.ranges();
         let unknown = Payload {
@@ -128,7 +134,9 @@ impl Port {
         requires frame_fits { IsTrue (frame_fits self.old.ranges frame.now) }
         requires present_fits { IsTrue (payload_fits self.old.ranges present) }
         ensures port { self.new
-            ≡ record self.old { state = port_after self.old.ranges.counter self.old.state frame.now present } }
+            ≡ record self.old {
+              state = port_after self.old.ranges.counter self.old.state frame.now present;
+            } }
         ensures heard { result ≡ heard_of self.old.state frame.now }
     {
         let moved = frame.ack == self.seq;

@@ -20,7 +20,8 @@ is_tree_neighbour parent v copied_parent w = is_named parent w || is_named (copi
 
 -- the tree neighbours of v among its neighbours
 abbrev pub tree_neighbours : Option ℕ → ℕ → List ℕ → (ℕ → Option ℕ) → List ℕ
-tree_neighbours parent v neighbours copied_parent = filter (is_tree_neighbour parent v copied_parent) neighbours
+tree_neighbours parent v neighbours copied_parent =
+    filter (is_tree_neighbour parent v copied_parent) neighbours
 
 -- the smallest of an ascending list is its first
 abbrev pub lowest : List ℕ → Option ℕ

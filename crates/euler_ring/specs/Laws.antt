@@ -10,10 +10,14 @@ use Rattle.euler_ring.specs.Tour.{Stop, tour}
 
 -- next and source undo each other, round any ascending list
 abbrev pub SourceOfNext : Type 0
-SourceOfNext = (ts : List ℕ) (t : ℕ) → IsStrictlyIncreasing ts → IsTrue (is_on ts t) → source_for ts (next_after ts t) ≡ t
+SourceOfNext =
+    (ts : List ℕ) (t : ℕ) → IsStrictlyIncreasing ts → IsTrue (is_on ts t)
+    → source_for ts (next_after ts t) ≡ t
 
 abbrev pub NextOfSource : Type 0
-NextOfSource = (ts : List ℕ) (w : ℕ) → IsStrictlyIncreasing ts → IsTrue (is_on ts w) → next_after ts (source_for ts w) ≡ w
+NextOfSource =
+    (ts : List ℕ) (w : ℕ) → IsStrictlyIncreasing ts → IsTrue (is_on ts w)
+    → next_after ts (source_for ts w) ≡ w
 
 -- and stay on the list
 abbrev pub NextIsOn : Type 0
@@ -34,7 +38,9 @@ IsTreeEdge net v w = (parent_of net v ≡ Some w) ⊎ (parent_of net w ≡ Some 
 
 -- they are the nodes to which an edge of the true tree leads, ascending
 abbrev pub TrueNeighboursAre : Type 0
-TrueNeighboursAre = (net : Network) (v w : ℕ) → IsAcceptedNetwork net → IsTrue (is_on (true_neighbours net v) w) ↔ IsTreeEdge net v w
+TrueNeighboursAre =
+    (net : Network) (v w : ℕ) → IsAcceptedNetwork net → IsTrue (is_on (true_neighbours net v) w)
+    ↔ IsTreeEdge net v w
 
 abbrev pub TrueNeighboursAscend : Type 0
 TrueNeighboursAscend = (net : Network) (v : ℕ) → IsStrictlyIncreasing (true_neighbours net v)
@@ -42,7 +48,9 @@ TrueNeighboursAscend = (net : Network) (v : ℕ) → IsStrictlyIncreasing (true_
 -- where v knows its true parent and has copied those of its neighbours, its own tree neighbours are
 -- the true ones
 abbrev pub OwnViewIsTrue : Type 0
-OwnViewIsTrue = (net : Network) (v : ℕ) (parent : Option ℕ) (copied_parent : ℕ → Option ℕ) → IsAcceptedNetwork net → parent ≡ parent_of net v
+OwnViewIsTrue =
+    (net : Network) (v : ℕ) (parent : Option ℕ) (copied_parent : ℕ → Option ℕ)
+    → IsAcceptedNetwork net → parent ≡ parent_of net v
     → ((w : ℕ) → IsTrue (are_joined net.edges v w) → copied_parent w ≡ parent_of net w)
     → tree_neighbours parent v (neighbours_of net v) copied_parent ≡ true_neighbours net v
 
@@ -81,7 +89,9 @@ TourGoesRound = (net : Network) → IsAcceptedNetwork net → IsRound net
 
 -- it goes along each edge of the true tree once in each direction, and nowhere else
 abbrev pub TourHasEachEdge : Type 0
-TourHasEachEdge = (net : Network) (a b : ℕ) → IsAcceptedNetwork net → IsStopOf (tour net) (a, b) ↔ IsTreeEdge net a b
+TourHasEachEdge =
+    (net : Network) (a b : ℕ) → IsAcceptedNetwork net → IsStopOf (tour net) (a, b)
+    ↔ IsTreeEdge net a b
 
 abbrev pub TourHasNoneTwice : Type 0
 TourHasNoneTwice = (net : Network) → IsAcceptedNetwork net → NoStopTwice (tour net)
@@ -92,4 +102,6 @@ TourLength = (net : Network) → IsAcceptedNetwork net → length (tour net) ≡
 
 -- and comes to each node
 abbrev pub TourComesToEach : Type 0
-TourComesToEach = (net : Network) (v : ℕ) → IsAcceptedNetwork net → v < net.nodes → (a : ℕ) × IsStopOf (tour net) (a, v)
+TourComesToEach =
+    (net : Network) (v : ℕ) → IsAcceptedNetwork net → v < net.nodes
+    → (a : ℕ) × IsStopOf (tour net) (a, v)

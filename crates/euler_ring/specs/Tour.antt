@@ -30,14 +30,17 @@ through below v (c ∷ cs) = (v, c) ∷ (below c v ++ (c, v) ∷ through below v
 -- first number bounds the depth of the tree
 abbrev pub tour_below : ℕ → Network → ℕ → ℕ → List Stop
 tour_below zero net v p = []
-tour_below (suc depth) net v p = through (tour_below depth net) v (in_order_after p (children_of net v))
+tour_below (suc depth) net v p =
+    through (tour_below depth net) v (in_order_after p (children_of net v))
 
 -- from the root's first child t to the root, through its other children, and at last to t and
 -- through what is below t
 abbrev pub tour_of_children : Network → List ℕ → List Stop
 tour_of_children net [] = []
 tour_of_children net (t ∷ others) =
-    (t, net.root) ∷ (through (tour_below net.nodes net) net.root others ++ (net.root, t) ∷ tour_below net.nodes net t net.root)
+    (t, net.root)
+    ∷ (through (tour_below net.nodes net) net.root others ++ (net.root, t)
+    ∷ tour_below net.nodes net t net.root)
 
 -- the tour begins where it comes to the root from the root's smallest child
 abbrev pub tour : Network → List Stop

@@ -1,6 +1,9 @@
 //! What holds of the tour, and of a node's own view of it: the crates above lay Dijkstra's ring
 //! along it and know it by these laws alone.
-ghost use Rattle.euler_ring.specs.Laws.{SourceOfNext, NextOfSource, NextIsOn, SourceIsOn, TrueNeighboursAre, TrueNeighboursAscend, OwnViewIsTrue, TourGoesRound, TourHasEachEdge, TourHasNoneTwice, TourLength, TourComesToEach};
+ghost use Rattle.euler_ring.specs.Laws.{SourceOfNext, NextOfSource, NextIsOn, SourceIsOn};
+ghost use Rattle.euler_ring.specs.Laws.{TrueNeighboursAre, TrueNeighboursAscend, OwnViewIsTrue};
+ghost use Rattle.euler_ring.specs.Laws.{TourGoesRound, TourHasEachEdge, TourHasNoneTwice};
+ghost use Rattle.euler_ring.specs.Laws.{TourLength, TourComesToEach};
 
 /// Round one node, `next_after` and `source_for` undo each other and stay among the tree
 /// neighbours: each machine's value leaves towards one neighbour, and each neighbour is left to by

@@ -1,6 +1,8 @@
-ghost use Rattle.std.specs.Prelude.{◌≡◌, ◌<◌, ◌==◌, ℕ, IsTrue, Option, Some, None, All, Contains, length, slice_get};
+ghost use Rattle.std.specs.Prelude.{◌≡◌, ◌<◌, ◌==◌, ℕ, IsTrue, Option, Some, None, All, Contains};
+ghost use Rattle.std.specs.Prelude.{length, slice_get};
 ghost use Rattle.std.specs.List.Sorted.{IsStrictlyIncreasing};
-ghost use Rattle.euler_ring.specs.Cycle.{is_named, is_on, tree_neighbours, next_after, source_for, special};
+ghost use Rattle.euler_ring.specs.Cycle.{is_named, is_on, tree_neighbours, next_after, source_for};
+ghost use Rattle.euler_ring.specs.Cycle.{special};
 
 use super::mask;
 use std::marker::Model;
@@ -118,7 +120,8 @@ pub fn tree_neighbours<F: Fn(u16) -> Option<u16>>(
     requires ascending { IsStrictlyIncreasing neighbours.now }
     requires readable { (w : ℕ) → Contains neighbours.now w → F.pre copied_parent w }
     ensures found { (parent_of : ℕ → Option ℕ)
-        → ((w : ℕ) (p : Option ℕ) → Contains neighbours.now w → F.post copied_parent w p → p ≡ parent_of w)
+        → ((w : ℕ) (p : Option ℕ) → Contains neighbours.now w → F.post copied_parent w p
+        → p ≡ parent_of w)
         → result ≡ tree_neighbours parent id neighbours.now parent_of }
     ensures neighbours { (w : ℕ) → IsTrue (is_on result w) → Contains neighbours.now w }
 {

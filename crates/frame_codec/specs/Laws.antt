@@ -22,9 +22,12 @@ OneReading = (r : Ranges) → AreNarrow r → (line : List ℕ) (f : Frame)
 
 -- in whatever pieces a stream comes, their frames are the good lines of the whole
 abbrev pub AnyCutting : Type 0
-AnyCutting = (r : Ranges) (pieces : List (List ℕ)) → frames_of_pieces r [] pieces ≡ good_lines r (concat pieces)
+AnyCutting =
+    (r : Ranges) (pieces : List (List ℕ))
+    → frames_of_pieces r [] pieces ≡ good_lines r (concat pieces)
 
 -- whatever stands before a newline, what follows is read as from the start
 abbrev pub JunkEndsAtNewline : Type 0
 JunkEndsAtNewline = (r : Ranges) (junk text : List ℕ)
-    → good_lines r (junk ++ newline ∷ text) ≡ good_lines r (junk ++ newline ∷ []) ++ good_lines r text
+    → good_lines r (junk ++ newline ∷ text)
+    ≡ good_lines r (junk ++ newline ∷ []) ++ good_lines r text

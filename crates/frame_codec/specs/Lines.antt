@@ -17,7 +17,8 @@ good_lines r text = frames_after r [] text
 
 -- Whatever half line was kept, what is kept now is the half line that then stands at the end of the
 -- piece; and these are the frames of the lines that end in it.
-pub record ReadsFrames (r : Ranges) (old new : Kept) (piece : List ℕ) (frames : List Frame) : Type 0 where
+pub record ReadsFrames (r : Ranges) (old new : Kept) (piece : List ℕ) (frames : List Frame)
+    : Type 0 where
   pub half : (half : List ℕ) → old ≡ kept 21 half → new ≡ kept 21 (half_after half piece)
   pub told : (half : List ℕ) → old ≡ kept 21 half → frames ≡ frames_after r half piece
 
@@ -25,9 +26,12 @@ pub record ReadsFrames (r : Ranges) (old new : Kept) (piece : List ℕ) (frames 
 -- that this adds
 abbrev pub ReadsOn : Ranges → Kept → Kept → List ℕ → List Frame → Type 0
 ReadsOn r old new piece frames =
-    (text : List ℕ) → StandsAfter 21 text old → StandsAfter 21 (text ++ piece) new × (good_lines r (text ++ piece) ≡ good_lines r text ++ frames)
+    (text : List ℕ) → StandsAfter 21 text old
+    → StandsAfter 21 (text ++ piece) new
+    × (good_lines r (text ++ piece) ≡ good_lines r text ++ frames)
 
 -- the frames of a stream that comes in pieces, each read behind the half line of those before
 abbrev pub frames_of_pieces : Ranges → List ℕ → List (List ℕ) → List Frame
 frames_of_pieces r half [] = []
-frames_of_pieces r half (piece ∷ pieces) = frames_after r half piece ++ frames_of_pieces r (half_after half piece) pieces
+frames_of_pieces r half (piece ∷ pieces) =
+    frames_after r half piece ++ frames_of_pieces r (half_after half piece) pieces

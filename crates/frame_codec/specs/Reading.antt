@@ -25,7 +25,11 @@ abbrev pub candidate : List ℕ → Frame
 candidate line = record {
   seq = number_from line 1;
   ack = number_from line 5;
-  payload = record { distance = number_from line 9; parent = parent_of (number_from line 13); ring = number_from line 17 };
+  payload = record {
+    distance = number_from line 9;
+    parent = parent_of (number_from line 13);
+    ring = number_from line 17;
+  };
 }
 
 -- a line is read as the frame that it spells, where that is in range

@@ -1,5 +1,6 @@
 //! Numbers as four lower-case hexadecimal digits.
-ghost use Rattle.std.specs.Prelude.{◌≡◌, ◌≢◌, ℕ, ◌+◌, ◌^◌, ◌<◌, ◌≤◌, length, take, drop, IfSome, IfNone};
+ghost use Rattle.std.specs.Prelude.{◌≡◌, ◌≢◌, ℕ, ◌+◌, ◌^◌, ◌<◌, ◌≤◌, length, take, drop, IfSome};
+ghost use Rattle.std.specs.Prelude.{IfNone};
 ghost use Rattle.frame_codec.specs.Spelling.{digit, digits};
 ghost use Rattle.frame_codec.specs.Reading.{digit_value, number_from};
 

@@ -9,7 +9,8 @@
 //! ```
 //! let mut reader = LineReader::new();
 //! reader.feed(b"junkF000", &net, &mut frames)?;              // no line has ended yet
-//! reader.feed(b"0\nF0000000000010000000c\n", &net, &mut frames)?; // one frame: junk spoiled the line before it
+//! // one frame: junk spoiled the line before it
+//! reader.feed(b"0\nF0000000000010000000c\n", &net, &mut frames)?;
 //! ```
 //!
 //! It is no checksum: noise that happens to spell a frame in range is read as one. A stream that

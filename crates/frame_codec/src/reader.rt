@@ -1,5 +1,6 @@
 //! A reader of frames from a stream of bytes.
-ghost use Rattle.std.specs.Prelude.{◌≡◌, ◌+◌, ◌/◌, ◌<◌, ◌≤◌, [], ◌∷◌, ◌++◌, List, ℕ, length, take, IfNone, OnOk, OnErr, vec_len, vec_capacity};
+ghost use Rattle.std.specs.Prelude.{◌≡◌, ◌+◌, ◌/◌, ◌<◌, ◌≤◌, [], ◌∷◌, ◌++◌, List, ℕ, length, take};
+ghost use Rattle.std.specs.Prelude.{IfNone, OnOk, OnErr, vec_len, vec_capacity};
 ghost use Rattle.std.specs.Option.{option_to_list, option_len};
 ghost use Rattle.topology.specs.Ranges.{ranges_of};
 ghost use Rattle.topology.specs.declared.frame.Frame.{Frame};
@@ -39,8 +40,10 @@ impl LineReader {
 
     /// Reads one byte: a frame exactly where the byte ends a good line.
     pub fn push(&mut self, byte: u8, net: &Net) -> Option<Frame>
-        ensures frames { ReadsFrames (ranges_of net.now) self.old self.new (byte ∷ []) (option_to_list result) }
-        ensures any_cutting { ReadsOn (ranges_of net.now) self.old self.new (byte ∷ []) (option_to_list result) }
+        ensures frames { ReadsFrames (ranges_of net.now) self.old self.new (byte ∷ [])
+            (option_to_list result) }
+        ensures any_cutting { ReadsOn (ranges_of net.now) self.old self.new (byte ∷ [])
+            (option_to_list result) }
     {
         byte_lines::laws::any_cutting();
         let lines = FrameLines(net.ranges());
@@ -54,7 +57,8 @@ impl LineReader {
         ensures all { IfNone result.1 (result.0 ≡ length piece.now) }
         ensures frames { ReadsFrames (ranges_of net.now) self.old self.new (take result.0 piece.now)
             (option_to_list result.1) }
-        ensures any_cutting { ReadsOn (ranges_of net.now) self.old self.new (take result.0 piece.now)
+        ensures any_cutting { ReadsOn (ranges_of net.now) self.old self.new
+            (take result.0 piece.now)
             (option_to_list result.1) }
     {
         byte_lines::laws::any_cutting();
@@ -85,7 +89,8 @@ impl LineReader {
         ensures refused { OnErr result ((self.new ≡ self.old) × (out.new.items ≡ out.old.items)) }
         // each frame takes 22 bytes, of which the first may have some already
         ensures refused_only { OnErr result
-            (vec_capacity out.old < vec_len out.old + (length self.old.first + length piece.now) / 22) }
+            (vec_capacity out.old
+            < vec_len out.old + (length self.old.first + length piece.now) / 22) }
     {
         byte_lines::laws::any_cutting();
         out.reserve((self.half.len() + piece.len()) / 22)?;
@@ -98,7 +103,8 @@ impl LineReader {
 fn find_frame(half: &mut HalfLine<21>, piece: &[u8], lines: &FrameLines) -> (usize, Option<Frame>)
     ensures used { result.0 ≤ length piece.now }
     ensures all { IfNone result.1 (result.0 ≡ length piece.now) }
-    ensures frames { ReadsFrames lines.now.0 half.old half.new (take result.0 piece.now) (option_to_list result.1) }
+    ensures frames { ReadsFrames lines.now.0 half.old half.new (take result.0 piece.now)
+        (option_to_list result.1) }
 {
     byte_lines::laws::any_cutting();
     let mut at = 0;

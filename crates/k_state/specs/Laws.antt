@@ -13,11 +13,13 @@ GoodStays = (q moves : ℕ) (old new : List ℕ) → Step q moves old new → Is
 
 -- a run keeps a good ring good
 abbrev pub GoodOutlastsRuns : Type 0
-GoodOutlastsRuns = (q moves : ℕ) (old new : List ℕ) → Run q moves old new → IsGood q old → IsGood q new
+GoodOutlastsRuns =
+    (q moves : ℕ) (old new : List ℕ) → Run q moves old new → IsGood q old → IsGood q new
 
 -- where there are two values or more, the items of a good ring that equal its head stand in front
 abbrev pub GoodHasFront : Type 0
-GoodHasFront = (q : ℕ) (ring : List ℕ) → 1 < q → IsRing q ring → IsGood q ring → HasFront (head_of ring) ring
+GoodHasFront =
+    (q : ℕ) (ring : List ℕ) → 1 < q → IsRing q ring → IsGood q ring → HasFront (head_of ring) ring
 
 -- ---- a value that stands nowhere else
 
@@ -34,13 +36,15 @@ FreshHasFront = (ring : List ℕ) → IsFresh ring → HasFront (head_of ring) r
 abbrev pub FrontStaysOrTurnsGood : Type 0
 FrontStaysOrTurnsGood =
     (q a moves : ℕ) (old new : List ℕ) → Step q moves old new → HasFront a old
-    → ((moves ≡ 0) × HasFront a new) ⊎ ((moves ≡ 1) × IsGood q new × AllByRecursion (λ x. x ≡ a) (tail_of new))
+    → ((moves ≡ 0) × HasFront a new)
+    ⊎ ((moves ≡ 1) × IsGood q new × AllByRecursion (λ x. x ≡ a) (tail_of new))
 
 -- where the head makes as many moves as there were items, at most q, it holds before the last of
 -- them a value that stands nowhere else when the head first holds it
 abbrev pub SomeValueIsFresh : Type 0
 SomeValueIsFresh =
-    (q n : ℕ) (ring : ℕ → List ℕ) (moves : ℕ → ℕ) → IsHistory q n ring moves → IsRing q (ring 0) → length (ring 0) ≤ q
+    (q n : ℕ) (ring : ℕ → List ℕ) (moves : ℕ → ℕ) → IsHistory q n ring moves → IsRing q (ring 0)
+    → length (ring 0) ≤ q
     → length (ring 0) ≤ moves_until moves n → (k : ℕ) × (k ≤ n) × IsFreshMoment ring moves k
 
 -- ---- convergence
@@ -48,18 +52,22 @@ SomeValueIsFresh =
 -- a ring of at most q items is good after as many head moves as it had items
 abbrev pub TurnsGood : Type 0
 TurnsGood =
-    (q n : ℕ) (ring : ℕ → List ℕ) (moves : ℕ → ℕ) → IsHistory q n ring moves → IsRing q (ring 0) → length (ring 0) ≤ q
+    (q n : ℕ) (ring : ℕ → List ℕ) (moves : ℕ → ℕ) → IsHistory q n ring moves → IsRing q (ring 0)
+    → length (ring 0) ≤ q
     → length (ring 0) ≤ moves_until moves n → IsGood q (ring n)
 
 -- the same of a run
 abbrev pub RunTurnsGood : Type 0
-RunTurnsGood = (q moves : ℕ) (old new : List ℕ) → Run q moves old new → IsRing q old → length old ≤ q → length old ≤ moves → IsGood q new
+RunTurnsGood =
+    (q moves : ℕ) (old new : List ℕ) → Run q moves old new → IsRing q old → length old ≤ q
+    → length old ≤ moves → IsGood q new
 
 -- ---- many items at once
 
 -- a parallel step is a run without head moves
 abbrev pub ParallelIsRun : Type 0
-ParallelIsRun = (q left : ℕ) (xs ys : List ℕ) → IsParallel left xs ys → Run q 0 (left ∷ xs) (left ∷ ys)
+ParallelIsRun =
+    (q left : ℕ) (xs ys : List ℕ) → IsParallel left xs ys → Run q 0 (left ∷ xs) (left ∷ ys)
 
 -- a step is a run
 abbrev pub StepIsRun : Type 0
@@ -73,18 +81,24 @@ RunsJoin = (q m n : ℕ) (xs ys zs : List ℕ) → Run q m xs ys → Run q n ys 
 
 -- some item of a ring is privileged, good or not
 abbrev pub SomeItemIsPrivileged : Type 0
-SomeItemIsPrivileged = (ring : List ℕ) → 0 < length ring → (i : ℕ) × (i < length ring) × IsTrue (is_privileged_at ring i)
+SomeItemIsPrivileged =
+    (ring : List ℕ) → 0 < length ring
+    → (i : ℕ) × (i < length ring) × IsTrue (is_privileged_at ring i)
 
 -- at most one item of a good ring is privileged
 abbrev pub OneItemIsPrivileged : Type 0
 OneItemIsPrivileged =
-    (q i j : ℕ) (ring : List ℕ) → 1 < q → IsRing q ring → IsGood q ring → IsTrue (is_privileged_at ring i) → IsTrue (is_privileged_at ring j) → i ≡ j
+    (q i j : ℕ) (ring : List ℕ) → 1 < q → IsRing q ring → IsGood q ring
+    → IsTrue (is_privileged_at ring i) → IsTrue (is_privileged_at ring j) → i ≡ j
 
 -- between two moves of the head of a good ring, each item is privileged at some moment
 abbrev pub PrivilegePasses : Type 0
 PrivilegePasses =
-    (q n i : ℕ) (ring : ℕ → List ℕ) (moves : ℕ → ℕ) → 1 < q → ((k : ℕ) → k < n → Turn q (moves k) (ring k) (ring (k + 1))) → IsRing q (ring 0) → IsGood q (ring 0)
-    → 2 ≤ moves_until moves n → i < length (ring 0) → (k : ℕ) × (k ≤ n) × (moves_until moves k ≡ 1) × IsTrue (is_privileged_at (ring k) i)
+    (q n i : ℕ) (ring : ℕ → List ℕ) (moves : ℕ → ℕ) → 1 < q
+    → ((k : ℕ) → k < n → Turn q (moves k) (ring k) (ring (k + 1))) → IsRing q (ring 0)
+    → IsGood q (ring 0)
+    → 2 ≤ moves_until moves n → i < length (ring 0)
+    → (k : ℕ) × (k ≤ n) × (moves_until moves k ≡ 1) × IsTrue (is_privileged_at (ring k) i)
 
 -- ---- ages
 
@@ -98,7 +112,8 @@ AgesDiffer = (q start x y : ℕ) → x < q → y < q → age q start x ≡ age q
 
 -- the next value is one move further, while there is a further one
 abbrev pub AgeGoesOn : Type 0
-AgeGoesOn = (q start x : ℕ) → age q start x + 1 < q → age q start (root_moved x q) ≡ age q start x + 1
+AgeGoesOn =
+    (q start x : ℕ) → age q start x + 1 < q → age q start (root_moved x q) ≡ age q start x + 1
 
 -- ages that fall along a ring fall along it after every run, as long as the head's own counts its
 -- moves

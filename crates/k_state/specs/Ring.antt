@@ -27,7 +27,8 @@ but_last x (y ∷ ys) = x ∷ but_last y ys
 -- another than the head, may go
 pub data HeadMove (q : ℕ) : List ℕ → List ℕ → Type 0 where
   Moved : {x : ℕ} {xs : List ℕ} → last_of x xs ≡ x → HeadMove q (x ∷ xs) (root_moved x q ∷ xs)
-  Dropped : {x y : ℕ} {ys : List ℕ} → last_of y ys ≡ x → HeadMove q (x ∷ y ∷ ys) (root_moved x q ∷ but_last y ys)
+  Dropped : {x y : ℕ} {ys : List ℕ} → last_of y ys ≡ x
+      → HeadMove q (x ∷ y ∷ ys) (root_moved x q ∷ but_last y ys)
 
 -- some changes, and then at most one head move; with the number of head moves, 0 or 1
 pub data Step (q : ℕ) : ℕ → List ℕ → List ℕ → Type 0 where
@@ -104,7 +105,8 @@ pub record IsFreshMoment (ring : ℕ → List ℕ) (moves : ℕ → ℕ) (k : �
 -- a parallel step, or the head's move; with the number of head moves, 0 or 1
 pub data Turn (q : ℕ) : ℕ → List ℕ → List ℕ → Type 0 where
   Copies : {x : ℕ} {xs ys : List ℕ} → IsParallel x xs ys → Turn q zero (x ∷ xs) (x ∷ ys)
-  Goes_on : {x : ℕ} {xs : List ℕ} → last_of x xs ≡ x → Turn q (suc zero) (x ∷ xs) (root_moved x q ∷ xs)
+  Goes_on : {x : ℕ} {xs : List ℕ} → last_of x xs ≡ x
+      → Turn q (suc zero) (x ∷ xs) (root_moved x q ∷ xs)
 
 -- the item at place i behind `left` sees another value before it
 abbrev pub sees_another : ℕ → List ℕ → ℕ → Bool

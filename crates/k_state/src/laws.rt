@@ -1,6 +1,11 @@
 //! The laws of the copying ring, each the contract of a function that does nothing. A proof that
 //! needs one calls it and cites its clauses.
-ghost use Rattle.k_state.specs.Laws.{AgeGoesOn, AgeOfStart, AgesDiffer, AgesStay, AgesTurnGood, FallingHasFront, FreshHasFront, FrontStaysOrTurnsGood, GoodHasFront, GoodOutlastsRuns, GoodStays, OneItemIsPrivileged, ParallelIsRun, PrivilegePasses, RingStays, RunTurnsGood, RunsJoin, SomeItemIsPrivileged, SomeValueIsFresh, StepIsRun, TurnsGood};
+ghost use Rattle.k_state.specs.Laws.{AgeGoesOn, AgeOfStart, AgesDiffer, AgesStay, AgesTurnGood};
+ghost use Rattle.k_state.specs.Laws.{FallingHasFront, FreshHasFront, FrontStaysOrTurnsGood};
+ghost use Rattle.k_state.specs.Laws.{GoodHasFront, GoodOutlastsRuns, GoodStays};
+ghost use Rattle.k_state.specs.Laws.{OneItemIsPrivileged, ParallelIsRun, PrivilegePasses};
+ghost use Rattle.k_state.specs.Laws.{RingStays, RunTurnsGood, RunsJoin, SomeItemIsPrivileged};
+ghost use Rattle.k_state.specs.Laws.{SomeValueIsFresh, StepIsRun, TurnsGood};
 
 /// A good ring stays good, whatever changes and head moves follow. Links need it to stay stable,
 /// the token ring to keep its one token.

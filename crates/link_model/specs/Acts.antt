@@ -43,7 +43,8 @@ takes_sent _ origins = false
 abbrev pub hands_over_sent : ℕ → ℕ → List LinkAct → List Origin → Bool
 hands_over_sent capacity i [] origins = false
 hands_over_sent capacity i (act ∷ acts) origins =
-    takes_sent act origins || hands_over_sent capacity (suc i) acts (list_after capacity (Sent i) act origins)
+    takes_sent act origins
+    || hands_over_sent capacity (suc i) acts (list_after capacity (Sent i) act origins)
 
 -- a stretch renews a link that held these items at its start
 abbrev pub is_renewed : ℕ → List LinkAct → List Item → Bool

@@ -6,7 +6,8 @@ use Rattle.link_model.specs.Acts.{LinkAct, Takes, Loses, Origin, Before, Sent, l
 -- the origins beside a link's items after some acts, the first of which has the number i
 abbrev pub origins_after : ℕ → ℕ → List LinkAct → List Origin → List Origin
 origins_after capacity i [] origins = origins
-origins_after capacity i (act ∷ acts) origins = origins_after capacity (suc i) acts (list_after capacity (Sent i) act origins)
+origins_after capacity i (act ∷ acts) origins =
+    origins_after capacity (suc i) acts (list_after capacity (Sent i) act origins)
 
 -- how many of these come from before the stretch
 abbrev pub old_count : List Origin → ℕ

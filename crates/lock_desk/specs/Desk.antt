@@ -110,7 +110,8 @@ counted_down lease d = if lends d && nat_lt 0 lease then record d { left = d.lef
 
 -- the first part of a tick: the loan ends or goes on
 abbrev pub loan_looked_at : Bool → ℕ → DeskState → DeskState
-loan_looked_at privileged lease d = if loan_ends privileged lease d then ended d else counted_down lease d
+loan_looked_at privileged lease d =
+    if loan_ends privileged lease d then ended d else counted_down lease d
 
 -- the lock is lent next where the node is privileged, lends to nobody, has not served, and somebody
 -- waits
@@ -120,7 +121,8 @@ lends_next privileged d = privileged && not (lends d) && not d.served && nat_lt 
 -- the first of those who wait borrows, for the whole lease
 abbrev pub lent_to_first : ℕ → List ℕ → DeskState → DeskState
 lent_to_first lease [] d = d
-lent_to_first lease (t ∷ ts) d = record { waiting = ts; lent = Some t; left = lease; served = d.served }
+lent_to_first lease (t ∷ ts) d =
+    record { waiting = ts; lent = Some t; left = lease; served = d.served }
 
 abbrev pub lent_next : ℕ → DeskState → DeskState
 lent_next lease d = lent_to_first lease d.waiting d
@@ -135,7 +137,8 @@ cleared d = if lends d then d else record d { served = false }
 
 -- a whole tick
 abbrev pub desk_ticked : ℕ → Bool → DeskState → DeskState
-desk_ticked lease privileged d = cleared (loan_begun privileged lease (loan_looked_at privileged lease d))
+desk_ticked lease privileged d =
+    cleared (loan_begun privileged lease (loan_looked_at privileged lease d))
 
 -- a loan may be written at a desk where its ticket does not wait and what is left of it fits
 abbrev pub loan_fits : ℕ → DeskState → Option ℕ → ℕ → Bool
@@ -143,4 +146,5 @@ loan_fits lease d lent left = may_be_lent d.waiting lent && left_fits lease lent
 
 -- the desk with another loan written
 abbrev pub with_loan : DeskState → Option ℕ → ℕ → Bool → DeskState
-with_loan d lent left served = record { waiting = d.waiting; lent = lent; left = left; served = served }
+with_loan d lent left served =
+    record { waiting = d.waiting; lent = lent; left = left; served = served }

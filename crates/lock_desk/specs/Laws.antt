@@ -9,16 +9,21 @@ use Rattle.lock_desk.specs.declared.act.DeskAct.TheVariants.{Quiet, Granted, Los
 -- only with privilege
 abbrev pub LoansNeedPrivilege : Type 0
 LoansNeedPrivilege =
-    (lease : ℕ) (privileged : Bool) (d : DeskState) → lends (desk_ticked lease privileged d) ≡ true → privileged ≡ true
+    (lease : ℕ) (privileged : Bool) (d : DeskState) → lends (desk_ticked lease privileged d) ≡ true
+    → privileged ≡ true
 
 -- asking begins no loan, and leaving begins none: a desk that lends behind it lent before
 abbrev pub OnlyTicksLend : Type 0
-OnlyTicksLend = (t : ℕ) (d : DeskState) → (lends (asked t d) ≡ true → lends d ≡ true) × (lends (after_leave t d) ≡ true → lends d ≡ true)
+OnlyTicksLend =
+    (t : ℕ) (d : DeskState)
+    → (lends (asked t d) ≡ true → lends d ≡ true)
+    × (lends (after_leave t d) ≡ true → lends d ≡ true)
 
 -- a loan that outlasts a tick is the loan that stood before: no tick ends one and begins another
 abbrev pub LoansAreNotExchanged : Type 0
 LoansAreNotExchanged =
-    (lease : ℕ) (privileged : Bool) (d : DeskState) → lends d ≡ true → lends (desk_ticked lease privileged d) ≡ true
+    (lease : ℕ) (privileged : Bool) (d : DeskState) → lends d ≡ true
+    → lends (desk_ticked lease privileged d) ≡ true
     → (desk_ticked lease privileged d).lent ≡ d.lent
 
 -- what may happen at a desk; a tick comes with privilege or without
@@ -47,13 +52,15 @@ begins_loan lease call d = not (lends d) && lends (after_call lease call d)
 abbrev pub LendsNoMore : ℕ → DeskState → List DeskCall → Type 0
 LendsNoMore lease d [] = Unit {0}
 LendsNoMore lease d (call ∷ calls) =
-    (begins_loan lease call d ≡ false) × (is_full_tick lease call d ≡ false → LendsNoMore lease (after_call lease call d) calls)
+    (begins_loan lease call d ≡ false)
+    × (is_full_tick lease call d ≡ false → LendsNoMore lease (after_call lease call d) calls)
 
 -- a desk that lends, or has served, begins no loan before the next full tick is over, whatever
 -- calls come
 abbrev pub OneLoanAStay : Type 0
 OneLoanAStay =
-    (lease : ℕ) (d : DeskState) (calls : List DeskCall) → lends d || d.served ≡ true → LendsNoMore lease d calls
+    (lease : ℕ) (d : DeskState) (calls : List DeskCall) → lends d || d.served ≡ true
+    → LendsNoMore lease d calls
 
 -- a full tick with privilege, while somebody waits, is one of a desk that had served, or one that
 -- ended a loan
@@ -79,24 +86,30 @@ IsTurn before after Quiet = before ≡ after
 abbrev pub FirstComeFirstServed : Type 0
 FirstComeFirstServed =
     (lease : ℕ) (privileged : Bool) (d : DeskState)
-    → IsTurn d.waiting (desk_ticked lease privileged d).waiting (desk_act d (desk_ticked lease privileged d))
+    → IsTurn d.waiting (desk_ticked lease privileged d).waiting
+    (desk_act d (desk_ticked lease privileged d))
 
 -- a desk in range stays in range in a tick
 abbrev pub TicksKeepRanges : Type 0
 TicksKeepRanges =
-    (lease : ℕ) (privileged : Bool) (d : DeskState) → desk_fits lease d ≡ true → desk_fits lease (desk_ticked lease privileged d) ≡ true
+    (lease : ℕ) (privileged : Bool) (d : DeskState) → desk_fits lease d ≡ true
+    → desk_fits lease (desk_ticked lease privileged d) ≡ true
 
 -- where a ticket asks
 abbrev pub AsksKeepRanges : Type 0
 AsksKeepRanges =
-    (lease t : ℕ) (d : DeskState) → is_number t ≡ true → desk_fits lease d ≡ true → ask_fault t d ≡ None → desk_fits lease (asked t d) ≡ true
+    (lease t : ℕ) (d : DeskState) → is_number t ≡ true → desk_fits lease d ≡ true
+    → ask_fault t d ≡ None → desk_fits lease (asked t d) ≡ true
 
 -- where one leaves
 abbrev pub LeavesKeepRanges : Type 0
-LeavesKeepRanges = (lease t : ℕ) (d : DeskState) → desk_fits lease d ≡ true → desk_fits lease (after_leave t d) ≡ true
+LeavesKeepRanges =
+    (lease t : ℕ) (d : DeskState) → desk_fits lease d ≡ true
+    → desk_fits lease (after_leave t d) ≡ true
 
 -- and where a loan that fits is written
 abbrev pub LoansKeepRanges : Type 0
 LoansKeepRanges =
-    (lease left : ℕ) (lent : Option ℕ) (served : Bool) (d : DeskState) → desk_fits lease d ≡ true → loan_fits lease d lent left ≡ true
+    (lease left : ℕ) (lent : Option ℕ) (served : Bool) (d : DeskState) → desk_fits lease d ≡ true
+    → loan_fits lease d lent left ≡ true
     → desk_fits lease (with_loan d lent left served) ≡ true

@@ -7,7 +7,8 @@ use Rattle.lock_desk.specs.Desk.{DeskState, is_number, are_distinct, may_be_lent
 -- borrows
 abbrev pub queue_fits : List ℕ → Option ℕ → Bool
 queue_fits tickets lent =
-    nat_le (length tickets) 64 && list_all is_number tickets && are_distinct tickets && may_be_lent tickets lent
+    nat_le (length tickets) 64 && list_all is_number tickets && are_distinct tickets
+    && may_be_lent tickets lent
 
 -- the desk with other tickets that wait
 abbrev pub with_queue : DeskState → List ℕ → DeskState

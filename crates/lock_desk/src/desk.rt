@@ -1,6 +1,9 @@
 //! The desk of one node.
-ghost use Rattle.std.specs.Prelude.{◌≡◌, false, true, None, Some, IsTrue, IfErr, IfOk, OnErr, OnOk, length, ◌≤◌};
-ghost use Rattle.lock_desk.specs.Desk.{DeskState, no_desk, desk_fits, waits, ask_fault, asked, is_stranger, after_leave, desk_ticked, ended, loan_looked_at, loan_begun, loan_fits, with_loan};
+ghost use Rattle.std.specs.Prelude.{◌≡◌, false, true, None, Some, IsTrue, IfErr, IfOk, OnErr, OnOk};
+ghost use Rattle.std.specs.Prelude.{length, ◌≤◌};
+ghost use Rattle.lock_desk.specs.Desk.{DeskState, no_desk, desk_fits, waits, ask_fault, asked};
+ghost use Rattle.lock_desk.specs.Desk.{is_stranger, after_leave, desk_ticked, ended};
+ghost use Rattle.lock_desk.specs.Desk.{loan_looked_at, loan_begun, loan_fits, with_loan};
 ghost use Rattle.lock_desk.specs.Act.{desk_act};
 ghost use Rattle.lock_desk.specs.View.{DeskView};
 ghost use Rattle.lock_desk.specs.Queue.{queue_fits, with_queue};
@@ -34,7 +37,8 @@ impl<A: Allocator> Model for Desk<A> {
     } };
 
     ghost invariant = { λ d. (64 ≤ vec_capacity d.waiting)
-        × IsTrue (desk_fits d.lease (record { waiting = d.waiting.items; lent = d.lent; left = d.left; served = d.served })) };
+        × IsTrue (desk_fits d.lease
+        (record { waiting = d.waiting.items; lent = d.lent; left = d.left; served = d.served })) };
 }
 
 impl<A: Allocator> Desk<A> {
@@ -178,7 +182,8 @@ impl<A: Allocator> Desk<A> {
 
     /// Ends the loan, or counts one of its ticks.
     fn look_at_loan(&mut self, privileged: bool)
-        ensures { self.new ≡ record self.old { state = loan_looked_at privileged self.old.lease self.old.state } }
+        ensures { self.new
+            ≡ record self.old { state = loan_looked_at privileged self.old.lease self.old.state } }
     {
         if self.lent.is_none() {
             return;
@@ -192,7 +197,8 @@ impl<A: Allocator> Desk<A> {
 
     /// Lends the lock to the first who waits, if it is to be lent.
     fn begin_loan(&mut self, privileged: bool)
-        ensures { self.new ≡ record self.old { state = loan_begun privileged self.old.lease self.old.state } }
+        ensures { self.new
+            ≡ record self.old { state = loan_begun privileged self.old.lease self.old.state } }
     {
         if privileged && self.lent.is_none() && !self.served && !self.waiting.is_empty() {
             self.lent = Some(self.waiting.remove(0));

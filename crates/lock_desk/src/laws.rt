@@ -1,6 +1,9 @@
 //! Laws of a desk, each the contract of a function that does nothing. The proofs above a desk rest
 //! on these alone.
-ghost use Rattle.lock_desk.specs.Laws.{LoansNeedPrivilege, OnlyTicksLend, LoansAreNotExchanged, OneLoanAStay, PassesOnlyServed, FullTicksClear, FirstComeFirstServed, TicksKeepRanges, AsksKeepRanges, LeavesKeepRanges, LoansKeepRanges};
+ghost use Rattle.lock_desk.specs.Laws.{LoansNeedPrivilege, OnlyTicksLend, LoansAreNotExchanged};
+ghost use Rattle.lock_desk.specs.Laws.{OneLoanAStay, PassesOnlyServed, FullTicksClear};
+ghost use Rattle.lock_desk.specs.Laws.{FirstComeFirstServed, TicksKeepRanges, AsksKeepRanges};
+ghost use Rattle.lock_desk.specs.Laws.{LeavesKeepRanges, LoansKeepRanges};
 
 /// A loan begins and outlasts a tick only with privilege. So where at most one node is privileged,
 /// after each node's next tick at most one desk lends; whoever shows that a legitimate network

@@ -28,7 +28,8 @@ may_move site s t = is_privileged (is_special site s t) (s.value t) (before s t)
 
 -- its value after its move: one more, modulo K, for the special one; what it sees, for any other
 abbrev pub moved_value : Site → LocalState → ℕ → ℕ
-moved_value site s t = if is_special site s t then root_moved (s.value t) site.ranges.ring else before s t
+moved_value site s t =
+    if is_special site s t then root_moved (s.value t) site.ranges.ring else before s t
 
 -- a node is privileged where one of its machines may move
 abbrev pub is_node_privileged : Site → LocalState → Bool

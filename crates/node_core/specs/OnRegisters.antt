@@ -12,12 +12,15 @@ pub record IsTreeWithin (r : RegistersView) (tree : List ℕ) : Type 0 where
 
 -- the machine from t, where `chosen` is the special one, may move
 abbrev pub machine_may_move : RegistersView → Option ℕ → ℕ → Bool
-machine_may_move r chosen t = is_privileged (is_named chosen t) (value_of r t) (port_of r t).copy.ring
+machine_may_move r chosen t =
+    is_privileged (is_named chosen t) (value_of r t) (port_of r t).copy.ring
 
 -- its value after a move
 abbrev pub machine_moved : RegistersView → Option ℕ → ℕ → ℕ
-machine_moved r chosen t = if is_named chosen t then root_moved (value_of r t) r.ranges.ring else (port_of r t).copy.ring
+machine_moved r chosen t =
+    if is_named chosen t then root_moved (value_of r t) r.ranges.ring else (port_of r t).copy.ring
 
 -- the values after all machines moved that may
 abbrev pub values_moved : RegistersView → List ℕ → Option ℕ → ℕ → ℕ
-values_moved r tree chosen t = if is_on tree t && machine_may_move r chosen t then machine_moved r chosen t else value_of r t
+values_moved r tree chosen t =
+    if is_on tree t && machine_may_move r chosen t then machine_moved r chosen t else value_of r t

@@ -7,4 +7,5 @@ use Rattle.node_core.specs.State.{LocalState}
 -- the port and the value of a neighbour that stays are kept whole, those of a new one and of one
 -- that is gone are as at the start; distance, parent and desk stay
 abbrev pub rewired : Ranges → (old new : List ℕ) → LocalState → LocalState
-rewired ranges old new s = record s { port = rewired_ports ranges old new s.port; value = rewired_values old new s.value }
+rewired ranges old new s =
+    record s { port = rewired_ports ranges old new s.port; value = rewired_values old new s.value }

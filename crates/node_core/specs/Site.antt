@@ -15,4 +15,10 @@ pub record Site : Type 0 where
 
 -- the site of node v
 abbrev pub site_of : Network → ℕ → Site
-site_of net v = record { id = v; is_root = v == net.root; ranges = ranges_of net; lease = net.lease; neighbours = neighbours_of net v }
+site_of net v = record {
+  id = v;
+  is_root = v == net.root;
+  ranges = ranges_of net;
+  lease = net.lease;
+  neighbours = neighbours_of net v;
+}

@@ -21,7 +21,9 @@ item_fits r item.Noise = true
 
 -- a frame from neighbour w at its port, where what the node says to w before it may be staged
 abbrev pub heard : Site → ℕ → Frame → LocalState → LocalState
-heard site w f s = record s { port = at s.port w (port_after site.ranges.counter (s.port w) f (payload_for site s w)) }
+heard site w f s = record s {
+  port = at s.port w (port_after site.ranges.counter (s.port w) f (payload_for site s w));
+}
 
 -- an item from neighbour w: a frame in range is heard; a frame out of range changes nothing, nor
 -- does noise
@@ -47,7 +49,9 @@ desk_done site s = record s { desk = desk_ticked site.lease (is_node_privileged 
 -- last part: where the desk lends to nobody, each machine that may move does, all at once
 abbrev pub machines_moved : Site → LocalState → LocalState
 machines_moved site s = record s {
-  value = λ t. if is_none s.desk.lent && (is_on (tree_of site s) t && may_move site s t) then moved_value site s t else s.value t;
+  value = λ t. if is_none s.desk.lent && (is_on (tree_of site s) t && may_move site s t)
+      then moved_value site s t
+      else s.value t;
 }
 
 -- a tick

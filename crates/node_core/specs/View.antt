@@ -18,11 +18,23 @@ pub record NodeView : Type 0 where
 
 -- what the node knows of its network
 abbrev pub site_in : NodeView → Site
-site_in v = record { id = v.id; is_root = v.is_root; ranges = v.registers.ranges; lease = v.desk.lease; neighbours = v.registers.neighbours }
+site_in v = record {
+  id = v.id;
+  is_root = v.is_root;
+  ranges = v.registers.ranges;
+  lease = v.desk.lease;
+  neighbours = v.registers.neighbours;
+}
 
 -- its state
 abbrev pub state_of : NodeView → LocalState
-state_of v = record { distance = v.distance; parent = v.parent; port = port_of v.registers; value = value_of v.registers; desk = v.desk.state }
+state_of v = record {
+  distance = v.distance;
+  parent = v.parent;
+  port = port_of v.registers;
+  value = value_of v.registers;
+  desk = v.desk.state;
+}
 
 -- A node's id, distance and parent are in their ranges; its registers and its desk see to
 -- themselves.

@@ -3,7 +3,8 @@ ghost use Rattle.std.specs.Prelude.{◌≡◌, ◌<◌, ◌&&◌, ℕ, IsTrue, i
 ghost use Rattle.std.specs.List.{list_any};
 ghost use Rattle.euler_ring.specs.Cycle.{is_on, special, source_for, tree_neighbours};
 ghost use Rattle.registers.specs.Registers.{port_of, value_of};
-ghost use Rattle.node_core.specs.OnRegisters.{IsTreeWithin, machine_may_move, machine_moved, values_moved};
+ghost use Rattle.node_core.specs.OnRegisters.{IsTreeWithin, machine_may_move, machine_moved};
+ghost use Rattle.node_core.specs.OnRegisters.{values_moved};
 
 use euler_ring::{TreeNeighbours, tree_neighbours};
 use k_state::{copy_move, privileged, root_move};
@@ -13,7 +14,8 @@ use std::alloc::Allocator;
 /// The neighbours on the tree, by the node's own parent and the copied ones.
 pub fn tree<A: Allocator>(registers: &Registers<A>, parent: Option<u16>, id: u16) -> TreeNeighbours
     ensures tree { result
-        ≡ tree_neighbours parent id registers.now.neighbours (λ w. (port_of registers.now w).copy.parent) }
+        ≡ tree_neighbours parent id registers.now.neighbours
+        (λ w. (port_of registers.now w).copy.parent) }
     ensures within { IsTreeWithin registers.now result }
 {
     tree_neighbours(parent, id, registers.neighbours(), |w| {
@@ -57,7 +59,8 @@ pub fn some_may_move<A: Allocator>(
     is_root: bool,
 ) -> bool
     requires { IsTreeWithin registers.now tree.now }
-    ensures { result ≡ list_any (machine_may_move registers.now (special is_root tree.now)) tree.now }
+    ensures { result ≡ list_any (machine_may_move registers.now (special is_root tree.now))
+        tree.now }
 {
     let chosen = tree.special(is_root);
     for t in registers.neighbours() {

@@ -1,10 +1,13 @@
 //! One node.
-ghost use Rattle.std.specs.Prelude.{◌≡◌, ◌↔◌, ◌<◌, ◌≤◌, ℕ, Bool, true, false, not, List, IsTrue, IfOk, IfErr, IsOk, OnOk, OnErr, Some, None, is_none, Contains, length, take, drop};
+ghost use Rattle.std.specs.Prelude.{◌≡◌, ◌↔◌, ◌<◌, ◌≤◌, ℕ, Bool, true, false, not, List, IsTrue};
+ghost use Rattle.std.specs.Prelude.{IfOk, IfErr, IsOk, OnOk, OnErr, Some, None, is_none, Contains};
+ghost use Rattle.std.specs.Prelude.{length, take, drop};
 ghost use Rattle.topology.specs.At.{at};
 ghost use Rattle.topology.specs.Network.{neighbours_of};
 ghost use Rattle.topology.specs.Ranges.{frame_fits, payload_fits, parent_fits, ranges_of};
 ghost use Rattle.data_link.specs.Port.{counters_fit, frame_of};
-ghost use Rattle.lock_desk.specs.Desk.{ask_fault, asked, is_stranger, after_leave, loan_fits, with_loan};
+ghost use Rattle.lock_desk.specs.Desk.{ask_fault, asked, is_stranger, after_leave, loan_fits};
+ghost use Rattle.lock_desk.specs.Desk.{with_loan};
 ghost use Rattle.lock_desk.specs.Act.{desk_act};
 ghost use Rattle.lock_desk.specs.Queue.{queue_fits, with_queue};
 ghost use Rattle.node_core.specs.Site.{site_of};
@@ -44,14 +47,30 @@ pub type NodeState<A = Global> = Node<A>;
 
 impl<A: Allocator> Model for Node<A> {
     ghost use Rattle.node_core.specs.Machines.{is_node_privileged, payload_for};
-    ghost use Rattle.node_core.specs.Step.{desk_done, item_fits, machines_moved, recomputed, taken, ticked};
+    ghost use Rattle.node_core.specs.Step.{desk_done, item_fits, machines_moved, recomputed, taken};
+    ghost use Rattle.node_core.specs.Step.{ticked};
     ghost use Rattle.node_core.specs.View.{NodeView, IsOwnInRange};
 
     ghost Value = { NodeView };
 
-    ghost view = { λ n. record { id = n.id; is_root = n.is_root; distance = n.distance; parent = n.parent; registers = n.registers; desk = n.desk } };
+    ghost view = { λ n. record {
+      id = n.id;
+      is_root = n.is_root;
+      distance = n.distance;
+      parent = n.parent;
+      registers = n.registers;
+      desk = n.desk;
+    } };
 
-    ghost invariant = { λ n. IsOwnInRange (record { id = n.id; is_root = n.is_root; distance = n.distance; parent = n.parent; registers = n.registers; desk = n.desk }) };
+    ghost invariant = { λ n. IsOwnInRange
+        (record {
+          id = n.id;
+          is_root = n.is_root;
+          distance = n.distance;
+          parent = n.parent;
+          registers = n.registers;
+          desk = n.desk;
+        }) };
 }
 
 impl<A: Allocator + Copy> Node<A> {
@@ -96,7 +115,7 @@ impl<A: Allocator> Node<A> {
         ensures ranges { result ≡ (site_in self.now).ranges }
         ensures in_range { IsNodeInRange (site_in self.now) (state_of self.now) }
     {
-        let _lease = self.desk.lease();
+        let _known_lease = self.desk.lease();
         self.registers.ranges()
     }
 
@@ -251,7 +270,8 @@ impl<A: Allocator> Node<A> {
     /// Writes the distance and the parent. `OutOfRange` comes exactly where the distance is above
     /// the number of nodes, or the parent is no node; then nothing has changed.
     pub fn set_own(&mut self, distance: u16, parent: Option<u16>) -> Result<(), OutOfRange>
-        ensures variant { IsOk result ↔ IsTrue (own_fits (site_in self.old).ranges distance parent) }
+        ensures variant { IsOk result
+            ↔ IsTrue (own_fits (site_in self.old).ranges distance parent) }
         ensures ok { OnOk result (state_of self.new
             ≡ record (state_of self.old) { distance = distance; parent = parent }) }
         ensures out_of_range { OnErr result (self.new ≡ self.old) }
@@ -272,7 +292,8 @@ impl<A: Allocator> Node<A> {
         requires { Contains (site_in self.old).neighbours port }
         ensures variant { IsOk result ↔ IsTrue (counters_fit (site_in self.old).ranges seq last) }
         ensures ok { OnOk result (state_of self.new
-            ≡ with_port (state_of self.old) port (record ((state_of self.old).port port) { seq = seq; last = last })) }
+            ≡ with_port (state_of self.old) port
+            (record ((state_of self.old).port port) { seq = seq; last = last })) }
         ensures out_of_range { OnErr result (self.new ≡ self.old) }
         ensures site { site_in self.new ≡ site_in self.old }
     {
@@ -285,7 +306,8 @@ impl<A: Allocator> Node<A> {
         requires { Contains (site_in self.old).neighbours port }
         ensures variant { IsOk result ↔ IsTrue (payload_fits (site_in self.old).ranges payload) }
         ensures ok { OnOk result (state_of self.new
-            ≡ with_port (state_of self.old) port (record ((state_of self.old).port port) { staged = payload })) }
+            ≡ with_port (state_of self.old) port
+            (record ((state_of self.old).port port) { staged = payload })) }
         ensures out_of_range { OnErr result (self.new ≡ self.old) }
         ensures site { site_in self.new ≡ site_in self.old }
     {
@@ -298,7 +320,8 @@ impl<A: Allocator> Node<A> {
         requires { Contains (site_in self.old).neighbours port }
         ensures variant { IsOk result ↔ IsTrue (payload_fits (site_in self.old).ranges payload) }
         ensures ok { OnOk result (state_of self.new
-            ≡ with_port (state_of self.old) port (record ((state_of self.old).port port) { copy = payload })) }
+            ≡ with_port (state_of self.old) port
+            (record ((state_of self.old).port port) { copy = payload })) }
         ensures out_of_range { OnErr result (self.new ≡ self.old) }
         ensures site { site_in self.new ≡ site_in self.old }
     {
@@ -321,9 +344,12 @@ impl<A: Allocator> Node<A> {
     /// Writes the loan. `OutOfRange` comes exactly where its ticket waits, where more is left than
     /// the lease, or where anything is left of no loan; then nothing has changed.
     pub fn set_desk(&mut self, lent: Option<u16>, left: u16, served: bool) -> Result<(), OutOfRange>
-        ensures variant { IsOk result ↔ IsTrue (loan_fits (site_in self.old).lease (state_of self.old).desk lent left) }
+        ensures variant { IsOk result
+            ↔ IsTrue (loan_fits (site_in self.old).lease (state_of self.old).desk lent left) }
         ensures ok { OnOk result (state_of self.new
-            ≡ record (state_of self.old) { desk = with_loan (state_of self.old).desk lent left served }) }
+            ≡ record (state_of self.old) {
+              desk = with_loan (state_of self.old).desk lent left served;
+            }) }
         ensures out_of_range { OnErr result (self.new ≡ self.old) }
         ensures site { site_in self.new ≡ site_in self.old }
     {
@@ -337,9 +363,12 @@ impl<A: Allocator> Node<A> {
     /// more than 64, where one stands twice, or where one of them borrows; then nothing has
     /// changed.
     pub fn set_waiting(&mut self, tickets: &[u16]) -> Result<(), OutOfRange>
-        ensures variant { IsOk result ↔ IsTrue (queue_fits tickets.now (state_of self.old).desk.lent) }
+        ensures variant { IsOk result
+            ↔ IsTrue (queue_fits tickets.now (state_of self.old).desk.lent) }
         ensures ok { OnOk result (state_of self.new
-            ≡ record (state_of self.old) { desk = with_queue (state_of self.old).desk tickets.now }) }
+            ≡ record (state_of self.old) {
+              desk = with_queue (state_of self.old).desk tickets.now;
+            }) }
         ensures out_of_range { OnErr result (self.new ≡ self.old) }
         ensures site { site_in self.new ≡ site_in self.old }
     {
@@ -388,9 +417,12 @@ impl<A: Allocator> Node<A> {
     /// parent and desk stay.
     pub fn rewire<N: Allocator + Copy>(&mut self, net: &Net<N>)
         requires { site_of net.now (site_in self.old).id
-            ≡ record (site_in self.old) { neighbours = neighbours_of net.now (site_in self.old).id } }
+            ≡ record (site_in self.old) {
+              neighbours = neighbours_of net.now (site_in self.old).id;
+            } }
         ensures state { state_of self.new
-            ≡ rewired (site_in self.old).ranges (site_in self.old).neighbours (neighbours_of net.now (site_in self.old).id) (state_of self.old) }
+            ≡ rewired (site_in self.old).ranges (site_in self.old).neighbours
+            (neighbours_of net.now (site_in self.old).id) (state_of self.old) }
         ensures site { site_in self.new ≡ site_of net.now (site_in self.old).id }
     {
         self.registers.rewire(net, self.id);

@@ -10,7 +10,8 @@ use std::alloc::Allocator;
 /// One step of the breadth-first tree on the copied distances.
 pub fn new_own<A: Allocator>(registers: &Registers<A>, is_root: bool) -> (u16, Option<u16>)
     ensures own { result ≡ (
-      new_distance is_root registers.now.ranges.nodes (λ w. (port_of registers.now w).copy.distance) registers.now.neighbours,
+      new_distance is_root registers.now.ranges.nodes (λ w. (port_of registers.now w).copy.distance)
+          registers.now.neighbours,
       new_parent is_root (λ w. (port_of registers.now w).copy.distance) registers.now.neighbours,
     ) }
     ensures registers { IsRegisters registers.now }

@@ -14,7 +14,8 @@ pub record RegistersView : Type 0 where
 
 -- the port to w; past the last node the one that a node starts with
 abbrev pub port_of : RegistersView → ℕ → PortState
-port_of r w = (slice_index_or r.ports w (record { ranges = r.ranges; state = default_port r.ranges })).state
+port_of r w =
+    (slice_index_or r.ports w (record { ranges = r.ranges; state = default_port r.ranges })).state
 
 -- the value of the machine that comes in from w; past the last node 0
 abbrev pub value_of : RegistersView → ℕ → ℕ

@@ -1,10 +1,13 @@
 //! The registers of one node.
-ghost use Rattle.std.specs.Prelude.{◌≡◌, ◌↔◌, ◌<◌, ◌≤◌, ℕ, List, IsTrue, IfOk, Bool, IsOk, OnOk, OnErr, Contains, length, nat_lt, not, ◌&&◌, if◌then◌else◌, replicate, slice_index, slice_index_or};
+ghost use Rattle.std.specs.Prelude.{◌≡◌, ◌↔◌, ◌<◌, ◌≤◌, ℕ, List, IsTrue, IfOk, Bool, IsOk, OnOk};
+ghost use Rattle.std.specs.Prelude.{OnErr, Contains, length, nat_lt, not, ◌&&◌, if◌then◌else◌};
+ghost use Rattle.std.specs.Prelude.{replicate, slice_index, slice_index_or};
 ghost use Rattle.std.specs.Vec.{vec_capacity};
 ghost use Rattle.topology.specs.At.{at};
 ghost use Rattle.topology.specs.Network.{neighbours_of};
 ghost use Rattle.topology.specs.Ranges.{frame_fits, payload_fits, ranges_of};
-ghost use Rattle.data_link.specs.Port.{PortState, PortView, counters_fit, default_port, frame_of, heard_of, port_after};
+ghost use Rattle.data_link.specs.Port.{PortState, PortView, counters_fit, default_port, frame_of};
+ghost use Rattle.data_link.specs.Port.{heard_of, port_after};
 ghost use Rattle.registers.specs.Registers.{RegistersView, IsRegisters, port_of, value_of};
 ghost use Rattle.registers.specs.Rewire.{is_among, port_or_new, rewired_ports, rewired_values};
 
@@ -30,10 +33,20 @@ impl<A: Allocator> Model for Registers<A> {
 
     ghost Value = { RegistersView };
 
-    ghost view = { λ r. record { ranges = r.ranges; neighbours = r.neighbours.items; ports = r.ports.items; values = r.values.items } };
+    ghost view = { λ r. record {
+      ranges = r.ranges;
+      neighbours = r.neighbours.items;
+      ports = r.ports.items;
+      values = r.values.items;
+    } };
 
     ghost invariant = { λ r. (r.ranges.nodes ≤ vec_capacity r.neighbours)
-        × IsRegisters (record { ranges = r.ranges; neighbours = r.neighbours.items; ports = r.ports.items; values = r.values.items }) };
+        × IsRegisters (record {
+          ranges = r.ranges;
+          neighbours = r.neighbours.items;
+          ports = r.ports.items;
+          values = r.values.items;
+        }) };
 }
 
 impl<A: Allocator + Copy> Registers<A> {
@@ -145,7 +158,8 @@ impl<A: Allocator> Registers<A> {
         requires frame_fits { IsTrue (frame_fits self.old.ranges frame.now) }
         requires present_fits { IsTrue (payload_fits self.old.ranges present) }
         ensures port { port_of self.new
-            ≡ at (port_of self.old) port (port_after self.old.ranges.counter (port_of self.old port) frame.now present) }
+            ≡ at (port_of self.old) port
+            (port_after self.old.ranges.counter (port_of self.old port) frame.now present) }
         ensures rest { self.new ≡ record self.old { ports = self.new.ports } }
         ensures heard { result ≡ heard_of (port_of self.old port) frame.now }
     {
@@ -186,7 +200,8 @@ impl<A: Allocator> Registers<A> {
         requires { Contains self.old.neighbours port }
         ensures variant { IsOk result ↔ IsTrue (counters_fit self.old.ranges seq last) }
         ensures port { OnOk result (port_of self.new
-            ≡ at (port_of self.old) port (record (port_of self.old port) { seq = seq; last = last })) }
+            ≡ at (port_of self.old) port
+            (record (port_of self.old port) { seq = seq; last = last })) }
         ensures rest { self.new ≡ record self.old { ports = self.new.ports } }
         ensures out_of_range { OnErr result (self.new ≡ self.old) }
     {
@@ -228,7 +243,8 @@ impl<A: Allocator> Registers<A> {
         ensures ranges { self.new.ranges ≡ self.old.ranges }
         ensures neighbours { self.new.neighbours ≡ neighbours_of net.now id }
         ensures ports { port_of self.new
-            ≡ rewired_ports self.old.ranges self.old.neighbours (neighbours_of net.now id) (port_of self.old) }
+            ≡ rewired_ports self.old.ranges self.old.neighbours (neighbours_of net.now id)
+            (port_of self.old) }
         ensures values { value_of self.new
             ≡ rewired_values self.old.neighbours (neighbours_of net.now id) (value_of self.old) }
     {
@@ -265,7 +281,8 @@ fn reset_others(ports: &mut [Port], nodes: u16, neighbours: &[u16])
     ensures length { length ports.new ≡ length ports.old }
     ensures each { (w : ℕ) (d : PortView)
         → slice_index_or ports.new w d
-        ≡ port_or_new (nat_lt w nodes && not (is_among neighbours.now w)) (slice_index_or ports.old w d) }
+        ≡ port_or_new (nat_lt w nodes && not (is_among neighbours.now w))
+        (slice_index_or ports.old w d) }
 {
     for w in 0..nodes {
         if !is_among(neighbours, w) {
@@ -280,7 +297,8 @@ fn clear_others(values: &mut [u16], nodes: u16, neighbours: &[u16])
     ensures length { length values.new ≡ length values.old }
     ensures each { (w : ℕ)
         → slice_index values.new w
-        ≡ (if nat_lt w nodes && not (is_among neighbours.now w) then 0 else slice_index values.old w) }
+        ≡ (if nat_lt w nodes && not (is_among neighbours.now w)
+        then 0 else slice_index values.old w) }
 {
     for w in 0..nodes {
         if !is_among(neighbours, w) {
@@ -305,7 +323,8 @@ fn default_ports<A: Allocator, N: Allocator + Copy>(
     net: &Net<N>,
 ) -> Result<Vec<Port, A>, AllocError>
     ensures { IfOk result (λ ports. ports.items
-        ≡ replicate net.now.nodes (record { ranges = ranges_of net.now; state = default_port (ranges_of net.now) })) }
+        ≡ replicate net.now.nodes
+        (record { ranges = ranges_of net.now; state = default_port (ranges_of net.now) })) }
 {
     let mut ports = Vec::with_capacity(alloc, usize::from(net.nodes()))?;
     for _ in 0..net.nodes() {

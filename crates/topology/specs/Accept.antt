@@ -14,7 +14,8 @@ pub record IsAccepted (v : Values) (net : Network) : Type 0 where
 -- the fault is the first one that the values have, or memory ran out
 abbrev pub IsRefused : Values → NetFault → Type 0
 IsRefused v Memory = Unit {0}
-IsRefused v Apart = (value_fault v ≡ None) × ((net : Network) × (values_of net ≡ v) × ¬ IsConnected net)
+IsRefused v Apart =
+    (value_fault v ≡ None) × ((net : Network) × (values_of net ≡ v) × ¬ IsConnected net)
 IsRefused v fault = value_fault v ≡ Some fault
 
 -- the edges do not hold the nodes together, or memory ran out

@@ -45,4 +45,6 @@ part_fault net u v =
 
 -- the two networks differ at most in their edges
 abbrev pub is_same_frame : Network → Network → Bool
-is_same_frame net other = net.nodes == other.nodes && (net.root == other.root && (net.capacity == other.capacity && net.lease == other.lease))
+is_same_frame net other =
+    net.nodes == other.nodes
+    && (net.root == other.root && (net.capacity == other.capacity && net.lease == other.lease))

@@ -28,7 +28,9 @@ DistancesWithin = (net : Network) (v : ℕ) → v < net.nodes → distance_of ne
 
 -- the greatest computed distance is the greatest distance
 abbrev pub EccentricityIs : Type 0
-EccentricityIs = (net : Network) (e : ℕ) → IsAcceptedNetwork net → (eccentricity_of net ≡ e) ↔ IsEccentricity net e
+EccentricityIs =
+    (net : Network) (e : ℕ) → IsAcceptedNetwork net → (eccentricity_of net ≡ e)
+    ↔ IsEccentricity net e
 
 -- it is below the number of nodes
 abbrev pub EccentricityBelow : Type 0

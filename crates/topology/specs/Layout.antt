@@ -7,14 +7,21 @@ use Rattle.topology.specs.Network.{Network, Edge, neighbours_of, IsDistance, IsA
 
 -- the network that a `Net` keeps
 abbrev pub network_of : {A : Type 0} → Inside A → Network
-network_of n = record { nodes = n.nodes; root = n.root; capacity = n.capacity; lease = n.lease; edges = n.links.items }
+network_of n = record {
+  nodes = n.nodes;
+  root = n.root;
+  capacity = n.capacity;
+  lease = n.lease;
+  edges = n.links.items;
+}
 
 -- rows as lists
 abbrev pub rows_of : {A : Type 0} → List (Vec ℕ A) → List (List ℕ)
 rows_of rows = map (λ row. row.items) rows
 
 -- the kept lists and distances are those of the network
-pub record IsLaidOut {A : Type 0} (net : Network) (neighbours : List (Vec ℕ A)) (distances : List ℕ) : Type 0 where
+pub record IsLaidOut {A : Type 0} (net : Network) (neighbours : List (Vec ℕ A))
+    (distances : List ℕ) : Type 0 where
   pub network : IsAcceptedNetwork net
   pub neighbours_are : rows_of neighbours ≡ map (neighbours_of net) (range_with_len 0 net.nodes)
   pub all_distances : length distances ≡ net.nodes
@@ -22,6 +29,7 @@ pub record IsLaidOut {A : Type 0} (net : Network) (neighbours : List (Vec ℕ A)
 
 -- there is room for 256 edges, and in each node's list for all nodes, so that edges may join and go
 -- without new memory
-pub record HasRoom {A : Type 0} (nodes : ℕ) (links : Vec Edge A) (neighbours : List (Vec ℕ A)) : Type 0 where
+pub record HasRoom {A : Type 0} (nodes : ℕ) (links : Vec Edge A)
+    (neighbours : List (Vec ℕ A)) : Type 0 where
   pub for_edges : 256 ≤ vec_capacity links
   pub for_neighbours : All (λ row. nodes ≤ vec_capacity row) neighbours

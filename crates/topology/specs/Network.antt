@@ -110,4 +110,5 @@ ring_of net = 6 * (net.nodes - 1) + 1
 -- distance and 4 for the parents until the tree stands, 8(n-1) for each of the ring's 6(n-1) steps,
 -- and one until no loan is left without the privilege
 abbrev pub bound_of : Network → ℕ
-bound_of net = 4 * (net.capacity + 1) + 4 * (net.nodes + 1) + 48 * (net.nodes - 1) * (net.nodes - 1) + 1
+bound_of net =
+    4 * (net.capacity + 1) + 4 * (net.nodes + 1) + 48 * (net.nodes - 1) * (net.nodes - 1) + 1

@@ -17,7 +17,8 @@ parent_fits nodes (Some p) = nat_lt p nodes
 -- a payload is in range where its distance is at most n, its parent none or below n, and its ring
 -- value below K
 abbrev pub payload_fits : Ranges → Payload → Bool
-payload_fits r p = nat_le p.distance r.nodes && (parent_fits r.nodes p.parent && nat_lt p.ring r.ring)
+payload_fits r p =
+    nat_le p.distance r.nodes && (parent_fits r.nodes p.parent && nat_lt p.ring r.ring)
 
 -- a frame is in range where both its numbers are below M and its payload is in range
 abbrev pub frame_fits : Ranges → Frame → Bool

@@ -1,6 +1,8 @@
 //! A network that was accepted, and what is read of it.
 ghost use Rattle.std.specs.Prelude.{◌≡◌, ◌≢◌, ◌<◌, IfSome, IsNone, IsSome, IsTrue, false};
-ghost use Rattle.topology.specs.Network.{are_joined, IsAcceptedNetwork, IsDistance, IsNearer, IsTrueParent, neighbours_of, counter_of, ring_of, bound_of};
+ghost use Rattle.topology.specs.Network.{are_joined, IsAcceptedNetwork, IsDistance, IsNearer};
+ghost use Rattle.topology.specs.Network.{IsTrueParent, neighbours_of, counter_of, ring_of};
+ghost use Rattle.topology.specs.Network.{bound_of};
 ghost use Rattle.topology.specs.Tree.{distance_of, parent_of};
 ghost use Rattle.topology.specs.Ranges.{frame_fits, ranges_of};
 
@@ -40,7 +42,8 @@ impl<A: Allocator + Copy> Model for Net<A> {
 
     ghost view = { network_of };
 
-    ghost invariant = { λ n. IsLaidOut (network_of n) n.rows.items n.depths.items × HasRoom n.nodes n.links n.rows.items };
+    ghost invariant = { λ n. IsLaidOut (network_of n) n.rows.items n.depths.items
+        × HasRoom n.nodes n.links n.rows.items };
 }
 
 impl<A: Allocator + Copy> Net<A> {

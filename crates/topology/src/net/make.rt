@@ -52,8 +52,22 @@ impl<A: Allocator + Copy> Net<A> {
         lease: i64,
         edges: &[(i64, i64)],
     ) -> Result<Net<A>, NetFault>
-        ensures ok { IfOk result (IsAccepted (record { nodes = nodes; root = root; capacity = capacity; lease = lease; edges = edges.now })) }
-        ensures err { IfErr result (IsRefused (record { nodes = nodes; root = root; capacity = capacity; lease = lease; edges = edges.now })) }
+        ensures ok { IfOk result (IsAccepted
+            (record {
+              nodes = nodes;
+              root = root;
+              capacity = capacity;
+              lease = lease;
+              edges = edges.now;
+            })) }
+        ensures err { IfErr result
+            (IsRefused (record {
+              nodes = nodes;
+              root = root;
+              capacity = capacity;
+              lease = lease;
+              edges = edges.now;
+            })) }
     {
         if nodes < 2 {
             return Err(NetFault::TooSmall);
@@ -96,11 +110,31 @@ impl<A: Allocator + Copy> Net<A> {
         lease: u16,
         links: Vec<(u16, u16), A>,
     ) -> Result<Net<A>, NetFault>
-        requires limits { IsWithinLimits (record { nodes = nodes; root = root; capacity = capacity; lease = lease; edges = links.items }) }
+        requires limits { IsWithinLimits
+            (record {
+              nodes = nodes;
+              root = root;
+              capacity = capacity;
+              lease = lease;
+              edges = links.items;
+            }) }
         requires room { 256 ≤ vec_capacity links }
         ensures ok { IfOk result (λ net. (net
-            ≡ record { nodes = nodes; root = root; capacity = capacity; lease = lease; edges = links.items }) × IsAcceptedNetwork net) }
-        ensures err { IfErr result (IsNotJoined (record { nodes = nodes; root = root; capacity = capacity; lease = lease; edges = links.items })) }
+            ≡ record {
+              nodes = nodes;
+              root = root;
+              capacity = capacity;
+              lease = lease;
+              edges = links.items;
+            }) × IsAcceptedNetwork net) }
+        ensures err { IfErr result
+            (IsNotJoined (record {
+              nodes = nodes;
+              root = root;
+              capacity = capacity;
+              lease = lease;
+              edges = links.items;
+            })) }
     {
         let rows = all_neighbours(alloc, nodes, links.as_slice())?;
         let depths = distances_from(alloc, nodes, links.as_slice(), root)?;
