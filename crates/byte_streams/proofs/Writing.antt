@@ -1,10 +1,8 @@
 -- Texts that are written part by part.
-use Rattle.std.proofs.Common.{◌≡◌, ◌∙◌, ap, sym, ℕ, ◌+◌, ◌-◌, ◌<◌, ◌≤◌, List, [], ◌∷◌, ◌++◌, Option, Some, None, Result, Ok, Err, IsErr, length, take, drop, get_or, append_assoc, arith, refl}
-use Rattle.std.specs.List.{flat_map, range_with_len}
-use Rattle.std.proofs.lemmas.Grind.{common_steps, flat_map-append}
-use Rattle.std.proofs.lemmas.List.{take-append-drop, append-nil}
-use Rattle.std.proofs.lemmas.List.FromFn.{get_or-range_with_len, length-range_with_len}
-use Rattle.std.proofs.Math.Seq.{take-add, take-length}
+use Rattle.std.proofs.Common.{sym, ℕ, ◌+◌, ◌-◌, ◌≤◌, List, ◌++◌, Option, Some, None, Result, Ok, Err, IsErr, length, take, drop, arith}
+use Rattle.std.proofs.lemmas.Grind.{common_steps}
+use Rattle.std.proofs.lemmas.List.{take-append-drop, take_rest}
+use Rattle.std.proofs.Math.Seq.{take-add}
 use Rattle.byte_streams.specs.Streams.{Takes, TakesABeginning, WritesAll, Rose}
 
 -- what was taken in two parts was taken in one
@@ -12,21 +10,12 @@ pub takes_both : (xs ys : List ℕ) (before between after : Option (List ℕ)) �
 takes_both xs ys None between after first second = grind (arith, common_steps)
 takes_both xs ys (Some taken) between after first second = grind (arith, common_steps)
 
--- nothing is taken
-pub takes_nothing : (before : Option (List ℕ)) → Takes [] before before
-takes_nothing None = grind (arith, common_steps)
-takes_nothing (Some taken) = grind (arith, common_steps)
-
--- all that is left is as long as it is
-pub take_rest : (bytes : List ℕ) (n : ℕ) → n ≤ length bytes → take (length bytes - n) (drop n bytes) ≡ drop n bytes
-take_rest bytes n within = grind (arith, common_steps)
-
 -- a beginning was taken, and then more
 pub takes_more : (bytes : List ℕ) (n count : ℕ) (before between after : Option (List ℕ)) → n ≤ length bytes
     → Takes (take n bytes) before between → Takes (take count (take (length bytes - n) (drop n bytes))) between after
     → Takes (take (n + count) bytes) before after
 takes_more bytes n count before between after within first second =
-    let more : Takes (take count (drop n bytes)) between after = rw (take_rest bytes n within) at second in
+    let more : Takes (take count (drop n bytes)) between after = rw (take_rest bytes n) at second in
     rw (take-add n count bytes) (takes_both (take n bytes) (take count (drop n bytes)) before between after first more)
 
 -- the first bytes were taken

@@ -10,7 +10,8 @@ Rose before after = (before < after) ⊎ (2 ^ 64 - 1 ≤ after)
 -- it has no more, or where there is no room for any.
 abbrev pub GivesNext : ℕ → List ℕ → Option (List ℕ) → List ℕ → Type 0
 GivesNext count rest after buffer =
-    (count ≤ length rest) × (take count buffer ≡ take count rest) × (after ≡ Some (drop count rest)) × (count ≡ 0 → 0 < length buffer → rest ≡ [])
+    (count ≤ length rest) × (take count buffer ≡ take count rest) × (after ≡ Some (drop count rest))
+    × (count ≡ 0 → 0 < length buffer → rest ≡ [])
 
 -- what a read says of the bytes that the source has still to give, before it and after it; nothing
 -- of one that does not tell
@@ -21,8 +22,10 @@ Gives count (Some rest) after buffer = GivesNext count rest after buffer
 -- a read gives at most as many bytes as there is room for, or fails; a failed one gives none, and
 -- is counted
 abbrev pub Reads : Result ℕ Failed → Option (List ℕ) → Option (List ℕ) → List ℕ → ℕ → ℕ → Type 0
-Reads (Ok count) before after buffer failures more = (count ≤ length buffer) × Gives count before after buffer × (failures ≤ more)
-Reads (Err _) before after buffer failures more = (after ≡ before) × (failures ≤ more) × Rose failures more
+Reads (Ok count) before after buffer failures more =
+    (count ≤ length buffer) × Gives count before after buffer × (failures ≤ more)
+Reads (Err _) before after buffer failures more =
+    (after ≡ before) × (failures ≤ more) × Rose failures more
 
 -- the sink took these bytes behind those before; nothing is said of one that does not tell
 abbrev pub Takes : List ℕ → Option (List ℕ) → Option (List ℕ) → Type 0
@@ -32,8 +35,10 @@ Takes bytes before after = after ≡ option_map (λ taken. taken ++ bytes) befor
 -- none, and is counted
 abbrev pub Writes : Result ℕ Failed → List ℕ → Option (List ℕ) → Option (List ℕ) → ℕ → ℕ → Type 0
 Writes (Ok count) bytes before after failures more =
-    (count ≤ length bytes) × (0 < length bytes → 0 < count) × Takes (take count bytes) before after × (failures ≤ more)
-Writes (Err _) bytes before after failures more = (after ≡ before) × (failures ≤ more) × Rose failures more
+    (count ≤ length bytes) × (0 < length bytes → 0 < count) × Takes (take count bytes) before after
+    × (failures ≤ more)
+Writes (Err _) bytes before after failures more =
+    (after ≡ before) × (failures ≤ more) × Rose failures more
 
 -- The bytes in front were taken, and those behind them were not.
 pub record TakesABeginning (bytes : List ℕ) (before after : Option (List ℕ)) : Type 0 where
@@ -43,9 +48,11 @@ pub record TakesABeginning (bytes : List ℕ) (before after : Option (List ℕ))
   pub taken : Takes front before after
 
 -- all the bytes were written one after the other; or a beginning of them, and then the sink failed
-abbrev pub WritesAll : {E : Type 0} → Result (Unit {0}) E → List ℕ → Option (List ℕ) → Option (List ℕ) → ℕ → ℕ → Type 0
+abbrev pub WritesAll : {E : Type 0} → Result (Unit {0}) E → List ℕ → Option (List ℕ)
+    → Option (List ℕ) → ℕ → ℕ → Type 0
 WritesAll (Ok _) bytes before after failures more = Takes bytes before after × (failures ≤ more)
-WritesAll (Err _) bytes before after failures more = TakesABeginning bytes before after × (failures ≤ more) × Rose failures more
+WritesAll (Err _) bytes before after failures more =
+    TakesABeginning bytes before after × (failures ≤ more) × Rose failures more
 
 -- a failure is answered only where the count of failures rose
 abbrev pub CountsFailures : {T E : Type 0} → Result T E → ℕ → ℕ → Type 0

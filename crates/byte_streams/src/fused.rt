@@ -1,4 +1,4 @@
-//! A source or a sink that fails once.
+//! A source, a sink or whatever else takes calls, that fails once.
 ghost use Rattle.std.specs.Prelude.{◌≡◌, ◌≢◌, ◌+◌, Some, is_none, IsErr, length};
 ghost use Rattle.byte_streams.specs.Fuse.{failures_of, left_after};
 ghost use Rattle.byte_streams.specs.Streams.{Reads, Writes};
@@ -7,11 +7,13 @@ use crate::fuse::Fuse;
 use crate::streams::{Failed, Sink, Source};
 
 /// Passes some calls on to what it holds, fails one, and passes on all others. It tests what
-/// becomes of a call whose source or sink fails.
+/// becomes of a call whose source or sink fails; another crate's trait may be fused by it too.
 #[derive(Drop)]
 pub struct Fused<T> {
-    inner: T,
-    fuse: Fuse,
+    /// What it holds.
+    pub inner: T,
+    /// Which call is the one that fails.
+    pub fuse: Fuse,
 }
 
 impl<T> Fused<T> {

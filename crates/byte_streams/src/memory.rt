@@ -1,5 +1,6 @@
 //! Sources and sinks over memory.
-ghost use Rattle.std.specs.Prelude.{◌≡◌, ◌≢◌, ◌<◌, ◌-◌, ◌⊎◌, [], Some, Ok, IfOk, IsErr, min, max, length};
+ghost use Rattle.std.specs.Prelude.{◌≡◌, ◌≢◌, ◌<◌, ◌-◌, ◌⊎◌, [], Some, Ok, IfOk, IsErr, min, max};
+ghost use Rattle.std.specs.Prelude.{length};
 ghost use Rattle.byte_streams.specs.Streams.{Reads, Writes};
 
 use crate::streams::{Failed, Sink, Source};
@@ -105,7 +106,8 @@ impl<A: Allocator + Copy> Sink for MemorySink<A> {
 
     /// As many bytes as there is room for; it fails where there is none.
     fn write(&mut self, bytes: &[u8]) -> Result<usize, Failed>
-        ensures writes { Writes result bytes.now (Some self.old.taken) (Some self.new.taken) self.old.failures self.new.failures }
+        ensures writes { Writes result bytes.now (Some self.old.taken) (Some self.new.taken)
+            self.old.failures self.new.failures }
         ensures fits { (0 < self.old.room) ⊎ (bytes.now ≡ [])
             → result ≡ Ok (min (length bytes.now) self.old.room) }
         ensures full { self.old.room ≡ 0 → bytes.now ≢ [] → IsErr result }

@@ -21,7 +21,8 @@ pub trait Source {
     /// [`Failed`] where it failed in this call; then it gave nothing, and may be read again.
     fn read(&mut self, buffer: &mut [u8]) -> Result<usize, Failed>
         ensures len { length buffer.new ≡ length buffer.old }
-        ensures reads { Reads result (rest self.old) (rest self.new) buffer.new (failures self.old) (failures self.new) };
+        ensures reads { Reads result (rest self.old) (rest self.new) buffer.new
+            (failures self.old) (failures self.new) };
 }
 
 /// Where bytes go to.
@@ -37,7 +38,8 @@ pub trait Sink {
     /// # Errors
     /// [`Failed`] where it failed in this call; then it took nothing.
     fn write(&mut self, bytes: &[u8]) -> Result<usize, Failed>
-        ensures { Writes result bytes.now (taken self.old) (taken self.new) (failures self.old) (failures self.new) };
+        ensures { Writes result bytes.now (taken self.old) (taken self.new)
+            (failures self.old) (failures self.new) };
 }
 
 /// Writes all the bytes, in as many writes as that takes.
@@ -45,7 +47,8 @@ pub trait Sink {
 /// # Errors
 /// [`Failed`] where the sink failed; then it took a beginning of them.
 pub fn write_all<W: Sink>(sink: &mut W, bytes: &[u8]) -> Result<(), Failed>
-    ensures { WritesAll result bytes.now (W.taken sink.old) (W.taken sink.new) (W.failures sink.old) (W.failures sink.new) }
+    ensures { WritesAll result bytes.now (W.taken sink.old) (W.taken sink.new)
+        (W.failures sink.old) (W.failures sink.new) }
 {
     let mut written = 0;
     while written < bytes.len() {

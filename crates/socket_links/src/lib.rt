@@ -8,8 +8,8 @@
 //! ```
 //! let old = link.attach(pipe);            // the pipe that stood there before, if any
 //! if link.offer(&frame) == Offer::Taken { /* sent */ }
-//! match link.push_out() { Flow::Done => {}, Flow::Later => { /* again, later */ }, Flow::Broken => { /* loose */ } }
-//! match link.pull(&net) { Pull::Frame(frame) => { /* taken */ }, Pull::Later => {}, Pull::Broken => {} }
+//! let flow = link.push_out();             // Done; Later: again, later; Broken: it is loose now
+//! if let Pull::Frame(frame) = link.pull(&net) { /* taken */ }
 //! ```
 //!
 //! A pipe that closed or failed is let go, with the half lines of both sides: the next pipe's bytes
@@ -24,7 +24,8 @@ mod memory;
 mod pipe;
 mod writing;
 
+pub use byte_streams::Fused as FusedPipe;
 pub use link::{Offer, Pull, SocketLink};
-pub use memory::{FusedPipe, MemoryPipe};
+pub use memory::MemoryPipe;
 pub use pipe::{Pipe, ReadAnswer, WriteAnswer};
 pub use writing::Flow;

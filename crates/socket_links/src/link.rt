@@ -1,5 +1,6 @@
 //! One neighbour's frames, out and in.
-ghost use Rattle.std.specs.Prelude.{◌≡◌, ◌≢◌, ◌≤◌, ◌++◌, [], ◌∷◌, List, ℕ, IfNone, None, Some, is_some, length};
+ghost use Rattle.std.specs.Prelude.{◌≡◌, ◌≢◌, ◌≤◌, ◌++◌, [], ◌∷◌, List, ℕ, IfNone, None, Some};
+ghost use Rattle.std.specs.Prelude.{is_some, length};
 ghost use Rattle.std.specs.Option.{option_to_list};
 ghost use Rattle.topology.specs.Ranges.{ranges_of};
 ghost use Rattle.byte_lines.specs.Lines.{newline};
@@ -53,7 +54,8 @@ pub struct SocketLink<P> {
     /// The line that was accepted last, of which `sent` bytes are written.
     line: [u8; LINE],
     sent: usize,
-    ghost within: { (from ≤ to) × (to ≤ 512) × (sent ≤ 22) × (length bytes ≡ 512) × (length line ≡ 22) },
+    ghost within: { (from ≤ to) × (to ≤ 512) × (sent ≤ 22) × (length bytes ≡ 512)
+        × (length line ≡ 22) },
     ghost loose: { pipe ≡ None → (reader ≡ kept 21 []) × (from ≡ to) × (sent ≡ 22) },
 }
 
@@ -123,7 +125,9 @@ impl<P: Pipe> SocketLink<P> {
 
     /// Writes what is left of the line that was accepted last, as far as the pipe takes it.
     pub fn push_out(&mut self) -> Flow
+        // What the pipe took goes on along the accepted line, and what was pulled stands.
         ensures pushed { Pushed P.gave P.took P.counts self.old self.new result }
+        // A loose link has nothing to write.
         ensures loose { self.old.pipe ≡ None → result ≡ Done }
     {
         let Some(pipe) = &mut self.pipe else {
@@ -145,11 +149,15 @@ impl<P: Pipe> SocketLink<P> {
     /// The next frame. Where what was read holds a good line it is that line's, and else the pipe
     /// is read once.
     pub fn pull(&mut self, net: &Net) -> Pull
-        ensures pulled { Pulled (ranges_of net.now) P.gave P.took P.counts self.old self.new result }
+        // The frame stands behind those that were pulled before, and what was pushed stands.
+        ensures pulled { Pulled (ranges_of net.now) P.gave P.took P.counts
+            self.old self.new result }
         // Where a good line ends in what was read, its frame comes, and nothing is asked of the
         // pipe.
         ensures kept_first { (half : List ℕ) → self.old.reader ≡ kept 21 half
-            → frames_after (ranges_of net.now) half (waiting self.old) ≢ [] → IsFrame result × (self.new.pipe ≡ self.old.pipe) }
+            → frames_after (ranges_of net.now) half (waiting self.old) ≢ []
+            → IsFrame result × (self.new.pipe ≡ self.old.pipe) }
+        // Nothing comes to a loose link.
         ensures loose { self.old.pipe ≡ None → result ≡ Later }
     {
         if let Some(frame) = self.look(net) {
@@ -184,8 +192,10 @@ impl<P: Pipe> SocketLink<P> {
     fn look(&mut self, net: &Net) -> Option<Frame>
         ensures pipe { self.new.pipe ≡ self.old.pipe }
         ensures unsent { unsent self.new ≡ unsent self.old }
+        // Without a frame all that was read has been looked at.
         ensures all { IfNone result (waiting self.new ≡ []) }
-        ensures looked { Looks (ranges_of net.now) self.old.reader self.new.reader (waiting self.old) (waiting self.new) (option_to_list result) }
+        ensures looked { Looks (ranges_of net.now) self.old.reader self.new.reader
+            (waiting self.old) (waiting self.new) (option_to_list result) }
     {
         let bytes = &self.bytes[..];
         let (used, frame) = self.reader.next_frame(&bytes[self.from..self.to], net);

@@ -1,9 +1,10 @@
 //! Pipes over memory, and pipes that fail once.
-ghost use Rattle.std.specs.Prelude.{◌≡◌, ◌≤◌, ◌<◌, ◌+◌, [], Some, IfOk, take, max, length, vec_len, vec_capacity};
+ghost use Rattle.std.specs.Prelude.{◌≡◌, ◌≤◌, ◌<◌, ◌+◌, [], Some, IfOk, take, max, length, vec_len};
+ghost use Rattle.std.specs.Prelude.{vec_capacity};
 ghost use Rattle.byte_streams.specs.Fuse.{failures_of};
 
 use crate::pipe::{Pipe, ReadAnswer, WriteAnswer};
-use byte_streams::Fuse;
+use byte_streams::Fused;
 use std::alloc::{AllocError, Allocator, Global};
 
 /// A pipe over memory. It gives the bytes of a slice, a piece at a time, and then answers `Closed`
@@ -99,40 +100,14 @@ impl<'a, A: Allocator + Copy> Pipe for MemoryPipe<'a, A> {
     }
 }
 
-/// Passes some calls on to the pipe that it holds, fails one, and passes on all others. It tests
-/// what becomes of a link whose pipe fails.
-#[derive(Drop)]
-pub struct FusedPipe<P> {
-    inner: P,
-    fuse: Fuse,
-}
-
-impl<P> FusedPipe<P> {
-    /// Passes `calls` calls on and fails the next one.
-    pub fn new(inner: P, calls: u64) -> FusedPipe<P>
-        ensures inner { result.inner ≡ inner }
-        ensures fuse { result.fuse ≡ Some calls }
-    {
-        FusedPipe {
-            inner,
-            fuse: Fuse::new(calls),
-        }
-    }
-
-    /// What it holds.
-    pub fn inner(&self) -> &P
-        ensures { result.now ≡ self.now.inner }
-    {
-        &self.inner
-    }
-}
-
-impl<P: Pipe> Pipe for FusedPipe<P> {
+/// A pipe that fails once: it tests what becomes of a link whose pipe fails.
+impl<P: Pipe> Pipe for Fused<P> {
     ghost gave = { λ p. P.gave p.inner };
 
     ghost took = { λ p. P.took p.inner };
 
-    ghost counts = { λ p. record (P.counts p.inner) { failed = (P.counts p.inner).failed + failures_of p.fuse } };
+    ghost counts = { λ p. record (P.counts p.inner)
+        { failed = (P.counts p.inner).failed + failures_of p.fuse } };
 
     fn try_read(&mut self, buffer: &mut [u8]) -> ReadAnswer {
         if self.fuse.pass().is_err() {

@@ -43,12 +43,16 @@ pub trait Pipe: Drop {
     fn try_read(&mut self, buffer: &mut [u8]) -> ReadAnswer
         requires { 0 < length buffer.old }
         ensures len { length buffer.new ≡ length buffer.old }
-        ensures reads { Reads result buffer.new (gave self.old) (gave self.new) (counts self.old) (counts self.new) }
+        ensures reads { Reads result buffer.new (gave self.old) (gave self.new)
+            (counts self.old) (counts self.new) }
+        // A read writes nothing.
         ensures took { took self.new ≡ took self.old };
 
     /// Takes the first of these bytes, of which there is one at least.
     fn try_write(&mut self, bytes: &[u8]) -> WriteAnswer
         requires { 0 < length bytes.now }
-        ensures writes { Writes result bytes.now (took self.old) (took self.new) (counts self.old) (counts self.new) }
+        ensures writes { Writes result bytes.now (took self.old) (took self.new)
+            (counts self.old) (counts self.new) }
+        // A write reads nothing.
         ensures gave { gave self.new ≡ gave self.old };
 }

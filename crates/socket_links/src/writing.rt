@@ -18,7 +18,9 @@ pub enum Flow {
 /// Writes these bytes as far as the pipe takes them: how many it took, and how that ended.
 pub(crate) fn write_line<P: Pipe>(pipe: &mut P, bytes: &[u8]) -> (usize, Flow)
     ensures count { result.0 ≤ length bytes.now }
-    ensures wrote { WritesLine bytes.now (P.took pipe.old) (P.took pipe.new) (P.counts pipe.old) (P.counts pipe.new) result.0 result.1 }
+    ensures wrote { WritesLine bytes.now (P.took pipe.old) (P.took pipe.new)
+        (P.counts pipe.old) (P.counts pipe.new) result.0 result.1 }
+    // A write reads nothing.
     ensures gave { P.gave pipe.new ≡ P.gave pipe.old }
 {
     let mut count = 0;
