@@ -2,7 +2,7 @@
 use Rattle.std.proofs.Common.{◌≡◌, ℕ, ◌<◌, inl, inr, true, false, ◌==◌, ◌&&◌, List, [], ◌∷◌, Option, Some, None, refl, sym, ◌∙◌, ap, subst}
 use Rattle.std.specs.Prelude.{is_some, is_none, if◌then◌else◌}
 use Rattle.std.specs.List.{list_any}
-use Rattle.std.proofs.lemmas.Bool.{and_parts, or_cases, or_parts, or_from, false≢true}
+use Rattle.std.proofs.lemmas.Bool.{and_parts, false≢true}
 use Rattle.k_state.specs.Machine as machine
 use Rattle.lock_desk.specs.Laws.{LoansNeedPrivilege}
 use Rattle.node_core.specs.Site.{Site, site_of}
@@ -11,12 +11,14 @@ use Rattle.node_core.specs.Machines.{tree_of, before, may_move, is_special, is_n
 use Rattle.node_core.specs.Step.{ticked, recomputed, desk_done}
 use Rattle.run_model.specs.World.{World, site}
 use Rattle.run_model.specs.Step.{step}
-use Rattle.run_model.specs.Run.{run, is_damage, has_damage, IsUndamaged}
+use Rattle.run_model.specs.Run.{run, is_damage, IsUndamaged}
 use Rattle.run_model.specs.Sweep.{is_full_tick, has_full_tick}
 use Rattle.token_ring.specs.Ring.{IsTokenRingGood}
 use Rattle.token_ring.specs.Settled.{IsSettled}
 use Rattle.run_model.specs.Privilege.{is_privileged, is_lending}
 use Rattle.run_model.specs.declared.event.Event.{Event}
+use Rattle.run_model.proofs.Along as along
+use Rattle.run_model.proofs.Along.{Course, undamaged-front, undamaged-one, kept}
 use Rattle.run_model.specs.declared.event.Event.TheVariants.{Send, Take, Lose, Tick, Ask, Leave, Damage}
 use Rattle.token_ring.proofs.TreeLists.{passes-somewhere, somewhere-passes}
 use Rattle.convergence.specs.Below.{Below}
@@ -44,12 +46,6 @@ tick-keeps_privilege loans site s h =
     let t = m.0 in
     somewhere-passes (may_move site (ticked site s)) t (tree_of site old) (ap (λ x. machine.is_privileged (is_special site old t) x (before s t)) (loan_stops_machines site s t (some-not_none (ticked site s).desk.lent h)) ∙ m.1) m.2
 
-pub undamaged-first : (w : World) (e : Event) (es : List Event) → IsUndamaged w (e ∷ es) → (is_damage w e ≡ false) × IsUndamaged (step w e) es
-undamaged-first w e es u = or_parts (is_damage w e) (has_damage (step w e) es) u
-
-pub undamaged-one : (w : World) (e : Event) → is_damage w e ≡ false → IsUndamaged w (e ∷ [])
-undamaged-one w e d = or_from (is_damage w e) false d refl
-
 module _ (b : Below) where
   -- a loan of the node is with privilege
   abbrev pub IsLoanPrivileged : World → ℕ → Type 0
@@ -62,8 +58,17 @@ module _ (b : Below) where
   pub good-stays : (w : World) (es : List Event) → IsUndamaged w es → IsGoodWorld w → IsGoodWorld (run w es)
   good-stays w es u (s, g) = (b.settled w es s u, b.good w es s u g)
 
-  node-stays : (w : World) (es : List Event) (v : ℕ) → IsUndamaged w es → v < w.net.nodes → v < (run w es).net.nodes
-  node-stays w es v u h = subst (λ n. v < n.nodes) (sym (b.network w es u)) h
+  -- no damage, on a network with v, from a good world
+  abbrev good_course : ℕ → Course
+  good_course v = record {
+    holds = λ w es. IsUndamaged w es × IsGoodWorld w × (v < w.net.nodes);
+    tells = λ w e. (is_damage w e ≡ false) × IsGoodWorld w × (v < w.net.nodes);
+    now = λ w e es h. ((undamaged-front w e es h.0).0, h.1, h.2);
+    later = λ w e es h.
+        let d = undamaged-front w e es h.0 in
+        let one = undamaged-one w e d.0 in
+        (d.1, good-stays w (e ∷ []) one h.1, subst (λ n. v < n.nodes) (sym (b.network w (e ∷ []) one)) h.2);
+  }
 
   pub loan-event : LoansStayPrivileged
   loan-event w e v s d g h p lends = elim (b.moves w e v d) [
@@ -74,10 +79,7 @@ module _ (b : Below) where
   ]
 
   pub loan-run : (w : World) (es : List Event) (v : ℕ) → IsUndamaged w es → IsGoodWorld w → v < w.net.nodes → IsLoanPrivileged w v → IsLoanPrivileged (run w es) v
-  loan-run w [] v u g h p = p
-  loan-run w (e ∷ es) v u g h p =
-      let d = undamaged-first w e es u in
-      loan-run (step w e) es v d.1 (good-stays w (e ∷ []) (undamaged-one w e d.0) g) (node-stays w (e ∷ []) v (undamaged-one w e d.0) h) (loan-event w e v g.0 d.0 g.1 h p)
+  loan-run w es v u g h p = kept (good_course v) (λ x. IsLoanPrivileged x v) (λ x e now q. loan-event x e v now.1.0 now.0 now.1.1 now.2 q) w es (u, g, h) p
 
   full-lends_not : (w : World) (e : Event) (v : ℕ) → is_full_tick w e v ≡ true → is_lending (step w e) v ≡ false
   full-lends_not w (Tick u) v h =
@@ -93,12 +95,6 @@ module _ (b : Below) where
   -- after a full tick of the node its loans are with privilege
   pub loan-after_full_tick : (w : World) (es : List Event) (v : ℕ) → IsUndamaged w es → IsGoodWorld w → v < w.net.nodes → has_full_tick w es v ≡ true
       → IsLoanPrivileged (run w es) v
-  loan-after_full_tick w [] v u g h t = absurd (false≢true t)
-  loan-after_full_tick w (e ∷ es) v u g h t =
-      let d = undamaged-first w e es u in
-      let z = good-stays w (e ∷ []) (undamaged-one w e d.0) g in
-      let k = node-stays w (e ∷ []) v (undamaged-one w e d.0) h in
-      elim (or_cases (is_full_tick w e v) (has_full_tick (step w e) es v) t) [
-        | inl f ↦ loan-run (step w e) es v d.1 z k (λ l. absurd (false≢true (sym (full-lends_not w e v f) ∙ l)))
-        | inr later ↦ loan-after_full_tick (step w e) es v d.1 z k later
-      ]
+  loan-after_full_tick w es v u g h t =
+      along.ticked (good_course v) (λ x. Unit {0}) (λ x. IsLoanPrivileged x v) v (λ x e now p. p) (λ x e now p q. loan-event x e v now.1.0 now.0 now.1.1 now.2 q)
+      (λ x e now p f l. absurd (false≢true (sym (full-lends_not x e v f) ∙ l))) w es (u, g, h) tt t

@@ -21,12 +21,12 @@ use Rattle.run_model.specs.Sweep.{Sweeps}
 use Rattle.run_model.specs.Ticks.{IsTicking}
 use Rattle.run_model.specs.declared.event.Event.{Event}
 use Rattle.run_model.specs.declared.event.EventFault.{EventFault}
+use Rattle.run_model.proofs.Along.{undamaged-front}
 use Rattle.run_model.specs.declared.event.Event.TheVariants.{Send, Take, Lose, Tick, Ask, Leave, Damage}
 use Rattle.token_ring.specs.Ring.{IsTokenRingGood}
 use Rattle.token_ring.specs.Settled.{IsSettled}
 use Rattle.convergence.specs.Service.{IsAtPlace, is_lent_once, is_leave, gives_up, WaitingAreServed}
 use Rattle.convergence.specs.Below.{Below}
-use Rattle.convergence.proofs.Desks.{undamaged-first}
 use Rattle.convergence.proofs.Whole.{parted, other-number}
 use Rattle.convergence.proofs.Passes.{moves-pass_served, moves-clear}
 
@@ -242,7 +242,7 @@ module _ (b : Below) where
       → (is_lent_once w es v t ≡ true) ⊎ StandsAt t k (desk (run w es) v)
   along w [] v t k u g s = inr s
   along w (e ∷ es) v t k u g s =
-      let d = undamaged-first w e es u in
+      let d = undamaged-front w e es u in
       let q = or_parts (leaves_now w e v t) (gives_up (step w e) es v t) g in
       elim (stands-event w e v t k d.0 q.0 s) [
         | inl lent ↦ inl (or_right (borrows (desk w v) t) (is_lent_once (step w e) es v t) (lent-now (step w e) es v t lent))
@@ -300,7 +300,7 @@ module _ (b : Below) where
       let m = b.machines w es v s u g h sweeps in
       let p = parted b w es m.before (m.event ∷ m.after) m.parts u in
       let w1 = run w m.before in
-      let d = undamaged-first w1 m.event m.after p.late in
+      let d = undamaged-front w1 m.event m.after p.late in
       let q = stays-in w m.before (m.event ∷ m.after) v t (subst (λ xs. gives_up w xs v t ≡ false) m.parts stays) in
       let r = or_parts (leaves_now w1 m.event v t) (gives_up (step w1 m.event) m.after v t) q.1 in
       elim (along w m.before v t k p.early q.0 st) [

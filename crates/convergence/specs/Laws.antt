@@ -22,8 +22,10 @@ use Rattle.convergence.specs.Said.{said_in}
 -- node in an event
 abbrev pub LoansStayPrivileged : Type 0
 LoansStayPrivileged =
-    (w : World) (e : Event) (v : ℕ) → IsSettled w → is_damage w e ≡ false → IsTokenRingGood w → v < w.net.nodes
-    → (IsTrue (is_lending w v) → IsTrue (is_privileged w v)) → IsTrue (is_lending (step w e) v) → IsTrue (is_privileged (step w e) v)
+    (w : World) (e : Event) (v : ℕ) → IsSettled w → is_damage w e ≡ false → IsTokenRingGood w
+    → v < w.net.nodes
+    → (IsTrue (is_lending w v) → IsTrue (is_privileged w v)) → IsTrue (is_lending (step w e) v)
+    → IsTrue (is_privileged (step w e) v)
 
 -- one more sweep ends each loan without privilege
 abbrev pub DesksTurnPrivileged : Type 0
@@ -36,7 +38,9 @@ DesksTurnPrivileged =
 -- closure: from a legitimate world every list without damage leads to a legitimate world, and so
 -- through such worlds alone
 abbrev pub LegitimateStays : Type 0
-LegitimateStays = (w : World) (es : List Event) → IsWorldInRange w → IsUndamaged w es → IsLegitimate w → IsLegitimate (run w es)
+LegitimateStays =
+    (w : World) (es : List Event) → IsWorldInRange w → IsUndamaged w es → IsLegitimate w
+    → IsLegitimate (run w es)
 
 -- a legitimate world serves: distances and parents are those of walks, at most one node is
 -- privileged, and at most one lends
@@ -55,7 +59,8 @@ LinksConverge =
 -- u had to say to v at some moment of these three
 abbrev pub PayloadsConverge : Type 0
 PayloadsConverge =
-    (w : World) (first es : List Event) (u v : ℕ) → IsWorldInRange w → IsUndamaged w (first ++ es) → IsTrue (are_joined w.net.edges u v)
+    (w : World) (first es : List Event) (u v : ℕ) → IsWorldInRange w → IsUndamaged w (first ++ es)
+    → IsTrue (are_joined w.net.edges u v)
     → Sweeps w (4 * (w.net.capacity + 1)) first → Sweeps (run w first) 3 es
     → Contains (said_in (run w first) es u v) (((run (run w first) es).node u).port v).staged
     × Contains (said_in (run w first) es u v) (((run (run w first) es).node v).port u).copy
@@ -63,7 +68,8 @@ PayloadsConverge =
 -- after 4(n + 1) more than those of the links, the tree is reached
 abbrev pub TreeConverges : Type 0
 TreeConverges =
-    (w : World) (es : List Event) → IsWorldInRange w → IsUndamaged w es → Sweeps w (4 * (w.net.capacity + 1) + 4 * (w.net.nodes + 1)) es
+    (w : World) (es : List Event) → IsWorldInRange w → IsUndamaged w es
+    → Sweeps w (4 * (w.net.capacity + 1) + 4 * (w.net.nodes + 1)) es
     → IsTreeReached (run w es)
 
 -- after R - 1 sweeps the token ring is good

@@ -13,7 +13,11 @@ use Rattle.convergence.specs.Said.{said_in}
 -- moment of these three.
 abbrev pub ArePayloadsFresh : World → List Event → World → Type 0
 ArePayloadsFresh start es now =
-    (first last : List Event) (u v : ℕ) → (after_damage start es).rest ≡ first ++ last → IsTrue (are_joined now.net.edges u v)
-    → Sweeps (after_damage start es).world (4 * (now.net.capacity + 1)) first → Sweeps (run (after_damage start es).world first) 3 last
-    → Contains (said_in (run (after_damage start es).world first) last u v) ((now.node u).port v).staged
-    × Contains (said_in (run (after_damage start es).world first) last u v) ((now.node v).port u).copy
+    (first last : List Event) (u v : ℕ) → (after_damage start es).rest ≡ first ++ last
+    → IsTrue (are_joined now.net.edges u v)
+    → Sweeps (after_damage start es).world (4 * (now.net.capacity + 1)) first
+    → Sweeps (run (after_damage start es).world first) 3 last
+    → Contains (said_in (run (after_damage start es).world first) last u v)
+    ((now.node u).port v).staged
+    × Contains (said_in (run (after_damage start es).world first) last u v)
+    ((now.node v).port u).copy

@@ -18,7 +18,8 @@ use Rattle.token_ring.specs.Legitimate.{IsLegitimate}
 -- from a legitimate world, each node is privileged at some moment of any 16(n - 1) sweeps
 abbrev pub LegitimateVisits : Type 0
 LegitimateVisits =
-    (w : World) (es : List Event) (v : ℕ) → IsWorldInRange w → IsUndamaged w es → IsLegitimate w → v < w.net.nodes
+    (w : World) (es : List Event) (v : ℕ) → IsWorldInRange w → IsUndamaged w es → IsLegitimate w
+    → v < w.net.nodes
     → Sweeps w (16 * (w.net.nodes - 1)) es → IsTrue (is_privileged_once w es v)
 
 -- from any, at some moment of as many sweeps behind those that make it legitimate
@@ -31,14 +32,17 @@ EachStateVisits =
 -- in that very tick,
 abbrev pub MovesPassServed : Type 0
 MovesPassServed =
-    (w : World) (e : Event) (v t : ℕ) → is_damage w e ≡ false → ((step w e).node v).value t ≢ (w.node v).value t
+    (w : World) (e : Event) (v t : ℕ) → is_damage w e ≡ false
+    → ((step w e).node v).value t ≢ (w.node v).value t
     → 0 < length (w.node v).desk.waiting
-    → ((w.node v).desk.served ≡ true) ⊎ ((ticket : ℕ) × (desk_act (w.node v).desk ((step w e).node v).desk ≡ Lost ticket))
+    → ((w.node v).desk.served ≡ true)
+    ⊎ ((ticket : ℕ) × (desk_act (w.node v).desk ((step w e).node v).desk ≡ Lost ticket))
 
 -- and in any case the desk then lends to nobody and has not served.
 abbrev pub MovesClearDesks : Type 0
 MovesClearDesks =
-    (w : World) (e : Event) (v t : ℕ) → is_damage w e ≡ false → ((step w e).node v).value t ≢ (w.node v).value t
+    (w : World) (e : Event) (v t : ℕ) → is_damage w e ≡ false
+    → ((step w e).node v).value t ≢ (w.node v).value t
     → IsFalse (is_lending (step w e) v) × (((step w e).node v).desk.served ≡ false)
 
 -- the ticket stands at that place of the list, 0 the first
@@ -66,6 +70,7 @@ gives_up w (e ∷ es) v t = (is_leave e v t && waits (w.node v).desk t) || gives
 -- lock within 8(n - 1)(i + 2) sweeps.
 abbrev pub WaitingAreServed : Type 0
 WaitingAreServed =
-    (w : World) (es : List Event) (v t i : ℕ) → IsWorldInRange w → IsUndamaged w es → IsLegitimate w → v < w.net.nodes
+    (w : World) (es : List Event) (v t i : ℕ) → IsWorldInRange w → IsUndamaged w es → IsLegitimate w
+    → v < w.net.nodes
     → IsAtPlace t i (w.node v).desk.waiting → IsFalse (gives_up w es v t)
     → Sweeps w (8 * (w.net.nodes - 1) * (i + 2)) es → IsTrue (is_lent_once w es v t)

@@ -15,7 +15,8 @@ use Rattle.token_ring.specs.Legitimate.{IsLegitimate}
 -- after 6 sweeps every link is stable, whatever its capacity
 abbrev pub LinksConvergeSooner : Type 0
 LinksConvergeSooner =
-    (w : World) (es : List Event) → IsWorldInRange w → IsUndamaged w es → Sweeps w 6 es → AreLinksStable (run w es)
+    (w : World) (es : List Event) → IsWorldInRange w → IsUndamaged w es → Sweeps w 6 es
+    → AreLinksStable (run w es)
 
 -- after 4(e + 2) more the tree is reached
 abbrev pub TreeConvergesSooner : Type 0
@@ -26,17 +27,20 @@ TreeConvergesSooner =
 -- after 16(n - 1) more, which is one less than 16(n - 1) + 4e + 15 in all, the token ring is good
 abbrev pub TokenRingConvergesSooner : Type 0
 TokenRingConvergesSooner =
-    (w : World) (es : List Event) → IsWorldInRange w → IsUndamaged w es → Sweeps w (sharp_of w.net - 1) es
+    (w : World) (es : List Event) → IsWorldInRange w → IsUndamaged w es
+    → Sweeps w (sharp_of w.net - 1) es
     → IsTokenRingGood (run w es)
 
 -- after one more the world is legitimate,
 abbrev pub WorldConvergesSooner : Type 0
 WorldConvergesSooner =
-    (w : World) (es : List Event) → IsWorldInRange w → IsUndamaged w es → Sweeps w (sharp_of w.net) es
+    (w : World) (es : List Event) → IsWorldInRange w → IsUndamaged w es
+    → Sweeps w (sharp_of w.net) es
     → IsLegitimate (run w es)
 
 -- and so it serves
 abbrev pub SharpHeadline : Type 0
 SharpHeadline =
-    (w : World) (es : List Event) → IsWorldInRange w → IsUndamaged w es → Sweeps w (sharp_of w.net) es
+    (w : World) (es : List Event) → IsWorldInRange w → IsUndamaged w es
+    → Sweeps w (sharp_of w.net) es
     → IsServing (run w es)

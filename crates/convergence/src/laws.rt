@@ -2,11 +2,14 @@
 //! that does nothing.
 ghost use Rattle.convergence.specs.Below.{Below};
 ghost use Rattle.convergence.specs.Laws.{LoansStayPrivileged, DesksTurnPrivileged, LegitimateStays};
-ghost use Rattle.convergence.specs.Laws.{LegitimateServes, LinksConverge, PayloadsConverge, TreeConverges};
+ghost use Rattle.convergence.specs.Laws.{LegitimateServes, LinksConverge, PayloadsConverge};
+ghost use Rattle.convergence.specs.Laws.{TreeConverges};
 ghost use Rattle.convergence.specs.Laws.{TokenRingConverges, WorldConverges};
-ghost use Rattle.convergence.specs.Sharp.{LinksConvergeSooner, TreeConvergesSooner, TokenRingConvergesSooner};
+ghost use Rattle.convergence.specs.Sharp.{LinksConvergeSooner, TreeConvergesSooner};
+ghost use Rattle.convergence.specs.Sharp.{TokenRingConvergesSooner};
 ghost use Rattle.convergence.specs.Sharp.{WorldConvergesSooner, SharpHeadline};
-ghost use Rattle.convergence.specs.Service.{LegitimateVisits, EachStateVisits, MovesPassServed, MovesClearDesks};
+ghost use Rattle.convergence.specs.Service.{LegitimateVisits, EachStateVisits, MovesPassServed};
+ghost use Rattle.convergence.specs.Service.{MovesClearDesks};
 ghost use Rattle.convergence.specs.Service.{WaitingAreServed};
 ghost use Rattle.run_model.specs.Headline.{Headline};
 

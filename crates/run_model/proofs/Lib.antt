@@ -1,6 +1,6 @@
 pub mod Steps
 pub mod Runs
-pub mod RunMoments
+pub mod Along
 pub mod Touches
 pub mod Splits
 pub mod LinkSteps
@@ -9,6 +9,7 @@ pub mod Joined
 pub mod Edges
 pub mod NodeRanges
 pub mod Ranges
+pub mod Rewiring
 pub mod RunRanges
 pub mod EdgeRanges
 pub mod Renewing
@@ -24,3 +25,4 @@ mod RowsSweep
 mod RowsCount
 pub mod RowsFaults
 mod RowsHappened
+mod RowsChange

@@ -19,7 +19,7 @@ use Rattle.node_core.specs.Site.{site_of}
 use Rattle.node_core.specs.State.{LocalState, IsNodeInRange}
 use Rattle.node_core.specs.Step.{taken}
 use Rattle.run_model.specs.World.{World, IsWorldInRange, item_fits, site, with_node, with_link}
-use Rattle.run_model.specs.Start.{default_world}
+use Rattle.run_model.specs.Start.{world_with_spares}
 use Rattle.run_model.specs.Step.{first_fault, unless, link_fault, has_room, sent, handed_over, with_port, with_desk}
 use Rattle.run_model.specs.declared.event.EventFault.{EventFault}
 use Rattle.link_model.proofs.Lists.{length-remove}
@@ -37,15 +37,15 @@ site-sound near net v ok = record {
 all-same : (P : Type 0) → P → (ws : List ℕ) → All (λ w. P) ws
 all-same P p ws = λ k d l. p
 
-default-fits : (net : Network) → port_fits (ranges_of net) (default_port (ranges_of net)) ≡ true
+pub default-fits : (net : Network) → port_fits (ranges_of net) (default_port (ranges_of net)) ≡ true
 default-fits net = grind (arith, common_steps, nat_tests)
 
 no-desk_fits : (lease : ℕ) → desk_fits lease no_desk ≡ true
 no-desk_fits lease = grind (arith, common_steps, nat_tests)
 
--- the default world is in range
-pub start-range : (net : Network) → IsAcceptedNetwork net → IsWorldInRange (default_world net)
-start-range net ok = record {
+-- the world in which nothing has happened yet is in range
+pub start-range : (net : Network) (pairs : ℕ) → IsAcceptedNetwork net → IsWorldInRange (world_with_spares net pairs)
+start-range net pairs ok = record {
   network = ok;
   nodes = λ v l. record {
     distance = omega arith;

@@ -62,6 +62,7 @@ calm-serves = record {
 abbrev pub stale : World
 stale = record {
   net = two_nodes;
+  spares = 0;
   node = λ v. record (calm.node v) { port = λ u. record ((calm.node v).port u) { copy = record (((calm.node v).port u).copy) { distance = 2 } } };
   link = calm.link;
 }
@@ -84,7 +85,7 @@ stale-tree_not_reached tree = let same = (tree.copied 1 0 refl).distance in absu
 
 -- the calm world with another state of one node
 abbrev calm-but : ℕ → LocalState → World
-calm-but v s = record { net = two_nodes; node = λ u. if u == v then s else calm.node u; link = calm.link }
+calm-but v s = record { net = two_nodes; spares = 0; node = λ u. if u == v then s else calm.node u; link = calm.link }
 
 -- node 1's machine has a value of its own, so both nodes are privileged
 abbrev pub two_tokens : World
@@ -95,7 +96,7 @@ two_tokens-do_not_serve s = let same = s.one_privileged 0 1 (omega arith) (omega
 
 -- both nodes lend, and one is privileged
 abbrev pub two_loans : World
-two_loans = record { net = two_nodes; node = λ v. node_with v lending_desk 0 0 0; link = calm.link }
+two_loans = record { net = two_nodes; spares = 0; node = λ v. node_with v lending_desk 0 0 0; link = calm.link }
 
 pub two_loans-have_one_token : (u v : ℕ) → u < 2 → v < 2 → IsTrue (is_privileged two_loans u) → IsTrue (is_privileged two_loans v) → u ≡ v
 two_loans-have_one_token = one-of_two (λ v. IsTrue (is_privileged two_loans v)) (λ a b. false≢true b)

@@ -58,7 +58,7 @@ is-accepted = record {
 
 -- so there is a world in range to start from
 start-in_range : IsWorldInRange (default_world two_nodes)
-start-in_range = start-range two_nodes is-accepted
+start-in_range = start-range two_nodes 0 is-accepted
 
 -- ---- a calm world
 
@@ -78,7 +78,7 @@ node_with v desk x staged copy = record {
 }
 
 abbrev pub calm : World
-calm = record { net = two_nodes; node = λ v. node_with v no_desk 0 0 0; link = λ u v. [] }
+calm = record { net = two_nodes; spares = 0; node = λ v. node_with v no_desk 0 0 0; link = λ u v. [] }
 
 pub calm-links_stable : AreLinksStable calm
 calm-links_stable = each-link (λ u v. IsStable 1 (edge_of calm u v))
@@ -102,6 +102,7 @@ lending_desk = record { waiting = []; lent = Some 5; left = 0; served = false }
 abbrev pub forged : World
 forged = record {
   net = two_nodes;
+  spares = 0;
   node = λ v. node_with v lending_desk (if v == 0 then 0 else 1) 0 0;
   link = λ u v. [];
 }

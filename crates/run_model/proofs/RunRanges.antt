@@ -4,7 +4,7 @@ use Rattle.std.proofs.lemmas.Grind.{common_steps}
 use Rattle.std.proofs.lemmas.Bool.{cond_both, and_parts, ltb-true}
 use Rattle.std.proofs.lemmas.Bool.Decides.{nat_tests}
 use Rattle.std.proofs.lemmas.List.Elements.{All-nil, All-push}
-use Rattle.std.specs.Prelude.{◌==◌, nat_lt, nat_le, is_some, slice_index_or}
+use Rattle.std.specs.Prelude.{◌==◌, ◌&&◌, nat_lt, nat_le, is_some, slice_index_or}
 use Rattle.topology.specs.At.{at}
 use Rattle.topology.specs.Network.{neighbours_of, ring_of}
 use Rattle.topology.specs.Ranges.{ranges_of, payload_fits, parent_fits}
@@ -13,18 +13,20 @@ use Rattle.topology.specs.declared.frame.Ranges.{Ranges}
 use Rattle.link_model.specs.declared.item.Item.{Item}
 use Rattle.data_link.specs.Port.{PortState, counters_fit, port_fits}
 use Rattle.lock_desk.specs.declared.fault.AskFault.{AskFault}
-use Rattle.lock_desk.specs.Desk.{is_number, ask_fault, asked, after_leave, with_loan}
+use Rattle.lock_desk.specs.Desk.{is_number, ask_fault, asked, after_leave, loan_fits, with_loan}
 use Rattle.node_core.specs.Step.{ticked}
 use Rattle.run_model.specs.World.{World, IsWorldInRange, item_fits, site, with_node}
-use Rattle.run_model.specs.Step.{first_fault, unless, node_fault, link_fault, ticket_fault, desk_fault, refusal, step, changed, harmed, harm_fits, harm_place_fault, has_room}
+use Rattle.run_model.specs.Rewire.{can_join, can_part}
+use Rattle.run_model.specs.Step.{first_fault, unless, node_fault, link_fault, ticket_fault, desk_fault, refusal, step, changed, harmed, harm_fits, harm_fault, harm_place_fault, has_room}
 use Rattle.run_model.specs.Run.{run}
 use Rattle.run_model.specs.declared.event.Event.{Event}
 use Rattle.run_model.specs.declared.event.Event.TheVariants.{Send, Take, Lose, Tick, Ask, Leave, Damage}
-use Rattle.run_model.specs.declared.event.EventFault.TheVariants.{OutOfRange, NoItem}
+use Rattle.run_model.specs.declared.event.EventFault.TheVariants.{OutOfRange, NoItem, NoSpare, Apart}
 use Rattle.run_model.specs.declared.event.Harm.{Harm}
 use Rattle.run_model.specs.declared.event.Harm.TheVariants as harm
 use Rattle.run_model.proofs.NodeRanges.{KeepRanges, ticked-range}
 use Rattle.run_model.proofs.Ranges.{site-sound, node-range, link-range, port-range, desk-range, linked, neither, held, sent-range, handed-range, lost-range}
+use Rattle.run_model.proofs.Rewiring.{AreNetworksKept, joined-range, parted-range}
 
 counters-fit : (r : Ranges) (p : PortState) (seq last : ℕ) → counters_fit r seq last ≡ true → port_fits r p ≡ true
     → port_fits r (record p { seq = seq; last = last }) ≡ true
@@ -67,23 +69,32 @@ room w u v item h = grind (arith, common_steps, nat_tests)
 no-fault : (fault : Option AskFault) → is_some (desk_fault fault) ≡ false → fault ≡ None
 no-fault fault fine = grind arith
 
-module _ (keep : KeepRanges) where
-  harmed-range : (w : World) (h : Harm) → IsWorldInRange w → is_some (harm_place_fault w h) ≡ false → harm_fits w h ≡ true → IsWorldInRange (harmed w h)
-  harmed-range w (harm.Own v d p) range place fits = own-range w v d p range fits
-  harmed-range w (harm.Counters v u seq last) range place fits =
-      port-range w v u (record ((w.node v).port u) { seq = seq; last = last }) range (counters-fit (ranges_of w.net) ((w.node v).port u) seq last fits)
-  harmed-range w (harm.Staged v u payload) range place fits =
-      port-range w v u (record ((w.node v).port u) { staged = payload }) range (staged-fits (ranges_of w.net) ((w.node v).port u) payload fits)
-  harmed-range w (harm.Copy v u payload) range place fits =
-      port-range w v u (record ((w.node v).port u) { copy = payload }) range (copy-fits (ranges_of w.net) ((w.node v).port u) payload fits)
-  harmed-range w (harm.Value v u x) range place fits = value-range w v u x range fits
-  harmed-range w (harm.Desk v lent left served) range place fits =
-      desk-range w v (with_loan (w.node v).desk lent left served) range (λ old. keep.loans w.net.lease left lent served (w.node v).desk old fits)
-  harmed-range w (harm.Item u v item) range place fits =
+module _ (keep : KeepRanges) (kept : AreNetworksKept) where
+  harmed-range : (w : World) (h : Harm) → IsWorldInRange w → is_some (harm_place_fault w h) ≡ false → is_some (harm_fault w h) ≡ false → IsWorldInRange (harmed w h)
+  harmed-range w (harm.Own v d p) range place fine = own-range w v d p range (held (harm_fits w (harm.Own v d p)) OutOfRange fine)
+  harmed-range w (harm.Counters v u seq last) range place fine =
+      port-range w v u (record ((w.node v).port u) { seq = seq; last = last }) range
+      (counters-fit (ranges_of w.net) ((w.node v).port u) seq last (held (counters_fit (ranges_of w.net) seq last) OutOfRange fine))
+  harmed-range w (harm.Staged v u payload) range place fine =
+      port-range w v u (record ((w.node v).port u) { staged = payload }) range
+      (staged-fits (ranges_of w.net) ((w.node v).port u) payload (held (payload_fits (ranges_of w.net) payload) OutOfRange fine))
+  harmed-range w (harm.Copy v u payload) range place fine =
+      port-range w v u (record ((w.node v).port u) { copy = payload }) range
+      (copy-fits (ranges_of w.net) ((w.node v).port u) payload (held (payload_fits (ranges_of w.net) payload) OutOfRange fine))
+  harmed-range w (harm.Value v u x) range place fine = value-range w v u x range (held (nat_lt x (ring_of w.net)) OutOfRange fine)
+  harmed-range w (harm.Desk v lent left served) range place fine =
+      desk-range w v (with_loan (w.node v).desk lent left served) range (λ old.
+      keep.loans w.net.lease left lent served (w.node v).desk old (held (loan_fits w.net.lease (w.node v).desk lent left) OutOfRange fine))
+  harmed-range w (harm.Item u v item) range place fine =
+      let fits = held (item_fits (ranges_of w.net) item && has_room w u v) OutOfRange fine in
       let parts = and_parts (item_fits (ranges_of w.net) item) (has_room w u v) fits in
       link-range w u v (w.link u v ++ item ∷ []) range (room w u v item parts.1)
       (All-push (λ item. IsTrue (item_fits (ranges_of w.net) item)) (w.link u v) item (range.items u v (linked w u v place).joined) parts.0)
-  harmed-range w (harm.Empty u v) range place fits = link-range w u v [] range (omega arith) (All-nil (λ item. IsTrue (item_fits (ranges_of w.net) item)))
+  harmed-range w (harm.Empty u v) range place fine = link-range w u v [] range (omega arith) (All-nil (λ item. IsTrue (item_fits (ranges_of w.net) item)))
+  harmed-range w (harm.Join u v) range place fine =
+      joined-range kept w u v range place
+      (held (can_join w.net u v) OutOfRange (neither (unless (can_join w.net u v) OutOfRange) (unless (nat_lt 0 w.spares) NoSpare) fine).0)
+  harmed-range w (harm.Part u v) range place fine = parted-range kept w u v range place (held (can_part w.net u v) Apart fine)
 
   changed-range : (w : World) (e : Event) → IsWorldInRange w → is_some (refusal w e) ≡ false → IsWorldInRange (changed w e)
   changed-range w (Send u v) range fine = sent-range keep.near w u v range (linked w u v fine)
@@ -100,8 +111,7 @@ module _ (keep : KeepRanges) where
       keep.asks w.net.lease t (w.node v).desk (held (is_number t) OutOfRange parts.0) old (no-fault (ask_fault t (w.node v).desk) parts.1))
   changed-range w (Leave v t) range fine = desk-range w v (after_leave t (w.node v).desk) range (keep.leaves w.net.lease t (w.node v).desk)
   changed-range w (Damage h) range fine =
-      let parts = neither (harm_place_fault w h) (unless (harm_fits w h) OutOfRange) fine in
-      harmed-range w h range parts.0 (held (harm_fits w h) OutOfRange parts.1)
+      let parts = neither (harm_place_fault w h) (harm_fault w h) fine in harmed-range w h range parts.0 parts.1
 
   pub step-range : (w : World) (e : Event) → IsWorldInRange w → IsWorldInRange (step w e)
   step-range w e range = cond_both (is_some (refusal w e)) w (changed w e) IsWorldInRange (λ _. range) (changed-range w e range)

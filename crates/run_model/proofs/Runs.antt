@@ -1,5 +1,5 @@
 -- Runs of two lists, one after the other.
-use Rattle.std.proofs.Common.{◌≡◌, List, [], ◌∷◌, ◌++◌, refl, sym, ◌∙◌, subst}
+use Rattle.std.proofs.Common.{◌≡◌, List, [], ◌∷◌, ◌++◌, refl, ◌∙◌}
 use Rattle.std.proofs.lemmas.Bool.{or_parts, or_from}
 use Rattle.topology.specs.Network.{Network}
 use Rattle.run_model.specs.World.{World}
@@ -7,16 +7,12 @@ use Rattle.run_model.specs.SameFrame.{IsSameFrame}
 use Rattle.run_model.specs.Step.{step}
 use Rattle.run_model.specs.Run.{run, is_damage, has_damage, IsUndamaged}
 use Rattle.run_model.specs.declared.event.Event.{Event}
-use Rattle.run_model.proofs.Steps.{step-network, every-network}
+use Rattle.run_model.proofs.Steps.{step-network, step-frame}
 
 pub run-network : (w : World) (es : List Event) → IsUndamaged w es → (run w es).net ≡ w.net
 run-network w [] fine = refl
 run-network w (e ∷ es) fine =
     let parts = or_parts (is_damage w e) (has_damage (step w e) es) fine in run-network (step w e) es parts.1 ∙ step-network w e parts.0
-
--- every event leaves the nodes, the root, the capacity and the lease
-step-frame : (w : World) (e : Event) → IsSameFrame w.net (step w e).net
-step-frame w e = subst (IsSameFrame w.net) (sym (every-network w e)) (record { nodes = refl; root = refl; capacity = refl; lease = refl })
 
 frames-join : (a b c : Network) → IsSameFrame a b → IsSameFrame b c → IsSameFrame a c
 frames-join a b c x y =

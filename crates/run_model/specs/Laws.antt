@@ -6,7 +6,7 @@ use Rattle.data_link.specs.Edge.{IsEdgeInRange, edge_step, edge_run}
 use Rattle.data_link.specs.Sweep as edge
 use Rattle.data_link.specs.Sweep.{is_out_renewed, is_back_renewed}
 use Rattle.run_model.specs.World.{World, IsWorldInRange}
-use Rattle.run_model.specs.Start.{default_world}
+use Rattle.run_model.specs.Start.{world_with_spares}
 use Rattle.run_model.specs.Step.{refusal, step}
 use Rattle.run_model.specs.Run.{run, is_damage, IsUndamaged}
 use Rattle.run_model.specs.Sweep.{IsSweep, Sweeps, link_act, is_full_tick, has_full_tick, is_renewed}
@@ -18,7 +18,6 @@ use Rattle.run_model.specs.Greedy.{IsEarliest, IsUnfinished, IsCounted}
 use Rattle.run_model.specs.Privilege.{is_privileged}
 use Rattle.run_model.specs.Visited.{is_visited}
 use Rattle.run_model.specs.Project.{edge_of, edge_event, edge_events}
-use Rattle.run_model.specs.Moments.{moment}
 use Rattle.run_model.specs.Touched.{is_node_touched, is_link_touched}
 use Rattle.run_model.specs.declared.event.Event.{Event}
 
@@ -36,9 +35,10 @@ NetworkStays = (w : World) (es : List Event) → IsUndamaged w es → (run w es)
 abbrev pub FrameStays : Type 0
 FrameStays = (w : World) (es : List Event) → IsSameFrame w.net (run w es).net
 
--- the default world of each accepted network is in range
+-- the world in which nothing has happened yet is in range, for each accepted network and any number
+-- of spare pairs
 abbrev pub StartIsInRange : Type 0
-StartIsInRange = (net : Network) → IsAcceptedNetwork net → IsWorldInRange (default_world net)
+StartIsInRange = (net : Network) (pairs : ℕ) → IsAcceptedNetwork net → IsWorldInRange (world_with_spares net pairs)
 
 -- a run from a world in range leads to one in range
 abbrev pub RangesStay : Type 0
@@ -64,27 +64,6 @@ OwnNodeAlone = (w : World) (e : Event) (v : ℕ) → is_node_touched e v ≡ fal
 -- and one that is none of a link's own leaves its items
 abbrev pub OwnLinkAlone : Type 0
 OwnLinkAlone = (w : World) (e : Event) (u v : ℕ) → is_link_touched e u v ≡ false → (step w e).link u v ≡ w.link u v
-
--- ---- a run moment by moment
-
--- From each moment of a run without damage an event that is no damage leads on to the next one, and
--- each world on the way is in range. So what each such event keeps, a run keeps.
-abbrev pub MomentsFollow : Type 0
-MomentsFollow =
-    (w : World) (es : List Event) (k : ℕ) → IsWorldInRange w → IsUndamaged w es → k < length es
-    → (e : Event) × IsWorldInRange (moment w es k) × (is_damage (moment w es k) e ≡ false) × (moment w es (suc k) ≡ step (moment w es k) e)
-
--- the last moment is the run's end
-abbrev pub LastMoment : Type 0
-LastMoment = (w : World) (es : List Event) → moment w es (length es) ≡ run w es
-
--- A list that has a full tick of v has it between two moments. So what a full tick brings about,
--- and each event keeps, a sweep brings about.
-abbrev pub FullTickAtMoment : Type 0
-FullTickAtMoment =
-    (w : World) (es : List Event) (v : ℕ) → IsWorldInRange w → IsUndamaged w es → IsTrue (has_full_tick w es v)
-    → (k : ℕ) × (k < length es) × (e : Event) × (is_damage (moment w es k) e ≡ false) × (moment w es (suc k) ≡ step (moment w es k) e)
-    × IsTrue (is_full_tick (moment w es k) e v)
 
 -- ---- one edge of a world
 

@@ -1,4 +1,5 @@
 pub mod World
+pub mod Rewire
 pub mod Step
 pub mod Run
 pub mod Sweep
@@ -17,6 +18,5 @@ pub mod Greedy
 pub mod Project
 pub mod Ticks
 pub mod SameFrame
-pub mod Moments
 pub mod Touched
 pub mod Laws

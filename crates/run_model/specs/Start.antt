@@ -1,10 +1,14 @@
 -- The world in which nothing has happened yet.
-use Rattle.std.specs.Prelude.{[]}
+use Rattle.std.specs.Prelude.{ℕ, []}
 use Rattle.topology.specs.Network.{Network}
 use Rattle.topology.specs.Ranges.{ranges_of}
 use Rattle.node_core.specs.State.{default_node}
 use Rattle.run_model.specs.World.{World}
 
--- every node is as it starts, and nothing is under way
+-- every node is as it starts, nothing is under way, and so many pairs of links are spare
+abbrev pub world_with_spares : Network → (pairs : ℕ) → World
+world_with_spares net pairs = record { net = net; spares = pairs; node = λ v. default_node (ranges_of net); link = λ u v. [] }
+
+-- and no pair is
 abbrev pub default_world : Network → World
-default_world net = record { net = net; node = λ v. default_node (ranges_of net); link = λ u v. [] }
+default_world net = world_with_spares net 0

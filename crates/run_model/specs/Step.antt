@@ -12,12 +12,13 @@ use Rattle.lock_desk.specs.declared.fault.AskFault.{AskFault}
 use Rattle.lock_desk.specs.declared.fault.AskFault.TheVariants as ask
 use Rattle.node_core.specs.Step.{taken, ticked}
 use Rattle.run_model.specs.World.{World, item_fits, site, with_node, with_link}
+use Rattle.run_model.specs.Rewire.{can_join, can_part, with_edge, without_edge}
 use Rattle.run_model.specs.declared.event.Event.{Event}
 use Rattle.run_model.specs.declared.event.Event.TheVariants.{Send, Take, Lose, Tick, Ask, Leave, Damage}
 use Rattle.run_model.specs.declared.event.Harm.{Harm}
 use Rattle.run_model.specs.declared.event.Harm.TheVariants as harm
 use Rattle.run_model.specs.declared.event.EventFault.{EventFault}
-use Rattle.run_model.specs.declared.event.EventFault.TheVariants.{NoNode, NoLink, NoItem, OutOfRange, Full, Twice, Stranger}
+use Rattle.run_model.specs.declared.event.EventFault.TheVariants.{NoNode, NoLink, NoItem, OutOfRange, Full, Twice, Stranger, NoSpare, Apart}
 
 -- the first of two refusals
 abbrev pub first_fault : Option EventFault → Option EventFault → Option EventFault
@@ -32,15 +33,20 @@ unless test fault = if test then None else Some fault
 abbrev pub node_fault : World → ℕ → Option EventFault
 node_fault w v = unless (nat_lt v w.net.nodes) NoNode
 
+-- both must be nodes
+abbrev pub nodes_fault : World → ℕ → ℕ → Option EventFault
+nodes_fault w u v = unless (nat_lt u w.net.nodes && nat_lt v w.net.nodes) NoNode
+
 -- both must be nodes, and they must be neighbours
 abbrev pub link_fault : World → ℕ → ℕ → Option EventFault
-link_fault w u v = first_fault (unless (nat_lt u w.net.nodes && nat_lt v w.net.nodes) NoNode) (unless (are_joined w.net.edges u v) NoLink)
+link_fault w u v = first_fault (nodes_fault w u v) (unless (are_joined w.net.edges u v) NoLink)
 
 -- the link has room for one more item
 abbrev pub has_room : World → ℕ → ℕ → Bool
 has_room w u v = nat_lt (length (w.link u v)) w.net.capacity
 
--- a harm writes at a node, or at a port, value or link of two neighbours, which must be there
+-- a harm writes at a node, or at a port, value or link of two neighbours, which must be there; an
+-- edge joins two nodes, and goes between two neighbours
 abbrev pub harm_place_fault : World → Harm → Option EventFault
 harm_place_fault w (harm.Own v d p) = node_fault w v
 harm_place_fault w (harm.Counters v u seq last) = link_fault w v u
@@ -50,8 +56,11 @@ harm_place_fault w (harm.Value v u x) = link_fault w v u
 harm_place_fault w (harm.Desk v lent left served) = node_fault w v
 harm_place_fault w (harm.Item u v item) = link_fault w u v
 harm_place_fault w (harm.Empty u v) = link_fault w u v
+harm_place_fault w (harm.Join u v) = nodes_fault w u v
+harm_place_fault w (harm.Part u v) = link_fault w u v
 
--- what a harm writes is in range; an item needs room on its link too
+-- what a harm writes is in range; an item needs room on its link too, and an edge two nodes that it
+-- may join
 abbrev pub harm_fits : World → Harm → Bool
 harm_fits w (harm.Own v d p) = nat_le d w.net.nodes && parent_fits w.net.nodes p
 harm_fits w (harm.Counters v u seq last) = counters_fit (ranges_of w.net) seq last
@@ -61,6 +70,15 @@ harm_fits w (harm.Value v u x) = nat_lt x (ranges_of w.net).ring
 harm_fits w (harm.Desk v lent left served) = loan_fits w.net.lease (w.node v).desk lent left
 harm_fits w (harm.Item u v item) = item_fits (ranges_of w.net) item && has_room w u v
 harm_fits w (harm.Empty u v) = true
+harm_fits w (harm.Join u v) = can_join w.net u v
+harm_fits w (harm.Part u v) = true
+
+-- what a harm writes must be in range; one more edge needs a spare pair of links then, and an edge
+-- that goes must leave the nodes together
+abbrev pub harm_fault : World → Harm → Option EventFault
+harm_fault w (harm.Join u v) = first_fault (unless (can_join w.net u v) OutOfRange) (unless (nat_lt 0 w.spares) NoSpare)
+harm_fault w (harm.Part u v) = unless (can_part w.net u v) Apart
+harm_fault w h = unless (harm_fits w h) OutOfRange
 
 -- a desk's refusals of a ticket, as refusals of the event
 abbrev pub desk_fault : Option AskFault → Option EventFault
@@ -80,7 +98,7 @@ refusal w (Lose u v i) = first_fault (link_fault w u v) (unless (nat_lt i (lengt
 refusal w (Tick v) = node_fault w v
 refusal w (Ask v t) = first_fault (node_fault w v) (first_fault (ticket_fault t) (desk_fault (ask_fault t (w.node v).desk)))
 refusal w (Leave v t) = first_fault (node_fault w v) (unless (not (is_stranger t (w.node v).desk)) Stranger)
-refusal w (Damage h) = first_fault (harm_place_fault w h) (unless (harm_fits w h) OutOfRange)
+refusal w (Damage h) = first_fault (harm_place_fault w h) (harm_fault w h)
 
 -- the world with another port of v to u
 abbrev pub with_port : World → ℕ → ℕ → PortState → World
@@ -90,7 +108,7 @@ with_port w v u p = with_node w v (record (w.node v) { port = at (w.node v).port
 abbrev pub with_desk : World → ℕ → DeskState → World
 with_desk w v d = with_node w v (record (w.node v) { desk = d })
 
--- the world with that one part written
+-- the world with that one part written, or with that one edge more or less
 abbrev pub harmed : World → Harm → World
 harmed w (harm.Own v d p) = with_node w v (record (w.node v) { distance = d; parent = p })
 harmed w (harm.Counters v u seq last) = with_port w v u (record ((w.node v).port u) { seq = seq; last = last })
@@ -100,6 +118,8 @@ harmed w (harm.Value v u x) = with_node w v (record (w.node v) { value = at (w.n
 harmed w (harm.Desk v lent left served) = with_desk w v (with_loan (w.node v).desk lent left served)
 harmed w (harm.Item u v item) = with_link w u v (w.link u v ++ item ∷ [])
 harmed w (harm.Empty u v) = with_link w u v []
+harmed w (harm.Join u v) = with_edge w u v
+harmed w (harm.Part u v) = without_edge w u v
 
 -- the frame of u's port to v goes last on the link; on a full link it is lost
 abbrev pub sent : World → ℕ → ℕ → World

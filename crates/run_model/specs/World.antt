@@ -1,5 +1,5 @@
 -- A world: a network, the state of each node, and the items under way on each directed link. It is
--- read as functions of the nodes' ids.
+-- read as functions of the nodes' ids. Beside the links that stand there are spare ones.
 use Rattle.std.specs.Prelude.{ℕ, ◌<◌, ◌≤◌, ◌==◌, ◌&&◌, if◌then◌else◌, IsTrue, List, All, length}
 use Rattle.topology.specs.At.{at}
 use Rattle.topology.specs.Network.{Network, IsAcceptedNetwork, are_joined}
@@ -9,10 +9,12 @@ use Rattle.node_core.specs.Site.{Site, site_of}
 pub use Rattle.node_core.specs.Step.{item_fits}
 use Rattle.node_core.specs.State.{LocalState, IsNodeInRange}
 
--- The network stands in the world, since a later kind of event may change it. `link u v` holds what
--- is under way from u to v, oldest first.
+-- The network stands in the world, since edges join and go while it runs. There are so many spare
+-- pairs of links, each for one more edge. `link u v` holds what is under way from u to v, oldest
+-- first.
 pub record World : Type 0 where
   pub net : Network
+  pub spares : ℕ
   pub node : ℕ → LocalState
   pub link : ℕ → ℕ → List Item
 

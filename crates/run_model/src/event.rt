@@ -26,7 +26,8 @@ pub enum Event {
     Damage(Harm),
 }
 
-/// What one transient fault writes: any value within the ranges of that part.
+/// What one transient fault does: it writes any value within the ranges of one part, or changes the
+/// network by one edge.
 #[derive(Clone, Copy, Debug, PartialEq, Eq)]
 pub enum Harm {
     /// A node's distance and parent.
@@ -79,6 +80,18 @@ pub enum Harm {
         from: u16,
         to: u16,
     },
+    /// One more edge, between two nodes: each keeps all its other ports, and the two links of the
+    /// edge, of a spare pair, are empty.
+    Join {
+        node: u16,
+        neighbour: u16,
+    },
+    /// The edge between two nodes goes, with its ports and with the items of its two links, which
+    /// are a spare pair then.
+    Part {
+        node: u16,
+        neighbour: u16,
+    },
 }
 
 /// Why an event is refused, in the order in which the causes are looked for. A refused event
@@ -94,7 +107,9 @@ pub enum EventFault {
     /// The link has no such item.
     #[error("NoItem")]
     NoItem,
-    /// A field of a harm is out of its range, or the link that it puts an item on is full.
+    /// A field of a harm is out of its range, or the link that it puts an item on is full; or no
+    /// edge may join the two nodes, since they are one, or an edge joins them already, or there are
+    /// 256 edges.
     #[error("OutOfRange")]
     OutOfRange,
     /// As many tickets wait at the desk as it holds.
@@ -106,4 +121,10 @@ pub enum EventFault {
     /// The ticket neither waits nor is lent to.
     #[error("Stranger")]
     Stranger,
+    /// No pair of links is left for one more edge.
+    #[error("NoSpare")]
+    NoSpare,
+    /// Without the edge the nodes would not hang together.
+    #[error("Apart")]
+    Apart,
 }

@@ -1,7 +1,16 @@
 //! What holds of runs and sweeps, for the crates above: each law is the contract of a function that
 //! does nothing.
 ghost use Rattle.run_model.specs.Ticks.{NodesMoveInTicks, TicksAreAccepted};
-ghost use Rattle.run_model.specs.Laws.{RefusedChangesNothing, NetworkStays, FrameStays, RunsJoin, UndamagedJoins, UndamagedSplits, StartIsInRange, RangesStay, EdgesAreInRange, EdgeSteps, EdgeRuns, EdgeIsRenewed, EdgeSweeps, SweepGrows, SweepsSplit, SweepsJoin, FewerSweeps, SweepsGrow, StrictSweepsAreSweeps, TicksGoOn, RenewedGoesOn, OldItemsStart, OldItemsGoOn, OldItemsAreThere, EarliestIsBest, GreedyCount, NoSweepCount, CountedIsGreatest, CountStarts, CountStays, CountRises, OneCount, OwnNodeAlone, OwnLinkAlone, MomentsFollow, LastMoment, FullTickAtMoment, MomentLeads, MomentStays, MomentMoves, VisitsGoOn};
+ghost use Rattle.run_model.specs.Laws.{RefusedChangesNothing, NetworkStays, FrameStays, RunsJoin};
+ghost use Rattle.run_model.specs.Laws.{UndamagedJoins, UndamagedSplits, StartIsInRange, RangesStay};
+ghost use Rattle.run_model.specs.Laws.{EdgesAreInRange, EdgeSteps, EdgeRuns, EdgeIsRenewed};
+ghost use Rattle.run_model.specs.Laws.{EdgeSweeps, SweepGrows, SweepsSplit, SweepsJoin};
+ghost use Rattle.run_model.specs.Laws.{FewerSweeps, SweepsGrow, StrictSweepsAreSweeps, TicksGoOn};
+ghost use Rattle.run_model.specs.Laws.{RenewedGoesOn, OldItemsStart, OldItemsGoOn};
+ghost use Rattle.run_model.specs.Laws.{OldItemsAreThere, EarliestIsBest, GreedyCount, NoSweepCount};
+ghost use Rattle.run_model.specs.Laws.{CountedIsGreatest, CountStarts, CountStays, CountRises};
+ghost use Rattle.run_model.specs.Laws.{OneCount, OwnNodeAlone, OwnLinkAlone, MomentLeads};
+ghost use Rattle.run_model.specs.Laws.{MomentStays, MomentMoves, VisitsGoOn};
 
 /// A refused event changes nothing; a list without damage leaves the network as it is, and every
 /// list its nodes, root, capacity and lease; the run of two lists is the run of the second from
@@ -17,7 +26,7 @@ pub fn runs()
 {}
 
 /// The world in which every node is as it starts and nothing is under way is in range, as each
-/// possible start is to be.
+/// possible start is to be, however many pairs of links are spare.
 pub fn start()
     ensures { StartIsInRange }
 {}
@@ -28,6 +37,7 @@ pub fn in_range()
     ensures { RangesStay }
 {
     topology::laws::neighbours();
+    topology::laws::changes();
     data_link::laws::ports();
     bfs_tree::laws::step_in_range();
     lock_desk::laws::ranges_are_kept();
@@ -39,17 +49,6 @@ pub fn own_changes()
     ensures node { OwnNodeAlone }
     ensures link { OwnLinkAlone }
 {}
-
-/// A run moment by moment: what each event keeps that is no damage, a run keeps, by an induction
-/// over its moments; and what a full tick of a node brings about, a list with such a tick brings
-/// about.
-pub fn run_moments()
-    ensures follow { MomentsFollow }
-    ensures last { LastMoment }
-    ensures full_tick { FullTickAtMoment }
-{
-    in_range();
-}
 
 /// One edge of a world: an event that is no damage is one event of the edge, so a run is a run of
 /// the edge and a sweep is a sweep of it. By these the laws of one edge hold of every edge of a

@@ -7,11 +7,12 @@
 //!
 //! The definitions stand in `specs/`. The headline rests on World, Step, Run, Sweep, Privilege and
 //! Headline; `docs/trusted` prints all that these use. The others are means of proof: Count and
-//! Greedy (how many sweeps a list holds), Stretch (a stretch event by event), Moments, Touched,
-//! Ticks and Project (a run moment by moment, node by node, edge by edge), Tree and Links (how far
-//! it has come), Visited, Strict. Here are the plain data types of events, and the laws, each as
-//! the contract of a function that does nothing. No step is computed here: that is the crate
-//! `configuration`.
+//! Greedy (how many sweeps a list holds), Stretch (a stretch event by event), Touched, Ticks and
+//! Project (a run node by node and edge by edge), Tree and Links (how far it has come), Visited,
+//! Strict. Here are the plain data types of events, and the laws, each as the contract of a
+//! function that does nothing. What each event keeps, a run keeps: no clause can say that of
+//! whatever may hold of a world, so it stands as a lemma, in `proofs/Along.antt`. No step is
+//! computed here: that is the crate `configuration`.
 //!
 //! A trap: a refused event changes nothing and is no damage, and a send on a full link is lost
 //! without a refusal.

@@ -18,7 +18,8 @@ use Rattle.token_ring.proofs.Settled.{IsSettledOn, settled-run}
 use Rattle.token_ring.proofs.RingEvents.{ring-is, ring-in, ring-run, good-run, good-after_moves, head-in, seen-in_range, two-values-at-least}
 use Rattle.token_ring.proofs.LegPlaces.{leg_at}
 use Rattle.token_ring.proofs.RingPlaces.{values_of}
-use Rattle.token_ring.proofs.Known.{IsKnown, IsCopied, IsWithin, IsEventWithin, leg, end, old, leg-tree, kept, ticked, head-run, known-event, copied-stays, staged-in_two, copied-in_one, taken-in_one, special-ticks, last-copy}
+use Rattle.run_model.proofs.Along.{kept, ticked}
+use Rattle.token_ring.proofs.Known.{IsKnown, IsCopied, IsWithin, IsEventWithin, within_course, leg, end, old, leg-tree, head-run, known-event, copied-stays, staged-in_two, copied-in_one, taken-in_one, special-ticks, last-copy}
 
 pub moves-join : (w : World) (xs ys : List Event) → head_moves w (xs ++ ys) ≡ head_moves w xs + head_moves (run w xs) ys
 moves-join w [] ys = omega arith
@@ -86,7 +87,7 @@ module _ (b : Below) where
         let y = x.4 in
         let q = parted mid x.1 y.0 y.1 y.2 p.late in
         let copied = copied-in_one b net tour start bound small j l mid y.0 (first-within mid x.1 y.0 y.1 h1 q) staged y.3 in
-        let done = kept b net tour start bound small (λ v. IsCopied place since v j) (copied-stays b net tour start bound small j l)
+        let done = kept (within_course b net tour start bound small) (λ v. IsCopied place since v j) (copied-stays b net tour start bound small j l)
         (run mid y.0) y.1 (later-within mid x.1 y.0 y.1 h1 q) copied in
         subst (λ v. IsCopied place since v j) (sym (p.leads ∙ q.leads)) done
 
@@ -100,7 +101,7 @@ module _ (b : Below) where
         let y = x.4 in
         let q = parted mid x.1 y.0 y.1 y.2 p.late in
         let taken = taken-in_one b net tour start bound small j l mid y.0 (first-within mid x.1 y.0 y.1 h1 q) copied (ticked-in mid y.0 (suc j) h1.0 l y.3) in
-        let done = kept b net tour start bound small (λ v. Known v (suc j)) (known-event b net tour start bound small (suc j) l)
+        let done = kept (within_course b net tour start bound small) (λ v. Known v (suc j)) (known-event b net tour start bound small (suc j) l)
         (run mid y.0) y.1 (later-within mid x.1 y.0 y.1 h1 q) taken in
         subst (λ v. Known v (suc j)) (sym (p.leads ∙ q.leads)) done
 
@@ -179,7 +180,7 @@ module _ (b : Below) where
             let all = copied-ahead net tour start 0 small k w x.0 j (first-within net tour start 0 small w es x.0 x.1 h p) e known x.3 in
             let y = x.4 in
             let q = parted mid x.1 y.0 y.1 y.2 p.late in
-            ticked b net tour start 0 small (λ v. IsCopied (leg b net tour start 0 small) (old b net tour start 0 small) v behind) (λ v. ⊥) tour.first.here
+            ticked (within_course b net tour start 0 small) (λ v. IsCopied (leg b net tour start 0 small) (old b net tour start 0 small) v behind) (λ v. ⊥) tour.first.here
             (copied-stays b net tour start 0 small behind (omega arith)) (λ v e now c no. no) (λ v e now c f. moves start small v e now c f)
             mid y.0 (first-within net tour start 0 small mid x.1 y.0 y.1 h1 q) all (ticked-in net tour start 0 small mid y.0 0 h1.0 (omega arith) y.3)
           where

@@ -2,7 +2,7 @@
 -- first legs are known, their ages do not rise from one to the next.
 use Rattle.std.proofs.Common.{◌≡◌, ◌≢◌, ℕ, zero, suc, ◌+◌, ◌<◌, ◌≤◌, ◌⊎◌, inl, inr, Bool, true, false, ◌==◌, List, [], ◌∷◌, length, refl, sym, ◌∙◌, ap, subst, arith}
 use Rattle.std.specs.Prelude.{if◌then◌else◌, nat_le}
-use Rattle.std.proofs.lemmas.Bool.{eq-eqb, ne_eqb, cases_eq, cases_Bool, or_cases, false≢true}
+use Rattle.std.proofs.lemmas.Bool.{eq-eqb, ne_eqb, cases_eq, cases_Bool}
 use Rattle.std.proofs.lemmas.Bool.Decides.{nat_tests}
 use Rattle.topology.specs.Network.{Network, ring_of}
 use Rattle.topology.specs.declared.frame.Payload.{Payload}
@@ -13,6 +13,7 @@ use Rattle.run_model.specs.Step.{step}
 use Rattle.run_model.specs.Run.{run, is_damage, IsUndamaged}
 use Rattle.run_model.specs.Sweep.{IsSweep, Sweeps, is_full_tick, has_full_tick}
 use Rattle.run_model.specs.declared.event.Event.{Event}
+use Rattle.run_model.proofs.Along.{Course, kept, ticked, undamaged-front}
 use Rattle.tree_convergence.specs.Present.{AlwaysPresent, AlwaysStaged}
 use Rattle.token_ring.specs.Ring.{Leg}
 use Rattle.token_ring.specs.Legs.{IsTour, IsTreeLeg, IsAmong, machine_value, staged_value, copied_value, seen_value}
@@ -20,7 +21,7 @@ use Rattle.token_ring.specs.Moves.{head_move, head_moves}
 use Rattle.token_ring.specs.Below.{Below}
 use Rattle.token_ring.proofs.RingPlaces.{leg_may_move, sees-same, seen-is_copied}
 use Rattle.token_ring.proofs.LegPlaces.{leg_at, among-at, among-later, followed-at, last-at}
-use Rattle.token_ring.proofs.Settled.{IsSettledOn, settled-event, first-undamaged, rest-undamaged}
+use Rattle.token_ring.proofs.Settled.{IsSettledOn, settled-event}
 use Rattle.token_ring.proofs.LegEvents.{moved_leg, staged-event, copied-event, full-tick, present-is, leg-joined}
 use Rattle.token_ring.proofs.RingEvents.{plain-event, special-event, head-move-is, first-sees, special-on, head-goes-on, head-in, two-values-at-least}
 
@@ -107,32 +108,16 @@ module _ (b : Below) (net : Network) (tour : IsTour net) (start bound : ℕ) (sm
   IsWithin w es = IsSettledOn net w × IsUndamaged w es × (head_age w + head_moves w es ≤ bound)
 
   pub event-within : (w : World) (e : Event) (es : List Event) → IsWithin w (e ∷ es) → IsEventWithin w e
-  event-within w e es (s, u, h) = (s, first-undamaged w e es u, omega (arith, h))
+  event-within w e es (s, u, h) = (s, (undamaged-front w e es u).0, omega (arith, h))
 
   pub rest-within : (w : World) (e : Event) (es : List Event) → IsWithin w (e ∷ es) → IsWithin (step w e) es
   rest-within w e es (s, u, h) =
-      let d = first-undamaged w e es u in
+      let d = (undamaged-front w e es u).0 in
       let now = head-event w e s d (omega (arith, h)) in
-      (settled-event b net w e s d, rest-undamaged w e es u, omega (arith, h, now))
+      (settled-event b net w e s d, (undamaged-front w e es u).1, omega (arith, h, now))
 
-  -- what each event of such a stretch keeps, the stretch keeps
-  pub kept : (P : World → Type 0) → ((w : World) (e : Event) → IsEventWithin w e → P w → P (step w e)) → (w : World) (es : List Event) → IsWithin w es → P w → P (run w es)
-  kept P k w [] h p = p
-  kept P k w (e ∷ es) h p = kept P k (step w e) es (rest-within w e es h) (k w e (event-within w e es h) p)
-
-  -- and what a full tick of v brings about while P holds, and each event keeps while P holds, a stretch with such a tick brings about
-  pub ticked : (P Q : World → Type 0) (v : ℕ) → ((w : World) (e : Event) → IsEventWithin w e → P w → P (step w e))
-      → ((w : World) (e : Event) → IsEventWithin w e → P w → Q w → Q (step w e))
-      → ((w : World) (e : Event) → IsEventWithin w e → P w → is_full_tick w e v ≡ true → Q (step w e))
-      → (w : World) (es : List Event) → IsWithin w es → P w → has_full_tick w es v ≡ true → Q (run w es)
-  ticked P Q v kp kq tick w [] h p t = absurd (false≢true t)
-  ticked P Q v kp kq tick w (e ∷ es) h p t =
-      let now = event-within w e es h in
-      let later = rest-within w e es h in
-      elim (or_cases (is_full_tick w e v) (has_full_tick (step w e) es v) t) [
-        | inl f ↦ (kept (λ x. P x × Q x) (λ x a i both. (kp x a i both.0, kq x a i both.0 both.1)) (step w e) es later (kp w e now p, tick w e now p f)).1
-        | inr r ↦ ticked P Q v kp kq tick (step w e) es later (kp w e now p) r
-      ]
+  abbrev pub within_course : Course
+  within_course = record { holds = IsWithin; tells = IsEventWithin; now = event-within; later = rest-within }
 
   pub head-run : (w : World) (es : List Event) → IsWithin w es → head_age (run w es) ≡ head_age w + head_moves w es
   head-run w [] h = omega arith
@@ -210,7 +195,7 @@ module _ (b : Below) (net : Network) (tour : IsTour net) (start bound : ℕ) (sm
       → old (machine_value w (leg j)) ≤ old (machine_value (run w es) (leg j))
   machine-along j l w es h c =
       let first = old (machine_value w (leg j)) in
-      (kept (λ x. IsKnown leg old x j × (first ≤ old (machine_value x (leg j))))
+      (kept within_course (λ x. IsKnown leg old x j × (first ≤ old (machine_value x (leg j))))
       (λ x e now k. (known-event j l x e now k.0, up_to first (old (machine_value x (leg j))) (old (machine_value (step x e) (leg j))) k.1 (machine-rises x e j now l k.0 j (omega arith))))
       w es h (c, omega arith)).1
 
@@ -218,7 +203,7 @@ module _ (b : Below) (net : Network) (tour : IsTour net) (start bound : ℕ) (sm
       → old (staged_value w (leg j)) ≤ old (staged_value (run w es) (leg j))
   staged-along j l w es h c =
       let first = old (staged_value w (leg j)) in
-      (kept (λ x. IsStaged leg old x j × (first ≤ old (staged_value x (leg j))))
+      (kept within_course (λ x. IsStaged leg old x j × (first ≤ old (staged_value x (leg j))))
       (λ x e now k. (staged-stays j l x e now k.0, up_to first (old (staged_value x (leg j))) (old (staged_value (step x e) (leg j))) k.1 (staged-rises x e j now l k.0.staged)))
       w es h (c, omega arith)).1
 
@@ -248,14 +233,14 @@ module _ (b : Below) (net : Network) (tour : IsTour net) (start bound : ℕ) (sm
       let on = leg-joined b net w (leg j) h.0 (leg-tree j l) in
       let most = old (machine_value (run w es) (leg j)) in
       let f = b.staged_turns (young most) w es (leg j).here (leg j).onward h.0.0.range h.1 on sweeps (says-young j l w es h c) in
-      record { known = kept (λ x. IsKnown leg old x j) (known-event j l) w es h c; staged = is-within (old (staged_value (run w es) (leg j))) most f }
+      record { known = kept within_course (λ x. IsKnown leg old x j) (known-event j l) w es h c; staged = is-within (old (staged_value (run w es) (leg j))) most f }
 
   pub copied-in_one : (j : ℕ) → j ≤ end → (w : World) (es : List Event) → IsWithin w es → IsStaged leg old w j → IsSweep w es → IsCopied leg old (run w es) j
   copied-in_one j l w es h c sweep =
       let on = leg-joined b net w (leg j) h.0 (leg-tree j l) in
       let most = old (staged_value (run w es) (leg j)) in
       let f = b.copy_turns (young most) w es (leg j).here (leg j).onward h.0.0.range on (h.0.0.links (leg j).here (leg j).onward on) sweep (stages-young j l w es h c) in
-      record { staged = kept (λ x. IsStaged leg old x j) (staged-stays j l) w es h c; copied = is-within (old (copied_value (run w es) (leg j))) most f }
+      record { staged = kept within_course (λ x. IsStaged leg old x j) (staged-stays j l) w es h c; copied = is-within (old (copied_value (run w es) (leg j))) most f }
 
   -- in a full tick a machine other than the special one takes what it sees
   full-plain : (w : World) (e : Event) (l : Leg) → IsSettledOn net w → is_damage w e ≡ false → IsAmong l tour.others → is_full_tick w e l.here ≡ true
@@ -273,7 +258,7 @@ module _ (b : Below) (net : Network) (tour : IsTour net) (start bound : ℕ) (sm
   pub taken-in_one : (j : ℕ) → suc j ≤ end → (w : World) (es : List Event) → IsWithin w es → IsCopied leg old w j → has_full_tick w es (leg (suc j)).here ≡ true
       → IsKnown leg old (run w es) (suc j)
   taken-in_one j l w es h c t =
-      ticked (λ x. IsCopied leg old x j) (λ x. IsKnown leg old x (suc j)) (leg (suc j)).here (copied-stays j (omega (arith, l)))
+      ticked within_course (λ x. IsCopied leg old x j) (λ x. IsKnown leg old x (suc j)) (leg (suc j)).here (copied-stays j (omega (arith, l)))
       (λ x e now p q. known-event (suc j) l x e now q) (λ x e now p f. takes x e now p f) w es h c t
     where
       takes : (x : World) (e : Event) → IsEventWithin x e → IsCopied leg old x j → is_full_tick x e (leg (suc j)).here ≡ true → IsKnown leg old (step x e) (suc j)

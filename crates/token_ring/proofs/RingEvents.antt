@@ -13,11 +13,12 @@ use Rattle.run_model.specs.Run.{run, is_damage, IsUndamaged}
 use Rattle.token_ring.specs.Ring.{Leg, legs, token_ring, IsTokenRingGood}
 use Rattle.token_ring.specs.Legs.{IsTour, IsTreeLeg, IsFollowed, IsAmong, last_leg, is_special_leg, machine_value, staged_value, copied_value, seen_value}
 use Rattle.run_model.specs.declared.event.Event.{Event}
+use Rattle.run_model.proofs.Along.{undamaged-front}
 use Rattle.token_ring.proofs.RingPlaces.{values_of, leg_may_move, last-value, seen-is_copied}
 use Rattle.token_ring.proofs.Privileges.{values-in, seen-in, several-values}
 use Rattle.token_ring.specs.Moves.{head_value, head_move, head_moves}
 use Rattle.token_ring.specs.Below.{Below}
-use Rattle.token_ring.proofs.Settled.{IsSettledOn, settled-event, settled-run, first-undamaged, rest-undamaged}
+use Rattle.token_ring.proofs.Settled.{IsSettledOn, settled-event, settled-run}
 use Rattle.token_ring.proofs.LegEvents.{machine-event, staged-event, copied-event}
 
 pub head-goes-on : (q x : ℕ) → 1 < q → x < q → root_moved x q ≢ x
@@ -133,9 +134,9 @@ module _ (b : Below) (net : Network) (tour : IsTour net) where
   pub ring-run : (w : World) (es : List Event) → IsSettledOn net w → IsUndamaged w es → Run (ring_of net) (head_moves w es) (token_ring w) (token_ring (run w es))
   ring-run w [] s u = Done
   ring-run w (e ∷ es) s u =
-      let d = first-undamaged w e es u in
+      let d = (undamaged-front w e es u).0 in
       b.ring_join (ring_of net) (head_move w e) (head_moves (step w e) es) (token_ring w) (token_ring (step w e)) (token_ring (run w (e ∷ es)))
-      (ring-event w e s d) (ring-run (step w e) es (settled-event b net w e s d) (rest-undamaged w e es u))
+      (ring-event w e s d) (ring-run (step w e) es (settled-event b net w e s d) (undamaged-front w e es u).1)
 
   -- ---- good
 

@@ -10,6 +10,7 @@ use Rattle.run_model.specs.Step.{step}
 use Rattle.run_model.specs.Run.{run, IsUndamaged}
 use Rattle.run_model.specs.Sweep.{Sweeps}
 use Rattle.run_model.specs.declared.event.Event.{Event}
+use Rattle.run_model.proofs.Along.{undamaged-front, undamaged-one}
 use Rattle.token_ring.specs.Ring.{Leg, token_ring, IsTokenRingGood}
 use Rattle.token_ring.specs.Legs.{IsTour, IsTreeLeg, IsAmong, machine_value, staged_value, copied_value}
 use Rattle.token_ring.specs.Service.{MachineMove}
@@ -18,7 +19,7 @@ use Rattle.token_ring.specs.Below.{Below}
 use Rattle.token_ring.proofs.RingPlaces.{values_of}
 use Rattle.token_ring.proofs.LegPlaces.{leg_at, among-at, place-of}
 use Rattle.token_ring.proofs.Privileges.{values-in}
-use Rattle.token_ring.proofs.Settled.{IsSettledOn, settled-event, settled-run, first-undamaged, rest-undamaged, one-undamaged}
+use Rattle.token_ring.proofs.Settled.{IsSettledOn, settled-event, settled-run}
 use Rattle.token_ring.proofs.RingEvents.{head-is, ring-is, ring-in, head-in, good-run, two-values-at-least, whole}
 use Rattle.token_ring.proofs.Known.{IsKnown, IsWithin, leg, old, head-run, machines-fall}
 use Rattle.token_ring.proofs.HeadMoves.{parted, other-number, known-in, moves-ahead}
@@ -117,7 +118,7 @@ module _ (b : Below) (net : Network) (tour : IsTour net) where
       let s2 = settled-run b net w m.first s p.early in
       let g2 = good-run b net tour w m.first s p.early g in
       let all : machine_value w2 (place k) ≡ machine_value w2 tour.first =
-      all-at_move b net tour w2 m.event s2 (first-undamaged w2 m.event m.rest p.late) g2 m.moves (place k) (among-at tour.first tour.others k h) in
+      all-at_move b net tour w2 m.event s2 (undamaged-front w2 m.event m.rest p.late).0 g2 m.moves (place k) (among-at tour.first tour.others k h) in
       let stands : machine_value w2 tour.first ≡ machine_value w tour.first =
       sym (head-is b net tour w2 s2.1) ∙ head-stands w m.first m.none ∙ head-is b net tour w s.1 in
       other-list w es (m.first ++ m.event ∷ m.rest) (place k) m.parts
@@ -172,12 +173,12 @@ module _ (b : Below) (net : Network) (tour : IsTour net) where
       let p = parted b w xs m.first (m.event ∷ m.rest) m.parts u in
       let w1 = run w m.first in
       let s1 = settled-run b net w m.first s p.early in
-      let d = first-undamaged w1 m.event m.rest p.late in
+      let d = (undamaged-front w1 m.event m.rest p.late).0 in
       let w2 = step w1 m.event in
       let s2 = settled-event b net w1 m.event s1 d in
-      let u2 = rest-undamaged w1 m.event m.rest p.late in
+      let u2 = (undamaged-front w1 m.event m.rest p.late).1 in
       let g1 = good-run b net tour w m.first s p.early g in
-      let g2 = good-run b net tour w1 (m.event ∷ []) s1 (one-undamaged w1 m.event d) g1 in
+      let g2 = good-run b net tour w1 (m.event ∷ []) s1 (undamaged-one w1 m.event d) g1 in
       let stands : machine_value w1 tour.first ≡ machine_value w tour.first =
       sym (head-is b net tour w1 s1.1) ∙ head-stands w m.first m.none ∙ head-is b net tour w s.1 in
       let leaves : machine_value w2 tour.first ≢ machine_value w tour.first = λ e. head-leaves b net tour w1 m.event s1 d m.moves (e ∙ sym stands) in

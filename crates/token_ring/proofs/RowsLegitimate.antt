@@ -59,6 +59,7 @@ forged-not_legitimate l = ring-not_good l.ring
 abbrev unprivileged : World
 unprivileged = record {
   net = two_nodes;
+  spares = 0;
   node = λ v. node_with v (if v == 0 then no_desk else lending_desk) 0 0 0;
   link = λ u v. [];
 }
@@ -97,6 +98,7 @@ unprivileged-serves = record {
 abbrev late : World
 late = record {
   net = two_nodes;
+  spares = 0;
   node = calm.node;
   link = λ u v. if (u == 0) && (v == 1) then Frame (record { seq = 0; ack = 0; payload = shown 0 3 }) ∷ [] else [];
 }

@@ -26,6 +26,6 @@ numbered v = record {
 
 -- node 0's machine from 1, what it has staged for 2, and 2's copy of it; then 2's machine from 0, and so on round the tour
 the-token_ring_follows_the_tour :
-    token_ring (record { net = square; node = numbered; link = λ u v. [] })
+    token_ring (record { net = square; spares = 0; node = numbered; link = λ u v. [] })
     ≡ (10 ∷ 21 ∷ 202 ∷ 200 ∷ 201 ∷ 22 ∷ 20 ∷ 11 ∷ 102 ∷ 100 ∷ 131 ∷ 312 ∷ 310 ∷ 311 ∷ 132 ∷ 130 ∷ 101 ∷ 12 ∷ [])
 the-token_ring_follows_the_tour = refl

@@ -15,6 +15,7 @@ use Rattle.run_model.specs.Sweep.{Sweeps}
 use Rattle.run_model.specs.Privilege.{is_privileged}
 use Rattle.run_model.specs.Visited.{is_privileged_once}
 use Rattle.run_model.specs.declared.event.Event.{Event}
+use Rattle.run_model.proofs.Along.{undamaged-front, undamaged-one}
 use Rattle.token_ring.specs.Ring.{Leg, token_ring, IsTokenRingGood}
 use Rattle.token_ring.specs.Legs.{IsTour, IsTreeLeg, IsAmong, machine_value, staged_value, copied_value}
 use Rattle.token_ring.specs.Moves.{head_value, head_move, head_moves}
@@ -22,7 +23,7 @@ use Rattle.token_ring.specs.Below.{Below}
 use Rattle.token_ring.proofs.RingPlaces.{values_of, last-value}
 use Rattle.token_ring.proofs.Privileges.{leg-privileged}
 use Rattle.token_ring.proofs.TourLegs.{none-special}
-use Rattle.token_ring.proofs.Settled.{IsSettledOn, settled-event, settled-run, first-undamaged, rest-undamaged, one-undamaged}
+use Rattle.token_ring.proofs.Settled.{IsSettledOn, settled-event, settled-run}
 use Rattle.token_ring.proofs.LegEvents.{tree-leg-on, machine-event}
 use Rattle.token_ring.proofs.RingEvents.{special-sees, special-on, head-is, first-sees, ring-is, ring-in, good-run, two-values-at-least, whole}
 use Rattle.token_ring.proofs.HeadMoves.{parted, other-number, moves-in_rounds}
@@ -104,10 +105,10 @@ module _ (b : Below) (net : Network) (tour : IsTour net) where
       → is_privileged_once w es l.here ≡ true
   changed-once w [] l s u t ne = absurd (ne refl)
   changed-once w (e ∷ es) l s u t ne =
-      let d = first-undamaged w e es u in
+      let d = (undamaged-front w e es u).0 in
       elim (machine-event b net w e l s d t) [
         | inl same ↦ or_right (is_privileged w l.here) (is_privileged_once (step w e) es l.here)
-            (changed-once (step w e) es l (settled-event b net w e s d) (rest-undamaged w e es u) t (λ k. ne (k ∙ same)))
+            (changed-once (step w e) es l (settled-event b net w e s d) (undamaged-front w e es u).1 t (λ k. ne (k ∙ same)))
         | inr m ↦ or_left (is_privileged w l.here) (is_privileged_once (step w e) es l.here)
             (leg-privileged b.back b.nodes b.near b.view w l s.0.range.network s.0.tree (tree-leg-on net w l s.1 t) m.0)
       ]
@@ -143,16 +144,16 @@ module _ (b : Below) (net : Network) (tour : IsTour net) where
   between : (w : World) (e : Event) (es : List Event) (l : Leg) → IsSettledOn net w → IsUndamaged w (e ∷ es) → IsTokenRingGood w → IsAmong l (whole b net tour)
       → head_move w e ≢ 0 → 0 < head_moves (step w e) es → is_privileged_once w (e ∷ es) l.here ≡ true
   between w e es l s u g i ne more =
-      let d = first-undamaged w e es u in
+      let d = (undamaged-front w e es u).0 in
       let s1 = settled-event b net w e s d in
-      let u1 = rest-undamaged w e es u in
-      let g1 = good-run b net tour w (e ∷ []) s (one-undamaged w e d) g in
+      let u1 = (undamaged-front w e es u).1 in
+      let g1 = good-run b net tour w (e ∷ []) s (undamaged-one w e d) g in
       let m = first-move (step w e) es more in
       let p = parted b (step w e) es m.first (m.event ∷ m.rest) m.parts u1 in
       let w2 = run (step w e) m.first in
       let s2 = settled-run b net (step w e) m.first s1 p.early in
       let g2 = good-run b net tour (step w e) m.first s1 p.early g1 in
-      let later : machine_value w2 l ≡ machine_value w2 tour.first = all-at_move w2 m.event s2 (first-undamaged w2 m.event m.rest p.late) g2 m.moves l i in
+      let later : machine_value w2 l ≡ machine_value w2 tour.first = all-at_move w2 m.event s2 (undamaged-front w2 m.event m.rest p.late).0 g2 m.moves l i in
       let now : machine_value w l ≡ machine_value w tour.first = all-at_move w e s d g ne l i in
       let stands : machine_value w2 tour.first ≡ machine_value (step w e) tour.first =
       sym (head-is b net tour w2 s2.1) ∙ head-stands (step w e) m.first m.none ∙ head-is b net tour (step w e) s1.1 in

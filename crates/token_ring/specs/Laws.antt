@@ -69,7 +69,8 @@ HeadMoves =
 -- a list without damage keeps a good token ring good
 abbrev pub TokenRingStaysGood : Type 0
 TokenRingStaysGood =
-    (w : World) (es : List Event) → IsSettled w → IsUndamaged w es → IsTokenRingGood w → IsTokenRingGood (run w es)
+    (w : World) (es : List Event) → IsSettled w → IsUndamaged w es → IsTokenRingGood w
+    → IsTokenRingGood (run w es)
 
 -- 48(n - 1)(n - 1) sweeps make it good
 abbrev pub TokenRingTurnsGood : Type 0

@@ -14,7 +14,8 @@ is_on_tree net v t = is_on (true_neighbours net v) t
 -- the leg's machine is the special one: that of the root for its smallest neighbour on the true
 -- tree
 abbrev pub is_special_leg : Network → Leg → Bool
-is_special_leg net leg = is_named (special (leg.here == net.root) (true_neighbours net leg.here)) leg.from
+is_special_leg net leg =
+    is_named (special (leg.here == net.root) (true_neighbours net leg.here)) leg.from
 
 -- the value of a leg's machine
 abbrev pub machine_value : World → Leg → ℕ
@@ -39,7 +40,8 @@ coming_value w leg = ((w.node leg.from).port leg.here).staged.ring
 -- each leg begins with the step of the one before it, of which the first is `before`
 abbrev pub IsFollowed : Leg → List Leg → Type 0
 IsFollowed before [] = Unit {0}
-IsFollowed before (leg ∷ legs) = ((leg.from ≡ before.here) × (leg.here ≡ before.onward)) × IsFollowed leg legs
+IsFollowed before (leg ∷ legs) =
+    ((leg.from ≡ before.here) × (leg.here ≡ before.onward)) × IsFollowed leg legs
 
 -- the last of a leg and those that follow it
 abbrev pub last_leg : Leg → List Leg → Leg

@@ -17,7 +17,8 @@ pub record Leg : Type 0 where
 abbrev pub legs_to : ℕ → List (ℕ × ℕ) → List Leg
 legs_to end [] = []
 legs_to end (p ∷ []) = record { from = p.0; here = p.1; onward = end } ∷ []
-legs_to end (p ∷ q ∷ rest) = record { from = p.0; here = p.1; onward = q.1 } ∷ legs_to end (q ∷ rest)
+legs_to end (p ∷ q ∷ rest) =
+    record { from = p.0; here = p.1; onward = q.1 } ∷ legs_to end (q ∷ rest)
 
 -- the node to which the first pair of a closed tour comes, and so that to which its last pair goes
 -- on

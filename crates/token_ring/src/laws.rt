@@ -1,8 +1,10 @@
 //! What holds of the token ring and of privilege: each law is the contract of a function that does
 //! nothing.
 ghost use Rattle.token_ring.specs.Below.{Below};
-ghost use Rattle.token_ring.specs.Laws.{OnePrivileged, OneLending, PrivilegeStays, SettledStays, EventIsRingRun};
-ghost use Rattle.token_ring.specs.Laws.{MovesTurnRingGood, HeadMoves, TokenRingStaysGood, TokenRingTurnsGood};
+ghost use Rattle.token_ring.specs.Laws.{OnePrivileged, OneLending, PrivilegeStays, SettledStays};
+ghost use Rattle.token_ring.specs.Laws.{EventIsRingRun};
+ghost use Rattle.token_ring.specs.Laws.{MovesTurnRingGood, HeadMoves, TokenRingStaysGood};
+ghost use Rattle.token_ring.specs.Laws.{TokenRingTurnsGood};
 ghost use Rattle.token_ring.specs.Laws.{TokenRingTurnsGoodSoon};
 ghost use Rattle.token_ring.specs.Service.{PrivilegeGoesRound, PrivilegeVisits, MachinesMove};
 ghost use Rattle.token_ring.specs.Legs.{EachTour};

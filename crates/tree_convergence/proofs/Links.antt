@@ -20,7 +20,7 @@ use Rattle.run_model.specs.Project.{edge_of, present, edge_event, edge_events}
 use Rattle.run_model.specs.Laws.{EdgesAreInRange, EdgeSteps, EdgeRuns, EdgeIsRenewed, EdgeSweeps, NetworkStays, RangesStay}
 use Rattle.run_model.specs.declared.event.Event.{Event}
 use Rattle.tree_convergence.specs.Present.{AlwaysPresent, AlwaysStaged}
-use Rattle.tree_convergence.proofs.Along.{undamaged-front, undamaged-one}
+use Rattle.run_model.proofs.Along.{undamaged-front, undamaged-one}
 use Rattle.tree_convergence.specs.Laws.{LinksStayStable, LinksTurnStable, LinksTurnStableInSix, NumbersMove, StagedIsPresent, CopyIsStaged, PayloadsTurnFresh, StagedTurnsFresh, CopyTurnsStaged}
 
 -- what is handed in is present

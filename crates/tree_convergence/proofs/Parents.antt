@@ -1,5 +1,5 @@
 -- Parents: from exact distances four sweeps reach the tree, and it stays reached.
-use Rattle.std.proofs.Common.{◌≡◌, ℕ, ◌<◌, inl, inr, Bool, true, false, List, [], ◌∷◌, refl, sym, ◌∙◌, ap, subst, arith, IsTrue}
+use Rattle.std.proofs.Common.{◌≡◌, ℕ, ◌<◌, inl, inr, Bool, true, List, [], ◌∷◌, refl, sym, ◌∙◌, ap, subst, arith, IsTrue}
 use Rattle.std.proofs.lemmas.Grind.{common_steps}
 use Rattle.topology.specs.Network.{are_joined}
 use Rattle.topology.specs.Tree.{distance_of, parent_of}
@@ -10,7 +10,7 @@ use Rattle.bfs_tree.specs.Laws as bfs_tree
 use Rattle.node_core.specs.Step.{copied_distance}
 use Rattle.run_model.specs.World.{World, IsWorldInRange}
 use Rattle.run_model.specs.Step.{step}
-use Rattle.run_model.specs.Run.{run, is_damage, IsUndamaged}
+use Rattle.run_model.specs.Run.{run, IsUndamaged}
 use Rattle.run_model.specs.Sweep.{IsSweep, is_full_tick, Sweeps}
 use Rattle.run_model.specs.Tree.{IsTreeAtStage, IsTreeReached}
 use Rattle.run_model.specs.Links.{AreLinksStable}
@@ -18,7 +18,8 @@ use Rattle.run_model.specs.Laws as runs
 use Rattle.run_model.specs.declared.event.Event.{Event}
 use Rattle.tree_convergence.specs.Laws.{LinksStayStable, StagedIsPresent, CopyIsStaged, PayloadsTurnFresh, StageStays, ParentsTurnTrue, TreeStays}
 use Rattle.tree_convergence.proofs.SameParent.{same_parent, same-is, same-self}
-use Rattle.tree_convergence.proofs.Along.{undamaged-one, IsKept, kept, ticked, always}
+use Rattle.run_model.proofs.Along.{undamaged-one, IsUndamagedEvent, IsKept, kept, ticked, in_range}
+use Rattle.tree_convergence.proofs.Along.{always}
 use Rattle.tree_convergence.proofs.Own.{next_parent, own-parent, tick-parent}
 
 -- every link is stable, and every distance is exact
@@ -46,14 +47,14 @@ module _ (net-stays : runs.NetworkStays) (ranges : runs.RangesStay) (splits : ru
       (s.copied u v (subst IsTrue (joined-back w.net.edges v u) j)))
 
   module _ (links-stay : LinksStayStable) (stage-stays : StageStays) where
-    exact-kept : IsKept IsExact
-    exact-kept w e r d h = record {
+    exact-kept : IsKept (in_range ranges) IsExact
+    exact-kept w e (r, d) h = record {
       links = links-stay w e r d h.links;
       stage = subst (λ n. IsTreeAtStage n (step w e)) (ap (λ n. n.nodes) (sym (net-stays w (e ∷ []) (undamaged-one w e d)))) (stage-stays w.net.nodes w e r d h.links h.stage);
     }
 
-    parent-kept : (v : ℕ) (w : World) (e : Event) → IsWorldInRange w → is_damage w e ≡ false → IsExact w → HasParent v w → HasParent v (step w e)
-    parent-kept v w e r d h own b =
+    parent-kept : (v : ℕ) (w : World) (e : Event) → IsUndamagedEvent w e → IsExact w → HasParent v w → HasParent v (step w e)
+    parent-kept v w e (r, d) h own b =
         let net : (step w e).net ≡ w.net = net-stays w (e ∷ []) (undamaged-one w e d) in
         let b' : v < w.net.nodes = subst (λ n. v < n.nodes) net b in
         subst (λ n. ((step w e).node v).parent ≡ parent_of n v) (sym net) (elim (own-parent w e v d) [
@@ -61,21 +62,21 @@ module _ (net-stays : runs.NetworkStays) (ranges : runs.RangesStay) (splits : ru
           | inr next ↦ next ∙ next-true w v r b' h.stage
         ])
 
-    parent-ticked : (v : ℕ) (w : World) (e : Event) → IsWorldInRange w → is_damage w e ≡ false → IsExact w → is_full_tick w e v ≡ true → HasParent v (step w e)
-    parent-ticked v w e r d h tick b =
+    parent-ticked : (v : ℕ) (w : World) (e : Event) → IsUndamagedEvent w e → IsExact w → is_full_tick w e v ≡ true → HasParent v (step w e)
+    parent-ticked v w e (r, d) h tick b =
         let net : (step w e).net ≡ w.net = net-stays w (e ∷ []) (undamaged-one w e d) in
         let b' : v < w.net.nodes = subst (λ n. v < n.nodes) net b in
         subst (λ n. ((step w e).node v).parent ≡ parent_of n v) (sym net) (tick-parent w e v b' tick ∙ next-true w v r b' h.stage)
 
-    parents-kept : IsKept HasParents
-    parents-kept w e r d h = record { exact = exact-kept w e r d h.exact; own = λ v. parent-kept v w e r d h.exact (h.own v) }
+    parents-kept : IsKept (in_range ranges) HasParents
+    parents-kept w e now h = record { exact = exact-kept w e now h.exact; own = λ v. parent-kept v w e now h.exact (h.own v) }
 
     -- one sweep
     parents-there : (w : World) (es : List Event) → IsWorldInRange w → IsExact w → IsSweep w es → HasParents (run w es)
     parents-there w es r h sweep = record {
-      exact = kept ranges IsExact exact-kept w es r sweep.undamaged h;
-      own = λ v b. ticked ranges IsExact (HasParent v) v exact-kept (parent-kept v) (parent-ticked v) w es r sweep.undamaged h
-          (inr (sweep.ticked v (subst (λ n. v < n.nodes) (net-stays w es sweep.undamaged) b))) b;
+      exact = kept (in_range ranges) IsExact exact-kept w es (r, sweep.undamaged) h;
+      own = λ v b. ticked (in_range ranges) IsExact (HasParent v) v exact-kept (parent-kept v) (parent-ticked v) w es (r, sweep.undamaged) h
+          (sweep.ticked v (subst (λ n. v < n.nodes) (net-stays w es sweep.undamaged) b)) b;
     }
 
     -- exact distances, as equations
@@ -93,16 +94,16 @@ module _ (net-stays : runs.NetworkStays) (ranges : runs.RangesStay) (splits : ru
       reached : (w : World) (es : List Event) → IsWorldInRange w → IsUndamaged w es → HasParents w → Sweeps w 3 es → IsTreeReached (run w es)
       reached w es r d h sweeps =
           let net : (run w es).net ≡ w.net = net-stays w es d in
-          let end : HasParents (run w es) = kept ranges HasParents parents-kept w es r d h in
+          let end : HasParents (run w es) = kept (in_range ranges) HasParents parents-kept w es (r, d) h in
           let r' : IsWorldInRange (run w es) = ranges w es r in
           let test : ℕ → Payload → Bool = λ v p. same_parent p.parent (parent_of w.net v) in
           let fresh = λ (v u : ℕ) (j : IsTrue (are_joined w.net.edges v u)).
           turn-fresh (test v) w es v u r d j (h.exact.links v u j) sweeps
           (always ranges (λ x. (x.net ≡ w.net) × HasParents x)
-          (λ x e rx dx hx. (net-stays x (e ∷ []) (undamaged-one x e dx) ∙ hx.0, parents-kept x e rx dx hx.1)) (test v) v u
+          (λ x e now hx. (net-stays x (e ∷ []) (undamaged-one x e now.1) ∙ hx.0, parents-kept x e now hx.1)) (test v) v u
           (λ x rx hx. same-self (x.node v).parent (parent_of w.net v)
           (subst (λ n. (x.node v).parent ≡ parent_of n v) hx.0 (hx.1.own v (subst (λ n. v < n.nodes) (sym hx.0) (joined-nodes w.net v u r.network j).0))))
-          w es r d (refl, h)) in
+          w es (r, d) (refl, h)) in
           record {
             distance = λ v b. exact-own (run w es) v r' end.exact.stage b;
             parent = end.own;
@@ -142,10 +143,10 @@ module _ (net-stays : runs.NetworkStays) (ranges : runs.RangesStay) (splits : ru
         let net : (step w e).net ≡ w.net = net-stays w (e ∷ []) (undamaged-one w e d) in
         let r' : IsWorldInRange (step w e) = ranges w (e ∷ []) r in
         let exact : IsExact w = record { links = links; stage = exact-stage w t } in
-        let s' : IsTreeAtStage (step w e).net.nodes (step w e) = (exact-kept links-stay stage-stays w e r d exact).stage in
+        let s' : IsTreeAtStage (step w e).net.nodes (step w e) = (exact-kept links-stay stage-stays w e (r, d) exact).stage in
         record {
           distance = λ v b. exact-own links-stay stage-stays (step w e) v r' s' b;
-          parent = λ v b. parent-kept links-stay stage-stays v w e r d exact (t.parent v) b;
+          parent = λ v b. parent-kept links-stay stage-stays v w e (r, d) exact (t.parent v) b;
           staged = λ v u j.
               let j' : IsTrue (are_joined w.net.edges v u) = subst (λ n. IsTrue (are_joined n.edges v u)) net j in
               record {

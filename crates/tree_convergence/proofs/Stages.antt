@@ -15,7 +15,8 @@ use Rattle.run_model.specs.Links.{AreLinksStable}
 use Rattle.run_model.specs.Laws as runs
 use Rattle.run_model.specs.declared.event.Event.{Event}
 use Rattle.tree_convergence.specs.Laws.{LinksStayStable, StagedIsPresent, CopyIsStaged, PayloadsTurnFresh, StageStays, StageRises}
-use Rattle.tree_convergence.proofs.Along.{undamaged-one, IsKept, kept, ticked, always}
+use Rattle.run_model.proofs.Along.{undamaged-one, IsUndamagedEvent, IsKept, kept, ticked, in_range}
+use Rattle.tree_convergence.proofs.Along.{always}
 use Rattle.tree_convergence.proofs.Own.{next_distance, own-distance, tick-distance}
 
 -- every link is stable, and the tree is at stage k
@@ -80,34 +81,34 @@ module _ (net-stays : runs.NetworkStays) (joined-back : topology.JoinedBack) (ri
     -- ---- four sweeps
 
     module _ (ranges : runs.RangesStay) (links-stay : LinksStayStable) where
-      rising-kept : (k : ℕ) → IsKept (IsRising k)
-      rising-kept k w e r d h = record { links = links-stay w e r d h.links; stage = stage-stays k w e r d h.links h.stage }
+      rising-kept : (k : ℕ) → IsKept (in_range ranges) (IsRising k)
+      rising-kept k w e (r, d) h = record { links = links-stay w e r d h.links; stage = stage-stays k w e r d h.links h.stage }
 
       -- once v's own distance is of the next stage it stays so,
-      own-kept : (k v : ℕ) (w : World) (e : Event) → IsWorldInRange w → is_damage w e ≡ false → IsRising k w → IsOwnAt (k + 1) v w → IsOwnAt (k + 1) v (step w e)
-      own-kept k v w e r d h own b =
+      own-kept : (k v : ℕ) (w : World) (e : Event) → IsUndamagedEvent w e → IsRising k w → IsOwnAt (k + 1) v w → IsOwnAt (k + 1) v (step w e)
+      own-kept k v w e (r, d) h own b =
           let net : (step w e).net ≡ w.net = net-stays w (e ∷ []) (undamaged-one w e d) in
           let b' : v < w.net.nodes = subst (λ n. v < n.nodes) net b in
           subst (λ n. IsTrue (is_of_stage (k + 1) (distance_of n v) ((step w e).node v).distance)) (sym net)
           (own-stays (k + 1) w e v d (next-rises k w v r b' h.stage) (own b'))
 
       -- and a full tick makes it so
-      own-ticked : (k v : ℕ) (w : World) (e : Event) → IsWorldInRange w → is_damage w e ≡ false → IsRising k w → is_full_tick w e v ≡ true → IsOwnAt (k + 1) v (step w e)
-      own-ticked k v w e r d h tick b =
+      own-ticked : (k v : ℕ) (w : World) (e : Event) → IsUndamagedEvent w e → IsRising k w → is_full_tick w e v ≡ true → IsOwnAt (k + 1) v (step w e)
+      own-ticked k v w e (r, d) h tick b =
           let net : (step w e).net ≡ w.net = net-stays w (e ∷ []) (undamaged-one w e d) in
           let b' : v < w.net.nodes = subst (λ n. v < n.nodes) net b in
           subst (λ n. IsTrue (is_of_stage (k + 1) (distance_of n v) ((step w e).node v).distance)) (sym net)
           (subst (λ x. IsTrue (is_of_stage (k + 1) (distance_of w.net v) x)) (sym (tick-distance w e v b' tick)) (next-rises k w v r b' h.stage))
 
-      half-kept : (k : ℕ) → IsKept (IsHalfRisen k)
-      half-kept k w e r d h = record { rising = rising-kept k w e r d h.rising; own = λ v. own-kept k v w e r d h.rising (h.own v) }
+      half-kept : (k : ℕ) → IsKept (in_range ranges) (IsHalfRisen k)
+      half-kept k w e now h = record { rising = rising-kept k w e now h.rising; own = λ v. own-kept k v w e now h.rising (h.own v) }
 
       -- one sweep for the nodes' own distances
       half-risen : (k : ℕ) (w : World) (es : List Event) → IsWorldInRange w → IsRising k w → IsSweep w es → IsHalfRisen k (run w es)
       half-risen k w es r h sweep = record {
-        rising = kept ranges (IsRising k) (rising-kept k) w es r sweep.undamaged h;
-        own = λ v b. ticked ranges (IsRising k) (IsOwnAt (k + 1) v) v (rising-kept k) (own-kept k v) (own-ticked k v) w es r sweep.undamaged h
-            (inr (sweep.ticked v (subst (λ n. v < n.nodes) (net-stays w es sweep.undamaged) b))) b;
+        rising = kept (in_range ranges) (IsRising k) (rising-kept k) w es (r, sweep.undamaged) h;
+        own = λ v b. ticked (in_range ranges) (IsRising k) (IsOwnAt (k + 1) v) v (rising-kept k) (own-kept k v) (own-ticked k v) w es (r, sweep.undamaged) h
+            (sweep.ticked v (subst (λ n. v < n.nodes) (net-stays w es sweep.undamaged) b)) b;
       }
 
       module _ (turn-fresh : PayloadsTurnFresh) where
@@ -118,18 +119,18 @@ module _ (net-stays : runs.NetworkStays) (joined-back : topology.JoinedBack) (ri
         half-fresh k w es v u r d h sweeps j =
             turn-fresh (λ p. is_of_stage (k + 1) (distance_of w.net v) p.distance) w es v u r d j (h.rising.links v u j) sweeps
             (always ranges (λ x. (x.net ≡ w.net) × IsHalfRisen k x)
-            (λ x e rx dx hx. (net-stays x (e ∷ []) (undamaged-one x e dx) ∙ hx.0, half-kept k x e rx dx hx.1))
+            (λ x e now hx. (net-stays x (e ∷ []) (undamaged-one x e now.1) ∙ hx.0, half-kept k x e now hx.1))
             (λ p. is_of_stage (k + 1) (distance_of w.net v) p.distance) v u
             (λ x rx hx. subst (λ n. is_of_stage (k + 1) (distance_of n v) (x.node v).distance ≡ true) hx.0
             (hx.1.own v (subst (λ n. v < n.nodes) (sym hx.0) (joined-nodes w.net v u r.network j).0)))
-            w es r d (refl, h))
+            w es (r, d) (refl, h))
 
         -- three sweeps more for the staged and the copied ones
         risen : (k : ℕ) (w : World) (es : List Event) → IsWorldInRange w → IsUndamaged w es → IsHalfRisen k w → Sweeps w 3 es → IsTreeAtStage (k + 1) (run w es)
         risen k w es r d h sweeps =
             let net : (run w es).net ≡ w.net = net-stays w es d in
             record {
-              own = (kept ranges (IsHalfRisen k) (half-kept k) w es r d h).own;
+              own = (kept (in_range ranges) (IsHalfRisen k) (half-kept k) w es (r, d) h).own;
               staged = λ v u j. subst (λ n. IsTrue (is_of_stage (k + 1) (distance_of n v) (((run w es).node v).port u).staged.distance)) (sym net)
                   (half-fresh k w es v u r d h sweeps (subst (λ n. IsTrue (are_joined n.edges v u)) net j)).0;
               copied = λ v u j. subst (λ n. IsTrue (is_of_stage (k + 1) (distance_of n v) (((run w es).node u).port v).copy.distance)) (sym net)

@@ -14,7 +14,7 @@ use Rattle.run_model.specs.Links.{AreLinksStable}
 use Rattle.run_model.specs.Laws as runs
 use Rattle.run_model.specs.declared.event.Event.{Event}
 use Rattle.tree_convergence.specs.Laws.{LinksStayStable, StageZero, StageRises, ParentsTurnTrue, TreeIsReached, TreeIsReachedByDepth}
-use Rattle.tree_convergence.proofs.Along.{kept}
+use Rattle.run_model.proofs.Along.{kept, in_range}
 
 -- ---- the last stage
 
@@ -53,7 +53,7 @@ module _ (net-stays : runs.NetworkStays) (ranges : runs.RangesStay) (undamaged :
         let next : (k + 1) + j ≡ last (run w cut.0).net = subst (λ x. (k + 1) + j ≡ last x) (sym (net-stays w cut.0 parts.0)) (omega (arith, n)) in
         let world : run w es ≡ run (run w cut.0) cut.1 = ap (run w) cut.2 ∙ joins w cut.0 cut.1 in
         subst IsTreeReached (sym world)
-        (from-stage j (k + 1) (run w cut.0) cut.1 (ranges w cut.0 r) parts.1 (kept ranges AreLinksStable links-stay w cut.0 r parts.0 links)
+        (from-stage j (k + 1) (run w cut.0) cut.1 (ranges w cut.0 r) parts.1 (kept (in_range ranges) AreLinksStable (λ x e now. links-stay x e now.0 now.1) w cut.0 (r, parts.0) links)
         (rises k w cut.0 r parts.0 links s cut.3) next cut.4)
 
   pub tree-reached : StageZero → TreeIsReached

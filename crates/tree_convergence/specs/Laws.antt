@@ -19,12 +19,15 @@ use Rattle.tree_convergence.specs.Present.{AlwaysPresent, AlwaysStaged, number_m
 
 -- an event that is no damage keeps every link stable
 abbrev pub LinksStayStable : Type 0
-LinksStayStable = (w : World) (e : Event) → IsWorldInRange w → is_damage w e ≡ false → AreLinksStable w → AreLinksStable (step w e)
+LinksStayStable =
+    (w : World) (e : Event) → IsWorldInRange w → is_damage w e ≡ false → AreLinksStable w
+    → AreLinksStable (step w e)
 
 -- and so does a list without damage
 abbrev pub LinksOutlastRuns : Type 0
 LinksOutlastRuns =
-    (w : World) (es : List Event) → IsWorldInRange w → IsUndamaged w es → AreLinksStable w → AreLinksStable (run w es)
+    (w : World) (es : List Event) → IsWorldInRange w → IsUndamaged w es → AreLinksStable w
+    → AreLinksStable (run w es)
 
 -- after 4(C + 1) sweeps every link is stable
 abbrev pub LinksTurnStable : Type 0
@@ -35,12 +38,14 @@ LinksTurnStable =
 -- after six sweeps every link is stable, whatever its capacity
 abbrev pub LinksTurnStableInSix : Type 0
 LinksTurnStableInSix =
-    (w : World) (es : List Event) → IsWorldInRange w → IsUndamaged w es → Sweeps w 6 es → AreLinksStable (run w es)
+    (w : World) (es : List Event) → IsWorldInRange w → IsUndamaged w es → Sweeps w 6 es
+    → AreLinksStable (run w es)
 
 -- two sweeps move the number that u sends to v
 abbrev pub NumbersMove : Type 0
 NumbersMove =
-    (w : World) (es : List Event) (u v : ℕ) → IsWorldInRange w → IsTrue (are_joined w.net.edges u v) → Sweeps w 2 es
+    (w : World) (es : List Event) (u v : ℕ) → IsWorldInRange w → IsTrue (are_joined w.net.edges u v)
+    → Sweeps w 2 es
     → 0 < number_moves w es u v
 
 -- ---- payloads on a stable link
@@ -48,15 +53,18 @@ NumbersMove =
 -- an event leaves what u has staged for v, or stages what u then says of itself to v
 abbrev pub StagedIsPresent : Type 0
 StagedIsPresent =
-    (w : World) (e : Event) (u v : ℕ) → IsWorldInRange w → is_damage w e ≡ false → IsTrue (are_joined w.net.edges u v)
-    → (((step w e).node u).port v).staged ≡ ((w.node u).port v).staged ⊎ (((step w e).node u).port v).staged ≡ present w u v
+    (w : World) (e : Event) (u v : ℕ) → IsWorldInRange w → is_damage w e ≡ false
+    → IsTrue (are_joined w.net.edges u v)
+    → (((step w e).node u).port v).staged ≡ ((w.node u).port v).staged
+    ⊎ (((step w e).node u).port v).staged ≡ present w u v
 
 -- on a stable link an event leaves what v has copied from u, or copies what u then has staged for v
 abbrev pub CopyIsStaged : Type 0
 CopyIsStaged =
     (w : World) (e : Event) (u v : ℕ) → IsWorldInRange w → is_damage w e ≡ false
     → IsTrue (are_joined w.net.edges u v) → IsStable w.net.capacity (edge_of w u v)
-    → (((step w e).node v).port u).copy ≡ ((w.node v).port u).copy ⊎ (((step w e).node v).port u).copy ≡ ((w.node u).port v).staged
+    → (((step w e).node v).port u).copy ≡ ((w.node v).port u).copy
+    ⊎ (((step w e).node v).port u).copy ≡ ((w.node u).port v).staged
 
 -- on a stable link, whatever holds of what u says of itself to v throughout three sweeps holds of
 -- what is staged and copied at their end
@@ -65,13 +73,15 @@ PayloadsTurnFresh =
     (test : Payload → Bool) (w : World) (es : List Event) (u v : ℕ) → IsWorldInRange w
     → IsUndamaged w es → IsTrue (are_joined w.net.edges u v)
     → IsStable w.net.capacity (edge_of w u v) → Sweeps w 3 es → AlwaysPresent test w es u v
-    → (test (((run w es).node u).port v).staged ≡ true) × (test (((run w es).node v).port u).copy ≡ true)
+    → (test (((run w es).node u).port v).staged ≡ true)
+    × (test (((run w es).node v).port u).copy ≡ true)
 
 -- whatever holds of what u says of itself to v throughout two sweeps holds of what is staged at
 -- their end
 abbrev pub StagedTurnsFresh : Type 0
 StagedTurnsFresh =
-    (test : Payload → Bool) (w : World) (es : List Event) (u v : ℕ) → IsWorldInRange w → IsUndamaged w es
+    (test : Payload → Bool) (w : World) (es : List Event) (u v : ℕ) → IsWorldInRange w
+    → IsUndamaged w es
     → IsTrue (are_joined w.net.edges u v) → Sweeps w 2 es → AlwaysPresent test w es u v
     → test (((run w es).node u).port v).staged ≡ true
 
@@ -79,7 +89,8 @@ StagedTurnsFresh =
 -- has copied at its end
 abbrev pub CopyTurnsStaged : Type 0
 CopyTurnsStaged =
-    (test : Payload → Bool) (w : World) (es : List Event) (u v : ℕ) → IsWorldInRange w → IsTrue (are_joined w.net.edges u v)
+    (test : Payload → Bool) (w : World) (es : List Event) (u v : ℕ) → IsWorldInRange w
+    → IsTrue (are_joined w.net.edges u v)
     → IsStable w.net.capacity (edge_of w u v) → IsSweep w es → AlwaysStaged test w es u v
     → test (((run w es).node v).port u).copy ≡ true
 
@@ -98,19 +109,22 @@ StageStays =
 -- four sweeps reach the next stage
 abbrev pub StageRises : Type 0
 StageRises =
-    (k : ℕ) (w : World) (es : List Event) → IsWorldInRange w → IsUndamaged w es → AreLinksStable w → IsTreeAtStage k w → Sweeps w 4 es
+    (k : ℕ) (w : World) (es : List Event) → IsWorldInRange w → IsUndamaged w es → AreLinksStable w
+    → IsTreeAtStage k w → Sweeps w 4 es
     → IsTreeAtStage (k + 1) (run w es)
 
 -- at stage n, four sweeps reach the tree
 abbrev pub ParentsTurnTrue : Type 0
 ParentsTurnTrue =
-    (w : World) (es : List Event) → IsWorldInRange w → IsUndamaged w es → AreLinksStable w → IsTreeAtStage w.net.nodes w → Sweeps w 4 es
+    (w : World) (es : List Event) → IsWorldInRange w → IsUndamaged w es → AreLinksStable w
+    → IsTreeAtStage w.net.nodes w → Sweeps w 4 es
     → IsTreeReached (run w es)
 
 -- so 4(n + 1) sweeps reach the tree on stable links,
 abbrev pub TreeIsReached : Type 0
 TreeIsReached =
-    (w : World) (es : List Event) → IsWorldInRange w → IsUndamaged w es → AreLinksStable w → Sweeps w (4 * (w.net.nodes + 1)) es
+    (w : World) (es : List Event) → IsWorldInRange w → IsUndamaged w es → AreLinksStable w
+    → Sweeps w (4 * (w.net.nodes + 1)) es
     → IsTreeReached (run w es)
 
 -- and 4(e + 2) of them do, where e is the greatest distance of a node from the root,

@@ -10,12 +10,14 @@ use Rattle.run_model.specs.declared.event.Event.{Event}
 -- at every moment of a run, what u says of itself to v passes the test
 abbrev pub AlwaysPresent : (Payload → Bool) → World → List Event → ℕ → ℕ → Type 0
 AlwaysPresent test w [] u v = test (present w u v) ≡ true
-AlwaysPresent test w (e ∷ es) u v = (test (present w u v) ≡ true) × AlwaysPresent test (step w e) es u v
+AlwaysPresent test w (e ∷ es) u v =
+    (test (present w u v) ≡ true) × AlwaysPresent test (step w e) es u v
 
 -- at every moment of a run, what u has staged for v passes the test
 abbrev pub AlwaysStaged : (Payload → Bool) → World → List Event → ℕ → ℕ → Type 0
 AlwaysStaged test w [] u v = test ((w.node u).port v).staged ≡ true
-AlwaysStaged test w (e ∷ es) u v = (test ((w.node u).port v).staged ≡ true) × AlwaysStaged test (step w e) es u v
+AlwaysStaged test w (e ∷ es) u v =
+    (test ((w.node u).port v).staged ≡ true) × AlwaysStaged test (step w e) es u v
 
 -- how often the number that u sends to v moves along a run
 abbrev pub number_moves : World → List Event → ℕ → ℕ → ℕ

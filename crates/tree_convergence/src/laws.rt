@@ -1,9 +1,12 @@
 //! How links become stable, payloads fresh and the tree reached: each law is the contract of a
 //! function that does nothing.
 ghost use Rattle.tree_convergence.specs.Laws.{LinksStayStable, LinksOutlastRuns, LinksTurnStable};
-ghost use Rattle.tree_convergence.specs.Laws.{LinksTurnStableInSix, NumbersMove, StagedTurnsFresh, CopyTurnsStaged};
-ghost use Rattle.tree_convergence.specs.Laws.{StagedIsPresent, CopyIsStaged, PayloadsTurnFresh, StageZero};
-ghost use Rattle.tree_convergence.specs.Laws.{StageStays, StageRises, ParentsTurnTrue, TreeIsReached};
+ghost use Rattle.tree_convergence.specs.Laws.{LinksTurnStableInSix, NumbersMove, StagedTurnsFresh};
+ghost use Rattle.tree_convergence.specs.Laws.{CopyTurnsStaged};
+ghost use Rattle.tree_convergence.specs.Laws.{StagedIsPresent, CopyIsStaged, PayloadsTurnFresh};
+ghost use Rattle.tree_convergence.specs.Laws.{StageZero};
+ghost use Rattle.tree_convergence.specs.Laws.{StageStays, StageRises, ParentsTurnTrue};
+ghost use Rattle.tree_convergence.specs.Laws.{TreeIsReached};
 ghost use Rattle.tree_convergence.specs.Laws.{TreeIsReachedByDepth, TreeStays};
 
 /// Links: each is stable after 4(C + 1) sweeps, from any state, and after six whatever its

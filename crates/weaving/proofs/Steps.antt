@@ -91,6 +91,7 @@ module _ (w last : World) (account : ℕ → List Deed) (v : ℕ) (ds : List Dee
       let new = ticked (site_of w.net v) (w.node v) in
       goes-on w last (Tick v) (at account v ds) (tick-fine w v (somebody d is)) tt refl within (record {
         network = m.network;
+        spares = m.spares;
         nodes = at-two (λ a state xs. Leads w.net a state xs (last.node a)) w.node account v new ds (leads-here d is) (λ a _. m.nodes a);
         nobody = nobody-next d is;
         links = λ a b. linked a b (sent_to b (at account v ds a)) (taken_from a (at account v ds b)) (sent-same d is b refl a) (taken-same d is a refl b);
@@ -134,6 +135,7 @@ module _ (w last : World) (account : ℕ → List Deed) (v : ℕ) (ds : List Dee
       (λ a b. at_pair-each (λ i j xs. IsTrue (are_joined w.net.edges i j) → length xs ≤ w.net.capacity) w.link v u new (λ _. omega (arith, longer, room)) (λ i j _. within i j) a b))
       (subst (λ x. AreMatched x next last) (sym is-sent) (record {
         network = m.network;
+        spares = m.spares;
         nodes = at-each (λ a xs. Leads w.net a (w.node a) xs (last.node a)) account v ds leads.2 (λ a _. m.nodes a);
         nobody = nobody-next d is;
         links = at_pair-each (λ a b xs. IsLinkMatched w.net.capacity xs (sent_to b (next a)) (taken_from a (next b)) (last.link a b)) w.link v u new
@@ -177,6 +179,7 @@ module _ (w last : World) (account : ℕ → List Deed) (v : ℕ) (ds : List Dee
       (λ a b. at_pair-each (λ i j xs. IsTrue (are_joined w.net.edges i j) → length xs ≤ w.net.capacity) w.link u v rest (λ _. omega (arith, fits)) (λ i j _. within i j) a b))
       (subst (λ y. AreMatched y next last) (sym is-taken) (record {
         network = m.network;
+        spares = m.spares;
         nodes = at-two (λ a state xs. Leads w.net a state xs (last.node a)) w.node account v new ds
             (subst (λ y. Leads w.net v (taken (site_of w.net v) u y (w.node v)) ds (last.node v)) (sym both.0) leads.1) (λ a _. m.nodes a);
         nobody = nobody-next d is;

@@ -92,9 +92,10 @@ reached w last account m none =
     sym (append-nil (w.link u v))
     ∙ (ap (λ xs. w.link u v ++ items xs) (sym sent-none) ∙ (k ∙ ap (λ xs. items xs ++ last.link u v) taken-none)) in
     let net-same = sym m.network in
+    let spares-same = sym m.spares in
     let node-same : w.node ≡ last.node = fun_ext (λ v. sym (node-is v)) in
     let link-same : w.link ≡ last.link = fun_ext (λ u. fun_ext (λ v. link-is u v)) in
-    λ i. record { net = net-same i; node = node-same i; link = link-same i }
+    λ i. record { net = net-same i; spares = spares-same i; node = node-same i; link = link-same i }
 
 weaves : (ps : List Placed) (w last : World) (account : ℕ → List Deed) → AreNodes w → IsWithin w → AreMatched w account last → AreOrdered ps
     → ((v : ℕ) → entries_of v ps ≡ map (entry_of v) (account v))

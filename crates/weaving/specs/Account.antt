@@ -43,6 +43,7 @@ abbrev pub Leads : Network → ℕ → LocalState → List Deed → LocalState �
 Leads net v s [] last = last ≡ s
 Leads net v s (Ticks t ∷ ds) last = Leads net v (ticked (site_of net v) s) ds last
 Leads net v s (Sends u sent ∷ ds) last =
-    IsTrue (are_joined net.edges v u) × (sent.item ≡ Frame (frame_of (s.port u))) × Leads net v s ds last
+    IsTrue (are_joined net.edges v u) × (sent.item ≡ Frame (frame_of (s.port u)))
+    × Leads net v s ds last
 Leads net v s (Takes u met ∷ ds) last =
     IsTrue (are_joined net.edges u v) × Leads net v (taken (site_of net v) u met.item s) ds last

@@ -35,4 +35,6 @@ WovenIsRun =
 
 -- journals have one woven list
 abbrev pub OneWovenList : Type 0
-OneWovenList = (journal : ℕ → List Entry) (xs ys : List Event) → IsWoven journal xs → IsWoven journal ys → xs ≡ ys
+OneWovenList =
+    (journal : ℕ → List Entry) (xs ys : List Event) → IsWoven journal xs → IsWoven journal ys
+    → xs ≡ ys

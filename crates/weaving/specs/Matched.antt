@@ -23,7 +23,8 @@ items xs = map (λ x. x.item) xs
 -- What stood on a link, then what was sent, is what was taken, then what is left. What was sent is
 -- taken later. Where no place is free, a send waits for a take: with f places free at the start,
 -- send number f + j is later than take number j.
-pub record IsLinkMatched (capacity : ℕ) (old : List Item) (sent taken : List Stamped) (left : List Item) : Type 0 where
+pub record IsLinkMatched (capacity : ℕ) (old : List Item) (sent taken : List Stamped)
+    (left : List Item) : Type 0 where
   pub kept : old ++ items sent ≡ items taken ++ left
   pub taken_later : AreAbove (drop (length old) (stamps taken)) (stamps sent)
   pub sent_later : AreAbove (drop (capacity - length old) (stamps sent)) (stamps taken)
@@ -32,9 +33,12 @@ pub record IsLinkMatched (capacity : ℕ) (old : List Item) (sent taken : List S
 -- match.
 pub record AreMatched (w : World) (account : ℕ → List Deed) (last : World) : Type 0 where
   pub network : last.net ≡ w.net
+  pub spares : last.spares ≡ w.spares
   pub nodes : (v : ℕ) → Leads w.net v (w.node v) (account v) (last.node v)
   pub nobody : (v : ℕ) → w.net.nodes ≤ v → account v ≡ []
-  pub links : (u v : ℕ) → IsLinkMatched w.net.capacity (w.link u v) (sent_to v (account u)) (taken_from u (account v)) (last.link u v)
+  pub links : (u v : ℕ)
+      → IsLinkMatched w.net.capacity (w.link u v) (sent_to v (account u))
+      (taken_from u (account v)) (last.link u v)
 
 -- the journals tell of these accounts
 abbrev pub AreOf : (ℕ → List Deed) → (ℕ → List Entry) → Type 0

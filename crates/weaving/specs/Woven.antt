@@ -16,7 +16,8 @@ pub record Placed : Type 0 where
 
 -- p comes no later than q: its stamp is smaller, or they are equal and its node is no greater
 abbrev pub IsNoLater : Placed → Placed → Type 0
-IsNoLater p q = (p.entry.stamp < q.entry.stamp) ⊎ ((p.entry.stamp ≡ q.entry.stamp) × (p.node ≤ q.node))
+IsNoLater p q =
+    (p.entry.stamp < q.entry.stamp) ⊎ ((p.entry.stamp ≡ q.entry.stamp) × (p.node ≤ q.node))
 
 -- each comes no later than those behind it
 abbrev pub AreOrdered : List Placed → Type 0

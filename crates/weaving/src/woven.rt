@@ -1,7 +1,9 @@
 //! One list of events of many journals.
-ghost use Rattle.std.specs.Prelude.{◌≡◌, ◌+◌, ◌≤◌, ℕ, [], length, map, drop, slice_index, vec_len, vec_capacity};
+ghost use Rattle.std.specs.Prelude.{◌≡◌, ◌+◌, ◌≤◌, ℕ, [], length, map, drop, slice_index, vec_len};
+ghost use Rattle.std.specs.Prelude.{vec_capacity};
 ghost use Rattle.weaving.specs.Woven.{AreRising, IsWoven};
-ghost use Rattle.weaving.specs.Journals.{entries_in, journal_of, unread, entry_count, IsFirst, earlier, with_next};
+ghost use Rattle.weaving.specs.Journals.{entries_in, journal_of, unread, entry_count, IsFirst};
+ghost use Rattle.weaving.specs.Journals.{earlier, with_next};
 
 use crate::journal::{Entry, Journal};
 use run_model::Event;

@@ -1,6 +1,6 @@
 use Rattle.tree_convergence.proofs.Links.{stay-stable, turn-stable, turn-stable_in_six, numbers-move}
 use Rattle.run_model.specs.Links.{AreLinksStable}
-use Rattle.tree_convergence.proofs.Along.{kept}
+use Rattle.run_model.proofs.Along.{kept, in_range}
 use Rattle.tree_convergence.proofs.laws.links.Goals as goal
 
 pub returns-clause-stay : goal.returns-clause-stay
@@ -14,9 +14,10 @@ returns-clause-turn c =
     turn-stable c.runs.ensures.network edges.in_range edges.runs edges.sweeps c.turns_stable.ensures.after_sweeps
 
 pub returns-clause-stay_in_runs : goal.returns-clause-stay_in_runs
-returns-clause-stay_in_runs c =
+returns-clause-stay_in_runs c w es r u =
     let edges = c.edges.ensures in
-    kept c.in_range.ensures AreLinksStable (stay-stable c.runs.ensures.network edges.in_range edges.steps c.stays_stable.ensures.stays)
+    let stay = stay-stable c.runs.ensures.network edges.in_range edges.steps c.stays_stable.ensures.stays in
+    kept (in_range c.in_range.ensures) AreLinksStable (λ x e now. stay x e now.0 now.1) w es (r, u)
 
 pub returns-clause-turn_in_six : goal.returns-clause-turn_in_six
 returns-clause-turn_in_six c =
