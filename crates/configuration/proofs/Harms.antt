@@ -4,7 +4,7 @@ use Rattle.std.proofs.lemmas.Grind.{common_steps}
 use Rattle.node_core.specs.State.{LocalState}
 use Rattle.node_core.specs.View.{NodeView, state_of}
 use Rattle.run_model.specs.World.{World, at_pair, item_fits, with_node}
-use Rattle.run_model.specs.Step.{harm_fits, harm_place_fault, harmed, has_room, link_fault, refusal, step, unless}
+use Rattle.run_model.specs.Step.{harm_fault, harm_fits, harm_place_fault, harmed, has_room, link_fault, refusal, step, unless}
 use Rattle.run_model.specs.declared.event.Event.TheVariants.{Damage}
 use Rattle.run_model.specs.declared.event.EventFault.{EventFault}
 use Rattle.run_model.specs.declared.event.EventFault.TheVariants.{OutOfRange}
@@ -18,11 +18,12 @@ use Rattle.configuration.proofs.NodePlaces.{IsNodeAt}
 use Rattle.run_model.specs.declared.happened.Happened.{Happened}
 use Rattle.run_model.specs.declared.happened.Happened.TheVariants.{Damaged}
 use Rattle.configuration.specs.Answers.{Answers}
-use Rattle.configuration.proofs.WorldSteps.{accepted, first-none, links-world, step-is, unless-holds, unless-fails, node-done, node-refused}
+use Rattle.configuration.proofs.WorldSteps.{IsBeside, accepted, first-none, links-world, step-is, unless-holds, unless-fails, node-done, node-refused}
 
-module _ (w : World) (harm : Harm) (found : harm_place_fault w harm ≡ None) where
+-- a harm that writes a value
+module _ (w : World) (harm : Harm) (found : harm_place_fault w harm ≡ None) (writes : harm_fault w harm ≡ unless (harm_fits w harm) OutOfRange) where
   refusal-is : refusal w (Damage harm) ≡ unless (harm_fits w harm) OutOfRange
-  refusal-is = first-none (harm_place_fault w harm) (unless (harm_fits w harm) OutOfRange) found
+  refusal-is = first-none (harm_place_fault w harm) (harm_fault w harm) found ∙ writes
 
   pub harm-none : IsTrue (harm_fits w harm) → refusal w (Damage harm) ≡ None
   harm-none fits = refusal-is ∙ unless-holds (harm_fits w harm) OutOfRange fits
@@ -51,26 +52,26 @@ less-test x y iff = (λ a. let less = iff.0 a in grind (arith, common_steps, les
 
 -- a node that a harm has written, or that the writer left as it was
 harm-world : {T E : Type 0} (w : ConfigurationView) (v p : ℕ) (old new : NodeView) (harm : Harm) (f : LocalState → LocalState) (r : Result T E) → IsNodeAt w.links.net w.nodes v p old
-    → harm_place_fault (world_of w) harm ≡ None → (IsOk r ↔ IsTrue (harm_fits (world_of w) harm))
+    → harm_place_fault (world_of w) harm ≡ None → harm_fault (world_of w) harm ≡ unless (harm_fits (world_of w) harm) OutOfRange → (IsOk r ↔ IsTrue (harm_fits (world_of w) harm))
     → harmed (world_of w) harm ≡ with_node (world_of w) v (f ((world_of w).node v)) → OnOk r (state_of new ≡ f (state_of old)) → OnErr r (new ≡ old)
     → world_of (record w { nodes = slice_set w.nodes p new }) ≡ step (world_of w) (Damage harm)
-harm-world w v p old new harm f (Ok x) h found iff makes ok err =
-    node-done w v p old h (Damage harm) f new (harm-none (world_of w) harm found (iff.0 refl)) makes ok
-harm-world w v p old new harm f (Err x) h found iff makes ok err =
-    node-refused w v p old h (Damage harm) OutOfRange new (harm-some (world_of w) harm found (λ fits. let t = iff.1 fits in absurd cc)) err
+harm-world w v p old new harm f (Ok x) h found writes iff makes ok err =
+    node-done w v p old h (Damage harm) f new (harm-none (world_of w) harm found writes (iff.0 refl)) makes ok
+harm-world w v p old new harm f (Err x) h found writes iff makes ok err =
+    node-refused w v p old h (Damage harm) OutOfRange new (harm-some (world_of w) harm found writes (λ fits. let t = iff.1 fits in absurd cc)) err
 
 -- what a writer answers, and with it what the damage is answered
 pub harm-answers : {T E : Type 0} (w : ConfigurationView) (v p : ℕ) (old new : NodeView) (harm : Harm) (f : LocalState → LocalState) (r : Result T E)
     (answer : Result Happened EventFault) → IsNodeAt w.links.net w.nodes v p old
-    → harm_place_fault (world_of w) harm ≡ None → (IsOk r ↔ IsTrue (harm_fits (world_of w) harm))
+    → harm_place_fault (world_of w) harm ≡ None → harm_fault (world_of w) harm ≡ unless (harm_fits (world_of w) harm) OutOfRange → (IsOk r ↔ IsTrue (harm_fits (world_of w) harm))
     → harmed (world_of w) harm ≡ with_node (world_of w) v (f ((world_of w).node v)) → OnOk r (state_of new ≡ f (state_of old)) → OnErr r (new ≡ old)
     → (IsOk answer ↔ IsOk r) → IfOk answer (λ did. did ≡ Damaged) → IfErr answer (λ fault. fault ≡ OutOfRange)
     → Answers w (Damage harm) (record w { nodes = slice_set w.nodes p new }) answer
-harm-answers w v p old new harm f r answer h found iff makes ok err same did fault = record {
-  world = harm-world w v p old new harm f r h found iff makes ok err;
-  ok = harm-ok (world_of w) harm found answer (same-cases same iff);
+harm-answers w v p old new harm f r answer h found writes iff makes ok err same did fault = record {
+  world = harm-world w v p old new harm f r h found writes iff makes ok err;
+  ok = harm-ok (world_of w) harm found writes answer (same-cases same iff);
   did = did;
-  err = harm-err (world_of w) harm found answer (same-cases same iff) fault;
+  err = harm-err (world_of w) harm found writes answer (same-cases same iff) fault;
 }
 
 -- one more item, where it fits and there is room, is one more on its link
@@ -86,18 +87,18 @@ module _ (w : ConfigurationView) (u v : ℕ) (it : Item) (fits : IsTrue (harm_fi
   room : has_room (world_of w) u v ≡ true
   room = (item-there (item_fits (ranges_of w.links.net) it) (has_room (world_of w) u v) fits).1
 
-  item-world : (links : LinksView) → link_fault (world_of w) u v ≡ None → links.net ≡ w.links.net
+  item-world : (links : LinksView) → link_fault (world_of w) u v ≡ None → IsBeside w.links links
       → under_way links ≡ (if nat_lt (length (under_way w.links u v)) w.links.net.capacity
       then at_pair (under_way w.links) u v (under_way w.links u v ++ it ∷ []) else under_way w.links)
       → world_of (record w { links = links }) ≡ step (world_of w) (Damage (harm.Item u v it))
   item-world links found net is =
       links-world w links net
       ∙ ap (λ l. record (world_of w) { link = l }) (is ∙ ap (λ test. if test then at_pair (under_way w.links) u v (under_way w.links u v ++ it ∷ []) else under_way w.links) room)
-      ∙ sym (step-is (world_of w) (Damage (harm.Item u v it)) (harm-none (world_of w) (harm.Item u v it) found fits))
+      ∙ sym (step-is (world_of w) (Damage (harm.Item u v it)) (harm-none (world_of w) (harm.Item u v it) found refl fits))
 
-  pub item-answers : (links : LinksView) → link_fault (world_of w) u v ≡ None → links.net ≡ w.links.net
+  pub item-answers : (links : LinksView) → link_fault (world_of w) u v ≡ None → IsBeside w.links links
       → under_way links ≡ (if nat_lt (length (under_way w.links u v)) w.links.net.capacity
       then at_pair (under_way w.links) u v (under_way w.links u v ++ it ∷ []) else under_way w.links)
       → Answers w (Damage (harm.Item u v it)) (record w { links = links }) (Ok Damaged)
   item-answers links found net is =
-      accepted w (record w { links = links }) (Damage (harm.Item u v it)) Damaged (harm-none (world_of w) (harm.Item u v it) found fits) (item-world links found net is) refl
+      accepted w (record w { links = links }) (Damage (harm.Item u v it)) Damaged (harm-none (world_of w) (harm.Item u v it) found refl fits) (item-world links found net is) refl

@@ -1,5 +1,8 @@
+mod Changing
+mod EdgeHarms
 mod Harms
-mod Laying
+mod Placing
+mod Rewiring
 mod LinkMoves
 mod NewNodes
 mod NodeCounts

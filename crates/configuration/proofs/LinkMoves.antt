@@ -28,7 +28,7 @@ pub record IsAt (l : LinksView) (u v p : ℕ) (old : LinkView) : Type 0 where
 
 module _ (l : LinksView) (u v p : ℕ) (old : LinkView) (h : IsAt l u v p old) where
   there : value_at l.places u v < length l.links
-  there = h.links.inside u v h.from_in h.to_in
+  there = h.links.placed.inside u v h.from_in h.to_in
 
   default-free : (xs : List LinkView) (i : ℕ) (a b : LinkView) → i < length xs → slice_index_or xs i a ≡ slice_index_or xs i b
   default-free xs i a b within = grind (arith, common_steps)
@@ -48,7 +48,7 @@ module _ (l : LinksView) (u v p : ℕ) (old : LinkView) (h : IsAt l u v p old) w
   fits-is = rw (← between-is) (All-get_or (λ link. All (λ item. IsTrue (item_fits (ranges_of l.net) item)) link.items) l.links (value_at l.places u v) (link 0 []) there h.links.fits)
 
   pub capacity-is : old.capacity ≡ (if are_joined l.net.edges u v then l.net.capacity else 0)
-  capacity-is = ap (λ k. k.capacity) (sym between-is) ∙ h.links.capacity u v h.from_in h.to_in
+  capacity-is = ap (λ k. k.capacity) (sym between-is) ∙ h.links.placed.capacity u v h.from_in h.to_in
 
   -- the links, and what is under way, where the link there is now `new`
   pub now-links : (new : LinkView) → new.capacity ≡ old.capacity → length new.items ≤ new.capacity → All (λ item. IsTrue (item_fits (ranges_of l.net) item)) new.items

@@ -7,8 +7,8 @@ use Rattle.topology.specs.Ranges.{ranges_of}
 use Rattle.node_core.specs.Site.{site_of}
 use Rattle.node_core.specs.State.{default_node}
 use Rattle.node_core.specs.View.{NodeView, site_in, state_of}
-use Rattle.run_model.specs.Start.{default_world}
-use Rattle.configuration.specs.LinksView.{LinksView, under_way}
+use Rattle.run_model.specs.Start.{world_with_spares}
+use Rattle.configuration.specs.LinksView.{LinksView, spare_pairs, under_way}
 use Rattle.configuration.specs.ConfigurationView.{AreNodesOf, node_at, states_of, world_of}
 
 -- the nodes below k, each at its site and as it starts
@@ -60,9 +60,10 @@ pub new-states : (net : Network) (nodes : List NodeView) → AreNew net nodes ne
 new-states net nodes all = fun_ext (λ v. new-state net nodes all v)
 
 -- new nodes, and links with nothing under way, are the world at its start
-pub new-world : (net : Network) (nodes : List NodeView) (links : LinksView) → links.net ≡ net → under_way links ≡ (λ u v. [])
-    → states_of net nodes ≡ (λ v. default_node (ranges_of net)) → world_of (record { nodes = nodes; links = links }) ≡ default_world net
-new-world net nodes links same empty states =
-    ap (λ n. record { net = n; node = states_of n nodes; link = under_way links }) same
-    ∙ ap (λ f. record { net = net; node = f; link = under_way links }) states
-    ∙ ap (λ f. record { net = net; node = λ v. default_node (ranges_of net); link = f }) empty
+pub new-world : (net : Network) (nodes : List NodeView) (links : LinksView) (pairs : ℕ) → links.net ≡ net → spare_pairs links ≡ pairs → under_way links ≡ (λ u v. [])
+    → states_of net nodes ≡ (λ v. default_node (ranges_of net)) → world_of (record { nodes = nodes; links = links }) ≡ world_with_spares net pairs
+new-world net nodes links pairs same spare empty states =
+    ap (λ n. record { net = n; spares = spare_pairs links; node = states_of n nodes; link = under_way links }) same
+    ∙ ap (λ k. record { net = net; spares = k; node = states_of net nodes; link = under_way links }) spare
+    ∙ ap (λ f. record { net = net; spares = pairs; node = f; link = under_way links }) states
+    ∙ ap (λ f. record { net = net; spares = pairs; node = λ v. default_node (ranges_of net); link = f }) empty

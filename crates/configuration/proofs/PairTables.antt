@@ -1,5 +1,5 @@
 -- A table by two nodes' ids, with one number written.
-use Rattle.std.proofs.Common.{◌≡◌, sym, ap, subst, ℕ, ◌+◌, ◌*◌, ◌<◌, ◌≤◌, ◌⊎◌, inl, inr, arith, IsTrue, length, slice_set, slice_index_or, if◌then◌else◌, ◌==◌, ◌&&◌}
+use Rattle.std.proofs.Common.{◌≡◌, refl, zero, suc, replicate, ap, ℕ, ◌+◌, ◌*◌, ◌<◌, ◌≤◌, ◌⊎◌, inl, inr, arith, length, slice_set, slice_index_or}
 use Rattle.std.proofs.Math.Nat.{mul-le-mul_right}
 use Rattle.std.proofs.lemmas.Grind.{common_steps}
 use Rattle.run_model.specs.World.{at_pair}
@@ -31,3 +31,9 @@ pub value-set : (t : PairTableView) (u v p x i j : ℕ) → v < t.nodes → j < 
 value-set t u v p x i j vn jn place there =
     let apart : place_of t.nodes i j ≡ place_of t.nodes u v → (i ≡ u) × (j ≡ v) = one-place t.nodes i j u v jn vn in
     grind (arith, common_steps, apart, place, there)
+
+-- 0 stands everywhere
+pub zero-there : (n i : ℕ) → ◌≡◌ {A = ℕ} (slice_index_or (replicate n 0) i 0) 0
+zero-there zero i = refl
+zero-there (suc n) zero = refl
+zero-there (suc n) (suc i) = zero-there n i

@@ -37,7 +37,7 @@ module _ (joined_nodes : JoinedAreNodes) (w : ConfigurationView) (links : IsLink
   link-there : (u v : ℕ) → IsTrue (are_joined w.links.net.edges u v) → (v < w.links.net.nodes) × (value_at w.links.places u v < length w.links.links) × (u < w.links.net.nodes)
   link-there u v joined =
       let ends = joined_nodes w.links.net u v links.network joined in
-      (ends.1, links.inside u v ends.0 ends.1, ends.0)
+      (ends.1, links.placed.inside u v ends.0 ends.1, ends.0)
 
   pub world-in_range : AreInRange w w.links.net.nodes → IsWorldInRange (world_of w)
   world-in_range nodes = record {
@@ -46,7 +46,7 @@ module _ (joined_nodes : JoinedAreNodes) (w : ConfigurationView) (links : IsLink
     capacity = λ u v joined.
         let t = link-there u v joined in
         let a = All-get_or (λ link. length link.items ≤ link.capacity) w.links.links (value_at w.links.places u v) (link 0 []) t.1 links.within in
-        let c = links.capacity u v t.2 t.0 in
+        let c = links.placed.capacity u v t.2 t.0 in
         let l = t.0 in
         let k = t.2 in
         grind (arith, common_steps, a, c, l, k, joined);

@@ -1,12 +1,11 @@
 -- A changed node or link, as a step of the world.
-use Rattle.std.proofs.Common.{◌≡◌, ◌∙◌, sym, ap, subst, Bool, true, false, ℕ, ◌<◌, ◌++◌, [], ◌∷◌, arith, refl, IsTrue, List, Option, None, Some, Result, Ok, Err, is_none, IsOk, ◌↔◌, length, slice_set, slice_get, drop, remove, not, nat_lt, if◌then◌else◌}
+use Rattle.std.proofs.Common.{◌≡◌, ◌∙◌, ◌/◌, sym, ap, Bool, true, false, ℕ, ◌<◌, ◌++◌, [], ◌∷◌, arith, refl, IsTrue, List, Option, None, Some, Result, Ok, Err, is_none, IsOk, ◌↔◌, length, slice_set, slice_get, drop, remove, not, nat_lt, if◌then◌else◌}
 use Rattle.std.proofs.lemmas.Grind.{common_steps}
 use Rattle.link_model.specs.declared.item.Item.{Item}
 use Rattle.link_model.specs.declared.item.Item.TheVariants as item
 use Rattle.data_link.specs.Port.{frame_of}
 use Rattle.node_core.specs.Site.{site_of}
-use Rattle.topology.specs.Ranges.{ranges_of}
-use Rattle.node_core.specs.Step.{item_fits, taken, ticked}
+use Rattle.node_core.specs.Step.{taken, ticked}
 use Rattle.node_core.specs.View.{NodeView, site_in, state_of}
 use Rattle.run_model.specs.World.{World, at_pair, site, with_link, with_node}
 use Rattle.lock_desk.specs.Desk.{after_leave, ask_fault, asked, is_number, is_stranger}
@@ -19,7 +18,7 @@ use Rattle.run_model.specs.declared.event.EventFault.{EventFault}
 use Rattle.run_model.specs.declared.event.EventFault.TheVariants.{NoItem, OutOfRange, Stranger}
 use Rattle.run_model.specs.declared.event.Event.{Event}
 use Rattle.run_model.specs.declared.event.Event.TheVariants.{Send, Take, Lose, Tick, Ask, Leave}
-use Rattle.configuration.specs.LinksView.{LinksView, under_way}
+use Rattle.configuration.specs.LinksView.{LinksView, spare_pairs, under_way}
 use Rattle.configuration.specs.ConfigurationView.{ConfigurationView, states_of, world_of}
 use Rattle.run_model.specs.Happened.{happened, taken_of}
 use Rattle.run_model.specs.declared.happened.Happened.{Happened}
@@ -34,7 +33,7 @@ step-is w e none = grind (arith, common_steps)
 -- a node changed is a node changed in the world
 pub now-world : (w : ConfigurationView) (v p : ℕ) (old new : NodeView) → IsNodeAt w.links.net w.nodes v p old
     → world_of (record w { nodes = slice_set w.nodes p new }) ≡ with_node (world_of w) v (state_of new)
-now-world w v p old new h = ap (λ f. record { net = w.links.net; node = f; link = under_way w.links }) (now-states w.links.net w.nodes v p old h new)
+now-world w v p old new h = ap (λ f. record { net = w.links.net; spares = spare_pairs w.links; node = f; link = under_way w.links }) (now-states w.links.net w.nodes v p old h new)
 
 -- an event that is not refused is answered with what it did, and one that is refused with the refusal
 pub accepted : (w new : ConfigurationView) (e : Event) (did : Happened) → refusal (world_of w) e ≡ None → world_of new ≡ step (world_of w) e
@@ -73,13 +72,20 @@ either-links : (w : World) (test : Bool) (links : ℕ → ℕ → List Item)
 either-links w true links = refl
 either-links w false links = refl
 
+-- no edge has joined or gone: the network is the same, and so are the spare links
+pub record IsBeside (old new : LinksView) : Type 0 where
+  pub net : new.net ≡ old.net
+  pub spares : new.spares ≡ old.spares
+
 -- other links of the same network are other links of the world
-pub links-world : (w : ConfigurationView) (links : LinksView) → links.net ≡ w.links.net
+pub links-world : (w : ConfigurationView) (links : LinksView) → IsBeside w.links links
     → world_of (record w { links = links }) ≡ record (world_of w) { link = under_way links }
-links-world w links net = ap (λ n. record { net = n; node = states_of n w.nodes; link = under_way links }) net
+links-world w links beside =
+    ap (λ n. record { net = n; spares = spare_pairs links; node = states_of n w.nodes; link = under_way links }) beside.net
+    ∙ ap (λ xs. record { net = w.links.net; spares = length xs / 2; node = states_of w.links.net w.nodes; link = under_way links }) beside.spares
 
 -- an item put on a link is a frame sent in the world
-send-world : (w : ConfigurationView) (links : LinksView) (u v : ℕ) → refusal (world_of w) (Send u v) ≡ None → links.net ≡ w.links.net
+send-world : (w : ConfigurationView) (links : LinksView) (u v : ℕ) → refusal (world_of w) (Send u v) ≡ None → IsBeside w.links links
     → under_way links ≡ (if nat_lt (length (under_way w.links u v)) w.links.net.capacity
     then at_pair (under_way w.links) u v (under_way w.links u v ++ item.Frame (frame_of ((states_of w.links.net w.nodes u).port v)) ∷ []) else under_way w.links)
     → world_of (record w { links = links }) ≡ step (world_of w) (Send u v)
@@ -93,7 +99,7 @@ send-world w links u v none net is =
 pub step-refused : (w : World) (e : Event) (fault : EventFault) → refusal w e ≡ Some fault → step w e ≡ w
 step-refused w e fault some = grind (arith, common_steps)
 
-pub send-answers : (w : ConfigurationView) (links : LinksView) (u v : ℕ) → refusal (world_of w) (Send u v) ≡ None → links.net ≡ w.links.net
+pub send-answers : (w : ConfigurationView) (links : LinksView) (u v : ℕ) → refusal (world_of w) (Send u v) ≡ None → IsBeside w.links links
     → under_way links ≡ (if nat_lt (length (under_way w.links u v)) w.links.net.capacity
     then at_pair (under_way w.links) u v (under_way w.links u v ++ item.Frame (frame_of ((states_of w.links.net w.nodes u).port v)) ∷ []) else under_way w.links)
     → Answers w (Send u v) (record w { links = links }) (Ok Other)
@@ -196,19 +202,19 @@ module _ (w : ConfigurationView) (u v : ℕ) (found : link_fault (world_of w) u 
       lose-refusal i ∙ unless-fails (nat_lt i (length (under_way w.links u v))) NoItem (λ less. let t = iff.1 (grind (arith, common_steps, less)) in absurd cc)
 
   -- an item of it is lost
-  lose-done : (links : LinksView) (i : ℕ) → refusal (world_of w) (Lose u v i) ≡ None → links.net ≡ w.links.net
+  lose-done : (links : LinksView) (i : ℕ) → refusal (world_of w) (Lose u v i) ≡ None → IsBeside w.links links
       → under_way links ≡ at_pair (under_way w.links) u v (remove (under_way w.links u v) i)
       → world_of (record w { links = links }) ≡ step (world_of w) (Lose u v i)
   lose-done links i none net is =
       links-world w links net ∙ ap (λ l. record (world_of w) { link = l }) is ∙ sym (step-is (world_of w) (Lose u v i) none)
 
-  pub lose-answers : (links : LinksView) (i : ℕ) → refusal (world_of w) (Lose u v i) ≡ None → links.net ≡ w.links.net
+  pub lose-answers : (links : LinksView) (i : ℕ) → refusal (world_of w) (Lose u v i) ≡ None → IsBeside w.links links
       → under_way links ≡ at_pair (under_way w.links) u v (remove (under_way w.links u v) i)
       → Answers w (Lose u v i) (record w { links = links }) (Ok (Lost u v i))
   lose-answers links i none net is = accepted w (record w { links = links }) (Lose u v i) (Lost u v i) none (lose-done links i none net is) refl
 
   -- a link that was not changed
-  pub links-refused : (links : LinksView) (e : Event) (fault : EventFault) → refusal (world_of w) e ≡ Some fault → links.net ≡ w.links.net
+  pub links-refused : (links : LinksView) (e : Event) (fault : EventFault) → refusal (world_of w) e ≡ Some fault → IsBeside w.links links
       → under_way links ≡ under_way w.links → Answers w e (record w { links = links }) (Err fault)
   links-refused links e fault some net is =
       refused w (record w { links = links }) e fault some
@@ -233,14 +239,14 @@ module _ (w : ConfigurationView) (u v : ℕ) (found : link_fault (world_of w) u 
   handed-none [] none = refl
   handed-none (first ∷ rest) none = absurd cc
 
-  none-leads : (links : LinksView) → links.net ≡ w.links.net → under_way links ≡ at_pair (under_way w.links) u v (drop 1 (under_way w.links u v))
+  none-leads : (links : LinksView) → IsBeside w.links links → under_way links ≡ at_pair (under_way w.links) u v (drop 1 (under_way w.links u v))
       → under_way w.links u v ≡ [] → world_of (record w { links = links }) ≡ step (world_of w) (Take u v)
   none-leads links net is empty =
       links-world w links net
       ∙ ap (λ l. record (world_of w) { link = l }) (is ∙ fun_ext (λ i. fun_ext (λ j. same-link (under_way w.links) i j empty)))
       ∙ sym (step-is (world_of w) (Take u v) found ∙ ap (handed_over (world_of w) u v) empty)
 
-  pub take-none : (links : LinksView) → links.net ≡ w.links.net → None ≡ slice_get (under_way w.links u v) 0
+  pub take-none : (links : LinksView) → IsBeside w.links links → None ≡ slice_get (under_way w.links u v) 0
       → under_way links ≡ at_pair (under_way w.links) u v (drop 1 (under_way w.links u v))
       → Answers w (Take u v) (record w { links = links }) (Ok (NothingTaken u v))
   take-none links net none is =
@@ -248,7 +254,7 @@ module _ (w : ConfigurationView) (u v : ℕ) (found : link_fault (world_of w) u 
       accepted w (record w { links = links }) (Take u v) (NothingTaken u v) found (none-leads links net is empty) (sym (ap (taken_of u v) empty))
 
   some-leads : (p : ℕ) (old new : NodeView) (links : LinksView) (item : Item) → IsNodeAt w.links.net w.nodes v p old
-      → links.net ≡ w.links.net → Some item ≡ slice_get (under_way w.links u v) 0
+      → IsBeside w.links links → Some item ≡ slice_get (under_way w.links u v) 0
       → under_way links ≡ at_pair (under_way w.links) u v (drop 1 (under_way w.links u v))
       → state_of new ≡ taken (site_in old) u item (state_of old)
       → world_of (record { nodes = slice_set w.nodes p new; links = links }) ≡ step (world_of w) (Take u v)
@@ -264,7 +270,7 @@ module _ (w : ConfigurationView) (u v : ℕ) (found : link_fault (world_of w) u 
       ∙ sym (step-is (world_of w) (Take u v) found ∙ handed-some (world_of w) (under_way w.links u v) item some)
 
   pub take-some : (p : ℕ) (old new : NodeView) (links : LinksView) (item : Item) → IsNodeAt w.links.net w.nodes v p old
-      → links.net ≡ w.links.net → Some item ≡ slice_get (under_way w.links u v) 0
+      → IsBeside w.links links → Some item ≡ slice_get (under_way w.links u v) 0
       → under_way links ≡ at_pair (under_way w.links) u v (drop 1 (under_way w.links u v))
       → state_of new ≡ taken (site_in old) u item (state_of old)
       → Answers w (Take u v) (record { nodes = slice_set w.nodes p new; links = links }) (Ok (Taken u v))

@@ -8,7 +8,7 @@ use Rattle.node_core.specs.State.{LocalState, default_node}
 use Rattle.node_core.specs.View.{NodeView, site_in, state_of}
 use Rattle.lock_desk.specs.Desk.{no_desk}
 use Rattle.run_model.specs.World.{World}
-use Rattle.configuration.specs.LinksView.{LinksView, under_way}
+use Rattle.configuration.specs.LinksView.{LinksView, spare_pairs, under_way}
 
 -- the nodes by their ids, and the links between them, which know the network
 pub record ConfigurationView : Type 0 where
@@ -36,7 +36,7 @@ states_of net nodes v = if nat_lt v net.nodes then state_of (node_at nodes v) el
 
 -- the world that is seen
 abbrev pub world_of : ConfigurationView → World
-world_of w = record { net = w.links.net; node = states_of w.links.net w.nodes; link = under_way w.links }
+world_of w = record { net = w.links.net; spares = spare_pairs w.links; node = states_of w.links.net w.nodes; link = under_way w.links }
 
 -- there is a node for each id, and each knows its own site
 pub record AreNodesOf (net : Network) (nodes : List NodeView) : Type 0 where

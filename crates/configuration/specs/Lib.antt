@@ -1,5 +1,6 @@
 pub mod PairTable
-pub mod Laid
+pub mod Placed
 pub mod LinksView
 pub mod ConfigurationView
+pub mod Rewired
 pub mod Answers

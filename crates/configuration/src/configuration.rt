@@ -1,13 +1,15 @@
 //! What all nodes and links of a network hold at one moment.
-ghost use Rattle.std.specs.Prelude.{◌≡◌, ◌<◌, ◌≤◌, IsTrue, if◌then◌else◌, IfOk, IfErr, OnOk, None, Some, Contains, length};
+ghost use Rattle.std.specs.Prelude.{◌≡◌, ◌<◌, ◌≤◌, IsTrue, if◌then◌else◌, IfOk, IfErr, OnOk, None};
+ghost use Rattle.std.specs.Prelude.{Some, Contains, length};
 ghost use Rattle.topology.specs.Network.{are_joined, neighbours_of};
 ghost use Rattle.node_core.specs.View.{state_of, site_in};
 ghost use Rattle.run_model.specs.World.{IsWorldInRange, site};
-ghost use Rattle.run_model.specs.Start.{default_world};
+ghost use Rattle.run_model.specs.Start.{default_world, world_with_spares};
 ghost use Rattle.run_model.specs.NodeCounts.{lending_count, privileged_count};
-ghost use Rattle.run_model.specs.Step.{desk_fault, link_fault, node_fault};
+ghost use Rattle.run_model.specs.Step.{desk_fault, link_fault, node_fault, nodes_fault};
 ghost use Rattle.run_model.specs.declared.happened.Happened.TheVariants.{FullTick, LendingTick};
-ghost use Rattle.run_model.specs.declared.event.Event.TheVariants.{Send, Take, Lose, Tick, Ask, Leave, Damage};
+ghost use Rattle.run_model.specs.declared.event.Event.TheVariants.{Send, Take, Lose, Tick, Ask};
+ghost use Rattle.run_model.specs.declared.event.Event.TheVariants.{Leave, Damage};
 ghost use Rattle.topology.specs.Ranges.{ranges_of};
 ghost use Rattle.node_core.specs.State.{default_node};
 ghost use Rattle.configuration.specs.ConfigurationView.{AreNodesOf, states_of, world_of};
@@ -80,12 +82,26 @@ fn new_nodes<A: Allocator + Copy, N: Allocator + Copy>(
 }
 
 impl<A: Allocator + Copy> Configuration<A> {
-    /// Every node as it starts, and nothing under way. It keeps a copy of the network, and reserves
-    /// all memory that any step needs.
+    /// Every node as it starts, and nothing under way; no links are spare. It keeps a copy of the
+    /// network, and reserves all memory that any step needs.
     pub fn new<N: Allocator + Copy>(alloc: A, net: &Net<N>) -> Result<Configuration<A>, AllocError>
         ensures { IfOk result (λ configuration. world_of configuration ≡ default_world net.now) }
     {
-        let links = Links::new(alloc, net)?;
+        Configuration::with_spares(alloc, net, 0)
+    }
+
+    /// The same, with so many spare pairs of links, at most 256: each is for one edge more than
+    /// there are.
+    pub fn with_spares<N: Allocator + Copy>(
+        alloc: A,
+        net: &Net<N>,
+        pairs: u16,
+    ) -> Result<Configuration<A>, AllocError>
+        requires { pairs ≤ 256 }
+        ensures { IfOk result (λ configuration.
+            world_of configuration ≡ world_with_spares net.now pairs) }
+    {
+        let links = Links::with_spares(alloc, net, pairs)?;
         let nodes = new_nodes(alloc, net)?;
         Ok(Configuration { nodes, links })
     }
@@ -132,7 +148,7 @@ impl<A: Allocator + Copy> Configuration<A> {
         topology::laws::joined();
         let nodes = self.links.net().nodes();
         for v in 0..nodes {
-            let _ranges = self.nodes[usize::from(v)].ranges();
+            let _known_ranges = self.nodes[usize::from(v)].ranges();
         }
     }
 
@@ -185,21 +201,34 @@ impl<A: Allocator + Copy> Configuration<A> {
         }
     }
 
+    /// Refuses what are no two nodes.
+    fn find_nodes(&self, from: u16, to: u16) -> Result<(), EventFault>
+        ensures ok { OnOk result ((from < (world_of self.now).net.nodes)
+            × (to < (world_of self.now).net.nodes)
+            × (nodes_fault (world_of self.now) from to ≡ None)) }
+        ensures err { IfErr result (λ fault. nodes_fault (world_of self.now) from to ≡ Some fault) }
+    {
+        let nodes = self.links.net().nodes();
+        if from < nodes && to < nodes {
+            Ok(())
+        } else {
+            Err(EventFault::NoNode)
+        }
+    }
+
     /// Refuses what are no two neighbours.
     fn find_link(&self, from: u16, to: u16) -> Result<(), EventFault>
         ensures ok { OnOk result ((from < (world_of self.now).net.nodes)
             × (to < (world_of self.now).net.nodes)
-            × IsTrue (are_joined (world_of self.now).net.edges from to) × (link_fault (world_of self.now) from to ≡ None)) }
+            × IsTrue (are_joined (world_of self.now).net.edges from to)
+            × (link_fault (world_of self.now) from to ≡ None)) }
         ensures near { OnOk result (Contains (neighbours_of (world_of self.now).net from) to
             × Contains (neighbours_of (world_of self.now).net to) from) }
         ensures err { IfErr result (λ fault. link_fault (world_of self.now) from to ≡ Some fault) }
     {
         topology::laws::neighbours();
         topology::laws::joined();
-        let nodes = self.links.net().nodes();
-        if from >= nodes || to >= nodes {
-            return Err(EventFault::NoNode);
-        }
+        self.find_nodes(from, to)?;
         if !self.links.are_joined(from, to) {
             return Err(EventFault::NoLink);
         }

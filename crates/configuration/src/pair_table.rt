@@ -1,5 +1,5 @@
 //! Numbers by two nodes' ids.
-ghost use Rattle.std.specs.Prelude.{◌≡◌, ◌*◌, ◌<◌, ℕ, IfOk, length};
+ghost use Rattle.std.specs.Prelude.{◌≡◌, ◌*◌, ◌<◌, ℕ, IfOk, length, replicate};
 ghost use Rattle.run_model.specs.World.{at_pair};
 ghost use Rattle.configuration.specs.PairTable.{place_of, value_at};
 
@@ -23,6 +23,14 @@ impl<A: Allocator> Model for PairTable<A> {
     ghost view = { λ t. record { nodes = t.nodes; values = t.values.items } };
 
     ghost invariant = { λ t. length t.values.items ≡ t.nodes * t.nodes };
+}
+
+/// Writes 0 at every place.
+fn write_zeros<A: Allocator>(values: &mut Vec<u16, A>)
+    ensures { values.new.items ≡ replicate (length values.old.items) 0 }
+{
+    let _all = values.as_slice();
+    values.fill(0);
 }
 
 impl<A: Allocator + Copy> PairTable<A> {
@@ -76,6 +84,14 @@ impl<A: Allocator> PairTable<A> {
     {
         let place = self.place(first, second);
         self.values[place] = value;
+    }
+
+    /// Every two nodes have the number 0 again.
+    pub fn clear(&mut self)
+        ensures nodes { self.new.nodes ≡ self.old.nodes }
+        ensures zeros { (u v : ℕ) → value_at self.new u v ≡ 0 }
+    {
+        write_zeros(&mut self.values);
     }
 
     /// Two pairs exchange their numbers; every other pair keeps its own.

@@ -97,6 +97,8 @@ harm-read (harm.Desk v lent left served) s = grind (arith, number-read, or_none-
 harm-read (harm.Item u v (item.Frame f)) s = grind (arith, number-read, or_none-read, yes_or_no-read, payload-read)
 harm-read (harm.Item u v item.Noise) s = grind (arith, number-read, or_none-read, yes_or_no-read, payload-read)
 harm-read (harm.Empty u v) s = grind (arith, number-read, or_none-read, yes_or_no-read, payload-read)
+harm-read (harm.Join u v) s = grind (arith, number-read, or_none-read, yes_or_no-read, payload-read)
+harm-read (harm.Part u v) s = grind (arith, number-read, or_none-read, yes_or_no-read, payload-read)
 
 pub events-read : (e : Event) → event_is_small e ≡ true → line_event (join_with_byte 32 (event_words e)) ≡ Some e
 events-read (Send u v) s = read-of (codes "send") (decimal u ∷ decimal v ∷ []) (Send u v) (grind (arith, number-no_space)) (grind (arith, number-read))

@@ -12,7 +12,7 @@ use Rattle.run_model.specs.declared.event.Event.{Event}
 use Rattle.run_model.specs.declared.event.Event.TheVariants.{Send, Take, Lose, Tick, Ask, Leave, Damage}
 use Rattle.run_model.specs.declared.event.Harm.{Harm}
 use Rattle.run_model.specs.declared.event.Harm.TheVariants as harm
-use Rattle.events_text.specs.EventLine.{Word, words, number, number_or_none, yes_or_no, first_word, other_words, reads, ends, reads_payload, payload_of, send_of, take_of, lose_of, tick_of, ask_of, leave_of, own_of, counters_of, staged_of, copy_of, value_of, desk_of, frame_of, junk_of, empty_of, line_event, event_of, damage_of, harm_of}
+use Rattle.events_text.specs.EventLine.{Word, words, number, number_or_none, yes_or_no, first_word, other_words, reads, ends, reads_payload, payload_of, send_of, take_of, lose_of, tick_of, ask_of, leave_of, own_of, counters_of, staged_of, copy_of, value_of, desk_of, frame_of, junk_of, empty_of, join_of, part_of, line_event, event_of, damage_of, harm_of}
 use Rattle.events_text.specs.EventLaws.{word_or_none, yes_or_no_word, payload_words, harm_words, event_words}
 use Rattle.events_text.proofs.SpellingLemmas.{numbers-spelled, join-words}
 
@@ -136,6 +136,12 @@ junk-words ws h = two (λ u v. harm.Item u v item.Noise) (λ ws. codes "junk" �
 empty-words : (ws : List Word) (h : Harm) → empty_of ws ≡ Some h → codes "empty" ∷ ws ≡ harm_words h
 empty-words ws h = two harm.Empty (λ ws. codes "empty" ∷ ws ≡ harm_words h) ws h (λ u v same. rw (← same) refl)
 
+join-words_of : (ws : List Word) (h : Harm) → join_of ws ≡ Some h → codes "join" ∷ ws ≡ harm_words h
+join-words_of ws h = two harm.Join (λ ws. codes "join" ∷ ws ≡ harm_words h) ws h (λ u v same. rw (← same) refl)
+
+part-words : (ws : List Word) (h : Harm) → part_of ws ≡ Some h → codes "part" ∷ ws ≡ harm_words h
+part-words ws h = two harm.Part (λ ws. codes "part" ∷ ws ≡ harm_words h) ws h (λ u v same. rw (← same) refl)
+
 own-words : (ws : List Word) (h : Harm) → own_of ws ≡ Some h → codes "own" ∷ ws ≡ harm_words h
 own-words ws h = number-step (λ v. reads number (λ d. reads number_or_none (λ p. ends (harm.Own v d p)))) (λ ws. codes "own" ∷ ws ≡ harm_words h) ws h
     (λ v rest. number-step (λ d. reads number_or_none (λ p. ends (harm.Own v d p))) (λ ws. codes "own" ∷ decimal v ∷ ws ≡ harm_words h) rest h
@@ -200,7 +206,9 @@ harm-words part ws h =
     kind part (codes "desk") ws (harm_words h) desk_of _ h (desk-words ws h) (
     kind part (codes "frame") ws (harm_words h) frame_of _ h (frame-words ws h) (
     kind part (codes "junk") ws (harm_words h) junk_of _ h (junk-words ws h) (
-    kind part (codes "empty") ws (harm_words h) empty_of _ h (empty-words ws h) (λ none. absurd (cc))))))))))
+    kind part (codes "empty") ws (harm_words h) empty_of _ h (empty-words ws h) (
+    kind part (codes "join") ws (harm_words h) join_of _ h (join-words_of ws h) (
+    kind part (codes "part") ws (harm_words h) part_of _ h (part-words ws h) (λ none. absurd (cc))))))))))))
 
 damage-words : (ws : List Word) (e : Event) → damage_of ws ≡ Some e → codes "harm" ∷ ws ≡ event_words e
 damage-words [] e h = absurd (cc)

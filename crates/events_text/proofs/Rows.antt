@@ -89,6 +89,12 @@ line-junk = refl
 line-empty : line_event (codes "harm empty 0 1") ≡ Some (Damage (harm.Empty 0 1))
 line-empty = refl
 
+line-join : line_event (codes "harm join 0 3") ≡ Some (Damage (harm.Join 0 3))
+line-join = refl
+
+line-part : line_event (codes "harm part 3 1") ≡ Some (Damage (harm.Part 3 1))
+line-part = refl
+
 -- a capital letter; a word too few, one too many; two spaces, one in front, one at the end; `none` where a number is wanted, and
 -- another word where `yes` or `no` is
 unread-capital : line_event (codes "Tick 0") ≡ None
@@ -117,6 +123,12 @@ unread-served = refl
 
 unread-harm : line_event (codes "harm") ≡ None
 unread-harm = refl
+
+unread-join : line_event (codes "harm join 0") ≡ None
+unread-join = refl
+
+unread-part : line_event (codes "harm part 0 1 2") ≡ None
+unread-part = refl
 
 -- an empty line and a comment are passed over, and a last line without a newline counts
 text-four : text_lines (codes "tick 0" ++ 10 ∷ 10 ∷ codes "# 1" ++ 10 ∷ codes "x") ≡ Told (Tick 0) ∷ Passed ∷ Passed ∷ Unread ∷ []

@@ -46,6 +46,8 @@ harm_words (harm.Item u v (item.Frame f)) =
     codes "frame" ∷ decimal u ∷ decimal v ∷ decimal f.seq ∷ decimal f.ack ∷ payload_words f.payload
 harm_words (harm.Item u v item.Noise) = codes "junk" ∷ decimal u ∷ decimal v ∷ []
 harm_words (harm.Empty u v) = codes "empty" ∷ decimal u ∷ decimal v ∷ []
+harm_words (harm.Join u v) = codes "join" ∷ decimal u ∷ decimal v ∷ []
+harm_words (harm.Part u v) = codes "part" ∷ decimal u ∷ decimal v ∷ []
 
 -- the words of an event
 abbrev pub event_words : Event → List Word
@@ -82,6 +84,8 @@ harm_is_small (harm.Desk v lent left served) = is_small v && is_small_or_none le
 harm_is_small (harm.Item u v (item.Frame f)) = is_small u && is_small v && is_small f.seq && is_small f.ack && payload_is_small f.payload
 harm_is_small (harm.Item u v item.Noise) = is_small u && is_small v
 harm_is_small (harm.Empty u v) = is_small u && is_small v
+harm_is_small (harm.Join u v) = is_small u && is_small v
+harm_is_small (harm.Part u v) = is_small u && is_small v
 
 abbrev pub event_is_small : Event → Bool
 event_is_small (Send u v) = is_small u && is_small v

@@ -137,23 +137,31 @@ junk_of = reads number (λ u. reads number (λ v. ends (harm.Item u v item.Noise
 abbrev pub empty_of : List Word → Option Harm
 empty_of = reads number (λ u. reads number (λ v. ends (harm.Empty u v)))
 
--- the harm that its part and the words behind it name
+abbrev pub join_of : List Word → Option Harm
+join_of = reads number (λ u. reads number (λ v. ends (harm.Join u v)))
+
+abbrev pub part_of : List Word → Option Harm
+part_of = reads number (λ u. reads number (λ v. ends (harm.Part u v)))
+
+-- the harm that its kind and the words behind it name
 abbrev pub harm_of : Word → List Word → Option Harm
-harm_of part words =
-    if bytes_eq part (codes "own") then own_of words
-    else if bytes_eq part (codes "counters") then counters_of words
-    else if bytes_eq part (codes "staged") then staged_of words
-    else if bytes_eq part (codes "copy") then copy_of words
-    else if bytes_eq part (codes "value") then value_of words
-    else if bytes_eq part (codes "desk") then desk_of words
-    else if bytes_eq part (codes "frame") then frame_of words
-    else if bytes_eq part (codes "junk") then junk_of words
-    else if bytes_eq part (codes "empty") then empty_of words
+harm_of kind words =
+    if bytes_eq kind (codes "own") then own_of words
+    else if bytes_eq kind (codes "counters") then counters_of words
+    else if bytes_eq kind (codes "staged") then staged_of words
+    else if bytes_eq kind (codes "copy") then copy_of words
+    else if bytes_eq kind (codes "value") then value_of words
+    else if bytes_eq kind (codes "desk") then desk_of words
+    else if bytes_eq kind (codes "frame") then frame_of words
+    else if bytes_eq kind (codes "junk") then junk_of words
+    else if bytes_eq kind (codes "empty") then empty_of words
+    else if bytes_eq kind (codes "join") then join_of words
+    else if bytes_eq kind (codes "part") then part_of words
     else None
 
 -- the harm that the words behind `harm` name
 abbrev pub damage_of : List Word → Option Event
-damage_of words = option_map (λ h. Damage h) (option_and_then (λ part. harm_of part (other_words words)) (first_word words))
+damage_of words = option_map (λ h. Damage h) (option_and_then (λ kind. harm_of kind (other_words words)) (first_word words))
 
 -- the event that a verb and the words behind it name
 abbrev pub event_of : Word → List Word → Option Event

@@ -1,33 +1,39 @@
-//! A line of an events text that writes a part of the world.
+//! A line of an events text that writes a part of the world, or changes its network by one edge.
 ghost use Rattle.std.specs.Prelude.{◌≡◌};
-ghost use Rattle.events_text.specs.EventLine.{harm_of, own_of, counters_of, staged_of, copy_of, value_of, desk_of, frame_of, junk_of, empty_of};
+ghost use Rattle.events_text.specs.EventLine.{harm_of, own_of, counters_of, staged_of, copy_of};
+ghost use Rattle.events_text.specs.EventLine.{value_of, desk_of, frame_of, junk_of, empty_of};
+ghost use Rattle.events_text.specs.EventLine.{join_of, part_of};
 
 use super::words::Words;
 use link_model::{Frame, Item};
 use run_model::Harm;
 
-/// The harm that its part and the words behind it name.
-pub fn harm(part: &[u8], words: &mut Words) -> Option<Harm>
-    ensures { result ≡ harm_of part.now words.old }
+/// The harm that its kind and the words behind it name.
+pub fn harm(kind: &[u8], words: &mut Words) -> Option<Harm>
+    ensures { result ≡ harm_of kind.now words.old }
 {
-    if part == b"own".as_slice() {
+    if kind == b"own".as_slice() {
         own(words)
-    } else if part == b"counters".as_slice() {
+    } else if kind == b"counters".as_slice() {
         counters(words)
-    } else if part == b"staged".as_slice() {
+    } else if kind == b"staged".as_slice() {
         staged(words)
-    } else if part == b"copy".as_slice() {
+    } else if kind == b"copy".as_slice() {
         copy(words)
-    } else if part == b"value".as_slice() {
+    } else if kind == b"value".as_slice() {
         value(words)
-    } else if part == b"desk".as_slice() {
+    } else if kind == b"desk".as_slice() {
         desk(words)
-    } else if part == b"frame".as_slice() {
+    } else if kind == b"frame".as_slice() {
         frame(words)
-    } else if part == b"junk".as_slice() {
+    } else if kind == b"junk".as_slice() {
         junk(words)
-    } else if part == b"empty".as_slice() {
+    } else if kind == b"empty".as_slice() {
         empty(words)
+    } else if kind == b"join".as_slice() {
+        join(words)
+    } else if kind == b"part".as_slice() {
+        part(words)
     } else {
         None
     }
@@ -157,4 +163,22 @@ fn empty(words: &mut Words) -> Option<Harm>
     let from = words.number()?;
     let to = words.number()?;
     words.end(Harm::Empty { from, to })
+}
+
+/// `harm join U V`.
+fn join(words: &mut Words) -> Option<Harm>
+    ensures { result ≡ join_of words.old }
+{
+    let node = words.number()?;
+    let neighbour = words.number()?;
+    words.end(Harm::Join { node, neighbour })
+}
+
+/// `harm part U V`.
+fn part(words: &mut Words) -> Option<Harm>
+    ensures { result ≡ part_of words.old }
+{
+    let node = words.number()?;
+    let neighbour = words.number()?;
+    words.end(Harm::Part { node, neighbour })
 }

@@ -1,5 +1,7 @@
 //! Laws of the events text, each the contract of a function that does nothing.
-ghost use Rattle.events_text.specs.EventLaws.{NumbersAreRead, NumbersHaveOneSpelling, WordsMakeTheLine, EventsHaveOneSpelling, EventsAreRead};
+ghost use Rattle.events_text.specs.EventLaws.{NumbersAreRead, NumbersHaveOneSpelling};
+ghost use Rattle.events_text.specs.EventLaws.{WordsMakeTheLine, EventsHaveOneSpelling};
+ghost use Rattle.events_text.specs.EventLaws.{EventsAreRead};
 
 /// Each event whose numbers are below 65536 is read from one line and from no other: its words,
 /// with a space between each two and each number in decimal. So an events text can be written again

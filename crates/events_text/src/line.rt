@@ -1,6 +1,7 @@
 //! One line of an events text.
 ghost use Rattle.std.specs.Prelude.{◌≡◌};
-ghost use Rattle.events_text.specs.EventLine.{line_event, event_of, damage_of, send_of, take_of, lose_of, tick_of, ask_of, leave_of};
+ghost use Rattle.events_text.specs.EventLine.{line_event, event_of, damage_of, send_of, take_of};
+ghost use Rattle.events_text.specs.EventLine.{lose_of, tick_of, ask_of, leave_of};
 
 use super::harm::harm;
 use super::words::Words;

@@ -51,7 +51,8 @@ impl EventReader {
         ensures stands { (bytes : List ℕ) → StandsAfter 64 bytes self.old
             → StandsAfter 64 (bytes ++ take result.used piece.now) self.new }
         ensures line { (bytes : List ℕ) → StandsAfter 64 bytes self.old
-            → ended_lines (bytes ++ take result.used piece.now) ≡ ended_lines bytes ++ option_to_list result.line }
+            → ended_lines (bytes ++ take result.used piece.now)
+            ≡ ended_lines bytes ++ option_to_list result.line }
     {
         let byte_lines::Taken { used, line } = self.half.take(piece, &TextLines);
         Taken { used, line }

@@ -1,7 +1,8 @@
 //! The words of a line, one after the other.
 ghost use Rattle.std.specs.Prelude.{◌≡◌, ◌≤◌, length, OnSome};
 ghost use Rattle.std.specs.Option.{option_and_then, option_copied};
-ghost use Rattle.events_text.specs.EventLine.{words, word_len, number, number_or_none, yes_or_no, first_word, other_words, payload_of, ends};
+ghost use Rattle.events_text.specs.EventLine.{words, word_len, number, number_or_none, yes_or_no};
+ghost use Rattle.events_text.specs.EventLine.{first_word, other_words, payload_of, ends};
 
 use super::number::{number, number_or_none, yes_or_no};
 use link_model::Payload;

@@ -64,7 +64,7 @@ room-noted net did s new room table tallies = record {
 -- what an event does that is not refused names nodes
 tick-names : (b : Bool) (n v : ℕ) → IsTrue (nat_lt v n) → IsTrue (names_below n (if b then FullTick v else LendingTick v))
 tick-names true n v there = there
-tick-names false n v there = refl
+tick-names false n v there = there
 
 take-names : (n u v : ℕ) (items : List Item) → IsTrue (nat_lt u n && nat_lt v n) → IsTrue (names_below n (taken_of u v items))
 take-names n u v [] there = refl
@@ -89,6 +89,13 @@ names w (Ask v t) fits = refl
 names w (Leave v t) fits = refl
 names w (Damage h) fits = refl
 
+-- behind it there are as many nodes
+pub names-behind : Below → (now next : World) (e : Event) (did : Happened) → next ≡ step now e → did ≡ happened now e → refusal now e ≡ None
+    → IsTrue (names_below next.net.nodes did)
+names-behind laws now next e did is_next is fits =
+    let same : next.net.nodes ≡ now.net.nodes = ap (λ w. w.net.nodes) is_next ∙ (laws.frame now (e ∷ [])).nodes in
+    subst (λ n. IsTrue (names_below n did)) (sym same) (subst (λ d. IsTrue (names_below now.net.nodes d)) (sym is) (names now e fits))
+
 -- what an event takes or loses goes from a link that has a place
 tick-placed : (b : Bool) (table : PairTableView) (v : ℕ) → IsTrue (names_place table (if b then FullTick v else LendingTick v))
 tick-placed true table v = refl
@@ -110,10 +117,6 @@ placed w (Send u v) table all fits = refl
 placed w (Ask v t) table all fits = refl
 placed w (Leave v t) table all fits = refl
 placed w (Damage h) table all fits = refl
-
--- every event leaves the network as it is
-pub same-network : (w : World) (e : Event) → (step w e).net ≡ w.net
-same-network w e = grind (arith, common_steps)
 
 -- an event that is no damage is a list without damage
 pub undamaged-one : (w : World) (e : Event) → is_damage w e ≡ false → IsUndamaged w (e ∷ [])

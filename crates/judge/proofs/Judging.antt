@@ -18,7 +18,7 @@ refused-join : (w : World) (es : List Event) (e : Event) → refused_in w (es ++
 refused-join w [] e = omega arith
 refused-join w (x ∷ es) e = omega (arith, refused-join (step w x) es e)
 
-damage-refused : (w : World) (e : Event) → IsTrue (is_some (refusal w e)) → is_damage w e ≡ false
+pub damage-refused : (w : World) (e : Event) → IsTrue (is_some (refusal w e)) → is_damage w e ≡ false
 damage-refused w e refused = grind (arith, common_steps)
 
 module _ (laws : Below) (start : World) (es : List Event) (e : Event) (now : World) (s : StretchView) (sweeps refused : ℕ) (j : IsJudging start es now s sweeps refused) where

@@ -6,4 +6,5 @@ pub mod Judging
 mod Laying
 mod Begun
 mod JudgeSteps
+mod Visits
 mod RowsRefused

@@ -1,10 +1,10 @@
 -- Masks of nodes, bit by bit.
-use Rattle.std.proofs.Common.{◌≡◌, ◌≢◌, ◌∙◌, sym, ap, ℕ, ◌-◌, ◌*◌, ◌/◌, ◌%◌, ◌^◌, ◌<◌, ◌≤◌, ◌⊎◌, inl, inr, Bool, true, false, not, ◌==◌, ◌&&◌, nat_lt, arith, refl, subst, w64, bit_and}
+use Rattle.std.proofs.Common.{◌≡◌, ◌≢◌, ◌∙◌, sym, ap, ℕ, ◌-◌, ◌*◌, ◌/◌, ◌%◌, ◌^◌, ◌<◌, ◌≤◌, ◌⊎◌, inl, inr, Bool, true, false, not, ◌==◌, ◌&&◌, ◌||◌, nat_lt, arith, refl, subst, w64, bit_and, bit_or}
 use Rattle.std.proofs.Math.Pow.{pow-lt}
 use Rattle.std.proofs.Math.Nat.{div-eq_of_lt}
 use Rattle.std.specs.Int.{bit_at, bit_not}
 use Rattle.std.proofs.lemmas.Grind.{common_steps}
-use Rattle.std.proofs.lemmas.Nat.Bits.{bit_at_ones, bit_at_mask_above, ones_shr, bit_at_clear_same, bit_at_clear_other, bit_at_and, bit_at-lt, bit_at-zero, same_from_bits}
+use Rattle.std.proofs.lemmas.Nat.Bits.{bit_at_ones, bit_at_mask_above, ones_shr, bit_at_clear_same, bit_at_clear_other, bit_at_set_same, bit_at_set_other, bit_at_and, bit_at-lt, bit_at-zero, same_from_bits}
 use Rattle.judge.specs.Stretch.{has_bit}
 
 bit-one : (mask v : ℕ) → bit_at mask v ≡ 1 → has_bit mask v ≡ true
@@ -54,6 +54,16 @@ without-bit mask node v fits within =
 
     kept-bit : (n : ℕ) → bit_at n v ≡ bit_at mask v → (v == node) ≡ false → has_bit n v ≡ (has_bit mask v && not (v == node))
     kept-bit n same e = grind (arith, common_steps, same, e)
+
+-- one bit is set
+pub with-bit : (mask node v : ℕ) → node < 64 → has_bit (bit_or mask (1 * 2 ^ node % 2 ^ 64)) v ≡ (has_bit mask v || v == node)
+with-bit mask node v within =
+    let cases : (v ≡ node) ⊎ (v ≢ node) = grind arith in
+    let new = bit_or mask (1 * 2 ^ node % 2 ^ 64) in
+    elim cases [
+      | inl same ↦ let set = bit-one new v (rw same (bit_at_set_same w64 mask node within)) in grind (arith, common_steps, set, same)
+      | inr other ↦ let kept : bit_at new v ≡ bit_at mask v = bit_at_set_other w64 mask node within v other in grind (arith, common_steps, kept, other)
+    ]
 
 pub no-bits : (mask : ℕ) → ((v : ℕ) → has_bit mask v ≡ false) → mask ≡ 0
 no-bits mask none = same_from_bits mask 0 (λ i. let b = none i in let l = bit_at-lt mask i in let z = bit_at-zero i in grind (arith, common_steps, b, l, z))

@@ -1,6 +1,6 @@
 -- What the judge's crate knows of runs and networks: laws of the crates below.
 use Rattle.topology.specs.Laws.{JoinedAreNodes, Limits}
-use Rattle.run_model.specs.Laws.{RefusedChangesNothing, NetworkStays, FrameStays, RunsJoin, UndamagedSplits, RangesStay, TicksGoOn, RenewedGoesOn, OldItemsStart, OldItemsGoOn, OldItemsAreThere, CountedIsGreatest, CountStarts, CountStays, CountRises, MomentLeads, MomentStays, MomentMoves}
+use Rattle.run_model.specs.Laws.{RefusedChangesNothing, NetworkStays, FrameStays, RunsJoin, UndamagedSplits, RangesStay, TicksGoOn, RenewedGoesOn, OldItemsStart, OldItemsGoOn, OldItemsAreThere, CountedIsGreatest, CountStarts, CountStays, CountRises, MomentLeads, MomentStays, MomentMoves, VisitsGoOn}
 
 pub record Below : Type 0 where
   pub joined_nodes : JoinedAreNodes
@@ -23,3 +23,4 @@ pub record Below : Type 0 where
   pub leads : MomentLeads
   pub moment_stays : MomentStays
   pub moment_moves : MomentMoves
+  pub visits : VisitsGoOn

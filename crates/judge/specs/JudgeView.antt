@@ -5,18 +5,22 @@ use Rattle.run_model.specs.Count.{IsSweepCount}
 use Rattle.run_model.specs.declared.event.Event.{Event}
 use Rattle.judge.specs.Judging.{counted_up_to, refused_in, IsJudging}
 use Rattle.judge.specs.Stretch.{StretchView}
+use Rattle.judge.specs.Visited.{AreVisited}
 use Rattle.configuration.specs.ConfigurationView.{ConfigurationView, world_of}
 
--- nodes and links now, what is kept of the unfinished stretch, and the counts
+-- nodes and links now, what is kept of the unfinished stretch, the counts, and the mask of the
+-- nodes visited
 pub record JudgeView : Type 0 where
   pub configuration : ConfigurationView
   pub stretch : StretchView
   pub sweeps : ℕ
   pub refused : ℕ
+  pub visited : ℕ
 
 -- the judge has seen these events happen from the start on
-abbrev pub HasSeen : JudgeView → World → List Event → Type 0
-HasSeen j start es = IsJudging start es (world_of j.configuration) j.stretch j.sweeps j.refused
+pub record HasSeen (j : JudgeView) (start : World) (es : List Event) : Type 0 where
+  pub judging : IsJudging start es (world_of j.configuration) j.stretch j.sweeps j.refused
+  pub visited : AreVisited start es j.visited
 
 -- whatever the one judge has seen, the other has seen that and then the event
 abbrev pub HasSeenNext : JudgeView → Event → JudgeView → Type 0
@@ -34,3 +38,7 @@ AreSweepsSeen j sweeps = (start : World) (es : List Event) → HasSeen j start e
 -- whatever the judge has seen, `refused` of its events were refused
 abbrev pub AreRefusalsSeen : JudgeView → ℕ → Type 0
 AreRefusalsSeen j refused = (start : World) (es : List Event) → HasSeen j start es → refused ≡ counted_up_to (refused_in start es)
+
+-- whatever the judge has seen, the mask is that of the nodes visited
+abbrev pub AreVisitedSeen : JudgeView → ℕ → Type 0
+AreVisitedSeen j mask = (start : World) (es : List Event) → HasSeen j start es → AreVisited start es mask

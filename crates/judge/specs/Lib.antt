@@ -2,6 +2,7 @@ pub mod Tallies
 pub mod Laid
 pub mod Stretch
 pub mod Judging
+pub mod Visited
 pub mod Below
 pub mod JudgeView
 pub mod Parts

@@ -2,11 +2,11 @@
 use Rattle.std.specs.Prelude.{List}
 use Rattle.node_core.specs.View.{NodeView}
 use Rattle.configuration.specs.LinksView.{LinksView}
-use Rattle.judge.specs.Stretch.{StretchView, IsRoomFor}
+use Rattle.judge.specs.Stretch.{StretchView, HasRoomFor}
 use Rattle.configuration.specs.ConfigurationView.{AreNodesOf}
 
 -- the parts are one world's: there is a node for each id of the network, which knows its own site,
 -- and room for its stretches
 pub record AreOneWorlds (nodes : List NodeView) (links : LinksView) (room : StretchView) : Type 0 where
   pub nodes_are : AreNodesOf links.net nodes
-  pub room_is : IsRoomFor links.net room
+  pub room_is : HasRoomFor links.net room

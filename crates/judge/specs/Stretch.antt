@@ -7,7 +7,7 @@ use Rattle.run_model.specs.Sweep.{has_full_tick, is_renewed}
 use Rattle.run_model.specs.Stretch.{old_items}
 use Rattle.run_model.specs.declared.event.Event.{Event}
 use Rattle.run_model.specs.declared.happened.Happened.{Happened}
-use Rattle.run_model.specs.declared.happened.Happened.TheVariants.{FullTick, Taken, Lost}
+use Rattle.run_model.specs.declared.happened.Happened.TheVariants.{FullTick, LendingTick, Taken, Lost}
 use Rattle.configuration.specs.PairTable.{PairTableView}
 use Rattle.judge.specs.Tallies.{TalliesView, tally_of, has_place}
 
@@ -32,6 +32,7 @@ is_full_tick_of v _ = false
 -- the nodes that it ticked, or whose link it took from, are below n
 abbrev pub names_below : ℕ → Happened → Bool
 names_below n (FullTick v) = nat_lt v n
+names_below n (LendingTick v) = nat_lt v n
 names_below n (Taken u v) = nat_lt u n && nat_lt v n
 names_below n (Lost u v i) = nat_lt u n && nat_lt v n
 names_below n _ = true
@@ -42,8 +43,12 @@ names_place table (Taken u v) = has_place table u v
 names_place table (Lost u v i) = has_place table u v
 names_place table _ = true
 
--- there is room for the stretches of a network: each link has a tally of its own, and what is no
--- link lacks nothing
+-- there is room for the stretches of any network of as many nodes
+abbrev pub HasRoomFor : Network → StretchView → Type 0
+HasRoomFor net s = s.tallies.table.nodes ≡ net.nodes
+
+-- the room is laid for a network: each link has a tally of its own, and what is no link lacks
+-- nothing
 pub record IsRoomFor (net : Network) (s : StretchView) : Type 0 where
   pub nodes : s.tallies.table.nodes ≡ net.nodes
   pub placed : (u v : ℕ) → IsTrue (are_joined net.edges u v) → IsTrue (has_place s.tallies.table u v)

@@ -51,12 +51,18 @@ abbrev pub unrenewed_in : List Tally → ℕ
 unrenewed_in [] = 0
 unrenewed_in (t ∷ ts) = missing t + unrenewed_in ts
 
+-- how many tallies there are: one each way for 256 edges, the most of a network, and the first
+abbrev pub most_tallies : ℕ
+most_tallies = 513
+
 -- Different pairs have different places, but for those that have the first. `unrenewed` of the
--- tallies are not renewed, each at the place of two nodes.
+-- tallies are not renewed, each at the place of two nodes. There is one for each link of as many
+-- edges as a network may have.
 pub record IsTallied (table : PairTableView) (places : List Tally) (unrenewed : ℕ) : Type 0 where
   pub inside : (u v : ℕ) → v < table.nodes → value_at table u v < length places
   pub apart : (u v i j : ℕ) → v < table.nodes → j < table.nodes
       → value_at table u v ≡ value_at table i j → ((u ≡ i) × (v ≡ j)) ⊎ (value_at table u v ≡ 0)
+  pub all : length places ≡ most_tallies
   pub own : (p : ℕ) → IsOfNodes table p ⊎ ((slice_index_or places p no_tally).renewed ≡ true)
   pub few : unrenewed ≡ unrenewed_in places
 

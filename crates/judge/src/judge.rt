@@ -1,16 +1,20 @@
 //! A judge of runs: it counts the sweeps of a run, event by event.
-ghost use Rattle.std.specs.Prelude.{◌≡◌, ◌↔◌, ◌+◌, ◌-◌, ◌^◌, ◌<◌, ◌≤◌, ◌⊎◌, ℕ, min, length, true, false, if◌then◌else◌, ◌==◌, List, [], ◌∷◌, ◌++◌, IsTrue, IfErr, OnOk, None, Some};
+ghost use Rattle.std.specs.Prelude.{◌≡◌, ◌↔◌, ◌+◌, ◌-◌, ◌^◌, ◌<◌, ◌≤◌, ◌⊎◌, ℕ, min, length, true};
+ghost use Rattle.std.specs.Prelude.{false, if◌then◌else◌, ◌==◌, List, [], ◌∷◌, ◌++◌, IsTrue, IfErr};
+ghost use Rattle.std.specs.Prelude.{OnOk, None, Some};
 ghost use Rattle.run_model.specs.Step.{refusal, step};
 ghost use Rattle.run_model.specs.Run.{is_damage};
 ghost use Rattle.configuration.specs.ConfigurationView.{world_of};
 ghost use Rattle.run_model.specs.World.{at_pair};
 ghost use Rattle.judge.specs.Tallies.{has_place, tally_of, first_tally};
 ghost use Rattle.judge.specs.Stretch.{IsRoomFor, IsKept};
-ghost use Rattle.judge.specs.JudgeView.{HasSeen, HasSeenNext, EndsSweep, AreSweepsSeen, AreRefusalsSeen};
+ghost use Rattle.judge.specs.JudgeView.{HasSeen, HasSeenNext, EndsSweep, AreSweepsSeen};
+ghost use Rattle.judge.specs.JudgeView.{AreRefusalsSeen, AreVisitedSeen};
 
 use crate::laws::below;
 use crate::stretch::Stretch;
 use crate::tallies::Tally;
+use crate::visited::{privileged_nodes, visited_behind};
 use crate::world::World;
 use configuration::Configuration;
 use run_model::{Event, EventFault, Happened};
@@ -31,7 +35,9 @@ fn begin_link<A: Allocator + Copy>(
     ensures table { stretch.new.tallies.table ≡ stretch.old.tallies.table }
     ensures lacking { stretch.new.lacking ≡ stretch.old.lacking }
     ensures tallies { (u v : ℕ) → v < stretch.old.tallies.table.nodes
-        → tally_of stretch.new.tallies u v ≡ at_pair (tally_of stretch.old.tallies) from to (first_tally (world_of configuration.now) from to) u v }
+        → tally_of stretch.new.tallies u v
+        ≡ at_pair (tally_of stretch.old.tallies) from to
+        (first_tally (world_of configuration.now) from to) u v }
 {
     let tally = Tally {
         old: configuration.under_way(from, to) as u16,
@@ -47,7 +53,7 @@ fn begin<A: Allocator + Copy>(configuration: &Configuration<A>, stretch: &mut St
     ensures room { IsRoomFor (world_of configuration.now).net stretch.new }
 {
     below();
-    let _nodes = configuration.net().nodes();
+    let _known_nodes = configuration.net().nodes();
     stretch.begin();
     let edges = configuration.net().edges();
     for edge in edges {
@@ -56,15 +62,18 @@ fn begin<A: Allocator + Copy>(configuration: &Configuration<A>, stretch: &mut St
     }
 }
 
-/// A configuration, and how many sweeps and refused events have led to it.
+/// A configuration, how many sweeps and refused events have led to it, and which nodes the
+/// privilege has visited on the way.
 ///
-/// A sweep is counted at the first event at which it is one, and damage begins the count anew.
+/// A sweep is counted at the first event at which it is one. Damage begins the count anew, and the
+/// nodes visited.
 #[derive(Drop)]
 pub struct Judge<A: Allocator + Copy = Global> {
     configuration: Configuration<A>,
     stretch: Stretch<A>,
     sweeps: u64,
     refused: u64,
+    visited: u64,
 }
 
 impl<A: Allocator + Copy> Model for Judge<A> {
@@ -73,7 +82,13 @@ impl<A: Allocator + Copy> Model for Judge<A> {
 
     ghost Value = { JudgeView };
 
-    ghost view = { λ j. record { configuration = j.configuration; stretch = j.stretch; sweeps = j.sweeps; refused = j.refused } };
+    ghost view = { λ j. record {
+      configuration = j.configuration;
+      stretch = j.stretch;
+      sweeps = j.sweeps;
+      refused = j.refused;
+      visited = j.visited;
+    } };
 
     ghost invariant = { λ j. IsRoomFor j.configuration.links.net j.stretch };
 }
@@ -91,13 +106,16 @@ impl<A: Allocator + Copy> Judge<A> {
             configuration,
             mut room,
         } = world;
+        room.lay(configuration.net());
         begin(&configuration, &mut room);
         room.clear_looked();
+        let visited = privileged_nodes(&configuration);
         Judge {
             configuration,
             stretch: room,
             sweeps: 0,
             refused: 0,
+            visited,
         }
     }
 
@@ -115,7 +133,7 @@ impl<A: Allocator + Copy> Judge<A> {
             ⊎ EndsSweep self.old event.now }
     {
         below();
-        let _nodes = self.configuration.net().nodes();
+        let _known_nodes = self.configuration.net().nodes();
         self.stretch.clear_looked();
         let happened = match self.configuration.step(event) {
             Ok(happened) => happened,
@@ -126,10 +144,12 @@ impl<A: Allocator + Copy> Judge<A> {
         };
         if let Happened::Damaged = happened {
             self.sweeps = 0;
-            self.stretch.clear();
+            self.visited = privileged_nodes(&self.configuration);
+            self.stretch.lay(self.configuration.net());
             begin(&self.configuration, &mut self.stretch);
             return Ok(());
         }
+        self.visited = visited_behind(&self.configuration, self.visited, &happened);
         self.stretch.note(&happened);
         if self.stretch.is_complete() {
             self.sweeps = self.sweeps.saturating_add(1);
@@ -154,6 +174,15 @@ impl<A: Allocator + Copy> Judge<A> {
         ensures refused { AreRefusalsSeen self.now result }
     {
         self.refused
+    }
+
+    /// The nodes that were privileged at some moment since the last accepted damage, the moment
+    /// right after it among them, or since the start where there was none: bit v stands for node v.
+    pub fn visited(&self) -> u64
+        ensures mask { result ≡ self.now.visited }
+        ensures visited { AreVisitedSeen self.now result }
+    {
+        self.visited
     }
 
     /// How many tallies the last step looked at; 0 where there was none.

@@ -32,6 +32,7 @@ mod laws;
 mod parts;
 mod stretch;
 mod tallies;
+mod visited;
 mod world;
 
 pub use judge::Judge;

@@ -1,10 +1,12 @@
 //! What a judge keeps of the unfinished stretch of a run.
-ghost use Rattle.std.specs.Prelude.{◌≡◌, ◌↔◌, ◌+◌, ◌<◌, ◌≤◌, ◌==◌, ◌&&◌, ℕ, not, nat_lt, IfOk, IsTrue};
+ghost use Rattle.std.specs.Prelude.{◌≡◌, ◌↔◌, ◌+◌, ◌<◌, ◌≤◌, ◌==◌, ◌&&◌, ℕ, not, nat_lt, IfOk};
+ghost use Rattle.std.specs.Prelude.{IsTrue};
 ghost use Rattle.data_link.specs.Sweep.{Takes, Loses};
 ghost use Rattle.topology.specs.Network.{are_joined};
 ghost use Rattle.run_model.specs.World.{at_pair};
 ghost use Rattle.judge.specs.Tallies.{has_place, no_tally, tally_of, tally_after, tally_behind};
-ghost use Rattle.judge.specs.Stretch.{has_bit, is_full_tick_of, names_below, names_place, IsComplete};
+ghost use Rattle.judge.specs.Stretch.{has_bit, is_full_tick_of, names_below, names_place};
+ghost use Rattle.judge.specs.Stretch.{IsComplete};
 
 use crate::tallies::{Tallies, Tally};
 use run_model::Happened;
@@ -68,7 +70,9 @@ impl<A: Allocator> Stretch<A> {
         ensures lacking { self.new.lacking ≡ self.old.lacking }
         ensures table { self.new.tallies.table ≡ self.old.tallies.table }
         ensures tallies { (u v : ℕ) → v < self.old.tallies.table.nodes
-            → tally_of self.new.tallies u v ≡ at_pair (tally_of self.old.tallies) from to (tally_after Takes 1 (tally_of self.old.tallies from to)) u v }
+            → tally_of self.new.tallies u v
+            ≡ at_pair (tally_of self.old.tallies) from to
+            (tally_after Takes 1 (tally_of self.old.tallies from to)) u v }
         ensures looked { self.new.tallies.looked ≤ self.old.tallies.looked + 2 }
     {
         let tally = self.tallies.get(from, to);
@@ -83,7 +87,9 @@ impl<A: Allocator> Stretch<A> {
         ensures lacking { self.new.lacking ≡ self.old.lacking }
         ensures table { self.new.tallies.table ≡ self.old.tallies.table }
         ensures tallies { (u v : ℕ) → v < self.old.tallies.table.nodes
-            → tally_of self.new.tallies u v ≡ at_pair (tally_of self.old.tallies) from to (tally_after (Loses item) 0 (tally_of self.old.tallies from to)) u v }
+            → tally_of self.new.tallies u v
+            ≡ at_pair (tally_of self.old.tallies) from to
+            (tally_after (Loses item) 0 (tally_of self.old.tallies from to)) u v }
         ensures looked { self.new.tallies.looked ≤ self.old.tallies.looked + 2 }
     {
         let tally = self.tallies.get(from, to);
@@ -100,7 +106,8 @@ impl<A: Allocator> Stretch<A> {
             → has_bit self.new.lacking v
             ≡ (has_bit self.old.lacking v && not (is_full_tick_of v happened.now)) }
         ensures tallies { (u v : ℕ) → v < self.old.tallies.table.nodes
-            → tally_of self.new.tallies u v ≡ tally_behind u v happened.now (tally_of self.old.tallies u v) }
+            → tally_of self.new.tallies u v
+            ≡ tally_behind u v happened.now (tally_of self.old.tallies u v) }
         ensures looked { self.new.tallies.looked ≤ self.old.tallies.looked + 2 }
     {
         match *happened {
@@ -115,19 +122,23 @@ impl<A: Allocator> Stretch<A> {
     pub(crate) fn begin(&mut self)
         requires some { 0 < self.old.tallies.table.nodes }
         requires few { self.old.tallies.table.nodes ≤ 64 }
-        ensures lacking { (v : ℕ) → has_bit self.new.lacking v ≡ nat_lt v self.old.tallies.table.nodes }
+        ensures lacking { (v : ℕ)
+            → has_bit self.new.lacking v ≡ nat_lt v self.old.tallies.table.nodes }
         ensures tallies { self.new.tallies ≡ self.old.tallies }
     {
         self.lacking = all_nodes(self.tallies.nodes());
     }
 
-    /// No link is to be renewed any more, as where the network's edges may have changed. The tally
-    /// of each link is then to be begun.
-    pub(crate) fn clear(&mut self)
-        ensures table { self.new.tallies.table ≡ self.old.tallies.table }
+    /// Room for the edges of a network as they are now, with no link to be renewed. The tally of
+    /// each link is then to be begun.
+    pub(crate) fn lay<N: Allocator + Copy>(&mut self, net: &Net<N>)
+        requires { self.old.tallies.table.nodes ≡ net.now.nodes }
+        ensures nodes { self.new.tallies.table.nodes ≡ net.now.nodes }
+        ensures placed { (u v : ℕ) → IsTrue (are_joined net.now.edges u v)
+            → IsTrue (has_place self.new.tallies.table u v) }
         ensures empty { (u v : ℕ) → tally_of self.new.tallies u v ≡ no_tally }
     {
-        self.tallies.clear();
+        self.tallies.lay(net);
     }
 
     /// Begins the tally of a link anew.

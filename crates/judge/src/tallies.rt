@@ -1,5 +1,6 @@
 //! What a judge keeps of the links in an unfinished stretch of a run.
-ghost use Rattle.std.specs.Prelude.{◌≡◌, ◌↔◌, ◌+◌, ◌-◌, ◌^◌, ◌<◌, ◌++◌, [], ◌∷◌, ℕ, min, length, replicate, IfOk, OnOk, IsTrue};
+ghost use Rattle.std.specs.Prelude.{◌≡◌, ◌↔◌, ◌+◌, ◌-◌, ◌*◌, ◌^◌, ◌<◌, ℕ, min, length, replicate};
+ghost use Rattle.std.specs.Prelude.{IfOk, IsTrue};
 ghost use Rattle.topology.specs.Network.{IsAcceptedNetwork, are_joined};
 ghost use Rattle.data_link.specs.Sweep.{Takes, Loses};
 ghost use Rattle.run_model.specs.World.{at_pair};
@@ -66,57 +67,34 @@ impl Tally {
 fn forget<A: Allocator>(tallies: &mut Vec<Tally, A>)
     ensures { tallies.new.items ≡ replicate (length tallies.old.items) no_tally }
 {
-    let _all = tallies.as_slice();
+    let _known_all = tallies.as_slice();
     tallies.fill(Tally {
         old: 0,
         renewed: true,
     });
 }
 
-/// Lays one more tally, for the link from one node to another, behind those that are there.
-fn lay<A: Allocator>(
-    ends: (u16, u16),
-    table: &mut PairTable<A>,
-    places: &mut Vec<Tally, A>,
-) -> Result<(), AllocError>
-    requires first { ends.0 < table.old.nodes }
-    requires second { ends.1 < table.old.nodes }
-    requires few { length places.old.items < 65536 }
-    ensures nodes { table.new.nodes ≡ table.old.nodes }
-    ensures values { OnOk result ((u v : ℕ) → v < table.old.nodes → value_at table.new u v
-        ≡ at_pair (value_at table.old) ends.0 ends.1 (length places.old.items) u v) }
-    ensures places { OnOk result (places.new.items ≡ places.old.items ++ no_tally ∷ []) }
+/// Gives the links of a network the places from 1 on, two for each edge, one edge after the other;
+/// every two nodes that no edge joins have the place 0.
+fn lay_all<A: Allocator, N: Allocator + Copy>(table: &mut PairTable<A>, net: &Net<N>)
+    requires { table.old.nodes ≡ net.now.nodes }
+    ensures network { IsAcceptedNetwork net.now }
+    ensures laid { IsLaid net.now.nodes (are_joined net.now.edges) table.new
+        (2 * length net.now.edges + 1) }
 {
-    let place = places.len() as u16;
-    places.push(Tally {
-        old: 0,
-        renewed: true,
-    })?;
-    table.set(ends.0, ends.1, place);
-    Ok(())
+    topology::laws::joined();
+    let _nodes = net.nodes();
+    table.clear();
+    let mut place = 1;
+    for edge in net.edges() {
+        table.set(edge.0, edge.1, place);
+        table.set(edge.1, edge.0, place + 1);
+        place += 2;
+    }
 }
 
-/// Where each tally stands, and the tallies, with no link to be renewed.
-fn lay_all<A: Allocator + Copy, N: Allocator + Copy>(
-    alloc: A,
-    net: &Net<N>,
-) -> Result<(PairTable<A>, Vec<Tally, A>), AllocError>
-    ensures network { IsAcceptedNetwork net.now }
-    ensures laid { IfOk result (λ laid.
-        IsLaid net.now.nodes (are_joined net.now.edges) laid.0 laid.1.items) }
-{
-    let mut table = PairTable::new(alloc, net.nodes())?;
-    let mut places = Vec::new(alloc);
-    places.push(Tally {
-        old: 0,
-        renewed: true,
-    })?;
-    for edge in net.edges() {
-        lay((edge.0, edge.1), &mut table, &mut places)?;
-        lay((edge.1, edge.0), &mut table, &mut places)?;
-    }
-    Ok((table, places))
-}
+/// How many tallies there are: one each way for as many edges as a network may have, and the first.
+const MOST_TALLIES: usize = 513;
 
 /// The tallies of all links of a network: one each way for each edge, close together, behind one
 /// that stands for every two nodes that no edge joins. `get` and `set` are the only ways to one,
@@ -149,10 +127,15 @@ impl<A: Allocator + Copy> Tallies<A> {
         ensures looked { IfOk result (λ t. t.looked ≡ 0) }
     {
         topology::laws::joined();
-        let (table, places) = lay_all(alloc, net)?;
+        let mut table = PairTable::new(alloc, net.nodes())?;
+        lay_all(&mut table, net);
+        let none = Tally {
+            old: 0,
+            renewed: true,
+        };
         Ok(Tallies {
             table,
-            places,
+            places: vec![in alloc; none; MOST_TALLIES]?,
             unrenewed: 0,
             looked: 0,
         })
@@ -215,11 +198,17 @@ impl<A: Allocator> Tallies<A> {
         self.unrenewed == 0
     }
 
-    /// No link is to be renewed any more: no tally of an edge that is gone is left.
-    pub fn clear(&mut self)
-        ensures table { self.new.table ≡ self.old.table }
+    /// Lays the tallies anew for the edges of a network, none of them to be renewed: one that has
+    /// joined has its own, and no tally of one that is gone is left. No memory is taken.
+    pub fn lay<N: Allocator + Copy>(&mut self, net: &Net<N>)
+        requires { self.old.table.nodes ≡ net.now.nodes }
+        ensures nodes { self.new.table.nodes ≡ net.now.nodes }
+        ensures placed { (u v : ℕ) → IsTrue (are_joined net.now.edges u v)
+            → IsTrue (has_place self.new.table u v) }
         ensures empty { (u v : ℕ) → tally_of self.new u v ≡ no_tally }
     {
+        topology::laws::joined();
+        lay_all(&mut self.table, net);
         forget(&mut self.places);
         self.unrenewed = 0;
     }

@@ -2,7 +2,7 @@
 ghost use Rattle.std.specs.Prelude.{◌≡◌, ◌<◌, ◌≤◌, IfOk, IfErr, OnOk, None, Some, length};
 ghost use Rattle.node_core.specs.View.{state_of, site_in};
 ghost use Rattle.run_model.specs.World.{IsWorldInRange, site};
-ghost use Rattle.run_model.specs.Start.{default_world};
+ghost use Rattle.run_model.specs.Start.{default_world, world_with_spares};
 ghost use Rattle.run_model.specs.NodeCounts.{lending_count, privileged_count};
 ghost use Rattle.run_model.specs.Step.{refusal, step};
 ghost use Rattle.configuration.specs.ConfigurationView.{world_of};
@@ -26,24 +26,37 @@ pub struct World<A: Allocator + Copy = Global> {
 
 impl<A: Allocator + Copy> Model for World<A> {
     ghost use Rattle.configuration.specs.ConfigurationView.{ConfigurationView};
-    ghost use Rattle.judge.specs.Stretch.{IsRoomFor};
+    ghost use Rattle.judge.specs.Stretch.{HasRoomFor};
 
     ghost Value = { ConfigurationView };
 
     ghost view = { λ w. w.configuration };
 
-    ghost invariant = { λ w. IsRoomFor w.configuration.links.net w.room };
+    ghost invariant = { λ w. HasRoomFor w.configuration.links.net w.room };
 }
 
 impl<A: Allocator + Copy> World<A> {
-    /// The world in which every node is as it starts and nothing is under way. It keeps a copy of
-    /// the network, and reserves all memory that any step needs, and any judge; `AllocError` comes
-    /// only where that is refused.
+    /// The world in which every node is as it starts and nothing is under way, without spare links:
+    /// an edge may join only once another has gone. It keeps a copy of the network, and reserves
+    /// all memory that any step needs, and any judge; `AllocError` comes only where that is
+    /// refused.
     pub fn new<N: Allocator + Copy>(alloc: A, net: &Net<N>) -> Result<World<A>, AllocError>
         ensures { IfOk result (λ world. world_of world ≡ default_world net.now) }
     {
+        World::with_spares(alloc, net, 0)
+    }
+
+    /// The same with spare pairs of links, each for one edge more than there are; at most 256.
+    pub fn with_spares<N: Allocator + Copy>(
+        alloc: A,
+        net: &Net<N>,
+        pairs: u16,
+    ) -> Result<World<A>, AllocError>
+        requires { pairs ≤ 256 }
+        ensures { IfOk result (λ world. world_of world ≡ world_with_spares net.now pairs) }
+    {
         Ok(World {
-            configuration: Configuration::new(alloc, net)?,
+            configuration: Configuration::with_spares(alloc, net, pairs)?,
             room: Stretch::new(alloc, net)?,
         })
     }
@@ -55,7 +68,7 @@ impl<A: Allocator + Copy> World<A> {
         &self.configuration
     }
 
-    /// The network.
+    /// The network that stands.
     pub fn net(&self) -> &Net<A>
         ensures { result.now ≡ (world_of self.now).net }
     {
@@ -112,6 +125,7 @@ impl<A: Allocator + Copy> World<A> {
         ensures ok { OnOk result (refusal (world_of self.old) event.now ≡ None) }
         ensures err { IfErr result (λ fault. refusal (world_of self.old) event.now ≡ Some fault) }
     {
+        run_model::laws::runs();
         let _happened = self.configuration.step(event)?;
         Ok(())
     }

@@ -24,7 +24,7 @@ LeadsTo needed P = (w : World) (es : List Event) → IsWorldInRange w → IsUnda
 
 -- The network at the moment after the last damage is the one that stands at the end, and what those sweeps lead to the run has led to.
 module _ (network : NetworkStays) (leads : MomentLeads) (start : World) (es : List Event) (ok : IsWorldInRange start) where
-  same-network : (after_damage start es).world.net ≡ (run start es).net
+  pub same-network : (after_damage start es).world.net ≡ (run start es).net
   same-network =
       let l = leads start es ok in
       sym (network (after_damage start es).world (after_damage start es).rest l.1) ∙ ap (λ w. w.net) l.2
@@ -70,17 +70,17 @@ closed splits ranges stays serves start es ok legitimate fine before rest parted
 module _ (network : NetworkStays) (leads : MomentLeads) (start : World) (es : List Event) (j : JudgeView) (seen : HasSeen j start es)
     (now : ConfigurationView) (now-is : now ≡ j.configuration) where
   pub led : run start es ≡ world_of now
-  led = sym (ap world_of now-is ∙ seen.now_is)
+  led = sym (ap world_of now-is ∙ seen.judging.now_is)
 
   pub fresh : RunsJoin → PayloadsConverge → ArePayloadsFresh start es (world_of now)
-  fresh joins law = subst (ArePayloadsFresh start es) led (payloads-fresh network leads start es seen.in_range joins law)
+  fresh joins law = subst (ArePayloadsFresh start es) led (payloads-fresh network leads start es seen.judging.in_range joins law)
 
   pub moved : UndamagedSplits → RangesStay → NumbersMove → DoNumbersMove start es (world_of now)
-  moved splits ranges law = subst (DoNumbersMove start es) led (numbers-move network leads start es seen.in_range splits ranges law)
+  moved splits ranges law = subst (DoNumbersMove start es) led (numbers-move network leads start es seen.judging.in_range splits ranges law)
 
   -- so its count tells where the world stands
   pub reached : FewerSweeps → (sweeps count : ℕ) → IsSweepCount start es count → sweeps ≡ counted_up_to count
       → (needed : Network → ℕ) (P : World → Type 0) → LeadsTo needed P → needed (world_of now).net ≤ sweeps → P (world_of now)
   reached fewer sweeps count counts same needed P law enough =
       let enough-then : needed (run start es).net ≤ sweeps = subst (λ w. needed w.net ≤ sweeps) (sym led) enough in
-      subst P led (after-sweeps network leads start es seen.in_range fewer count counts needed P law (omega (arith, enough-then, same)))
+      subst P led (after-sweeps network leads start es seen.judging.in_range fewer count counts needed P law (omega (arith, enough-then, same)))

@@ -5,4 +5,5 @@ mod SimulatedEnd
 mod SimulatedPieces
 mod RowsSimulated
 mod Headline
+mod Visits
 mod RowsRuns

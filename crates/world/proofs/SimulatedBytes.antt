@@ -42,6 +42,15 @@ line_ends start bytes more line before between after s t reader u stands ends ru
   has_run = rw ends (runs (record { seen = u.has_run.seen; lines_are = u.has_run.lines_are; refused_are = u.has_run.refused_are; written = u.has_run.written }));
 }
 
+-- no line more is ended, and more is kept of the one under way
+pub half_line_grows : (start : World) (bytes more : List ℕ) (before now : Option (List ℕ)) (s : SimulationView) (reader : Kept)
+    → IsUnderWay start bytes before now s → StandsAfter 64 (bytes ++ more) reader → ended_lines (bytes ++ more) ≡ ended_lines bytes
+    → IsUnderWay start (bytes ++ more) before now (record s { reader = reader })
+half_line_grows start bytes more before now s reader u stands ends = record {
+  stands = stands;
+  has_run = rw ends (record { seen = u.has_run.seen; lines_are = u.has_run.lines_are; refused_are = u.has_run.refused_are; written = u.has_run.written });
+}
+
 -- a line more is ended, and the sink failed
 pub line_fails : (start : World) (bytes more behind : List ℕ) (line : TextLine) (before between after : Option (List ℕ)) (s : SimulationView) (reader : Kept)
     → IsUnderWay start bytes before between s → ended_lines (bytes ++ more) ≡ ended_lines bytes ++ line ∷ []

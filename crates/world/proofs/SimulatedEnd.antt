@@ -28,7 +28,7 @@ module _ (start : World) (bytes : List ℕ) (before between after : Option (List
   shown_text = state_text (run start (events_of bytes)) (counted_up_to counted.0)
 
   same_text : state_text (world_of s.judge.configuration) sweeps ≡ shown_text
-  same_text = ap (λ w. state_text w sweeps) h.seen.now_is ∙ ap (state_text (run start (events_of bytes))) counted.2
+  same_text = ap (λ w. state_text w sweeps) h.seen.judging.now_is ∙ ap (state_text (run start (events_of bytes))) counted.2
 
   -- the text of the world was written
   pub is_shown : Takes (state_text (world_of s.judge.configuration) sweeps) between after → IsShown start bytes before after (record { refused = s.refused; sweeps = sweeps })

@@ -107,7 +107,7 @@ pub line_passes : (start : World) (lines : List TextLine) (line : TextLine) (bef
     → HasRun start lines before now s → None ≡ line_refusal (world_of s.judge.configuration) line → HasSeenLine s.judge line t.judge
     → t.lines ≡ s.lines + 1 → t.refused ≡ s.refused → HasRun start (lines ++ line ∷ []) before now t
 line_passes start lines line before now s t h not_refused seen number same =
-    let world : world_of s.judge.configuration ≡ run start (told_events lines) = h.seen.now_is in
+    let world : world_of s.judge.configuration ≡ run start (told_events lines) = h.seen.judging.now_is in
     let none : line_refusal (run start (told_events lines)) line ≡ None = ap (λ w. line_refusal w line) (sym world) ∙ sym not_refused in
     has_run_more start lines line before now now s t h (seen start (told_events lines) h.seen) number
     (same ∙ ap (one_more s.refused) (sym none)) (rw none (takes_nothing now))
@@ -118,11 +118,11 @@ pub line_told : {E : Type 0} (result : Result (Unit {0}) E) (start : World) (lin
     → t.lines ≡ s.lines + 1 → t.refused ≡ min (s.refused + 1) (2 ^ 64 - 1)
     → WritesAll result (refusal_line (s.lines + 1) (Some name)) between after failures more → Runs result start (lines ++ line ∷ []) before after t
 line_told (Ok value) start lines line before between after s t name failures more h is_refused seen number count written =
-    let world : world_of s.judge.configuration ≡ run start (told_events lines) = h.seen.now_is in
+    let world : world_of s.judge.configuration ≡ run start (told_events lines) = h.seen.judging.now_is in
     let some : line_refusal (run start (told_events lines)) line ≡ Some name = ap (λ w. line_refusal w line) (sym world) ∙ sym is_refused in
     has_run_more start lines line before between after s t h (seen start (told_events lines) h.seen) number
     (count ∙ ap (one_more s.refused) (sym some)) (rw some written.0)
 line_told (Err e) start lines line before between after s t name failures more h is_refused seen number count written =
-    let world : world_of s.judge.configuration ≡ run start (told_events lines) = h.seen.now_is in
+    let world : world_of s.judge.configuration ≡ run start (told_events lines) = h.seen.judging.now_is in
     let some : line_refusal (run start (told_events lines)) line ≡ Some name = ap (λ w. line_refusal w line) (sym world) ∙ sym is_refused in
     fails_at_line start lines line before between after s h (rw some written.0)

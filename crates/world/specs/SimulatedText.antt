@@ -1,12 +1,14 @@
 -- The text that a simulation writes: a line for each refused line of the events text, and then the
 -- text of the world that it leads to.
 use Rattle.std.specs.Prelude.{ℕ, ◌+◌, List, [], ◌∷◌, ◌++◌, is_some, if◌then◌else◌, Option, Some, None, option_map, codes, decimal}
+use Rattle.topology.specs.Network.{Network}
 use Rattle.run_model.specs.World.{World}
+use Rattle.run_model.specs.Start.{world_with_spares}
 use Rattle.run_model.specs.Step.{refusal, step}
 use Rattle.run_model.specs.Run.{run}
 use Rattle.run_model.specs.declared.event.Event.{Event}
 use Rattle.run_model.specs.declared.event.EventFault.{EventFault}
-use Rattle.run_model.specs.declared.event.EventFault.TheVariants.{NoNode, NoLink, NoItem, OutOfRange, Full, Twice, Stranger}
+use Rattle.run_model.specs.declared.event.EventFault.TheVariants.{NoNode, NoLink, NoItem, OutOfRange, Full, Twice, Stranger, NoSpare, Apart}
 use Rattle.events_text.specs.declared.text_line.TextLine.{TextLine}
 use Rattle.events_text.specs.declared.text_line.TextLine.TheVariants.{Passed, Unread, Told}
 use Rattle.events_text.specs.EventsText.{text_lines}
@@ -22,6 +24,12 @@ fault_name OutOfRange = codes "OutOfRange"
 fault_name Full = codes "Full"
 fault_name Twice = codes "Twice"
 fault_name Stranger = codes "Stranger"
+fault_name NoSpare = codes "NoSpare"
+fault_name Apart = codes "Apart"
+
+-- where a simulation begins: nothing has happened yet, and 8 pairs of links are spare
+abbrev pub simulated_start : Network → World
+simulated_start net = world_with_spares net 8
 
 -- why a line is refused in a world, if it is: it is unread, or its event is refused
 abbrev pub line_refusal : World → TextLine → Option (List ℕ)
@@ -63,7 +71,7 @@ events_of bytes = told_events (text_lines bytes)
 abbrev pub refusals_of : World → List TextLine → List ℕ
 refusals_of start lines = refusal_lines start 1 lines
 
--- the simulated text of a text whose events hold that number of sweeps: its refusal lines, and then the
--- world to which it leads
+-- the simulated text of a text whose events hold that number of sweeps: its refusal lines, and
+-- then the world to which it leads
 abbrev pub simulated_text : World → List ℕ → ℕ → List ℕ
 simulated_text start bytes sweeps = refusals_of start (text_lines bytes) ++ state_text (run start (events_of bytes)) (counted_up_to sweeps)

@@ -19,12 +19,12 @@
 //! [`laws`] has what is proved of every world and every list of events, for proofs about programs:
 //! convergence from any state, and closure.
 //!
-//! [`report::judge`] lets a list of events happen and counts its sweeps and refusals. Where the
-//! sweeps since the last damage are as many as `Net::bound` says, the world that it reports serves,
-//! whatever state it began in:
+//! [`report::judge`] lets a list of events happen, counts its sweeps and refusals, and says which
+//! nodes were privileged. Where the sweeps since the last damage are as many as `Net::bound` says,
+//! the world that it reports serves, whatever state it began in:
 //!
 //! ```
-//! let report = report::judge(world, &events);      // report.world, report.sweeps, report.refused
+//! let report = report::judge(world, &events);      // report.world, .sweeps, .refused, .visited
 //! ```
 //!
 //! A [`Judge`] does the same event by event, and lends the [`Configuration`], nodes and links as

@@ -13,6 +13,7 @@ ghost use Rattle.convergence.specs.Closure.{IsLegitimateThroughout};
 ghost use Rattle.convergence.specs.Payloads.{ArePayloadsFresh};
 ghost use Rattle.world.specs.Numbers.{DoNumbersMove};
 ghost use Rattle.judge.specs.Judging.{refused_in, counted_up_to};
+ghost use Rattle.judge.specs.Visited.{AreVisited, AreAllVisited};
 ghost use Rattle.configuration.specs.ConfigurationView.{world_of};
 
 use judge::{Judge, World};
@@ -28,6 +29,9 @@ pub struct Report<A: Allocator + Copy = Global> {
     pub sweeps: u64,
     /// The refused events; the count stays at its greatest value.
     pub refused: u64,
+    /// The nodes that were privileged at some moment since the last accepted damage, the moment
+    /// right after it among them, or since the start where there was none: bit v stands for node v.
+    pub visited: u64,
 }
 
 /// Lets events happen one after the other, from a world on, and counts sweeps and refusals.
@@ -37,9 +41,10 @@ pub struct Report<A: Allocator + Copy = Global> {
 /// the tree is reached after 4(n + 1) more; and after as many as `Net::bound` says the world is
 /// legitimate: each distance is the least length of a walk and each parent the true one, and at
 /// most one node is privileged and at most one lends. `Net::sharp_bound` is never more than that,
-/// and says the same. C, n and the bounds are those of the network that stands at the end. The sweeps are those since the last damage: how it came to its state
-/// does not matter. From a legitimate world, events without damage lead through legitimate worlds
-/// alone.
+/// and says the same. C, n and the bounds are those of the network that stands at the end. The
+/// sweeps are those since the last damage: how it came to its state does not matter. From a
+/// legitimate world, events without damage lead through legitimate worlds alone, and 16(n - 1)
+/// sweeps let each node be privileged; from any world, that many more than one of the bounds do.
 pub fn judge<A: Allocator + Copy>(start: World<A>, events: &[Event]) -> Report<A>
     ensures world { world_of result.world ≡ run (world_of start) events.now }
     // the counts are exact, up to the greatest value of their type
@@ -51,7 +56,8 @@ pub fn judge<A: Allocator + Copy>(start: World<A>, events: &[Event]) -> Report<A
         → AreLinksStable (world_of result.world) }
     ensures payloads { ArePayloadsFresh (world_of start) events.now (world_of result.world) }
     ensures numbers { DoNumbersMove (world_of start) events.now (world_of result.world) }
-    ensures tree { 4 * ((world_of result.world).net.capacity + 1) + 4 * ((world_of result.world).net.nodes + 1)
+    ensures tree { 4 * ((world_of result.world).net.capacity + 1)
+        + 4 * ((world_of result.world).net.nodes + 1)
         ≤ result.sweeps → IsTreeReached (world_of result.world) }
     ensures token_ring { bound_of (world_of result.world).net - 1 ≤ result.sweeps
         → IsTokenRingGood (world_of result.world) }
@@ -65,6 +71,18 @@ pub fn judge<A: Allocator + Copy>(start: World<A>, events: &[Event]) -> Report<A
         → IsLegitimate (world_of result.world) }
     ensures sharp_serving { sharp_of (world_of result.world).net ≤ result.sweeps
         → IsServing (world_of result.world) }
+    // the mask is exact
+    ensures visited { AreVisited (world_of start) events.now result.visited }
+    // service: from a legitimate world, and from any once it is legitimate, each node has its turn
+    ensures visits { IsLegitimate (world_of start) → IsUndamaged (world_of start) events.now
+        → 16 * ((world_of start).net.nodes - 1) ≤ result.sweeps
+        → AreAllVisited (world_of start).net result.visited }
+    ensures each_state_visits { bound_of (world_of result.world).net
+        + 16 * ((world_of result.world).net.nodes - 1) ≤ result.sweeps
+        → AreAllVisited (world_of result.world).net result.visited }
+    ensures sharp_visits { sharp_of (world_of result.world).net
+        + 16 * ((world_of result.world).net.nodes - 1) ≤ result.sweeps
+        → AreAllVisited (world_of result.world).net result.visited }
     // and no way back
     ensures closure { IsLegitimate (world_of start) → IsUndamaged (world_of start) events.now
         → IsLegitimateThroughout (world_of start) events.now }
@@ -77,15 +95,19 @@ pub fn judge<A: Allocator + Copy>(start: World<A>, events: &[Event]) -> Report<A
     convergence::laws::closure();
     convergence::laws::converge();
     convergence::laws::sharp();
+    convergence::laws::service();
+    topology::laws::eccentricity();
     let mut judge = Judge::new(start);
     for event in events {
         let _answer = judge.step(event);
     }
     let sweeps = judge.sweeps();
     let refused = judge.refused();
+    let visited = judge.visited();
     Report {
         world: judge.into_world(),
         sweeps,
         refused,
+        visited,
     }
 }

@@ -9,8 +9,8 @@
 //! The events text may be as long as [`LONGEST_TEXT`] says; whatever its length, memory is taken
 //! for the network alone.
 ghost use Rattle.std.specs.Prelude.{◌≡◌, ◌≤◌, List, ℕ, Some, IfErr};
-ghost use Rattle.run_model.specs.Start.{default_world};
 ghost use Rattle.world.specs.Simulating.{IsSimulated, HasCause};
+ghost use Rattle.world.specs.SimulatedText.{simulated_start};
 ghost use Rattle.world.specs.StateText.{state_text};
 ghost use Rattle.byte_streams.specs.Streams.{WritesAll};
 ghost use Rattle.configuration.specs.ConfigurationView.{world_of};
@@ -34,6 +34,9 @@ pub const LONGEST_TEXT: usize = 1_073_741_824;
 
 /// The most bytes of one read.
 const PIECE: usize = 8192;
+
+/// How many pairs of links are spare as a simulation begins: as many edges more may join.
+const SPARE_PAIRS: u16 = 8;
 
 /// What a simulation has counted.
 #[derive(Clone, Copy, Debug, PartialEq, Eq)]
@@ -86,7 +89,8 @@ pub fn state_text<A: Allocator + Copy, W: Sink>(
     sweeps: u64,
     sink: &mut W,
 ) -> Result<(), SimFault>
-    ensures text { WritesAll result (state_text (world_of world.now) sweeps) (W.taken sink.old) (W.taken sink.new) (W.failures sink.old) (W.failures sink.new) }
+    ensures text { WritesAll result (state_text (world_of world.now) sweeps) (W.taken sink.old)
+        (W.taken sink.new) (W.failures sink.old) (W.failures sink.new) }
     ensures err { IfErr result (λ fault. fault ≡ Write) }
 {
     let Ok(()) = write_state(world.configuration(), sweeps, sink) else {
@@ -95,10 +99,11 @@ pub fn state_text<A: Allocator + Copy, W: Sink>(
     Ok(())
 }
 
-/// Runs the events of a text, from the network's default nodes and empty links on, and writes what
-/// comes of them: for each refused line, as it is met, `line N: NAME`, where lines are numbered
-/// from 1 and NAME is the refusal of its event, or `Unread`; and at the end the text of the world,
-/// as [`state_text`] writes it with the count of sweeps since the last accepted damage.
+/// Runs the events of a text, from the network's default nodes, empty links and 8 spare pairs of
+/// links on, and writes what comes of them: for each refused line, as it is met, `line N: NAME`,
+/// where lines are numbered from 1 and NAME is the refusal of its event, or `Unread`; and at the
+/// end the text of the world, as [`state_text`] writes it with the count of sweeps since the last
+/// accepted damage.
 ///
 /// # Errors
 /// The first that is met: [`SimFault::Memory`], before anything is read; [`SimFault::Read`] where
@@ -111,12 +116,14 @@ pub fn simulate<A: Allocator + Copy, N: Allocator + Copy, R: Source, W: Sink>(
     sink: &mut W,
 ) -> Result<Summary, SimFault>
     ensures text { (bytes : List ℕ) → R.rest source.old ≡ Some bytes
-        → IsSimulated (default_world net.now) bytes (R.rest source.new) (W.taken sink.old) (W.taken sink.new) result }
+        → IsSimulated (simulated_start net.now) bytes (R.rest source.new) (W.taken sink.old)
+        (W.taken sink.new) result }
     ensures counts { (R.failures source.old ≤ R.failures source.new)
         × (W.failures sink.old ≤ W.failures sink.new) }
-    ensures cause { HasCause result (R.failures source.old) (R.failures source.new) (W.failures sink.old) (W.failures sink.new) }
+    ensures cause { HasCause result (R.failures source.old) (R.failures source.new)
+        (W.failures sink.old) (W.failures sink.new) }
 {
-    let world = World::new(alloc, net)?;
+    let world = World::with_spares(alloc, net, SPARE_PAIRS)?;
     let mut simulation = Simulation::new(world);
     simulation.read_all(source, sink)?;
     simulation.finish(sink)

@@ -1,17 +1,23 @@
 //! Harms: what a transient fault writes into a configuration.
-ghost use Rattle.std.specs.Prelude.{◌≡◌, ◌↔◌, ◌<◌, IfOk, IfErr, IsOk};
+ghost use Rattle.std.specs.Prelude.{◌≡◌, ◌↔◌, ◌<◌, IfOk, IfErr, IsOk, length};
+ghost use Rattle.topology.specs.Network.{neighbours_of};
 ghost use Rattle.topology.specs.Ranges.{ranges_of};
+ghost use Rattle.node_core.specs.Site.{site_of};
+ghost use Rattle.node_core.specs.View.{site_in};
+ghost use Rattle.run_model.specs.Rewire.{can_join};
 ghost use Rattle.run_model.specs.World.{item_fits};
 ghost use Rattle.run_model.specs.Step.{harm_fits};
 ghost use Rattle.run_model.specs.declared.event.Event.TheVariants.{Damage};
 ghost use Rattle.run_model.specs.declared.event.EventFault.TheVariants as fault;
 ghost use Rattle.run_model.specs.declared.event.Harm.TheVariants as harm;
 ghost use Rattle.run_model.specs.declared.happened.Happened.TheVariants.{Damaged};
-ghost use Rattle.configuration.specs.ConfigurationView.{world_of};
+ghost use Rattle.configuration.specs.ConfigurationView.{node_at, world_of};
 ghost use Rattle.configuration.specs.Answers.{Answers};
+ghost use Rattle.configuration.specs.Rewired.{IsRewired};
 
 use crate::configuration::Configuration;
 use link_model::{Item, Payload};
+use node_core::Node;
 use registers::OutOfRange;
 use run_model::{EventFault, Happened, Harm};
 use std::alloc::Allocator;
@@ -40,6 +46,18 @@ fn fits<A: Allocator + Copy>(net: &Net<A>, item: &Item) -> bool
     }
 }
 
+/// A node takes up the neighbours that it has in a network that differs from its own at most in the
+/// edges.
+fn rewire<A: Allocator + Copy>(nodes: &mut Vec<Node<A>, A>, net: &Net<A>, v: u16)
+    requires there { v < length nodes.old.items }
+    requires site { record
+        (site_in (node_at nodes.old.items v)) { neighbours = neighbours_of net.now v }
+        ≡ site_of net.now v }
+    ensures { IsRewired net.now nodes.old.items v nodes.new.items }
+{
+    nodes[usize::from(v)].rewire(net);
+}
+
 impl<A: Allocator + Copy> Configuration<A> {
     /// Writes a node's distance and parent.
     fn write_own(
@@ -62,7 +80,8 @@ impl<A: Allocator + Copy> Configuration<A> {
         seq: u16,
         last: u16,
     ) -> Result<Happened, EventFault>
-        ensures { Answers self.old (Damage (harm.Counters node neighbour seq last)) self.new result }
+        ensures { Answers self.old
+            (Damage (harm.Counters node neighbour seq last)) self.new result }
     {
         self.find_link(node, neighbour)?;
         damaged(self.nodes[usize::from(node)].set_counters(neighbour, seq, last))
@@ -147,7 +166,51 @@ impl<A: Allocator + Copy> Configuration<A> {
         Ok(Happened::Damaged)
     }
 
-    /// A transient fault writes one part of the world.
+    /// Whether an edge may join two nodes: they are two, no edge joins them, and there are fewer
+    /// edges than a network has at most.
+    fn may_join(&self, u: u16, v: u16) -> bool
+        requires from_in { u < (world_of self.now).net.nodes }
+        requires to_in { v < (world_of self.now).net.nodes }
+        ensures { result ≡ can_join (world_of self.now).net u v }
+    {
+        u != v && !self.links.are_joined(u, v) && self.links.net().edges().len() < 256
+    }
+
+    /// An edge joins two nodes, with the links of a spare pair.
+    fn join(&mut self, u: u16, v: u16) -> Result<Happened, EventFault>
+        ensures { Answers self.old (Damage (harm.Join u v)) self.new result }
+    {
+        topology::laws::changes();
+        self.find_nodes(u, v)?;
+        if !self.may_join(u, v) {
+            return Err(EventFault::OutOfRange);
+        }
+        if self.links.spares() == 0 {
+            return Err(EventFault::NoSpare);
+        }
+        self.links.join(u, v);
+        rewire(&mut self.nodes, self.links.net(), u);
+        rewire(&mut self.nodes, self.links.net(), v);
+        Ok(Happened::Damaged)
+    }
+
+    /// The edge between two nodes goes, and its links are a spare pair.
+    fn part(&mut self, u: u16, v: u16) -> Result<Happened, EventFault>
+        ensures { Answers self.old (Damage (harm.Part u v)) self.new result }
+    {
+        topology::laws::changes();
+        topology::laws::joined();
+        self.find_link(u, v)?;
+        let _nodes = self.links.net().nodes();
+        if self.links.part(u, v).is_err() {
+            return Err(EventFault::Apart);
+        }
+        rewire(&mut self.nodes, self.links.net(), u);
+        rewire(&mut self.nodes, self.links.net(), v);
+        Ok(Happened::Damaged)
+    }
+
+    /// A transient fault writes one part of the world, or changes one edge.
     pub(super) fn damage(&mut self, harm: &Harm) -> Result<Happened, EventFault>
         ensures { Answers self.old (Damage harm.now) self.new result }
     {
@@ -186,6 +249,8 @@ impl<A: Allocator + Copy> Configuration<A> {
             } => self.write_desk(node, lent, left, served),
             Harm::Item { from, to, item } => self.write_item(from, to, item),
             Harm::Empty { from, to } => self.write_empty(from, to),
+            Harm::Join { node, neighbour } => self.join(node, neighbour),
+            Harm::Part { node, neighbour } => self.part(node, neighbour),
         }
     }
 }

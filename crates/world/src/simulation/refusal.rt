@@ -23,13 +23,16 @@ pub fn fault_name(fault: EventFault) -> &'static str
         EventFault::Full => "Full",
         EventFault::Twice => "Twice",
         EventFault::Stranger => "Stranger",
+        EventFault::NoSpare => "NoSpare",
+        EventFault::Apart => "Apart",
     }
 }
 
 /// Writes `line N: NAME`.
 pub fn write_refusal<W: Sink>(number: u64, name: &str, sink: &mut W) -> Result<(), Failed>
     requires { length name.now ≤ 10 }
-    ensures { WritesAll result (refusal_line number (Some name.now)) (W.taken sink.old) (W.taken sink.new) (W.failures sink.old) (W.failures sink.new) }
+    ensures { WritesAll result (refusal_line number (Some name.now)) (W.taken sink.old)
+        (W.taken sink.new) (W.failures sink.old) (W.failures sink.new) }
 {
     let mut line = Line::new();
     push_number(&mut line, "line ", number);

@@ -1,7 +1,8 @@
 //! The text that shows a world.
 ghost use Rattle.std.specs.Prelude.{◌≡◌, ◌+◌, ◌<◌, ◌≤◌, ◌++◌, codes, decimal, length};
 ghost use Rattle.arrayvec.specs.ArrayString.{array_string_len};
-ghost use Rattle.world.specs.StateText.{node_lines, link_line, links_from, link_lines, counts_line, sweeps_line, state_text};
+ghost use Rattle.world.specs.StateText.{node_lines, link_line, links_from, link_lines, counts_line};
+ghost use Rattle.world.specs.StateText.{sweeps_line, state_text};
 ghost use Rattle.byte_streams.specs.Streams.{WritesAll};
 ghost use Rattle.configuration.specs.ConfigurationView.{world_of};
 
@@ -16,7 +17,8 @@ pub fn write_state<A: Allocator + Copy, W: Sink>(
     sweeps: u64,
     sink: &mut W,
 ) -> Result<(), Failed>
-    ensures { WritesAll result (state_text (world_of configuration.now) sweeps) (W.taken sink.old) (W.taken sink.new) (W.failures sink.old) (W.failures sink.new) }
+    ensures { WritesAll result (state_text (world_of configuration.now) sweeps) (W.taken sink.old)
+        (W.taken sink.new) (W.failures sink.old) (W.failures sink.new) }
 {
     write_nodes(configuration, sink)?;
     write_links(configuration, sink)?;
@@ -29,7 +31,8 @@ fn write_nodes<A: Allocator + Copy, W: Sink>(
     configuration: &Configuration<A>,
     sink: &mut W,
 ) -> Result<(), Failed>
-    ensures { WritesAll result (node_lines (world_of configuration.now)) (W.taken sink.old) (W.taken sink.new) (W.failures sink.old) (W.failures sink.new) }
+    ensures { WritesAll result (node_lines (world_of configuration.now)) (W.taken sink.old)
+        (W.taken sink.new) (W.failures sink.old) (W.failures sink.new) }
 {
     for v in 0..configuration.net().nodes() {
         let mut line = [0; 96];
@@ -44,7 +47,8 @@ fn write_links<A: Allocator + Copy, W: Sink>(
     configuration: &Configuration<A>,
     sink: &mut W,
 ) -> Result<(), Failed>
-    ensures { WritesAll result (link_lines (world_of configuration.now)) (W.taken sink.old) (W.taken sink.new) (W.failures sink.old) (W.failures sink.new) }
+    ensures { WritesAll result (link_lines (world_of configuration.now)) (W.taken sink.old)
+        (W.taken sink.new) (W.failures sink.old) (W.failures sink.new) }
 {
     for from in 0..configuration.net().nodes() {
         write_links_from(configuration, from, sink)?;
@@ -59,7 +63,8 @@ fn write_links_from<A: Allocator + Copy, W: Sink>(
     sink: &mut W,
 ) -> Result<(), Failed>
     requires { from < (world_of configuration.now).net.nodes }
-    ensures { WritesAll result (links_from (world_of configuration.now) from) (W.taken sink.old) (W.taken sink.new) (W.failures sink.old) (W.failures sink.new) }
+    ensures { WritesAll result (links_from (world_of configuration.now) from) (W.taken sink.old)
+        (W.taken sink.new) (W.failures sink.old) (W.failures sink.new) }
 {
     topology::laws::neighbours();
     for to in configuration.net().neighbours(from) {
@@ -77,7 +82,8 @@ fn write_link<A: Allocator + Copy, W: Sink>(
 ) -> Result<(), Failed>
     requires from_in { from < (world_of configuration.now).net.nodes }
     requires to_in { to < (world_of configuration.now).net.nodes }
-    ensures { WritesAll result (link_line (world_of configuration.now) from to) (W.taken sink.old) (W.taken sink.new) (W.failures sink.old) (W.failures sink.new) }
+    ensures { WritesAll result (link_line (world_of configuration.now) from to) (W.taken sink.old)
+        (W.taken sink.new) (W.failures sink.old) (W.failures sink.new) }
 {
     let mut line = Line::new();
     push_number(&mut line, "link ", u64::from(from));
@@ -96,7 +102,8 @@ fn write_counts<A: Allocator + Copy, W: Sink>(
     configuration: &Configuration<A>,
     sink: &mut W,
 ) -> Result<(), Failed>
-    ensures { WritesAll result (counts_line (world_of configuration.now)) (W.taken sink.old) (W.taken sink.new) (W.failures sink.old) (W.failures sink.new) }
+    ensures { WritesAll result (counts_line (world_of configuration.now)) (W.taken sink.old)
+        (W.taken sink.new) (W.failures sink.old) (W.failures sink.new) }
 {
     let mut line = Line::new();
     push_number(&mut line, "privileged ", configuration.privileged() as u64);
@@ -111,7 +118,8 @@ fn write_sweeps<A: Allocator + Copy, W: Sink>(
     sweeps: u64,
     sink: &mut W,
 ) -> Result<(), Failed>
-    ensures { WritesAll result (sweeps_line (world_of configuration.now) sweeps) (W.taken sink.old) (W.taken sink.new) (W.failures sink.old) (W.failures sink.new) }
+    ensures { WritesAll result (sweeps_line (world_of configuration.now) sweeps) (W.taken sink.old)
+        (W.taken sink.new) (W.failures sink.old) (W.failures sink.new) }
 {
     let mut line = Line::new();
     push_number(&mut line, "sweeps ", sweeps);

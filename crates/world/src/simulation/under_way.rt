@@ -1,10 +1,12 @@
 //! A simulation that is under way.
-ghost use Rattle.std.specs.Prelude.{◌≡◌, ◌+◌, ◌-◌, ◌^◌, ◌<◌, ◌≤◌, ℕ, List, [], Option, OnOk, IfErr, IfSome, option_map, length};
+ghost use Rattle.std.specs.Prelude.{◌≡◌, ◌+◌, ◌-◌, ◌^◌, ◌<◌, ◌≤◌, ℕ, List, [], Option, OnOk, IfErr};
+ghost use Rattle.std.specs.Prelude.{IfSome, option_map, length};
 ghost use Rattle.world.specs.Simulating.{longest_text, HasCause};
 ghost use Rattle.byte_streams.specs.Streams.{CountsFailures};
 ghost use Rattle.world.specs.declared.simulation.SimFault.TheVariants.{Write};
 ghost use Rattle.world.specs.SimulatedText.{line_refusal};
-ghost use Rattle.world.specs.UnderWay.{HasSeenLine, IsUnderWay, RunsNext, RunsLast, TakesNext, ReadsAll, EndsThere};
+ghost use Rattle.world.specs.UnderWay.{HasSeenLine, IsUnderWay, RunsNext, RunsLast, TakesNext};
+ghost use Rattle.world.specs.UnderWay.{ReadsAll, EndsThere};
 ghost use Rattle.configuration.specs.ConfigurationView.{world_of};
 
 use super::refusal::{UNREAD, fault_name, write_refusal};
@@ -32,7 +34,12 @@ impl<A: Allocator + Copy> Model for Simulation<A> {
 
     ghost Value = { SimulationView };
 
-    ghost view = { λ s. record { judge = s.judge; reader = s.reader; lines = s.lines; refused = s.refused } };
+    ghost view = { λ s. record {
+      judge = s.judge;
+      reader = s.reader;
+      lines = s.lines;
+      refused = s.refused;
+    } };
 }
 
 impl<A: Allocator + Copy> Simulation<A> {
@@ -58,8 +65,10 @@ impl<A: Allocator + Copy> Simulation<A> {
     ) -> Result<(), SimFault>
         requires { self.old.lines ≡ 0 }
         ensures lines { OnOk result (self.new.lines ≤ longest_text) }
-        ensures text { ReadsAll self.old (R.rest source.old) (W.taken sink.old) result self.new (R.rest source.new) (W.taken sink.new) }
-        ensures cause { HasCause result (R.failures source.old) (R.failures source.new) (W.failures sink.old) (W.failures sink.new) }
+        ensures text { ReadsAll self.old (R.rest source.old) (W.taken sink.old) result self.new
+            (R.rest source.new) (W.taken sink.new) }
+        ensures cause { HasCause result (R.failures source.old) (R.failures source.new)
+            (W.failures sink.old) (W.failures sink.new) }
         ensures source { R.failures source.old ≤ R.failures source.new }
         ensures sink { W.failures sink.old ≤ W.failures sink.new }
     {
@@ -119,7 +128,8 @@ impl<A: Allocator + Copy> Simulation<A> {
     fn take<W: Sink>(&mut self, piece: &[u8], sink: &mut W) -> Result<(), Failed>
         requires { self.old.lines + length piece.now < 2 ^ 64 }
         ensures lines { self.new.lines ≤ self.old.lines + length piece.now }
-        ensures text { TakesNext self.old (W.taken sink.old) piece.now result self.new (W.taken sink.new) }
+        ensures text { TakesNext self.old (W.taken sink.old) piece.now result self.new
+            (W.taken sink.new) }
         ensures failures { CountsFailures result (W.failures sink.old) (W.failures sink.new) }
     {
         let mut at = 0;
@@ -139,7 +149,8 @@ impl<A: Allocator + Copy> Simulation<A> {
         requires { self.old.lines < 2 ^ 64 - 1 }
         ensures lines { self.new.lines ≡ self.old.lines + 1 }
         ensures reader { self.new.reader ≡ self.old.reader }
-        ensures runs { RunsNext self.old (W.taken sink.old) line result self.new (W.taken sink.new) }
+        ensures runs { RunsNext self.old (W.taken sink.old) line result self.new
+            (W.taken sink.new) }
         ensures failures { CountsFailures result (W.failures sink.old) (W.failures sink.new) }
     {
         self.lines += 1;

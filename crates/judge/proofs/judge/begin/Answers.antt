@@ -18,7 +18,7 @@ returns-clause-kept g c =
     let same = c.edges-edges.ensures ∙ ap (λ n. n.edges) c.net-2.ensures in
     let all = take_all c.loop-edge.edge-index c.edges-edges.result.now c.loop-edge-test.false ∙ same in
     begun-kept c.below.ensures w c.loop-edge.stretch (subst (λ es. AreBegun w es c.loop-edge.stretch) all c.loop-edge.invariant)
-    (λ u v joined. c.below.ensures.joined_nodes w.net u v (rw c.net.ensures at c.nodes-nodes.ensures.network) joined)
+    (λ u v joined. c.below.ensures.joined_nodes w.net u v (rw c.net.ensures at c.nodes-known_nodes.ensures.network) joined)
 
 pub begin_link-requires-clause-placed : goal.begin_link-requires-clause-placed
 begin_link-requires-clause-placed g c =

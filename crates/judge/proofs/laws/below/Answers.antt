@@ -22,4 +22,5 @@ returns c = record {
   leads = c.moments.ensures.leads;
   moment_stays = c.moments.ensures.stays;
   moment_moves = c.moments.ensures.moves;
+  visits = c.moments.ensures.visits;
 }

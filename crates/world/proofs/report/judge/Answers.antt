@@ -1,4 +1,4 @@
-use Rattle.std.proofs.Common.{◌≡◌, ◌∙◌, ◌≤◌, ◌+◌, ◌-◌, ◌*◌, ℕ, sym, subst, take}
+use Rattle.std.proofs.Common.{◌≡◌, ◌∙◌, ◌≤◌, ◌+◌, ◌-◌, ◌*◌, ℕ, ap, sym, subst, take}
 use Rattle.std.proofs.lemmas.List.{take_more, take_all}
 use Rattle.topology.specs.Network.{Network, bound_of}
 use Rattle.topology.specs.Eccentricity.{sharp_of}
@@ -12,6 +12,9 @@ use Rattle.token_ring.specs.Legitimate.{IsLegitimate}
 use Rattle.configuration.specs.ConfigurationView.{world_of}
 use Rattle.judge.specs.JudgeView.{HasSeen}
 use Rattle.judge.specs.Judging.{counted_up_to}
+use Rattle.run_model.specs.Run.{run}
+use Rattle.judge.specs.Visited.{AreVisited}
+use Rattle.world.proofs.Visits.{from-legitimate, from-each_state, from-each_bound}
 use Rattle.world.proofs.Headline.{LeadsTo, closed, fresh, led, moved, reached}
 use Rattle.world.proofs.report.judge.Given as given
 use Rattle.world.proofs.report.judge.Goals as goal
@@ -32,6 +35,12 @@ module _ (g : given.Over) (c : goal.After-into_world g) where
   after : (needed : Network → ℕ) (P : World → Type 0) → LeadsTo needed P → needed (world_of c.into_world.result).net ≤ c.sweeps-sweeps.result → P (world_of c.into_world.result)
   after = reached c.runs.ensures.network c.moments.ensures.leads (world_of c.args.start) c.args.events.now c.loop-event.judge seen-all c.into_world.result c.into_world.ensures
       c.sweep_numbers.ensures.fewer c.sweeps-sweeps.result counted.0 counted.1 counted.2
+
+  mask-is : AreVisited (world_of c.args.start) c.args.events.now c.visited-visited.result
+  mask-is = c.visited-visited.ensures.visited (world_of c.args.start) c.args.events.now seen-all
+
+  end-net : (world_of c.into_world.result).net ≡ (run (world_of c.args.start) c.args.events.now).net
+  end-net = ap (λ w. w.net) (sym (led c.runs.ensures.network c.moments.ensures.leads (world_of c.args.start) c.args.events.now c.loop-event.judge seen-all c.into_world.result c.into_world.ensures))
 
 pub returns-clause-world : goal.returns-clause-world
 returns-clause-world g c = sym (led c.runs.ensures.network c.moments.ensures.leads _ _ _ (seen-all g c) _ c.into_world.ensures)
@@ -68,10 +77,34 @@ returns-clause-serving g c = after g c bound_of IsServing c.converge.ensures.hea
 pub returns-clause-closure : goal.returns-clause-closure
 returns-clause-closure g c =
     let law = c.closure.ensures in
-    closed c.runs.ensures.undamaged_splits c.in_range.ensures law.stays law.serves _ _ (seen-all g c).in_range
+    closed c.runs.ensures.undamaged_splits c.in_range.ensures law.stays law.serves _ _ (seen-all g c).judging.in_range
 
 pub returns-clause-sharp_legitimate : goal.returns-clause-sharp_legitimate
 returns-clause-sharp_legitimate g c = after g c sharp_of IsLegitimate c.sharp.ensures.world
 
 pub returns-clause-sharp_serving : goal.returns-clause-sharp_serving
 returns-clause-sharp_serving g c = after g c sharp_of IsServing c.sharp.ensures.headline
+
+pub returns-clause-visited : goal.returns-clause-visited
+returns-clause-visited g c = mask-is g c
+
+pub returns-clause-visits : goal.returns-clause-visits
+returns-clause-visits g c =
+    let n = counted g c in
+    from-legitimate c.sweep_numbers.ensures.fewer c.runs.ensures.network c.runs.ensures.frame c.moments.ensures.leads (world_of c.args.start) c.args.events.now
+    (seen-all g c).judging.in_range
+    c.sweeps-sweeps.result n.0 n.1 n.2 c.visited-visited.result (mask-is g c) c.service.ensures.legitimate
+
+pub returns-clause-sharp_visits : goal.returns-clause-sharp_visits
+returns-clause-sharp_visits g c =
+    let n = counted g c in
+    from-each_state c.sweep_numbers.ensures.fewer c.runs.ensures.network c.runs.ensures.frame c.moments.ensures.leads (world_of c.args.start) c.args.events.now
+    (seen-all g c).judging.in_range
+    c.sweeps-sweeps.result n.0 n.1 n.2 c.visited-visited.result (mask-is g c) c.service.ensures.each_state _ (end-net g c)
+
+pub returns-clause-each_state_visits : goal.returns-clause-each_state_visits
+returns-clause-each_state_visits g c =
+    let n = counted g c in
+    from-each_bound c.sweep_numbers.ensures.fewer c.runs.ensures.network c.runs.ensures.frame c.moments.ensures.leads (world_of c.args.start) c.args.events.now
+    (seen-all g c).judging.in_range
+    c.sweeps-sweeps.result n.0 n.1 n.2 c.visited-visited.result (mask-is g c) c.service.ensures.each_state _ (end-net g c) c.eccentricity.ensures.sharp

@@ -1,11 +1,11 @@
-use Rattle.run_model.specs.Start.{default_world}
+use Rattle.world.specs.SimulatedText.{simulated_start}
 use Rattle.world.proofs.SimulatedEnd.{fault_is, not_read, all_was_read, has_cause, higher_then}
 use Rattle.world.proofs.simulation.simulate.Goals as goal
 
 pub returns-in_err-read_all-clause-text : goal.returns-in_err-read_all-clause-text
 returns-in_err-read_all-clause-text g c =
     λ bytes told.
-    let start = default_world c.args.net.now in
+    let start = simulated_start c.args.net.now in
     let fault = c.in_err-read_all.field-0.0 in
     let before = g.W.Sink.taken c.args.sink.now in
     let begun = rw c.in_ok-world.ensures at (c.new-simulation.ensures.under_way before) in
@@ -15,7 +15,7 @@ returns-in_err-read_all-clause-text g c =
 pub returns-clause-text : goal.returns-clause-text
 returns-clause-text g c =
     λ bytes told.
-    let start = default_world c.args.net.now in
+    let start = simulated_start c.args.net.now in
     let before = g.W.Sink.taken c.args.sink.now in
     let begun = rw c.in_ok-world.ensures at (c.new-simulation.ensures.under_way before) in
     let read = c.in_ok-read_all.ensures.text start bytes before told begun in

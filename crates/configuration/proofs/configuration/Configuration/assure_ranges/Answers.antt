@@ -8,7 +8,7 @@ loop-v-preserved g c =
     let w : ConfigurationView = record { nodes = c.self.inside.nodes.items; links = c.self.inside.links } in
     let within : c.loop-v.v < w.links.net.nodes = omega (arith, c.loop-v-test.true, c.nodes-nodes.ensures.nodes, ap (λ n. n.nodes) c.net.ensures.net) in
     let is : c.index.result.now ≡ node_at w.nodes c.loop-v.v = read-node w.links.net w.nodes c.loop-v.v c.from.result c.index.result.now c.self.invariant within c.from.ensures c.index.ensures in
-    rw (← c.self.view_is) (next-in_range w c.loop-v.v c.index.result.now c.self.invariant within is c.ranges-ranges.ensures.in_range (rw (← c.self.view_is) at c.loop-v.invariant))
+    rw (← c.self.view_is) (next-in_range w c.loop-v.v c.index.result.now c.self.invariant within is c.ranges-known_ranges.ensures.in_range (rw (← c.self.view_is) at c.loop-v.invariant))
 
 pub returns : goal.returns
 returns g c =

@@ -12,7 +12,7 @@ returns-in-Err g c =
     let ok = rw (← c.self.view_is) at c.in_ok-find_link.ensures.ok in
     let some : refusal (world_of w) (Lose c.args.from c.args.to c.args.item) ≡ Some NoItem =
     lose-past w c.args.from c.args.to ok.3 c.in-Err.field-0 c.args.item (rw c.from.ensures at c.in-Err.ensures.variant) in
-    rw (← c.self.view_is) (links-refused w c.args.from c.args.to ok.3 c.lose.new.self (Lose c.args.from c.args.to c.args.item) NoItem some c.lose.ensures.net c.in-Err.ensures.no_item)
+    rw (← c.self.view_is) (links-refused w c.args.from c.args.to ok.3 c.lose.new.self (Lose c.args.from c.args.to c.args.item) NoItem some (record { net = c.lose.ensures.net; spares = c.lose.ensures.spares }) c.in-Err.ensures.no_item)
 
 pub returns : goal.returns
 returns g c =
@@ -20,4 +20,4 @@ returns g c =
     let ok = rw (← c.self.view_is) at c.in_ok-find_link.ensures.ok in
     let none : refusal (world_of w) (Lose c.args.from c.args.to c.args.item) ≡ None =
     lose-there w c.args.from c.args.to ok.3 c.lose.result c.args.item (rw c.from.ensures at c.lose.ensures.variant) (let e = c.in_default.is in search (rules, e)) in
-    rw (← c.self.view_is) (lose-answers w c.args.from c.args.to ok.3 c.lose.new.self c.args.item none c.lose.ensures.net (rw c.from.ensures at c.in_default.ensures.ok))
+    rw (← c.self.view_is) (lose-answers w c.args.from c.args.to ok.3 c.lose.new.self c.args.item none (record { net = c.lose.ensures.net; spares = c.lose.ensures.spares }) (rw c.from.ensures at c.in_default.ensures.ok))

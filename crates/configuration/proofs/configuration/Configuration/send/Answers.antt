@@ -30,4 +30,4 @@ returns g c =
     record { nodes_are = c.self.invariant; in_net = ok.0; place = c.from.ensures; value = c.index.ensures } in
     let frame : c.frame_for-frame.result ≡ frame_of ((states_of w.links.net w.nodes c.args.from).port c.args.to) =
     c.frame_for-frame.ensures.frame ∙ ap (λ s. frame_of (s.port c.args.to)) (sym (state-is w.links.net w.nodes c.args.from c.from.result c.index.result.now h)) in
-    rw (← c.self.view_is) (send-answers w c.put.new.self c.args.from c.args.to ok.3 c.put.ensures.net (rw (← frame) c.put.ensures.put))
+    rw (← c.self.view_is) (send-answers w c.put.new.self c.args.from c.args.to ok.3 (record { net = c.put.ensures.net; spares = c.put.ensures.spares }) (rw (← frame) c.put.ensures.put))

@@ -25,10 +25,10 @@ returns-in-Some g c =
     let ok = rw (← c.self.view_is) at c.in_ok-find_link.ensures.ok in
     let h = found-there w.links.net w.nodes c.args.to c.from.result c.index_mut.result.now c.self.invariant (c.from.ensures, ok.1, ok.2) c.index_mut.ensures.value in
     rw (← c.self.view_is) (take-some w c.args.from c.args.to ok.3 c.from.result c.index_mut.result.now c.take-in-Some.new.self c.take.new.self c.in-Some.item h
-    c.take.ensures.net c.in-Some.ensures.taken c.take.ensures.rest c.take-in-Some.ensures.state)
+    (record { net = c.take.ensures.net; spares = c.take.ensures.spares }) c.in-Some.ensures.taken c.take.ensures.rest c.take-in-Some.ensures.state)
 
 pub returns-in-None : goal.returns-in-None
 returns-in-None g c =
     let w : ConfigurationView = record { nodes = c.self.inside.nodes.items; links = c.self.inside.links } in
     let ok = rw (← c.self.view_is) at c.in_ok-find_link.ensures.ok in
-    rw (← c.self.view_is) (take-none w c.args.from c.args.to ok.3 c.take.new.self c.take.ensures.net c.in-None.ensures.taken c.take.ensures.rest)
+    rw (← c.self.view_is) (take-none w c.args.from c.args.to ok.3 c.take.new.self (record { net = c.take.ensures.net; spares = c.take.ensures.spares }) c.in-None.ensures.taken c.take.ensures.rest)

@@ -44,5 +44,5 @@ invariant_of-self g c = now-nodes _ _ _ _ _ (here g c) c.set_copy.new.self c.set
 pub returns : goal.returns
 returns g c =
     rw (← c.self.view_is) (harm-answers (old g c) _ _ _ _ (written g c) (λ s. with_port s c.args.neighbour (record (s.port c.args.neighbour) { copy = c.args.payload }))
-    c.set_copy.result c.damaged.result (here g c) (found g c) (fits g c) refl c.set_copy.ensures.ok c.set_copy.ensures.out_of_range
+    c.set_copy.result c.damaged.result (here g c) (found g c) refl (fits g c) refl c.set_copy.ensures.ok c.set_copy.ensures.out_of_range
     c.damaged.ensures.ok c.damaged.ensures.did c.damaged.ensures.err)

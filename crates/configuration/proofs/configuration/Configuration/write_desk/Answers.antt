@@ -37,5 +37,5 @@ invariant_of-self g c = now-nodes _ _ _ _ _ (here g c) c.set_desk.new.self c.set
 pub returns : goal.returns
 returns g c =
     rw (← c.self.view_is) (harm-answers (old g c) _ _ _ _ (written g c) (λ s. record s { desk = with_loan s.desk c.args.lent c.args.left c.args.served })
-    c.set_desk.result c.damaged.result (here g c) (found g c) (fits g c) refl c.set_desk.ensures.ok c.set_desk.ensures.out_of_range
+    c.set_desk.result c.damaged.result (here g c) (found g c) refl (fits g c) refl c.set_desk.ensures.ok c.set_desk.ensures.out_of_range
     c.damaged.ensures.ok c.damaged.ensures.did c.damaged.ensures.err)

@@ -18,4 +18,4 @@ returns g c =
     let ok = rw (← c.self.view_is) at c.in_ok-find_link.ensures.ok in
     let seen : IsTrue (harm_fits (world_of c.args.self.now) (harm.Item c.args.from c.args.to c.args.item)) = sym c.may_put.ensures ∙ c.if-not-may_put.false in
     let fits : IsTrue (harm_fits (world_of w) (harm.Item c.args.from c.args.to c.args.item)) = rw (← c.self.view_is) at seen in
-    rw (← c.self.view_is) (item-answers w c.args.from c.args.to c.args.item fits c.put.new.self ok.3 c.put.ensures.net c.put.ensures.put)
+    rw (← c.self.view_is) (item-answers w c.args.from c.args.to c.args.item fits c.put.new.self ok.3 (record { net = c.put.ensures.net; spares = c.put.ensures.spares }) c.put.ensures.put)

@@ -34,5 +34,5 @@ invariant_of-self g c = now-nodes _ _ _ _ _ (here g c) c.set_own.new.self c.set_
 pub returns : goal.returns
 returns g c =
     rw (← c.self.view_is) (harm-answers (old g c) _ _ _ _ (written g c) (λ s. record s { distance = c.args.distance; parent = c.args.parent })
-    c.set_own.result c.damaged.result (here g c) (found g c) (fits g c) refl c.set_own.ensures.ok c.set_own.ensures.out_of_range
+    c.set_own.result c.damaged.result (here g c) (found g c) refl (fits g c) refl c.set_own.ensures.ok c.set_own.ensures.out_of_range
     c.damaged.ensures.ok c.damaged.ensures.did c.damaged.ensures.err)

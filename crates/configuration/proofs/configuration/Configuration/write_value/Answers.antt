@@ -43,5 +43,5 @@ invariant_of-self g c = now-nodes _ _ _ _ _ (here g c) c.set_value.new.self c.se
 pub returns : goal.returns
 returns g c =
     rw (← c.self.view_is) (harm-answers (old g c) _ _ _ _ (written g c) (λ s. record s { value = at s.value c.args.neighbour c.args.value })
-    c.set_value.result c.damaged.result (here g c) (found g c) (fits g c) refl c.set_value.ensures.ok c.set_value.ensures.out_of_range
+    c.set_value.result c.damaged.result (here g c) (found g c) refl (fits g c) refl c.set_value.ensures.ok c.set_value.ensures.out_of_range
     c.damaged.ensures.ok c.damaged.ensures.did c.damaged.ensures.err)

@@ -2,33 +2,52 @@ use Rattle.std.proofs.Common.{◌≡◌, ◌∙◌, ap, sym, subst, IsTrue, [], 
 use Rattle.topology.specs.Network.{IsAcceptedNetwork, are_joined}
 use Rattle.configuration.specs.ConfigurationView.{world_of}
 use Rattle.judge.specs.Stretch.{IsRoomFor, names_below, names_place}
-use Rattle.judge.proofs.JudgeSteps.{names, placed, same-network, accepted-damage, no-damage, refused-step, damage-step, other-step, sweep-step, sweep-ends, few-looks, room-cleared, room-empty, room-noted, undamaged-one}
+use Rattle.judge.proofs.JudgeSteps.{names, names-behind, placed, accepted-damage, no-damage, refused-step, damage-step, other-step, sweep-step, sweep-ends, few-looks, room-cleared, room-empty, room-noted, undamaged-one}
+use Rattle.judge.proofs.Visits.{visited-refused, visited-damage, visited-goes_on}
 use Rattle.judge.proofs.judge.Judge.step.Goals as goal
 
 pub returns-in-Err-clause-judging : goal.returns-in-Err-clause-judging
-returns-in-Err-clause-judging g c = rw (← c.self.view_is) (λ start es seen.
-    refused-step c.below.ensures start es c.args.event.now (world_of c.self.inside.configuration) (world_of c.step.new.self) c.self.inside.stretch c.clear_looked.new.self
-    c.self.inside.sweeps c.self.inside.refused c.step.ensures.world c.clear_looked.ensures seen c.in-Err.fault c.saturating_add-self-inside.result c.in-Err.ensures.err
-    c.saturating_add-self-inside.ensures)
+returns-in-Err-clause-judging g c = rw (← c.self.view_is) (λ start es seen. record {
+  judging = refused-step c.below.ensures start es c.args.event.now (world_of c.self.inside.configuration) (world_of c.step.new.self) c.self.inside.stretch
+      c.clear_looked.new.self c.self.inside.sweeps c.self.inside.refused c.step.ensures.world c.clear_looked.ensures seen.judging c.in-Err.fault
+      c.saturating_add-self-inside.result c.in-Err.ensures.err c.saturating_add-self-inside.ensures;
+  visited = visited-refused c.below.ensures start es c.args.event.now (world_of c.self.inside.configuration) (world_of c.step.new.self) c.step.ensures.world
+      seen.judging.in_range seen.judging.now_is c.self.inside.visited seen.visited (rw c.in-Err.ensures.err refl);
+})
 
 pub returns-in-Damaged-clause-judging : goal.returns-in-Damaged-clause-judging
-returns-in-Damaged-clause-judging g c = rw (← c.self.view_is) (λ start es seen.
-    damage-step c.below.ensures start es c.args.event.now (world_of c.self.inside.configuration) (world_of c.step.new.self) c.self.inside.stretch c.clear_looked.new.self
-    c.self.inside.sweeps c.self.inside.refused c.step.ensures.world c.clear_looked.ensures seen c.begin.new.stretch c.in-Ok.ensures.ok
-    (accepted-damage (world_of c.self.inside.configuration) c.args.event.now (sym c.in-Ok.ensures.did ∙ c.in-Damaged.is) c.in-Ok.ensures.ok) c.begin.ensures.kept)
+returns-in-Damaged-clause-judging g c =
+    let damage = accepted-damage (world_of c.self.inside.configuration) c.args.event.now (sym c.in-Ok.ensures.did ∙ c.in-Damaged.is) c.in-Ok.ensures.ok in
+    rw (← c.self.view_is) (λ start es seen. record {
+      judging = damage-step c.below.ensures start es c.args.event.now (world_of c.self.inside.configuration) (world_of c.step.new.self) c.self.inside.stretch
+          c.clear_looked.new.self c.self.inside.sweeps c.self.inside.refused c.step.ensures.world c.clear_looked.ensures seen.judging c.begin.new.stretch
+          c.in-Ok.ensures.ok damage c.begin.ensures.kept;
+      visited = visited-damage c.below.ensures start es c.args.event.now (world_of c.self.inside.configuration) (world_of c.step.new.self) c.step.ensures.world
+          seen.judging.in_range seen.judging.now_is c.privileged_nodes-self-inside.result damage c.privileged_nodes-self-inside.ensures;
+    })
+
+pub visited_behind-self-inside-requires : goal.visited_behind-self-inside-requires
+visited_behind-self-inside-requires g c =
+    names-behind c.below.ensures (world_of c.self.inside.configuration) (world_of c.step.new.self) c.args.event.now c.in-Ok.happened c.step.ensures.world
+    c.in-Ok.ensures.did c.in-Ok.ensures.ok
 
 pub begin-requires : goal.begin-requires
 begin-requires g c =
+    let net = c.net-in-Damaged.ensures in
+    room-empty (world_of c.step.new.self).net c.lay.new.self (c.lay.ensures.nodes ∙ ap (λ n. n.nodes) net)
+    (λ u v joined. c.lay.ensures.placed u v (subst (λ n. IsTrue (are_joined n.edges u v)) (sym net) joined)) c.lay.ensures.empty
+
+-- an event leaves the number of nodes, whatever edges join or go
+pub lay-requires : goal.lay-requires
+lay-requires g c =
     let now = world_of c.self.inside.configuration in
-    let net : (world_of c.step.new.self).net ≡ now.net = ap (λ w. w.net) c.step.ensures.world ∙ same-network now c.args.event.now in
-    let table : c.clear.new.self.tallies.table ≡ c.self.inside.stretch.tallies.table = c.clear.ensures.table ∙ ap (λ s. s.tallies.table) c.clear_looked.ensures in
-    room-empty (world_of c.step.new.self).net c.clear.new.self (ap (λ t. t.nodes) table ∙ c.self.invariant.nodes ∙ sym (ap (λ n. n.nodes) net))
-    (λ u v joined. rw table (c.self.invariant.placed u v (subst (λ n. IsTrue (are_joined n.edges u v)) net joined))) c.clear.ensures.empty
+    let frame = c.below.ensures.frame now (c.args.event.now ∷ []) in
+    ap (λ s. s.tallies.table.nodes) c.clear_looked.ensures ∙ c.self.invariant.nodes ∙ sym frame.nodes ∙ sym (ap (λ w. w.net.nodes) c.step.ensures.world) ∙ sym (ap (λ n. n.nodes) c.net-in-Damaged.ensures)
 
 pub note-requires : goal.note-requires
 note-requires g c =
     let w = world_of c.self.inside.configuration in
-    let ok : IsAcceptedNetwork w.net = rw c.net.ensures at c.nodes-nodes.ensures.network in
+    let ok : IsAcceptedNetwork w.net = rw c.net.ensures at c.nodes-known_nodes.ensures.network in
     let limits = c.below.ensures.limits w.net ok in
     let same : c.clear_looked.new.self.tallies.table.nodes ≡ w.net.nodes = ap (λ s. s.tallies.table.nodes) c.clear_looked.ensures ∙ c.self.invariant.nodes in
     let room = room-cleared w.net c.self.inside.stretch c.clear_looked.new.self c.clear_looked.ensures c.self.invariant in
@@ -45,16 +64,20 @@ returns-then-is_complete g c = record {
   world = rw (← c.self.view_is) c.step.ensures.world;
   ok = rw (← c.self.view_is) c.in-Ok.ensures.ok;
   err = tt;
-  judging = rw (← c.self.view_is) (λ start es seen.
-      sweep-step c.below.ensures start es c.args.event.now (world_of c.self.inside.configuration) (world_of c.step.new.self) c.self.inside.stretch c.clear_looked.new.self
-      c.self.inside.sweeps c.self.inside.refused c.step.ensures.world c.clear_looked.ensures seen c.in-Ok.ensures.ok
-      (no-damage (world_of c.self.inside.configuration) c.args.event.now (λ damaged. c.in_default.not-Damaged (c.in-Ok.ensures.did ∙ damaged)))
-      c.note.new.self c.in-Ok.happened c.in-Ok.ensures.did (ap (λ t. t.nodes) c.note.ensures.table) c.note.ensures.lacking c.note.ensures.tallies
-      c.begin-then-is_complete.new.stretch c.saturating_add-self-inside-then-is_complete.result (c.if-is_complete.ensures.0 refl) c.begin-then-is_complete.ensures.kept
-      c.saturating_add-self-inside-then-is_complete.ensures);
+  judging = rw (← c.self.view_is) (λ start es seen. record {
+    judging = sweep-step c.below.ensures start es c.args.event.now (world_of c.self.inside.configuration) (world_of c.step.new.self) c.self.inside.stretch c.clear_looked.new.self
+        c.self.inside.sweeps c.self.inside.refused c.step.ensures.world c.clear_looked.ensures seen.judging c.in-Ok.ensures.ok
+        (no-damage (world_of c.self.inside.configuration) c.args.event.now (λ damaged. c.in_default.not-Damaged (c.in-Ok.ensures.did ∙ damaged)))
+        c.note.new.self c.in-Ok.happened c.in-Ok.ensures.did (ap (λ t. t.nodes) c.note.ensures.table) c.note.ensures.lacking c.note.ensures.tallies
+        c.begin-then-is_complete.new.stretch c.saturating_add-self-inside-then-is_complete.result (c.if-is_complete.ensures.0 refl) c.begin-then-is_complete.ensures.kept
+        c.saturating_add-self-inside-then-is_complete.ensures;
+    visited = visited-goes_on c.below.ensures start es c.args.event.now (world_of c.self.inside.configuration) (world_of c.step.new.self) c.step.ensures.world
+        seen.judging.in_range seen.judging.now_is c.self.inside.visited seen.visited c.visited_behind-self-inside.result c.in-Ok.happened c.in-Ok.ensures.ok
+        c.in-Ok.ensures.did c.in_default.not-Damaged c.visited_behind-self-inside.ensures;
+  });
   looked = rw (← c.self.view_is) (inr (inr (λ start es seen.
       sweep-ends c.below.ensures start es c.args.event.now (world_of c.self.inside.configuration) (world_of c.step.new.self) c.self.inside.stretch c.clear_looked.new.self
-      c.self.inside.sweeps c.self.inside.refused c.step.ensures.world c.clear_looked.ensures seen c.in-Ok.ensures.ok
+      c.self.inside.sweeps c.self.inside.refused c.step.ensures.world c.clear_looked.ensures seen.judging c.in-Ok.ensures.ok
       (no-damage (world_of c.self.inside.configuration) c.args.event.now (λ damaged. c.in_default.not-Damaged (c.in-Ok.ensures.did ∙ damaged)))
       c.note.new.self c.in-Ok.happened c.in-Ok.ensures.did (ap (λ t. t.nodes) c.note.ensures.table) c.note.ensures.lacking c.note.ensures.tallies (c.if-is_complete.ensures.0 refl))));
 }
@@ -64,12 +87,16 @@ returns-else-is_complete g c = record {
   world = rw (← c.self.view_is) c.step.ensures.world;
   ok = rw (← c.self.view_is) c.in-Ok.ensures.ok;
   err = tt;
-  judging = rw (← c.self.view_is) (λ start es seen.
-      other-step c.below.ensures start es c.args.event.now (world_of c.self.inside.configuration) (world_of c.step.new.self) c.self.inside.stretch c.clear_looked.new.self
-      c.self.inside.sweeps c.self.inside.refused c.step.ensures.world c.clear_looked.ensures seen c.in-Ok.ensures.ok
-      (no-damage (world_of c.self.inside.configuration) c.args.event.now (λ damaged. c.in_default.not-Damaged (c.in-Ok.ensures.did ∙ damaged)))
-      c.note.new.self c.in-Ok.happened c.in-Ok.ensures.did (ap (λ t. t.nodes) c.note.ensures.table) c.note.ensures.lacking c.note.ensures.tallies
-      (λ complete. let wrong = c.if-is_complete.ensures.1 complete in absurd cc));
+  judging = rw (← c.self.view_is) (λ start es seen. record {
+    judging = other-step c.below.ensures start es c.args.event.now (world_of c.self.inside.configuration) (world_of c.step.new.self) c.self.inside.stretch c.clear_looked.new.self
+        c.self.inside.sweeps c.self.inside.refused c.step.ensures.world c.clear_looked.ensures seen.judging c.in-Ok.ensures.ok
+        (no-damage (world_of c.self.inside.configuration) c.args.event.now (λ damaged. c.in_default.not-Damaged (c.in-Ok.ensures.did ∙ damaged)))
+        c.note.new.self c.in-Ok.happened c.in-Ok.ensures.did (ap (λ t. t.nodes) c.note.ensures.table) c.note.ensures.lacking c.note.ensures.tallies
+        (λ complete. let wrong = c.if-is_complete.ensures.1 complete in absurd cc);
+    visited = visited-goes_on c.below.ensures start es c.args.event.now (world_of c.self.inside.configuration) (world_of c.step.new.self) c.step.ensures.world
+        seen.judging.in_range seen.judging.now_is c.self.inside.visited seen.visited c.visited_behind-self-inside.result c.in-Ok.happened c.in-Ok.ensures.ok
+        c.in-Ok.ensures.did c.in_default.not-Damaged c.visited_behind-self-inside.ensures;
+  });
   looked = inl (few-looks c.self.inside.stretch c.clear_looked.new.self c.note.new.self c.clear_looked.ensures c.note.ensures.looked);
 }
 

@@ -29,6 +29,7 @@ invariant_of-self-2 g c =
     record {
       inside = λ u v vn. rw (length-set c.self.inside.places.items c.place-place.result c.args.tally) (c.self.invariant.inside u v vn);
       apart = c.self.invariant.apart;
+      all = length-set c.self.inside.places.items c.place-place.result c.args.tally ∙ c.self.invariant.all;
       own = rw place (own-set t c.self.inside.unrenewed c.self.invariant c.args.from c.args.to c.args.tally from_in to_in placed);
       few = omega (arith, counts, c.missing.ensures, c.missing-2.ensures);
     }

@@ -1,10 +1,8 @@
-use Rattle.std.proofs.Common.{◌∙◌, ap, sym, subst}
+use Rattle.std.proofs.Common.{◌∙◌, [], ◌∷◌, ap, sym}
 use Rattle.configuration.specs.ConfigurationView.{world_of}
-use Rattle.judge.specs.Stretch.{IsRoomFor}
-use Rattle.judge.proofs.JudgeSteps.{same-network}
 use Rattle.judge.proofs.world.World.step.Goals as goal
 
 pub invariant_of-self-2 : goal.invariant_of-self-2
 invariant_of-self-2 g c =
-    subst (λ net. IsRoomFor net c.self.inside.room)
-    (sym (ap (λ w. w.net) c.step.ensures.world ∙ same-network (world_of c.self.inside.configuration) c.args.event.now)) c.self.invariant
+    let frame = c.runs.ensures.frame (world_of c.self.inside.configuration) (c.args.event.now ∷ []) in
+    c.self.invariant ∙ sym frame.nodes ∙ sym (ap (λ w. w.net.nodes) c.step.ensures.world)

@@ -1,9 +1,9 @@
-use Rattle.std.proofs.Common.{◌≡◌, ◌∙◌, ap, sym, ◌+◌, ◌-◌, [], ◌∷◌, ◌++◌, length, take, drop, append_assoc, arith}
+use Rattle.std.proofs.Common.{◌≡◌, ◌∙◌, ap, sym, subst, ◌≤◌, IfNone, ◌+◌, ◌-◌, [], ◌∷◌, ◌++◌, length, take, drop, append_assoc, arith}
 use Rattle.std.proofs.lemmas.Grind.{common_steps}
-use Rattle.std.proofs.lemmas.List.{take-append-drop}
+use Rattle.std.proofs.lemmas.List.{append-nil, take-append-drop, take_all}
 use Rattle.std.specs.Option.{option_to_list}
 use Rattle.events_text.specs.EventsText.{ended_lines}
-use Rattle.world.proofs.SimulatedBytes.{piece_more, line_ends, line_fails, fails_on}
+use Rattle.world.proofs.SimulatedBytes.{piece_more, half_line_grows, line_ends, line_fails, fails_on}
 use Rattle.world.proofs.simulation.under_way.Simulation.take.Goals as goal
 
 pub loop-at-preserved : goal.loop-at-preserved
@@ -45,3 +45,18 @@ returns-in_err-line-clause-text g c =
     fails_on c.from_residual.result start (bytes ++ piece) before _ _ c.from_residual.ensures.0
     (rw all (line_fails start so_far more behind c.in-Some.line before _ _ _ c.take-taken.new.self now ends
     (c.in_err-line.ensures.runs start (ended_lines so_far) before)))
+
+pub returns-in_default-clause-text : goal.returns-in_default-clause-text
+returns-in_default-clause-text g c =
+    λ start bytes before h.
+    let piece = c.args.piece.now in
+    let at = c.loop-at.at in
+    let used = c.take-taken.result.used in
+    let more = take used (take (length piece - at) (drop at piece)) in
+    let so_far = bytes ++ take at piece in
+    let now = rw (← c.self.view_is) at c.loop-at.invariant.3 start bytes before h in
+    let ends : ended_lines (so_far ++ more) ≡ ended_lines so_far =
+    c.take-taken.ensures.line so_far now.stands ∙ ap (λ line. ended_lines so_far ++ option_to_list line) c.in_default.is ∙ append-nil (ended_lines so_far) in
+    let rest : piece ≡ take at piece ++ more = grind (arith, common_steps) in
+    let all : bytes ++ piece ≡ so_far ++ more = ap (λ xs. bytes ++ xs) rest ∙ sym (append_assoc bytes (take at piece) more) in
+    rw all (half_line_grows start so_far more before _ _ c.take-taken.new.self now (c.take-taken.ensures.stands so_far now.stands) ends)

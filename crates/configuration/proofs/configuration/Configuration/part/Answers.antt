@@ -1,0 +1,91 @@
+use Rattle.std.proofs.Common.{◌≡◌, ◌≢◌, ◌∙◌, ◌+◌, sym, subst, refl, true, None, Err}
+use Rattle.std.proofs.lemmas.Bool.{false≢true}
+use Rattle.topology.specs.Change.{edges_without, parted_net}
+use Rattle.topology.specs.Network.{IsAcceptedNetwork, are_joined, neighbours_of}
+use Rattle.node_core.specs.Site.{site_of}
+use Rattle.node_core.specs.View.{site_in}
+use Rattle.run_model.specs.Step.{refusal}
+use Rattle.run_model.specs.declared.event.Event.TheVariants.{Damage}
+use Rattle.run_model.specs.declared.event.EventFault.TheVariants.{Apart}
+use Rattle.run_model.specs.declared.event.Harm.TheVariants as harm
+use Rattle.run_model.specs.declared.happened.Happened.TheVariants.{Damaged}
+use Rattle.configuration.specs.Answers.{Answers}
+use Rattle.configuration.specs.LinksView.{spare_pairs}
+use Rattle.configuration.specs.ConfigurationView.{ConfigurationView, AreNodesOf, node_at, world_of}
+use Rattle.configuration.specs.Rewired.{IsRewired}
+use Rattle.configuration.proofs.EdgeHarms.{edge-world, part-apart, part-did, part-none, part-undone, unchanged-answers}
+use Rattle.configuration.proofs.Rewiring.{now-nodes, now-states, other-edges, second-site}
+use Rattle.configuration.proofs.WorldSteps.{accepted, step-is}
+use Rattle.configuration.proofs.configuration.Configuration.part.Goals as goal
+
+pub invariant_of-self : goal.invariant_of-self
+invariant_of-self g c =
+    let w : ConfigurationView = record { nodes = c.self.inside.nodes.items; links = c.self.inside.links } in
+    let undone = part-undone w c.args.u c.args.v c.part.result c.part.new.self c.is_err.result c.is_err.ensures.value c.if-is_err.true c.part.ensures.allowed c.part.ensures.unchanged in
+    subst (λ l. AreNodesOf l.net w.nodes) (sym undone.same) c.self.invariant
+
+pub returns-then-is_err : goal.returns-then-is_err
+returns-then-is_err g c =
+    let w : ConfigurationView = record { nodes = c.self.inside.nodes.items; links = c.self.inside.links } in
+    let ok = rw (← c.self.view_is) at c.in_ok-find_link.ensures.ok in
+    let undone = part-undone w c.args.u c.args.v c.part.result c.part.new.self c.is_err.result c.is_err.ensures.value c.if-is_err.true c.part.ensures.allowed c.part.ensures.unchanged in
+    rw (← c.self.view_is) (subst (λ l. Answers w (Damage (harm.Part c.args.u c.args.v)) (record { nodes = w.nodes; links = l }) (Err Apart)) (sym undone.same)
+    (unchanged-answers w (harm.Part c.args.u c.args.v) Apart (part-apart (world_of w) c.args.u c.args.v ok.3 undone.cannot)))
+
+pub rewire-requires-clause-site : goal.rewire-requires-clause-site
+rewire-requires-clause-site g c =
+    let w : ConfigurationView = record { nodes = c.self.inside.nodes.items; links = c.self.inside.links } in
+    let ok = rw (← c.self.view_is) at c.in_ok-find_link.ensures.ok in
+    let no-loop : c.args.u ≢ c.args.v = λ same.
+    false≢true (sym (c.joined.ensures.not_to_itself w.links.net c.args.v (subst IsAcceptedNetwork c.net.ensures.net c.nodes-nodes.ensures.network)) ∙ subst (λ k. are_joined w.links.net.edges k c.args.v ≡ true) same ok.2) in
+    let did = part-did w c.args.u c.args.v c.part.result c.part.new.self c.is_err.result c.is_err.ensures.value c.if-is_err.false c.part.ensures.allowed c.part.ensures.net c.part.ensures.spares c.part.ensures.empty in
+    let net-is : c.part.new.self.net ≡ parted_net w.links.net c.args.u c.args.v = did.net in
+    let read-one : c.net-2.result.now ≡ parted_net w.links.net c.args.u c.args.v = c.net-2.ensures.net ∙ net-is in
+    subst (λ n. record (site_in (node_at w.nodes c.args.u)) { neighbours = neighbours_of n c.args.u } ≡ site_of n c.args.u) (sym read-one)
+    (other-edges w.links.net (edges_without w.links.net.edges c.args.u c.args.v) w.nodes c.args.u c.self.invariant ok.0)
+
+pub rewire-requires-2-clause-site : goal.rewire-requires-2-clause-site
+rewire-requires-2-clause-site g c =
+    let w : ConfigurationView = record { nodes = c.self.inside.nodes.items; links = c.self.inside.links } in
+    let ok = rw (← c.self.view_is) at c.in_ok-find_link.ensures.ok in
+    let no-loop : c.args.u ≢ c.args.v = λ same.
+    false≢true (sym (c.joined.ensures.not_to_itself w.links.net c.args.v (subst IsAcceptedNetwork c.net.ensures.net c.nodes-nodes.ensures.network)) ∙ subst (λ k. are_joined w.links.net.edges k c.args.v ≡ true) same ok.2) in
+    let did = part-did w c.args.u c.args.v c.part.result c.part.new.self c.is_err.result c.is_err.ensures.value c.if-is_err.false c.part.ensures.allowed c.part.ensures.net c.part.ensures.spares c.part.ensures.empty in
+    let net-is : c.part.new.self.net ≡ parted_net w.links.net c.args.u c.args.v = did.net in
+    let read-one : c.net-2.result.now ≡ parted_net w.links.net c.args.u c.args.v = c.net-2.ensures.net ∙ net-is in
+    let read-two : c.net-3.result.now ≡ parted_net w.links.net c.args.u c.args.v = c.net-3.ensures.net ∙ net-is in
+    let first : IsRewired (parted_net w.links.net c.args.u c.args.v) w.nodes c.args.u c.rewire.new.nodes.items = subst (λ n. IsRewired n w.nodes c.args.u c.rewire.new.nodes.items) read-one c.rewire.ensures in
+    subst (λ n. record (site_in (node_at c.rewire.new.nodes.items c.args.v)) { neighbours = neighbours_of n c.args.v } ≡ site_of n c.args.v) (sym read-two)
+    (second-site w.links.net (edges_without w.links.net.edges c.args.u c.args.v) c.args.u c.args.v ok.0 ok.1 no-loop (c.changes.ensures.others_at_part w.links.net c.args.u c.args.v) w.nodes c.rewire.new.nodes.items c.rewire.new.nodes.items c.self.invariant first)
+
+pub invariant_of-self-2 : goal.invariant_of-self-2
+invariant_of-self-2 g c =
+    let w : ConfigurationView = record { nodes = c.self.inside.nodes.items; links = c.self.inside.links } in
+    let ok = rw (← c.self.view_is) at c.in_ok-find_link.ensures.ok in
+    let no-loop : c.args.u ≢ c.args.v = λ same.
+    false≢true (sym (c.joined.ensures.not_to_itself w.links.net c.args.v (subst IsAcceptedNetwork c.net.ensures.net c.nodes-nodes.ensures.network)) ∙ subst (λ k. are_joined w.links.net.edges k c.args.v ≡ true) same ok.2) in
+    let did = part-did w c.args.u c.args.v c.part.result c.part.new.self c.is_err.result c.is_err.ensures.value c.if-is_err.false c.part.ensures.allowed c.part.ensures.net c.part.ensures.spares c.part.ensures.empty in
+    let net-is : c.part.new.self.net ≡ parted_net w.links.net c.args.u c.args.v = did.net in
+    let read-one : c.net-2.result.now ≡ parted_net w.links.net c.args.u c.args.v = c.net-2.ensures.net ∙ net-is in
+    let read-two : c.net-3.result.now ≡ parted_net w.links.net c.args.u c.args.v = c.net-3.ensures.net ∙ net-is in
+    let first : IsRewired (parted_net w.links.net c.args.u c.args.v) w.nodes c.args.u c.rewire.new.nodes.items = subst (λ n. IsRewired n w.nodes c.args.u c.rewire.new.nodes.items) read-one c.rewire.ensures in
+    let second : IsRewired (parted_net w.links.net c.args.u c.args.v) c.rewire.new.nodes.items c.args.v c.rewire-2.new.nodes.items = subst (λ n. IsRewired n c.rewire.new.nodes.items c.args.v c.rewire-2.new.nodes.items) read-two c.rewire-2.ensures in
+    subst (λ n. AreNodesOf n c.rewire-2.new.nodes.items) (sym net-is) (now-nodes w.links.net (edges_without w.links.net.edges c.args.u c.args.v) c.args.u c.args.v ok.0 ok.1 no-loop (c.changes.ensures.others_at_part w.links.net c.args.u c.args.v) w.nodes c.rewire.new.nodes.items c.rewire-2.new.nodes.items c.self.invariant first second)
+
+pub returns : goal.returns
+returns g c =
+    let w : ConfigurationView = record { nodes = c.self.inside.nodes.items; links = c.self.inside.links } in
+    let ok = rw (← c.self.view_is) at c.in_ok-find_link.ensures.ok in
+    let no-loop : c.args.u ≢ c.args.v = λ same.
+    false≢true (sym (c.joined.ensures.not_to_itself w.links.net c.args.v (subst IsAcceptedNetwork c.net.ensures.net c.nodes-nodes.ensures.network)) ∙ subst (λ k. are_joined w.links.net.edges k c.args.v ≡ true) same ok.2) in
+    let did = part-did w c.args.u c.args.v c.part.result c.part.new.self c.is_err.result c.is_err.ensures.value c.if-is_err.false c.part.ensures.allowed c.part.ensures.net c.part.ensures.spares c.part.ensures.empty in
+    let net-is : c.part.new.self.net ≡ parted_net w.links.net c.args.u c.args.v = did.net in
+    let read-one : c.net-2.result.now ≡ parted_net w.links.net c.args.u c.args.v = c.net-2.ensures.net ∙ net-is in
+    let read-two : c.net-3.result.now ≡ parted_net w.links.net c.args.u c.args.v = c.net-3.ensures.net ∙ net-is in
+    let first : IsRewired (parted_net w.links.net c.args.u c.args.v) w.nodes c.args.u c.rewire.new.nodes.items = subst (λ n. IsRewired n w.nodes c.args.u c.rewire.new.nodes.items) read-one c.rewire.ensures in
+    let second : IsRewired (parted_net w.links.net c.args.u c.args.v) c.rewire.new.nodes.items c.args.v c.rewire-2.new.nodes.items = subst (λ n. IsRewired n c.rewire.new.nodes.items c.args.v c.rewire-2.new.nodes.items) read-two c.rewire-2.ensures in
+    let none : refusal (world_of w) (Damage (harm.Part c.args.u c.args.v)) ≡ None = part-none (world_of w) c.args.u c.args.v ok.3 did.can in
+    let leads = edge-world w c.args.u c.args.v (spare_pairs w.links + 1) (edges_without w.links.net.edges c.args.u c.args.v) c.part.new.self c.rewire-2.new.nodes.items net-is did.spares did.empty
+    (now-states w.links.net (edges_without w.links.net.edges c.args.u c.args.v) c.args.u c.args.v ok.0 ok.1 no-loop (c.changes.ensures.others_at_part w.links.net c.args.u c.args.v) w.nodes c.rewire.new.nodes.items c.rewire-2.new.nodes.items c.self.invariant first second) in
+    rw (← c.self.view_is) (accepted w (record { nodes = c.rewire-2.new.nodes.items; links = c.part.new.self }) (Damage (harm.Part c.args.u c.args.v)) Damaged none
+    (leads ∙ sym (step-is (world_of w) (Damage (harm.Part c.args.u c.args.v)) none)) refl)

@@ -1,0 +1,26 @@
+-- The nodes that the privilege has visited, as a mask with a bit for each.
+use Rattle.std.specs.Prelude.{◌≡◌, ℕ, ◌<◌, Bool, false, ◌==◌, ◌&&◌, nat_lt, IsTrue, List}
+use Rattle.topology.specs.Network.{Network}
+use Rattle.run_model.specs.World.{World}
+use Rattle.run_model.specs.Visited.{is_visited}
+use Rattle.run_model.specs.declared.event.Event.{Event}
+use Rattle.run_model.specs.declared.happened.Happened.{Happened}
+use Rattle.run_model.specs.declared.happened.Happened.TheVariants.{FullTick, LendingTick, Taken}
+use Rattle.judge.specs.Stretch.{has_bit}
+
+-- The mask has the bits of the nodes that were privileged at some moment since the last accepted
+-- damage, the moment right after it among them, or since the start where there was none; and no
+-- other bit.
+abbrev pub AreVisited : World → List Event → ℕ → Type 0
+AreVisited start es mask = (v : ℕ) → has_bit mask v ≡ (nat_lt v start.net.nodes && is_visited start es v)
+
+-- each node of the network has its bit
+abbrev pub AreAllVisited : Network → ℕ → Type 0
+AreAllVisited net mask = (v : ℕ) → v < net.nodes → IsTrue (has_bit mask v)
+
+-- v ticked, or took an item
+abbrev pub ticked_or_took : ℕ → Happened → Bool
+ticked_or_took v (FullTick u) = v == u
+ticked_or_took v (LendingTick u) = v == u
+ticked_or_took v (Taken u w) = v == w
+ticked_or_took v _ = false

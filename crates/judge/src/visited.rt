@@ -1,0 +1,70 @@
+//! The nodes that the privilege has visited, as a mask with a bit for each.
+ghost use Rattle.std.specs.Prelude.{◌≡◌, ◌<◌, ◌==◌, ◌&&◌, ◌||◌, ℕ, nat_lt, IsTrue};
+ghost use Rattle.run_model.specs.Privilege.{is_privileged};
+ghost use Rattle.configuration.specs.ConfigurationView.{world_of};
+ghost use Rattle.judge.specs.Stretch.{has_bit, names_below};
+ghost use Rattle.judge.specs.Visited.{ticked_or_took};
+
+use configuration::Configuration;
+use run_model::Happened;
+use std::alloc::Allocator;
+
+/// The mask with the bit of a node.
+fn with(mask: u64, node: u16) -> u64
+    requires { node < 64 }
+    ensures { (v : ℕ) → has_bit result v ≡ (has_bit mask v || v == node) }
+{
+    mask | (1 << node)
+}
+
+/// The nodes that are privileged now. It looks at each.
+pub fn privileged_nodes<A: Allocator + Copy>(configuration: &Configuration<A>) -> u64
+    ensures { (v : ℕ) → has_bit result v ≡ (nat_lt v (world_of configuration.now).net.nodes
+        && is_privileged (world_of configuration.now) v) }
+{
+    topology::laws::limits();
+    let mut mask = 0;
+    for node in 0..configuration.net().nodes() {
+        if configuration.node(node).privileged() {
+            mask = with(mask, node);
+        }
+    }
+    mask
+}
+
+/// The mask with the bit of a node, where that is privileged now. It looks at no node whose bit is
+/// there.
+fn visit<A: Allocator + Copy>(configuration: &Configuration<A>, mask: u64, node: u16) -> u64
+    requires { node < (world_of configuration.now).net.nodes }
+    ensures { (v : ℕ) → has_bit result v
+        ≡ (has_bit mask v || (v == node && is_privileged (world_of configuration.now) v)) }
+{
+    topology::laws::limits();
+    let _known_nodes = configuration.net().nodes();
+    let visited = with(mask, node);
+    if visited != mask && configuration.node(node).privileged() {
+        visited
+    } else {
+        mask
+    }
+}
+
+/// The nodes visited, behind what happened, where that is no damage. It looks at the one node that
+/// ticked or took, if there is one, since the machines and copies of no other have changed.
+pub fn visited_behind<A: Allocator + Copy>(
+    configuration: &Configuration<A>,
+    visited: u64,
+    happened: &Happened,
+) -> u64
+    requires { IsTrue (names_below (world_of configuration.now).net.nodes happened.now) }
+    ensures { (v : ℕ) → has_bit result v
+        ≡ (has_bit visited v || (ticked_or_took v happened.now
+        && is_privileged (world_of configuration.now) v)) }
+{
+    match *happened {
+        Happened::FullTick { node } => visit(configuration, visited, node),
+        Happened::LendingTick { node } => visit(configuration, visited, node),
+        Happened::Taken { to, .. } => visit(configuration, visited, to),
+        _ => visited,
+    }
+}
