@@ -26,11 +26,15 @@ parent_word (Some parent) = decimal parent
 -- the eight lines
 abbrev pub bound_text : Network → List ℕ
 bound_text net =
-    number_line (codes "nodes") net.nodes ++ (number_line (codes "edges") (length net.edges) ++ (number_line (codes "capacity") net.capacity
+    number_line (codes "nodes") net.nodes
+    ++ (number_line (codes "edges") (length net.edges)
+    ++ (number_line (codes "capacity") net.capacity
     ++ (number_line (codes "counter") (counter_of net) ++ (number_line (codes "ring") (ring_of net)
-    ++ (nodes_line (codes "distances") net.nodes (λ v. decimal (distance_of net v)) ++ (nodes_line (codes "parents") net.nodes (λ v. parent_word (parent_of net v))
+    ++ (nodes_line (codes "distances") net.nodes (λ v. decimal (distance_of net v))
+    ++ (nodes_line (codes "parents") net.nodes (λ v. parent_word (parent_of net v))
     ++ number_line (codes "sweeps") (bound_of net)))))))
 
 -- the eight lines and, where it is asked for, the line of the sharp bound
 abbrev pub shown_text : Network → Bool → List ℕ
-shown_text net sharp = if sharp then bound_text net ++ number_line (codes "sharp") (sharp_of net) else bound_text net
+shown_text net sharp =
+    if sharp then bound_text net ++ number_line (codes "sharp") (sharp_of net) else bound_text net

@@ -19,5 +19,7 @@ IsNetworkOf bytes net = (length bytes ≤ most_bytes) × IsReadFrom bytes net
 -- fault
 abbrev pub IsRefusedFor : List ℕ → Fault → Type 0
 IsRefusedFor bytes NetworkUnreadable = most_bytes < length bytes
-IsRefusedFor bytes (Refused fault) = (length bytes ≤ most_bytes) × ((¬ IsUtf8 bytes × (fault ≡ NotToml)) ⊎ (IsUtf8 bytes × IsUnread bytes fault))
+IsRefusedFor bytes (Refused fault) =
+    (length bytes ≤ most_bytes)
+    × ((¬ IsUtf8 bytes × (fault ≡ NotToml)) ⊎ (IsUtf8 bytes × IsUnread bytes fault))
 IsRefusedFor bytes _ = ⊥

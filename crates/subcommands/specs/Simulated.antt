@@ -16,14 +16,17 @@ IsToldAs (Ok _) told = told ≡ Output
 IsToldAs (Err fault) told = told ≡ fault_of fault
 
 -- Something was simulated, and its fault is told, or that its output was refused.
-pub record IsFailed (start : World) (bytes : List ℕ) (rest before after : Option (List ℕ)) (told : Fault) : Type 0 where
+pub record IsFailed (start : World) (bytes : List ℕ) (rest before after : Option (List ℕ))
+    (told : Fault) : Type 0 where
   pub answer : Result Summary SimFault
   pub simulated : IsSimulated start bytes rest before after answer
   pub cause : IsToldAs answer told
 
 -- these bytes were simulated, and the summary is the simulation's; or a fault is told
-abbrev pub IsDone : World → List ℕ → Option (List ℕ) → Option (List ℕ) → Option (List ℕ) → Result Summary Fault → Type 0
-IsDone start bytes rest before after (Ok summary) = IsSimulated start bytes rest before after (Ok summary)
+abbrev pub IsDone : World → List ℕ → Option (List ℕ) → Option (List ℕ) → Option (List ℕ)
+    → Result Summary Fault → Type 0
+IsDone start bytes rest before after (Ok summary) =
+    IsSimulated start bytes rest before after (Ok summary)
 IsDone start bytes rest before after (Err fault) = IsFailed start bytes rest before after fault
 
 -- that events cannot be read is answered only where the source's count of failures rose, and that

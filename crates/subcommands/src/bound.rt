@@ -1,7 +1,9 @@
 //! `bound FILE`, with `--sharp` or without: what the lock's guarantee costs on a network.
-ghost use Rattle.std.specs.Prelude.{◌≡◌, ◌↔◌, ℕ, ◌++◌, IfOk, IfErr, IsOk, OnOk, string_bytes, codes, decimal};
+ghost use Rattle.std.specs.Prelude.{◌≡◌, ◌↔◌, ℕ, ◌++◌, IfOk, IfErr, IsOk, OnOk, string_bytes};
+ghost use Rattle.std.specs.Prelude.{codes, decimal};
 ghost use Rattle.std.specs.Process.{exit_status};
-ghost use Rattle.subcommands.specs.Bound.{number_line, nodes_line, parent_word, bound_text, shown_text};
+ghost use Rattle.subcommands.specs.Bound.{number_line, nodes_line, parent_word, bound_text};
+ghost use Rattle.subcommands.specs.Bound.{shown_text};
 ghost use Rattle.subcommands.specs.declared.fault.Fault.TheVariants.{Output};
 ghost use Rattle.topology.specs.Tree.{distance_of, parent_of};
 

@@ -6,7 +6,8 @@
 //!
 //! ```
 //! let status = bound::run(rt, "two-nodes.toml", false)?;               // prints eight lines
-//! let status = simulate::run(rt, "two-nodes.toml", "events.txt")?;     // prints what the events lead to; "-" is standard input
+//! // prints what the events lead to; "-" is standard input
+//! let status = simulate::run(rt, "two-nodes.toml", "events.txt")?;
 //! ```
 //!
 //! The trap: what was printed before a fault stays printed; `simulate` tells the refused lines of

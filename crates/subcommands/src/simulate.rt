@@ -1,7 +1,7 @@
 //! `simulate FILE EVENTS`: what a list of events leads to on a network.
 ghost use Rattle.std.specs.Prelude.{◌≡◌, ℕ, List, [], Some, ◌==◌, if◌then◌else◌, OnOk};
 ghost use Rattle.std.specs.Process.{exit_status};
-ghost use Rattle.run_model.specs.Start.{default_world};
+ghost use Rattle.world.specs.SimulatedText.{simulated_start};
 ghost use Rattle.subcommands.specs.Simulated.{IsCaused, IsDone};
 
 use crate::fault::Fault;
@@ -72,9 +72,12 @@ fn simulate_between<S: Source, W: Flush>(
 ) -> Result<Summary, Fault>
     // Where both ends tell their bytes, the answer is that of a simulation of them.
     ensures text { (bytes : List ℕ) → S.rest source.old ≡ Some bytes
-        → IsDone (default_world net.now) bytes (S.rest source.new) (W.taken sink.old) (W.taken sink.new) result }
+        → IsDone (simulated_start net.now) bytes (S.rest source.new) (W.taken sink.old)
+        (W.taken sink.new) result }
     ensures written { OnOk result (W.unwritten sink.new ≡ []) }
-    ensures cause { IsCaused result (S.failures source.old) (S.failures source.new) (W.failures sink.old) (W.failures sink.new) }
+    // A fault of the events only where the source failed, one of the output only where the sink did.
+    ensures cause { IsCaused result (S.failures source.old) (S.failures source.new)
+        (W.failures sink.old) (W.failures sink.new) }
 {
     let simulated = simulate(alloc, net, source, sink);
     let flushed = sink.flush();

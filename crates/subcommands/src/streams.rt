@@ -40,7 +40,9 @@ impl<R: Read> Source for ReadSource<R> {
     fn read(&mut self, buffer: &mut [u8]) -> Result<usize, Failed>
         ensures len { length buffer.new ≡ length buffer.old }
         ensures reads { Reads result None None buffer.new self.old.failures self.new.failures }
-        ensures bytes { ReadConsumes (R.remaining self.old.reader) (R.remaining self.new.reader) result buffer.new }
+        // What it gave is what the reader gave, where the reader tells.
+        ensures bytes { ReadConsumes (R.remaining self.old.reader)
+            (R.remaining self.new.reader) result buffer.new }
     {
         for _ in 0..u64::MAX {
             match self.reader.read(buffer) {
@@ -64,6 +66,7 @@ pub trait Flush: Sink {
     /// [`Failed`] where it failed in this call; then some of it may be unwritten.
     fn flush(&mut self) -> Result<(), Failed>
         ensures written { OnOk result (unwritten self.new ≡ []) }
+        // What it has taken stays taken, whether it is written or not.
         ensures taken { Self.taken self.new ≡ Self.taken self.old }
         ensures cause { CountsFailures result (Self.failures self.old) (Self.failures self.new) };
 }
@@ -93,7 +96,9 @@ impl<W: Write + Drop> Flush for WriteSink<W> {
 
     fn flush(&mut self) -> Result<(), Failed>
         ensures written { OnOk result (writer_buffer self.new.writer ≡ []) }
-        ensures bytes { Keeps (writer_contents W.contents self.old.writer) (writer_contents W.contents self.new.writer) }
+        // The writer and its buffer hold the same bytes as before, where the writer tells.
+        ensures bytes { Keeps (writer_contents W.contents self.old.writer)
+            (writer_contents W.contents self.new.writer) }
         ensures cause { CountsFailures result self.old.failures self.new.failures }
     {
         match self.writer.flush() {
@@ -110,7 +115,10 @@ impl<W: Write + Drop> Sink for WriteSink<W> {
 
     fn write(&mut self, bytes: &[u8]) -> Result<usize, Failed>
         ensures writes { Writes result bytes.now None None self.old.failures self.new.failures }
-        ensures all { OnOk result (Appends (writer_contents W.contents self.old.writer) (writer_contents W.contents self.new.writer) bytes.now) }
+        // All bytes stand behind those before, in the writer or in its buffer.
+        ensures all { OnOk result
+            (Appends (writer_contents W.contents self.old.writer)
+            (writer_contents W.contents self.new.writer) bytes.now) }
     {
         match self.writer.write_all(bytes) {
             Ok(()) => Ok(bytes.len()),

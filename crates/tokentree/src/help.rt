@@ -61,6 +61,11 @@ Lines that begin with harm write any state, as a fault would:
   harm junk 0 1                 noise on that link
   harm empty 0 1                nothing is on that link any more
 
+Edges join and go as well, while all else goes on; up to 8 edges more than the network's may stand at a time:
+
+  harm join 0 2                 an edge joins nodes 0 and 2, which keep their other ports; its links are empty
+  harm part 0 1                 the edge between nodes 0 and 1 goes, with its ports and what is on its links
+
 Words are parted by exactly one space; a number is decimal, 0 to 65535, with no leading zero. An empty line, and a
 line that begins with #, is passed over, and counted. The text may have 1,073,741,824 bytes.
 
@@ -70,12 +75,15 @@ more than 64 bytes), and else the first that holds of
   NoNode        there is no such node
   NoLink        the two nodes are not neighbours
   NoItem        there is no such item to lose
-  OutOfRange    no state has such a value; or the link is full, where a frame or noise is put on it
+  OutOfRange    no state has such a value; the link is full, where a frame or noise is put on it; or the two nodes
+                to join are one, or are joined already, or there are 256 edges
   Full          64 tickets wait already
   Twice         the ticket waits already, or has the lock
   Stranger      the ticket neither waits nor has the lock
+  NoSpare       8 edges have joined more than have gone
+  Apart         without that edge some node cannot reach the root
 
-After the last line the state is shown: each node; how many items are on each link; how many nodes are privileged,
+After the last line the state is shown: each node; how many items are on each link that stands; how many nodes are privileged,
 which is to hold the token, and how many lend; and the sweeps since the last damage, of as many as bound shows.
 
   $ printf 'tick 0\\ntick 2\\n' | tokentree simulate two-nodes.toml -

@@ -61,25 +61,44 @@ fn events_of(alloc: Global, text: &str) -> Result<Vec<Event>, Fail> {
     Ok(events)
 }
 
-/// The numbers of events, of sweeps and of refusals of a text, told `times` times to two nodes over
-/// links of one place.
-fn counts(alloc: Global, text: &str, times: usize) -> Result<(usize, u64, u64), Fail> {
+/// The numbers of events, of sweeps and of refusals, and the nodes visited, of so many rounds of
+/// two nodes over links of one place, and a text behind them.
+fn counts(alloc: Global, rounds: usize, text: &str) -> Result<(usize, u64, u64, u64), Fail> {
     let net = net_of(alloc, 2, 0, &[(0, 1)])?;
     let mut events = Vec::new(alloc);
-    for _ in 0..times {
-        push_events(&mut events, text)?;
+    for _ in 0..rounds {
+        push_events(&mut events, ROUND)?;
     }
+    push_events(&mut events, text)?;
     let report = judged(start(alloc, &net)?, &events);
-    Ok((events.len(), report.sweeps, report.refused))
+    Ok((events.len(), report.sweeps, report.refused, report.visited))
 }
 
 #[test]
-fn each_round_is_a_sweep(rt: HostRuntime) -> Result<(), Fail> {
-    for rounds in [1, 2, 3, 69] {
+fn each_round_is_a_sweep_and_the_third_visits_the_other_node(rt: HostRuntime) -> Result<(), Fail> {
+    for (rounds, visited) in [(0, 0), (1, 1), (2, 1), (3, 3), (69, 3), (72, 3)] {
         assert_eq!(rt;
-            counts(rt.alloc(), ROUND, rounds)?,
-            (10 * rounds, rounds as u64, 0)
+            counts(rt.alloc(), rounds, "")?,
+            (10 * rounds, rounds as u64, 0, visited)
         );
+    }
+    Ok(())
+}
+
+#[test]
+fn damage_leaves_those_visited_that_are_privileged(rt: HostRuntime) -> Result<(), Fail> {
+    let rows = [
+        // the token is at node 1
+        (3, "harm empty 0 1", (31, 0, 0, 2)),
+        // a refused harm is no damage
+        (3, "harm empty 0 2", (31, 3, 1, 3)),
+        // the machine of node 1 is written what it sees, and the token is gone
+        (3, "harm value 1 0 1", (31, 0, 0, 0)),
+        // the root had the token right behind the damage, and its tick sends it on
+        (1, "harm empty 0 1\ntick 0", (12, 0, 0, 1)),
+    ];
+    for (rounds, text, expected) in rows {
+        assert_eq!(rt; counts(rt.alloc(), rounds, text)?, expected, "of {text:?}");
     }
     Ok(())
 }
@@ -90,27 +109,27 @@ fn what_serves_and_what_does_not(rt: HostRuntime) -> Result<(), Fail> {
         // a round without its last line is one
         (
             "tick 0\ntick 1\nsend 0 1\ntake 0 1\nsend 0 1\ntake 0 1\nsend 1 0\ntake 1 0\nsend 1 0",
-            (9, 1, 0),
+            (9, 1, 0, 1),
         ),
         // items from before renew nothing
         (
             "harm junk 0 1\nharm junk 1 0\ntick 0\ntick 1\ntake 0 1\ntake 1 0",
-            (6, 0, 0),
+            (6, 0, 0, 0),
         ),
         (
             "harm junk 0 1\nharm junk 1 0\ntick 0\ntick 1\ntake 0 1\ntake 1 0\nsend 0 1\ntake 0 1\nsend 1 0\ntake 1 0",
-            (10, 1, 0),
+            (10, 1, 0, 1),
         ),
         // one that is lost makes room for a new one
         (
             "harm junk 0 1\ntick 0\ntick 1\nlose 0 1 0\nsend 0 1\ntake 0 1\nsend 1 0\ntake 1 0",
-            (8, 1, 0),
+            (8, 1, 0, 1),
         ),
         // takes on empty links renew nothing, and there is no node 2
-        ("tick 0\ntick 1\ntake 0 1\ntake 1 0\ntick 2", (5, 0, 1)),
+        ("tick 0\ntick 1\ntake 0 1\ntake 1 0\ntick 2", (5, 0, 1, 0)),
     ];
     for (text, expected) in rows {
-        assert_eq!(rt; counts(rt.alloc(), text, 1)?, expected, "of {text:?}");
+        assert_eq!(rt; counts(rt.alloc(), 0, text)?, expected, "of {text:?}");
     }
     Ok(())
 }

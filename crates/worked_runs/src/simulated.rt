@@ -11,6 +11,7 @@ use world::World;
 use world::simulation::{SimFault, Summary, simulate, state_text};
 use world::streams::{MemorySink, MemorySource, Sink, Source};
 
+mod changes;
 mod faults;
 mod lines;
 mod long_runs;

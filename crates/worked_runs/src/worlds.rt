@@ -21,6 +21,11 @@ pub fn start<A: Allocator + Copy>(alloc: A, net: &Net) -> Result<World<A>, Alloc
     World::new(alloc, net)
 }
 
+/// A network's default world with the spare pairs of links that a simulation has.
+pub fn simulated_start<A: Allocator + Copy>(alloc: A, net: &Net) -> Result<World<A>, AllocError> {
+    World::with_spares(alloc, net, 8)
+}
+
 /// The event that a line spells.
 pub fn event_of(line: &str) -> Option<Event> {
     parse_line(line.as_bytes())

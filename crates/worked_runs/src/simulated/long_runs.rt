@@ -18,7 +18,7 @@ struct LongRun<'a> {
 }
 
 /// Whether the lines of the text, from its first on, begin so.
-fn lines_begin(text: &str, beginnings: &[&str]) -> bool {
+pub fn lines_begin(text: &str, beginnings: &[&str]) -> bool {
     let mut lines = text.lines();
     for beginning in beginnings {
         match lines.next() {

@@ -196,6 +196,70 @@ sweeps 1 of 69
     all_hold(&rt, &rows)
 }
 
+#[test]
+fn the_token_goes_round(rt: HostRuntime) -> Result<(), Fail> {
+    let rows = [
+        Row {
+            lease: 0,
+            text: &[(ROUND, 70)],
+            refusals: "",
+            state: "\
+node 0 distance 0 parent none token yes lent none waiting 0
+node 1 distance 1 parent 0 token no lent none waiting 0
+link 0 1 items 0
+link 1 0 items 0
+privileged 1 lending 0
+sweeps 70 of 69
+",
+            sweeps: 70,
+        },
+        Row {
+            lease: 0,
+            text: &[(ROUND, 71)],
+            refusals: "",
+            state: "\
+node 0 distance 0 parent none token no lent none waiting 0
+node 1 distance 1 parent 0 token no lent none waiting 0
+link 0 1 items 0
+link 1 0 items 0
+privileged 0 lending 0
+sweeps 71 of 69
+",
+            sweeps: 71,
+        },
+        Row {
+            lease: 0,
+            text: &[(ROUND, 72)],
+            refusals: "",
+            state: "\
+node 0 distance 0 parent none token no lent none waiting 0
+node 1 distance 1 parent 0 token yes lent none waiting 0
+link 0 1 items 0
+link 1 0 items 0
+privileged 1 lending 0
+sweeps 72 of 69
+",
+            sweeps: 72,
+        },
+        // Of two tickets at node 1 the first is lent the lock for one tick, and then the second.
+        Row {
+            lease: 1,
+            text: &[(ROUND, 69), ("ask 1 1\nask 1 2\n", 1), (ROUND, 6)],
+            refusals: "",
+            state: "\
+node 0 distance 0 parent none token no lent none waiting 0
+node 1 distance 1 parent 0 token yes lent 2 waiting 0
+link 0 1 items 0
+link 1 0 items 0
+privileged 1 lending 1
+sweeps 72 of 69
+",
+            sweeps: 72,
+        },
+    ];
+    all_hold(&rt, &rows)
+}
+
 /// Both forged tokens are there, and both nodes lend.
 const BOTH: &str = "\
 node 0 distance 0 parent none token yes lent 5 waiting 0

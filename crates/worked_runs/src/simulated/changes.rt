@@ -1,0 +1,133 @@
+//! Texts by which edges join and go, and what they lead to.
+use super::long_runs::lines_begin;
+use super::*;
+use crate::texts::round_of;
+use crate::worlds::{simulated_start, told};
+use run_model::EventFault;
+
+/// A square: node 3 lies opposite the root.
+const SQUARE: &[(i64, i64)] = &[(0, 1), (0, 2), (1, 3), (2, 3)];
+
+/// The edge between 1 and 3 goes; then neither it goes again, nor the last edge of node 3, nor does
+/// an edge join a node to itself, or where one stands, or with no node.
+const REFUSED: &str = "\
+harm part 1 3
+harm part 1 3
+harm part 2 3
+harm join 3 3
+harm join 0 1
+harm join 0 4
+";
+
+/// What that text leads to.
+const PARTED: &str = "\
+line 2: NoLink
+line 3: Apart
+line 4: OutOfRange
+line 5: OutOfRange
+line 6: NoNode
+node 0 distance 4 parent none token no lent none waiting 0
+node 1 distance 4 parent none token no lent none waiting 0
+node 2 distance 4 parent none token no lent none waiting 0
+node 3 distance 4 parent none token no lent none waiting 0
+link 0 1 items 0
+link 0 2 items 0
+link 1 0 items 0
+link 2 0 items 0
+link 2 3 items 0
+link 3 2 items 0
+privileged 0 lending 0
+sweeps 0 of 461
+";
+
+/// What stands on the square where an item goes with its edge, and the edge comes back.
+const BACK: &str = "\
+node 0 distance 4 parent none token no lent none waiting 0
+node 1 distance 4 parent none token no lent none waiting 0
+node 2 distance 4 parent none token no lent none waiting 0
+node 3 distance 4 parent none token no lent none waiting 0
+link 0 1 items 0
+link 0 2 items 0
+link 1 0 items 0
+link 1 3 items 0
+link 2 0 items 0
+link 2 3 items 1
+link 3 1 items 0
+link 3 2 items 0
+privileged 0 lending 0
+sweeps 0 of 461
+";
+
+#[test]
+fn what_is_shown_are_the_links_that_stand(rt: HostRuntime) -> Result<(), Fail> {
+    let net = net_of(rt.alloc(), 4, 0, SQUARE)?;
+    let rows = [
+        (REFUSED, PARTED),
+        ("send 1 3\nsend 2 3\nharm part 3 1\nharm join 3 1\n", BACK),
+    ];
+    for (text, want) in rows {
+        for piece in PIECES {
+            let found = simulated(rt.alloc(), &net, text, piece)?;
+            assert_eq!(rt; found.0.as_str(), want, "of {text:?} in pieces of {piece}");
+        }
+    }
+    Ok(())
+}
+
+#[test]
+fn the_far_corner_of_the_square_finds_its_other_parent(rt: HostRuntime) -> Result<(), Fail> {
+    let alloc = rt.alloc();
+    let net = net_of(alloc, 4, 0, SQUARE)?;
+    let left = net_of(alloc, 4, 0, &[(0, 1), (0, 2), (2, 3)])?;
+    let round = round_of(alloc, &left)?;
+    let text = joined(alloc, &[("harm part 1 3\n", 1), (&round, 461)])?;
+    let (output, summary) = simulated(alloc, &net, &text, 4096)?;
+    let beginnings = [
+        "node 0 distance 0 parent none ",
+        "node 1 distance 1 parent 0 ",
+        "node 2 distance 1 parent 0 ",
+        "node 3 distance 2 parent 2 ",
+    ];
+    assert!(rt; lines_begin(&output, &beginnings), "{output}");
+    assert!(rt; output.ends_with("\nsweeps 461 of 461\n"), "{output}");
+    assert_eq!(rt;
+        summary,
+        Summary {
+            refused: 0,
+            sweeps: 461
+        }
+    );
+    Ok(())
+}
+
+/// A star of 64 nodes round the root.
+fn star(alloc: Global) -> Result<Net, Fail> {
+    let mut edges = Vec::new(alloc);
+    for leaf in 1..64 {
+        edges.push((0, leaf))?;
+    }
+    Ok(net_of(alloc, 64, 0, edges.as_slice())?)
+}
+
+#[test]
+fn an_edge_that_goes_leaves_its_links_to_the_next(rt: HostRuntime) -> Result<(), Fail> {
+    let net = star(rt.alloc())?;
+    let mut world = simulated_start(rt.alloc(), &net)?;
+    for leaf in 2..10 {
+        let line = format!(in rt.alloc(); "harm join 1 {leaf}")?;
+        assert_eq!(rt; told(&mut world, &line), Some(Ok(())), "{line}");
+    }
+    let rows = [
+        ("harm join 1 10", Err(EventFault::NoSpare)),
+        ("harm part 0 11", Err(EventFault::Apart)),
+        ("harm part 0 2", Ok(())),
+        ("harm join 1 10", Ok(())),
+        ("harm join 1 11", Err(EventFault::NoSpare)),
+        ("harm join 1 10", Err(EventFault::OutOfRange)),
+    ];
+    for (line, answer) in rows {
+        assert_eq!(rt; told(&mut world, line), Some(answer), "{line}");
+    }
+    assert_eq!(rt; world.net().edges().len(), 71);
+    Ok(())
+}
