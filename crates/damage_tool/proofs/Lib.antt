@@ -1,2 +1,5 @@
+pub mod Accepted
+pub mod Drawing
 pub mod JunkBytes
 pub mod Ports
+pub mod Scrambles

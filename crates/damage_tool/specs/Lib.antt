@@ -1,2 +1,5 @@
+pub mod Behind
 pub mod Draws
+pub mod Harms
+pub mod Laws
 pub mod Scrambled

@@ -1,14 +1,16 @@
 //! Damage on purpose: states and bytes as a transient fault may leave them, drawn from a seeded
 //! generator.
 //!
-//! [`scramble_node`] writes all of a node's state but its desk; [`cut`] shortens bytes, as a write
-//! that broke off does; [`junk_line`] makes a line of a stream that is no frame but by chance. What
-//! is drawn for a node is always in range, so every state that comes out is a possible start. The
-//! same seed gives the same damage, on any machine:
+//! [`scramble_node`] writes all of a node's state but its desk; [`scramble_world`] lists harms that
+//! write every part of a world; [`cut`] shortens bytes, as a write that broke off does;
+//! [`junk_line`] makes a line of a stream that is no frame but by chance. What is drawn is always in
+//! range, so every state that comes out is a possible start, and every harm happens where no client
+//! waits. The same seed gives the same damage, on any machine:
 //!
 //! ```
 //! let mut generator = Lcg64Xsh32::seed_from_u64(7);
 //! scramble_node(&mut node, &net, &mut generator);      // node: one of net's
+//! scramble_world(&net, &mut generator, &mut events)?;  // 2n + 10e or more, for n nodes and e edges
 //! ```
 //!
 //! The generator is PCG's, of the kit's `rand_pcg`: fine for damage, and none for secrets.
@@ -18,7 +20,10 @@
 
 mod bytes;
 mod draws;
+pub mod laws;
 mod node;
+mod world;
 
 pub use bytes::{cut, junk_line};
 pub use node::scramble_node;
+pub use world::scramble_world;

@@ -40,7 +40,8 @@ pub fn scramble_node<A: Allocator, N: Allocator + Copy>(
     requires site { site_in node.old ≡ site_of net.now (site_in node.old).id }
     // It is what the generator's next words say.
     ensures scrambled { let neighbours = neighbours_of net.now (site_in node.old).id in
-        (state_of node.new, generator.new) ≡ node_scrambled (ranges_of net.now) neighbours (state_of node.old) generator.old }
+        (state_of node.new, generator.new)
+        ≡ node_scrambled (ranges_of net.now) neighbours (state_of node.old) generator.old }
     ensures site { site_in node.new ≡ site_in node.old }
 {
     let ranges = node.ranges();

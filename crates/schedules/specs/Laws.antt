@@ -1,0 +1,40 @@
+-- What holds of the schedule by rounds.
+use Rattle.std.specs.Prelude.{◌≡◌, ℕ, ◌<◌, true, zero, suc, [], None}
+use Rattle.run_model.specs.World.{World, IsWorldInRange}
+use Rattle.run_model.specs.Run.{run}
+use Rattle.run_model.specs.Sweep.{is_full_tick, IsSweep, Sweeps}
+use Rattle.run_model.specs.declared.event.Event.TheVariants.{Tick}
+use Rattle.damage_tool.specs.Laws.{AreAccepted}
+use Rattle.schedules.specs.Rounds.{round, rounds}
+
+-- each tick is full: whichever node ticks next lends to nobody behind it
+abbrev pub AreTicksFull : World → Type 0
+AreTicksFull w = (v : ℕ) → v < w.net.nodes → is_full_tick w (Tick v) v ≡ true
+
+-- and so it is at the start of each of the next n rounds
+abbrev pub AreTicksFullFor : World → ℕ → Type 0
+AreTicksFullFor w zero = Unit {0}
+AreTicksFullFor w (suc n) = AreTicksFull w × AreTicksFullFor (run w (round w.net)) n
+
+-- no client waits, and none has the lock
+abbrev pub IsIdle : World → Type 0
+IsIdle w =
+    (v : ℕ) → v < w.net.nodes → ((w.node v).desk.waiting ≡ []) × ((w.node v).desk.lent ≡ None)
+
+-- a round is a sweep, from every world in which each tick is full
+abbrev pub RoundIsSweep : Type 0
+RoundIsSweep = (w : World) → IsWorldInRange w → AreTicksFull w → IsSweep w (round w.net)
+
+-- n rounds are n sweeps, where each tick is full at the start of each
+abbrev pub RoundsAreSweeps : Type 0
+RoundsAreSweeps =
+    (w : World) (n : ℕ) → IsWorldInRange w → AreTicksFullFor w n → Sweeps w n (rounds w.net n)
+
+-- and so they are where there is no client, whatever else the state is
+abbrev pub IdleRoundsAreSweeps : Type 0
+IdleRoundsAreSweeps =
+    (w : World) (n : ℕ) → IsWorldInRange w → IsIdle w → Sweeps w n (rounds w.net n)
+
+-- no event of the rounds is refused
+abbrev pub RoundsAreAccepted : Type 0
+RoundsAreAccepted = (w : World) (n : ℕ) → AreAccepted w (rounds w.net n)
