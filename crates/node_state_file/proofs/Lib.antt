@@ -1,0 +1,11 @@
+pub mod Accepted
+pub mod Ascending
+pub mod Fits
+pub mod Neighbours
+pub mod Numbers
+pub mod Ports
+pub mod ReadAgain
+pub mod Restored
+mod Rows
+pub mod Stored
+pub mod Written

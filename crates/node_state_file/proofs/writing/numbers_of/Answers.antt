@@ -1,0 +1,47 @@
+use Rattle.std.proofs.Common.{arith, ◌≡◌, ◌≤◌, ◌+◌, ◌∙◌, ap, ◌++◌, length, take}
+use Rattle.std.specs.List.{flat_map}
+use Rattle.arrayvec.specs.ArrayVec.{array_vec_len}
+use Rattle.topology.specs.Network.{neighbours_of}
+use Rattle.node_core.specs.Site.{Site}
+use Rattle.node_core.specs.View.{site_in, state_of}
+use Rattle.node_state_file.specs.Spelling.{header_numbers, port_numbers}
+use Rattle.node_state_file.specs.declared.layout.Layout.TheVariants.{Tkt2}
+use Rattle.node_state_file.proofs.Numbers.{neighbour_below, port_more}
+use Rattle.node_state_file.proofs.Written.{on_ok}
+use Rattle.node_state_file.proofs.writing.numbers_of.Goals as goal
+
+pub port_numbers-requires : goal.port_numbers-requires
+port_numbers-requires g c =
+    let net = c.args.net.now in
+    let id = (site_in c.args.node.now).id in
+    let ns = c.neighbours-neighbours.result.now in
+    let ns_are : ns ≡ neighbours_of net id = c.neighbours-neighbours.ensures ∙ ap (neighbours_of net) c.id.ensures in
+    let below = neighbour_below c.neighbours.ensures.joined net id c.loop-w.w-index ns ns_are c.loop-w-test.true in
+    omega (arith, below, ap (λ (s : Site). s.ranges.nodes) c.requires.site)
+
+pub loop-w-preserved : goal.loop-w-preserved
+loop-w-preserved g c =
+    let net = c.args.net.now in
+    let s = state_of c.args.node.now in
+    let id = (site_in c.args.node.now).id in
+    let ns = c.neighbours-neighbours.result.now in
+    let i = c.loop-w.w-index in
+    let ns_are : ns ≡ neighbours_of net id = c.neighbours-neighbours.ensures ∙ ap (neighbours_of net) c.id.ensures in
+    let f = port_numbers s in
+    let header = header_numbers Tkt2 net id (length ns) s in
+    let (items, count) = c.loop-w.invariant in
+    let ten : length c.port_numbers.result ≡ 10 = ap length c.port_numbers.ensures in
+    let few : length ns ≤ 63 = omega (arith, ap length ns_are, c.header_numbers.ensures.few) in
+    let put = c.try_extend_from_slice-port.ensures in
+    let room : array_vec_len c.loop-w.numbers + length c.port_numbers.result ≤ 636 = omega (arith, ten, count, few, c.loop-w-test.true) in
+    let fits = put.variant.1 room in
+    let r = c.try_extend_from_slice-port.result in (
+      on_ok r fits put.ok
+          ∙ ap (λ xs. xs ++ c.port_numbers.result) items
+          ∙ ap (λ xs. (header ++ flat_map f (take i ns)) ++ xs) c.port_numbers.ensures
+          ∙ port_more f header ns i c.loop-w-test.true,
+      omega (arith, on_ok r fits put.len, ten, count),
+    )
+
+pub returns-clause-few : goal.returns-clause-few
+returns-clause-few g c = c.header_numbers.ensures.few

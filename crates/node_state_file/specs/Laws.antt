@@ -1,0 +1,35 @@
+-- Laws of state files.
+use Rattle.std.specs.Prelude.{◌≡◌, ℕ, ◌<◌, ◌≤◌, ◌&&◌, IsTrue, nat_lt, not, ◌==◌, List, length, All, Ok}
+use Rattle.std.specs.List.{list_all}
+use Rattle.topology.specs.Network.{Network, neighbours_of, IsAcceptedNetwork}
+use Rattle.topology.specs.Ranges.{ranges_of}
+use Rattle.data_link.specs.Port.{port_fits}
+use Rattle.lock_desk.specs.Desk.{no_desk}
+use Rattle.node_core.specs.State.{LocalState}
+use Rattle.node_core.specs.Writes.{own_fits}
+use Rattle.node_core.specs.Rewire.{rewired}
+use Rattle.node_state_file.specs.Spelling.{spelling}
+use Rattle.node_state_file.specs.Reading.{are_ascending, decoded}
+use Rattle.node_state_file.specs.declared.layout.Layout.{Layout}
+
+-- These may have been a node's neighbours: ascending other nodes, at least one, and fewer than there
+-- are nodes.
+pub record MayBeNeighbours (nodes id : ℕ) (ids : List ℕ) : Type 0 where
+  pub some : 1 ≤ length ids
+  pub few : length ids < nodes
+  pub ascending : IsTrue (are_ascending ids)
+  pub others : IsTrue (list_all (λ w. nat_lt w nodes && not (w == id)) ids)
+
+-- Distance and parent are in range, and so are the ports to these neighbours, and the values of the
+-- machines that come in from there.
+pub record IsSavable (net : Network) (ids : List ℕ) (s : LocalState) : Type 0 where
+  pub own : IsTrue (own_fits (ranges_of net) s.distance s.parent)
+  pub ports : All (λ w. IsTrue (port_fits (ranges_of net) (s.port w))) ids
+  pub values : All (λ w. s.value w < (ranges_of net).ring) ids
+
+-- each spelling of a state in range, with whatever neighbours, is read as that state, re-matched to
+-- the neighbours of the network, with an empty desk
+abbrev pub SpellingsAreRead : Type 0
+SpellingsAreRead = (net : Network) (id : ℕ) (layout : Layout) (ids : List ℕ) (s : LocalState) → IsAcceptedNetwork net → id < net.nodes
+    → MayBeNeighbours net.nodes id ids → IsSavable net ids s
+    → decoded net id (spelling layout net id ids s) ≡ Ok (record (rewired (ranges_of net) ids (neighbours_of net id) s) { desk = no_desk })

@@ -1,0 +1,46 @@
+-- How a node's state is spelled in a file: a magic word of four bytes, and then numbers of two bytes
+-- each, the higher byte first.
+use Rattle.std.specs.Prelude.{ℕ, List, [], ◌∷◌, ◌++◌, length, Option, None, Some, codes}
+use Rattle.std.specs.List.{flat_map}
+use Rattle.byteorder.specs.Endian.{big_bytes}
+use Rattle.topology.specs.Network.{Network}
+use Rattle.topology.specs.declared.frame.Payload.{Payload}
+use Rattle.node_core.specs.State.{LocalState}
+use Rattle.node_state_file.specs.declared.layout.Layout.{Layout}
+use Rattle.node_state_file.specs.declared.layout.Layout.TheVariants.{Tkt1, Tkt2}
+
+-- the magic word of a layout
+abbrev pub magic : Layout → List ℕ
+magic Tkt1 = codes "TKT1"
+magic Tkt2 = codes "TKT2"
+
+-- TKT2 has the capacity of links
+abbrev pub capacity_numbers : Layout → ℕ → List ℕ
+capacity_numbers Tkt1 capacity = []
+capacity_numbers Tkt2 capacity = capacity ∷ []
+
+-- a parent as a number, where ffff stands for none
+abbrev pub parent_number : Option ℕ → ℕ
+parent_number None = 65535
+parent_number (Some p) = p
+
+-- what the network, the node's id and its degree are, and its own distance and parent
+abbrev pub header_numbers : Layout → Network → ℕ → ℕ → LocalState → List ℕ
+header_numbers l net id degree s =
+    net.nodes ∷ id ∷ (capacity_numbers l net.capacity ++ (degree ∷ s.distance ∷ parent_number s.parent ∷ []))
+
+-- a payload: its distance, parent and ring value
+abbrev pub payload_numbers : Payload → List ℕ
+payload_numbers p = p.distance ∷ parent_number p.parent ∷ p.ring ∷ []
+
+-- the port to w: its neighbour's id, its number, the last number accepted, the payloads staged and
+-- copied, and the value of the machine that comes in from there
+abbrev pub port_numbers : LocalState → ℕ → List ℕ
+port_numbers s w =
+    let p = s.port w in
+    w ∷ p.seq ∷ p.last ∷ (payload_numbers p.staged ++ (payload_numbers p.copy ++ (s.value w ∷ [])))
+
+-- the spelling of a state, with these ids as its neighbours; the desk is no part of it
+abbrev pub spelling : Layout → Network → ℕ → List ℕ → LocalState → List ℕ
+spelling l net id neighbours s =
+    magic l ++ flat_map (big_bytes 2) (header_numbers l net id (length neighbours) s ++ flat_map (port_numbers s) neighbours)

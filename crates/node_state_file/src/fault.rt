@@ -1,0 +1,37 @@
+//! Why bytes are no state of a node.
+ghost use Rattle.std.specs.Prelude.{◌≡◌};
+ghost use Rattle.node_state_file.specs.declared.fault.FileFault.TheVariants.{Memory};
+
+use std::alloc::AllocError;
+use thiserror::Error;
+
+/// The refusals of a state file, in the order in which they are looked for; `Memory` at any point.
+#[derive(Clone, Copy, Debug, PartialEq, Eq, Drop, Error)]
+pub enum FileFault {
+    /// There are fewer bytes than the magic word, the header or the file's own degree ask for.
+    #[error("Short")]
+    Short,
+    /// The first four bytes are neither `TKT1` nor `TKT2`.
+    #[error("Magic")]
+    Magic,
+    /// The file is of another network or node, or its neighbours are no ascending other nodes.
+    #[error("Shape")]
+    Shape,
+    /// A field is not in its range.
+    #[error("Range")]
+    Range,
+    /// There are bytes behind the last port.
+    #[error("Long")]
+    Long,
+    /// Memory ran out.
+    #[error("Memory")]
+    Memory,
+}
+
+impl From<AllocError> for FileFault {
+    ghost from_gives = { λ _ e. e ≡ Memory };
+
+    fn from(_e: AllocError) -> FileFault {
+        FileFault::Memory
+    }
+}

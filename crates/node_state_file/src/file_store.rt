@@ -1,0 +1,106 @@
+//! A store over a file, which is written in place.
+ghost use Rattle.std.specs.Prelude.{◌≡◌, ◌≤◌, ◌<◌, length, IfOk};
+
+use crate::store::{Store, StoreFault};
+use std::fs::{OpenFile, OpenOptions};
+use std::io::{ErrorKind, Read, Write};
+use std::os::unix::fs::OpenOptionsExt;
+use std::rt::Files;
+use std::{fs, io};
+
+/// A state in a plain file, which only its owner may read and write. A save writes the whole in
+/// place, from the start, in one write, and then the length where it differs: it takes no second
+/// file, cuts nothing off before, and does not wait for the disk. So a file may be torn where the
+/// machine stops in between, which is damage like any other.
+///
+/// A folder, a pipe or a device in the file's place is a failure of the store, and is not waited
+/// for, unless it takes the file's place between the look at it and its opening.
+#[derive(Drop)]
+pub struct FileStore<'a, F> {
+    files: &'a F,
+    path: &'a str,
+    failures: u64,
+}
+
+impl<'a, F: Files> FileStore<'a, F> {
+    /// A store over the file of this path, which may be absent.
+    pub fn new(files: &'a F, path: &'a str) -> FileStore<'a, F>
+        ensures { result.failures ≡ 0 }
+    {
+        FileStore {
+            files,
+            path,
+            failures: 0,
+        }
+    }
+}
+
+impl<'a, F: Files> Store for FileStore<'a, F> {
+    ghost use Rattle.std.specs.Prelude.{None};
+
+    ghost stored = { λ _. None };
+
+    ghost failures = { λ s. s.failures };
+
+    fn load(&mut self, buffer: &mut [u8; 1277]) -> Result<usize, StoreFault> {
+        match read_front(self.files, self.path, buffer) {
+            Ok(count) => Ok(count),
+            Err(error) if error.kind() == ErrorKind::NotFound => Err(StoreFault::Absent),
+            Err(_) => {
+                self.failures = self.failures.saturating_add(1);
+                Err(StoreFault::Device)
+            }
+        }
+    }
+
+    fn save(&mut self, bytes: &[u8]) -> Result<(), StoreFault> {
+        match write_in_place(self.files, self.path, bytes) {
+            Ok(()) => Ok(()),
+            Err(_) => {
+                self.failures = self.failures.saturating_add(1);
+                Err(StoreFault::Device)
+            }
+        }
+    }
+}
+
+/// Reads the first bytes of a plain file, and says how many.
+fn read_front<F: Files>(files: &F, path: &str, buffer: &mut [u8; 1277]) -> io::Result<usize>
+    ensures { IfOk result (λ count. count ≤ 1277) }
+{
+    if !fs::metadata(files, path)?.is_file() {
+        return Err(io::Error::from(ErrorKind::InvalidInput));
+    }
+    let mut file = fs::File::open(files, path)?;
+    let mut count = 0;
+    while count < 1277 {
+        let read = file.read(&mut buffer[count..])?;
+        if read == 0 {
+            break;
+        }
+        count += read;
+    }
+    Ok(count)
+}
+
+/// Writes all of a plain file in place, in one write, and then its length where that differs.
+fn write_in_place<F: Files>(files: &F, path: &str, bytes: &[u8]) -> io::Result<()> {
+    match fs::metadata(files, path) {
+        Ok(found) if !found.is_file() => return Err(io::Error::from(ErrorKind::InvalidInput)),
+        Err(error) if error.kind() != ErrorKind::NotFound => return Err(error),
+        _ => {}
+    }
+    let mut file = OpenOptions::new()
+        .write(true)
+        .create(true)
+        .mode(0o600)
+        .open(files, path)?;
+    if file.write(bytes)? < bytes.len() {
+        return Err(io::Error::from(ErrorKind::WriteZero));
+    }
+    let length = bytes.len() as u64;
+    if file.metadata()?.len() != length {
+        file.set_len(length)?;
+    }
+    Ok(())
+}

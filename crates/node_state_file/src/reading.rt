@@ -1,0 +1,202 @@
+//! Bytes are read as a node's state.
+ghost use Rattle.std.specs.Prelude.{◌≡◌, ◌≢◌, ◌≤◌, ◌<◌, ◌+◌, ◌*◌, Ok, Err, IfOk, IfErr, IsTrue};
+ghost use Rattle.std.specs.Prelude.{Contains, nat_lt, not, ◌&&◌, ◌==◌, length};
+ghost use Rattle.std.specs.List.{list_all};
+ghost use Rattle.topology.specs.Network.{neighbours_of};
+ghost use Rattle.topology.specs.Ranges.{ranges_of};
+ghost use Rattle.topology.specs.At.{at};
+ghost use Rattle.node_core.specs.Site.{site_of};
+ghost use Rattle.node_core.specs.State.{default_node};
+ghost use Rattle.node_core.specs.View.{site_in, state_of};
+ghost use Rattle.node_state_file.specs.Reading.{decoded, ids_of, ports_in, are_ascending};
+ghost use Rattle.node_state_file.specs.Reading.{are_others, fields_fit, found, matched};
+ghost use Rattle.node_state_file.specs.Reading.{port_or_new, saved_port_fits};
+ghost use Rattle.node_state_file.specs.declared.fault.FileFault.TheVariants.{Memory};
+
+use crate::fault::FileFault;
+use crate::layout::Layout;
+use crate::saved::{Header, SavedPort};
+use arrayvec::ArrayVec;
+use node_core::NodeState;
+use std::alloc::Allocator;
+use topology::{Net, Ranges};
+
+/// Reads the state of node `id` of a network. Both layouts are read. The ports to nodes that are no
+/// neighbours any more are dropped, a new neighbour's port is as at the start, and the desk is
+/// empty.
+///
+/// # Errors
+/// The first that holds, in the order of [`FileFault`]'s rule: `Short` under 4 bytes; `Magic`;
+/// `Short` under the header's length; `Shape` where the header is of another network or node;
+/// `Short` under what the file's own degree asks for; `Shape` where the neighbours are no ascending
+/// other nodes; `Range`; `Long`. `Memory` comes at any point.
+pub fn decode<A: Allocator + Copy, N: Allocator + Copy>(
+    alloc: A,
+    bytes: &[u8],
+    net: &Net<N>,
+    id: u16,
+) -> Result<NodeState<A>, FileFault>
+    requires { id < net.now.nodes }
+    ensures ok { IfOk result (λ node. decoded net.now id bytes.now ≡ Ok (state_of node)) }
+    ensures site { IfOk result (λ node. site_in node ≡ site_of net.now id) }
+    ensures err { IfErr result
+        (λ fault. fault ≢ Memory → decoded net.now id bytes.now ≡ Err fault) }
+{
+    let saved = read_file(bytes, net, id)?;
+    let mut node = NodeState::new(alloc, net, id)?;
+    restore(&mut node, net, &saved);
+    Ok(node)
+}
+
+/// What a file says of its node.
+#[derive(Drop)]
+pub(crate) struct SavedState {
+    pub header: Header,
+    pub ports: ArrayVec<SavedPort, 63>,
+}
+
+/// What a file says of node `id` of a network; all of it is in range.
+pub(crate) fn read_file<N: Allocator + Copy>(
+    bytes: &[u8],
+    net: &Net<N>,
+    id: u16,
+) -> Result<SavedState, FileFault>
+    ensures ok { IfOk result
+        (λ saved. decoded net.now id bytes.now
+        ≡ Ok (matched net.now id saved.header saved.ports.items)) }
+    ensures fits { IfOk result
+        (λ saved. IsTrue (fields_fit (ranges_of net.now) saved.header saved.ports.items)) }
+    ensures err { IfErr result (λ fault. decoded net.now id bytes.now ≡ Err fault) }
+{
+    let Some(layout) = Layout::of(bytes) else {
+        return Err(if bytes.len() < 4 {
+            FileFault::Short
+        } else {
+            FileFault::Magic
+        });
+    };
+    if bytes.len() < layout.header_length() {
+        return Err(FileFault::Short);
+    }
+    let header = Header::read(layout, bytes);
+    if !header.is_of(net, id) {
+        return Err(FileFault::Shape);
+    }
+    let rest = &bytes[layout.header_length()..];
+    let needed = 20 * usize::from(header.degree);
+    if rest.len() < needed {
+        return Err(FileFault::Short);
+    }
+    let ports = read_ports(rest, header.degree);
+    if !are_others(&ports, net.nodes(), id) {
+        return Err(FileFault::Shape);
+    }
+    if !(header.fits(net.ranges()) && ports_fit(&ports, net.ranges())) {
+        return Err(FileFault::Range);
+    }
+    if rest.len() > needed {
+        return Err(FileFault::Long);
+    }
+    Ok(SavedState { header, ports })
+}
+
+/// The first ports of these bytes.
+fn read_ports(bytes: &[u8], count: u16) -> ArrayVec<SavedPort, 63>
+    requires most { count ≤ 63 }
+    requires there { 20 * count ≤ length bytes.now }
+    ensures { result.items ≡ ports_in count bytes.now }
+{
+    let mut ports = ArrayVec::new();
+    for at in 0..usize::from(count) {
+        ports.push(SavedPort::read(&bytes[20 * at..]));
+    }
+    ports
+}
+
+/// Whether the ids of the neighbours ascend, and each is another node's.
+fn are_others(ports: &[SavedPort], nodes: u16, id: u16) -> bool
+    ensures { result ≡ are_others nodes id ports.now }
+{
+    are_ascending(ports) && are_other_nodes(ports, nodes, id)
+}
+
+/// Whether each neighbour's id is below the next.
+fn are_ascending(ports: &[SavedPort]) -> bool
+    ensures { result ≡ are_ascending (ids_of ports.now) }
+{
+    for at in 1..ports.len() {
+        if ports[at - 1].neighbour >= ports[at].neighbour {
+            return false;
+        }
+    }
+    true
+}
+
+/// Whether each neighbour is another node.
+fn are_other_nodes(ports: &[SavedPort], nodes: u16, id: u16) -> bool
+    ensures { result ≡ list_all
+        (λ p. nat_lt p.neighbour nodes && not (p.neighbour == id)) ports.now }
+{
+    ports
+        .iter()
+        .all(|port| port.neighbour < nodes && port.neighbour != id)
+}
+
+/// Whether each field of each port is in its range.
+fn ports_fit(ports: &[SavedPort], ranges: Ranges) -> bool
+    ensures { result ≡ list_all (saved_port_fits ranges) ports.now }
+{
+    ports.iter().all(|port| port.fits(ranges))
+}
+
+/// The port to a neighbour, where the file has one.
+fn found(ports: &[SavedPort], neighbour: u16) -> Option<SavedPort>
+    ensures { result ≡ found ports.now neighbour }
+{
+    for port in ports {
+        if port.neighbour == neighbour {
+            return Some(*port);
+        }
+    }
+    None
+}
+
+/// Writes what a file says of a node that is as at the start.
+pub(crate) fn restore<A: Allocator, N: Allocator + Copy>(
+    node: &mut NodeState<A>,
+    net: &Net<N>,
+    saved: &SavedState,
+)
+    requires id { (site_in node.old).id < net.now.nodes }
+    requires site { site_in node.old ≡ site_of net.now (site_in node.old).id }
+    requires start { state_of node.old ≡ default_node (ranges_of net.now) }
+    requires fits { IsTrue (fields_fit (ranges_of net.now) saved.now.header saved.now.ports.items) }
+    ensures state { state_of node.new
+        ≡ matched net.now (site_in node.old).id saved.now.header saved.now.ports.items }
+    ensures site { site_in node.new ≡ site_in node.old }
+{
+    let _own = node.set_own(saved.header.distance, saved.header.parent);
+    let neighbours = net.neighbours(node.id());
+    for neighbour in neighbours {
+        if let Some(port) = found(&saved.ports, *neighbour) {
+            write_port(node, *neighbour, port);
+        }
+    }
+}
+
+/// Writes a port that is in range.
+fn write_port<A: Allocator>(node: &mut NodeState<A>, neighbour: u16, port: SavedPort)
+    requires there { Contains (site_in node.old).neighbours neighbour }
+    requires fits { IsTrue (saved_port_fits (site_in node.old).ranges port) }
+    ensures state { state_of node.new
+        ≡ record (state_of node.old) {
+          port = at (state_of node.old).port neighbour (record { seq = port.seq; last = port.last; staged = port.staged; copy = port.copy });
+          value = at (state_of node.old).value neighbour port.value;
+        } }
+    ensures site { site_in node.new ≡ site_in node.old }
+{
+    let _counters = node.set_counters(neighbour, port.seq, port.last);
+    let _staged = node.set_staged(neighbour, port.staged);
+    let _copy = node.set_copy(neighbour, port.copy);
+    let _value = node.set_value(neighbour, port.value);
+}
