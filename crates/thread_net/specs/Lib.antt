@@ -1,0 +1,4 @@
+pub mod Stamps
+pub mod Ports
+pub mod Runner
+pub mod Rounds
