@@ -1,0 +1,102 @@
+-- A command's own status is answered where the lock was held all the while, and nowhere else.
+use Rattle.std.proofs.Common.{◌≡◌, Bool, false, List, [], ◌∷◌, arith, refl, inl, inr}
+use Rattle.lock_client.specs.declared.answer.Answer.{Answer}
+use Rattle.lock_client.specs.declared.answer.Answer.TheVariants as answer
+use Rattle.lock_client.specs.declared.outcome.CommandEnd.{CommandEnd}
+use Rattle.lock_client.specs.declared.outcome.Outcome.{Outcome}
+use Rattle.lock_client.specs.declared.outcome.Outcome.TheVariants.{Done, Lost, NotInTime, NoService}
+use Rattle.lock_client.specs.declared.client.Stage.TheVariants.{Asking, Holding, Losing, Returning, Over}
+use Rattle.lock_client.specs.declared.client.Event.{Event}
+use Rattle.lock_client.specs.declared.client.Event.TheVariants.{Line, Gone, TimeIsUp, Ended}
+use Rattle.lock_client.specs.Steps.{stage_after_all, stage_after}
+use Rattle.lock_client.specs.Laws.{IsReleasedNext, IsHeldToTheEnd, HeldThroughout}
+
+-- what is over stays so
+over : (outcome : Outcome) (events : List Event) → stage_after_all false (Over outcome) events ≡ Over outcome
+over outcome [] = refl
+over outcome (e ∷ es) = over outcome es
+
+-- what is over without the lock is never done
+lost : (end : CommandEnd) (events : List Event) → stage_after_all false (Over Lost) events ≡ Over (Done end) → ⊥
+lost end events same = let no : Over Lost ≡ Over (Done end) = rw (over Lost events) at same in grind arith
+
+refused : (end : CommandEnd) (events : List Event) → stage_after_all false (Over NoService) events ≡ Over (Done end) → ⊥
+refused end events same = let no : Over NoService ≡ Over (Done end) = rw (over NoService events) at same in grind arith
+
+late : (end : CommandEnd) (events : List Event) → stage_after_all false (Over NotInTime) events ≡ Over (Done end) → ⊥
+late end events same = let no : Over NotInTime ≡ Over (Done end) = rw (over NotInTime events) at same in grind arith
+
+never : (end : CommandEnd) (events : List Event) → stage_after_all false Losing events ≡ Over (Done end) → ⊥
+never end [] same = grind arith
+never end (Line a ∷ es) same = never end es same
+never end (Gone ∷ es) same = never end es same
+never end (TimeIsUp ∷ es) same = never end es same
+never end (Ended other ∷ es) same = lost end es same
+
+-- behind the end of its command a client is done only where the node said released
+released : (was end : CommandEnd) (events : List Event) → stage_after_all false (Returning was) events ≡ Over (Done end)
+    → (was ≡ end) × IsReleasedNext events
+released was end [] same = elim (lost end [] (grind arith)) [ ]
+released was end (Line answer.Released ∷ es) same =
+    let now : Over (Done was) ≡ Over (Done end) = rw (over (Done was) es) at same in (grind arith, inl refl)
+released was end (Ended again ∷ es) same = let rest : _ = released was end es same in (rest.0, inr ((again, refl), rest.1))
+released was end (Line answer.Granted ∷ es) same = elim (lost end es same) [ ]
+released was end (Line answer.Lost ∷ es) same = elim (lost end es same) [ ]
+released was end (Line answer.Full ∷ es) same = elim (lost end es same) [ ]
+released was end (Line answer.Twice ∷ es) same = elim (lost end es same) [ ]
+released was end (Line answer.Stranger ∷ es) same = elim (lost end es same) [ ]
+released was end (Line answer.Unknown ∷ es) same = elim (lost end es same) [ ]
+released was end (Line answer.Other ∷ es) same = elim (lost end es same) [ ]
+released was end (Gone ∷ es) same = elim (lost end es same) [ ]
+released was end (TimeIsUp ∷ es) same = elim (lost end es same) [ ]
+
+-- a client that holds the lock is done only where nothing came before its command ended
+held : (end : CommandEnd) (events : List Event) → stage_after_all false Holding events ≡ Over (Done end) → IsHeldToTheEnd end events
+held end [] same = grind arith
+held end (Line a ∷ es) same = elim (never end es same) [ ]
+held end (Gone ∷ es) same = elim (never end es same) [ ]
+held end (TimeIsUp ∷ es) same = inr (refl, held end es same)
+held end (Ended was ∷ es) same = let rest : _ = released was end es same in inl (rw rest.0 refl, rest.1)
+
+-- a client is done only where the lock was held throughout
+pub throughout : (end : CommandEnd) (events : List Event) → stage_after_all false Asking events ≡ Over (Done end) → HeldThroughout end events
+throughout end [] same = grind arith
+throughout end (Line answer.Granted ∷ es) same = inl (refl, held end es same)
+throughout end (Line answer.Full ∷ es) same = inr (inl refl, throughout end es same)
+throughout end (Ended other ∷ es) same = inr (inr (other, refl), throughout end es same)
+throughout end (Line answer.Lost ∷ es) same = elim (refused end es same) [ ]
+throughout end (Line answer.Released ∷ es) same = elim (refused end es same) [ ]
+throughout end (Line answer.Twice ∷ es) same = elim (refused end es same) [ ]
+throughout end (Line answer.Stranger ∷ es) same = elim (refused end es same) [ ]
+throughout end (Line answer.Unknown ∷ es) same = elim (refused end es same) [ ]
+throughout end (Line answer.Other ∷ es) same = elim (refused end es same) [ ]
+throughout end (Gone ∷ es) same = elim (refused end es same) [ ]
+throughout end (TimeIsUp ∷ es) same = elim (late end es same) [ ]
+
+-- and there it is
+is-released : (end : CommandEnd) (events : List Event) → IsReleasedNext events → stage_after_all false (Returning end) events ≡ Over (Done end)
+is-released end [] none = elim none [ ]
+is-released end (e ∷ es) (inl same) = rw same (over (Done end) es)
+is-released end (e ∷ es) (inr ((other, same), next)) = rw same (is-released end es next)
+
+is-held : (end : CommandEnd) (events : List Event) → IsHeldToTheEnd end events → stage_after_all false Holding events ≡ Over (Done end)
+is-held end [] none = elim none [ ]
+is-held end (e ∷ es) (inl (same, next)) = rw same (is-released end es next)
+is-held end (e ∷ es) (inr (same, next)) = rw same (is-held end es next)
+
+pub is_done : (end : CommandEnd) (events : List Event) → HeldThroughout end events → stage_after_all false Asking events ≡ Over (Done end)
+is_done end [] none = elim none [ ]
+is_done end (e ∷ es) (inl (same, next)) = rw same (is-held end es next)
+is_done end (e ∷ es) (inr (inl same, next)) = rw same (is_done end es next)
+is_done end (e ∷ es) (inr (inr (other, same), next)) = rw same (is_done end es next)
+
+-- a client that gave the lock back is over with the node's next word
+pub heard : (keeps : Bool) (end : CommandEnd) (any : Answer) → (outcome : Outcome) × (stage_after keeps (Line any) (Returning end) ≡ Over outcome)
+heard keeps end answer.Granted = (_, refl)
+heard keeps end answer.Lost = (_, refl)
+heard keeps end answer.Released = (_, refl)
+heard keeps end answer.Full = (_, refl)
+heard keeps end answer.Twice = (_, refl)
+heard keeps end answer.Stranger = (_, refl)
+heard keeps end answer.Unknown = (_, refl)
+heard keeps end answer.Other = (_, refl)

@@ -1,0 +1,4 @@
+pub mod Counting
+pub mod Holding
+pub mod LineLemmas
+pub mod Rows

@@ -1,0 +1,4 @@
+pub mod Lines
+pub mod Outcome
+pub mod Steps
+pub mod Laws

@@ -1,0 +1,37 @@
+-- The lines of a desk, as its clients read them.
+use Rattle.std.specs.Prelude.{◌≡◌, ℕ, if◌then◌else◌, List, [], map, codes}
+use Rattle.std.specs.Str.{bytes_eq}
+use Rattle.byte_lines.specs.Lines.{whole_lines}
+use Rattle.lock_client.specs.declared.answer.Answer.{Answer}
+use Rattle.lock_client.specs.declared.answer.Answer.TheVariants.{Granted, Lost, Released, Full, Twice, Stranger, Unknown, Other}
+
+-- what a line says: seven words are known, byte for byte
+abbrev pub answer_line : List ℕ → Answer
+answer_line line =
+    if bytes_eq line (codes "granted") then Granted
+    else if bytes_eq line (codes "lost") then Lost
+    else if bytes_eq line (codes "released") then Released
+    else if bytes_eq line (codes "full") then Full
+    else if bytes_eq line (codes "twice") then Twice
+    else if bytes_eq line (codes "stranger") then Stranger
+    else if bytes_eq line (codes "unknown") then Unknown
+    else Other
+
+-- what the bytes of a desk say, line by line
+abbrev pub answer_lines : List ℕ → List Answer
+answer_lines bytes = map answer_line (whole_lines bytes)
+
+-- the line of an answer, without its newline
+abbrev pub answer_text : Answer → List ℕ
+answer_text Granted = codes "granted"
+answer_text Lost = codes "lost"
+answer_text Released = codes "released"
+answer_text Full = codes "full"
+answer_text Twice = codes "twice"
+answer_text Stranger = codes "stranger"
+answer_text Unknown = codes "unknown"
+answer_text Other = []
+
+-- each answer is read as what it is
+abbrev pub AnswersAreRead : Type 0
+AnswersAreRead = (answer : Answer) → answer_line (answer_text answer) ≡ answer

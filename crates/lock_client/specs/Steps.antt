@@ -1,0 +1,87 @@
+-- What a client of the lock makes of what happens to it.
+use Rattle.std.specs.Prelude.{Bool, true, false, List, [], ◌∷◌}
+use Rattle.lock_client.specs.declared.answer.Answer.TheVariants as answer
+use Rattle.lock_client.specs.declared.outcome.CommandEnd.{CommandEnd}
+use Rattle.lock_client.specs.declared.outcome.Outcome.{Outcome}
+use Rattle.lock_client.specs.declared.outcome.Outcome.TheVariants.{Done, Lost, NotInTime, NoService}
+use Rattle.lock_client.specs.declared.client.Stage.{Stage}
+use Rattle.lock_client.specs.declared.client.Stage.TheVariants.{Asking, Holding, Losing, Returning, Over}
+use Rattle.lock_client.specs.declared.client.Event.{Event}
+use Rattle.lock_client.specs.declared.client.Event.TheVariants.{Line, Gone, TimeIsUp, Ended}
+use Rattle.lock_client.specs.declared.client.Deed.{Deed}
+use Rattle.lock_client.specs.declared.client.Deed.TheVariants.{Wait, AskAgain, Start, GiveBack, EndCommand, SayLost, Finish}
+
+-- a client that asked holds the lock once that is granted, and asks again where there was no room;
+-- any other word, or none in time, ends it
+abbrev pub asking_after : Event → Stage
+asking_after (Line answer.Granted) = Holding
+asking_after (Line answer.Full) = Asking
+asking_after (Line _) = Over NoService
+asking_after Gone = Over NoService
+asking_after TimeIsUp = Over NotInTime
+asking_after (Ended end) = Asking
+
+-- a client that holds the lock gives it back when its command ends; any word of the node, and its
+-- going away, puts the lock in doubt
+abbrev pub holding_after : Event → Stage
+holding_after (Line _) = Losing
+holding_after Gone = Losing
+holding_after TimeIsUp = Holding
+holding_after (Ended end) = Returning end
+
+-- where the lock may have been lost under the command, that is how it ends, save where the client
+-- was told to let the command run on
+abbrev pub in_doubt : Bool → CommandEnd → Outcome
+in_doubt true end = Done end
+in_doubt false end = Lost
+
+-- without the lock, the end of the command is awaited
+abbrev pub losing_after : Bool → Event → Stage
+losing_after keeps (Ended end) = Over (in_doubt keeps end)
+losing_after keeps _ = Losing
+
+-- once the command has ended, the node's word that the lock was given back makes all well, and
+-- anything else puts it in doubt
+abbrev pub returning_after : Bool → Event → CommandEnd → Stage
+returning_after keeps (Line answer.Released) end = Over (Done end)
+returning_after keeps (Ended again) end = Returning end
+returning_after keeps _ end = Over (in_doubt keeps end)
+
+-- the stage after an event
+abbrev pub stage_after : Bool → Event → Stage → Stage
+stage_after keeps event Asking = asking_after event
+stage_after keeps event Holding = holding_after event
+stage_after keeps event Losing = losing_after keeps event
+stage_after keeps event (Returning end) = returning_after keeps event end
+stage_after keeps event (Over outcome) = Over outcome
+
+-- what is said of a lock that is lost, and what becomes of the command
+abbrev pub losing_deed : Bool → Deed
+losing_deed true = SayLost
+losing_deed false = EndCommand
+
+-- where the desk was full the client asks again
+abbrev pub asking_deed : Event → Deed
+asking_deed (Line answer.Full) = AskAgain
+asking_deed _ = Wait
+
+-- what is to be done between one stage and the next
+abbrev pub deed_between : Bool → Event → Stage → Stage → Deed
+deed_between keeps event _ (Over outcome) = Finish outcome
+deed_between keeps event _ Asking = asking_deed event
+deed_between keeps event Asking Holding = Start
+deed_between keeps event Holding (Returning end) = GiveBack
+deed_between keeps event Holding Losing = losing_deed keeps
+deed_between keeps event _ _ = Wait
+
+-- the stage after a list of events
+abbrev pub stage_after_all : Bool → Stage → List Event → Stage
+stage_after_all keeps stage [] = stage
+stage_after_all keeps stage (e ∷ es) = stage_after_all keeps (stage_after keeps e stage) es
+
+-- what was to be done in them, one after the other
+abbrev pub deeds : Bool → Stage → List Event → List Deed
+deeds keeps stage [] = []
+deeds keeps stage (e ∷ es) =
+    deed_between keeps e stage (stage_after keeps e stage)
+    ∷ deeds keeps (stage_after keeps e stage) es

@@ -1,0 +1,42 @@
+//! What a desk answers.
+ghost use Rattle.std.specs.Prelude.{◌≡◌};
+ghost use Rattle.lock_client.specs.Lines.{answer_text};
+
+/// A line from a node's desk to a client.
+#[derive(Clone, Copy, Debug, PartialEq, Eq)]
+pub enum Answer {
+    /// `granted`: the lock is lent to the client.
+    Granted,
+    /// `lost`: its loan ended without it.
+    Lost,
+    /// `released`: it gave the lock back, or waits no longer.
+    Released,
+    /// `full`: as many wait at the node as may.
+    Full,
+    /// `twice`: it waits or borrows already.
+    Twice,
+    /// `stranger`: it neither waits nor borrows.
+    Stranger,
+    /// `unknown`: the desk knows no such line.
+    Unknown,
+    /// Any other line, as a status line.
+    Other,
+}
+
+impl Answer {
+    /// The line without its newline; nothing for `Other`, which stands for many.
+    pub fn text(self) -> &'static [u8]
+        ensures { result.now ≡ answer_text self }
+    {
+        match self {
+            Answer::Granted => b"granted",
+            Answer::Lost => b"lost",
+            Answer::Released => b"released",
+            Answer::Full => b"full",
+            Answer::Twice => b"twice",
+            Answer::Stranger => b"stranger",
+            Answer::Unknown => b"unknown",
+            Answer::Other => b"",
+        }
+    }
+}

@@ -1,0 +1,198 @@
+//! What a client of the lock does next.
+ghost use Rattle.std.specs.Prelude.{◌≡◌};
+ghost use Rattle.lock_client.specs.Steps.{stage_after, asking_after, holding_after, losing_after};
+ghost use Rattle.lock_client.specs.Steps.{returning_after, in_doubt};
+ghost use Rattle.lock_client.specs.Steps.{deed_between, asking_deed, losing_deed};
+
+use crate::{Answer, CommandEnd, Outcome};
+
+/// How far a client is.
+#[derive(Clone, Copy, Debug, PartialEq, Eq)]
+pub enum Stage {
+    /// It asked for the lock, and has no answer yet.
+    Asking,
+    /// The lock is lent to it, and its command runs.
+    Holding,
+    /// The lock is lost, or in doubt, and its command still runs.
+    Losing,
+    /// Its command ended so, and it gave the lock back; the node has not yet said that it did.
+    Returning(CommandEnd),
+    /// All is over.
+    Over(Outcome),
+}
+
+/// What happens to a client.
+#[derive(Clone, Copy, Debug, PartialEq, Eq)]
+pub enum Event {
+    /// The desk answered this line.
+    Line(Answer),
+    /// The connection closed or failed, or there was none.
+    Gone,
+    /// The time that the client was ready to wait for an answer is over.
+    TimeIsUp,
+    /// The command ended, or could not be started.
+    Ended(CommandEnd),
+}
+
+/// What is to be done now.
+#[derive(Clone, Copy, Debug, PartialEq, Eq)]
+pub enum Deed {
+    /// Nothing: wait for what happens next.
+    Wait,
+    /// Write `lock` again, after a rest: there was no room at the desk.
+    AskAgain,
+    /// Start the command.
+    Start,
+    /// Write `unlock`.
+    GiveBack,
+    /// Say that the lock is lost, and end the command.
+    EndCommand,
+    /// Say that the lock is lost, and let the command run on.
+    SayLost,
+    /// Close the connection, and end so.
+    Finish(Outcome),
+}
+
+/// A client that takes the lock once, runs a command under it, and gives it back. Who makes one
+/// writes `lock` first.
+#[derive(Clone, Copy, Debug, PartialEq, Eq)]
+pub struct LockClient {
+    keeps_running: bool,
+    stage: Stage,
+}
+
+impl LockClient {
+    ghost use Rattle.lock_client.specs.declared.client.Stage.TheVariants.{Asking};
+
+    /// A client that has just asked. Where the lock is lost under its command, the command runs on
+    /// or is ended, as this says.
+    pub fn new(keeps_running: bool) -> LockClient
+        ensures keeps { result.keeps_running ≡ keeps_running }
+        ensures asks { result.stage ≡ Asking }
+    {
+        LockClient {
+            keeps_running,
+            stage: Stage::Asking,
+        }
+    }
+
+    /// How far it is.
+    pub fn stage(&self) -> Stage
+        ensures { result ≡ self.now.stage }
+    {
+        self.stage
+    }
+
+    /// Takes note of what happened, and says what is to be done. What cannot happen at that stage
+    /// changes nothing.
+    pub fn step(&mut self, event: Event) -> Deed
+        ensures stage { self.new ≡ record self.old {
+          stage = stage_after self.old.keeps_running event self.old.stage;
+        } }
+        ensures deed { result
+            ≡ deed_between self.old.keeps_running event self.old.stage self.new.stage }
+    {
+        let before = self.stage;
+        self.stage = match before {
+            Stage::Asking => while_asking(event),
+            Stage::Holding => while_holding(event),
+            Stage::Losing => self.while_losing(event),
+            Stage::Returning(end) => self.while_returning(event, end),
+            Stage::Over(_) => before,
+        };
+        self.deed(event, before)
+    }
+
+    /// The command runs without the lock.
+    fn while_losing(&self, event: Event) -> Stage
+        ensures { result ≡ losing_after self.now.keeps_running event }
+    {
+        match event {
+            Event::Ended(end) => Stage::Over(self.in_doubt(end)),
+            _ => Stage::Losing,
+        }
+    }
+
+    /// The command has ended, and the node's word is awaited.
+    fn while_returning(&self, event: Event, end: CommandEnd) -> Stage
+        ensures { result ≡ returning_after self.now.keeps_running event end }
+    {
+        match event {
+            Event::Line(Answer::Released) => Stage::Over(Outcome::Done(end)),
+            Event::Ended(_) => Stage::Returning(end),
+            _ => Stage::Over(self.in_doubt(end)),
+        }
+    }
+
+    /// How it ends where the command ended so and the lock may have been lost under it.
+    fn in_doubt(&self, end: CommandEnd) -> Outcome
+        ensures { result ≡ in_doubt self.now.keeps_running end }
+    {
+        if self.keeps_running {
+            Outcome::Done(end)
+        } else {
+            Outcome::Lost
+        }
+    }
+
+    /// What is to be done, now that the stage was another one before.
+    fn deed(&self, event: Event, before: Stage) -> Deed
+        ensures { result ≡ deed_between self.now.keeps_running event before self.now.stage }
+    {
+        match self.stage {
+            Stage::Over(outcome) => Deed::Finish(outcome),
+            Stage::Asking => asking_deed(event),
+            Stage::Holding if before == Stage::Asking => Deed::Start,
+            Stage::Returning(_) if before == Stage::Holding => Deed::GiveBack,
+            Stage::Losing if before == Stage::Holding => self.losing_deed(),
+            _ => Deed::Wait,
+        }
+    }
+
+    /// What is to be done where the lock is lost under the command.
+    fn losing_deed(&self) -> Deed
+        ensures { result ≡ losing_deed self.now.keeps_running }
+    {
+        if self.keeps_running {
+            Deed::SayLost
+        } else {
+            Deed::EndCommand
+        }
+    }
+}
+
+/// What is to be done while the lock is waited for.
+fn asking_deed(event: Event) -> Deed
+    ensures { result ≡ asking_deed event }
+{
+    match event {
+        Event::Line(Answer::Full) => Deed::AskAgain,
+        _ => Deed::Wait,
+    }
+}
+
+/// It waits for the lock.
+fn while_asking(event: Event) -> Stage
+    ensures { result ≡ asking_after event }
+{
+    match event {
+        Event::Line(Answer::Granted) => Stage::Holding,
+        Event::Line(Answer::Full) => Stage::Asking,
+        Event::Line(_) => Stage::Over(Outcome::NoService),
+        Event::Gone => Stage::Over(Outcome::NoService),
+        Event::TimeIsUp => Stage::Over(Outcome::NotInTime),
+        Event::Ended(_) => Stage::Asking,
+    }
+}
+
+/// It has the lock. Whatever the node says now, the lock is lost or in doubt.
+fn while_holding(event: Event) -> Stage
+    ensures { result ≡ holding_after event }
+{
+    match event {
+        Event::Line(_) => Stage::Losing,
+        Event::Gone => Stage::Losing,
+        Event::TimeIsUp => Stage::Holding,
+        Event::Ended(end) => Stage::Returning(end),
+    }
+}

@@ -1,0 +1,31 @@
+//! A client of the lock: what it writes to a node's desk, what the answers mean, and what it does
+//! next.
+//!
+//! A program that runs a command under the lock holds a [`LockClient`] and tells it what happens:
+//! a line came, the node is gone, the time is up, the command ended. Each call answers what is to
+//! be done now. It opens no socket, starts no command and reads no clock; whoever holds it does.
+//!
+//! ```
+//! let mut client = LockClient::new(false);            // `lock` is written first
+//! client.step(Event::Line(Answer::Granted));          // Deed::Start: start the command
+//! client.step(Event::Ended(CommandEnd::Exited(0)));   // Deed::GiveBack: write `unlock`
+//! client.step(Event::Line(Answer::Released));         // Deed::Finish(..), whose status is 0
+//! ```
+//!
+//! The trap: that the command has ended is not enough. Its own status is answered only where the
+//! node then says `released`: else the lock may have been lost while the command ran.
+//!
+//! Its statuses are those of `timeout` and `env`, with one of its own, 122, for a lock that was
+//! lost.
+#![tactic(auto)]
+
+mod answer;
+mod client;
+pub mod laws;
+mod lines;
+mod outcome;
+
+pub use answer::Answer;
+pub use client::{Deed, Event, LockClient, Stage};
+pub use lines::{AnswerReader, spelled};
+pub use outcome::{CommandEnd, Outcome};

@@ -1,0 +1,93 @@
+//! The lines between a client and a desk, as the client writes and reads them.
+ghost use Rattle.std.specs.Prelude.{◌≡◌, ◌++◌, ◌∷◌, [], List, ℕ};
+ghost use Rattle.std.specs.Option.{option_to_list};
+ghost use Rattle.byte_lines.specs.Kept.{StandsAfter};
+ghost use Rattle.lock_desk.specs.ClientText.{client_lines};
+ghost use Rattle.lock_client.specs.Lines.{answer_line, answer_lines};
+
+use crate::Answer;
+use byte_lines::{HalfLine, LineReading};
+use lock_desk::ClientLine;
+use std::marker::Model;
+
+/// What a client writes for this, with its newline: a desk reads this very line and no other. For
+/// `Unknown` that is the empty line.
+pub fn spelled(line: ClientLine) -> &'static [u8]
+    ensures { client_lines result.now ≡ line ∷ [] }
+{
+    match line {
+        ClientLine::Lock => b"lock\n",
+        ClientLine::Unlock => b"unlock\n",
+        ClientLine::Status => b"status\n",
+        ClientLine::Unknown => b"\n",
+    }
+}
+
+/// Reads a desk's answers, in whatever pieces their bytes come. It keeps at most 8 bytes of the
+/// line under way, and takes no memory.
+#[derive(Drop)]
+pub struct AnswerReader {
+    half: HalfLine<8>,
+}
+
+impl Model for AnswerReader {
+    ghost use Rattle.byte_lines.specs.Kept.{Kept};
+
+    ghost Value = { Kept };
+
+    ghost view = { λ r. r.half };
+}
+
+impl AnswerReader {
+    /// A reader to which no byte came.
+    pub fn new() -> AnswerReader
+        ensures { StandsAfter 8 [] result }
+    {
+        AnswerReader {
+            half: HalfLine::new(),
+        }
+    }
+
+    /// Takes the next byte, and answers the line that it ends, if it is a newline.
+    pub fn push(&mut self, byte: u8) -> Option<Answer>
+        ensures stands { (bytes : List ℕ) → StandsAfter 8 bytes self.old
+            → StandsAfter 8 (bytes ++ byte ∷ []) self.new }
+        ensures line { (bytes : List ℕ) → StandsAfter 8 bytes self.old
+            → answer_lines (bytes ++ byte ∷ []) ≡ answer_lines bytes ++ option_to_list result }
+    {
+        self.half.push(byte, &Answers)
+    }
+}
+
+/// What a desk's line says. No answer has more than 8 bytes.
+struct Answers;
+
+impl LineReading<8> for Answers {
+    type Read = Answer;
+
+    ghost reading = { λ _. answer_line };
+
+    fn read(&self, line: &[u8]) -> Answer {
+        known(line)
+    }
+
+    fn read_long(&self, _: &[u8]) -> Answer {
+        Answer::Other
+    }
+}
+
+/// What the line says.
+fn known(line: &[u8]) -> Answer
+    ensures { result ≡ answer_line line.now }
+{
+    match line {
+        b"granted" => Answer::Granted,
+        b"lost" => Answer::Lost,
+        b"released" => Answer::Released,
+        b"full" => Answer::Full,
+        b"twice" => Answer::Twice,
+        b"stranger" => Answer::Stranger,
+        b"unknown" => Answer::Unknown,
+        _ => Answer::Other,
+    }
+}

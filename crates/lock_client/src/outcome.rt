@@ -1,0 +1,59 @@
+//! How a program that took the lock ends.
+ghost use Rattle.std.specs.Prelude.{◌≡◌};
+ghost use Rattle.lock_client.specs.Outcome.{end_status, outcome_status};
+
+/// How a command ended.
+#[derive(Clone, Copy, Debug, PartialEq, Eq)]
+pub enum CommandEnd {
+    /// With this status.
+    Exited(u8),
+    /// By this signal.
+    Killed(u8),
+    /// It is there and cannot be run.
+    CannotRun,
+    /// It is not there.
+    NotThere,
+}
+
+impl CommandEnd {
+    /// The status that stands for it: the command's own; 128 and the signal's number, at most 255;
+    /// 126; 127.
+    fn status(self) -> u8
+        ensures { result ≡ end_status self }
+    {
+        match self {
+            CommandEnd::Exited(status) => status,
+            CommandEnd::Killed(signal) => signal.saturating_add(128),
+            CommandEnd::CannotRun => 126,
+            CommandEnd::NotThere => 127,
+        }
+    }
+}
+
+/// How it all ended.
+#[derive(Clone, Copy, Debug, PartialEq, Eq)]
+pub enum Outcome {
+    /// The command ended so, and the lock was held all the while.
+    Done(CommandEnd),
+    /// The lock was lost, or may have been, before it was given back.
+    Lost,
+    /// The lock was not granted in time.
+    NotInTime,
+    /// There is no lock service, or it failed before the lock was granted.
+    NoService,
+}
+
+impl Outcome {
+    /// The status of the program: the command's; 122 for a lost lock; 124, as `timeout` has it; and
+    /// 125, as `env` has it for a failure of its own.
+    pub fn status(self) -> u8
+        ensures { result ≡ outcome_status self }
+    {
+        match self {
+            Outcome::Done(end) => end.status(),
+            Outcome::Lost => 122,
+            Outcome::NotInTime => 124,
+            Outcome::NoService => 125,
+        }
+    }
+}

@@ -1,0 +1,237 @@
+-- Small examples of each rule, and ones that fail. Times are microseconds; a frame is repeated after
+-- 8,000, and a hold lasts 2,000.
+use Rattle.std.proofs.Common.{◌≡◌, ℕ, true, false, Some, refl}
+use Rattle.topology.specs.declared.frame.Payload.{Payload}
+use Rattle.topology.specs.declared.frame.Frame.{Frame}
+use Rattle.pace.specs.declared.node.Outlook.{Outlook}
+use Rattle.pace.specs.declared.pace.Manner.{Manner}
+use Rattle.pace.specs.declared.port.PortSight.{PortSight}
+use Rattle.pace.specs.declared.port.PortPace.{PortPace}
+use Rattle.pace.specs.declared.port.Hearing.TheVariants as hearing
+use Rattle.pace.specs.Ports.{fresh_port, is_due, given_port, heard_port, hearing_of, times_heard}
+use Rattle.pace.specs.Nodes.{quiet_node, holds, may_tick, called, moved_on, calls_for_haste}
+use Rattle.pace.specs.Plans.{called_port, goes_on, rest_at, node_rest}
+
+-- distance 1, parent 0, and this value of the machine
+saying : ℕ → Payload
+saying ring = record { distance = 1; parent = Some 0; ring = ring }
+
+framed : ℕ → Frame
+framed ring = record { seq = 3; ack = 2; payload = saying ring }
+
+-- the machine's value 5 is staged, and this one is present
+seeing : ℕ → PortSight
+seeing ring = record { takes_frames = true; frame = framed 5; present = saying ring }
+
+-- the staged frame was given once, at 10,000
+given_once : PortPace
+given_once = given_port (framed 5) 10000 fresh_port
+
+manner : Manner
+manner = record { hold = 2000; repeat = 8000 }
+
+-- nobody waits, nobody borrows, and there is a lease
+idle : Outlook
+idle = record { waits = false; lends = false; has_lease = true; let_go = false }
+
+-- a frame is due where none was given yet, and not where none is taken
+due-first : is_due (seeing 5) false 8000 10000 fresh_port ≡ true
+unfolding seeing framed saying
+due-first = refl
+
+due_not-loose : is_due (record (seeing 5) { takes_frames = false }) false 8000 10000 fresh_port ≡ false
+unfolding seeing framed saying
+due_not-loose = refl
+
+-- it was just given, and all is said; then the repetition time is over, or lies ahead
+due_not-given : is_due (seeing 5) false 8000 10001 given_once ≡ false
+unfolding seeing framed saying given_once
+due_not-given = refl
+
+due-repeated : is_due (seeing 5) false 8000 18000 given_once ≡ true
+unfolding seeing framed saying given_once
+due-repeated = refl
+
+due-ahead : is_due (seeing 5) false 8000 9999 given_once ≡ true
+unfolding seeing framed saying given_once
+due-ahead = refl
+
+-- the payload is news
+due-news : is_due (record (seeing 6) { frame = framed 6 }) false 8000 10001 given_once ≡ true
+unfolding seeing framed saying given_once
+due-news = refl
+
+-- a question: what is present is not staged. It is given twice, and not while the node holds, but
+-- for its distance and its parent
+due-question : is_due (seeing 6) false 8000 10001 given_once ≡ true
+unfolding seeing framed saying given_once
+due-question = refl
+
+due_not-asked : is_due (seeing 6) false 8000 10001 (given_port (framed 5) 10000 given_once) ≡ false
+unfolding seeing framed saying given_once
+due_not-asked = refl
+
+due_not-held : is_due (seeing 6) true 8000 10001 given_once ≡ false
+unfolding seeing framed saying given_once
+due_not-held = refl
+
+due-place : is_due (record (seeing 5) { present = record { distance = 2; parent = Some 0; ring = 5 } }) true 8000 10001 given_once ≡ true
+unfolding seeing framed saying given_once
+due-place = refl
+
+-- an answer is owed to the second equal frame, and no longer once a frame was given
+owes : is_due (seeing 5) true 8000 10001 (heard_port (framed 9) (heard_port (framed 9) given_once)) ≡ true
+unfolding seeing framed saying given_once
+owes = refl
+
+owes_not-first : is_due (seeing 5) true 8000 10001 (heard_port (framed 9) given_once) ≡ false
+unfolding seeing framed saying given_once
+owes_not-first = refl
+
+owes_not-answered : (given_port (framed 5) 10001 (heard_port (framed 9) (heard_port (framed 9) given_once))).owes ≡ false
+unfolding seeing framed saying given_once
+owes_not-answered = refl
+
+-- the second equal frame is a question, the third nothing, the fourth a call; another one starts anew
+hears : hearing_of 1 ≡ hearing.Frame
+hears = refl
+
+hears-question : hearing_of 2 ≡ hearing.Question
+hears-question = refl
+
+hears_not-third : hearing_of 3 ≡ hearing.Frame
+hears_not-third = refl
+
+hears-call : hearing_of 4 ≡ hearing.Call
+hears-call = refl
+
+counts-equal : times_heard (framed 9) (heard_port (framed 9) fresh_port) ≡ 2
+unfolding framed saying
+counts-equal = refl
+
+counts-other : times_heard (framed 8) (heard_port (framed 9) fresh_port) ≡ 1
+unfolding framed saying
+counts-other = refl
+
+-- a call goes on until the frame was given four times in a row
+passes_on : (given_port (framed 5) 10001 (given_port (framed 5) 10001 (called_port true given_once))).calls ≡ true
+unfolding framed saying given_once
+passes_on = refl
+
+passed_on : (given_port (framed 5) 10001 (given_port (framed 5) 10001 (given_port (framed 5) 10001 (called_port true given_once)))).calls ≡ false
+unfolding framed saying given_once
+passed_on = refl
+
+-- two tree neighbours: a call is good for eight moves; within 25 milliseconds a second one goes no
+-- further
+call-credit : (called 2 10000 quiet_node).credit ≡ 8
+call-credit = refl
+
+goes : goes_on hearing.Call 2 10000 quiet_node ≡ true
+goes = refl
+
+goes_not-again : goes_on hearing.Call 2 30000 (called 2 10000 quiet_node) ≡ false
+goes_not-again = refl
+
+goes-later : goes_on hearing.Call 2 35000 (called 2 10000 quiet_node) ≡ true
+goes-later = refl
+
+goes_not-question : goes_on hearing.Question 2 10000 quiet_node ≡ false
+goes_not-question = refl
+
+-- a move begins a hold, and a hasty move uses one credit and begins none; a call is forgotten after
+-- 100 milliseconds, and credit is cut to what a call gives
+holds-moved : holds idle manner 10001 (moved_on true 2 manner 10000 quiet_node) ≡ true
+unfolding idle manner
+holds-moved = refl
+
+holds_not-over : holds idle manner 12000 (moved_on true 2 manner 10000 quiet_node) ≡ false
+unfolding idle manner
+holds_not-over = refl
+
+hasty : moved_on true 2 manner 10001 (called 2 10000 quiet_node)
+    ≡ record { hold_until = 0; credit = 7; called_at = 10000; ticked_at = 10001 }
+unfolding manner
+hasty = refl
+
+forgotten : (moved_on true 2 manner 110000 (called 2 10000 quiet_node)).hold_until ≡ 112000
+unfolding manner
+forgotten = refl
+
+cut : (moved_on false 2 manner 10001 (record (called 2 10000 quiet_node) { credit = 4000000000 })).credit ≡ 8
+unfolding manner
+cut = refl
+
+-- no hold where somebody waits, or has just let go, or where its end lies further ahead than a hold
+holds_not-waited : holds (record idle { waits = true }) manner 10001 (moved_on true 2 manner 10000 quiet_node) ≡ false
+unfolding idle manner
+holds_not-waited = refl
+
+holds_not-let_go : holds (record idle { let_go = true }) manner 10001 (moved_on true 2 manner 10000 quiet_node) ≡ false
+unfolding idle manner
+holds_not-let_go = refl
+
+holds_not-far : holds idle manner 10000 (record quiet_node { hold_until = 12001 }) ≡ false
+unfolding idle manner
+holds_not-far = refl
+
+-- a node at which somebody waits and nobody borrows calls, and again after 50 milliseconds or where
+-- its haste runs low
+calls : calls_for_haste (record idle { waits = true }) 2 10000 quiet_node ≡ true
+unfolding idle
+calls = refl
+
+calls_not-lent : calls_for_haste (record idle { waits = true; lends = true }) 2 10000 quiet_node ≡ false
+unfolding idle
+calls_not-lent = refl
+
+calls_not-again : calls_for_haste (record idle { waits = true }) 2 59999 (called 2 10000 quiet_node) ≡ false
+unfolding idle
+calls_not-again = refl
+
+calls-again : calls_for_haste (record idle { waits = true }) 2 60000 (called 2 10000 quiet_node) ≡ true
+unfolding idle
+calls-again = refl
+
+calls-low : calls_for_haste (record idle { waits = true }) 2 10001 (record (called 2 10000 quiet_node) { credit = 2 }) ≡ true
+unfolding idle
+calls-low = refl
+
+-- ticks are left out while a loan with a lease runs, and then for 2 milliseconds
+ticks-idle : may_tick idle 10001 (record quiet_node { ticked_at = 10000 }) ≡ true
+unfolding idle
+ticks-idle = refl
+
+ticks_not-leased : may_tick (record idle { lends = true }) 11999 (record quiet_node { ticked_at = 10000 }) ≡ false
+unfolding idle
+ticks_not-leased = refl
+
+ticks-leased : may_tick (record idle { lends = true }) 12000 (record quiet_node { ticked_at = 10000 }) ≡ true
+unfolding idle
+ticks-leased = refl
+
+ticks-no_lease : may_tick (record idle { lends = true; has_lease = false }) 10001 (record quiet_node { ticked_at = 10000 }) ≡ true
+unfolding idle
+ticks-no_lease = refl
+
+ticks-ahead : may_tick (record idle { lends = true }) 10000 (record quiet_node { ticked_at = 10001 }) ≡ true
+unfolding idle
+ticks-ahead = refl
+
+-- rests: nothing where a frame is due, the time to the repetition, 2 milliseconds at most, and no
+-- longer than the hold
+rests-due : rest_at (seeing 5) false 8000 10000 fresh_port ≡ 0
+unfolding seeing framed saying
+rests-due = refl
+
+rests-soon : rest_at (seeing 5) false 8000 17500 given_once ≡ 500
+unfolding seeing framed saying given_once
+rests-soon = refl
+
+rests-most : rest_at (seeing 5) false 8000 10001 given_once ≡ 2000
+unfolding seeing framed saying given_once
+rests-most = refl
+
+rests-hold : node_rest idle manner 10500 (moved_on true 2 manner 10000 quiet_node) ≡ 1500
+unfolding idle manner
+rests-hold = refl

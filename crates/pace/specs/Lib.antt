@@ -1,0 +1,5 @@
+pub mod Clock
+pub mod Ports
+pub mod Nodes
+pub mod Plans
+pub mod Laws
