@@ -90,7 +90,7 @@ impl<A: Allocator + Copy> Configuration<A> {
         Configuration::with_spares(alloc, net, 0)
     }
 
-    /// The same, with so many spare pairs of links, at most 256: each is for one edge more than
+    /// The same, with `pairs` spare pairs of links, at most 256: each is for one edge more than
     /// there are.
     pub fn with_spares<N: Allocator + Copy>(
         alloc: A,

@@ -138,7 +138,7 @@ fn lay_all<A: Allocator + Copy, N: Allocator + Copy>(
 }
 
 impl<A: Allocator + Copy> Links<A> {
-    /// Empty links of a network, of which a copy is kept, and so many spare pairs of links besides.
+    /// Empty links of a network, of which a copy is kept, and `pairs` spare pairs of links besides.
     /// All places are reserved here.
     pub fn with_spares<N: Allocator + Copy>(
         alloc: A,

@@ -25,7 +25,7 @@ abbrev pub node_in : World → Network → ℕ → LocalState
 node_in w net v = rewired (ranges_of w.net) (neighbours_of w.net v) (neighbours_of net v) (w.node v)
 
 -- the world in a network with another edge, or without one, between u and v: both have their new
--- neighbours, nothing is under way between them, and so many pairs of links are spare then
+-- neighbours, nothing is under way between them, and `spares` pairs of links are spare
 abbrev pub world_in : World → Network → (u v spares : ℕ) → World
 world_in w net u v spares = record {
   net = net;

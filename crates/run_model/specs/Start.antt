@@ -5,7 +5,7 @@ use Rattle.topology.specs.Ranges.{ranges_of}
 use Rattle.node_core.specs.State.{default_node}
 use Rattle.run_model.specs.World.{World}
 
--- every node is as it starts, nothing is under way, and so many pairs of links are spare
+-- every node is as it starts, nothing is under way, and `pairs` pairs of links are spare
 abbrev pub world_with_spares : Network → (pairs : ℕ) → World
 world_with_spares net pairs = record { net = net; spares = pairs; node = λ v. default_node (ranges_of net); link = λ u v. [] }
 
