@@ -5,7 +5,8 @@ use Rattle.topology.specs.declared.frame.Frame.{Frame}
 use Rattle.topology.specs.declared.frame.Payload.{Payload}
 use Rattle.link_model.specs.declared.item.Item.{Item}
 use Rattle.link_model.specs.declared.item.Item.TheVariants as item
-use Rattle.data_link.specs.Port.{PortState, default_port, heard_of, port_after, port_fits}
+use Rattle.data_link.specs.Port.{PortState, default_port, port_after, port_fits}
+use Rattle.data_link.specs.Heard.{heard_of}
 use Rattle.data_link.specs.Edge.{EdgeState, EdgeEvent, SendOut, SendBack, TakeOut, TakeBack, LoseOut, IsStable, IsStableWith, edge_run, edge_step_with, moves_in}
 use Rattle.data_link.specs.Sweep.{IsSweep, is_out_renewed, is_back_renewed}
 

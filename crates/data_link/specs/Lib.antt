@@ -1,4 +1,5 @@
 pub mod Port
+pub mod Heard
 pub mod Edge
 pub mod Sweep
 pub mod SixSweeps

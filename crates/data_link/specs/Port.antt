@@ -1,11 +1,10 @@
 -- A port: what a node keeps of one neighbour to exchange numbered frames with it.
-use Rattle.std.specs.Prelude.{ℕ, Bool, ◌&&◌, ◌==◌, not, nat_lt, None, if◌then◌else◌}
+use Rattle.std.specs.Prelude.{ℕ, Bool, ◌&&◌, ◌==◌, nat_lt, None, if◌then◌else◌}
 use Rattle.topology.specs.Ranges.{payload_fits}
 use Rattle.topology.specs.declared.frame.Frame.{Frame}
 use Rattle.topology.specs.declared.frame.Payload.{Payload}
 use Rattle.topology.specs.declared.frame.Ranges.{Ranges}
 use Rattle.k_state.specs.Machine.{root_moved}
-use Rattle.data_link.specs.declared.heard.Heard.{Heard}
 
 -- The number under which the staged payload goes out, the last number that was accepted from the
 -- neighbour, and the copy of the neighbour's payload that came with it.
@@ -54,7 +53,3 @@ port_heard p f = if f.seq == p.last then p else record p { last = f.seq; copy = 
 -- the port after a frame: first its acknowledgement counts, then its number
 abbrev pub port_after : ℕ → PortState → Frame → Payload → PortState
 port_after modulus p f present = port_heard (port_acked modulus p f present) f
-
--- whether a frame moves the port's number, and whether it is accepted
-abbrev pub heard_of : PortState → Frame → Heard
-heard_of p f = record { moved = f.ack == p.seq; accepted = not (f.seq == p.last) }

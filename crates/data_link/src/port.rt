@@ -1,8 +1,8 @@
 //! One end of an edge.
 ghost use Rattle.std.specs.Prelude.{◌≡◌, ◌↔◌, ◌<◌, IsTrue, IsOk, OnOk, OnErr};
 ghost use Rattle.topology.specs.Ranges.{frame_fits, payload_fits, ranges_of};
-ghost use Rattle.data_link.specs.Port.{counters_fit, default_port, frame_of, heard_of, port_after};
-ghost use Rattle.data_link.specs.Port.{port_fits};
+ghost use Rattle.data_link.specs.Heard.{heard_of};
+ghost use Rattle.data_link.specs.Port.{counters_fit, default_port, frame_of, port_after, port_fits};
 
 use crate::fault::OutOfRange;
 use crate::heard::Heard;

@@ -11,8 +11,8 @@ use Rattle.std.proofs.lemmas.List.Sums.{length-filter, count_by-le-length}
 use Rattle.std.proofs.lemmas.List.FromFn.{length-range_with_len}
 use Rattle.topology.specs.Network.{Network, are_joined, neighbours_of}
 use Rattle.data_link.specs.Port.{PortView, port_fits, default_port}
-use Rattle.registers.specs.Registers.{RegistersView, IsPortOf, IsRegisters, port_of, value_of}
-use Rattle.registers.specs.Rewire.{is_among, port_or_new, rewired_ports, rewired_values}
+use Rattle.registers.specs.Registers.{RegistersView, IsPortOf, IsRegisters, port_of, port_or_new, value_of}
+use Rattle.registers.specs.Rewire.{is_among, rewired_ports, rewired_values}
 
 -- whether w is a neighbour, as a test
 among-from_Contains : (ns : List ℕ) (w : ℕ) → Contains ns w → is_among ns w ≡ true

@@ -1,5 +1,5 @@
 -- The registers of a node: what it keeps of every other node, by that node's id.
-use Rattle.std.specs.Prelude.{◌≡◌, ℕ, ◌<◌, ◌≤◌, IsTrue, List, length, All, Contains, slice_index_or, slice_index}
+use Rattle.std.specs.Prelude.{◌≡◌, ℕ, ◌<◌, ◌≤◌, Bool, IsTrue, if◌then◌else◌, List, length, All, Contains, slice_index_or, slice_index}
 use Rattle.std.specs.List.Sorted.{IsStrictlyIncreasing}
 use Rattle.topology.specs.declared.frame.Ranges.{Ranges}
 use Rattle.data_link.specs.Port.{PortState, PortView, port_fits, default_port}
@@ -20,6 +20,10 @@ port_of r w =
 -- the value of the machine that comes in from w; past the last node 0
 abbrev pub value_of : RegistersView → ℕ → ℕ
 value_of r w = slice_index r.values w
+
+-- a port as it is, or as at the start
+abbrev pub port_or_new : (forgotten : Bool) → PortView → PortView
+port_or_new forgotten p = if forgotten then record p { state = default_port p.ranges } else p
 
 -- a port of these ranges, in range
 pub record IsPortOf (ranges : Ranges) (p : PortView) : Type 0 where

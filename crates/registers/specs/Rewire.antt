@@ -2,15 +2,11 @@
 use Rattle.std.specs.Prelude.{ℕ, Bool, ◌&&◌, ◌==◌, if◌then◌else◌, List}
 use Rattle.std.specs.List.{list_any}
 use Rattle.topology.specs.declared.frame.Ranges.{Ranges}
-use Rattle.data_link.specs.Port.{PortState, PortView, default_port}
+use Rattle.data_link.specs.Port.{PortState, default_port}
 
 -- w is one of the neighbours
 abbrev pub is_among : List ℕ → ℕ → Bool
 is_among neighbours w = list_any (λ u. u == w) neighbours
-
--- a port as it is, or as at the start
-abbrev pub port_or_new : (forgotten : Bool) → PortView → PortView
-port_or_new forgotten p = if forgotten then record p { state = default_port p.ranges } else p
 
 -- w is a neighbour before and after
 abbrev pub stays : (old new : List ℕ) → ℕ → Bool

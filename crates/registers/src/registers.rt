@@ -6,10 +6,12 @@ ghost use Rattle.std.specs.Vec.{vec_capacity};
 ghost use Rattle.topology.specs.At.{at};
 ghost use Rattle.topology.specs.Network.{neighbours_of};
 ghost use Rattle.topology.specs.Ranges.{frame_fits, payload_fits, ranges_of};
+ghost use Rattle.data_link.specs.Heard.{heard_of};
 ghost use Rattle.data_link.specs.Port.{PortState, PortView, counters_fit, default_port, frame_of};
-ghost use Rattle.data_link.specs.Port.{heard_of, port_after};
-ghost use Rattle.registers.specs.Registers.{RegistersView, IsRegisters, port_of, value_of};
-ghost use Rattle.registers.specs.Rewire.{is_among, port_or_new, rewired_ports, rewired_values};
+ghost use Rattle.data_link.specs.Port.{port_after};
+ghost use Rattle.registers.specs.Registers.{RegistersView, IsRegisters, port_of, port_or_new};
+ghost use Rattle.registers.specs.Registers.{value_of};
+ghost use Rattle.registers.specs.Rewire.{is_among, rewired_ports, rewired_values};
 
 use data_link::{Heard, OutOfRange, Port};
 use std::alloc::{AllocError, Allocator, Global};

@@ -7,9 +7,9 @@ use Rattle.std.proofs.lemmas.Bool.Decides.{nat_tests}
 use Rattle.std.proofs.lemmas.List.Sums.{length-filter, count_by-le-length, AllPass-from_list_all, list_all-from_AllPass}
 use Rattle.std.proofs.lemmas.List.Elements.{All-append, All-filter}
 use Rattle.std.proofs.lemmas.List.FromFn.{length-range_with_len, get_or-range_with_len}
-use Rattle.topology.specs.Network.{Network, Edge, are_joined, is_between, is_same_edge, has_double_edge, IsWalk, IsConnected, IsEdgeBelow, IsWithinLimits, IsAcceptedNetwork}
-use Rattle.topology.specs.Tree.{distance_of, reaches, least_below}
-use Rattle.topology.specs.Change.{joined_net, join_fault, parted_net, is_connected, part_fault, is_same_frame}
+use Rattle.topology.specs.Network.{Network, Edge, are_joined, is_between, is_same_edge, has_double_edge, IsWalk, IsConnected, IsEdgeBelow, IsWithinLimits, IsAcceptedNetwork, joined_net, parted_net}
+use Rattle.topology.specs.Tree.{distance_of, reaches, least_below, is_connected}
+use Rattle.topology.specs.Change.{join_fault, part_fault, is_same_frame}
 use Rattle.topology.specs.declared.fault.NetFault.TheVariants.{NoEdge, Apart}
 use Rattle.topology.proofs.Changed.{or_both, joined_after_join}
 use Rattle.topology.proofs.Reached.{walk_of}

@@ -7,8 +7,7 @@ use Rattle.std.proofs.lemmas.Bool.{cases_Bool, false≢true}
 use Rattle.std.proofs.lemmas.Bool.Decides.{nat_tests}
 use Rattle.std.proofs.lemmas.List.Folds.{list_any-append}
 use Rattle.std.proofs.lemmas.List.Quantifiers.{position-Some}
-use Rattle.topology.specs.Network.{Network, Edge, are_joined, is_between, is_same_edge, has_double_edge, neighbours_of}
-use Rattle.topology.specs.Change.{joined_net, edges_without, parted_net}
+use Rattle.topology.specs.Network.{Network, Edge, are_joined, is_between, is_same_edge, has_double_edge, neighbours_of, joined_net, edges_without, parted_net}
 use Rattle.topology.proofs.Joined.{or_comm}
 use Rattle.topology.proofs.SearchByLevels.{between_cases}
 

@@ -7,10 +7,10 @@ use Rattle.topology.specs.declared.frame.Payload.{Payload}
 use Rattle.topology.specs.declared.frame.Frame.{Frame}
 use Rattle.topology.specs.declared.fault.NetFault.TheVariants.{TooSmall, TooBig, BadRoot, BadCapacity, BadLease, BadEdge, LoopEdge, DoubleEdge, Apart, NoEdge}
 use Rattle.topology.specs.At.{at}
-use Rattle.topology.specs.Network.{Network, neighbours_of, IsWalk, IsConnected, IsEdgeBelow, IsAcceptedNetwork, counter_of, ring_of, bound_of}
+use Rattle.topology.specs.Network.{Network, neighbours_of, IsWalk, IsConnected, IsEdgeBelow, IsAcceptedNetwork, counter_of, ring_of, bound_of, joined_net, parted_net}
 use Rattle.topology.specs.Ranges.{ranges_of, payload_fits, frame_fits}
 use Rattle.topology.specs.Tree.{reaches, distance_of, parent_of}
-use Rattle.topology.specs.Change.{join_fault, joined_net, part_fault, parted_net, is_same_frame}
+use Rattle.topology.specs.Change.{join_fault, part_fault, is_same_frame}
 use Rattle.topology.specs.Refusal.{Values, Ends, value_fault}
 use Rattle.topology.specs.Reading.{two_integers}
 

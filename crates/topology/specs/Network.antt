@@ -3,7 +3,7 @@
 -- those of graph theory. The spanning tree by distances from a root, and its smallest parents, are
 -- those of Dolev, Israeli and Moran (Self-stabilization of dynamic systems assuming only read/write
 -- atomicity, 1993) and Dolev (Self-Stabilization, 2000).
-use Rattle.std.specs.Prelude.{◌≡◌, ◌≢◌, ℕ, ◌+◌, ◌-◌, ◌*◌, ◌<◌, ◌≤◌, Bool, ◌&&◌, ◌||◌, ◌==◌, IsTrue, List, [], ◌∷◌, length, filter, All, false}
+use Rattle.std.specs.Prelude.{◌≡◌, ◌≢◌, ℕ, ◌+◌, ◌-◌, ◌*◌, ◌<◌, ◌≤◌, Bool, ◌&&◌, ◌||◌, ◌==◌, IsTrue, List, [], ◌∷◌, ◌++◌, length, filter, All, false, not}
 use Rattle.std.specs.List.{list_any, range_with_len}
 
 -- an edge by its two ends
@@ -72,6 +72,18 @@ is_same_edge e f = is_between e.0 e.1 f
 abbrev pub has_double_edge : List Edge → Bool
 has_double_edge [] = false
 has_double_edge (e ∷ es) = list_any (is_same_edge e) es || has_double_edge es
+
+-- the network with one more edge, the last
+abbrev pub joined_net : Network → ℕ → ℕ → Network
+joined_net net u v = record net { edges = net.edges ++ (u, v) ∷ [] }
+
+-- the edges that do not join the two; the others stay in their order
+abbrev pub edges_without : List Edge → ℕ → ℕ → List Edge
+edges_without edges u v = filter (λ e. not (is_between u v e)) edges
+
+-- the network without the edge that joins the two
+abbrev pub parted_net : Network → ℕ → ℕ → Network
+parted_net net u v = record net { edges = edges_without net.edges u v }
 
 -- each node has a walk from the root
 abbrev pub IsConnected : Network → Type 0

@@ -1,8 +1,8 @@
 -- Distances and true parents as functions that compute. What a distance and a true parent are is
 -- said by walks, in Network; the laws say that these functions agree with it on each accepted
 -- network.
-use Rattle.std.specs.Prelude.{ℕ, zero, suc, ◌+◌, Bool, ◌==◌, if◌then◌else◌, Option}
-use Rattle.std.specs.List.{list_any, find}
+use Rattle.std.specs.Prelude.{ℕ, zero, suc, ◌+◌, Bool, ◌==◌, if◌then◌else◌, nat_lt, Option}
+use Rattle.std.specs.List.{list_any, list_all, find, range_with_len}
 use Rattle.topology.specs.Network.{Network, neighbours_of}
 
 -- a walk of the number of steps leads from the root to v
@@ -18,6 +18,10 @@ least_below (suc limit) test = if test 0 then 0 else suc (least_below limit (λ 
 -- the least number of steps that lead from the root to v; the number of nodes where no walk does
 abbrev pub distance_of : Network → ℕ → ℕ
 distance_of net v = least_below net.nodes (λ steps. reaches net steps v)
+
+-- each node has a walk from the root, as a test: its distance is below the number of nodes
+abbrev pub is_connected : Network → Bool
+is_connected net = list_all (λ v. nat_lt (distance_of net v) net.nodes) (range_with_len 0 net.nodes)
 
 -- the neighbour is one nearer to the root
 abbrev pub is_one_nearer : Network → ℕ → ℕ → Bool

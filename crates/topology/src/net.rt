@@ -152,6 +152,7 @@ impl<A: Allocator + Copy> Net<A> {
     /// The distance of a node: the least length of a walk from the root to it, below `nodes()`.
     pub fn distance(&self, v: u16) -> u16
         requires { v < self.now.nodes }
+        // By walks, as a distance is meant; and the function that computes it.
         ensures walk { IsDistance self.now v result }
         ensures computed { result ≡ distance_of self.now v }
     {
@@ -162,6 +163,7 @@ impl<A: Allocator + Copy> Net<A> {
     /// for the root.
     pub fn parent(&self, v: u16) -> Option<u16>
         requires { v < self.now.nodes }
+        // By walks, as a true parent is meant; and the function that computes it.
         ensures root { v ≡ self.now.root → IsNone result }
         ensures some { IfSome result (IsTrueParent self.now v) }
         ensures other { v ≢ self.now.root → IsSome result }

@@ -1,8 +1,8 @@
 //! How a network changes: an edge joins or goes. Nodes, root, capacity and lease stay, and no
 //! memory is taken.
 ghost use Rattle.std.specs.Prelude.{◌≡◌, IfErr, IsTrue, None, OnErr, OnOk, Some};
-ghost use Rattle.topology.specs.Change.{is_same_frame, join_fault, joined_net, part_fault};
-ghost use Rattle.topology.specs.Change.{parted_net};
+ghost use Rattle.topology.specs.Network.{joined_net, parted_net};
+ghost use Rattle.topology.specs.Change.{is_same_frame, join_fault, part_fault};
 
 use crate::fault::NetFault;
 use crate::graph::{

@@ -23,6 +23,7 @@ impl Net {
     /// The first [`NetFault`] that the text has, in their order; `Memory` where memory ran out on
     /// the way.
     pub fn read(alloc: Global, text: &str) -> Result<Net, NetFault>
+        // The network that the text's values make, and else the first fault that holds.
         ensures ok { IfOk result (IsReadFrom text.now) }
         ensures err { IfErr result (IsUnread text.now) }
     {

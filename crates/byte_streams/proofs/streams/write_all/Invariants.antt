@@ -2,7 +2,7 @@ use Rattle.std.proofs.Common.{length, ◌-◌, take, ◌≤◌}
 use Rattle.byte_streams.specs.Streams.{Takes}
 use Rattle.byte_streams.proofs.streams.write_all.Given as goal
 
--- so many bytes were written
+-- `written` bytes were written
 abbrev pub invariant-loop-written : goal.invariant-loop-written
 invariant-loop-written g l =
     (l.written ≤ length l.bytes) × Takes (take l.written l.bytes) (g.W.Sink.taken l.fn.sink) (g.W.Sink.taken l.sink)

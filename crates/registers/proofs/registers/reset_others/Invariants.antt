@@ -1,6 +1,7 @@
 use Rattle.std.proofs.Common.{◌≡◌, ℕ, length, not, ◌&&◌, nat_lt, slice_index_or}
 use Rattle.data_link.specs.Port.{PortView}
-use Rattle.registers.specs.Rewire.{is_among, port_or_new}
+use Rattle.registers.specs.Registers.{port_or_new}
+use Rattle.registers.specs.Rewire.{is_among}
 use Rattle.registers.proofs.registers.reset_others.Given as goal
 
 abbrev pub invariant-loop-w : goal.invariant-loop-w

@@ -1,9 +1,8 @@
 use Rattle.std.proofs.Common.{◌≡◌, ◌∙◌, sym, ap, arith, length, map, true, false}
 use Rattle.std.specs.List.{range_with_len, list_any}
 use Rattle.topology.specs.Layout.{network_of, rows_of}
-use Rattle.topology.specs.Network.{Network, IsAcceptedNetwork, IsWithinLimits, are_joined, neighbours_in}
+use Rattle.topology.specs.Network.{Network, IsAcceptedNetwork, IsWithinLimits, are_joined, neighbours_in, parted_net}
 use Rattle.topology.specs.Spread.{IsSearched, is_unreached}
-use Rattle.topology.specs.Change.{parted_net}
 use Rattle.topology.proofs.LaidOut.{rows_long, laid_out, laid_out_anew, all_connected, written_back, not_connected}
 use Rattle.topology.proofs.Changed.{IsPlaceOf, place_found, place_none, put_back_value}
 use Rattle.topology.proofs.Accepting.{parted_limits, is_apart, no_edge, no_fault, not_connected_test, test_from_connected}
