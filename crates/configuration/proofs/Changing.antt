@@ -8,8 +8,8 @@ use Rattle.std.proofs.Math.Nat.{add-div_right, add-mul-div_left}
 use Rattle.std.proofs.lemmas.List.{length-append}
 use Rattle.std.proofs.lemmas.List.Elements.{All-from_get_or, All-nil}
 use Rattle.std.specs.List.{list_any}
-use Rattle.topology.specs.Network.{Edge, Network, IsAcceptedNetwork, are_joined, has_double_edge, is_between, is_same_edge}
-use Rattle.topology.specs.Change.{edges_without, join_fault, joined_net, parted_net}
+use Rattle.topology.specs.Network.{Edge, Network, IsAcceptedNetwork, are_joined, has_double_edge, is_between, is_same_edge, edges_without, joined_net, parted_net}
+use Rattle.topology.specs.Change.{join_fault}
 use Rattle.topology.specs.Laws.{WhoIsParted}
 use Rattle.topology.specs.Ranges.{ranges_of}
 use Rattle.topology.proofs.Changed.{between_same, or_both, without_none}

@@ -3,8 +3,9 @@ use Rattle.std.proofs.Common.{◌≡◌, ◌≢◌, ◌∙◌, ◌+◌, inl, inr
 use Rattle.std.proofs.lemmas.Bool.{cases_Bool, false≢true}
 use Rattle.std.proofs.lemmas.Grind.{common_steps}
 use Rattle.topology.specs.At.{at}
-use Rattle.topology.specs.Network.{Edge, Network}
-use Rattle.topology.specs.Change.{is_connected, join_fault, parted_net}
+use Rattle.topology.specs.Network.{Edge, Network, parted_net}
+use Rattle.topology.specs.Tree.{is_connected}
+use Rattle.topology.specs.Change.{join_fault}
 use Rattle.node_core.specs.View.{NodeView}
 use Rattle.run_model.specs.World.{World, at_pair}
 use Rattle.run_model.specs.Rewire.{can_join, can_part, node_in, world_in}

@@ -71,6 +71,7 @@ fn new_nodes<A: Allocator + Copy, N: Allocator + Copy>(
     net: &Net<N>,
 ) -> Result<Vec<Node<A>, A>, AllocError>
     ensures nodes { IfOk result (λ nodes. AreNodesOf net.now nodes.items) }
+    // Each is as a node starts.
     ensures states { IfOk result (λ nodes. states_of net.now nodes.items
         ≡ λ v. default_node (ranges_of net.now)) }
 {
@@ -110,6 +111,7 @@ impl<A: Allocator + Copy> Configuration<A> {
     pub fn into_parts(self) -> (Vec<Node<A>, A>, Links<A>)
         ensures nodes { result.0.items ≡ self.nodes }
         ensures links { result.1 ≡ self.links }
+        // Each node knows its own site of the network.
         ensures sites { AreNodesOf result.1.net result.0.items }
     {
         (self.nodes, self.links)
@@ -222,6 +224,7 @@ impl<A: Allocator + Copy> Configuration<A> {
             × (to < (world_of self.now).net.nodes)
             × IsTrue (are_joined (world_of self.now).net.edges from to)
             × (link_fault (world_of self.now) from to ≡ None)) }
+        // Each is among the other's neighbours.
         ensures near { OnOk result (Contains (neighbours_of (world_of self.now).net from) to
             × Contains (neighbours_of (world_of self.now).net to) from) }
         ensures err { IfErr result (λ fault. link_fault (world_of self.now) from to ≡ Some fault) }

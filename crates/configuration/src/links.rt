@@ -1,11 +1,12 @@
 //! The links of a network, with what is under way on them.
 ghost use Rattle.std.specs.Prelude.{◌≡◌, ◌↔◌, ◌+◌, ◌-◌, ◌*◌, ◌<◌, ℕ, ◌≤◌, ◌++◌, List, [], ◌∷◌};
 ghost use Rattle.std.specs.Prelude.{if◌then◌else◌, nat_lt, IsTrue, IfOk, IfErr, IsOk, OnOk, OnErr};
-ghost use Rattle.std.specs.Prelude.{IfSome, None, length, remove, take, drop, slice_get};
+ghost use Rattle.std.specs.Prelude.{IfSome, Some, None, length, remove, take, drop, slice_get};
 ghost use Rattle.std.specs.Prelude.{slice_index_or};
 ghost use Rattle.std.specs.Vec.{vec_capacity};
-ghost use Rattle.topology.specs.Change.{is_connected, join_fault, joined_net, parted_net};
-ghost use Rattle.topology.specs.Network.{IsAcceptedNetwork, are_joined};
+ghost use Rattle.topology.specs.Tree.{is_connected};
+ghost use Rattle.topology.specs.Change.{join_fault};
+ghost use Rattle.topology.specs.Network.{IsAcceptedNetwork, are_joined, joined_net, parted_net};
 ghost use Rattle.topology.specs.declared.fault.NetFault.TheVariants.{Apart};
 ghost use Rattle.topology.specs.Ranges.{ranges_of};
 ghost use Rattle.run_model.specs.World.{item_fits, at_pair};
@@ -69,7 +70,9 @@ fn stock<A: Allocator + Copy>(
     count: u16,
 ) -> Result<(Vec<Link<A>, A>, Vec<u16, A>), AllocError>
     requires few { count < 65535 }
+    // Every link is empty and spare, but for the one of the place 0.
     ensures stocked { IfOk result (λ made. AreStocked capacity count made.0.items made.1.items) }
+    // No place that is given back takes memory.
     ensures room { IfOk result (λ made. count + 1 ≤ vec_capacity made.1) }
 {
     let mut links = Vec::new(alloc);
@@ -88,6 +91,7 @@ fn lay<A: Allocator>(places: &mut PairTable<A>, spares: &mut Vec<u16, A>, from: 
     requires to_in { to < places.old.nodes }
     requires some { 0 < length spares.old.items }
     ensures nodes { places.new.nodes ≡ places.old.nodes }
+    // The link has the last spare place; every other pair keeps its own.
     ensures values { (u v : ℕ) → v < places.old.nodes → value_at places.new u v
         ≡ at_pair (value_at places.old) from to
         (slice_index_or spares.old.items (length spares.old.items - 1) 0) u v }
@@ -122,6 +126,7 @@ fn lay_all<A: Allocator + Copy, N: Allocator + Copy>(
 ) -> Result<PairTable<A>, AllocError>
     requires enough { 2 * length net.now.edges ≤ length spares.old.items }
     ensures network { IsAcceptedNetwork net.now }
+    // Each link of an edge has a place of its own, whatever links are in stock.
     ensures laid { IfOk result (λ places. (links : List LinkView)
         → AreStocked net.now.capacity (length spares.old.items) links spares.old.items
         → ArePlaced net.now (are_joined net.now.edges) places links spares.new.items) }
@@ -165,6 +170,7 @@ impl<A: Allocator + Copy> Links<A> {
     /// The network.
     pub fn net(&self) -> &Net<A>
         ensures net { result.now ≡ self.now.net }
+        // All that holds of links: places of their own, capacities, items in range.
         ensures links { IsLinks self.now }
     {
         &self.net
@@ -205,6 +211,7 @@ impl<A: Allocator + Copy> Links<A> {
         requires fits { IsTrue (item_fits (ranges_of self.old.net) item) }
         ensures net { self.new.net ≡ self.old.net }
         ensures spares { self.new.spares ≡ self.old.spares }
+        // On a full link the item is lost.
         ensures put { under_way self.new
             ≡ (if nat_lt (length (under_way self.old from to)) self.old.net.capacity
             then at_pair (under_way self.old) from to (under_way self.old from to ++ item ∷ [])
@@ -225,6 +232,17 @@ impl<A: Allocator + Copy> Links<A> {
         self.links[place].len()
     }
 
+    /// The item at an index of a link, where 0 is the oldest.
+    pub fn get(&self, from: u16, to: u16, index: usize) -> Item
+        requires from_in { from < self.now.net.nodes }
+        requires to_in { to < self.now.net.nodes }
+        requires there { index < length (under_way self.now from to) }
+        ensures { slice_get (under_way self.now from to) index ≡ Some result }
+    {
+        let place = self.place(from, to);
+        *self.links[place].get(index)
+    }
+
     /// Takes the oldest item of a link.
     pub fn take(&mut self, from: u16, to: u16) -> Option<Item>
         requires from_in { from < self.old.net.nodes }
@@ -234,6 +252,7 @@ impl<A: Allocator + Copy> Links<A> {
         ensures taken { result ≡ slice_get (under_way self.old from to) 0 }
         ensures rest { under_way self.new
             ≡ at_pair (under_way self.old) from to (drop 1 (under_way self.old from to)) }
+        // What is under way is in range.
         ensures fits { IfSome result (λ item. IsTrue (item_fits (ranges_of self.old.net) item)) }
     {
         let place = self.place(from, to);

@@ -35,8 +35,12 @@ impl<'a, A: Allocator + Copy> MemoryPipe<'a, A> {
         stays_open: bool,
         room: usize,
     ) -> Result<MemoryPipe<'a, A>, AllocError>
-        ensures { IfOk result (λ pipe. (pipe.input.now ≡ input.now) × (pipe.given ≡ 0)
+        // It has given and taken nothing.
+        ensures fresh { IfOk result (λ pipe. (pipe.input.now ≡ input.now) × (pipe.given ≡ 0)
             × (pipe.output.items ≡ [])) }
+        ensures manner { IfOk result (λ pipe. (pipe.piece ≡ max piece 1)
+            × (pipe.stays_open ≡ stays_open)) }
+        ensures room { IfOk result (λ pipe. room ≤ vec_capacity pipe.output) }
     {
         Ok(MemoryPipe {
             input,

@@ -3,7 +3,7 @@ use Rattle.socket_links.specs.Counts.{NoneFell}
 use Rattle.socket_links.specs.Pipes.{GoesOn}
 use Rattle.socket_links.proofs.writing.write_line.Given as goal
 
--- so many bytes were taken, and the pipe gave none
+-- `count` bytes were taken, and the pipe gave none
 abbrev pub invariant-loop-count : goal.invariant-loop-count
 invariant-loop-count g l =
     (l.count ≤ length l.bytes) × GoesOn (take l.count l.bytes) (g.P.Pipe.took l.fn.pipe) (g.P.Pipe.took l.pipe)

@@ -1,6 +1,5 @@
 use Rattle.std.proofs.Common.{◌≡◌, ◌≢◌, ◌∙◌, ◌<◌, ◌++◌, ◌-◌, ◌∷◌, [], sym, subst, refl, arith, true, None}
-use Rattle.topology.specs.Change.{joined_net}
-use Rattle.topology.specs.Network.{neighbours_of}
+use Rattle.topology.specs.Network.{neighbours_of, joined_net}
 use Rattle.node_core.specs.Site.{site_of}
 use Rattle.node_core.specs.View.{site_in}
 use Rattle.run_model.specs.Rewire.{can_join}

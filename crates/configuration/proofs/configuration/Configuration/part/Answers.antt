@@ -1,7 +1,6 @@
 use Rattle.std.proofs.Common.{◌≡◌, ◌≢◌, ◌∙◌, ◌+◌, sym, subst, refl, true, None, Err}
 use Rattle.std.proofs.lemmas.Bool.{false≢true}
-use Rattle.topology.specs.Change.{edges_without, parted_net}
-use Rattle.topology.specs.Network.{IsAcceptedNetwork, are_joined, neighbours_of}
+use Rattle.topology.specs.Network.{IsAcceptedNetwork, are_joined, neighbours_of, edges_without, parted_net}
 use Rattle.node_core.specs.Site.{site_of}
 use Rattle.node_core.specs.View.{site_in}
 use Rattle.run_model.specs.Step.{refusal}

@@ -1,6 +1,6 @@
 use Rattle.std.proofs.Common.{◌≡◌, ◌<◌, None, [], subst, sym}
-use Rattle.topology.specs.Change.{join_fault, joined_net}
-use Rattle.topology.specs.Network.{IsAcceptedNetwork}
+use Rattle.topology.specs.Change.{join_fault}
+use Rattle.topology.specs.Network.{IsAcceptedNetwork, joined_net}
 use Rattle.run_model.specs.World.{at_pair}
 use Rattle.configuration.specs.LinksView.{LinksView, IsLinks, spare_pairs, under_way}
 use Rattle.configuration.proofs.Changing.{joined-links, joined-under, must-ok}

@@ -1,8 +1,7 @@
 use Rattle.std.proofs.Common.{◌≡◌, ◌≢◌, ◌∙◌, ◌<◌, IsTrue, [], subst, sym, true, slice_set}
 use Rattle.std.proofs.lemmas.Bool.{false≢true}
 use Rattle.std.proofs.lemmas.List.{length-set}
-use Rattle.topology.specs.Change.{parted_net}
-use Rattle.topology.specs.Network.{IsAcceptedNetwork, are_joined}
+use Rattle.topology.specs.Network.{IsAcceptedNetwork, are_joined, parted_net}
 use Rattle.run_model.specs.World.{at_pair}
 use Rattle.configuration.specs.LinksView.{LinksView, IsLinks, under_way}
 use Rattle.configuration.proofs.Changing.{both-empty, empty-links, empty-under, none-back, none-out, parted-links, parted-under}
