@@ -2,6 +2,7 @@
 use Rattle.std.proofs.Common.{◌≡◌, ◌∙◌, sym, ap, subst, ℕ, ◌+◌, ◌-◌, ◌^◌, min, true, false, IsTrue, is_some, if◌then◌else◌, suc, List, [], ◌∷◌, ◌++◌, append_assoc, arith, refl}
 use Rattle.std.proofs.lemmas.Grind.{common_steps}
 use Rattle.std.proofs.lemmas.List.{append-nil}
+use Rattle.topology.specs.Network.{are_joined}
 use Rattle.run_model.specs.World.{World, IsWorldInRange}
 use Rattle.run_model.specs.Step.{refusal, step}
 use Rattle.run_model.specs.Run.{run, is_damage, IsUndamaged}
@@ -48,6 +49,10 @@ module _ (laws : Below) (start : World) (es : List Event) (e : Event) (now : Wor
       ∙ ap (run moment.world) (sym j.since)
       ∙ (laws.leads start es j.in_range).2
       ∙ sym j.now_is
+
+  -- the two that are joined now were joined when the stretch began
+  pub joined-then : (u v : ℕ) → IsTrue (are_joined now.net.edges u v) → IsTrue (are_joined begun.net.edges u v)
+  joined-then u v joined = subst (λ net. IsTrue (are_joined net.edges u v)) (sym (ap (λ w. w.net) led) ∙ laws.network begun j.stretch stretch-fine) joined
 
   next : run start (es ++ e ∷ []) ≡ step now e
   next = laws.joins start es (e ∷ []) ∙ ap (λ w. step w e) (sym j.now_is)

@@ -1,5 +1,5 @@
 -- Places of tallies, laid one after the other.
-use Rattle.std.proofs.Common.{◌≡◌, ◌*◌, take, ◌∙◌, sym, ap, subst, ℕ, ◌+◌, ◌<◌, ◌≤◌, ◌⊎◌, inl, inr, ◌==◌, ◌&&◌, ◌||◌, not, Bool, true, false, zero, suc, arith, refl, IsTrue, List, [], ◌∷◌, ◌++◌, length, replicate, slice_index_or, if◌then◌else◌}
+use Rattle.std.proofs.Common.{◌≡◌, ◌*◌, take, ◌∙◌, sym, ap, subst, ℕ, ◌+◌, ◌<◌, ◌≤◌, ◌⊎◌, inl, inr, ◌==◌, ◌&&◌, ◌||◌, Bool, false, arith, List, [], ◌∷◌, ◌++◌, length, replicate, slice_index_or}
 use Rattle.std.proofs.Math.Path.{fun_ext}
 use Rattle.std.proofs.lemmas.Grind.{common_steps}
 use Rattle.std.proofs.lemmas.List.{length-replicate, take_more}
@@ -8,7 +8,7 @@ use Rattle.topology.specs.Network.{Edge, Network, IsAcceptedNetwork, are_joined,
 use Rattle.run_model.specs.World.{at_pair}
 use Rattle.configuration.specs.PairTable.{PairTableView, value_at}
 use Rattle.judge.specs.declared.tallies.Tally.{Tally}
-use Rattle.judge.specs.Tallies.{IsTallied, has_place, most_tallies, no_tally, unrenewed_in}
+use Rattle.judge.specs.Tallies.{IsTallied, most_tallies, no_tally, unrenewed_in}
 use Rattle.judge.specs.Laid.{IsLaid}
 use Rattle.judge.proofs.TallyCounts.{none-there, none-unrenewed}
 

@@ -1,5 +1,5 @@
 -- How many tallies are not renewed, as one is written.
-use Rattle.std.proofs.Common.{◌≡◌, ℕ, ◌+◌, ◌-◌, ◌<◌, ◌≤◌, ◌==◌, ◌⊎◌, inl, inr, true, zero, suc, List, [], ◌∷◌, length, replicate, slice_set, slice_index_or, refl, ap, subst, arith}
+use Rattle.std.proofs.Common.{◌≡◌, ℕ, ◌+◌, ◌-◌, ◌<◌, ◌≤◌, ◌==◌, inl, inr, true, zero, suc, List, [], ◌∷◌, length, replicate, slice_set, slice_index_or, refl, ap, subst, arith}
 use Rattle.std.proofs.lemmas.List.{length-set}
 use Rattle.configuration.specs.PairTable.{value_at}
 use Rattle.std.proofs.lemmas.Grind.{common_steps}

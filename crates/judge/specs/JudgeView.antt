@@ -1,10 +1,15 @@
 -- What contracts see of a judge.
-use Rattle.std.specs.Prelude.{◌≡◌, ℕ, ◌+◌, List, [], ◌∷◌, ◌++◌}
+use Rattle.std.specs.Prelude.{◌≡◌, ℕ, ◌+◌, not, ◌&&◌, nat_lt, List, [], ◌∷◌, ◌++◌}
 use Rattle.run_model.specs.World.{World}
-use Rattle.run_model.specs.Count.{IsSweepCount}
+use Rattle.run_model.specs.Run.{run}
+use Rattle.run_model.specs.Sweep.{has_full_tick, is_renewed}
+use Rattle.run_model.specs.Stretch.{old_items}
+use Rattle.run_model.specs.Count.{IsSweepCount, after_damage}
+use Rattle.run_model.specs.Greedy.{IsCounted}
 use Rattle.run_model.specs.declared.event.Event.{Event}
 use Rattle.judge.specs.Judging.{counted_up_to, refused_in, IsJudging}
-use Rattle.judge.specs.Stretch.{StretchView}
+use Rattle.judge.specs.Stretch.{StretchView, has_bit}
+use Rattle.judge.specs.declared.tallies.Tally.{Tally}
 use Rattle.judge.specs.Visited.{AreVisited}
 use Rattle.configuration.specs.ConfigurationView.{ConfigurationView, world_of}
 
@@ -42,3 +47,18 @@ AreRefusalsSeen j refused = (start : World) (es : List Event) → HasSeen j star
 -- whatever the judge has seen, the mask is that of the nodes visited
 abbrev pub AreVisitedSeen : JudgeView → ℕ → Type 0
 AreVisitedSeen j mask = (start : World) (es : List Event) → HasSeen j start es → AreVisited start es mask
+
+-- Whatever the judge has seen, since the last damage there were sweeps, each ended at the first
+-- event at which it was one, and behind them a stretch that is none yet; and this holds of the
+-- world at which that stretch began, and of its events.
+abbrev pub HoldsOfStretch : JudgeView → (World → List Event → Type 0) → Type 0
+HoldsOfStretch j Fact = (start : World) (es : List Event) → HasSeen j start es → (done stretch : List Event) × (count : ℕ) × ((after_damage start es).rest ≡ done ++ stretch) × IsCounted (after_damage start es).world done stretch count × Fact (run (after_damage start es).world done) stretch
+
+-- the mask is that of the nodes without a full tick in the stretch
+abbrev pub IsLackingSeen : JudgeView → ℕ → Type 0
+IsLackingSeen j mask = HoldsOfStretch j (λ begun stretch. (v : ℕ) → has_bit mask v ≡ (nat_lt v begun.net.nodes && not (has_full_tick begun stretch v)))
+
+-- the tally says how many of the items that stood on the link from u to v when the stretch began
+-- stand there still, and whether the stretch renews it
+abbrev pub IsTallySeen : JudgeView → ℕ → ℕ → Tally → Type 0
+IsTallySeen j u v tally = HoldsOfStretch j (λ begun stretch. (tally.old ≡ old_items begun stretch u v) × (tally.renewed ≡ is_renewed begun stretch u v))

@@ -1,5 +1,5 @@
 -- What contracts see of a judge's tallies, one for each link.
-use Rattle.std.specs.Prelude.{◌≡◌, ℕ, ◌+◌, ◌<◌, ◌⊎◌, Bool, true, false, not, ◌==◌, ◌||◌, IsTrue, if◌then◌else◌, List, [], ◌∷◌, length, slice_index_or}
+use Rattle.std.specs.Prelude.{◌≡◌, ℕ, ◌+◌, ◌<◌, ◌⊎◌, Bool, true, false, not, ◌==◌, ◌||◌, if◌then◌else◌, List, [], ◌∷◌, length, slice_index_or}
 use Rattle.data_link.specs.Sweep.{LinkAct, Takes, Loses}
 use Rattle.run_model.specs.World.{World}
 use Rattle.run_model.specs.Stretch.{old_after, takes_new}

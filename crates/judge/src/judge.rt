@@ -1,7 +1,8 @@
 //! A judge of runs: it counts the sweeps of a run, event by event.
 ghost use Rattle.std.specs.Prelude.{◌≡◌, ◌↔◌, ◌+◌, ◌-◌, ◌^◌, ◌<◌, ◌≤◌, ◌⊎◌, ℕ, min, length, true};
 ghost use Rattle.std.specs.Prelude.{false, if◌then◌else◌, ◌==◌, List, [], ◌∷◌, ◌++◌, IsTrue, IfErr};
-ghost use Rattle.std.specs.Prelude.{OnOk, None, Some};
+ghost use Rattle.std.specs.Prelude.{OnOk, None, Some, IfSome, IsSome};
+ghost use Rattle.topology.specs.Network.{are_joined};
 ghost use Rattle.run_model.specs.Step.{refusal, step};
 ghost use Rattle.run_model.specs.Run.{is_damage};
 ghost use Rattle.configuration.specs.ConfigurationView.{world_of};
@@ -10,6 +11,7 @@ ghost use Rattle.judge.specs.Tallies.{has_place, tally_of, first_tally};
 ghost use Rattle.judge.specs.Stretch.{IsRoomFor, IsKept};
 ghost use Rattle.judge.specs.JudgeView.{HasSeen, HasSeenNext, EndsSweep, AreSweepsSeen};
 ghost use Rattle.judge.specs.JudgeView.{AreRefusalsSeen, AreVisitedSeen};
+ghost use Rattle.judge.specs.JudgeView.{IsLackingSeen, IsTallySeen};
 
 use crate::laws::below;
 use crate::stretch::Stretch;
@@ -34,6 +36,7 @@ fn begin_link<A: Allocator + Copy>(
     requires placed { IsTrue (has_place stretch.old.tallies.table from to) }
     ensures table { stretch.new.tallies.table ≡ stretch.old.tallies.table }
     ensures lacking { stretch.new.lacking ≡ stretch.old.lacking }
+    // All that is under way on the link is old; every other tally is as before.
     ensures tallies { (u v : ℕ) → v < stretch.old.tallies.table.nodes
         → tally_of stretch.new.tallies u v
         ≡ at_pair (tally_of stretch.old.tallies) from to
@@ -49,6 +52,7 @@ fn begin_link<A: Allocator + Copy>(
 /// Begins a stretch at a configuration. It looks at the links of the edges alone.
 fn begin<A: Allocator + Copy>(configuration: &Configuration<A>, stretch: &mut Stretch<A>)
     requires { IsRoomFor (world_of configuration.now).net stretch.old }
+    // What is kept is that of an empty stretch, and the room is still the network's.
     ensures kept { IsKept (world_of configuration.now) [] stretch.new }
     ensures room { IsRoomFor (world_of configuration.now).net stretch.new }
 {
@@ -97,6 +101,7 @@ impl<A: Allocator + Copy> Judge<A> {
     /// A judge of what happens from a world on.
     pub fn new(world: World<A>) -> Judge<A>
         ensures configuration { result.configuration ≡ world }
+        // It has seen no event yet, and its stretch is empty.
         ensures judging { HasSeen result (world_of world) [] }
         ensures looked { result.stretch.tallies.looked ≡ 0 }
     {
@@ -127,7 +132,9 @@ impl<A: Allocator + Copy> Judge<A> {
         ensures ok { OnOk result (refusal (world_of self.old.configuration) event.now ≡ None) }
         ensures err { IfErr result (λ fault. refusal (world_of self.old.configuration) event.now
             ≡ Some fault) }
+        // Whatever it had seen, it has now seen that and the event.
         ensures judging { HasSeenNext self.old event.now self.new }
+        // More than two tallies only for accepted damage, or where a sweep ends.
         ensures looked { (self.new.stretch.tallies.looked ≤ 2)
             ⊎ IsTrue (is_damage (world_of self.old.configuration) event.now)
             ⊎ EndsSweep self.old event.now }
@@ -162,6 +169,7 @@ impl<A: Allocator + Copy> Judge<A> {
     /// greatest value.
     pub fn sweeps(&self) -> u64
         ensures count { result ≡ self.now.sweeps }
+        // Whatever it has seen, that many sweeps and no more stand behind the last damage.
         ensures sweeps { AreSweepsSeen self.now result }
     {
         below();
@@ -171,6 +179,7 @@ impl<A: Allocator + Copy> Judge<A> {
     /// How many events were refused; the count stays at its greatest value.
     pub fn refused(&self) -> u64
         ensures count { result ≡ self.now.refused }
+        // Whatever it has seen, that many of the events were refused.
         ensures refused { AreRefusalsSeen self.now result }
     {
         self.refused
@@ -180,9 +189,39 @@ impl<A: Allocator + Copy> Judge<A> {
     /// right after it among them, or since the start where there was none: bit v stands for node v.
     pub fn visited(&self) -> u64
         ensures mask { result ≡ self.now.visited }
+        // Whatever it has seen, the privilege was at these nodes and no others.
         ensures visited { AreVisitedSeen self.now result }
     {
         self.visited
+    }
+
+    /// The nodes that have made no full tick in the unfinished stretch, the one behind the last
+    /// sweep: bit v stands for node v.
+    pub fn lacking(&self) -> u64
+        ensures mask { result ≡ self.now.stretch.lacking }
+        // Whatever it has seen, these nodes and no others lack a full tick.
+        ensures lacking { IsLackingSeen self.now result }
+    {
+        self.stretch.lacking()
+    }
+
+    /// What has become of the link from one node to another in the unfinished stretch; `None` where
+    /// no edge joins the two. It looks through the edges, and the ids may be any.
+    pub fn tally(&self, from: u16, to: u16) -> Option<Tally>
+        ensures link { IsSome result
+            ↔ IsTrue (are_joined (world_of self.now.configuration).net.edges from to) }
+        ensures value { IfSome result (λ tally. tally ≡ tally_of self.now.stretch.tallies from to) }
+        // Whatever it has seen, the tally is that of the link in the unfinished stretch.
+        ensures tally { IfSome result (IsTallySeen self.now from to) }
+    {
+        below();
+        let net = self.configuration.net();
+        let _known_nodes = net.nodes();
+        if net.are_joined(from, to) {
+            Some(self.stretch.tally(from, to))
+        } else {
+            None
+        }
     }
 
     /// How many tallies the last step looked at; 0 where there was none.

@@ -38,4 +38,5 @@ mod world;
 pub use judge::Judge;
 pub use parts::Parts;
 pub use stretch::Stretch;
+pub use tallies::Tally;
 pub use world::World;

@@ -108,6 +108,7 @@ impl<A: Allocator> Stretch<A> {
         ensures tallies { (u v : ℕ) → v < self.old.tallies.table.nodes
             → tally_of self.new.tallies u v
             ≡ tally_behind u v happened.now (tally_of self.old.tallies u v) }
+        // At most one tally is read and written.
         ensures looked { self.new.tallies.looked ≤ self.old.tallies.looked + 2 }
     {
         match *happened {
@@ -153,6 +154,22 @@ impl<A: Allocator> Stretch<A> {
             ≡ at_pair (tally_of self.old.tallies) from to tally u v }
     {
         self.tallies.set(from, to, tally);
+    }
+
+    /// The nodes that still lack a full tick: bit v stands for node v.
+    pub(crate) fn lacking(&self) -> u64
+        ensures { result ≡ self.now.lacking }
+    {
+        self.lacking
+    }
+
+    /// The tally of a link. The look is not counted.
+    pub(crate) fn tally(&self, from: u16, to: u16) -> Tally
+        requires from_in { from < self.now.tallies.table.nodes }
+        requires to_in { to < self.now.tallies.table.nodes }
+        ensures { result ≡ tally_of self.now.tallies from to }
+    {
+        self.tallies.shown(from, to)
     }
 
     /// Whether no node lacks a full tick and every link is renewed.

@@ -18,7 +18,9 @@ use topology::Net;
 /// stretch has been taken.
 #[derive(Clone, Copy, Debug, PartialEq, Eq)]
 pub struct Tally {
+    /// The items that are old, 0 to 4096.
     pub old: u16,
+    /// An item that was sent inside the stretch has been taken.
     pub renewed: bool,
 }
 
@@ -32,7 +34,7 @@ impl Tally {
 
     /// The tally after an item was taken from the link: an old one while there is any, and else one
     /// that was sent inside the stretch.
-    pub fn taken(self) -> Tally
+    pub(crate) fn taken(self) -> Tally
         ensures { result ≡ tally_after Takes 1 self }
     {
         if self.old > 0 {
@@ -49,7 +51,7 @@ impl Tally {
     }
 
     /// The tally after the item at an index of the link was lost, where 0 is the oldest.
-    pub fn lost(self, index: u16) -> Tally
+    pub(crate) fn lost(self, index: u16) -> Tally
         ensures { result ≡ tally_after (Loses index) 0 self }
     {
         if index < self.old {
@@ -79,6 +81,7 @@ fn forget<A: Allocator>(tallies: &mut Vec<Tally, A>)
 fn lay_all<A: Allocator, N: Allocator + Copy>(table: &mut PairTable<A>, net: &Net<N>)
     requires { table.old.nodes ≡ net.now.nodes }
     ensures network { IsAcceptedNetwork net.now }
+    // Each link has a place of its own, behind the first.
     ensures laid { IsLaid net.now.nodes (are_joined net.now.edges) table.new
         (2 * length net.now.edges + 1) }
 {
@@ -97,8 +100,8 @@ fn lay_all<A: Allocator, N: Allocator + Copy>(table: &mut PairTable<A>, net: &Ne
 const MOST_TALLIES: usize = 513;
 
 /// The tallies of all links of a network: one each way for each edge, close together, behind one
-/// that stands for every two nodes that no edge joins. `get` and `set` are the only ways to one,
-/// and are counted.
+/// that stands for every two nodes that no edge joins. A step comes to one by `get` and `set`
+/// alone, which are counted.
 #[derive(Drop)]
 pub struct Tallies<A: Allocator = Global> {
     table: PairTable<A>,
@@ -173,6 +176,16 @@ impl<A: Allocator> Tallies<A> {
         self.places[place]
     }
 
+    /// The tally of a link, for a reader behind a step: this look is not counted.
+    pub fn shown(&self, from: u16, to: u16) -> Tally
+        requires from_in { from < self.now.table.nodes }
+        requires to_in { to < self.now.table.nodes }
+        ensures { result ≡ tally_of self.now from to }
+    {
+        let place = self.place(from, to);
+        self.places[place]
+    }
+
     /// Writes the tally of a link, which has a place.
     pub fn set(&mut self, from: u16, to: u16, tally: Tally)
         requires from_in { from < self.old.table.nodes }
@@ -192,6 +205,7 @@ impl<A: Allocator> Tallies<A> {
 
     /// Whether every link is renewed.
     pub fn are_renewed(&self) -> bool
+        // Over all pairs of nodes: what is no link lacks nothing.
         ensures { IsTrue result ↔ ((u v : ℕ) → u < self.now.table.nodes → v < self.now.table.nodes
             → IsTrue (tally_of self.now u v).renewed) }
     {

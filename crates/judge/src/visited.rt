@@ -57,6 +57,7 @@ pub fn visited_behind<A: Allocator + Copy>(
     happened: &Happened,
 ) -> u64
     requires { IsTrue (names_below (world_of configuration.now).net.nodes happened.now) }
+    // Only the node that ticked or took can have become privileged.
     ensures { (v : ℕ) → has_bit result v
         ≡ (has_bit visited v || (ticked_or_took v happened.now
         && is_privileged (world_of configuration.now) v)) }

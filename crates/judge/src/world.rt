@@ -1,7 +1,9 @@
 //! A network at one moment, with all the memory that a run of it and its judge need.
-ghost use Rattle.std.specs.Prelude.{◌≡◌, ◌<◌, ◌≤◌, IfOk, IfErr, OnOk, None, Some, length};
+ghost use Rattle.std.specs.Prelude.{◌≡◌, ◌↔◌, ◌<◌, ◌≤◌, IfOk, IfErr, OnOk, None, Some, length};
+ghost use Rattle.std.specs.Prelude.{IsTrue};
 ghost use Rattle.node_core.specs.View.{state_of, site_in};
 ghost use Rattle.run_model.specs.World.{IsWorldInRange, site};
+ghost use Rattle.run_model.specs.Headline.{IsServing};
 ghost use Rattle.run_model.specs.Start.{default_world, world_with_spares};
 ghost use Rattle.run_model.specs.NodeCounts.{lending_count, privileged_count};
 ghost use Rattle.run_model.specs.Step.{refusal, step};
@@ -114,6 +116,15 @@ impl<A: Allocator + Copy> World<A> {
         ensures { result ≡ lending_count (world_of self.now) }
     {
         self.configuration.lending()
+    }
+
+    /// Whether it serves at this moment: each node has its distance and its true parent, at most
+    /// one node is privileged, and at most one lends. It looks at the nodes alone, at no link, and
+    /// takes no memory.
+    pub fn serves(&self) -> bool
+        ensures { IsTrue result ↔ IsServing (world_of self.now) }
+    {
+        serving::serves(&self.configuration)
     }
 
     /// One event happens. Refused for the first cause that holds, in the order of `EventFault`;

@@ -61,7 +61,7 @@ fn events_of(alloc: Global, text: &str) -> Result<Vec<Event>, Fail> {
     Ok(events)
 }
 
-/// The numbers of events, of sweeps and of refusals, and the nodes visited, of so many rounds of
+/// The numbers of events, of sweeps and of refusals, and the nodes visited, of `rounds` rounds of
 /// two nodes over links of one place, and a text behind them.
 fn counts(alloc: Global, rounds: usize, text: &str) -> Result<(usize, u64, u64, u64), Fail> {
     let net = net_of(alloc, 2, 0, &[(0, 1)])?;

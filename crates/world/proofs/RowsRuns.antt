@@ -38,7 +38,7 @@ each-link P a b (suc (suc u)) v j = absurd (grind (arith, nat_tests))
 abbrev least : List Event
 least = Tick 0 ∷ Tick 1 ∷ Send 0 1 ∷ Take 0 1 ∷ Send 1 0 ∷ Take 1 0 ∷ []
 
--- the same so many times
+-- the same n times
 abbrev repeated : ℕ → List Event
 repeated zero = []
 repeated (suc n) = least ++ repeated n

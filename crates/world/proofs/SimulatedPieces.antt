@@ -33,7 +33,7 @@ piece_read bytes buffer n count k same few =
     sym (take_first k count buffer few) ∙ ap (take k) same ∙ take_first k count (drop n bytes) few in
     ap (λ xs. take n bytes ++ xs) first ∙ sym (take-add n k bytes)
 
--- so many bytes have been read, and then more
+-- n bytes have been read, and then `count` more
 pub read_more : (bytes : List ℕ) (after : Option (List ℕ)) (n count : ℕ) → n ≤ length bytes → count ≤ length (drop n bytes) → after ≡ Some (drop count (drop n bytes))
     → HasRead (n + count) bytes after
 read_more bytes after n count within more is = grind (arith, common_steps)

@@ -56,7 +56,7 @@ pub mod simulation;
 pub mod streams;
 
 pub use configuration::{Configuration, Links};
-pub use judge::{Judge, Parts, Stretch, World};
+pub use judge::{Judge, Parts, Stretch, Tally, World};
 pub use link_model::{Frame, Item, NoItem, Payload};
 pub use node_core::Node;
 pub use run_model::{Event, EventFault, Happened, Harm};

@@ -115,11 +115,14 @@ pub fn simulate<A: Allocator + Copy, N: Allocator + Copy, R: Source, W: Sink>(
     source: &mut R,
     sink: &mut W,
 ) -> Result<Summary, SimFault>
+    // Where the source tells its bytes: what was read and written of them, case by case.
     ensures text { (bytes : List ℕ) → R.rest source.old ≡ Some bytes
         → IsSimulated (simulated_start net.now) bytes (R.rest source.new) (W.taken sink.old)
         (W.taken sink.new) result }
+    // Failures are counted, and no count falls.
     ensures counts { (R.failures source.old ≤ R.failures source.new)
         × (W.failures sink.old ≤ W.failures sink.new) }
+    // A fault of the source or the sink is answered only where that one failed.
     ensures cause { HasCause result (R.failures source.old) (R.failures source.new)
         (W.failures sink.old) (W.failures sink.new) }
 {

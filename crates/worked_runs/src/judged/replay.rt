@@ -1,6 +1,7 @@
-//! A long run over which sweeps are counted twice: by a judge, and plainly, as the definition of a
-//! sweep says.
+//! A long run that is judged twice: by a judge, and plainly, as the definition of a sweep says. After
+//! each event the sweeps, the nodes without a full tick and the tallies of all links are the same.
 use super::*;
+use world::Tally;
 
 /// The nodes of the square.
 const NODES: usize = 4;
@@ -24,6 +25,19 @@ const NO_LINK: PlainLink = PlainLink {
     is_old: false,
     renewed: false,
 };
+
+impl PlainLink {
+    /// Its tally; none of what is no link.
+    fn tally(&self) -> Option<Tally> {
+        if !self.is_link {
+            return None;
+        }
+        Some(Tally {
+            old: if self.is_old { 1 } else { 0 },
+            renewed: self.renewed,
+        })
+    }
+}
 
 /// A stretch of a run of the square: which nodes have made a full tick, and what has become of each
 /// link; and how many sweeps there were before it.
@@ -97,8 +111,26 @@ impl Plain {
 
     /// Whether each node has ticked and each link was renewed.
     fn is_sweep(&self) -> bool {
-        self.ticked.iter().all(|ticked| *ticked)
-            && self.links.iter().all(|link| link.renewed || !link.is_link)
+        self.lacking() == 0 && self.links.iter().all(|link| link.renewed || !link.is_link)
+    }
+
+    /// The nodes that have not ticked: bit v stands for node v.
+    fn lacking(&self) -> u64 {
+        let mut mask = 0u64;
+        for ticked in self.ticked.iter().rev() {
+            mask = mask
+                .wrapping_mul(2)
+                .wrapping_add(if *ticked { 0 } else { 1 });
+        }
+        mask
+    }
+
+    /// The tally of a link; none where no edge joins the two nodes.
+    fn tally(&self, from: u16, to: u16) -> Option<Tally> {
+        let place = usize::from(from)
+            .saturating_mul(NODES)
+            .saturating_add(usize::from(to));
+        self.links.get(place)?.tally()
     }
 
     /// A stretch begins: what is under way is old from now on.
@@ -135,14 +167,20 @@ fn rounds_with_gaps(alloc: Global, round: &str, count: usize) -> Result<Vec<Even
     Ok(events)
 }
 
-/// How many sweeps a judge has counted after an event; none where it is refused.
-fn swept(judge: &mut Judge, event: &Event) -> Option<u64> {
-    judge.step(event).ok()?;
-    Some(judge.sweeps())
+/// Whether a judge keeps of its stretch what the plain count does, for each node and each link.
+fn agree(judge: &Judge, plain: &Plain) -> bool {
+    for from in 0..4 {
+        for to in 0..4 {
+            if judge.tally(from, to) != plain.tally(from, to) {
+                return false;
+            }
+        }
+    }
+    judge.sweeps() == plain.sweeps && judge.lacking() == plain.lacking()
 }
 
-/// The first event after which the judge and the plain count differ, if there is one; and how many
-/// sweeps there were.
+/// The first event that is refused, or after which the judge and the plain count differ, if there is
+/// one; and how many sweeps there were.
 fn first_difference(
     judge: &mut Judge,
     plain: &mut Plain,
@@ -150,7 +188,7 @@ fn first_difference(
 ) -> (Option<usize>, u64) {
     for (at, event) in events.iter().enumerate() {
         plain.step(event);
-        if swept(judge, event) != Some(plain.sweeps) {
+        if judge.step(event).is_err() || !agree(judge, plain) {
             return (Some(at), plain.sweeps);
         }
     }

@@ -1,4 +1,4 @@
-use Rattle.std.proofs.Common.{◌≡◌, ◌∙◌, sym, ap, replicate, length}
+use Rattle.std.proofs.Common.{◌∙◌, sym, ap, replicate, length}
 use Rattle.judge.specs.Tallies.{no_tally}
 use Rattle.judge.proofs.tallies.forget.Goals as goal
 

@@ -3,7 +3,7 @@ use Rattle.run_model.specs.World.{World}
 use Rattle.world.specs.UnderWay.{IsUnderWay}
 use Rattle.world.proofs.simulation.under_way.Simulation.take.Given as goal
 
--- so many bytes of the piece have been taken
+-- `at` bytes of the piece have been taken
 abbrev pub invariant-loop-at : goal.invariant-loop-at
 invariant-loop-at g l =
     (l.at ≤ length l.piece)
