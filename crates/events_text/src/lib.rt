@@ -16,17 +16,25 @@
 //! let last = reader.last();           // at the end of the text: a line that no newline ended
 //! ```
 //!
+//! An [`EventLine`] prints as the line of its event, so whoever makes events may write them:
+//!
+//! ```
+//! writeln!(writer, "{}", EventLine(Event::Tick { node: 0 }))?;      // tick 0
+//! ```
+//!
 //! The trap: a line that is passed over is an answer too, since lines are numbered with it.
 #![tactic(auto)]
 
+mod event_line;
 mod harm;
 pub mod laws;
 mod line;
-mod number;
+pub mod number;
 mod reader;
 mod text_line;
-mod words;
+pub mod words;
 
+pub use event_line::EventLine;
 pub use line::parse_line;
 pub use reader::{EventReader, Taken};
 pub use text_line::TextLine;

@@ -35,6 +35,7 @@ pub struct Taken {
 impl EventReader {
     /// A reader to which no byte came.
     pub fn new() -> EventReader
+        // No byte has come.
         ensures { StandsAfter 64 [] result }
     {
         EventReader {
@@ -48,8 +49,10 @@ impl EventReader {
         ensures used { result.used ≤ length piece.now }
         ensures all { IfNone result.line (result.used ≡ length piece.now) }
         ensures some { OnSome result.line (0 < result.used) }
+        // It stands after the bytes that it had and those that it has now used.
         ensures stands { (bytes : List ℕ) → StandsAfter 64 bytes self.old
             → StandsAfter 64 (bytes ++ take result.used piece.now) self.new }
+        // What it answers is the one line that these bytes end, or none.
         ensures line { (bytes : List ℕ) → StandsAfter 64 bytes self.old
             → ended_lines (bytes ++ take result.used piece.now)
             ≡ ended_lines bytes ++ option_to_list result.line }
@@ -60,6 +63,7 @@ impl EventReader {
 
     /// The last line of a text that ends here, where no newline ended it.
     pub fn last(&self) -> Option<TextLine>
+        // The lines of a text are those that were ended, and the last half line if there is one.
         ensures { (bytes : List ℕ) → StandsAfter 64 bytes self.now
             → text_lines bytes ≡ ended_lines bytes ++ option_to_list result }
     {

@@ -71,6 +71,7 @@ impl<'a> Words<'a> {
     /// The next three words, as a payload.
     pub fn payload(&mut self) -> Option<Payload>
         ensures value { result ≡ payload_of self.old }
+        // A payload takes three words.
         ensures rest { OnSome result (self.new ≡ other_words (other_words (other_words self.old))) }
     {
         let distance = self.number()?;

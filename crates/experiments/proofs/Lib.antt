@@ -1,0 +1,6 @@
+pub mod Bounded
+pub mod Harmless
+pub mod Harms
+pub mod Plans
+pub mod Steps
+pub mod Watching

@@ -1,0 +1,14 @@
+-- What holds of whole schedules.
+use Rattle.std.specs.Prelude.{Option}
+use Rattle.rand_pcg.specs.Lcg.{Lcg}
+use Rattle.topology.specs.Network.{Network, IsAcceptedNetwork}
+use Rattle.run_model.specs.Start.{default_world}
+use Rattle.damage_tool.specs.Laws.{AreAccepted}
+use Rattle.experiments.specs.Plan.{planned}
+use Rattle.experiments.specs.declared.plan.Order.{Order}
+
+-- no event of a schedule is refused, from the default world on
+abbrev pub PlansAreAccepted : Type 0
+PlansAreAccepted =
+    (net : Network) (scramble : Option Lcg) (order : Order) → IsAcceptedNetwork net
+    → AreAccepted (default_world net) (planned net scramble order)

@@ -1,0 +1,6 @@
+pub mod Laws
+pub mod Plan
+pub mod Recovery
+pub mod Shown
+pub mod Summary
+pub mod Watched

@@ -1,0 +1,29 @@
+-- What a measured run has shown.
+use Rattle.std.specs.Prelude.{◌≡◌, ℕ, List, Option}
+use Rattle.rand_pcg.specs.Lcg.{Lcg}
+use Rattle.topology.specs.Network.{Network}
+use Rattle.run_model.specs.World.{World}
+use Rattle.run_model.specs.Start.{default_world}
+use Rattle.run_model.specs.Run.{run, IsUndamaged}
+use Rattle.run_model.specs.Count.{IsSweepCount}
+use Rattle.run_model.specs.declared.event.Event.{Event}
+use Rattle.damage_tool.specs.Harms.{draw_world}
+use Rattle.judge.specs.Judging.{counted_up_to}
+use Rattle.experiments.specs.declared.measured_run.Recovery.{Recovery}
+use Rattle.experiments.specs.Recovery.{FailedLast, counted_from}
+
+-- the world to which the harms lead that a scramble draws
+abbrev pub scrambled : Network → Lcg → World
+scrambled net g = run (default_world net) (draw_world net g).0
+
+-- Events without damage have happened from the start on: the run had as many sweeps as were seen,
+-- and when it last failed to serve it had had one fewer than those behind which it served.
+pub record IsShown (start : World) (r : Recovery) : Type 0 where
+  pub events : List Event
+  pub undamaged : IsUndamaged start events
+  pub last : Option ℕ
+  pub failed : FailedLast start events last
+  pub sweeps_are : r.sweeps ≡ counted_from last
+  pub count : ℕ
+  pub counted : IsSweepCount start events count
+  pub seen_are : r.seen ≡ counted_up_to count

@@ -1,0 +1,29 @@
+-- A run that is watched goes on.
+use Rattle.std.specs.Prelude.{ℕ, List, [], ◌++◌, Option}
+use Rattle.std.proofs.Common.{sym, subst, append_assoc}
+use Rattle.std.proofs.lemmas.List.{append-nil}
+use Rattle.run_model.specs.World.{World}
+use Rattle.run_model.specs.Run.{IsUndamaged}
+use Rattle.run_model.specs.declared.event.Event.{Event}
+use Rattle.judge.specs.JudgeView.{JudgeView}
+use Rattle.experiments.specs.Recovery.{IsWatched}
+
+-- whatever run was watched before, that run and then these events is watched after
+abbrev pub GoesOn : JudgeView → Option ℕ → List Event → JudgeView → Option ℕ → Type 0
+GoesOn old last es new now =
+    (start : World) (before : List Event) → IsWatched start before old last → IsWatched start (before ++ es) new now
+
+-- without an event it goes nowhere
+pub goes-nowhere : (judge : JudgeView) (last : Option ℕ) → GoesOn judge last [] judge last
+goes-nowhere judge last start before watched = subst (λ es. IsWatched start es judge last) (sym (append-nil before)) watched
+
+-- events and then others are both
+pub goes-both : (a b c : JudgeView) (p q r : Option ℕ) (xs ys : List Event) → GoesOn a p xs b q → GoesOn b q ys c r → GoesOn a p (xs ++ ys) c r
+goes-both a b c p q r xs ys one two start before watched =
+    subst (λ es. IsWatched start es c r) (append_assoc before xs ys) (two start (before ++ xs) (one start before watched))
+
+-- some events that are no damage in whatever world happened between
+pub record GoesOnUnharmed (old : JudgeView) (last : Option ℕ) (new : JudgeView) (now : Option ℕ) : Type 0 where
+  pub events : List Event
+  pub harmless : (w : World) → IsUndamaged w events
+  pub goes_on : GoesOn old last events new now

@@ -1,0 +1,26 @@
+//! Experiments: how fast a network recovers in fact, beside what the theorem allows.
+//!
+//! A [`Watch`] lets events happen, one by one, and keeps behind how many sweeps the network has
+//! served ever since. [`recovery`] watches one run: a world that is scrambled by a seed, and a
+//! schedule up to the sharper bound. [`summary_of`] tells the least, the median and the most of many.
+//!
+//! ```
+//! let run = measure_run(alloc, &net, Scheduler::Rounds, 7)?;
+//! // behind run.sweeps sweeps it served; there were run.seen of them
+//! ```
+//!
+//! The trap: a loan that the scramble wrote has no client who would ever give the lock back. Behind
+//! each round the experiment gives it back in that client's name, since a network without a lease
+//! would else wait for ever.
+#![tactic(auto)]
+
+pub mod laws;
+mod measured_run;
+mod plan;
+mod summary;
+mod watch;
+
+pub use measured_run::{Recovery, Scheduler, measure_run};
+pub use plan::{Order, PlanFault, give_plan};
+pub use summary::{Summary, summary_of};
+pub use watch::Watch;

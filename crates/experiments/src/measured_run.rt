@@ -1,0 +1,192 @@
+//! One run: a scrambled world, and a schedule up to the sharper bound.
+ghost use Rattle.std.specs.Prelude.{◌≡◌, ◌≤◌, IfOk};
+ghost use Rattle.rand_pcg.specs.Lcg.{Lcg};
+ghost use Rattle.topology.specs.Eccentricity.{sharp_of};
+ghost use Rattle.run_model.specs.Run.{run};
+ghost use Rattle.configuration.specs.ConfigurationView.{world_of};
+ghost use Rattle.experiments.specs.Shown.{scrambled, IsShown};
+ghost use Rattle.experiments.specs.Watched.{GoesOnUnharmed};
+
+use crate::watch::Watch;
+use configuration::Configuration;
+use damage_tool::scramble_world;
+use judge::World;
+use rand_core::SeedableRng;
+use rand_pcg::Lcg64Xsh32;
+use run_model::Event;
+use schedules::{Chances, EventSink, draw_step, give_round};
+use std::alloc::{AllocError, Allocator};
+use topology::Net;
+
+/// Who moves when in a run that is measured.
+#[derive(Clone, Copy, Debug, PartialEq, Eq)]
+pub enum Scheduler {
+    /// Each round ticks every node and has every link carry its items.
+    Rounds,
+    /// Each step is drawn: a tick, a send or a take.
+    Random,
+}
+
+/// What a run has shown.
+#[derive(Clone, Copy, Debug, PartialEq, Eq)]
+pub struct Recovery {
+    /// The seed that it was made of.
+    pub seed: u64,
+    /// Behind how many sweeps the network served at each moment of the run.
+    pub sweeps: u64,
+    /// How many sweeps there were.
+    pub seen: u64,
+}
+
+/// How many stretches a run has at most for each sweep of the bound. By rounds one is enough; of
+/// random steps a sweep takes as many stretches as chance wants.
+const STRETCHES_A_SWEEP: u64 = 1000;
+
+/// A run of random steps draws nothing but ticks, sends and takes.
+const PLAIN: Chances = Chances {
+    loss: 0,
+    clients: false,
+};
+
+/// Scrambles a world by a seed, and lets the scheduler's events happen until there have been as
+/// many sweeps as the sharper bound says, or 1000 stretches for each of them. A stretch is a round,
+/// or as many random steps as there are nodes and four times the edges; behind it, whoever has the
+/// lock gives it back.
+///
+/// # Errors
+/// `AllocError` where the memory of the world or of its harms is refused.
+pub fn measure_run<A: Allocator + Copy>(
+    alloc: A,
+    net: &Net<A>,
+    scheduler: Scheduler,
+    seed: u64,
+) -> Result<Recovery, AllocError>
+    ensures seed { IfOk result (λ r. r.seed ≡ seed) }
+    // What is shown is shown by a run without damage, from a world that is scrambled.
+    ensures shown { IfOk result (λ r. (g : Lcg) × IsShown (scrambled net.now g) r) }
+    // No run serves later than the theorem says.
+    ensures within { IfOk result (λ r. r.sweeps ≤ sharp_of net.now) }
+{
+    topology::laws::limits();
+    run_model::laws::runs();
+    run_model::laws::moments();
+    run_model::laws::sweep_numbers();
+    convergence::laws::sharp();
+    let _known_nodes = net.nodes();
+    let start = scrambled_world(alloc, net, seed)?;
+    let mut watch = Watch::new(start);
+    let mut generator = Lcg64Xsh32::seed_from_u64(seed);
+    give_stretches(net, scheduler, &mut generator, &mut watch);
+    Ok(Recovery {
+        seed,
+        sweeps: watch.served_behind(),
+        seen: watch.sweeps(),
+    })
+}
+
+/// The default world with the harms that a scramble draws from a seed.
+fn scrambled_world<A: Allocator + Copy>(
+    alloc: A,
+    net: &Net<A>,
+    seed: u64,
+) -> Result<World<A>, AllocError>
+    ensures { IfOk result (λ world. (g : Lcg) × (world_of world ≡ scrambled net.now g)) }
+{
+    let mut world = World::new(alloc, net)?;
+    let mut generator = Lcg64Xsh32::seed_from_u64(seed);
+    let mut harms = Vec::new(alloc);
+    scramble_world(net, &mut generator, &mut harms)?;
+    happen(&mut world, harms.as_slice());
+    Ok(world)
+}
+
+/// Lets harms happen; none is refused where no client waits.
+fn happen<A: Allocator + Copy>(world: &mut World<A>, harms: &[Event])
+    ensures { world_of world.new ≡ run (world_of world.old) harms.now }
+{
+    for harm in harms {
+        let _answer = world.step(harm);
+    }
+}
+
+/// Gives the watch stretches, until it has seen as many sweeps as the sharper bound says, or had
+/// 1000 stretches for each of them.
+fn give_stretches<A: Allocator + Copy>(
+    net: &Net<A>,
+    scheduler: Scheduler,
+    generator: &mut Lcg64Xsh32,
+    watch: &mut Watch<A>,
+)
+    ensures { GoesOnUnharmed watch.old.judge watch.old.last watch.new.judge watch.new.last }
+{
+    let bound = u64::from(net.sharp_bound());
+    for stretch in 0..bound * STRETCHES_A_SWEEP {
+        if watch.sweeps() >= bound {
+            return;
+        }
+        give_stretch(net, scheduler, generator, watch);
+        leave_all(watch);
+    }
+}
+
+/// One stretch.
+fn give_stretch<A: Allocator + Copy>(
+    net: &Net<A>,
+    scheduler: Scheduler,
+    generator: &mut Lcg64Xsh32,
+    watch: &mut Watch<A>,
+)
+    ensures { GoesOnUnharmed watch.old.judge watch.old.last watch.new.judge watch.new.last }
+{
+    match scheduler {
+        Scheduler::Rounds => give_one_round(net, watch),
+        Scheduler::Random => give_steps(net, generator, watch),
+    }
+}
+
+/// One round.
+fn give_one_round<A: Allocator + Copy>(net: &Net<A>, watch: &mut Watch<A>)
+    ensures { GoesOnUnharmed watch.old.judge watch.old.last watch.new.judge watch.new.last }
+{
+    // A watch never fails.
+    let _given = give_round(net, watch);
+}
+
+/// As many random steps as there are nodes and four times the edges.
+fn give_steps<A: Allocator + Copy>(net: &Net<A>, generator: &mut Lcg64Xsh32, watch: &mut Watch<A>)
+    ensures { GoesOnUnharmed watch.old.judge watch.old.last watch.new.judge watch.new.last }
+{
+    topology::laws::tree();
+    let nodes = u64::from(net.nodes());
+    for step in 0..nodes + 4 * net.edges().len() as u64 {
+        let event = draw_step(net, PLAIN, generator);
+        let _taken = watch.take(&event);
+    }
+}
+
+/// Whoever has the lock gives it back.
+fn leave_all<A: Allocator + Copy>(watch: &mut Watch<A>)
+    ensures { GoesOnUnharmed watch.old.judge watch.old.last watch.new.judge watch.new.last }
+{
+    for node in 0..watch.configuration().net().nodes() {
+        leave(node, watch);
+    }
+}
+
+/// Whoever has the lock at a node gives it back; at no node nothing happens.
+fn leave<A: Allocator + Copy>(node: u16, watch: &mut Watch<A>)
+    ensures { GoesOnUnharmed watch.old.judge watch.old.last watch.new.judge watch.new.last }
+{
+    if let Some(ticket) = lent_at(watch.configuration(), node) {
+        let _taken = watch.take(&Event::Leave { node, ticket });
+    }
+}
+
+/// The ticket that a node lends to, if there is that node and it lends.
+fn lent_at<A: Allocator + Copy>(configuration: &Configuration<A>, node: u16) -> Option<u16> {
+    if node < configuration.net().nodes() {
+        configuration.node(node).lent()
+    } else {
+        None
+    }
+}

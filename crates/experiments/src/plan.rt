@@ -1,0 +1,148 @@
+//! A whole schedule: a scramble where it is asked for, and then rounds or random steps.
+ghost use Rattle.std.specs.Prelude.{◌≡◌, OnOk};
+ghost use Rattle.byte_streams.specs.Streams.{CountsFailures};
+ghost use Rattle.configuration.specs.ConfigurationView.{world_of};
+ghost use Rattle.run_model.specs.Run.{run};
+ghost use Rattle.experiments.specs.Plan.{harms_of, ordered, planned, CountsSinkFailures};
+
+use byte_streams::Failed;
+use configuration::Configuration;
+use damage_tool::scramble_world;
+use rand_pcg::Lcg64Xsh32;
+use run_model::Event;
+use schedules::{Chances, EventSink, give_random, give_rounds};
+use std::alloc::{AllocError, Allocator};
+use topology::Net;
+
+/// What follows the scramble.
+#[derive(Drop)]
+pub enum Order {
+    /// As many rounds.
+    Rounds {
+        count: u64,
+    },
+    /// As many random steps, drawn from the generator.
+    Random {
+        steps: u64,
+        chances: Chances,
+        generator: Lcg64Xsh32,
+    },
+}
+
+/// Why a schedule was not given to its end.
+#[derive(Clone, Copy, Debug, PartialEq, Eq, Drop)]
+pub enum PlanFault {
+    /// Memory ran out.
+    Memory,
+    /// The sink failed.
+    Sink,
+}
+
+impl From<AllocError> for PlanFault {
+    ghost use Rattle.std.specs.Prelude.{◌≡◌};
+    ghost use Rattle.experiments.specs.declared.plan.PlanFault.TheVariants.{Memory};
+
+    ghost from_gives = { λ _ fault. fault ≡ Memory };
+
+    fn from(_error: AllocError) -> PlanFault {
+        PlanFault::Memory
+    }
+}
+
+impl From<Failed> for PlanFault {
+    ghost use Rattle.std.specs.Prelude.{◌≡◌};
+    ghost use Rattle.experiments.specs.declared.plan.PlanFault.TheVariants.{Sink};
+
+    ghost from_gives = { λ _ fault. fault ≡ Sink };
+
+    fn from(_error: Failed) -> PlanFault {
+        PlanFault::Sink
+    }
+}
+
+/// Gives the sink a whole schedule for a network: the harms that a scramble draws from its
+/// generator, where there is one, and then what the order says. It begins in the default world, and
+/// there none of the events is refused. Of memory it takes a world and the list of the harms.
+///
+/// # Errors
+/// `Memory` where that is refused; `Sink` where the sink failed, and then it took a beginning of
+/// the events.
+pub fn give_plan<A: Allocator + Copy, S: EventSink>(
+    alloc: A,
+    net: &Net<A>,
+    scramble: Option<Lcg64Xsh32>,
+    order: Order,
+    sink: &mut S,
+) -> Result<(), PlanFault>
+    ensures taken { OnOk result
+        (S.takes sink.old (planned net.now scramble order) sink.new) }
+    ensures cause { CountsSinkFailures result (S.failures sink.old) (S.failures sink.new) }
+{
+    let mut configuration = Configuration::new(alloc, net)?;
+    give_scramble(alloc, net, scramble, &mut configuration, sink)?;
+    give_order(net, order, &mut configuration, sink)
+}
+
+/// Draws the harms of a scramble where there is a generator, lets them happen, and gives them to
+/// the sink.
+fn give_scramble<A: Allocator + Copy, S: EventSink>(
+    alloc: A,
+    net: &Net<A>,
+    scramble: Option<Lcg64Xsh32>,
+    configuration: &mut Configuration<A>,
+    sink: &mut S,
+) -> Result<(), PlanFault>
+    ensures happen { OnOk result (world_of configuration.new
+        ≡ run (world_of configuration.old) (harms_of net.now scramble)) }
+    ensures taken { OnOk result
+        (S.takes sink.old (harms_of net.now scramble) sink.new) }
+    ensures cause { CountsSinkFailures result (S.failures sink.old) (S.failures sink.new) }
+{
+    let Some(mut generator) = scramble else {
+        return Ok(());
+    };
+    let mut harms = Vec::new(alloc);
+    scramble_world(net, &mut generator, &mut harms)?;
+    give_harms(configuration, harms.as_slice(), sink)?;
+    Ok(())
+}
+
+/// Gives the sink what the order says.
+fn give_order<A: Allocator + Copy, S: EventSink>(
+    net: &Net<A>,
+    order: Order,
+    configuration: &mut Configuration<A>,
+    sink: &mut S,
+) -> Result<(), PlanFault>
+    ensures taken { OnOk result (S.takes sink.old
+        (ordered net.now (world_of configuration.old) order) sink.new) }
+    ensures cause { CountsSinkFailures result (S.failures sink.old) (S.failures sink.new) }
+{
+    match order {
+        Order::Rounds { count } => give_rounds(net, count, sink)?,
+        Order::Random {
+            steps,
+            chances,
+            mut generator,
+        } => give_random(configuration, chances, steps, &mut generator, sink)?,
+    }
+    Ok(())
+}
+
+/// Lets harms happen, and gives them to the sink.
+fn give_harms<A: Allocator + Copy, S: EventSink>(
+    configuration: &mut Configuration<A>,
+    harms: &[Event],
+    sink: &mut S,
+) -> Result<(), Failed>
+    ensures happen { OnOk result
+        (world_of configuration.new ≡ run (world_of configuration.old) harms.now) }
+    ensures taken { OnOk result (S.takes sink.old harms.now sink.new) }
+    ensures cause { CountsFailures result (S.failures sink.old) (S.failures sink.new) }
+{
+    for harm in harms {
+        let _happened = configuration.step(harm);
+        sink.take(harm)?;
+    }
+    Ok(())
+}

@@ -1,0 +1,13 @@
+use Rattle.std.proofs.Common.{◌≤◌, ◌+◌, drop}
+use Rattle.std.specs.List.{flat_map}
+use Rattle.schedules.specs.Rounds.{exchanges}
+use Rattle.schedules.proofs.Taking.{IsUnderWay}
+use Rattle.schedules.proofs.by_rounds.give_exchanges_from.Given as goal
+
+-- the exchanges with the neighbours but those that are left were taken
+abbrev pub invariant-loop-to : goal.invariant-loop-to
+invariant-loop-to g l = record {
+  taken : IsUnderWay g.S.EventSink.takes l.fn.sink (flat_map (λ v. exchanges l.from v (l.fn.net.capacity + 1)) l.neighbours)
+      (flat_map (λ v. exchanges l.from v (l.fn.net.capacity + 1)) (drop l.to-index l.neighbours)) l.sink;
+  failures : g.S.EventSink.failures l.fn.sink ≤ g.S.EventSink.failures l.sink;
+}

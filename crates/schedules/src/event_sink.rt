@@ -1,0 +1,31 @@
+//! Where the events of a schedule go.
+ghost use Rattle.std.specs.Prelude.{ℕ, List, [], ◌∷◌, ◌++◌, OnOk};
+ghost use Rattle.byte_streams.specs.Streams.{CountsFailures};
+ghost use Rattle.run_model.specs.declared.event.Event.{Event};
+
+use byte_streams::Failed;
+use run_model::Event;
+
+/// Takes the events of a schedule, one after the other.
+pub trait EventSink {
+    /// From one state to another it has taken these events, in their order.
+    ghost takes: { Self → List Event → Self → Type 0 };
+
+    /// How often it has failed; the count may stay at 2^64 - 1.
+    ghost failures: { Self → ℕ };
+
+    /// Takes one more event.
+    ///
+    /// # Errors
+    /// [`Failed`] where it failed in this call.
+    fn take(&mut self, event: &Event) -> Result<(), Failed>
+        ensures taken { OnOk result (takes self.old (event.now ∷ []) self.new) }
+        ensures cause { CountsFailures result (failures self.old) (failures self.new) };
+
+    /// A state that stays has taken none.
+    ghost takes_none: { (s : Self) → takes s [] s };
+
+    /// What is taken in two parts is taken together.
+    ghost takes_both: { (a b c : Self) (xs ys : List Event) → takes a xs b → takes b ys c
+        → takes a (xs ++ ys) c };
+}
