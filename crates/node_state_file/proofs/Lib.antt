@@ -7,5 +7,6 @@ pub mod Ports
 pub mod ReadAgain
 pub mod Restored
 mod Rows
+pub mod Spelled
 pub mod Stored
 pub mod Written

@@ -8,9 +8,10 @@ use Rattle.lock_desk.specs.Desk.{no_desk}
 use Rattle.node_core.specs.State.{LocalState}
 use Rattle.node_core.specs.Writes.{own_fits}
 use Rattle.node_core.specs.Rewire.{rewired}
-use Rattle.node_state_file.specs.Spelling.{spelling}
+use Rattle.node_state_file.specs.Spelling.{spelling, written}
 use Rattle.node_state_file.specs.Reading.{are_ascending, decoded}
 use Rattle.node_state_file.specs.declared.layout.Layout.{Layout}
+use Rattle.node_state_file.specs.declared.layout.Layout.TheVariants.{Tkt2}
 
 -- These may have been a node's neighbours: ascending other nodes, at least one, and fewer than there
 -- are nodes.
@@ -33,3 +34,26 @@ abbrev pub SpellingsAreRead : Type 0
 SpellingsAreRead = (net : Network) (id : ℕ) (layout : Layout) (ids : List ℕ) (s : LocalState) → IsAcceptedNetwork net → id < net.nodes
     → MayBeNeighbours net.nodes id ids → IsSavable net ids s
     → decoded net id (spelling layout net id ids s) ≡ Ok (record (rewired (ranges_of net) ids (neighbours_of net id) s) { desk = no_desk })
+
+-- The bytes are the spelling of a state in range, with these other nodes as its neighbours; and
+-- what is read is that state, re-matched to the neighbours of the network, with an empty desk.
+pub record IsSpelled (net : Network) (id : ℕ) (bytes : List ℕ) (s : LocalState) : Type 0 where
+  pub layout : Layout
+  pub ids : List ℕ
+  pub saved : LocalState
+  pub neighbours : MayBeNeighbours net.nodes id ids
+  pub range : IsSavable net ids saved
+  pub bytes_are : bytes ≡ spelling layout net id ids saved
+  pub read : s ≡ record (rewired (ranges_of net) ids (neighbours_of net id) saved) { desk = no_desk }
+
+-- bytes that are read as a state are the spelling of one in range
+abbrev pub WhatIsReadIsSpelled : Type 0
+WhatIsReadIsSpelled =
+    (net : Network) (id : ℕ) (bytes : List ℕ) (s : LocalState) → All (λ b. b < 256) bytes → decoded net id bytes ≡ Ok s → IsSpelled net id bytes s
+
+-- in the layout that is written, and with the neighbours of the network, a state that was read is
+-- written as the very same bytes
+abbrev pub WhatIsReadIsWrittenAgain : Type 0
+WhatIsReadIsWrittenAgain =
+    (net : Network) (id : ℕ) (bytes : List ℕ) (s : LocalState) (f : IsSpelled net id bytes s) → f.layout ≡ Tkt2 → f.ids ≡ neighbours_of net id
+    → written net id (neighbours_of net id) s ≡ bytes

@@ -44,3 +44,7 @@ port_numbers s w =
 abbrev pub spelling : Layout → Network → ℕ → List ℕ → LocalState → List ℕ
 spelling l net id neighbours s =
     magic l ++ flat_map (big_bytes 2) (header_numbers l net id (length neighbours) s ++ flat_map (port_numbers s) neighbours)
+
+-- the spelling in the layout that is written
+abbrev pub written : Network → ℕ → List ℕ → LocalState → List ℕ
+written net id neighbours s = spelling Tkt2 net id neighbours s

@@ -1,6 +1,7 @@
 //! Stores over memory, and stores that fail once.
 ghost use Rattle.std.specs.Prelude.{◌≡◌, ◌≤◌, ◌<◌, ◌+◌, [], None, Some, IfOk, IsOk, IsErr};
 ghost use Rattle.std.specs.Prelude.{if◌then◌else◌, false, length, vec_capacity, is_none};
+ghost use Rattle.std.specs.Prelude.{option_map};
 ghost use Rattle.byte_streams.specs.Fuse.{failures_of, left_after};
 ghost use Rattle.node_state_file.specs.Stores.{Loads, Saves};
 
@@ -32,7 +33,8 @@ impl<A: Allocator + Copy> MemoryStore<A> {
 
     /// What is stored, if anything is.
     pub fn stored(&self) -> Option<&[u8]>
-        ensures none { result ≡ None → self.now.is_present ≡ false }
+        ensures { option_map (λ bytes. bytes.now) result
+            ≡ (if self.now.is_present then Some self.now.bytes.items else None) }
     {
         if self.is_present {
             Some(self.bytes.as_slice())

@@ -1,0 +1,22 @@
+//! Worked rows of damage: state files as faults leave them, stores that fail, and what is drawn on
+//! purpose, with every expected value computed by hand or by another program.
+//!
+//! Nothing but tests stands here: of `node_state_file` and of `damage_tool`. They are not in the
+//! crates that they test because a crate's tests prove all of that crate once more. The rows of
+//! single layers stand in `worked_rows`, those of whole networks in `worked_runs`.
+#![tactic(auto)]
+
+#[cfg(test)]
+mod calls;
+#[cfg(test)]
+mod changed_bytes;
+#[cfg(test)]
+mod drawn;
+#[cfg(test)]
+mod plain_files;
+#[cfg(test)]
+mod refused_memory;
+#[cfg(test)]
+mod state_files;
+#[cfg(test)]
+mod stores;
