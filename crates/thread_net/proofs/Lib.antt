@@ -5,3 +5,14 @@ pub mod Deeds
 pub mod PortLists
 pub mod PortDeeds
 pub mod Rounds
+pub mod Zips
+pub mod Maps
+pub mod Cabling
+pub mod Settling
+pub mod Seating
+pub mod Matching
+pub mod Draining
+pub mod Collecting
+pub mod Gathering
+pub mod Starting
+pub mod Finishing

@@ -2,3 +2,13 @@ pub mod Stamps
 pub mod Ports
 pub mod Runner
 pub mod Rounds
+pub mod Cables
+pub mod Seats
+pub mod Settling
+pub mod ThreadRun
+pub mod Done
+pub mod Tables
+pub mod Keeps
+pub mod Outcomes
+pub mod Prepared
+pub mod Fault

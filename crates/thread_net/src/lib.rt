@@ -7,14 +7,26 @@
 //!
 //! What nodes do is a run whatever a scheduler does; a [`Gate`] only holds them back.
 //!
+//! ```
+//! let gate = Pace::new(net.nodes());
+//! let woven = run_threads(rt, alloc, world, 4000, &gate)?;      // woven.world, woven.events
+//! ```
+//!
 //! The trap: no gate makes a promise. A node that waits in vain goes on, and the gate says so
 //! (`gave_up`).
 #![tactic(auto)]
 
+mod cables;
 mod gates;
 mod ports;
+mod prepare;
+mod run;
 mod runner;
+mod seats;
+mod settle;
+mod threads;
 
 pub use gates::{Gate, Meet, Open, Pace};
 pub use ports::{Incoming, Outgoing, StampBound};
+pub use run::{RunFault, Woven, run_threads};
 pub use runner::{Port, Runner};

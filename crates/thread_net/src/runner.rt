@@ -179,7 +179,8 @@ impl<A: Allocator> Runner<A> {
             ≤ vec_capacity self.old.journal.entries }
         // As many rounds as turns: each begins with the one tick of it.
         ensures { (deeds : List Deed) × Does deeds self.old self.new
-            × AreRounds (port_ids self.old) turns deeds }
+            × AreRounds (port_ids self.old) turns deeds
+            × (length deeds ≤ turns * round_room self.old) }
     {
         for turn in 0..turns {
             gate.before(self.id, turn);

@@ -1,0 +1,278 @@
+-- What runners that are done tell together.
+use Rattle.std.proofs.Common.{◌≡◌, ◌≢◌, ◌⊎◌, inl, inr, ℕ, zero, suc, ◌+◌, ◌-◌, ◌<◌, ◌≤◌, ◌==◌, Bool, true, false, if◌then◌else◌, nat_lt, IsTrue, Option, Some, None, List, [], ◌∷◌, ◌++◌, length, map, drop, ap, refl, sym, subst, ◌∙◌, arith, append-nil, slice_index_or, slice_get, All}
+use Rattle.std.proofs.lemmas.Grind.{common_steps}
+use Rattle.std.proofs.lemmas.List.Elements.{All-head, All-tail}
+use Rattle.std.specs.List.{AllByRecursion}
+use Rattle.topology.specs.Network.{Network, are_joined, neighbours_of}
+use Rattle.topology.specs.Laws.{JoinedBack, JoinedAreNodes}
+use Rattle.topology.specs.Ranges.{ranges_of}
+use Rattle.node_core.specs.State.{LocalState, default_node}
+use Rattle.node_core.specs.View.{state_of}
+use Rattle.link_model.specs.declared.item.Item.{Item}
+use Rattle.run_model.specs.World.{World, IsWorldInRange, item_fits}
+use Rattle.run_model.specs.Run.{run}
+use Rattle.run_model.specs.Laws.{RangesStay}
+use Rattle.run_model.specs.declared.event.Event.{Event}
+use Rattle.configuration.specs.ConfigurationView.{no_node, states_of}
+use Rattle.weaving.specs.declared.journal.Entry.{Entry}
+use Rattle.weaving.specs.declared.journal.Stamped.{Stamped}
+use Rattle.weaving.specs.Account.{Deed, Ticks, Sends, Takes, entry_of, sent_to, taken_from, Leads}
+use Rattle.weaving.specs.Journals.{journal_of}
+use Rattle.weaving.specs.Laws.{GoesThrough, WovenIsRun}
+use Rattle.weaving.specs.Matched.{AreMatched, AreOf, IsLinkMatched, stamps, items}
+use Rattle.weaving.specs.Woven.{AreRising, IsWoven}
+use Rattle.thread_net.specs.declared.runner.Port.{Port}
+use Rattle.thread_net.specs.declared.runner.Runner.{Runner}
+use Rattle.thread_net.specs.Ports.{IsSender, IsReceiver}
+use Rattle.thread_net.specs.Runner.{IsTold, IsPortTold}
+use Rattle.thread_net.specs.Rounds.{AreRounds}
+use Rattle.thread_net.specs.Cables.{row, rows_of, port_to, left_between, left_on_ports, settled, IsFlushedOn, IsFlushedBetween, AreSettleable}
+use Rattle.thread_net.specs.Seats.{nodes_of, entries_of_all}
+use Rattle.thread_net.specs.Done.{HasDone, HaveDone, IsStart}
+use Rattle.thread_net.specs.ThreadRun.{IsThreadRun}
+use Rattle.thread_net.proofs.Matching.{Rise, link-matched}
+
+-- ---- lists that are read at a place
+
+get-within : {X : Type 0} (xs : List X) (k : ℕ) (x : X) → slice_get xs k ≡ Some x → k < length xs
+get-within [] k x is = grind (arith, common_steps, is)
+get-within (y ∷ ys) zero x is = omega arith
+get-within (y ∷ ys) (suc k) x is = let h = get-within ys k x is in omega (arith, h)
+
+get-beyond : {X : Type 0} (xs : List X) (k : ℕ) → slice_get xs k ≡ None → length xs ≤ k
+get-beyond [] k is = omega arith
+get-beyond (y ∷ ys) zero is = grind (arith, common_steps, is)
+get-beyond (y ∷ ys) (suc k) is = let h = get-beyond ys k is in omega (arith, h)
+
+pub get-mapped : {X Y : Type 0} (f : X → Y) (xs : List X) (k : ℕ) (x : X) (d : Y) → slice_get xs k ≡ Some x → slice_index_or (map f xs) k d ≡ f x
+get-mapped f [] k x d is = grind (arith, common_steps, is)
+get-mapped f (y ∷ ys) zero x d is = grind (arith, common_steps, is)
+get-mapped f (y ∷ ys) (suc k) x d is = get-mapped f ys k x d is
+
+none-mapped : {X Y : Type 0} (f : X → Y) (xs : List X) (k : ℕ) (d : Y) → slice_get xs k ≡ None → slice_index_or (map f xs) k d ≡ d
+none-mapped f [] k d is = refl
+none-mapped f (y ∷ ys) zero d is = grind (arith, common_steps, is)
+none-mapped f (y ∷ ys) (suc k) d is = none-mapped f ys k d is
+
+drop-nil : (k : ℕ) → ◌≡◌ {A = List ℕ} (drop k []) []
+drop-nil zero = refl
+drop-nil (suc k) = refl
+
+-- ---- accounts
+
+none-sent : (net : Network) (u v : ℕ) (ds : List Deed) (s last : LocalState) → are_joined net.edges u v ≡ false → Leads net u s ds last → sent_to v ds ≡ []
+none-sent net u v [] s last isnt leads = refl
+none-sent net u v (Ticks t ∷ ds) s last isnt leads = none-sent net u v ds _ last isnt leads
+none-sent net u v (Sends x i ∷ ds) s last isnt leads =
+    let later = none-sent net u v ds s last isnt leads.2 in
+    let joined = leads.0 in
+    grind (arith, common_steps, later, joined, isnt)
+none-sent net u v (Takes x i ∷ ds) s last isnt leads = none-sent net u v ds _ last isnt leads.1
+
+none-taken : (net : Network) (u v : ℕ) (ds : List Deed) (s last : LocalState) → are_joined net.edges u v ≡ false → Leads net v s ds last → taken_from u ds ≡ []
+none-taken net u v [] s last isnt leads = refl
+none-taken net u v (Ticks t ∷ ds) s last isnt leads = none-taken net u v ds _ last isnt leads
+none-taken net u v (Sends x i ∷ ds) s last isnt leads = none-taken net u v ds s last isnt leads.2
+none-taken net u v (Takes x i ∷ ds) s last isnt leads =
+    let later = none-taken net u v ds _ last isnt leads.1 in
+    let joined = leads.0 in
+    grind (arith, common_steps, later, joined, isnt)
+
+one-more : (b : Bool) (x : ℕ) (s : Stamped) (ss : List Stamped) → x < s.stamp → AllByRecursion (λ y. x < y) (stamps ss) → AllByRecursion (λ y. x < y) (stamps (if b then s ∷ ss else ss))
+one-more true x s ss one all = (one, all)
+one-more false x s ss one all = all
+
+one-rise : (b : Bool) (s : Stamped) (ss : List Stamped) → AllByRecursion (λ y. s.stamp < y) (stamps ss) → Rise (stamps ss) → Rise (stamps (if b then s ∷ ss else ss))
+one-rise true s ss all rise = (all, rise)
+one-rise false s ss all rise = rise
+
+taken-all : (v u x : ℕ) (ds : List Deed) → AllByRecursion (λ e. x < e.stamp) (map (entry_of v) ds) → AllByRecursion (λ y. x < y) (stamps (taken_from u ds))
+taken-all v u x [] all = tt
+taken-all v u x (Ticks t ∷ ds) all = taken-all v u x ds all.1
+taken-all v u x (Sends w s ∷ ds) all = taken-all v u x ds all.1
+taken-all v u x (Takes w s ∷ ds) all = one-more (w == u) x s (taken_from u ds) all.0 (taken-all v u x ds all.1)
+
+taken-rise : (v u : ℕ) (ds : List Deed) → AreRising (map (entry_of v) ds) → Rise (stamps (taken_from u ds))
+taken-rise v u [] rising = tt
+taken-rise v u (Ticks t ∷ ds) rising = taken-rise v u ds rising.1
+taken-rise v u (Sends w s ∷ ds) rising = taken-rise v u ds rising.1
+taken-rise v u (Takes w s ∷ ds) rising = one-rise (w == u) s (taken_from u ds) (taken-all v u s.stamp ds rising.0) (taken-rise v u ds rising.1)
+
+idle-link : (capacity : ℕ) (old : List Item) → IsLinkMatched capacity old [] [] old
+idle-link capacity old = record {
+  kept = append-nil old;
+  taken_later = rw (drop-nil (length old)) tt;
+  sent_later = rw (drop-nil (capacity - length old)) tt;
+}
+
+module _ {A : Type 0} where
+  none-some : (p : Port A) → ◌≡◌ {A = Option (Port A)} None (Some p) → ⊥
+  none-some p e = grind (arith, common_steps, e)
+
+  some-same : (a b : Port A) → Some a ≡ Some b → a ≡ b
+  some-same a b e = grind (arith, common_steps, e)
+
+  either : (Q : Port A → Type 0) (q : Port A) (ps : List (Port A)) (v : ℕ) (p : Port A) (b : Bool) → Q q → (port_to ps v ≡ Some p → (p.neighbour ≡ v) × Q p) → (q.neighbour == v) ≡ b
+      → (if b then Some q else port_to ps v) ≡ Some p → (p.neighbour ≡ v) × Q p
+  either Q q ps v p true one later test e =
+      let same = some-same q p e in let at : q.neighbour ≡ v = grind (arith, common_steps, test) in (ap (λ r. r.neighbour) (sym same) ∙ at, subst Q same one)
+  either Q q ps v p false one later test e = later e
+
+  found : (Q : Port A → Type 0) (ps : List (Port A)) (v : ℕ) (p : Port A) → port_to ps v ≡ Some p → All Q ps → (p.neighbour ≡ v) × Q p
+  found Q [] v p is all = absurd (none-some p is)
+  found Q (q ∷ ps) v p is all = either Q q ps v p (q.neighbour == v) (All-head Q q ps all) (λ e. found Q ps v p e (All-tail Q q ps all)) refl is
+
+  abbrev pub account-from : (w : World) (turns : ℕ → ℕ) (v : ℕ) (o : Option (Runner A)) → ((r : Runner A) → o ≡ Some r → HasDone w v (turns v) r) → List Deed
+  account-from w turns v None f = []
+  account-from w turns v (Some r) f = (f r refl).deeds
+
+  -- what is known of a node: its runner and its account, or that it is none
+  abbrev Known : World → (ℕ → ℕ) → ℕ → Option (Runner A) → List Deed → Type 0
+  Known w turns v o account =
+      ((r : Runner A) × (o ≡ Some r) × IsTold w v account r × AreRounds (neighbours_of w.net v) (turns v) account)
+      ⊎ ((o ≡ None) × (account ≡ []))
+
+  known-from : (w : World) (turns : ℕ → ℕ) (v : ℕ) (o : Option (Runner A)) (f : (r : Runner A) → o ≡ Some r → HasDone w v (turns v) r) → Known w turns v o (account-from w turns v o f)
+  known-from w turns v None f = inr (refl, refl)
+  known-from w turns v (Some r) f = inl (r, refl, (f r refl).told, (f r refl).rounds)
+
+  module _ (w : World) (turns : ℕ → ℕ) (rs : List (Runner A)) (done : HaveDone w turns rs) (start : IsStart w) where
+    abbrev pub account : ℕ → List Deed
+    account v = account-from w turns v (slice_get rs v) (done.each v)
+
+    abbrev pub last : World
+    last = record { net = w.net; spares = w.spares; node = states_of w.net (nodes_of rs); link = settled w.net (rows_of rs) w.link }
+
+    known : (v : ℕ) → Known w turns v (slice_get rs v) (account v)
+    known v = known-from w turns v (slice_get rs v) (done.each v)
+
+    within : (v : ℕ) (r : Runner A) → slice_get rs v ≡ Some r → v < w.net.nodes
+    within v r is = let h = get-within rs v r is in let c = done.count in omega (arith, h, c)
+
+    beyond : (v : ℕ) → slice_get rs v ≡ None → w.net.nodes ≤ v
+    beyond v is = let h = get-beyond rs v is in let c = done.count in omega (arith, h, c)
+
+    leads : (v : ℕ) → Leads w.net v (w.node v) (account v) (last.node v)
+    leads v = elim (known v) [
+      | inl (r, is, told, rounds) ↦
+          let lt = within v r is in
+          let test : nat_lt v w.net.nodes ≡ true = grind (arith, common_steps, lt) in
+          let node : last.node v ≡ state_of r.node =
+          ap (λ b. if b then state_of (slice_index_or (nodes_of rs) v no_node) else default_node (ranges_of w.net)) test ∙ ap state_of (get-mapped (λ r. r.node) rs v r no_node is) in
+          subst (Leads w.net v (w.node v) (account v)) (sym node) told.leads
+      | inr (is, none) ↦
+          let le = beyond v is in
+          let test : nat_lt v w.net.nodes ≡ false = grind (arith, common_steps, le) in
+          let node : last.node v ≡ w.node v = ap (λ b. if b then state_of (slice_index_or (nodes_of rs) v no_node) else default_node (ranges_of w.net)) test ∙ sym (start.beyond v le) in
+          subst (λ ds. Leads w.net v (w.node v) ds (last.node v)) (sym none) node
+    ]
+
+    nobody : (v : ℕ) → w.net.nodes ≤ v → account v ≡ []
+    nobody v le = elim (known v) [
+      | inl (r, is, told, rounds) ↦ absurd (let lt = within v r is in omega (arith, lt, le))
+      | inr (is, none) ↦ none
+    ]
+
+    -- the link of two nodes that are joined
+    on-ports : (u v : ℕ) (a b : Option (Port A)) (acc-u acc-v : List Deed) → IsFlushedOn a b
+        → ((p : Port A) → a ≡ Some p → (p.neighbour ≡ v) × IsPortTold w u acc-u p)
+        → ((q : Port A) → b ≡ Some q → (q.neighbour ≡ u) × IsPortTold w v acc-v q)
+        → Rise (stamps (taken_from u acc-v))
+        → IsLinkMatched w.net.capacity (w.link u v) (sent_to v acc-u) (taken_from u acc-v) (left_on_ports a b)
+    on-ports u v None b acc-u acc-v is P Q rise = elim is [ ]
+    on-ports u v (Some p) None acc-u acc-v is P Q rise = elim is [ ]
+    on-ports u v (Some p) (Some q) acc-u acc-v is P Q rise =
+        let one = P p refl in
+        let two = Q q refl in
+        let sender = subst (λ n. IsSender w.net.capacity (w.link u n) (sent_to n acc-u) p.outgoing) one.0 one.1.0 in
+        let receiver = subst (λ n. IsReceiver w.net.capacity (length (w.link n v)) (taken_from n acc-v) q.incoming) two.0 two.1.1 in
+        link-matched w.net.capacity (w.link u v) (sent_to v acc-u) (taken_from u acc-v) p.outgoing q.incoming sender receiver is rise
+
+    row-is : (v : ℕ) (r : Runner A) → slice_get rs v ≡ Some r → row (rows_of rs) v ≡ r.ports.items
+    row-is v r is = get-mapped (λ r. r.ports.items) rs v r [] is
+
+    told-port : (u v : ℕ) (r : Runner A) → slice_get rs u ≡ Some r → IsTold w u (account u) r → (p : Port A) → port_to (row (rows_of rs) u) v ≡ Some p
+        → (p.neighbour ≡ v) × IsPortTold w u (account u) p
+    told-port u v r is told p at = found (IsPortTold w u (account u)) r.ports.items v p (ap (λ ps. port_to ps v) (sym (row-is u r is)) ∙ at) told.ports
+
+    rise-of : (v u : ℕ) (r : Runner A) → IsTold w v (account v) r → Rise (stamps (taken_from u (account v)))
+    rise-of v u r told = taken-rise v u (account v) told.rising
+
+    pub told-of : AreOf account (journal_of (entries_of_all rs))
+    told-of v = elim (known v) [
+      | inl (r, is, told, rounds) ↦ get-mapped (λ r. r.journal.entries.items) rs v r [] is ∙ told.journal
+      | inr (is, none) ↦ none-mapped (λ r. r.journal.entries.items) rs v [] is ∙ ap (map (entry_of v)) (sym none)
+    ]
+
+    pub all-rising : (v : ℕ) → AreRising (journal_of (entries_of_all rs) v)
+    all-rising v = elim (known v) [
+      | inl (r, is, told, rounds) ↦ subst AreRising (sym (told-of v)) told.rising
+      | inr (is, none) ↦ subst AreRising (sym (none-mapped (λ r. r.journal.entries.items) rs v [] is)) tt
+    ]
+
+    all-rounds : (v : ℕ) → v < w.net.nodes → AreRounds (neighbours_of w.net v) (turns v) (account v)
+    all-rounds v lt = elim (known v) [
+      | inl (r, is, told, rounds) ↦ rounds
+      | inr (is, none) ↦ absurd (let le = beyond v is in omega (arith, lt, le))
+    ]
+
+    module _ (flushed : (u v : ℕ) → IsTrue (are_joined w.net.edges u v) → IsFlushedBetween (rows_of rs) u v) (nodes : JoinedAreNodes) where
+      link-joined : (u v : ℕ) → are_joined w.net.edges u v ≡ true
+          → IsLinkMatched w.net.capacity (w.link u v) (sent_to v (account u)) (taken_from u (account v)) (left_between (rows_of rs) u v)
+      link-joined u v joined =
+          let both = nodes w.net u v start.range.network joined in
+          elim (known u) [
+            | inr (is, none) ↦ absurd (let le = beyond u is in let lt = both.0 in omega (arith, le, lt))
+            | inl (r, is-u, told-u, rounds-u) ↦ elim (known v) [
+              | inr (is, none) ↦ absurd (let le = beyond v is in let lt = both.1 in omega (arith, le, lt))
+              | inl (s, is-v, told-v, rounds-v) ↦
+                  on-ports u v (port_to (row (rows_of rs) u) v) (port_to (row (rows_of rs) v) u) (account u) (account v) (flushed u v joined)
+                  (told-port u v r is-u told-u) (told-port v u s is-v told-v) (rise-of v u s told-v)
+            ]
+          ]
+
+      link-apart : (u v : ℕ) → are_joined w.net.edges u v ≡ false → IsLinkMatched w.net.capacity (w.link u v) (sent_to v (account u)) (taken_from u (account v)) (w.link u v)
+      link-apart u v isnt =
+          let sends = none-sent w.net u v (account u) (w.node u) (last.node u) isnt (leads u) in
+          let takes = none-taken w.net u v (account v) (w.node v) (last.node v) isnt (leads v) in
+          subst (λ xs. IsLinkMatched w.net.capacity (w.link u v) xs (taken_from u (account v)) (w.link u v)) (sym sends)
+          (subst (λ xs. IsLinkMatched w.net.capacity (w.link u v) [] xs (w.link u v)) (sym takes) (idle-link w.net.capacity (w.link u v)))
+
+      link-any : (u v : ℕ) (b : Bool) → are_joined w.net.edges u v ≡ b
+          → IsLinkMatched w.net.capacity (w.link u v) (sent_to v (account u)) (taken_from u (account v)) (if b then left_between (rows_of rs) u v else w.link u v)
+      link-any u v true joined = link-joined u v joined
+      link-any u v false isnt = link-apart u v isnt
+
+      pub matched : AreMatched w account last
+      matched = record {
+        network = refl;
+        spares = refl;
+        nodes = leads;
+        nobody = nobody;
+        links = λ u v. link-any u v (are_joined w.net.edges u v) refl;
+      }
+
+      module _ (events : List Event) (woven : IsWoven (journal_of (entries_of_all rs)) events) (law : WovenIsRun) where
+        both-laws : (run w events ≡ last) × GoesThrough w events
+        both-laws = law w last account (journal_of (entries_of_all rs)) events start.range matched told-of woven
+
+        pub is-run : IsThreadRun turns w events last
+        is-run = record {
+          leads = both-laws.0;
+          through = both-laws.1;
+          account = account;
+          journal = journal_of (entries_of_all rs);
+          woven = woven;
+          rising = all-rising;
+          told = told-of;
+          matched = matched;
+          rounds = all-rounds;
+        }
+
+        pub settleable : RangesStay → AreSettleable w.net (rows_of rs)
+        settleable ranges u v joined =
+            let range : IsWorldInRange last = subst IsWorldInRange both-laws.0 (ranges w events start.range) in
+            let link : last.link u v ≡ left_between (rows_of rs) u v = ap (λ b. if b then left_between (rows_of rs) u v else w.link u v) joined in (
+              subst (λ xs. length xs ≤ w.net.capacity) link (range.capacity u v joined),
+              subst (All (λ item. IsTrue (item_fits (ranges_of w.net) item))) link (range.items u v joined),
+            )

@@ -1,0 +1,106 @@
+-- The ends of a link tell together what the link did.
+use Rattle.std.proofs.Common.{◌≡◌, ◌⊎◌, inl, inr, ℕ, zero, suc, ◌+◌, ◌-◌, ◌<◌, ◌≤◌, List, [], ◌∷◌, ◌++◌, length, map, drop, filter, nat_le, true, false, ap, refl, sym, subst, ◌∙◌, arith, append_assoc, append-nil}
+use Rattle.std.proofs.lemmas.Grind.{common_steps}
+use Rattle.std.specs.List.{AllZip, AllByRecursion}
+use Rattle.rtrb.specs.Ring.{received, sent}
+use Rattle.link_model.specs.declared.item.Item.{Item}
+use Rattle.weaving.specs.declared.journal.Stamped.{Stamped}
+use Rattle.weaving.specs.Matched.{AreAbove, stamps, items, IsLinkMatched}
+use Rattle.thread_net.specs.declared.ports.Outgoing.{Outgoing}
+use Rattle.thread_net.specs.declared.ports.Incoming.{Incoming}
+use Rattle.thread_net.specs.Stamps.{IsTakeOf, given_back, last_place}
+use Rattle.thread_net.specs.Ports.{opening, stamped, IsSender, IsReceiver}
+use Rattle.thread_net.specs.Cables.{IsFlushed, left_on}
+
+items-append : (xs ys : List Stamped) → items (xs ++ ys) ≡ items xs ++ items ys
+items-append [] ys = refl
+items-append (x ∷ xs) ys = ap (λ zs. x.item ∷ zs) (items-append xs ys)
+
+items-opening : (old : List Item) → items (opening old) ≡ old
+items-opening [] = refl
+items-opening (i ∷ old) = ap (λ zs. i ∷ zs) (items-opening old)
+
+opening-long : (old : List Item) → length (opening old) ≡ length old
+opening-long [] = refl
+opening-long (i ∷ old) = ap suc (opening-long old)
+
+taken-items : (takes came : List Stamped) → AllZip IsTakeOf takes came → items takes ≡ items came
+taken-items [] [] all = refl
+taken-items [] (y ∷ ys) all = elim all [ ]
+taken-items (x ∷ xs) [] all = elim all [ ]
+taken-items (x ∷ xs) (y ∷ ys) all = let later = taken-items xs ys all.1 in let one = all.0.item in ap (λ i. i ∷ items xs) one ∙ ap (λ zs. y.item ∷ zs) later
+
+pub drop-front : {X : Type 0} (xs ys : List X) → drop (length xs) (xs ++ ys) ≡ ys
+drop-front [] ys = refl
+drop-front (x ∷ xs) ys = drop-front xs ys
+
+-- takes are later than what they took, and so than the sends that are a longer list
+above-taken : (takes came left : List Stamped) → AllZip IsTakeOf takes came → AreAbove (stamps takes) (stamps (came ++ left))
+above-taken [] came left all = tt
+above-taken (x ∷ xs) [] left all = elim all [ ]
+above-taken (x ∷ xs) (y ∷ ys) left all = (all.0.later, above-taken xs ys left all.1)
+
+-- without what stood there at first
+above-drop : (old : List Item) (takes sends : List Stamped) → AreAbove (stamps takes) (stamps (opening old ++ sends)) → AreAbove (drop (length old) (stamps takes)) (stamps sends)
+above-drop [] takes sends above = above
+above-drop (i ∷ old) [] sends above = tt
+above-drop (i ∷ old) (x ∷ takes) sends above = above-drop old takes sends above.1
+
+above-longer : (xs ys zs : List ℕ) → AreAbove xs ys → AreAbove xs (ys ++ zs)
+above-longer [] ys zs above = tt
+above-longer (x ∷ xs) [] zs above = elim above [ ]
+above-longer (x ∷ xs) (y ∷ ys) zs above = (above.0, above-longer xs ys zs above.1)
+
+-- stamps rise strictly
+abbrev pub Rise : List ℕ → Type 0
+Rise [] = Unit {0}
+Rise (x ∷ xs) = AllByRecursion (λ y. x < y) xs × Rise xs
+
+none-back : (x : ℕ) (xs : List ℕ) → last_place < x → AllByRecursion (λ y. x < y) xs → filter (λ stamp. nat_le stamp last_place) xs ≡ []
+none-back x [] high all = refl
+none-back x (y ∷ ys) high all =
+    let h = all.0 in
+    let later = none-back x ys high all.1 in
+    let test : nat_le y last_place ≡ false = grind (arith, common_steps, h, high) in
+    rw test later
+
+-- the places that are given back are those of the first takes
+back-first : (xs : List ℕ) → Rise xs → (rest : List ℕ) × (filter (λ stamp. nat_le stamp last_place) xs ++ rest ≡ xs)
+back-first [] rise = ([], refl)
+back-first (x ∷ xs) rise =
+    let cases : (x ≤ last_place) ⊎ (last_place < x) = grind arith in
+    elim cases [
+      | inl low ↦
+          let later = back-first xs rise.1 in
+          let test : nat_le x last_place ≡ true = grind (arith, common_steps, low) in
+          (later.0, rw test (ap (λ zs. x ∷ zs) later.1))
+      | inr high ↦
+          let none = none-back x xs high rise.0 in
+          let test : nat_le x last_place ≡ false = grind (arith, common_steps, high) in
+          (x ∷ xs, rw test (ap (λ zs. zs ++ (x ∷ xs)) none))
+    ]
+
+module _ {A : Type 0} (capacity : ℕ) (old : List Item) (sends takes : List Stamped) (o : Outgoing A) (i : Incoming A)
+    (sender : IsSender capacity old sends o) (receiver : IsReceiver capacity (length old) takes i) (flushed : IsFlushed o i) (rise : Rise (stamps takes)) where
+  went : received i.frames ++ flushed.0.0 ≡ opening old ++ sends
+  went = flushed.0.1 ∙ sender.sent
+
+  left-is : left_on o i ≡ items flushed.0.0
+  left-is = ap items (ap (drop (length (received i.frames))) (sym flushed.0.1) ∙ drop-front (received i.frames) flushed.0.0)
+
+  pub link-matched : IsLinkMatched capacity old sends takes (left_on o i)
+  link-matched = record {
+    kept =
+        ap (λ xs. xs ++ items sends) (sym (items-opening old))
+        ∙ (sym (items-append (opening old) sends)
+        ∙ (ap items (sym went)
+        ∙ (items-append (received i.frames) flushed.0.0
+        ∙ (ap (λ xs. xs ++ items flushed.0.0) (sym (taken-items takes (received i.frames) receiver.taken)) ∙ ap (λ xs. items takes ++ xs) (sym left-is)))));
+    taken_later = above-drop old takes sends (subst (λ xs. AreAbove (stamps takes) (stamps xs)) went (above-taken takes (received i.frames) flushed.0.0 receiver.taken));
+    sent_later =
+        let back = back-first (stamps takes) rise in
+        let all : received o.places ++ (flushed.1.0 ++ back.0) ≡ stamps takes =
+        sym (append_assoc (received o.places) flushed.1.0 back.0) ∙ (ap (λ xs. xs ++ back.0) (flushed.1.1 ∙ receiver.returned) ∙ back.1) in
+        subst (λ xs. AreAbove (drop (capacity - length old) (stamps sends)) xs) all
+        (above-longer (drop (capacity - length old) (stamps sends)) (received o.places) (flushed.1.0 ++ back.0) sender.later);
+  }

@@ -1,0 +1,112 @@
+-- Runners that are furnished are at the start.
+use Rattle.std.proofs.Common.{◌≡◌, ℕ, zero, suc, ◌+◌, ◌*◌, ◌<◌, ◌≤◌, ◌⊎◌, inl, inr, true, false, nat_lt, if◌then◌else◌, List, [], ◌∷◌, ◌++◌, length, map, ap, refl, sym, subst, ◌∙◌, arith, slice_index_or, All, vec_capacity}
+use Rattle.std.proofs.lemmas.Grind.{common_steps}
+use Rattle.std.proofs.lemmas.List.{get_or-map, length-append}
+use Rattle.topology.specs.Network.{Network, are_joined, neighbours_of}
+use Rattle.topology.specs.Ranges.{ranges_of}
+use Rattle.node_core.specs.Site.{site_of}
+use Rattle.node_core.specs.State.{default_node}
+use Rattle.node_core.specs.View.{NodeView, site_in, state_of}
+use Rattle.run_model.specs.World.{World}
+use Rattle.configuration.specs.ConfigurationView.{AreNodesOf, no_node, node_at, states_of, world_of}
+use Rattle.configuration.specs.LinksView.{LinksView}
+use Rattle.thread_net.specs.declared.runner.Runner.{Runner}
+use Rattle.thread_net.specs.Runner.{IsPortTold, IsReady, IsTold, port_ids, round_room}
+use Rattle.thread_net.specs.Cables.{AreFurnished, neighbours_below, row, rows_of, seat_of, seats_of}
+use Rattle.thread_net.specs.Seats.{IsNew, HasRoom, AreAtStart, AreShort, IsAtStart, degree_of, nodes_of}
+use Rattle.thread_net.proofs.Cabling.{below-yes, below-no}
+use Rattle.thread_net.proofs.Maps.{map-long}
+
+module _ {A : Type 0} where
+  pub nodes-from : (rs : List (Runner A)) → nodes_of rs ≡ map (λ s. s.1) (seats_of rs)
+  nodes-from [] = refl
+  nodes-from (r ∷ rs) = ap (λ ns. r.node ∷ ns) (nodes-from rs)
+
+  pub same-nodes : (xs ys : List (Runner A)) → seats_of xs ≡ seats_of ys → nodes_of xs ≡ nodes_of ys
+  same-nodes xs ys same = nodes-from xs ∙ (ap (map (λ s. s.1)) same ∙ sym (nodes-from ys))
+
+  pub same-length : (xs ys : List (Runner A)) → seats_of xs ≡ seats_of ys → length xs ≡ length ys
+  same-length xs ys same = let a = map-long seat_of xs in let b = map-long seat_of ys in let c = ap length same in omega (arith, a, b, c)
+
+-- a node has no more neighbours than there are nodes
+below-long : (net : Network) (x k : ℕ) → length (neighbours_below net x k) ≤ k
+below-long net x zero = omega arith
+below-long net x (suc k) =
+    let on : k + 1 ≡ suc k = omega arith in
+    let before = below-long net x k in
+    let cases : (are_joined net.edges x k ≡ true) ⊎ (are_joined net.edges x k ≡ false) = grind arith in
+    elim cases [
+      | inl is ↦
+          let e = ap length (sym (ap (neighbours_below net x) on) ∙ below-yes net x k is) in
+          let l = length-append (neighbours_below net x k) (k ∷ []) in
+          omega (arith, before, e, l)
+      | inr isnt ↦ let e = ap length (sym (ap (neighbours_below net x) on) ∙ below-no net x k isnt) in omega (arith, before, e)
+    ]
+
+pub short-nodes : (net : Network) (nodes : List NodeView) → net.nodes ≤ 64 → AreNodesOf net nodes → AreShort nodes
+short-nodes net nodes few are k d within =
+    let all = are.all_nodes in
+    let site = are.sites k (omega (arith, within, all)) in
+    let degree : degree_of (node_at nodes k) ≡ length (neighbours_of net k) = ap (λ s. length s.neighbours) site in
+    let l = below-long net k net.nodes in
+    let same : slice_index_or nodes k d ≡ node_at nodes k = grind (arith, common_steps, within) in
+    subst (λ n. degree_of n ≤ 64) (sym same) (omega (arith, degree, l, few))
+
+module _ {A : Type 0} (nodes : List NodeView) (links : LinksView) (turns : ℕ) (rs : List (Runner A)) (are : AreNodesOf links.net nodes) (same : nodes_of rs ≡ nodes)
+    (new : All IsNew (seats_of rs)) (rooms : All (HasRoom turns) (seats_of rs)) where
+  abbrev pub here : World
+  here = world_of (record { nodes = nodes; links = links })
+
+  many : length rs ≡ links.net.nodes
+  many = let a = map-long (λ r. r.node) rs in let b = ap length same in let c = are.all_nodes in omega (arith, a, b, c)
+
+  module _ (furnished : AreFurnished here (rows_of rs)) (v : ℕ) (d : Runner A) (vn : v < links.net.nodes) where
+    abbrev r : Runner A
+    r = slice_index_or rs v d
+
+    there : v < length rs
+    there = let m = many in omega (arith, m, vn)
+
+    node-is : r.node ≡ node_at nodes v
+    node-is = sym (get_or-map (λ r. r.node) rs v d no_node there) ∙ ap (λ ns. slice_index_or ns v no_node) same
+
+    site-is : site_in r.node ≡ site_of links.net v
+    site-is = ap site_in node-is ∙ are.sites v vn
+
+    new-is : IsNew (seat_of r)
+    new-is = let m = map-long seat_of rs in let t = there in subst IsNew (get_or-map seat_of rs v d (seat_of d) there) (new v (seat_of d) (omega (arith, t, m)))
+
+    room-is : HasRoom turns (seat_of r)
+    room-is = let m = map-long seat_of rs in let t = there in subst (HasRoom turns) (get_or-map seat_of rs v d (seat_of d) there) (rooms v (seat_of d) (omega (arith, t, m)))
+
+    row-is : row (rows_of rs) v ≡ r.ports.items
+    row-is = get_or-map (λ r. r.ports.items) rs v d [] there
+
+    ids-are : port_ids r ≡ (site_in r.node).neighbours
+    ids-are = ap (map (λ p. p.neighbour)) (sym row-is) ∙ (furnished.ids v vn ∙ ap (λ s. s.neighbours) (sym site-is))
+
+    pub at-start : IsAtStart here turns v r
+    at-start = record {
+      told = record {
+        id = new-is.id ∙ ap (λ s. s.id) site-is;
+        site = site-is;
+        leads = ap state_of node-is ∙ sym (ap (λ b. if b then state_of (node_at nodes v) else default_node (ranges_of links.net)) (let l = vn in lemma-lt v links.net.nodes l));
+        journal = new-is.journal;
+        rising = tt;
+        before = tt;
+        ports = subst (All (IsPortTold here v [])) row-is (furnished.told v vn);
+      };
+      ready = record {
+        clock = let c = new-is.clock in omega (arith, c);
+        ports = ids-are;
+      };
+      room =
+          let long : length r.ports.items ≡ degree_of r.node = sym (map-long (λ p. p.neighbour) r.ports.items) ∙ ap length ids-are in
+          subst (λ k. turns * (1 + 3 * k) ≤ vec_capacity r.journal.entries) (sym long) room-is;
+    }
+      where
+        lemma-lt : (a b : ℕ) → a < b → nat_lt a b ≡ true
+        lemma-lt a b lt = grind (arith, common_steps, lt)
+
+  pub all-at-start : AreFurnished here (rows_of rs) → AreAtStart here turns rs
+  all-at-start furnished = record { count = many; each = at-start furnished; cabled = furnished.cabled }

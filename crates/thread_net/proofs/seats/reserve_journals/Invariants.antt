@@ -1,0 +1,12 @@
+use Rattle.std.proofs.Common.{◌≡◌, ◌+◌, ◌≤◌, ℕ, [], All, take, drop, vec_len, length}
+use Rattle.thread_net.specs.Cables.{rows_of, row, seats_of}
+use Rattle.thread_net.specs.Seats.{nodes_of, IsNew, HasRoom}
+use Rattle.thread_net.proofs.seats.reserve_journals.Given as goal
+
+abbrev pub invariant-loop-place : goal.invariant-loop-place
+invariant-loop-place g l =
+    (length l.runners.items ≡ length l.fn.runners.items)
+    × (nodes_of l.runners.items ≡ nodes_of l.fn.runners.items)
+    × (rows_of l.runners.items ≡ rows_of l.fn.runners.items)
+    × All IsNew (seats_of l.runners.items)
+    × All (HasRoom l.fn.turns) (take l.place (seats_of l.runners.items))

@@ -1,0 +1,5 @@
+use Rattle.std.proofs.Common.{rules}
+use Rattle.thread_net.proofs.threads.run_one.Goals as goal
+
+pub returns : goal.returns
+returns g c = c.run.ensures

@@ -1,0 +1,136 @@
+-- The rings that join nodes: how their ends belong together, and which ports a node has.
+use Rattle.std.specs.Prelude.{◌≡◌, ℕ, ◌+◌, ◌<◌, ◌≤◌, ◌==◌, if◌then◌else◌, nat_lt, IsTrue, Option, Some, None}
+use Rattle.std.specs.Prelude.{List, [], ◌∷◌, ◌++◌, All, map, filter, drop, length, slice_index_or}
+use Rattle.std.specs.List.{range_with_len}
+use Rattle.rtrb.specs.Ring.{sent, received, IsPair}
+use Rattle.topology.specs.Network.{Network, are_joined, neighbours_of}
+use Rattle.topology.specs.Ranges.{ranges_of}
+use Rattle.link_model.specs.declared.item.Item.{Item}
+use Rattle.node_core.specs.View.{NodeView}
+use Rattle.run_model.specs.World.{World, item_fits}
+use Rattle.configuration.specs.LinksView.{LinksView, under_way}
+use Rattle.weaving.specs.declared.journal.Journal.{Journal}
+use Rattle.weaving.specs.declared.journal.Stamped.{Stamped}
+use Rattle.weaving.specs.Matched.{items}
+use Rattle.thread_net.specs.declared.ports.Outgoing.{Outgoing}
+use Rattle.thread_net.specs.declared.ports.Incoming.{Incoming}
+use Rattle.thread_net.specs.declared.runner.Port.{Port}
+use Rattle.thread_net.specs.declared.runner.Runner.{Runner}
+use Rattle.thread_net.specs.Runner.{IsPortTold}
+
+-- they are the two ends of one link
+abbrev pub AreEnds : {A : Type 0} → Outgoing A → Incoming A → Type 0
+AreEnds o i = IsPair o.frames i.frames × IsPair i.places o.places
+
+-- each is the far end of the other's links
+abbrev pub IsCable : {A : Type 0} → Port A → Port A → Type 0
+IsCable p q = AreEnds p.outgoing q.incoming × AreEnds q.outgoing p.incoming
+
+-- the ports of each runner
+abbrev pub rows_of : {A : Type 0} → List (Runner A) → List (List (Port A))
+rows_of runners = map (λ r. r.ports.items) runners
+
+-- the ports of x; what is no node has none
+abbrev pub row : {A : Type 0} → List (List (Port A)) → ℕ → List (Port A)
+row rows x = slice_index_or rows x []
+
+-- the neighbours of some ports
+abbrev pub ids_in : {A : Type 0} → List (Port A) → List ℕ
+ids_in ports = map (λ p. p.neighbour) ports
+
+-- what a runner has beside its ports
+abbrev pub Seat : Type 0 → Type 0
+Seat A = ℕ × NodeView × ℕ × Journal A
+
+abbrev pub seat_of : {A : Type 0} → Runner A → Seat A
+seat_of r = (r.id, r.node, r.clock, r.journal)
+
+abbrev pub seats_of : {A : Type 0} → List (Runner A) → List (Seat A)
+seats_of runners = map seat_of runners
+
+-- no link holds more than its capacity
+abbrev pub AreWithin : LinksView → Type 0
+AreWithin l = (u v : ℕ) → IsTrue (are_joined l.net.edges u v) → length (under_way l u v) ≤ l.net.capacity
+
+-- the world's network and links are these
+abbrev pub IsOver : World → LinksView → Type 0
+IsOver w l = (w.net ≡ l.net) × (w.link ≡ under_way l)
+
+-- wherever two of the ports lead to each other's nodes, they are the ends of the same links
+abbrev pub AreCabled : {A : Type 0} → List (List (Port A)) → Type 0
+AreCabled rows =
+    (u v : ℕ)
+    → All (λ p. All (λ q. p.neighbour ≡ v → q.neighbour ≡ u → IsCable p q) (row rows v)) (row rows u)
+
+-- the neighbours of x below a bound, ascending
+abbrev pub neighbours_below : Network → ℕ → ℕ → List ℕ
+neighbours_below net x bound = filter (are_joined net.edges x) (range_with_len 0 bound)
+
+-- Pairs of nodes are gone through by their smaller node, and then by the other: where the pair of u
+-- and v comes next, x has had its pairs with the nodes below this bound.
+abbrev pub reach : ℕ → ℕ → ℕ → ℕ → ℕ
+reach n u v x = if nat_lt x u then n else if x == u then v else if nat_lt x v then u + 1 else u
+
+-- the same where the pairs of which u is the smaller node come next
+abbrev pub rows_reach : ℕ → ℕ → ℕ → ℕ
+rows_reach n u x = if nat_lt x u then n else u
+
+-- Each node has a port to each of its neighbours below its bound, ascending, as a run from this
+-- world begins, and ports that lead to each other are the ends of the same links.
+pub record AreLaid {A : Type 0} (w : World) (bound : ℕ → ℕ) (rows : List (List (Port A))) : Type 0 where
+  pub ids : (x : ℕ) → x < w.net.nodes → ids_in (row rows x) ≡ neighbours_below w.net x (bound x)
+  pub told : (x : ℕ) → x < w.net.nodes → All (IsPortTold w x []) (row rows x)
+  pub cabled : AreCabled rows
+
+-- the same with a port to each neighbour
+pub record AreFurnished {A : Type 0} (w : World) (rows : List (List (Port A))) : Type 0 where
+  pub ids : (x : ℕ) → x < w.net.nodes → ids_in (row rows x) ≡ neighbours_of w.net x
+  pub told : (x : ℕ) → x < w.net.nodes → All (IsPortTold w x []) (row rows x)
+  pub cabled : AreCabled rows
+
+-- the first port that leads to a node
+abbrev pub port_to : {A : Type 0} → List (Port A) → ℕ → Option (Port A)
+port_to [] v = None
+port_to (p ∷ ps) v = if p.neighbour == v then Some p else port_to ps v
+
+-- what was sent at the one end and not yet taken at the other
+abbrev pub left_on : {A : Type 0} → Outgoing A → Incoming A → List Item
+left_on o i = items (drop (length (received i.frames)) (sent o.frames))
+
+-- the same of two ports, where both are there
+abbrev pub left_on_ports : {A : Type 0} → Option (Port A) → Option (Port A) → List Item
+left_on_ports (Some p) (Some q) = left_on p.outgoing q.incoming
+left_on_ports (Some p) None = []
+left_on_ports None q = []
+
+-- what was sent from u to v and not yet taken
+abbrev pub left_between : {A : Type 0} → List (List (Port A)) → ℕ → ℕ → List Item
+left_between rows u v = left_on_ports (port_to (row rows u) v) (port_to (row rows v) u)
+
+-- the links once the rings have given back what is left in them
+abbrev pub settled : {A : Type 0} → Network → List (List (Port A)) → (ℕ → ℕ → List Item) → ℕ → ℕ → List Item
+settled net rows link u v = if are_joined net.edges u v then left_between rows u v else link u v
+
+-- these items are no more than the capacity, and in range
+abbrev pub IsRoomFor : Network → List Item → Type 0
+IsRoomFor net left = (length left ≤ net.capacity) × All (λ item. IsTrue (item_fits (ranges_of net) item)) left
+
+-- this holds of what is left on each link
+abbrev pub AreSettleable : {A : Type 0} → Network → List (List (Port A)) → Type 0
+AreSettleable net rows = (u v : ℕ) → IsTrue (are_joined net.edges u v) → IsRoomFor net (left_between rows u v)
+
+-- what came in at the one end of each ring is a beginning of what went out at the other
+abbrev pub IsFlushed : {A : Type 0} → Outgoing A → Incoming A → Type 0
+IsFlushed o i =
+    ((left : List Stamped) × (received i.frames ++ left ≡ sent o.frames))
+    × ((back : List ℕ) × (received o.places ++ back ≡ sent i.places))
+
+-- both ports are there, and this holds of the link from the one to the other
+abbrev pub IsFlushedOn : {A : Type 0} → Option (Port A) → Option (Port A) → Type 0
+IsFlushedOn (Some p) (Some q) = IsFlushed p.outgoing q.incoming
+IsFlushedOn (Some p) None = ⊥
+IsFlushedOn None q = ⊥
+
+-- the same of the ports of u and v to each other
+abbrev pub IsFlushedBetween : {A : Type 0} → List (List (Port A)) → ℕ → ℕ → Type 0
+IsFlushedBetween rows u v = IsFlushedOn (port_to (row rows u) v) (port_to (row rows v) u)

@@ -1,0 +1,58 @@
+-- Runners that are done.
+use Rattle.std.specs.Prelude.{◌≡◌, ℕ, ◌*◌, ◌<◌, ◌≤◌, List, [], Option, Some, length, slice_get, vec_capacity}
+use Rattle.std.specs.declared.vec.Vec.{Vec}
+use Rattle.topology.specs.Network.{neighbours_of}
+use Rattle.topology.specs.Ranges.{ranges_of}
+use Rattle.node_core.specs.State.{default_node}
+use Rattle.run_model.specs.World.{World, IsWorldInRange}
+use Rattle.run_model.specs.declared.event.Event.{Event}
+use Rattle.configuration.specs.LinksView.{LinksView, spare_pairs}
+use Rattle.judge.specs.Stretch.{StretchView, HasRoomFor}
+use Rattle.weaving.specs.Account.{Deed}
+use Rattle.weaving.specs.Journals.{entry_count}
+use Rattle.thread_net.specs.declared.runner.Runner.{Runner}
+use Rattle.thread_net.specs.declared.seats.Seats.{Seats}
+use Rattle.thread_net.specs.Runner.{IsTold}
+use Rattle.thread_net.specs.Rounds.{AreRounds}
+use Rattle.thread_net.specs.Cables.{AreCabled, IsOver, ids_in, row, rows_of}
+use Rattle.thread_net.specs.Seats.{entries_of_all}
+use Rattle.thread_net.specs.Tables.{AreEmptySeats}
+use Rattle.thread_net.specs.ThreadRun.{IsThreadRun}
+
+-- v did as many rounds since it was as in the world
+pub record HasDone {A : Type 0} (w : World) (v turns : ℕ) (r : Runner A) : Type 0 where
+  pub deeds : List Deed
+  pub told : IsTold w v deeds r
+  pub rounds : AreRounds (neighbours_of w.net v) turns deeds
+
+-- each node did its rounds, and the rings belong together
+pub record HaveDone {A : Type 0} (w : World) (turns : ℕ → ℕ) (runners : List (Runner A)) : Type 0 where
+  pub count : length runners ≡ w.net.nodes
+  pub each : (v : ℕ) (r : Runner A) → slice_get runners v ≡ Some r → HasDone w v (turns v) r
+  pub ids : (x : ℕ) → x < w.net.nodes → ids_in (row (rows_of runners) x) ≡ neighbours_of w.net x
+  pub cabled : AreCabled (rows_of runners)
+
+-- a world in range, of whose nodes there are as many as its network says
+pub record IsStart (w : World) : Type 0 where
+  pub range : IsWorldInRange w
+  pub beyond : (v : ℕ) → w.net.nodes ≤ v → w.node v ≡ default_node (ranges_of w.net)
+
+-- all that a world and a list of events are made of, when each node has done its rounds
+pub record IsGatherable {A : Type 0} (w : World) (turns : ℕ → ℕ) (runners : List (Runner A)) (links : LinksView) (room : StretchView) (seats : Seats A) (events : Vec Event A) : Type 0 where
+  pub start : IsStart w
+  pub done : HaveDone w turns runners
+  pub over : IsOver w links
+  pub spares : w.spares ≡ spare_pairs links
+  pub judged : HasRoomFor w.net room
+  pub empty : AreEmptySeats (length runners) seats
+  pub nothing : events.items ≡ []
+  pub fits : entry_count (entries_of_all runners) ≤ vec_capacity events
+
+-- there is such a world
+abbrev pub CanGather : {A : Type 0} → List (Runner A) → LinksView → StretchView → Seats A → Vec Event A → Type 0
+CanGather runners links room seats events = (w : World) × (turns : ℕ → ℕ) × IsGatherable w turns runners links room seats events
+
+-- from each such world what the nodes did is a run to the last one
+abbrev pub Gathers : {A : Type 0} → List (Runner A) → LinksView → StretchView → Seats A → Vec Event A → List Event → World → Type 0
+Gathers runners links room seats events woven last =
+    (w : World) (turns : ℕ → ℕ) → IsGatherable w turns runners links room seats events → IsThreadRun turns w woven last

@@ -1,0 +1,21 @@
+-- What a thread hands back of the runner that it got.
+use Rattle.std.specs.Prelude.{◌≡◌, ℕ, ◌+◌, ◌*◌, ◌≤◌, Bool, true, false, List, length, vec_capacity}
+use Rattle.weaving.specs.Account.{Deed}
+use Rattle.thread_net.specs.declared.runner.Runner.{Runner}
+use Rattle.thread_net.specs.Runner.{IsReady, Does, port_ids, round_room}
+use Rattle.thread_net.specs.Rounds.{AreRounds}
+
+-- the runner is ready, with room for so many turns
+abbrev pub MayRun : {A : Type 0} → ℕ → Runner A → Type 0
+MayRun turns r = IsReady r × (length r.journal.entries.items + turns * round_room r ≤ vec_capacity r.journal.entries)
+
+-- it did so many rounds, and nothing else
+abbrev pub HasRun : {A : Type 0} → ℕ → Runner A → Runner A → Type 0
+HasRun turns was now =
+    (deeds : List Deed) × Does deeds was now × AreRounds (port_ids was) turns deeds
+    × (length deeds ≤ turns * round_room was)
+
+-- it did all its turns, or is as it was
+abbrev pub Keeps : {A : Type 0} → ℕ → Runner A → Runner A → Bool → Type 0
+Keeps turns was now true = HasRun turns was now
+Keeps turns was now false = now ≡ was

@@ -1,0 +1,27 @@
+-- What nodes did on threads is a run.
+use Rattle.std.specs.Prelude.{◌≡◌, ℕ, ◌<◌, List}
+use Rattle.topology.specs.Network.{neighbours_of}
+use Rattle.run_model.specs.World.{World}
+use Rattle.run_model.specs.Run.{run}
+use Rattle.run_model.specs.declared.event.Event.{Event}
+use Rattle.weaving.specs.declared.journal.Entry.{Entry}
+use Rattle.weaving.specs.Account.{Deed}
+use Rattle.weaving.specs.Laws.{GoesThrough}
+use Rattle.weaving.specs.Matched.{AreMatched, AreOf}
+use Rattle.weaving.specs.Woven.{AreRising, IsWoven}
+use Rattle.thread_net.specs.Rounds.{AreRounds}
+
+-- The events lead from the one world to the other: each is a tick, a send to a link that has room,
+-- or a take of an item that is there, and none is refused. They are woven of one journal a node,
+-- whose stamps rise, and these match. v did `turns v` rounds: each is one tick, then to each
+-- neighbour at most one send, then from each at most two takes.
+pub record IsThreadRun (turns : ℕ → ℕ) (start : World) (events : List Event) (last : World) : Type 0 where
+  pub leads : run start events ≡ last
+  pub through : GoesThrough start events
+  pub account : ℕ → List Deed
+  pub journal : ℕ → List Entry
+  pub woven : IsWoven journal events
+  pub rising : (v : ℕ) → AreRising (journal v)
+  pub told : AreOf account journal
+  pub matched : AreMatched start account last
+  pub rounds : (v : ℕ) → v < start.net.nodes → AreRounds (neighbours_of start.net v) (turns v) (account v)

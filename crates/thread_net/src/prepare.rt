@@ -1,0 +1,108 @@
+//! A world becomes runners whose rings are its links.
+ghost use Rattle.std.specs.Prelude.{◌≡◌, ◌≤◌, ℕ, [], IfOk, IfErr, OnOk, All, length, vec_len};
+ghost use Rattle.std.specs.Prelude.{vec_capacity};
+ghost use Rattle.run_model.specs.World.{World};
+ghost use Rattle.judge.specs.Parts.{AreOneWorlds};
+ghost use Rattle.configuration.specs.ConfigurationView.{world_of};
+ghost use Rattle.thread_net.specs.Cables.{AreWithin, AreFurnished, IsOver, row, rows_of};
+ghost use Rattle.thread_net.specs.Cables.{seats_of};
+ghost use Rattle.thread_net.specs.Seats.{nodes_of, IsNew, HasRoom, AreShort, total_room};
+ghost use Rattle.thread_net.specs.Tables.{AreEmptySeats};
+ghost use Rattle.thread_net.specs.Prepared.{IsPrepared};
+
+use crate::cables::cable_all;
+use crate::runner::Runner;
+use crate::seats::{Seats, new_seats, reserve_journals, seat_all, total_room, unseat_all};
+use configuration::Links;
+use judge::{Parts, Stretch};
+use run_model::Event;
+use std::alloc::{AllocError, Allocator};
+
+/// All that a run needs, made before its first turn.
+#[derive(Drop)]
+pub(crate) struct Prepared<A: Allocator + Copy> {
+    pub(crate) runners: Vec<Runner<A>, A>,
+    /// The links of the world, which are as they were: what was under way is in the rings too.
+    pub(crate) links: Links<A>,
+    pub(crate) room: Stretch<A>,
+    /// Where the runners' parts go when they are done.
+    pub(crate) seats: Seats<A>,
+    /// Where their events go.
+    pub(crate) events: Vec<Event, A>,
+}
+
+/// Journals, rings and the list of events, for runners that are new.
+fn furnish<A: Allocator + Copy>(
+    alloc: A,
+    turns: u32,
+    links: &Links<A>,
+    runners: &mut Vec<Runner<A>, A>,
+) -> Result<Vec<Event, A>, AllocError>
+    requires all { length runners.old.items ≡ links.now.net.nodes }
+    requires few { length runners.old.items ≤ 64 }
+    requires within { AreWithin links.now }
+    requires short { AreShort (nodes_of runners.old.items) }
+    requires new { All IsNew (seats_of runners.old.items) }
+    requires empty { (x : ℕ) → row (rows_of runners.old.items) x ≡ [] }
+    ensures nodes { nodes_of runners.new.items ≡ nodes_of runners.old.items }
+    ensures furnished { OnOk result ((w : World) → IsOver w links.now
+        → AreFurnished w (rows_of runners.new.items)) }
+    ensures new { OnOk result (All IsNew (seats_of runners.new.items)) }
+    ensures room { OnOk result (All (HasRoom turns) (seats_of runners.new.items)) }
+    ensures events { IfOk result (λ events. (events.items ≡ [])
+        × (total_room turns (nodes_of runners.new.items) ≤ vec_capacity events)) }
+{
+    reserve_journals(alloc, turns, runners)?;
+    cable_all(alloc, links, runners)?;
+    let events = Vec::with_capacity(alloc, total_room(turns, runners))?;
+    Ok(events)
+}
+
+/// Empty tables for as many runners, and for their parts.
+fn tables<A: Allocator + Copy>(
+    alloc: A,
+    count: usize,
+) -> Result<(Vec<Runner<A>, A>, Seats<A>), AllocError>
+    ensures runners { IfOk result (λ r. (r.0.items ≡ []) × (count ≤ vec_capacity r.0)) }
+    ensures seats { IfOk result (λ r. AreEmptySeats count r.1) }
+{
+    let runners = Vec::with_capacity(alloc, count)?;
+    let seats = new_seats(alloc, count)?;
+    Ok((runners, seats))
+}
+
+/// Makes all that a run of a world needs. Where memory is refused for any of it, the world's parts
+/// come back as they were.
+pub(crate) fn prepare<A: Allocator + Copy>(
+    alloc: A,
+    parts: Parts<A>,
+    turns: u32,
+) -> Result<Prepared<A>, Parts<A>>
+    requires parts { AreOneWorlds parts.nodes.items parts.links parts.room }
+    requires within { AreWithin parts.links }
+    ensures ready { IfOk result (IsPrepared
+        (world_of (record { nodes = parts.nodes.items; links = parts.links })) turns) }
+    ensures unchanged { IfErr result (λ back. (back.nodes.items ≡ parts.nodes.items)
+        × (back.links ≡ parts.links) × (back.room ≡ parts.room)) }
+{
+    let Parts { nodes, links, room } = parts;
+    let count = usize::from(links.net().nodes());
+    let Ok((mut runners, mut seats)) = tables(alloc, count) else {
+        return Err(Parts { nodes, links, room });
+    };
+    seat_all(alloc, nodes, &mut runners);
+    match furnish(alloc, turns, &links, &mut runners) {
+        Ok(events) => Ok(Prepared {
+            runners,
+            links,
+            room,
+            seats,
+            events,
+        }),
+        Err(_) => {
+            unseat_all(runners, &mut seats);
+            let Seats { nodes, .. } = seats;
+            Err(Parts { nodes, links, room })
+        }
+    }
+}

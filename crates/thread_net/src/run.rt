@@ -1,0 +1,150 @@
+//! A world's nodes run on threads, and what they did is a run.
+ghost use Rattle.std.specs.Prelude.{◌≡◌, ◌≤◌, [], IfOk, IfErr, vec_len, vec_capacity};
+ghost use Rattle.configuration.specs.ConfigurationView.{world_of};
+ghost use Rattle.thread_net.specs.Outcomes.{runners_in, have_run};
+ghost use Rattle.thread_net.specs.Done.{CanGather, Gathers};
+ghost use Rattle.thread_net.specs.ThreadRun.{IsThreadRun};
+ghost use Rattle.thread_net.specs.Fault.{IsFault};
+
+use crate::gates::Gate;
+use crate::prepare::{Prepared, prepare};
+use crate::runner::Runner;
+use crate::seats::{Seats, unseat_all};
+use crate::settle::settle_all;
+use crate::threads::{Outcome, Started, run_all};
+use configuration::Links;
+use judge::{Parts, Stretch, World};
+use run_model::Event;
+use std::alloc::{AllocError, Allocator, Global};
+use std::sync::Wait;
+use std::thread::Threads;
+use weaving::weave;
+
+/// What nodes did on threads of their own: the world that came of it, and the events that led
+/// there, in one order.
+#[derive(Drop)]
+pub struct Woven<A: Allocator + Copy = Global> {
+    /// The world that came of it.
+    pub world: World<A>,
+    /// What the nodes did, by stamps, then by nodes.
+    pub events: Vec<Event, A>,
+}
+
+/// Why nodes did not run all their turns.
+#[derive(Drop)]
+pub enum RunFault {
+    /// Memory was refused before the first turn. The world is as it was.
+    Memory(World),
+    /// A thread was refused. This is what the nodes did whose threads were started before; the
+    /// others did nothing.
+    Spawn(Woven),
+}
+
+/// The tables of those who are started, and of those who came back.
+fn new_tables(alloc: Global, count: usize) -> Result<(Vec<Started>, Vec<Outcome>), AllocError>
+    ensures started { IfOk result (λ r. (r.0.items ≡ []) × (count ≤ vec_capacity r.0)) }
+    ensures done { IfOk result (λ r. (r.1.items ≡ []) × (count ≤ vec_capacity r.1)) }
+{
+    let started = Vec::with_capacity(alloc, count)?;
+    let done = Vec::with_capacity(alloc, count)?;
+    Ok((started, done))
+}
+
+/// Whether all ran; their runners go to a table.
+fn collect(outcomes: Vec<Outcome>, runners: &mut Vec<Runner>) -> bool
+    requires { (runners.old.items ≡ []) × (vec_len outcomes ≤ vec_capacity runners.old) }
+    ensures runners { runners.new.items ≡ runners_in outcomes.items }
+    ensures all { result ≡ have_run outcomes.items }
+{
+    let mut all_ran = true;
+    for outcome in outcomes {
+        let Outcome { runner, ran } = outcome;
+        runners.push_reserved(runner);
+        all_ran = all_ran && ran;
+    }
+    all_ran
+}
+
+/// The world and the events of runners that are done.
+fn gather<A: Allocator + Copy>(
+    runners: Vec<Runner<A>, A>,
+    links: Links<A>,
+    room: Stretch<A>,
+    seats: Seats<A>,
+    events: Vec<Event, A>,
+) -> Woven<A>
+    requires { CanGather runners.items links room seats events }
+    ensures { Gathers runners.items links room seats events result.events.items
+        (world_of result.world) }
+{
+    topology::laws::joined();
+    weaving::laws::weave();
+    run_model::laws::in_range();
+    let mut links = links;
+    let mut seats = seats;
+    let mut events = events;
+    unseat_all(runners, &mut seats);
+    let Seats {
+        nodes,
+        journals,
+        mut rows,
+    } = seats;
+    weave(&journals, &mut events);
+    settle_all(&mut links, &mut rows);
+    Woven {
+        world: World::from_parts(Parts { nodes, links, room }),
+        events,
+    }
+}
+
+/// Runs each node of a world on a thread of its own, as many turns each, and waits for all. A turn
+/// is a tick, then to each neighbour at most one send, then from each at most two takes; the gate
+/// holds a node before and behind each. What the nodes did, in one list, is a run from the world
+/// handed in to the one that comes back, whatever the scheduler did.
+///
+/// All memory is taken before the first thread starts, but what the start of a thread takes.
+///
+/// # Errors
+/// [`RunFault::Memory`] where memory is refused, before the first turn; the world comes back as it
+/// was. [`RunFault::Spawn`] where a thread is refused, with what the nodes did that were started.
+pub fn run_threads<R: Threads + Wait + Sync, G: Gate>(
+    rt: &R,
+    alloc: Global,
+    world: World,
+    turns: u32,
+    gate: &G,
+) -> Result<Woven, RunFault>
+    // Each node did all its turns.
+    ensures ok { IfOk result (λ woven.
+        IsThreadRun (λ v. turns) (world_of world) woven.events.items (world_of woven.world)) }
+    ensures err { IfErr result (IsFault turns world) }
+{
+    let count = usize::from(world.net().nodes());
+    let Ok((started, done)) = new_tables(alloc, count) else {
+        return Err(RunFault::Memory(world));
+    };
+    let Ok(mut back) = Vec::with_capacity(alloc, count) else {
+        return Err(RunFault::Memory(world));
+    };
+    world.assure_ranges();
+    match prepare(alloc, world.into_parts(), turns) {
+        Err(parts) => Err(RunFault::Memory(World::from_parts(parts))),
+        Ok(prepared) => {
+            let Prepared {
+                runners,
+                links,
+                room,
+                seats,
+                events,
+            } = prepared;
+            let outcomes = run_all(rt, gate, runners, turns, started, done);
+            let all_ran = collect(outcomes, &mut back);
+            let woven = gather(back, links, room, seats, events);
+            if all_ran {
+                Ok(woven)
+            } else {
+                Err(RunFault::Spawn(woven))
+            }
+        }
+    }
+}

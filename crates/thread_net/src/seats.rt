@@ -1,0 +1,124 @@
+//! Nodes take their seats as runners, and leave them again.
+ghost use Rattle.std.specs.Prelude.{◌≡◌, ◌+◌, ◌*◌, ◌^◌, ◌<◌, ◌≤◌, ℕ, List, [], length, map, All};
+ghost use Rattle.std.specs.Prelude.{IfOk, OnOk};
+ghost use Rattle.std.specs.Prelude.{vec_len, vec_capacity, slice_index_or};
+ghost use Rattle.node_core.specs.View.{site_in};
+ghost use Rattle.thread_net.specs.Cables.{rows_of, row, seats_of};
+ghost use Rattle.weaving.specs.Journals.{entries_in};
+ghost use Rattle.thread_net.specs.Seats.{nodes_of, entries_of_all, IsNew, entry_room, HasRoom};
+ghost use Rattle.thread_net.specs.Seats.{total_room, AreShort};
+ghost use Rattle.thread_net.specs.Tables.{rows_in, AreEmptySeats};
+
+use crate::runner::{Port, Runner};
+use node_core::Node;
+use std::alloc::{AllocError, Allocator};
+use weaving::Journal;
+
+/// The parts of runners, each in a table of its own.
+#[derive(Drop)]
+pub(crate) struct Seats<A: Allocator> {
+    pub(crate) nodes: Vec<Node<A>, A>,
+    pub(crate) journals: Vec<Journal<A>, A>,
+    pub(crate) rows: Vec<Vec<Port<A>, A>, A>,
+}
+
+/// Empty tables for the parts of as many runners.
+pub(crate) fn new_seats<A: Allocator + Copy>(alloc: A, count: usize) -> Result<Seats<A>, AllocError>
+    ensures { IfOk result (AreEmptySeats count) }
+{
+    Ok(Seats {
+        nodes: Vec::with_capacity(alloc, count)?,
+        journals: Vec::with_capacity(alloc, count)?,
+        rows: Vec::with_capacity(alloc, count)?,
+    })
+}
+
+/// The most entries of a node's journal: one a turn, and three more for each neighbour.
+pub(crate) fn entry_room(turns: u32, neighbours: usize) -> usize
+    requires { neighbours ≤ 64 }
+    ensures room { result ≡ entry_room turns neighbours }
+    ensures few { result ≤ 193 * 2 ^ 32 }
+{
+    turns as usize * (1 + 3 * neighbours)
+}
+
+/// Each node becomes a runner, without a port or an entry, its clock at 0.
+pub(crate) fn seat_all<A: Allocator + Copy>(
+    alloc: A,
+    nodes: Vec<Node<A>, A>,
+    runners: &mut Vec<Runner<A>, A>,
+)
+    requires empty { runners.old.items ≡ [] }
+    requires room { vec_len nodes ≤ vec_capacity runners.old }
+    ensures nodes { nodes_of runners.new.items ≡ nodes.items }
+    ensures new { All IsNew (seats_of runners.new.items) }
+    ensures rows { (x : ℕ) → row (rows_of runners.new.items) x ≡ [] }
+{
+    for node in nodes {
+        let id = node.id();
+        runners.push_reserved(Runner {
+            id,
+            node,
+            ports: Vec::new(alloc),
+            clock: 0,
+            journal: Journal {
+                entries: Vec::new(alloc),
+            },
+        });
+    }
+}
+
+/// Reserves the journal of each runner.
+pub(crate) fn reserve_journals<A: Allocator + Copy>(
+    alloc: A,
+    turns: u32,
+    runners: &mut Vec<Runner<A>, A>,
+) -> Result<(), AllocError>
+    requires short { AreShort (nodes_of runners.old.items) }
+    requires new { All IsNew (seats_of runners.old.items) }
+    ensures nodes { nodes_of runners.new.items ≡ nodes_of runners.old.items }
+    ensures rows { rows_of runners.new.items ≡ rows_of runners.old.items }
+    ensures new { All IsNew (seats_of runners.new.items) }
+    ensures room { OnOk result (All (HasRoom turns) (seats_of runners.new.items)) }
+{
+    for place in 0..runners.len() {
+        let room = entry_room(turns, runners[place].node.neighbours().len());
+        let entries = Vec::with_capacity(alloc, room)?;
+        runners[place].journal = Journal { entries };
+    }
+    Ok(())
+}
+
+/// How many entries there may be in the journals of all.
+pub(crate) fn total_room<A: Allocator>(turns: u32, runners: &Vec<Runner<A>, A>) -> usize
+    requires few { length runners.now.items ≤ 64 }
+    requires short { AreShort (nodes_of runners.now.items) }
+    ensures { result ≡ total_room turns (nodes_of runners.now.items) }
+{
+    let mut total = 0;
+    for place in 0..runners.len() {
+        total += entry_room(turns, runners[place].node.neighbours().len());
+    }
+    total
+}
+
+/// The runners' parts go to the tables.
+pub(crate) fn unseat_all<A: Allocator>(runners: Vec<Runner<A>, A>, seats: &mut Seats<A>)
+    requires { AreEmptySeats (vec_len runners) seats.old }
+    ensures nodes { seats.new.nodes.items ≡ nodes_of runners.items }
+    ensures journals { entries_in seats.new.journals.items ≡ entries_of_all runners.items }
+    ensures rows { rows_in seats.new.rows.items ≡ rows_of runners.items }
+{
+    for runner in runners {
+        let Runner {
+            id: _,
+            node,
+            ports,
+            clock: _,
+            journal,
+        } = runner;
+        seats.nodes.push_reserved(node);
+        seats.journals.push_reserved(journal);
+        seats.rows.push_reserved(ports);
+    }
+}
