@@ -1,0 +1,4 @@
+pub mod Became
+pub mod Leaving
+pub mod Sights
+pub mod Pushing

@@ -1,0 +1,16 @@
+use Rattle.std.proofs.Common.{◌≡◌, false, ap, subst}
+use Rattle.lock_desk.specs.Desk.{is_stranger}
+use Rattle.node_loop.specs.Clients.{is_connected}
+use Rattle.node_loop.specs.Deeds.{IsLeave, Leaves}
+use Rattle.node_loop.proofs.Became.{one}
+use Rattle.node_loop.proofs.Leaving.{dismissed}
+use Rattle.node_loop.proofs.service.dismiss.Goals as goal
+
+pub returns-clause-node : goal.returns-clause-node
+returns-clause-node g c = one IsLeave (Leaves c.args.ticket) c.args.node.now c.leave.new.node tt c.leave.ensures.site c.leave.ensures.state
+
+pub returns-clause-connected : goal.returns-clause-connected
+returns-clause-connected g c were t known =
+    dismissed (is_connected c.args.clients.now) (is_connected c.close.new.self) c.args.node.now.desk.lease c.args.ticket c.args.node.now.desk.state
+    c.ranges-in_range.ensures.in_range.desk c.close.ensures were t
+    (subst (λ d. is_stranger t d ≡ false) (ap (λ s. s.desk) c.leave.ensures.state) known)

@@ -1,0 +1,5 @@
+use Rattle.node_loop.specs.Deeds.{Became, IsOfClient}
+use Rattle.node_loop.proofs.service.serve_bytes.Given as goal
+
+abbrev pub invariant-loop-byte : goal.invariant-loop-byte
+invariant-loop-byte g l = Became IsOfClient l.fn.node l.node

@@ -1,0 +1,7 @@
+use Rattle.node_loop.specs.Clients.{AreConnected}
+use Rattle.node_loop.specs.Deeds.{Became, IsLeave}
+use Rattle.node_loop.proofs.service.write_all.Given as goal
+
+abbrev pub invariant-loop-ticket : goal.invariant-loop-ticket
+invariant-loop-ticket g l =
+    Became IsLeave l.fn.node l.node × (AreConnected l.fn.clients l.fn.node → AreConnected l.clients l.node)

@@ -1,0 +1,159 @@
+//! The clients that are connected to a node.
+ghost use Rattle.std.specs.Prelude.{◌≡◌, ◌≢◌, ◌<◌, ◌≤◌, ◌&&◌, ◌==◌, ◌++◌, ℕ, not, true, false};
+ghost use Rattle.std.specs.Prelude.{IsTrue};
+ghost use Rattle.std.specs.Prelude.{IfOk, IfSome, OnSome, IsSome, length};
+ghost use Rattle.slab.specs.Slab.{get, slab_len};
+
+use circular_buffer::HeapCircularBuffer;
+use lock_desk::{ClientLine, ClientReader};
+use slab::Slab;
+use socket_links::{Pipe, ReadAnswer, WriteAnswer};
+use std::alloc::{AllocError, Allocator, Global};
+
+/// How many clients are connected at most.
+pub(crate) const PLACES: usize = 128;
+
+/// How many bytes of answers wait for one client at most.
+const ROOM: usize = 256;
+
+/// How many bytes are read of one client in a turn.
+pub(crate) const PIECE: usize = 64;
+
+/// One client.
+#[derive(Drop)]
+struct Client<P> {
+    pipe: P,
+    reader: ClientReader,
+}
+
+/// The clients, at most 128, each under its ticket, and the answers that wait for them.
+#[derive(Drop)]
+pub(crate) struct Clients<P, A: Allocator + Copy = Global> {
+    table: Slab<Client<P>, A>,
+    /// By ticket.
+    answers: Vec<HeapCircularBuffer<u8, A>, A>,
+    ghost room: { 128 ≤ table.capacity },
+    ghost answers_are: { length answers.items ≡ 128 },
+}
+
+impl<P: Pipe, A: Allocator + Copy> Clients<P, A> {
+    ghost use Rattle.node_loop.specs.Clients.{answers_of, is_connected, room_of};
+    ghost use Rattle.node_loop.specs.Clients.{SameClients, GivesWithin};
+
+    /// No clients, with all the room that there ever is. `AllocError` comes only where memory is
+    /// refused.
+    pub fn new(alloc: A) -> Result<Clients<P, A>, AllocError>
+        ensures { IfOk result (λ clients. (t : ℕ) → is_connected clients t ≡ false) }
+    {
+        let table = Slab::with_capacity(alloc, PLACES)?;
+        let mut answers = Vec::with_capacity(alloc, PLACES)?;
+        for _ in 0..PLACES {
+            answers.push_reserved(HeapCircularBuffer::with_capacity(alloc, ROOM)?);
+        }
+        Ok(Clients { table, answers })
+    }
+
+    /// Whether a client with this ticket is connected.
+    pub fn contains(&self, ticket: u16) -> bool
+        ensures { result ≡ is_connected self.now ticket }
+    {
+        self.table.contains(ticket as usize)
+    }
+
+    /// A client has come. It is closed where 128 are connected, and else has a ticket that no
+    /// connected client has.
+    pub fn admit(&mut self, pipe: P)
+        ensures closed { 128 ≤ slab_len self.old.table → self.new ≡ self.old }
+        ensures was_free { is_connected self.old self.old.table.vacant_key ≡ false }
+        ensures others { (t : ℕ) → t ≢ self.old.table.vacant_key
+            → get self.new.table t ≡ get self.old.table t }
+        ensures admitted { slab_len self.old.table < 128 → self.old.table.vacant_key < 128
+            → IfSome (get self.new.table self.old.table.vacant_key) (λ client. client.pipe ≡ pipe)
+            × (is_connected self.new self.old.table.vacant_key ≡ true) }
+    {
+        let key = self.table.vacant_key();
+        if self.table.len() >= PLACES || key >= PLACES {
+            return;
+        }
+        self.answers[key].clear();
+        self.table.insert_reserved(Client {
+            pipe,
+            reader: ClientReader::new(),
+        });
+    }
+
+    /// Closes the connection of a client, if it is there. What waits for it is dropped.
+    pub fn close(&mut self, ticket: u16)
+        ensures { (t : ℕ) → is_connected self.new t
+            ≡ (is_connected self.old t && not (t == ticket)) }
+    {
+        let _client = self.table.try_remove(ticket as usize);
+    }
+
+    /// Reads a client once; what has come, `Closed` where it is not there.
+    pub fn read(&mut self, ticket: u16, bytes: &mut [u8; PIECE]) -> ReadAnswer
+        ensures same { SameClients self.old self.new }
+        ensures within { GivesWithin result 64 }
+    {
+        match self.table.get_mut(ticket as usize) {
+            Some(client) => client.pipe.try_read(bytes),
+            None => ReadAnswer::Closed,
+        }
+    }
+
+    /// Takes the next byte of a client, and answers the line that it ends, if it ends one.
+    pub fn push(&mut self, ticket: u16, byte: u8) -> Option<ClientLine>
+        ensures same { SameClients self.old self.new }
+        // Only a connected client has lines.
+        ensures there { OnSome result (is_connected self.old ticket ≡ true) }
+    {
+        self.table.get_mut(ticket as usize)?.reader.push(byte)
+    }
+
+    /// Puts an answer behind those that wait for a client; no where there is no room for it whole,
+    /// and then nothing has changed.
+    pub fn say(&mut self, ticket: u16, text: &[u8]) -> bool
+        ensures same { SameClients self.old self.new }
+        ensures said { IsTrue result → answers_of self.new ticket
+            ≡ answers_of self.old ticket ++ text.now }
+        ensures unsaid { result ≡ false → self.new ≡ self.old }
+        ensures no_room { result ≡ false → ticket < 128
+            → room_of self.old ticket < length text.now }
+    {
+        let key = ticket as usize;
+        if key >= PLACES {
+            return false;
+        }
+        let answers = &self.answers[key];
+        if answers.capacity() - answers.len() < text.len() {
+            return false;
+        }
+        let _all = self.answers[key].fill_from_slice(text);
+        true
+    }
+
+    /// Writes once to a client for whom answers wait; no where that fails.
+    pub fn write(&mut self, ticket: u16) -> bool
+        ensures same { SameClients self.old self.new }
+    {
+        let key = ticket as usize;
+        if key >= PLACES || !self.table.contains(key) {
+            return true;
+        }
+        let mut bytes = [0; ROOM];
+        let count = self.answers[key].read_into(&mut bytes);
+        if count == 0 {
+            return true;
+        }
+        let Some(client) = self.table.get_mut(key) else {
+            return true;
+        };
+        let written = match client.pipe.try_write(&bytes[..count]) {
+            WriteAnswer::Wrote(written) => written,
+            WriteAnswer::Later => 0,
+            WriteAnswer::Failed => return false,
+        };
+        let _rest = self.answers[key].fill_from_slice(&bytes[written..count]);
+        true
+    }
+}

@@ -1,0 +1,39 @@
+//! The loop of a node's process: what one turn does, over doors, connections and a store that may
+//! fail.
+//!
+//! A [`NodeRun`] has a node, its links to neighbours and its clients. Its [`Doors`] bring
+//! connections, and its store keeps its state.
+//!
+//! ```
+//! let mut run = NodeRun::new(alloc, net, node, doors, store, Manner::usual())?;
+//! run.wait(clock.microseconds());                     // at most 2 milliseconds
+//! let turned = run.turn(clock.microseconds());
+//! if turned.saved.is_some() { /* each 256th turn */ }
+//! ```
+//!
+//! A turn takes what came, in this order: connections, hellos, frames of neighbours, lines of
+//! clients; whoever is gone leaves; then the node ticks, frames go out on the ports of the plan,
+//! answers to clients; and each 256th turn the state is saved. No door, connection or store that
+//! fails ends it: what failed is tried again in the next turn. It takes no memory.
+//!
+//! The trap: a turn does not wait, and never says that there was nothing to do. Who calls it again
+//! and again without `wait` burns a core.
+#![tactic(auto)]
+
+mod answer;
+mod clients;
+mod doors;
+mod greeting;
+mod lobby;
+mod port;
+mod run;
+mod service;
+mod sight;
+mod turned;
+
+pub use doors::{Door, Doors};
+pub use run::{NodeRun, Unmade};
+pub use turned::Turned;
+
+#[cfg(test)]
+mod tests;

@@ -1,0 +1,126 @@
+//! Connections of neighbours that have not said who they are.
+ghost use Rattle.std.specs.Prelude.{◌≡◌, ◌≤◌, take};
+
+use frame_codec::decode_hello;
+use slab::Slab;
+use socket_links::{Pipe, ReadAnswer};
+use std::alloc::{AllocError, Allocator, Global};
+use topology::Net;
+
+/// How many connections wait for their hello at most.
+pub(crate) const PLACES: usize = 64;
+
+/// In how many turns a hello is to have come.
+const PATIENCE: u16 = 256;
+
+/// The bytes of a hello, without its newline.
+const HELLO: usize = 5;
+
+/// A connection that has not said whole who it is.
+#[derive(Drop)]
+struct Visitor<P> {
+    pipe: P,
+    /// The first line so far.
+    line: [u8; HELLO],
+    count: usize,
+    /// In how many turns it was listened to.
+    turns: u16,
+    ghost within: { count ≤ 5 },
+}
+
+/// What a visitor did in a turn.
+#[derive(Clone, Copy, Debug, PartialEq, Eq)]
+enum Arrival {
+    /// Its first line is not yet whole.
+    Waits,
+    /// Its first line is no hello, or it closed, failed, or was too slow.
+    Goes,
+    /// It is this node.
+    Is(u16),
+}
+
+impl<P: Pipe> Visitor<P> {
+    ghost use Rattle.node_loop.specs.Arrivals.{IsArrival};
+
+    fn new(pipe: P) -> Visitor<P> {
+        Visitor {
+            pipe,
+            line: [0; HELLO],
+            count: 0,
+            turns: 0,
+        }
+    }
+
+    /// Reads on in its first line, one byte a call and not beyond its newline: what stands there is
+    /// of frames.
+    fn listen(&mut self, net: &Net) -> Arrival {
+        for _ in 0..=HELLO {
+            let mut byte = [0; 1];
+            match self.pipe.try_read(&mut byte) {
+                ReadAnswer::Got(_) if byte[0] == b'\n' => return self.arrival(net),
+                ReadAnswer::Got(_) if self.count == HELLO => return Arrival::Goes,
+                ReadAnswer::Got(_) => {
+                    self.line[self.count] = byte[0];
+                    self.count += 1;
+                }
+                ReadAnswer::Later => break,
+                ReadAnswer::Closed | ReadAnswer::Failed => return Arrival::Goes,
+            }
+        }
+        self.turns = self.turns.saturating_add(1);
+        if self.turns < PATIENCE {
+            Arrival::Waits
+        } else {
+            Arrival::Goes
+        }
+    }
+
+    /// What its first line says, which is whole.
+    fn arrival(&self, net: &Net) -> Arrival
+        ensures { IsArrival net.now.nodes (take self.now.count self.now.line) result }
+    {
+        match decode_hello(&self.line[..self.count], net) {
+            Some(id) => Arrival::Is(id),
+            None => Arrival::Goes,
+        }
+    }
+}
+
+/// The connections of neighbours that wait for their hello, at most 64.
+#[derive(Drop)]
+pub(crate) struct Lobby<P, A: Allocator + Copy = Global> {
+    visitors: Slab<Visitor<P>, A>,
+    ghost room: { 64 ≤ visitors.capacity },
+}
+
+impl<P: Pipe, A: Allocator + Copy> Lobby<P, A> {
+    /// An empty lobby, with all its room. `AllocError` comes only where memory is refused.
+    pub fn new(alloc: A) -> Result<Lobby<P, A>, AllocError> {
+        Ok(Lobby {
+            visitors: Slab::with_capacity(alloc, PLACES)?,
+        })
+    }
+
+    /// A connection has come. It is closed where 64 wait.
+    pub fn admit(&mut self, pipe: P) {
+        if self.visitors.len() < PLACES && self.visitors.vacant_key() < PLACES {
+            self.visitors.insert_reserved(Visitor::new(pipe));
+        }
+    }
+
+    /// Listens to the visitor of one place, 0 to 63, if there is one; a node's id and its
+    /// connection, where it has said who it is. Whoever waits no longer is closed.
+    pub fn listen(&mut self, place: usize, net: &Net) -> Option<(u16, P)> {
+        match self.visitors.get_mut(place)?.listen(net) {
+            Arrival::Waits => None,
+            Arrival::Goes => {
+                let _gone = self.visitors.try_remove(place);
+                None
+            }
+            Arrival::Is(id) => {
+                let visitor = self.visitors.try_remove(place)?;
+                Some((id, visitor.pipe))
+            }
+        }
+    }
+}

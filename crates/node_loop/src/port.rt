@@ -1,0 +1,123 @@
+//! One neighbour of a node that runs: the frames to it and from it, and the hello before them.
+ghost use Rattle.std.specs.Prelude.{◌≡◌, ◌&&◌, not, true, false, None, Some, is_none, is_some};
+ghost use Rattle.std.specs.Prelude.{IfSome, if◌then◌else◌, [], ◌∷◌, ◌++◌};
+ghost use Rattle.byte_lines.specs.Lines.{newline};
+ghost use Rattle.frame_codec.specs.Spelling.{spelling};
+
+use crate::greeting::{Greeted, Greeting};
+use socket_links::{Flow, Offer, Pipe, Pull, SocketLink};
+use topology::{Frame, Net};
+
+/// The connection to one neighbour.
+#[derive(Drop)]
+pub(crate) struct NodePort<P> {
+    link: SocketLink<P>,
+    /// A connection that the node made, on which its hello is not yet out.
+    greeting: Option<Greeting<P>>,
+    /// The line that was accepted last is not yet out.
+    is_stuck: bool,
+}
+
+impl<P: Pipe> NodePort<P> {
+    ghost use Rattle.socket_links.specs.Links.{PushesOn};
+
+    /// A port without a connection.
+    pub fn new() -> NodePort<P>
+        ensures { (result.link.pipe ≡ None) × (result.greeting ≡ None) }
+    {
+        NodePort {
+            link: SocketLink::new(),
+            greeting: None,
+            is_stuck: false,
+        }
+    }
+
+    /// Whether there is no connection, nor one that is being made.
+    pub fn is_loose(&self) -> bool
+        ensures { result ≡ (is_none self.now.link.pipe && is_none self.now.greeting) }
+    {
+        !self.link.is_attached() && self.greeting.is_none()
+    }
+
+    /// Whether a frame that is offered would be accepted.
+    pub fn takes_frames(&self) -> bool
+        ensures { result ≡ (is_some self.now.link.pipe && not self.now.is_stuck) }
+    {
+        self.link.is_attached() && !self.is_stuck
+    }
+
+    /// From now on this pipe is the connection; the one that stood there is closed.
+    pub fn attach(&mut self, pipe: P)
+        ensures { (self.new.link.pipe ≡ Some pipe) × (self.new.greeting ≡ None)
+            × (self.new.is_stuck ≡ false) }
+    {
+        let _older = self.link.attach(pipe);
+        self.greeting = None;
+        self.is_stuck = false;
+    }
+
+    /// Closes the connection, if there is one.
+    pub fn close(&mut self)
+        ensures { (self.new.link.pipe ≡ None) × (self.new.greeting ≡ None) }
+    {
+        let _older = self.link.detach();
+        self.greeting = None;
+        self.is_stuck = false;
+    }
+
+    /// A new connection, on which the hello is to go out first.
+    pub fn greet(&mut self, pipe: P)
+        ensures { (self.new.link ≡ self.old.link) × IfSome self.new.greeting
+            (λ greeting. (greeting.pipe ≡ pipe) × (greeting.sent ≡ 0)) }
+    {
+        self.greeting = Some(Greeting::new(pipe));
+    }
+
+    /// Writes what is left of the hello of node `id`, if there is one, and says whether the
+    /// connection stands with that.
+    pub fn go_on_greeting(&mut self, id: u16) -> bool {
+        let Some(greeting) = self.greeting.take() else {
+            return false;
+        };
+        match greeting.push_out(id) {
+            Greeted::Done(pipe) => {
+                self.attach(pipe);
+                true
+            }
+            Greeted::Later(greeting) => {
+                self.greeting = Some(greeting);
+                false
+            }
+            Greeted::Failed => false,
+        }
+    }
+
+    /// The next frame that has come.
+    pub fn pull(&mut self, net: &Net) -> Pull {
+        self.link.pull(net)
+    }
+
+    /// Writes what is left of the last line, as far as the pipe takes it.
+    pub fn push_out(&mut self)
+        ensures { PushesOn P.took [] self.old.link self.new.link }
+    {
+        self.is_stuck = self.link.push_out() == Flow::Later;
+    }
+
+    /// Accepts a frame, if the last line is out, and writes it as far as the pipe takes it. The
+    /// answer is whether it was accepted.
+    pub fn offer(&mut self, frame: &Frame) -> bool
+        // What the pipe took goes on by the frame's line, or by nothing where it is not accepted.
+        ensures { PushesOn P.took (if result then spelling frame.now ++ newline ∷ [] else [])
+            self.old.link self.new.link }
+    {
+        match self.link.offer(frame) {
+            Offer::Taken => {
+                self.push_out();
+                true
+            }
+            Offer::Busy => false,
+            Offer::Loose => false,
+        }
+    }
+}

@@ -1,0 +1,478 @@
+//! A node that runs: what one turn of its process does.
+ghost use Rattle.std.specs.Prelude.{◌≡◌, ◌↔◌, ◌<◌, ◌≤◌, ◌+◌, ◌%◌, true, false, is_some, length};
+ghost use Rattle.std.specs.Prelude.{IfOk, IfErr, IfSome, IsSome, IsTrue, Some, Contains, slice_get};
+ghost use Rattle.topology.specs.Change.{is_same_frame};
+ghost use Rattle.topology.specs.Network.{neighbours_of};
+ghost use Rattle.node_core.specs.Rewire.{rewired};
+ghost use Rattle.node_core.specs.Site.{site_of};
+ghost use Rattle.node_core.specs.View.{site_in, state_of};
+ghost use Rattle.node_state_file.specs.Files.{file_of};
+ghost use Rattle.node_state_file.specs.Stores.{Saves};
+
+use crate::clients::Clients;
+use crate::doors::{Door, Doors};
+use crate::lobby::{self, Lobby};
+use crate::port::NodePort;
+use crate::service;
+use crate::sight::{self, NODES};
+use crate::turned::Turned;
+use node_core::{Item, Node, Ticked};
+use node_state_file::{Store, StoreFault, encode};
+use pace::{Manner, Pace, Plan};
+use socket_links::{Pipe, Pull};
+use std::alloc::{AllocError, Allocator, Global};
+use topology::Net;
+
+/// How many connections are accepted at each door in a turn, at most.
+const COMERS: usize = 64;
+
+/// How many frames are taken at each port in a turn, at most.
+const FRAMES: usize = 64;
+
+/// What was handed in for a node that could not be made, for want of memory.
+#[derive(Drop)]
+pub struct Unmade<D: Doors, S: Store + Drop, A: Allocator + Copy = Global> {
+    pub net: Net,
+    pub node: Node<A>,
+    pub doors: D,
+    pub store: S,
+}
+
+/// A node with its doors, the connections to its neighbours, and its clients.
+#[derive(Drop)]
+pub struct NodeRun<D: Doors, S: Store + Drop, A: Allocator + Copy = Global> {
+    doors: D,
+    store: S,
+    net: Net,
+    node: Node<A>,
+    pace: Pace,
+    /// By the id of any node; those of others than neighbours have no connection.
+    ports: Vec<NodePort<D::P>, A>,
+    lobby: Lobby<D::P, A>,
+    clients: Clients<D::P, A>,
+    /// The turns since the last save, 0 to 255.
+    turns: u8,
+    /// In this turn a client let the lock go.
+    let_go: bool,
+    /// Something that came in the last turn may wait to be read.
+    has_more: bool,
+    ghost site: { (site_in node).id < net.nodes },
+    ghost wired: { site_in node ≡ site_of net (site_in node).id },
+    ghost ports_are: { (length ports.items ≡ net.nodes) × (net.nodes ≤ 64) },
+}
+
+impl<D: Doors, S: Store + Drop, A: Allocator + Copy> NodeRun<D, S, A> {
+    ghost use Rattle.node_loop.specs.Clients.{AreConnected};
+    ghost use Rattle.node_loop.specs.Deeds.{Acts, Became, IsLeave, IsTake, Listens, Turns};
+
+    /// A node of this network that runs over these doors. All memory that turns ever need is
+    /// reserved here; all four come back only where that is refused.
+    pub fn new(
+        alloc: A,
+        net: Net,
+        node: Node<A>,
+        doors: D,
+        store: S,
+        manner: Manner,
+    ) -> Result<NodeRun<D, S, A>, Unmade<D, S, A>>
+        requires { site_in node ≡ site_of net (site_in node).id }
+        ensures made { IfOk result (λ run. (run.net ≡ net) × (run.node ≡ node) × (run.turns ≡ 0)
+            × (run.doors ≡ doors) × (run.store ≡ store)) }
+        ensures unmade { IfErr result (λ back. (back.net ≡ net) × (back.node ≡ node)
+            × (back.doors ≡ doors) × (back.store ≡ store)) }
+    {
+        match reserve(alloc, net.nodes()) {
+            Ok((ports, lobby, clients)) => Ok(NodeRun {
+                doors,
+                store,
+                net,
+                node,
+                pace: Pace::new(manner),
+                ports,
+                lobby,
+                clients,
+                turns: 0,
+                let_go: false,
+                has_more: false,
+            }),
+            Err(AllocError) => Err(Unmade {
+                net,
+                node,
+                doors,
+                store,
+            }),
+        }
+    }
+
+    /// Waits by the doors until something may have come, as long as the pace lets, at most 2
+    /// milliseconds. `now` is microseconds of a clock that never goes back.
+    pub fn wait(&mut self, now: u64)
+        ensures node { self.new.node ≡ self.old.node }
+        ensures rest { (self.new.net ≡ self.old.net) × (self.new.turns ≡ self.old.turns)
+            × (self.new.store ≡ self.old.store) }
+    {
+        let rest = if self.has_more {
+            0
+        } else {
+            let sights = sight::sights(&self.node, &self.net, &self.ports);
+            let outlook = sight::outlook(&self.node, self.let_go);
+            self.pace.rest(&sights, &outlook, now)
+        };
+        self.doors.wait(rest);
+    }
+
+    /// One turn, by the plan that the pace makes in it: whether to tick once all that came was
+    /// taken, and where to offer frames once the node has ticked.
+    pub fn turn(&mut self, now: u64) -> Turned
+        // It is a turn by some plan.
+        ensures node { Turns (is_some result.ticked) self.old.node self.new.node }
+        // Each ticket that waits or borrows is a connected client's.
+        ensures connected { AreConnected self.new.clients self.new.node }
+        // In each 256th turn, and in no other, the state is stored as it is at the turn's end.
+        ensures saves { IsSome result.saved ↔ (self.old.turns ≡ 255) }
+        ensures counts { self.new.turns ≡ (self.old.turns + 1) % 256 }
+        ensures stores { IfSome result.saved (λ saved.
+            Saves saved (file_of self.old.net (site_in self.new.node).id (state_of self.new.node))
+            (S.stored self.old.store) (S.stored self.new.store)
+            (S.failures self.old.store) (S.failures self.new.store)) }
+        ensures net { self.new.net ≡ self.old.net }
+    {
+        self.listen(now);
+        let ticked = self.tick_if(self.plan(now).ticks, now);
+        let plan = self.plan(now);
+        self.speak(&plan.offers, now);
+        Turned {
+            ticked,
+            saved: self.save(),
+        }
+    }
+
+    /// One turn by a plan that was made before it. Its offers are by the neighbour's id.
+    pub fn turn_by(&mut self, plan: &Plan, now: u64) -> Turned
+        ensures node { Turns plan.now.ticks self.old.node self.new.node }
+        ensures ticked { is_some result.ticked ≡ plan.now.ticks }
+        // Each ticket that waits or borrows is a connected client's.
+        ensures connected { AreConnected self.new.clients self.new.node }
+        // In each 256th turn, and in no other, the state is stored as it is at the turn's end.
+        ensures saves { IsSome result.saved ↔ (self.old.turns ≡ 255) }
+        ensures counts { self.new.turns ≡ (self.old.turns + 1) % 256 }
+        ensures stores { IfSome result.saved (λ saved.
+            Saves saved (file_of self.old.net (site_in self.new.node).id (state_of self.new.node))
+            (S.stored self.old.store) (S.stored self.new.store)
+            (S.failures self.old.store) (S.failures self.new.store)) }
+        ensures net { self.new.net ≡ self.old.net }
+    {
+        self.listen(now);
+        let ticked = self.tick_if(plan.ticks, now);
+        self.speak(&plan.offers, now);
+        Turned {
+            ticked,
+            saved: self.save(),
+        }
+    }
+
+    /// What the pace would do now.
+    pub fn plan(&self, now: u64) -> Plan {
+        let sights = sight::sights(&self.node, &self.net, &self.ports);
+        let outlook = sight::outlook(&self.node, self.let_go);
+        self.pace.plan(&sights, &outlook, now)
+    }
+
+    /// First part of a turn: all that came is taken, and whoever is gone leaves.
+    fn listen(&mut self, now: u64)
+        ensures node { Listens self.old.node self.new.node }
+        ensures connected { AreConnected self.new.clients self.new.node }
+        ensures rest { (self.new.net ≡ self.old.net) × (self.new.turns ≡ self.old.turns)
+            × (self.new.store ≡ self.old.store) }
+    {
+        self.has_more = false;
+        self.accept_links();
+        self.accept_clients();
+        self.hear_hellos();
+        self.connect();
+        self.pull_all(now);
+        let was_lent = self.node.lent().is_some();
+        self.has_more |= service::serve_all(&mut self.node, &mut self.clients);
+        service::leave_absent(&mut self.node, &self.clients);
+        self.let_go = was_lent && self.node.lent().is_none();
+    }
+
+    /// Lets neighbours in until none comes.
+    fn accept_links(&mut self)
+        ensures node { self.new.node ≡ self.old.node }
+        ensures rest { (self.new.net ≡ self.old.net) × (self.new.turns ≡ self.old.turns)
+            × (self.new.store ≡ self.old.store) }
+    {
+        for _ in 0..COMERS {
+            match self.doors.link() {
+                Door::Came(pipe) => self.lobby.admit(pipe),
+                Door::Nobody | Door::Failed => return,
+            }
+        }
+    }
+
+    /// Lets clients in until none comes.
+    fn accept_clients(&mut self)
+        ensures node { self.new.node ≡ self.old.node }
+        ensures rest { (self.new.net ≡ self.old.net) × (self.new.turns ≡ self.old.turns)
+            × (self.new.store ≡ self.old.store) }
+    {
+        for _ in 0..COMERS {
+            match self.doors.client() {
+                Door::Came(pipe) => self.clients.admit(pipe),
+                Door::Nobody | Door::Failed => return,
+            }
+        }
+    }
+
+    /// Listens to all who have not said who they are.
+    fn hear_hellos(&mut self)
+        ensures node { self.new.node ≡ self.old.node }
+        ensures rest { (self.new.net ≡ self.old.net) × (self.new.turns ≡ self.old.turns)
+            × (self.new.store ≡ self.old.store) }
+    {
+        for place in 0..lobby::PLACES {
+            if let Some((id, pipe)) = self.lobby.listen(place, &self.net) {
+                self.welcome(id, pipe);
+            }
+        }
+    }
+
+    /// A connection has said whose it is. It is the port's from now on where that is a higher
+    /// neighbour, and else is closed.
+    fn welcome(&mut self, id: u16, pipe: D::P)
+        ensures node { self.new.node ≡ self.old.node }
+        ensures welcome { (site_in self.old.node).id < id
+            → Contains (site_in self.old.node).neighbours id
+            → IfSome (slice_get self.new.ports.items id) (λ port. port.link.pipe ≡ Some pipe) }
+        ensures unwelcome { ¬ ((site_in self.old.node).id < id
+            × Contains (site_in self.old.node).neighbours id) → self.new.ports ≡ self.old.ports }
+        ensures rest { (self.new.net ≡ self.old.net) × (self.new.turns ≡ self.old.turns)
+            × (self.new.store ≡ self.old.store) }
+    {
+        if id > self.node.id() && self.node.is_neighbour(id) {
+            self.ports[id as usize].attach(pipe);
+            self.pace.attached(id as usize);
+        }
+    }
+
+    /// Connects loose ports to lower neighbours, and goes on with hellos that are not out.
+    fn connect(&mut self)
+        ensures node { self.new.node ≡ self.old.node }
+        ensures rest { (self.new.net ≡ self.old.net) × (self.new.turns ≡ self.old.turns)
+            × (self.new.store ≡ self.old.store) }
+    {
+        for id in 0..self.node.id() {
+            self.connect_to(id);
+        }
+    }
+
+    /// Connects the port to a lower neighbour, if it is loose, and goes on with its hello.
+    fn connect_to(&mut self, id: u16)
+        ensures node { self.new.node ≡ self.old.node }
+        ensures rest { (self.new.net ≡ self.old.net) × (self.new.turns ≡ self.old.turns)
+            × (self.new.store ≡ self.old.store) }
+    {
+        if !self.node.is_neighbour(id) {
+            return;
+        }
+        let own = self.node.id();
+        let port = &mut self.ports[id as usize];
+        if port.is_loose()
+            && let Door::Came(pipe) = self.doors.connect(id)
+        {
+            port.greet(pipe);
+        }
+        if port.go_on_greeting(own) {
+            self.pace.attached(id as usize);
+        }
+    }
+
+    /// Takes the frames that neighbours sent.
+    fn pull_all(&mut self, now: u64)
+        ensures node { Became IsTake self.old.node self.new.node }
+        ensures rest { (self.new.net ≡ self.old.net) × (self.new.turns ≡ self.old.turns)
+            × (self.new.store ≡ self.old.store) }
+    {
+        for id in 0..self.net.nodes() {
+            self.pull(id, now);
+        }
+    }
+
+    /// Takes the frames that one neighbour sent.
+    fn pull(&mut self, id: u16, now: u64)
+        ensures node { Became IsTake self.old.node self.new.node }
+        ensures rest { (self.new.net ≡ self.old.net) × (self.new.turns ≡ self.old.turns)
+            × (self.new.store ≡ self.old.store) }
+    {
+        for _ in 0..FRAMES {
+            if !self.pull_one(id, now) {
+                return;
+            }
+        }
+        self.has_more = true;
+    }
+
+    /// Takes the next frame that a neighbour sent; no where there is none.
+    fn pull_one(&mut self, id: u16, now: u64) -> bool
+        ensures node { Became IsTake self.old.node self.new.node }
+        ensures rest { (self.new.net ≡ self.old.net) × (self.new.turns ≡ self.old.turns)
+            × (self.new.store ≡ self.old.store) }
+    {
+        if !self.node.is_neighbour(id) {
+            return false;
+        }
+        let Pull::Frame(frame) = self.ports[id as usize].pull(&self.net) else {
+            return false;
+        };
+        self.node.take(id, &Item::Frame(frame));
+        let trees = sight::trees(&self.node, &self.net);
+        let _hearing = self.pace.heard(id as usize, &frame, &trees, now);
+        true
+    }
+
+    /// Second part of a turn: one tick, if the plan has one.
+    fn tick_if(&mut self, ticks: bool, now: u64) -> Option<Ticked>
+        ensures node { Acts ticks self.old.node self.new.node }
+        ensures ticked { is_some result ≡ ticks }
+        ensures connected { AreConnected self.old.clients self.old.node
+            → AreConnected self.new.clients self.new.node }
+        ensures rest { (self.new.net ≡ self.old.net) × (self.new.turns ≡ self.old.turns)
+            × (self.new.store ≡ self.old.store) }
+    {
+        if ticks { Some(self.tick(now)) } else { None }
+    }
+
+    /// One tick.
+    fn tick(&mut self, now: u64) -> Ticked
+        ensures node { Acts true self.old.node self.new.node }
+        ensures connected { AreConnected self.old.clients self.old.node
+            → AreConnected self.new.clients self.new.node }
+        ensures rest { (self.new.net ≡ self.old.net) × (self.new.turns ≡ self.old.turns)
+            × (self.new.store ≡ self.old.store) }
+    {
+        let before = sight::values(&self.node);
+        let ticked = service::tick(&mut self.node, &mut self.clients);
+        let moved = sight::values(&self.node) != before;
+        let outlook = sight::outlook(&self.node, self.let_go);
+        let trees = sight::trees(&self.node, &self.net);
+        self.pace.ticked(&outlook, moved, &trees, now);
+        ticked
+    }
+
+    /// Third part of a turn: frames on the ports of the plan, and answers to clients.
+    fn speak(&mut self, offers: &[bool; NODES], now: u64)
+        ensures node { Became IsLeave self.old.node self.new.node }
+        ensures connected { AreConnected self.old.clients self.old.node
+            → AreConnected self.new.clients self.new.node }
+        ensures rest { (self.new.net ≡ self.old.net) × (self.new.turns ≡ self.old.turns)
+            × (self.new.store ≡ self.old.store) }
+    {
+        for id in 0..self.net.nodes() {
+            self.speak_to(id, offers[id as usize], now);
+        }
+        service::write_all(&mut self.node, &mut self.clients);
+    }
+
+    /// Writes what is left of the last line to a neighbour, and then a frame, if one is offered.
+    fn speak_to(&mut self, id: u16, offered: bool, now: u64)
+        ensures node { self.new.node ≡ self.old.node }
+        ensures clients { self.new.clients ≡ self.old.clients }
+        ensures rest { (self.new.net ≡ self.old.net) × (self.new.turns ≡ self.old.turns)
+            × (self.new.store ≡ self.old.store) }
+    {
+        if !self.node.is_neighbour(id) {
+            return;
+        }
+        let frame = self.node.frame_for(id);
+        let port = &mut self.ports[id as usize];
+        port.push_out();
+        if offered && port.offer(&frame) {
+            self.pace.gave(id as usize, &frame, now);
+        }
+    }
+
+    /// Last part of a turn: each 256th time, the state is saved.
+    fn save(&mut self) -> Option<Result<(), StoreFault>>
+        ensures when { IsSome result ↔ (self.old.turns ≡ 255) }
+        ensures turns { self.new.turns ≡ (self.old.turns + 1) % 256 }
+        ensures stores { IfSome result (λ saved.
+            Saves saved (file_of self.old.net (site_in self.old.node).id (state_of self.old.node))
+            (S.stored self.old.store) (S.stored self.new.store)
+            (S.failures self.old.store) (S.failures self.new.store)) }
+        ensures same { (self.new.node ≡ self.old.node) × (self.new.clients ≡ self.old.clients)
+            × (self.new.net ≡ self.old.net) }
+    {
+        self.turns = self.turns.wrapping_add(1);
+        if self.turns != 0 {
+            return None;
+        }
+        let mut bytes = [0; 1276];
+        let count = encode(&self.node, &self.net, &mut bytes);
+        Some(self.store.save(&bytes[..count]))
+    }
+
+    /// Takes up a network with other edges, if its nodes, root, capacity and lease are the same;
+    /// else the answer is no, and nothing has changed. The connections of edges that are gone are
+    /// closed; those of new ones begin loose.
+    pub fn rewire(&mut self, net: &Net) -> bool
+        ensures answer { result ≡ is_same_frame self.old.net net.now }
+        ensures net { IsTrue result → self.new.net ≡ net.now }
+        ensures node { IsTrue result → state_of self.new.node
+            ≡ rewired (site_in self.old.node).ranges (site_in self.old.node).neighbours
+            (neighbours_of net.now (site_in self.old.node).id) (state_of self.old.node) }
+        ensures refused { result ≡ false → self.new ≡ self.old }
+    {
+        if !self.net.same_frame(net) {
+            return false;
+        }
+        self.net.copy_from(net);
+        self.node.rewire(net);
+        for id in 0..self.net.nodes() {
+            if !self.node.is_neighbour(id) {
+                self.ports[id as usize].close();
+            }
+        }
+        true
+    }
+
+    /// The network.
+    pub fn net(&self) -> &Net
+        ensures { result.now ≡ self.now.net }
+    {
+        &self.net
+    }
+
+    /// The node.
+    pub fn node(&self) -> &Node<A>
+        ensures { result.now ≡ self.now.node }
+    {
+        &self.node
+    }
+
+    /// The store.
+    pub fn store(&self) -> &S
+        ensures { result.now ≡ self.now.store }
+    {
+        &self.store
+    }
+
+    /// The doors.
+    pub fn doors(&mut self) -> &mut D {
+        &mut self.doors
+    }
+}
+
+/// The memory of a node that runs in a network of so many nodes.
+type Reserved<P, A> = (Vec<NodePort<P>, A>, Lobby<P, A>, Clients<P, A>);
+
+/// Reserves the memory of a node that runs in a network of this many nodes.
+fn reserve<P: Pipe, A: Allocator + Copy>(alloc: A, nodes: u16) -> Result<Reserved<P, A>, AllocError>
+    ensures { IfOk result (λ reserved. length reserved.0.items ≡ nodes) }
+{
+    let mut ports = Vec::with_capacity(alloc, nodes as usize)?;
+    for _ in 0..nodes {
+        ports.push_reserved(NodePort::new());
+    }
+    Ok((ports, Lobby::new(alloc)?, Clients::new(alloc)?))
+}

@@ -1,0 +1,209 @@
+//! What a node does with its clients in a turn.
+ghost use Rattle.std.specs.Prelude.{◌≡◌, ℕ, true};
+ghost use Rattle.lock_desk.specs.Desk.{after_leave, is_ticket};
+ghost use Rattle.node_core.specs.Step.{ticked};
+ghost use Rattle.node_core.specs.View.{site_in, state_of};
+ghost use Rattle.node_loop.specs.Clients.{AreConnected, is_connected};
+ghost use Rattle.node_loop.specs.Deeds.{Became, IsLeave, IsOfClient, Acts};
+
+use crate::answer::{ANSWER, answer};
+use crate::clients::{Clients, PIECE, PLACES};
+use lock_desk::{ClientLine, DeskAct};
+use node_core::{Node, Ticked};
+use socket_links::{Pipe, ReadAnswer};
+use std::alloc::Allocator;
+
+/// A ticket leaves, if it waits or borrows.
+fn leave<A: Allocator>(node: &mut Node<A>, ticket: u16)
+    ensures state { state_of node.new ≡ record (state_of node.old) {
+      desk = after_leave ticket (state_of node.old).desk;
+    } }
+    ensures site { site_in node.new ≡ site_in node.old }
+{
+    let _known = node.leave(ticket);
+}
+
+/// Closes a client, and has its ticket leave.
+fn dismiss<P: Pipe, A: Allocator + Copy>(
+    node: &mut Node<A>,
+    clients: &mut Clients<P, A>,
+    ticket: u16,
+)
+    ensures node { Became IsLeave node.old node.new }
+    ensures connected { AreConnected clients.old node.old → AreConnected clients.new node.new }
+{
+    // The desk is in range, which the prover needs: a borrower does not wait.
+    let _in_range = node.ranges();
+    clients.close(ticket);
+    leave(node, ticket);
+}
+
+/// Answers a client; it is closed where there is no room for the answer.
+fn tell<P: Pipe, A: Allocator + Copy>(
+    node: &mut Node<A>,
+    clients: &mut Clients<P, A>,
+    ticket: u16,
+    text: &[u8],
+)
+    ensures node { Became IsLeave node.old node.new }
+    ensures connected { AreConnected clients.old node.old → AreConnected clients.new node.new }
+{
+    if !clients.say(ticket, text) {
+        dismiss(node, clients, ticket);
+    }
+}
+
+/// Reads each client once, and serves its lines. The answer is whether some client may have more.
+pub(crate) fn serve_all<P: Pipe, A: Allocator + Copy>(
+    node: &mut Node<A>,
+    clients: &mut Clients<P, A>,
+) -> bool
+    ensures { Became IsOfClient node.old node.new }
+{
+    let mut has_more = false;
+    for ticket in 0..PLACES as u16 {
+        if clients.contains(ticket) {
+            has_more |= serve(node, clients, ticket);
+        }
+    }
+    has_more
+}
+
+/// Reads a client once, and serves its lines; whether it may have more. One that closed or whose
+/// read failed is closed, and what waits for it is written before, as far as that goes.
+fn serve<P: Pipe, A: Allocator + Copy>(
+    node: &mut Node<A>,
+    clients: &mut Clients<P, A>,
+    ticket: u16,
+) -> bool
+    ensures { Became IsOfClient node.old node.new }
+{
+    let mut bytes = [0; PIECE];
+    match clients.read(ticket, &mut bytes) {
+        ReadAnswer::Got(count) => {
+            serve_bytes(node, clients, ticket, &bytes[..count]);
+            count == PIECE
+        }
+        ReadAnswer::Later => false,
+        ReadAnswer::Closed => {
+            let _written = clients.write(ticket);
+            dismiss(node, clients, ticket);
+            false
+        }
+        ReadAnswer::Failed => {
+            dismiss(node, clients, ticket);
+            false
+        }
+    }
+}
+
+/// Serves the lines that end in these bytes of a client.
+fn serve_bytes<P: Pipe, A: Allocator + Copy>(
+    node: &mut Node<A>,
+    clients: &mut Clients<P, A>,
+    ticket: u16,
+    bytes: &[u8],
+)
+    ensures { Became IsOfClient node.old node.new }
+{
+    for byte in bytes {
+        if let Some(line) = clients.push(ticket, *byte) {
+            serve_line(node, clients, ticket, line);
+        }
+    }
+}
+
+/// Serves one line of a client.
+fn serve_line<P: Pipe, A: Allocator + Copy>(
+    node: &mut Node<A>,
+    clients: &mut Clients<P, A>,
+    ticket: u16,
+    line: ClientLine,
+)
+    ensures { Became IsOfClient node.old node.new }
+{
+    let mut text = [0; ANSWER];
+    let count = answer(node, ticket, line, &mut text);
+    if count > 0 {
+        tell(node, clients, ticket, &text[..count]);
+    }
+}
+
+/// Has each ticket leave that waits or borrows and is no connected client's.
+pub(crate) fn leave_absent<P: Pipe, A: Allocator + Copy>(
+    node: &mut Node<A>,
+    clients: &Clients<P, A>,
+)
+    ensures node { Became IsLeave node.old node.new }
+    ensures connected { AreConnected clients.now node.new }
+{
+    leave_lent(node, clients);
+    leave_waiting(node, clients);
+}
+
+/// Has the borrower leave, if it is no connected client.
+fn leave_lent<P: Pipe, A: Allocator + Copy>(node: &mut Node<A>, clients: &Clients<P, A>)
+    ensures node { Became IsLeave node.old node.new }
+    ensures connected { (t : ℕ) → is_ticket (state_of node.new).desk.lent t ≡ true
+        → is_connected clients.now t ≡ true }
+{
+    // The desk is in range, which the prover needs: a borrower does not wait.
+    let _in_range = node.ranges();
+    let Some(ticket) = node.lent() else {
+        return;
+    };
+    if !clients.contains(ticket) {
+        leave(node, ticket);
+    }
+}
+
+/// Has each ticket leave that waits and is no connected client's.
+fn leave_waiting<P: Pipe, A: Allocator + Copy>(node: &mut Node<A>, clients: &Clients<P, A>)
+    requires { (t : ℕ) → is_ticket (state_of node.old).desk.lent t ≡ true
+        → is_connected clients.now t ≡ true }
+    ensures node { Became IsLeave node.old node.new }
+    ensures connected { AreConnected clients.now node.new }
+{
+    let mut place = 0;
+    while place < node.waiting() {
+        let ticket = node.tickets()[place];
+        if clients.contains(ticket) {
+            place += 1;
+        } else {
+            leave(node, ticket);
+        }
+    }
+}
+
+/// One tick of the node; the client whose loan it began or ended is told.
+pub(crate) fn tick<P: Pipe, A: Allocator + Copy>(
+    node: &mut Node<A>,
+    clients: &mut Clients<P, A>,
+) -> Ticked
+    // One tick, and then nothing but leaves.
+    ensures node { Acts true node.old node.new }
+    ensures connected { AreConnected clients.old node.old → AreConnected clients.new node.new }
+{
+    let ticked = node.tick();
+    match ticked.act {
+        DeskAct::Granted(ticket) => tell(node, clients, ticket, b"granted\n"),
+        DeskAct::Lost(ticket) => tell(node, clients, ticket, b"lost\n"),
+        DeskAct::Quiet => {}
+    }
+    ticked
+}
+
+/// Writes once to each client for whom answers wait; one to which that fails is closed.
+pub(crate) fn write_all<P: Pipe, A: Allocator + Copy>(
+    node: &mut Node<A>,
+    clients: &mut Clients<P, A>,
+)
+    ensures node { Became IsLeave node.old node.new }
+    ensures connected { AreConnected clients.old node.old → AreConnected clients.new node.new }
+{
+    for ticket in 0..PLACES as u16 {
+        if !clients.write(ticket) {
+            dismiss(node, clients, ticket);
+        }
+    }
+}

@@ -1,0 +1,129 @@
+//! What the pace of a node is shown: how its desk stands, and what there is to say at its ports.
+ghost use Rattle.std.specs.Prelude.{◌≡◌, ◌<◌, ◌≤◌, ℕ, IsTrue, length};
+ghost use Rattle.euler_ring.specs.Cycle.{is_on};
+ghost use Rattle.node_core.specs.Machines.{payload_for, tree_of};
+ghost use Rattle.node_core.specs.Site.{site_of};
+ghost use Rattle.node_core.specs.View.{site_in, state_of};
+
+use crate::port::NodePort;
+use euler_ring::{TreeNeighbours, tree_neighbours};
+use node_core::Node;
+use pace::{Outlook, PortSight};
+use socket_links::Pipe;
+use std::alloc::Allocator;
+use topology::{Frame, Net, Payload};
+
+/// The most nodes of a network.
+pub(crate) const NODES: usize = 64;
+
+/// How the node's desk stands.
+pub(crate) fn outlook<A: Allocator>(node: &Node<A>, let_go: bool) -> Outlook {
+    Outlook {
+        waits: node.waiting() > 0,
+        lends: node.lent().is_some(),
+        has_lease: node.lease() > 0,
+        let_go,
+    }
+}
+
+/// The neighbours on the tree, as far as the node knows.
+fn tree<A: Allocator>(node: &Node<A>, net: &Net) -> TreeNeighbours
+    requires id { (site_in node.now).id < net.now.nodes }
+    requires site { site_in node.now ≡ site_of net.now (site_in node.now).id }
+    ensures tree { result ≡ tree_of (site_in node.now) (state_of node.now) }
+    ensures within { (w : ℕ) → IsTrue (is_on result w) → w < (site_in node.now).ranges.nodes }
+{
+    topology::laws::joined();
+    topology::laws::neighbours();
+    topology::laws::limits();
+    let _known = net.nodes();
+    let copied_parent = |w: u16| -> Option<u16>
+        requires { w < (site_in node.now).ranges.nodes }
+        ensures { result ≡ ((state_of node.entry.now).port w).copy.parent }
+    { node.copy_of(w).parent };
+    tree_neighbours(node.parent(), node.id(), node.neighbours(), copied_parent)
+}
+
+/// By id, whether a tree neighbour is there.
+pub(crate) fn trees<A: Allocator>(node: &Node<A>, net: &Net) -> [bool; NODES]
+    requires id { (site_in node.now).id < net.now.nodes }
+    requires site { site_in node.now ≡ site_of net.now (site_in node.now).id }
+{
+    let tree = tree(node, net);
+    let mut trees = [false; NODES];
+    for id in 0..NODES {
+        trees[id] = tree.contains(id as u16);
+    }
+    trees
+}
+
+/// By id, the values of the machines that come in from the neighbours.
+pub(crate) fn values<A: Allocator>(node: &Node<A>) -> [u16; NODES] {
+    let mut values = [0; NODES];
+    for id in 0..NODES {
+        if node.is_neighbour(id as u16) {
+            values[id] = node.value(id as u16);
+        }
+    }
+    values
+}
+
+/// By id, what there is to say to the neighbours.
+pub(crate) fn sights<P: Pipe, A: Allocator>(
+    node: &Node<A>,
+    net: &Net,
+    ports: &[NodePort<P>],
+) -> [PortSight; NODES]
+    requires id { (site_in node.now).id < net.now.nodes }
+    requires site { site_in node.now ≡ site_of net.now (site_in node.now).id }
+    requires ports { length ports.now ≡ net.now.nodes }
+{
+    let tree = tree(node, net);
+    let mut sights = [no_sight(); NODES];
+    for id in 0..net.nodes() {
+        if node.is_neighbour(id) {
+            sights[id as usize] = PortSight {
+                takes_frames: ports[id as usize].takes_frames(),
+                frame: node.frame_for(id),
+                present: payload_for(node, &tree, id),
+            };
+        }
+    }
+    sights
+}
+
+/// What the node has to say to a neighbour now.
+fn payload_for<A: Allocator>(node: &Node<A>, tree: &TreeNeighbours, id: u16) -> Payload
+    requires tree { tree.now ≡ tree_of (site_in node.now) (state_of node.now) }
+    requires within { (w : ℕ) → IsTrue (is_on tree.now w) → w < (site_in node.now).ranges.nodes }
+    ensures { result ≡ payload_for (site_in node.now) (state_of node.now) id }
+{
+    let ring = if tree.contains(id) {
+        node.value(tree.source_for(id))
+    } else {
+        0
+    };
+    Payload {
+        distance: node.distance(),
+        parent: node.parent(),
+        ring,
+    }
+}
+
+/// A port without a connection.
+fn no_sight() -> PortSight {
+    let blank = Payload {
+        distance: 0,
+        parent: None,
+        ring: 0,
+    };
+    PortSight {
+        takes_frames: false,
+        frame: Frame {
+            seq: 0,
+            ack: 0,
+            payload: blank,
+        },
+        present: blank,
+    }
+}

@@ -1,0 +1,155 @@
+//! Connections of neighbours, and the first lines on them.
+use crate::tests::stage::{doors, doors_to, idle, in_a_row, whole};
+use crate::tests::wires::{Pair, Queue, Trip};
+use std::alloc::AllocError;
+use std::test::Fail;
+use topology::Net;
+
+/// These neighbours, no clients, and no call that fails.
+fn stage<'a>(pairs: &'a [Pair]) -> (Queue<'a>, Queue<'a>, Trip) {
+    (
+        Queue::new(pairs, 0, pairs.len()),
+        Queue::new(pairs, 0, 0),
+        Trip::never(),
+    )
+}
+
+/// What a new node of three says first.
+const FIRST_FRAME: &[u8] = b"F000000000003ffff0000\n";
+
+#[test]
+fn a_hello_of_a_higher_neighbour_alone_is_welcome(rt: HostRuntime) -> Result<(), Fail> {
+    for (hello, is_welcome) in [
+        (b"H0002\n".as_slice(), true),
+        (b"H0000\n", false),
+        (b"H0001\n", false),
+        (b"H0003\n", false),
+        (b"h0002\n", false),
+        (b"H002\n", false),
+        (b"H00022", false),
+        (b"\n", false),
+    ] {
+        let pairs = [Pair::new()];
+        let (links, clients, trip) = stage(&pairs);
+        links.knock();
+        let mut run = in_a_row(rt.alloc(), 3, 1, doors(&links, &clients, &trip))?;
+        pairs[0].up.write(hello);
+        run.turn_by(&whole(), 0);
+        assert_eq!(rt; pairs[0].down.is_closed(), !is_welcome);
+        let want = if is_welcome { FIRST_FRAME } else { b"" };
+        assert!(rt; pairs[0].says(want));
+    }
+    Ok(())
+}
+
+#[test]
+fn a_hello_comes_in_parts_and_frames_behind_it(rt: HostRuntime) -> Result<(), Fail> {
+    let pairs = [Pair::new()];
+    let (links, clients, trip) = stage(&pairs);
+    let mut run = in_a_row(rt.alloc(), 3, 0, doors(&links, &clients, &trip))?;
+    links.knock();
+    pairs[0].up.write(b"H00");
+    run.turn_by(&idle(), 0);
+    assert!(rt; !pairs[0].down.is_closed());
+    pairs[0].up.write(b"01\nF000000000003ffff0000\n");
+    run.turn_by(&idle(), 0);
+    assert!(rt; run.node().ranges().nodes > 1 && run.node().seq(1) == 1);
+    Ok(())
+}
+
+#[test]
+fn a_newer_hello_replaces_the_older_connection(rt: HostRuntime) -> Result<(), Fail> {
+    let pairs = [Pair::new(), Pair::new()];
+    let (links, clients, trip) = stage(&pairs);
+    let mut run = in_a_row(rt.alloc(), 3, 0, doors(&links, &clients, &trip))?;
+    for pair in &pairs {
+        links.knock();
+        pair.up.write(b"H0001\n");
+        run.turn_by(&whole(), 0);
+        assert!(rt; pair.says(FIRST_FRAME) && !pair.down.is_closed());
+    }
+    assert!(rt; pairs[0].down.is_closed());
+    Ok(())
+}
+
+#[test]
+fn silent_connections_are_few_and_go(rt: HostRuntime) -> Result<(), Fail> {
+    let mut pairs = Vec::with_capacity(rt.alloc(), 66)?;
+    for _ in 0..66 {
+        pairs.push(Pair::new())?;
+    }
+    let (links, clients, trip) = stage(&pairs);
+    let mut run = in_a_row(rt.alloc(), 3, 0, doors(&links, &clients, &trip))?;
+    for _ in 0..65 {
+        links.knock();
+    }
+    for turn in 1..=256 {
+        for (place, pair) in pairs.iter().enumerate() {
+            let is_closed = place == 64 && turn > 2;
+            assert_eq!(rt; pair.down.is_closed(), is_closed, "{place} in turn {turn}");
+        }
+        run.turn_by(&idle(), 0);
+    }
+    assert_eq!(rt;
+        pairs.iter().filter(|pair| pair.down.is_closed()).count(),
+        65
+    );
+    let Some(last) = links.knock() else {
+        return Err(Fail::from(AllocError));
+    };
+    last.up.write(b"H0001\n");
+    run.turn_by(&whole(), 0);
+    assert!(rt; last.says(FIRST_FRAME));
+    Ok(())
+}
+
+#[test]
+fn a_node_connects_to_a_lower_neighbour_and_says_who_it_is(rt: HostRuntime) -> Result<(), Fail> {
+    let pairs = [Pair::new(), Pair::new()];
+    let (links, clients, trip) = stage(&pairs);
+    let mut run = in_a_row(rt.alloc(), 3, 2, doors_to(&links, &clients, &trip))?;
+    run.turn_by(&idle(), 0);
+    run.turn_by(&idle(), 0);
+    let mut bytes = [0; 16];
+    let count = pairs[0].up.read(&mut bytes);
+    assert_eq!(rt; &bytes[..count], b"H0002\n".as_slice());
+    assert_eq!(rt; pairs[1].up.read(&mut bytes), 0);
+    pairs[0].down.close();
+    run.turn_by(&idle(), 0);
+    assert!(rt; pairs[0].up.is_closed());
+    run.turn_by(&whole(), 0);
+    let mut bytes = [0; 64];
+    let count = pairs[1].up.read(&mut bytes);
+    assert_eq!(rt;
+        &bytes[..count],
+        b"H0002\nF000000000003ffff0000\n".as_slice()
+    );
+    Ok(())
+}
+
+#[test]
+fn a_network_with_other_edges_is_taken_up(rt: HostRuntime) -> Result<(), Fail> {
+    let pairs = [Pair::new(), Pair::new(), Pair::new()];
+    let (links, clients, trip) = stage(&pairs);
+    let mut run = in_a_row(rt.alloc(), 3, 0, doors(&links, &clients, &trip))?;
+    let row = Net::make(rt.alloc(), 3, 0, 1, 0, &[(0, 1), (1, 2)])?;
+    let ring = Net::make(rt.alloc(), 3, 0, 1, 0, &[(0, 1), (1, 2), (0, 2)])?;
+    let other = Net::make(rt.alloc(), 3, 0, 2, 0, &[(0, 1), (1, 2), (0, 2)])?;
+    for (net, is_taken, is_welcome) in [
+        (&row, true, false),
+        (&other, false, false),
+        (&ring, true, true),
+    ] {
+        let Some(pair) = links.knock() else {
+            break;
+        };
+        pair.up.write(b"H0002\n");
+        assert_eq!(rt; run.rewire(net), is_taken);
+        run.turn_by(&whole(), 0);
+        assert_eq!(rt; pair.says(FIRST_FRAME), is_welcome);
+        assert_eq!(rt; pair.down.is_closed(), !is_welcome);
+    }
+    assert!(rt; run.rewire(&row));
+    assert!(rt; pairs[2].down.is_closed());
+    Ok(())
+}

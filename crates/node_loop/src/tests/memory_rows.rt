@@ -1,0 +1,82 @@
+//! A node's loop takes all memory at its start, and none in its turns.
+use crate::NodeRun;
+use crate::tests::stage::{doors, whole};
+use crate::tests::wires::{Pair, Queue, Trip};
+use linked_list_allocator::LocalHeap;
+use node_core::Node;
+use node_state_file::MemoryStore;
+use pace::Manner;
+use std::alloc::Global;
+use std::test::Fail;
+use topology::Net;
+
+/// Takes all that a heap has left, so that it refuses every growth until what is answered is
+/// dropped.
+fn fill<'h>(alloc: Global, heap: &'h LocalHeap) -> Result<Vec<Vec<u8, &'h LocalHeap>>, Fail> {
+    let mut taken = Vec::with_capacity(alloc, heap.size())?;
+    for _ in 0..heap.size() {
+        match Vec::with_capacity(heap, 1) {
+            Ok(bytes) if taken.len() < taken.capacity() => taken.push_reserved(bytes),
+            _ => break,
+        }
+    }
+    Ok(taken)
+}
+
+#[test]
+fn only_new_asks_for_memory(rt: HostRuntime) -> Result<(), Fail> {
+    let mut refused = 0u32;
+    for units in 1..4000usize {
+        let pairs = [Pair::new(), Pair::new()];
+        let all = &pairs[..];
+        let (links, clients) = (Queue::new(all, 0, 1), Queue::new(all, 1, 2));
+        let trip = Trip::never();
+        let heap = LocalHeap::new(rt.alloc(), units * 128)?;
+        let net = Net::make(rt.alloc(), 2, 0, 1, 0, &[(0, 1)])?;
+        assert!(rt; net.nodes() == 2);
+        let Ok(node) = Node::new(&heap, &net, 0) else {
+            continue;
+        };
+        let used = heap.used();
+        let store = MemoryStore::new(rt.alloc(), 1276)?;
+        match NodeRun::new(
+            &heap,
+            net,
+            node,
+            doors(&links, &clients, &trip),
+            store,
+            Manner::usual(),
+        ) {
+            Err(unmade) => {
+                refused = refused.saturating_add(1);
+                assert!(rt; unmade.node.id() == 0 && unmade.net.nodes() == 2);
+                assert_eq!(rt; heap.used(), used);
+            }
+            Ok(mut run) => {
+                let _full = fill(rt.alloc(), &heap)?;
+                let used = heap.used();
+                links.knock();
+                clients.knock();
+                pairs[0].up.write(b"H0001\nF000000000002ffff0000\n");
+                pairs[1].up.write(b"lock\nunlock\nstatus\n");
+                for _ in 0..256 {
+                    run.turn_by(&whole(), 0);
+                }
+                for now in 0..256 {
+                    run.wait(now);
+                    run.turn(now);
+                }
+                assert_eq!(rt; heap.used(), used);
+                assert!(rt;
+                    pairs[1].says(
+                        b"released\nnode 0 distance 2 parent none token no lent none waiting 0\n"
+                    )
+                );
+                assert!(rt; refused > 100);
+                return Ok(());
+            }
+        }
+    }
+    assert!(rt; false, "a larger heap is wanted");
+    Ok(())
+}

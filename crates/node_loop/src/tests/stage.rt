@@ -1,0 +1,105 @@
+//! Nodes that run over memory, and how they begin.
+ghost use Rattle.std.specs.Prelude.{◌≡◌};
+ghost use Rattle.node_core.specs.Site.{site_of};
+ghost use Rattle.node_core.specs.View.{site_in};
+
+use crate::NodeRun;
+use crate::tests::wires::{MemoryDoors, Queue, Trip};
+use node_core::Node;
+use node_state_file::{MemoryStore, decode};
+use pace::{Manner, Plan};
+use std::alloc::{AllocError, Global};
+use std::test::Fail;
+use topology::Net;
+
+/// A node that runs over memory.
+pub type Run<'a> = NodeRun<MemoryDoors<'a>, MemoryStore>;
+
+/// The root of two nodes, which has the token: node 1 is its tree neighbour.
+const WITH_TOKEN: [u8; 34] = *b"TKT1\x00\x02\x00\x00\x00\x01\x00\x00\xff\xff\
+\x00\x01\x00\x00\x00\x00\x00\x02\xff\xff\x00\x00\x00\x01\x00\x00\x00\x00\x00\x00";
+
+/// The plan of a tick, and a frame on each port.
+pub fn whole() -> Plan {
+    Plan {
+        ticks: true,
+        offers: [true; 64],
+    }
+}
+
+/// The plan of neither.
+pub fn idle() -> Plan {
+    Plan {
+        ticks: false,
+        offers: [false; 64],
+    }
+}
+
+/// Doors at which higher neighbours and clients come, of a node that has no lower neighbour.
+pub fn doors<'a>(links: &'a Queue<'a>, clients: &'a Queue<'a>, trip: &'a Trip) -> MemoryDoors<'a> {
+    MemoryDoors {
+        links: Some(links),
+        clients,
+        lower: None,
+        trip,
+        failures: 0,
+    }
+}
+
+/// Doors at which clients come, of a node that comes to a lower neighbour there.
+pub fn doors_to<'a>(
+    lower: &'a Queue<'a>,
+    clients: &'a Queue<'a>,
+    trip: &'a Trip,
+) -> MemoryDoors<'a> {
+    MemoryDoors {
+        links: None,
+        clients,
+        lower: Some(lower),
+        trip,
+        failures: 0,
+    }
+}
+
+/// Node `id` of two or three nodes in a row, the root first, as it is at the start.
+pub fn in_a_row<'a>(
+    alloc: Global,
+    nodes: i64,
+    id: u16,
+    doors: MemoryDoors<'a>,
+) -> Result<Run<'a>, Fail> {
+    let edges = [(0, 1), (1, 2)];
+    let count = if nodes == 2 { 1 } else { 2 };
+    let net = Net::make(alloc, nodes, 0, 1, 0, &edges[..count])?;
+    if id >= net.nodes() {
+        return Err(Fail::from(AllocError));
+    }
+    let node = Node::new(alloc, &net, id)?;
+    run_of(alloc, net, node, doors)
+}
+
+/// The root of two nodes, which has the token.
+pub fn with_token<'a>(alloc: Global, doors: MemoryDoors<'a>) -> Result<Run<'a>, Fail> {
+    let net = Net::make(alloc, 2, 0, 1, 0, &[(0, 1)])?;
+    if net.nodes() == 0 {
+        return Err(Fail::from(AllocError));
+    }
+    let node = decode(alloc, &WITH_TOKEN, &net, 0)?;
+    run_of(alloc, net, node, doors)
+}
+
+/// This node, with room for one state in its store.
+pub fn run_of<'a>(
+    alloc: Global,
+    net: Net,
+    node: Node,
+    doors: MemoryDoors<'a>,
+) -> Result<Run<'a>, Fail>
+    requires { site_in node ≡ site_of net (site_in node).id }
+{
+    let store = MemoryStore::new(alloc, 1276)?;
+    match NodeRun::new(alloc, net, node, doors, store, Manner::usual()) {
+        Ok(run) => Ok(run),
+        Err(_unmade) => Err(Fail::from(AllocError)),
+    }
+}
