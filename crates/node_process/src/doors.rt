@@ -1,0 +1,203 @@
+//! Doors over Unix sockets.
+ghost use Rattle.std.specs.Prelude.{◌≡◌};
+ghost use Rattle.node_loop.specs.Doors.{Opens};
+
+use crate::input::{has_input_ended, watch_input};
+use crate::pipe::{UnixPipe, is_passing};
+use mio::net::{UnixListener, UnixStream};
+use mio::{Events, Interest, Poll, Token};
+use node_loop::{Door, Doors};
+use std::alloc::{AllocError, Global};
+use std::io;
+use std::net::Net;
+use std::os::unix::net::SocketAddr;
+use std::time::Duration;
+
+/// The socket for neighbours, in a poll.
+const LINKS: Token = Token(0);
+
+/// The socket for clients.
+const CLIENTS: Token = Token(1);
+
+/// Standard input, where its end is waited for.
+const INPUT: Token = Token(2);
+
+/// A connection, of whichever kind: a turn reads them all.
+const CONNECTION: Token = Token(3);
+
+/// How many events one wait takes. What it leaves, the next wait takes.
+const EVENTS: usize = 64;
+
+/// Doors over two listening Unix sockets, and the addresses of all nodes. A wait ends as soon as
+/// anything comes.
+///
+/// A poll tells of a socket once, when something new comes. So a listener is asked again until it
+/// has nobody more, and only then is a call left out.
+#[derive(Drop)]
+pub struct UnixDoors<'a, N> {
+    net: &'a N,
+    poll: Poll,
+    events: Events,
+    links: UnixListener,
+    clients: UnixListener,
+    /// Of each node by its id, where the nodes of greater ids connect.
+    addresses: Vec<SocketAddr>,
+    links_may_come: bool,
+    clients_may_come: bool,
+    input_has_news: bool,
+    failures: u64,
+}
+
+impl<'a, N: Net> UnixDoors<'a, N> {
+    /// Doors at which nobody has come yet.
+    ///
+    /// # Errors
+    /// Where the system gives no poll, or memory runs out.
+    pub fn new(
+        net: &'a N,
+        alloc: Global,
+        mut links: UnixListener,
+        mut clients: UnixListener,
+        addresses: Vec<SocketAddr>,
+    ) -> io::Result<UnixDoors<'a, N>> {
+        let poll = Poll::new(net)?;
+        let events = Events::with_capacity(alloc, EVENTS)?;
+        poll.registry()
+            .register(&mut links, LINKS, Interest::READABLE)?;
+        poll.registry()
+            .register(&mut clients, CLIENTS, Interest::READABLE)?;
+        Ok(UnixDoors {
+            net,
+            poll,
+            events,
+            links,
+            clients,
+            addresses,
+            links_may_come: true,
+            clients_may_come: true,
+            input_has_news: false,
+            failures: 0,
+        })
+    }
+
+    /// Has each wait end where standard input can be read too, or is at its end.
+    ///
+    /// # Errors
+    /// Where no poll waits for standard input: it is closed, a file, or `/dev/null`.
+    pub fn watch_input(&mut self) -> io::Result<()> {
+        watch_input(self.poll.registry(), INPUT, true)
+    }
+
+    /// Whether standard input, where it is watched, is at its end.
+    pub fn has_input_ended<R: io::Input>(&mut self, rt: &R) -> bool {
+        if !self.input_has_news {
+            return false;
+        }
+        self.input_has_news = false;
+        has_input_ended(rt) || watch_input(self.poll.registry(), INPUT, false).is_err()
+    }
+
+    /// Listens at these sockets from now on, in place of those before.
+    ///
+    /// # Errors
+    /// Where the system does not watch them; then the sockets stay as they were.
+    pub fn listen_at(
+        &mut self,
+        mut links: UnixListener,
+        mut clients: UnixListener,
+    ) -> io::Result<()> {
+        let registry = self.poll.registry();
+        registry.register(&mut links, LINKS, Interest::READABLE)?;
+        registry.register(&mut clients, CLIENTS, Interest::READABLE)?;
+        self.links = links;
+        self.clients = clients;
+        self.links_may_come = true;
+        self.clients_may_come = true;
+        Ok(())
+    }
+
+    /// Notes what the last wait told.
+    fn note_events(&mut self)
+        ensures { self.new.failures ≡ self.old.failures }
+    {
+        for event in self.events.iter() {
+            match event.token() {
+                LINKS => self.links_may_come = true,
+                CLIENTS => self.clients_may_come = true,
+                INPUT => self.input_has_news = true,
+                _ => {}
+            }
+        }
+    }
+
+    /// A connection that has been made, or why there is none. Its bytes end a wait from now on.
+    fn door_of(&mut self, made: io::Result<UnixStream>) -> Door<UnixPipe>
+        ensures { Opens result self.old.failures self.new.failures }
+    {
+        let watched = made.and_then(|mut stream| {
+            self.poll
+                .registry()
+                .register(&mut stream, CONNECTION, Interest::READABLE)?;
+            Ok(stream)
+        });
+        match watched {
+            Ok(stream) => Door::Came(UnixPipe::new(stream)),
+            Err(error) if is_passing(error.kind()) => Door::Nobody,
+            Err(_) => {
+                self.failures = self.failures.saturating_add(1);
+                Door::Failed
+            }
+        }
+    }
+}
+
+impl<'a, N: Net> Doors for UnixDoors<'a, N> {
+    type P = UnixPipe;
+
+    ghost failures = { λ d. d.failures };
+
+    fn wait(&mut self, rest: u64) {
+        // A wait that fails ends at once, and the turn asks all the same.
+        let waited = self
+            .poll
+            .poll(&mut self.events, Some(Duration::from_micros(rest)));
+        if waited.is_err() {
+            self.links_may_come = true;
+            self.clients_may_come = true;
+        }
+        self.note_events();
+    }
+
+    fn link(&mut self) -> Door<UnixPipe> {
+        if !self.links_may_come {
+            return Door::Nobody;
+        }
+        let accepted = self.links.accept().map(|(stream, _)| stream);
+        let door = self.door_of(accepted);
+        if matches!(door, Door::Nobody) {
+            self.links_may_come = false;
+        }
+        door
+    }
+
+    fn client(&mut self) -> Door<UnixPipe> {
+        if !self.clients_may_come {
+            return Door::Nobody;
+        }
+        let accepted = self.clients.accept().map(|(stream, _)| stream);
+        let door = self.door_of(accepted);
+        if matches!(door, Door::Nobody) {
+            self.clients_may_come = false;
+        }
+        door
+    }
+
+    fn connect(&mut self, neighbour: u16) -> Door<UnixPipe> {
+        let Some(address) = self.addresses.get(usize::from(neighbour)) else {
+            self.failures = self.failures.saturating_add(1);
+            return Door::Failed;
+        };
+        let made = UnixStream::connect_addr(self.net, address);
+        self.door_of(made)
+    }
+}

@@ -1,0 +1,116 @@
+//! Why a node does not run, or a network is not kept up.
+ghost use Rattle.std.specs.Prelude.{◌≡◌};
+
+use std::alloc::AllocError;
+use std::fmt;
+use subcommands::Fault;
+
+/// Why a node does not run. Printed within a [`Refusal`].
+#[derive(Clone, Copy, Debug, PartialEq, Eq, Drop)]
+pub enum NodeFault {
+    /// The network file is refused.
+    Network(Fault),
+    /// There is no such node; the network has this many.
+    NoNode(u16),
+    /// The sockets' names would have more bytes than such a name may have.
+    LongName,
+    /// The folder is not there, and cannot be made.
+    Folder,
+    /// The file by which a node says that it runs cannot be opened.
+    Lock,
+    /// Another process is the node already.
+    Running,
+    /// The socket for neighbours cannot be made.
+    Links,
+    /// The socket for clients cannot be made.
+    Clients,
+    /// The system gives no clock, no poll or no process.
+    System,
+    /// Standard input, whose end is to be waited for, is a file or nothing.
+    Input,
+    /// Memory ran out.
+    Memory,
+}
+
+impl From<AllocError> for NodeFault {
+    ghost use Rattle.node_process.specs.declared.fault.NodeFault.TheVariants.{Memory};
+
+    ghost from_gives = { λ _ fault. fault ≡ Memory };
+
+    fn from(_: AllocError) -> NodeFault {
+        NodeFault::Memory
+    }
+}
+
+/// A fault with the words of the command that it ends. Printed, it names the file, and says what to
+/// do; it is what the line on standard error has after `tokentree: `.
+#[derive(Drop)]
+pub struct Refusal<'a> {
+    /// The network file.
+    pub file: &'a str,
+    /// The folder.
+    pub dir: &'a str,
+    /// The node.
+    pub id: u16,
+    /// Why it does not run.
+    pub fault: NodeFault,
+}
+
+impl fmt::Display for Refusal<'_> {
+    ghost use Rattle.std.specs.Prelude.{Some};
+    ghost use Rattle.node_process.specs.Texts.{refusal_text};
+
+    ghost output = { λ r. Some (refusal_text r.file.now r.dir.now r.id r.fault) };
+
+    fn fmt<W: fmt::Write>(&self, f: &mut fmt::Formatter<W>) -> fmt::Result {
+        let (file, dir, id) = (self.file, self.dir, self.id);
+        match self.fault {
+            NodeFault::Network(fault) => f.write(fault),
+            NodeFault::NoNode(nodes) => {
+                write!(
+                    f,
+                    "no node {id} is in {file}: its {nodes} nodes are numbered from 0"
+                )
+            }
+            NodeFault::LongName => write!(
+                f,
+                "{dir}: a socket there has a name of more than 107 bytes; choose a shorter DIR"
+            ),
+            NodeFault::Folder => {
+                write!(
+                    f,
+                    "{dir}: cannot be made; make this folder, or choose another DIR"
+                )
+            }
+            NodeFault::Lock => {
+                write!(
+                    f,
+                    "{dir}/lock-{id}: cannot be opened; choose a DIR that is yours"
+                )
+            }
+            NodeFault::Running => write!(
+                f,
+                "{dir}/lock-{id}: node {id} runs there already; stop it, or choose another DIR"
+            ),
+            NodeFault::Links => {
+                write!(
+                    f,
+                    "{dir}/node-{id}.sock: cannot be made; choose another DIR"
+                )
+            }
+            NodeFault::Clients => {
+                write!(
+                    f,
+                    "{dir}/desk-{id}.sock: cannot be made; choose another DIR"
+                )
+            }
+            NodeFault::System => {
+                f.write_str("the system has no clock, poll or process to give; try again")
+            }
+            NodeFault::Input => {
+                f.write_str("standard input is a file or nothing; give a pipe or a terminal")
+            }
+            NodeFault::Memory => f.write_str("memory Refused"),
+        }
+    }
+}

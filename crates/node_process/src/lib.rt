@@ -1,0 +1,45 @@
+//! A node of a network as a process: its files, its sockets, its turns, and a process that keeps
+//! all nodes of a network running.
+//!
+//! ```
+//! let words = NodeWords { file: "ring.toml", id: 1, dir: "run", manner, is_child: false };
+//! node::run(rt, &words)?;                         // prints `start default Absent`, then `ready`
+//! let program = OwnProgram::new(rt, "ring.toml", "run")?;
+//! up::run(rt, &program, "ring.toml", "run")?;     // until standard input ends
+//! ```
+//!
+//! Node U of a network uses these files of a folder, and touches nothing outside it: `state-U.tkt`
+//! (its state), `node-U.sock` (where the nodes above it connect), `desk-U.sock` (where clients do),
+//! `stop-U` (whoever makes it ends the node) and `lock-U` (held while it runs, so that no second
+//! process is node U there).
+//!
+//! What a turn of a node does stands in the crate `node_loop`, over doors; here are the doors over
+//! Unix sockets, and the files. What the system answers is not known to contracts, so the functions
+//! that call it say little; which name a file has, which line is printed, and when a network file
+//! means new edges are exact.
+//!
+//! The trap: whoever can open the sockets can take the lock. The folder is made so that only its
+//! owner can enter it.
+#![tactic(auto)]
+
+mod clock;
+mod doors;
+mod fault;
+mod folder;
+mod input;
+mod lines;
+pub mod node;
+mod paths;
+mod pipe;
+pub mod up;
+
+pub use clock::Stopwatch;
+pub use doors::UnixDoors;
+pub use fault::{NodeFault, Refusal};
+pub use node::NodeWords;
+pub use paths::NodePaths;
+pub use pipe::UnixPipe;
+pub use up::{NodeProgram, OwnProgram};
+
+#[cfg(test)]
+mod tests;

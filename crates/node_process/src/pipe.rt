@@ -1,0 +1,78 @@
+//! A Unix socket as a pipe.
+ghost use Rattle.std.specs.Prelude.{◌≡◌};
+ghost use Rattle.socket_links.specs.Counts.{Counts};
+
+use mio::net::UnixStream;
+use socket_links::{Pipe, ReadAnswer, WriteAnswer};
+use std::io::{ErrorKind, Read, Write};
+
+/// A connection over a Unix socket, which never waits. It is closed where it is dropped. The bytes
+/// that a socket gives and takes are the system's, so it tells contracts nothing of them.
+#[derive(Drop)]
+pub struct UnixPipe {
+    stream: UnixStream,
+    later: u64,
+    closed: u64,
+    failed: u64,
+}
+
+impl UnixPipe {
+    /// A pipe over this connection, which has answered nothing yet.
+    pub fn new(stream: UnixStream) -> UnixPipe
+        ensures { (result.later ≡ 0) × (result.closed ≡ 0) × (result.failed ≡ 0) }
+    {
+        UnixPipe {
+            stream,
+            later: 0,
+            closed: 0,
+            failed: 0,
+        }
+    }
+}
+
+impl Pipe for UnixPipe {
+    ghost use Rattle.std.specs.Prelude.{None};
+
+    ghost gave = { λ _. None };
+
+    ghost took = { λ _. None };
+
+    ghost counts = { λ p. record { later = p.later; closed = p.closed; failed = p.failed } };
+
+    fn try_read(&mut self, buffer: &mut [u8]) -> ReadAnswer {
+        match self.stream.read(buffer) {
+            Ok(0) => {
+                self.closed = self.closed.saturating_add(1);
+                ReadAnswer::Closed
+            }
+            Ok(count) => ReadAnswer::Got(count),
+            Err(error) if is_passing(error.kind()) => {
+                self.later = self.later.saturating_add(1);
+                ReadAnswer::Later
+            }
+            Err(_) => {
+                self.failed = self.failed.saturating_add(1);
+                ReadAnswer::Failed
+            }
+        }
+    }
+
+    fn try_write(&mut self, bytes: &[u8]) -> WriteAnswer {
+        match self.stream.write(bytes) {
+            Ok(count) if count > 0 => WriteAnswer::Wrote(count),
+            Err(error) if !is_passing(error.kind()) => {
+                self.failed = self.failed.saturating_add(1);
+                WriteAnswer::Failed
+            }
+            _ => {
+                self.later = self.later.saturating_add(1);
+                WriteAnswer::Later
+            }
+        }
+    }
+}
+
+/// Whether the same call may succeed a moment later: a socket that is empty or full, and a signal.
+pub fn is_passing(kind: ErrorKind) -> bool {
+    matches!(kind, ErrorKind::WouldBlock | ErrorKind::Interrupted)
+}

@@ -1,0 +1,224 @@
+//! `up FILE DIR`: all nodes of a network as processes, for as long as standard input lasts.
+ghost use Rattle.std.specs.Prelude.{◌≡◌};
+
+use crate::fault::NodeFault;
+use crate::folder::{check_names, hold_place, make_folder};
+use crate::input::{has_input_ended, watch_input};
+use crate::lines::{End, EndLine};
+use crate::node::warn_of_capacity;
+use mio::{Events, Poll, Token};
+use std::alloc::Global;
+use std::fs::File;
+use std::io::Input;
+use std::net::Net;
+use std::os::unix::process::ExitStatusExt;
+use std::path::PathBuf;
+use std::process::{Child, Command, ExitStatus, OpenProcess, Processes, Stdio};
+use std::rt::{Clock, Env, Files};
+use std::time::Duration;
+use std::{env, io, thread};
+use subcommands::read_network;
+
+/// How long one look at the processes takes at most, in milliseconds.
+const LOOK: u64 = 50;
+
+/// In how many looks a process that ended is started again.
+const LOOKS_BEFORE_START: u32 = 10;
+
+/// How often, each 10 milliseconds, the end of the processes is looked for before they are killed.
+const LOOKS_BEFORE_KILL: u32 = 500;
+
+/// Standard input in a poll.
+const INPUT: Token = Token(0);
+
+/// How the processes of nodes are started.
+pub trait NodeProgram {
+    /// The command that runs node `id`. It prints its lines with its name in front, and ends where
+    /// its standard input is at its end.
+    ///
+    /// # Errors
+    /// Where memory runs out.
+    fn command(&self, alloc: Global, id: u16) -> io::Result<Command>;
+}
+
+/// This very program, with the command `node`.
+#[derive(Drop)]
+pub struct OwnProgram<'a> {
+    program: PathBuf,
+    file: &'a str,
+    dir: &'a str,
+}
+
+impl<'a> OwnProgram<'a> {
+    /// This program, for the nodes of the network of FILE in DIR.
+    ///
+    /// # Errors
+    /// Where the system does not tell which program this is.
+    pub fn new<R: Env + Files + AllocGlobal>(
+        rt: &R,
+        file: &'a str,
+        dir: &'a str,
+    ) -> Result<OwnProgram<'a>, NodeFault> {
+        match env::current_exe(rt) {
+            Ok(program) => Ok(OwnProgram { program, file, dir }),
+            Err(_) => Err(NodeFault::System),
+        }
+    }
+}
+
+impl NodeProgram for OwnProgram<'_> {
+    fn command(&self, alloc: Global, id: u16) -> io::Result<Command> {
+        let number = format!(in alloc; "{id}")?;
+        let mut command = Command::new(alloc, self.program.as_path())?;
+        command
+            .arg("node")?
+            .arg("--child")?
+            .arg("--")?
+            .arg(self.file)?
+            .arg(number.as_str())?
+            .arg(self.dir)?;
+        Ok(command)
+    }
+}
+
+/// A node that is kept running.
+#[derive(Drop)]
+struct Kept<P: OpenProcess + Drop> {
+    id: u16,
+    process: Process<P>,
+}
+
+/// A node's process, or when it is started again.
+#[derive(Drop)]
+enum Process<P: OpenProcess + Drop> {
+    /// It runs.
+    Runs(Child<P>),
+    /// It is started after this many looks.
+    Waits(u32),
+}
+
+/// Keeps all nodes of the network of FILE running in DIR until standard input is at its end.
+///
+/// # Errors
+/// Why it does not begin. Once it has begun, all processes that it started have ended when it ends.
+pub fn run<R, C: NodeProgram>(rt: &R, program: &C, file: &str, dir: &str) -> Result<(), NodeFault>
+where
+    R: Files<File = File> + Net + Clock + Input + Print + Eprint + Processes + AllocGlobal,
+{
+    let alloc: Global = rt.alloc();
+    let net = read_network(rt, file).map_err(NodeFault::Network)?;
+    check_names(alloc, dir, net.nodes())?;
+    make_folder(rt, dir)?;
+    let lock = format!(in alloc; "{dir}/lock-up")?;
+    // Held until it ends.
+    let _place = hold_place(rt, lock.as_str())?;
+    let mut poll = Poll::new(rt).map_err(|_| NodeFault::System)?;
+    watch_input(poll.registry(), INPUT, true).map_err(|_| NodeFault::Input)?;
+    warn_of_capacity(rt, net.capacity());
+    let mut kept = Vec::with_capacity(alloc, usize::from(net.nodes()))?;
+    let mut events = Events::with_capacity(alloc, 1)?;
+    for id in 0..net.nodes() {
+        let process = Process::Waits(0);
+        kept.push(Kept { id, process })
+            .map_err(|_| NodeFault::Memory)?;
+    }
+    for _ in 0..u64::MAX {
+        for one in kept.iter_mut() {
+            look_at(rt, program, one);
+        }
+        let waited = poll.poll(&mut events, Some(Duration::from_millis(LOOK)));
+        if waited.is_err() || (!events.is_empty() && is_at_end(rt, &poll)) {
+            break;
+        }
+    }
+    end_all(rt, kept);
+    Ok(())
+}
+
+/// Reads what standard input has, and says whether it is at its end. A poll tells of it again.
+fn is_at_end<R: Input>(rt: &R, poll: &Poll) -> bool {
+    has_input_ended(rt) || watch_input(poll.registry(), INPUT, false).is_err()
+}
+
+/// Starts the process of a node where it is due, or tells that it has ended.
+fn look_at<R, C: NodeProgram>(rt: &R, program: &C, kept: &mut Kept<R::Started>)
+where
+    R: Print + Processes + AllocGlobal,
+{
+    let end = match &mut kept.process {
+        Process::Waits(0) => match start(rt, program, kept.id) {
+            Ok(child) => {
+                kept.process = Process::Runs(child);
+                return;
+            }
+            Err(_) => End::Unstarted,
+        },
+        Process::Waits(looks) => {
+            *looks -= 1;
+            return;
+        }
+        Process::Runs(child) => match child.try_wait() {
+            Ok(Some(status)) => end_of(status),
+            // Nothing is known of it: it is asked again.
+            Ok(None) | Err(_) => return,
+        },
+    };
+    tell_end(rt, kept.id, end);
+    kept.process = Process::Waits(LOOKS_BEFORE_START);
+}
+
+/// Starts the process of a node. It ends, by its input, where this process ends in whatever way.
+fn start<R, C: NodeProgram>(rt: &R, program: &C, id: u16) -> io::Result<Child<R::Started>>
+where
+    R: Processes + AllocGlobal,
+{
+    let mut command = program.command(rt.alloc(), id)?;
+    command.stdin(Stdio::piped());
+    command.spawn(rt)
+}
+
+/// How a process ended.
+fn end_of(status: ExitStatus) -> End {
+    match (status.code(), status.signal()) {
+        (Some(code), _) => End::Status(code.unsigned_abs()),
+        (None, Some(signal)) => End::Signal(signal.unsigned_abs()),
+        (None, None) => End::Unknown,
+    }
+}
+
+/// Prints how a process ended, as one line in one write.
+fn tell_end<R: Print + AllocGlobal>(rt: &R, id: u16, end: End) {
+    let line = EndLine { id, end };
+    if let Ok(text) = format!(in rt.alloc(); "{line}\n") {
+        let _ = rt.print(text.as_str());
+    }
+}
+
+/// Ends all processes: their inputs end, so they save and go, and what is left is killed.
+fn end_all<R: Clock + Processes>(rt: &R, mut kept: Vec<Kept<R::Started>>) {
+    for one in kept.iter_mut() {
+        if let Process::Runs(child) = &mut one.process {
+            drop(child.stdin.take());
+        }
+    }
+    for _ in 0..LOOKS_BEFORE_KILL {
+        if !kept.iter_mut().any(|one| is_running(one)) {
+            return;
+        }
+        thread::sleep(rt, Duration::from_millis(10));
+    }
+    for one in kept.iter_mut() {
+        if let Process::Runs(child) = &mut one.process {
+            let _ = child.kill();
+            let _ = child.wait();
+        }
+    }
+}
+
+/// Whether a process runs.
+fn is_running<P: OpenProcess + Drop>(kept: &mut Kept<P>) -> bool {
+    match &mut kept.process {
+        Process::Runs(child) => !matches!(child.try_wait(), Ok(Some(_))),
+        Process::Waits(_) => false,
+    }
+}
