@@ -1,0 +1,9 @@
+use Rattle.lock_command.proofs.StatusReading.{lines-read}
+use Rattle.lock_command.proofs.StatusSpelling.{lines-spelled}
+use Rattle.lock_command.proofs.laws.one_spelling.Goals as goal
+
+pub returns-clause-read : goal.returns-clause-read
+returns-clause-read c = lines-read
+
+pub returns-clause-spelled : goal.returns-clause-spelled
+returns-clause-spelled c = lines-spelled

@@ -1,0 +1,55 @@
+-- The lines on standard error.
+use Rattle.std.specs.Prelude.{ℕ, List, ◌++◌, codes, decimal}
+use Rattle.lock_command.specs.declared.notice.Cause.{Cause}
+use Rattle.lock_command.specs.declared.notice.Cause.TheVariants as cause
+use Rattle.lock_command.specs.declared.notice.Fate.{Fate}
+use Rattle.lock_command.specs.declared.notice.Fate.TheVariants as fate
+use Rattle.lock_command.specs.declared.notice.Notice.{Notice}
+use Rattle.lock_command.specs.declared.notice.Notice.TheVariants.{NoFolder, Forbidden, NoSockets}
+use Rattle.lock_command.specs.declared.notice.Notice.TheVariants.{NoNode, TooLong, WentAway}
+use Rattle.lock_command.specs.declared.notice.Notice.TheVariants.{NoService, NotInTime, Lost}
+use Rattle.lock_command.specs.declared.notice.Notice.TheVariants.{InDoubt, NoCommand, CannotRun}
+use Rattle.lock_command.specs.declared.notice.Notice.TheVariants.{Memory, Output}
+
+abbrev pub cause_text : Cause → List ℕ
+cause_text cause.Ended = codes "ended the loan"
+cause_text cause.WentAway = codes "went away"
+
+abbrev pub fate_text : Fate → List ℕ
+fate_text fate.Ended = codes "the command is ended"
+fate_text fate.RunsOn = codes "the command runs on without it"
+fate_text fate.NoCommand = codes "no command ran under it"
+
+-- what each says
+abbrev pub notice_text : Notice → List ℕ
+notice_text (NoFolder folder) = codes "there is no folder " ++ folder.now
+notice_text (Forbidden folder) = codes "this user may not use the sockets in " ++ folder.now
+notice_text (NoSockets folder) = codes "no node has a socket in " ++ (folder.now
+    ++ codes ": start one there")
+notice_text (NoNode folder node) =
+    codes "nobody listens at " ++ (folder.now ++ (codes "/desk-" ++ (decimal node
+    ++ (codes ".sock: start node " ++ decimal node))))
+notice_text (TooLong folder node) =
+    folder.now ++ (codes "/desk-" ++ (decimal node
+    ++ codes ".sock is too long for a socket's name: 107 bytes at most"))
+notice_text (WentAway node) = codes "node " ++ (decimal node
+    ++ codes " went away before it lent the lock")
+notice_text (NoService node) = codes "what answers for node " ++ (decimal node
+    ++ codes " is no lock service")
+notice_text (NotInTime node seconds) =
+    codes "node " ++ (decimal node ++ (codes " did not lend the lock within " ++ (decimal seconds
+    ++ codes " s")))
+notice_text (Lost node cause command) =
+    codes "the lock is lost, since node " ++ (decimal node ++ (codes " "
+    ++ (cause_text cause ++ (codes ": " ++ fate_text command))))
+notice_text (InDoubt node) =
+    codes "the lock may have been lost: node "
+    ++ (decimal node ++ codes " did not say that it was held to the end")
+notice_text (NoCommand name) = codes "there is no command " ++ name.now
+notice_text (CannotRun name) = name.now ++ codes " cannot be run"
+notice_text Memory = codes "memory Refused"
+notice_text Output = codes "output Refused"
+
+-- the line, which begins with the program's name
+abbrev pub notice_line : Notice → List ℕ
+notice_line notice = codes "tokentree: " ++ notice_text notice

@@ -1,0 +1,103 @@
+//! A connection to a node's desk.
+use lock_client::{Answer, AnswerReader, spelled};
+use lock_desk::ClientLine;
+use mio::net::UnixStream;
+use std::io;
+use std::io::{ErrorKind, Read, Write};
+use std::net::Net;
+
+/// How many bytes are read at once.
+const PIECE: usize = 64;
+
+/// How many reads are made in search of one line.
+const READS: u32 = 16;
+
+/// A connection to a node's desk, which never waits. What a socket gives is in no contract; the
+/// lines of what it gave are read by [`AnswerReader`], whose contract says how.
+#[derive(Drop)]
+pub struct Desk {
+    stream: UnixStream,
+    reader: AnswerReader,
+    bytes: [u8; PIECE],
+    /// Where the bytes begin that were taken of the socket and not yet read.
+    next: usize,
+    /// Where they end.
+    end: usize,
+}
+
+/// What came from a desk.
+#[derive(Clone, Copy, Debug, PartialEq, Eq)]
+pub enum Heard {
+    /// This line.
+    Line(Answer),
+    /// Nothing more for now.
+    Nothing,
+    /// The connection is closed, or failed.
+    Gone,
+}
+
+impl Desk {
+    /// Connects to a desk's socket.
+    ///
+    /// # Errors
+    /// What the system answers: there is no such file, nobody listens, too many wait to be
+    /// accepted, or the name is too long.
+    pub fn connect<R: Net>(rt: &R, path: &str) -> io::Result<Desk> {
+        Ok(Desk {
+            stream: UnixStream::connect(rt, path)?,
+            reader: AnswerReader::new(),
+            bytes: [0; PIECE],
+            next: 0,
+            end: 0,
+        })
+    }
+
+    /// The socket, for whoever waits for it.
+    pub fn stream(&mut self) -> &mut UnixStream {
+        &mut self.stream
+    }
+
+    /// Writes a line.
+    ///
+    /// # Errors
+    /// Where the connection is closed, or failed, or has no room for so few bytes.
+    pub fn write(&mut self, line: ClientLine) -> io::Result<()> {
+        self.stream.write_all(spelled(line))
+    }
+
+    /// The next line that came, if one did.
+    pub fn hear(&mut self) -> Heard {
+        for _ in 0..READS {
+            if let Some(answer) = self.next_line() {
+                return Heard::Line(answer);
+            }
+            match self.stream.read(&mut self.bytes) {
+                Ok(0) => return Heard::Gone,
+                Ok(count) => {
+                    self.next = 0;
+                    self.end = count;
+                }
+                Err(error) if is_for_later(&error) => return Heard::Nothing,
+                Err(_) => return Heard::Gone,
+            }
+        }
+        Heard::Nothing
+    }
+
+    /// The first line that ends in the bytes not yet read.
+    fn next_line(&mut self) -> Option<Answer> {
+        for at in self.next..self.end.min(PIECE) {
+            self.next = at + 1;
+            let line = self.reader.push(self.bytes[at]);
+            if line.is_some() {
+                return line;
+            }
+        }
+        None
+    }
+}
+
+/// Whether a read may be tried again later.
+fn is_for_later(error: &io::Error) -> bool {
+    matches!(error.kind(), ErrorKind::WouldBlock | ErrorKind::Interrupted)
+}

@@ -1,0 +1,115 @@
+//! Waiting for a socket and for standard input at once.
+use mio::event::Source;
+use mio::net::UnixStream;
+use mio::unix::SourceFd;
+use mio::{Events, Interest, Poll, Token};
+use std::alloc::Global;
+use std::io;
+use std::net::Net;
+use std::time::Duration;
+
+/// The descriptor of standard input.
+const INPUT: i32 = 0;
+
+/// Under which tokens the two are waited for.
+const DESK: Token = Token(0);
+
+const STANDARD_INPUT: Token = Token(1);
+
+/// Waits for a desk's connection and, once it is told to, for standard input. What the system says
+/// of either is in no contract.
+#[derive(Drop)]
+pub struct Waiter {
+    poll: Poll,
+    events: Events<Global>,
+    input: Watch,
+}
+
+/// How standard input is watched.
+#[derive(Clone, Copy, Debug, PartialEq, Eq, Drop)]
+enum Watch {
+    /// Not at all.
+    Not,
+    /// By the system, which says when it has something to read.
+    Waiting,
+    /// The system said so.
+    Ready,
+    /// It cannot be waited for, as a file cannot, so it is always ready.
+    Always,
+}
+
+impl Waiter {
+    /// Waits for a connection alone.
+    ///
+    /// # Errors
+    /// What the system answers; `OutOfMemory`.
+    pub fn new<R: Net>(rt: &R, alloc: Global, desk: &mut UnixStream) -> io::Result<Waiter> {
+        let poll = Poll::new(rt)?;
+        poll.registry().register(desk, DESK, Interest::READABLE)?;
+        Ok(Waiter {
+            poll,
+            events: Events::with_capacity(alloc, 4)?,
+            input: Watch::Not,
+        })
+    }
+
+    /// Waits for standard input too, from now on.
+    pub fn watch_input(&mut self) {
+        let registered = self
+            .poll
+            .registry()
+            .register(&mut SourceFd(&INPUT), STANDARD_INPUT, Interest::READABLE);
+        self.input = match registered {
+            Ok(()) => Watch::Waiting,
+            Err(_) => Watch::Always,
+        };
+    }
+
+    /// Whether standard input has something to read, or has ended. Who asks reads it once.
+    pub fn takes_input(&mut self) -> bool {
+        match self.input {
+            Watch::Not | Watch::Waiting => false,
+            Watch::Always => true,
+            Watch::Ready => {
+                self.watch_again();
+                true
+            }
+        }
+    }
+
+    /// Has the system say once more when standard input has something to read: at once, where
+    /// something is left.
+    fn watch_again(&mut self) {
+        let registered = self
+            .poll
+            .registry()
+            .reregister(&mut SourceFd(&INPUT), STANDARD_INPUT, Interest::READABLE);
+        self.input = match registered {
+            Ok(()) => Watch::Waiting,
+            Err(_) => Watch::Always,
+        };
+    }
+
+    /// Waits until something comes, for `millis` milliseconds at most.
+    pub fn wait(&mut self, millis: u64) {
+        let rest = match self.input {
+            Watch::Always => 0,
+            _ => millis,
+        };
+        if self
+            .poll
+            .poll(&mut self.events, Some(Duration::from_millis(rest)))
+            .is_err()
+        {
+            return;
+        }
+        if self.input == Watch::Waiting
+            && self
+                .events
+                .iter()
+                .any(|event| event.token() == STANDARD_INPUT)
+        {
+            self.input = Watch::Ready;
+        }
+    }
+}

@@ -1,0 +1,148 @@
+//! What is done under the lock: a command, or waiting for the end of standard input.
+ghost use Rattle.std.specs.Prelude.{◌≡◌, ◌≢◌};
+ghost use Rattle.lock_client.specs.declared.outcome.CommandEnd.TheVariants.{NotThere, CannotRun};
+ghost use Rattle.lock_command.specs.Ends.{command_end};
+
+use lock_client::CommandEnd;
+use std::alloc::Global;
+use std::io;
+use std::io::{ErrorKind, Input, Read};
+use std::os::unix::process::ExitStatusExt;
+use std::process::{Child, Command, ExitStatus, OpenProcess, Processes, Stdio};
+
+/// The status of a command whose own status cannot be known, as `env` has it for its failures.
+const UNKNOWN: u8 = 125;
+
+/// What is done under the lock.
+#[derive(Drop)]
+pub enum Work<P: OpenProcess> {
+    /// Nothing yet, or nothing more.
+    None,
+    /// A command runs.
+    Running(Child<P>),
+    /// Standard input is awaited to end.
+    Input,
+    /// It is done, so, and nobody was told.
+    Done(CommandEnd),
+}
+
+/// Starts a command with our standard streams. The first word is its name, or its path where it has
+/// a slash.
+///
+/// # Errors
+/// What the system answers where it is not there or cannot be run; `OutOfMemory`.
+pub fn start<R: Processes>(rt: &R, alloc: Global, words: &[&str]) -> io::Result<Child<R::Started>> {
+    let [name, arguments @ ..] = words else {
+        return Err(io::Error::from(ErrorKind::NotFound));
+    };
+    let mut command = Command::new(alloc, *name)?;
+    for argument in arguments {
+        command.arg(*argument)?;
+    }
+    command.spawn(rt)
+}
+
+/// How it ended where it could not be started for this reason.
+pub fn spawn_end(kind: ErrorKind) -> CommandEnd
+    ensures not_there { kind ≡ ErrorKind.NotFound → result ≡ NotThere }
+    ensures cannot_run { kind ≢ ErrorKind.NotFound → result ≡ CannotRun }
+{
+    match kind {
+        ErrorKind::NotFound => CommandEnd::NotThere,
+        _ => CommandEnd::CannotRun,
+    }
+}
+
+/// How a command ended that the system says ended so.
+pub fn command_end(status: ExitStatus) -> CommandEnd
+    ensures { result ≡ command_end status }
+{
+    match (status.code(), status.signal()) {
+        (Some(code), _) => CommandEnd::Exited(code as u8),
+        (None, Some(signal)) => CommandEnd::Killed(signal as u8),
+        (None, None) => CommandEnd::Exited(UNKNOWN),
+    }
+}
+
+impl<P: OpenProcess + Drop> Work<P> {
+    /// Whether its end is seen only by looking.
+    pub fn is_looked_at(&self) -> bool {
+        matches!(self, Work::Running(_))
+    }
+
+    /// How it ended, the first time that this is known. Standard input is read where it has
+    /// something to read, and what it holds is dropped.
+    pub fn ended<R: Input>(&mut self, rt: &R, has_input: bool) -> Option<CommandEnd> {
+        let end = match self {
+            Work::None => None,
+            Work::Running(child) => look(child),
+            Work::Input if has_input => read_input(rt),
+            Work::Input => None,
+            Work::Done(end) => Some(*end),
+        };
+        if end.is_some() {
+            *self = Work::None;
+        }
+        end
+    }
+
+    /// Asks a command to end, by SIGTERM, or kills it where it cannot be asked. Standard input is
+    /// awaited no more.
+    pub fn end<R: Processes>(&mut self, rt: &R, alloc: Global) {
+        match self {
+            Work::Running(child) => {
+                if ask_to_end(rt, alloc, child.id()).is_err() {
+                    let _ = child.kill();
+                }
+            }
+            Work::Input => *self = Work::Done(CommandEnd::Exited(0)),
+            Work::None | Work::Done(_) => {}
+        }
+    }
+
+    /// Kills a command, by SIGKILL.
+    pub fn kill(&mut self) {
+        if let Work::Running(child) = self {
+            let _ = child.kill();
+        }
+    }
+}
+
+/// How a command ended, if it did.
+fn look<P: OpenProcess>(child: &mut Child<P>) -> Option<CommandEnd> {
+    match child.try_wait() {
+        Ok(Some(status)) => Some(command_end(status)),
+        Ok(None) => None,
+        // Whoever started us may have said that the ends of children are not kept.
+        Err(_) => Some(CommandEnd::Exited(UNKNOWN)),
+    }
+}
+
+/// Reads standard input once: whether it has ended, or cannot be read.
+fn read_input<R: Input>(rt: &R) -> Option<CommandEnd> {
+    let mut piece = [0u8; 4096];
+    match rt.reader().read(&mut piece) {
+        Ok(0) => Some(CommandEnd::Exited(0)),
+        Ok(_) => None,
+        Err(error) if error.kind() == ErrorKind::Interrupted => None,
+        Err(_) => Some(CommandEnd::Exited(0)),
+    }
+}
+
+/// Sends SIGTERM to a process, by the shell's own `kill`, since the library has SIGKILL alone.
+fn ask_to_end<R: Processes>(rt: &R, alloc: Global, process: u32) -> io::Result<()> {
+    let number = format!(in alloc; "{process}")?;
+    let status = Command::new(alloc, "/bin/sh")?
+        .arg("-c")?
+        .arg("kill -TERM \"$0\"")?
+        .arg(number.as_str())?
+        .stdin(Stdio::null())
+        .stdout(Stdio::null())
+        .stderr(Stdio::null())
+        .status(rt)?;
+    if status.success() {
+        Ok(())
+    } else {
+        Err(io::Error::from(ErrorKind::Other))
+    }
+}
