@@ -1,0 +1,7 @@
+pub mod Marks
+pub mod Columns
+pub mod Strips
+pub mod Marking
+pub mod Nesting
+pub mod Pieces
+pub mod Recordings

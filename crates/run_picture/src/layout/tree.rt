@@ -1,0 +1,78 @@
+//! The network, beside the lanes: each node in its lane, as far to the right as it is from the
+//! root.
+
+use super::canvas::{Anchor, Canvas, Point, Stroke};
+use super::colours::{FAINT, INK};
+use super::page::Page;
+use super::px::Px;
+use crate::tour::is_tree_edge;
+use std::alloc::AllocError;
+use topology::Net;
+
+/// Draws the network; the nodes are those of the lanes from above.
+pub fn draw_tree(
+    canvas: &mut Canvas,
+    page: Page,
+    net: &Net,
+    order: &[u16],
+) -> Result<(), AllocError> {
+    for (v, w) in net.edges() {
+        draw_edge(canvas, page, net, order, *v, *w)?;
+    }
+    for (lane, v) in order.iter().enumerate() {
+        let at = place_of(page, net, lane, *v);
+        canvas.circle(at, Px(5), INK)?;
+        let text = format!(in canvas.alloc; "node {v}")?;
+        let name = Point {
+            x: page.left - Px(8),
+            y: at.y + Px(4),
+        };
+        canvas.words(name, Anchor::End, INK, text.as_str())?;
+    }
+    Ok(())
+}
+
+/// The place of a node in its lane.
+fn place_of(page: Page, net: &Net, lane: usize, v: u16) -> Point {
+    let depth = if v < net.nodes() {
+        usize::from(net.distance(v))
+    } else {
+        0
+    };
+    page.node(lane, depth)
+}
+
+/// Draws an edge: one of the tree thick and with a corner, another thin and round.
+fn draw_edge(
+    canvas: &mut Canvas,
+    page: Page,
+    net: &Net,
+    order: &[u16],
+    v: u16,
+    w: u16,
+) -> Result<(), AllocError> {
+    let lanes = (
+        order.iter().position(|u| *u == v),
+        order.iter().position(|u| *u == w),
+    );
+    let (Some(a), Some(b)) = lanes else {
+        return Ok(());
+    };
+    let (upper, lower) = if a < b {
+        ((a, v), (b, w))
+    } else {
+        ((b, w), (a, v))
+    };
+    let from = place_of(page, net, upper.0, upper.1);
+    let to = place_of(page, net, lower.0, lower.1);
+    let (x, y, end_x, end_y) = (from.x, from.y, to.x, to.y);
+    if is_tree_edge(net, v, w) {
+        let steps = format!(in canvas.alloc; "M{x} {y}V{end_y}H{end_x}")?;
+        canvas.path(steps.as_str(), Stroke::whole(INK, 3))
+    } else {
+        let turn = Px(x.0.max(end_x.0)) + Px(((end_y - y) / 3).0.clamp(8, 40));
+        let middle = y + (end_y - y) / 2;
+        let steps = format!(in canvas.alloc; "M{x} {y}Q{turn} {middle} {end_x} {end_y}")?;
+        canvas.path(steps.as_str(), Stroke::whole(FAINT, 1))
+    }
+}

@@ -1,0 +1,131 @@
+//! Rows by hand on two nodes and on the square.
+ghost use Rattle.std.specs.Prelude.{◌<◌};
+
+use crate::{
+    Column, Drawing, Element, Mark, Recording, Window, draw, first_visits, record, spelled,
+};
+use byte_streams::MemorySource;
+use std::alloc::Global;
+use std::test::Fail;
+use topology::Net;
+
+/// What a fault may leave of two nodes: a token at each, and each lends it.
+const FORGED: &str = "\
+# a token at each
+harm own 0 0 none
+harm own 1 1 0
+harm staged 0 1 0 none 0
+harm copy 0 1 1 0 0
+harm staged 1 0 1 0 0
+harm copy 1 0 0 none 1
+harm desk 0 5 0 no
+harm desk 1 6 0 no
+";
+
+/// The recording of the forged tokens.
+fn forged(alloc: Global, columns: usize, window: Window) -> Result<Recording, Fail>
+    requires { 0 < columns }
+{
+    let net = Net::make(alloc, 2, 0, 1, 0, &[(0, 1)])?;
+    let mut source = MemorySource::new(FORGED.as_bytes(), 7);
+    Ok(record(alloc, &net, &mut source, columns, window)?)
+}
+
+/// The marks of the two nodes in a column.
+fn marks(column: Option<&Column>) -> Option<(Mark, Mark)> {
+    let column = column?;
+    Some((column.marks[0], column.marks[1]))
+}
+
+#[test]
+fn a_column_is_a_moment(rt: HostRuntime) -> Result<(), Fail> {
+    let recording = forged(rt.alloc(), 9, Window::ALL)?;
+    let columns = recording.strip().columns();
+    assert_eq!(rt; columns.len(), 9);
+    assert_eq!(rt; recording.strip().width(), 1);
+    let lends = |ticket| Mark::Lending { ticket };
+    // At the start each distance is 2; then the root is as it should be, and then its child.
+    assert_eq!(rt; marks(columns.get(0)), Some((Mark::Wrong, Mark::Wrong)));
+    assert_eq!(rt; marks(columns.get(1)), Some((Mark::Settled, Mark::Wrong)));
+    assert_eq!(rt; marks(columns.get(2)), Some((Mark::Settled, Mark::Settled)));
+    assert_eq!(rt;
+        marks(columns.get(6)),
+        Some((Mark::Privileged, Mark::Privileged))
+    );
+    assert_eq!(rt; marks(columns.get(7)), Some((lends(5), Mark::Privileged)));
+    assert_eq!(rt; marks(columns.get(8)), Some((lends(5), lends(6))));
+    let counts = columns
+        .get(7)
+        .map(|column| (column.privileged, column.lending));
+    assert_eq!(rt; counts, Some((2, 1)));
+    let damaged = columns.get(0).map(|column| column.damaged);
+    assert_eq!(rt; damaged, Some(false));
+    let damaged = columns.get(8).map(|column| column.damaged);
+    assert_eq!(rt; damaged, Some(true));
+    Ok(())
+}
+
+#[test]
+fn a_column_shows_the_worst_of_its_moments(rt: HostRuntime) -> Result<(), Fail> {
+    // Nine moments in at most four columns: four, four and one.
+    let recording = forged(rt.alloc(), 4, Window::ALL)?;
+    let columns = recording.strip().columns();
+    assert_eq!(rt; columns.len(), 3);
+    assert_eq!(rt; recording.strip().width(), 4);
+    assert_eq!(rt; marks(columns.get(0)), Some((Mark::Wrong, Mark::Wrong)));
+    let five = Mark::Lending { ticket: 5 };
+    assert_eq!(rt; marks(columns.get(1)), Some((five, Mark::Privileged)));
+    // Nothing is shown of a run that has no sweep.
+    let empty = forged(rt.alloc(), 4, Window { from: 1, to: 9 })?;
+    assert_eq!(rt; empty.strip().columns().len(), 0);
+    assert_eq!(rt; empty.events(), 8);
+    assert_eq!(rt; empty.refused(), 0);
+    Ok(())
+}
+
+#[test]
+fn the_tour_comes_to_the_smallest_child_last(rt: HostRuntime) -> Result<(), Fail> {
+    let square = Net::make(rt.alloc(), 4, 0, 1, 0, &[(0, 1), (0, 2), (1, 3), (2, 3)])?;
+    let order = first_visits(rt.alloc(), &square)?;
+    assert_eq!(rt; order.as_slice(), [0, 2, 1, 3].as_slice());
+    Ok(())
+}
+
+#[test]
+fn a_text_is_escaped(rt: HostRuntime) -> Result<(), Fail> {
+    let alloc = rt.alloc();
+    let element = Element::new(alloc, "text")
+        .with(alloc, "id", "\"1\"")?
+        .saying("1 < 2 & 3 > 2")?;
+    let drawing = Drawing {
+        attributes: Vec::new(alloc),
+        elements: vec![in alloc; element]?,
+    };
+    let text = spelled(alloc, &drawing)?;
+    assert_eq!(rt;
+        text.as_slice(),
+        b"<svg>\n<text id=\"&quot;1&quot;\">1 &lt; 2 &amp; 3 &gt; 2</text>\n</svg>\n".as_slice()
+    );
+    Ok(())
+}
+
+#[test]
+fn the_lanes_are_drawn(rt: HostRuntime) -> Result<(), Fail> {
+    let alloc = rt.alloc();
+    let net = Net::make(alloc, 2, 0, 1, 0, &[(0, 1)])?;
+    let recording = forged(alloc, 1200, Window::ALL)?;
+    let drawing = draw(alloc, &net, &recording)?;
+    let bytes = spelled(alloc, &drawing)?;
+    let text = std::str::from_utf8(bytes.as_slice())?;
+    // Columns are 24 wide from 142 on, and lanes 32 high from 150 on: node 0 lends from event 7 on,
+    // node 1 from event 8 on.
+    for part in [
+        "M310 166h48\"",
+        "M334 198h24\"",
+        ">5</text>",
+        "a column is 1 event<",
+    ] {
+        assert!(rt; text.contains(part), "{part}");
+    }
+    Ok(())
+}
