@@ -1,1 +1,4 @@
+pub mod JunkLines
+pub mod EventLines
+pub mod FourParts
 pub mod Spaced

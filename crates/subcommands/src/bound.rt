@@ -71,7 +71,7 @@ pub fn bound_text(alloc: Global, net: &Net) -> Result<String, AllocError>
 }
 
 /// Adds a line of a word and a number.
-fn push_number(text: &mut String, word: &str, number: u32) -> Result<(), AllocError>
+pub(crate) fn push_number(text: &mut String, word: &str, number: u32) -> Result<(), AllocError>
     ensures { OnOk result (string_bytes text.new
         ≡ string_bytes text.old ++ number_line word.now number) }
 {

@@ -10,6 +10,8 @@ pub enum Fault {
     NetworkUnreadable,
     /// The network file was read, and is refused.
     Network(NetFault),
+    /// The network has no node of the id that was given.
+    NoNode,
     /// The events file cannot be opened, or a read of the events failed.
     EventsUnreadable,
     /// The events text has more bytes than it may have.
@@ -18,6 +20,10 @@ pub enum Fault {
     Memory,
     /// Standard output did not take the text.
     Output,
+    /// The file for the events cannot be written.
+    EventsUnwritable,
+    /// A thread could not be started.
+    Threads,
 }
 
 impl fmt::Display for Fault {
@@ -33,10 +39,13 @@ impl fmt::Display for Fault {
                 f.write_str("network ")?;
                 f.write_str(fault.name())
             }
+            Fault::NoNode => f.write_str("id NoNode"),
             Fault::EventsUnreadable => f.write_str("events Unreadable"),
             Fault::EventsLong => f.write_str("events Long"),
             Fault::Memory => f.write_str("memory Refused"),
             Fault::Output => f.write_str("output Refused"),
+            Fault::EventsUnwritable => f.write_str("events Unwritable"),
+            Fault::Threads => f.write_str("threads Refused"),
         }
     }
 }

@@ -2,12 +2,21 @@
 //!
 //! A command is a module here, and its `run` takes the words that it was given. What it works out
 //! stands in the crates below; here it is read from files and printed, and every way to fail is one
-//! [`Fault`].
+//! [`Fault`], or a [`PathFault`] where a command changes a file.
 //!
 //! ```
 //! let status = bound::run(rt, "two-nodes.toml", false)?;               // prints eight lines
 //! // prints what the events lead to; "-" is standard input
 //! let status = simulate::run(rt, "two-nodes.toml", "events.txt")?;
+//! // writes a state file of node 1, of seed 7; cuts it; prints ten lines of junk
+//! let status = scramble::run(rt, "two-nodes.toml", 1, "node-1.state", 7)?;
+//! let status = cut::run(rt, "node-1.state", 33)?;
+//! let status = junk::run(rt, 7, 10)?;
+//! // prints a scramble, and the events of 100 rounds behind it
+//! let status = schedule::run(rt, "two-nodes.toml", Some(7), Turns::Rounds(100))?;
+//! // prints behind how many sweeps 1000 scrambled worlds served
+//! let status = measure::run(rt, "two-nodes.toml", &plan)?;
+//! let status = threads::run(rt, "two-nodes.toml", 100, None)?;         // 100 turns of each node
 //! ```
 //!
 //! The trap: what was printed before a fault stays printed; `simulate` tells the refused lines of
@@ -15,12 +24,25 @@
 #![tactic(auto)]
 
 pub mod bound;
+pub mod cut;
+pub mod draw;
+mod event_text;
 mod fault;
+pub mod junk;
+pub mod measure;
 mod network_file;
+mod number;
+mod path_fault;
+pub mod schedule;
+pub mod scramble;
 pub mod simulate;
 mod streams;
+pub mod threads;
 
 pub use fault::Fault;
+pub use network_file::read_network;
+pub use number::decimal_number;
+pub use path_fault::PathFault;
 
 #[cfg(test)]
 mod tests;

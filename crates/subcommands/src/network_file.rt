@@ -15,8 +15,8 @@ const MOST_BYTES: u64 = 1_048_576;
 /// Reads the network of a file.
 ///
 /// # Errors
-/// [`Fault::NetworkUnreadable`] where the file cannot be read or has more than 1,048,576 bytes, and
-/// else [`Fault::Network`]: where memory runs out, where the bytes are not UTF-8, which is no TOML
+/// [`Fault::NetworkUnreadable`] where the file cannot be read, is a folder, a pipe or a device, or
+/// has more than 1,048,576 bytes, and else [`Fault::Network`]: where memory runs out, where the bytes are not UTF-8, which is no TOML
 /// either, and for whatever refuses the text.
 pub fn read_network<R: Files + AllocGlobal>(rt: &R, path: &str) -> Result<Net, Fault> {
     match bytes_of(rt, path) {
@@ -30,6 +30,10 @@ pub fn read_network<R: Files + AllocGlobal>(rt: &R, path: &str) -> Result<Net, F
 
 /// The bytes of a file, of a large one only the first, one more than a network file may have.
 fn bytes_of<R: Files + AllocGlobal>(rt: &R, path: &str) -> io::Result<Vec<u8>> {
+    // A pipe or a device is not waited for.
+    if !fs::metadata(rt, path)?.is_file() {
+        return Err(io::Error::from(ErrorKind::InvalidInput));
+    }
     let mut bytes = Vec::new(rt.alloc());
     fs::open(rt, path)?
         .take(MOST_BYTES + 1)

@@ -128,7 +128,7 @@ impl<W: Write + Drop> Sink for WriteSink<W> {
 }
 
 /// Counts a failure; the count stays at its greatest value.
-fn count_failure(failures: &mut u64) -> Failed
+pub(crate) fn count_failure(failures: &mut u64) -> Failed
     ensures rose { Rose failures.old failures.new }
     ensures grows { failures.old ≤ failures.new }
 {

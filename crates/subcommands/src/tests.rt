@@ -2,6 +2,7 @@
 use crate::bound::{bound_text, shown_text};
 use crate::fault::Fault;
 use crate::network_file::{network_of, read_network};
+use crate::number::decimal_number;
 use crate::simulate;
 use std::alloc::Global;
 use std::fs;
@@ -127,6 +128,7 @@ fn reads_files(rt: HostRuntime) -> Result<(), Fail> {
         ("absent.toml", Some(Fault::NetworkUnreadable)),
         (".", Some(Fault::NetworkUnreadable)),
         ("", Some(Fault::NetworkUnreadable)),
+        ("/dev/null", Some(Fault::NetworkUnreadable)),
     ] {
         assert_eq!(rt; read_network(&rt, path).err(), want, "at {path:?}");
     }
@@ -173,4 +175,30 @@ fn looks_at_the_network_before_the_events(rt: HostRuntime) -> Result<(), Fail> {
     fs::remove_file(&rt, "no-net.toml")?;
     fs::remove_file(&rt, "one.events")?;
     Ok(())
+}
+
+#[test]
+fn a_number_has_one_spelling(rt: HostRuntime) {
+    for (word, greatest, want) in [
+        ("0", 0, Some(0)),
+        ("1", 0, None),
+        ("7", 65535, Some(7)),
+        ("65535", 65535, Some(65535)),
+        ("65536", 65535, None),
+        ("4294967295", u32::MAX, Some(u32::MAX)),
+        ("4294967296", u32::MAX, None),
+        ("99999999999999999999", u32::MAX, None),
+        ("", 9, None),
+        ("+1", 9, None),
+        ("-1", 9, None),
+        ("-0", 9, None),
+        ("01", 9, None),
+        ("00", 9, None),
+        (" 1", 9, None),
+        ("1 ", 9, None),
+        ("0x1", 9, None),
+        ("1e0", 9, None),
+    ] {
+        assert_eq!(rt; decimal_number(word, greatest), want, "at {word:?}");
+    }
 }

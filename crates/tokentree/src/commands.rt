@@ -4,24 +4,50 @@ ghost use Rattle.std.specs.Process.{exit_status};
 ghost use Rattle.clap.specs.Values.{kind_of};
 ghost use Rattle.clap.specs.declared.error.kind.ErrorKind.TheVariants.{DisplayHelp, DisplayVersion};
 
+use crate::draw_words::{draw_command, run_draw};
+use crate::experiment_words::{measure_command, run_measure, run_schedule, schedule_command};
 use crate::fault_line::FaultLine;
-use crate::help;
+use crate::node_commands::{node_command, run_node, run_up, up_command};
+use crate::threads_words::{run_threads, threads_command};
+use crate::{damage, help, locking};
 use clap::{Arg, ArgAction, ArgMatches, Command};
 use std::alloc::{AllocError, Global};
 use std::convert::AsStr;
+use std::fs::File;
 use std::io::Input;
-use std::process::ExitCode;
+use std::net::Net;
+use std::process::{ExitCode, Processes};
 use std::rt::{Env, Files};
+use std::sync::Wait;
+use std::thread::Threads;
+use std::time::Clock;
 use subcommands::{Fault, bound, simulate};
 
 /// The status of a command line that was refused.
-const LINE_REFUSED: u8 = 2;
+pub const LINE_REFUSED: u8 = 2;
 
 /// What the first argument of each command is.
-const NETWORK_FILE: &str = "The network file (TOML)";
+pub const NETWORK_FILE: &str = "The network file (TOML)";
+
+/// The version that is told.
+const VERSION: &str = "0.1.0";
 
 /// Does what the program's own words say.
-pub fn run<R: Env + Files + Input + Print + Eprint + AllocGlobal>(rt: &R) -> ExitCode {
+pub fn run<R>(rt: &R) -> ExitCode
+where
+    R: Files<File = File>
+        + Net
+        + Clock
+        + Env
+        + Input
+        + Print
+        + Eprint
+        + Processes
+        + Threads
+        + Wait
+        + AllocGlobal
+        + Sync,
+{
     let Ok(arguments) = std::env::args(rt) else {
         let _ = eprintln!(rt; "tokentree: arguments Unreadable");
         return ExitCode::from(LINE_REFUSED);
@@ -34,10 +60,21 @@ pub fn run<R: Env + Files + Input + Print + Eprint + AllocGlobal>(rt: &R) -> Exi
 }
 
 /// Does what the words say, of which the first is the program's name.
-pub fn run_words<R: Files + Input + Print + Eprint + AllocGlobal, S: AsStr>(
-    rt: &R,
-    words: &[S],
-) -> ExitCode {
+pub fn run_words<R, S: AsStr>(rt: &R, words: &[S]) -> ExitCode
+where
+    R: Files<File = File>
+        + Net
+        + Clock
+        + Env
+        + Input
+        + Print
+        + Eprint
+        + Processes
+        + Threads
+        + Wait
+        + AllocGlobal
+        + Sync,
+{
     let Ok(command) = command(rt.alloc()) else {
         return fails(rt, Fault::Memory);
     };
@@ -52,10 +89,21 @@ pub fn run_words<R: Files + Input + Print + Eprint + AllocGlobal, S: AsStr>(
 }
 
 /// Does the command that was given, and says with which status it is done.
-fn run_command<R: Files + Input + Print + AllocGlobal>(
-    rt: &R,
-    matches: &ArgMatches,
-) -> Result<ExitCode, Fault> {
+fn run_command<R>(rt: &R, matches: &ArgMatches) -> Result<ExitCode, Fault>
+where
+    R: Files<File = File>
+        + Net
+        + Clock
+        + Env
+        + Input
+        + Print
+        + Eprint
+        + Processes
+        + Threads
+        + Wait
+        + AllocGlobal
+        + Sync,
+{
     match matches.subcommand() {
         Some(("bound", given)) => match given.get_str("FILE") {
             Some(network) => bound::run(rt, network, given.get_flag("sharp")),
@@ -65,6 +113,23 @@ fn run_command<R: Files + Input + Print + AllocGlobal>(
             (Some(network), Some(events)) => simulate::run(rt, network, events),
             _ => Ok(ExitCode::from(LINE_REFUSED)),
         },
+        Some(("lock", given)) => Ok(locking::lock(rt, given)),
+        Some(("status", given)) => Ok(locking::status(rt, given)),
+        Some(("scramble", given)) => Ok(damage::scramble(rt, given)),
+        Some(("cut", given)) => Ok(damage::cut(rt, given)),
+        Some(("junk", given)) => damage::junk(rt, given),
+        Some(("node", given)) => Ok(run_node(rt, given)),
+        Some(("up", given)) => Ok(run_up(rt, given)),
+        Some(("schedule", given)) => match run_schedule(rt, given) {
+            Some(done) => done,
+            None => Ok(ExitCode::from(LINE_REFUSED)),
+        },
+        Some(("measure", given)) => match run_measure(rt, given) {
+            Some(done) => done,
+            None => Ok(ExitCode::from(LINE_REFUSED)),
+        },
+        Some(("draw", given)) => run_draw(rt, given, ExitCode::from(LINE_REFUSED)),
+        Some(("threads", given)) => run_threads(rt, given),
         _ => Ok(ExitCode::from(LINE_REFUSED)),
     }
 }
@@ -108,9 +173,21 @@ fn command<'a>(alloc: Global) -> Result<Command<'a>, AllocError> {
             "A self-stabilising lock service: one token for a network of nodes, whatever state they start from",
         )
         .after_help(help::PROGRAM)
+        .version(VERSION)
         .subcommand_required(true)
         .subcommand(bound_command(alloc)?)?
-        .subcommand(simulate_command(alloc)?)
+        .subcommand(simulate_command(alloc)?)?
+        .subcommand(locking::lock_command(alloc)?)?
+        .subcommand(locking::status_command(alloc)?)?
+        .subcommand(damage::scramble_command(alloc)?)?
+        .subcommand(damage::cut_command(alloc)?)?
+        .subcommand(damage::junk_command(alloc)?)?
+        .subcommand(node_command(alloc)?)?
+        .subcommand(up_command(alloc)?)?
+        .subcommand(schedule_command(alloc)?)?
+        .subcommand(measure_command(alloc)?)?
+        .subcommand(draw_command(alloc)?)?
+        .subcommand(threads_command(alloc)?)
 }
 
 /// What `bound` takes.
@@ -143,8 +220,8 @@ fn simulate_command<'a>(alloc: Global) -> Result<Command<'a>, AllocError> {
         .arg(file(alloc, "EVENTS", "The events text, or - for standard input"))
 }
 
-/// A file, as an argument that must be given.
-fn file<'a>(alloc: Global, name: &'a str, help: &'a str) -> Arg<'a> {
+/// A file, or another word, as an argument that must be given.
+pub fn file<'a>(alloc: Global, name: &'a str, help: &'a str) -> Arg<'a> {
     Arg::new(alloc, name)
         .required(true)
         .action(ArgAction::Set)

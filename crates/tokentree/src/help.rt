@@ -5,6 +5,9 @@ pub const PROGRAM: &str = "\
 Examples:
   tokentree bound examples/square.toml
   tokentree simulate examples/two-nodes.toml events.txt
+  tokentree schedule examples/square.toml --scramble 7 --rounds 100 | tokentree simulate examples/square.toml -
+  tokentree measure examples/square.toml --runs 100
+  tokentree threads examples/square.toml 1000
   tokentree help simulate
 
 Statuses: 0 done; 1 a file, memory or standard output was refused, with its fault on standard error; 2 the command line
@@ -99,3 +102,89 @@ The output is buffered: refusals come when the buffer is full, and at the end.
 
 Statuses: 0 done; 1 a file, memory or standard output was refused, with its fault on standard error; 2 the command line
 was refused; 3 done, and some lines were refused.";
+
+/// What follows the help of `node`.
+pub const NODE: &str = "\
+FILE is a network file, as `help bound` shows. Node ID keeps its files in DIR, which is made where it is missing, for
+its owner alone: state-ID.tkt, its state, node-ID.sock, where other nodes connect, and desk-ID.sock, where clients do.
+Each node of the network runs so, in one DIR, in any order, and may end and start at any time.
+
+  $ tokentree node examples/ring-of-three.toml 0 run
+  start default Absent
+  ready
+
+It prints from what it starts, its state or the default state and why, and that it is ready once both sockets listen.
+A client writes the lines lock, unlock and status to desk-ID.sock, and reads granted, lost, released and the rest.
+
+It ends with status 0 within 256 turns, at most half a second, once a file DIR/stop-ID is there:
+
+  $ touch run/stop-0
+
+As often it saves its state and reads FILE again: edges may join and go while it runs; any other change means nothing.
+
+The network's capacity is a premise of what is proved. A socket was seen to hold 281 frames; give it 512 or more.
+
+--hold is how long a node keeps news to itself where nobody wants the lock, --repeat after what time it sends a frame
+again; both in microseconds. Less of either is more work and less waiting.
+
+Statuses: 0 ended by the stop file; 1 it cannot run, with the reason on standard error; 2 the command line was refused.";
+
+/// What follows the help of `up`.
+pub const UP: &str = "\
+Each node of the network of FILE runs as a process of its own, with its files in DIR (see `help node`):
+
+  $ tokentree up examples/ring-of-three.toml run
+  node 0 start default Absent
+  node 0 ready
+  node 1 start default Absent
+  ...
+
+A node that ends, in whatever way, is started again within a second, and a line tells so. End it by the end of its
+standard input (Ctrl-D on a terminal): the nodes save their states and end, and what has not ended after five seconds
+is killed. Where `up` itself is killed the nodes end as well.
+
+Statuses: 0 standard input has ended, and all nodes have; 1 it cannot run, with the reason on standard error; 2 the
+command line was refused.";
+
+/// What follows the help of `schedule`.
+pub const SCHEDULE: &str = "\
+  $ tokentree schedule square.toml --scramble 7 --rounds 100 | tokentree simulate square.toml -
+
+A round: each node ticks, by ascending id; then for each direction of each edge, by ascending source and destination,
+one time more than it holds items: a send and a take. Each round is a sweep where no node lends the lock behind its
+tick. A scramble may write a loan at a node that is privileged: it ends with its lease, and where the network has none
+(lease = 0) there are no sweeps from then on.
+
+Random steps: each is a tick, a send or a take, one as likely as the other, at a node or a direction of an edge. With
+--loss some takes are losses of the oldest item. With --clients a fourth kind is as likely: a client with one of 16
+tickets asks at a node, or leaves. A step that would be refused, as a loss where nothing is under way, is a tick of its
+node in its place. The words of the generator (PCG32, from the seed) are used in this order, each modulo how many there
+are to choose from: the kind, 3 or 4; of a tick the node; of the others the edge as the file lists it and 2 for its
+direction; of a take 100 for the loss; of a client the node, 16 for the ticket, and 2 for asking or leaving.
+
+--scramble begins with harms that write every part of the world, drawn from its own seed. None of the events is refused,
+and the same words give the same text on any machine. SEED, N and EVENTS are 0 to 4294967295.
+
+Statuses: 0 done; 1 a file, memory or standard output was refused, with its fault on standard error; 2 the command line
+was refused.";
+
+/// What follows the help of `measure`.
+pub const MEASURE: &str = "\
+Each run begins in a world that is scrambled by its seed, and goes on by rounds, or by random steps of the same seed,
+until there have been as many sweeps as the sharper bound says. Behind each round, or as many random steps as there are
+nodes and four times the edges, whoever has the lock gives it back. A run's sweeps are the least number behind which the
+network served at each moment of the run: all distances and parents true, one node privileged at most, one lending.
+
+  $ tokentree measure two-nodes.toml --runs 100
+  runs 100
+  sweeps least .. median .. most ..
+  sharp 35
+  sweeps-bound 69
+
+Of an even number of runs the median is the lower one of the two in the middle. With --table each run has a line 'seed S
+sweeps K' before these. 'sweeps none' stands for a run that did not serve behind the bound, or had not so many sweeps
+after 1000 rounds (or as many steps) for each of them; it is always shown, and the status is 1. 'schedule FILE
+--scramble S --rounds N' prints the events of such a run, but for the lock that is given back.
+
+Statuses: 0 done; 1 a file, memory or standard output was refused, with its fault on standard error, or a run did not
+serve; 2 the command line was refused.";

@@ -20,12 +20,22 @@
 //!
 //! Statuses: 0 done, help too; 1 a file, memory or the output refused, with one line `tokentree:
 //! ..` on standard error; 2 the command line refused; 3 `simulate` is done, and refused some lines.
-//! Faults are looked for in this order: the command line, the network, the events.
+//! Faults are looked for in this order: the command line, the network, a node's id, the command's
+//! own files.
 #![tactic(auto)]
 
 mod commands;
+mod damage;
+mod damage_help;
+mod draw_words;
+mod experiment_words;
 mod fault_line;
 mod help;
+mod locking;
+mod locking_help;
+mod node_commands;
+mod path_fault_line;
+mod threads_words;
 
 use std::process::ExitCode;
 
@@ -33,5 +43,7 @@ fn main(rt: HostRuntime) -> ExitCode {
     commands::run(&rt)
 }
 
+#[cfg(test)]
+mod damage_tests;
 #[cfg(test)]
 mod tests;

@@ -63,7 +63,188 @@ fn ends_with_the_status(rt: HostRuntime) -> Result<(), Fail> {
             ["tokentree", "simulate", "bad.toml", "absent", "more"].as_slice(),
             2,
         ),
+        (["tokentree", "threads", "two.toml", "3"].as_slice(), 0),
+        (["tokentree", "threads", "--help"].as_slice(), 0),
+        (["tokentree", "threads", "two.toml", "0"].as_slice(), 2),
+        (
+            ["tokentree", "threads", "two.toml", "1000001"].as_slice(),
+            2,
+        ),
+        (["tokentree", "threads", "two.toml"].as_slice(), 2),
+        (["tokentree", "threads", "bad.toml", "3"].as_slice(), 1),
         (["tokentree", "unknown"].as_slice(), 2),
+        (["tokentree", "node", "--help"].as_slice(), 0),
+        (["tokentree", "help", "up"].as_slice(), 0),
+        (["tokentree", "node", "two.toml", "2", "run"].as_slice(), 1),
+        (
+            ["tokentree", "node", "absent.toml", "0", "run"].as_slice(),
+            1,
+        ),
+        (
+            ["tokentree", "node", "absent.toml", "65536", "run"].as_slice(),
+            2,
+        ),
+        (
+            ["tokentree", "node", "absent.toml", "01", "run"].as_slice(),
+            2,
+        ),
+        (
+            ["tokentree", "node", "absent.toml", "+1", "run"].as_slice(),
+            2,
+        ),
+        (
+            [
+                "tokentree",
+                "node",
+                "--hold",
+                "2001",
+                "absent.toml",
+                "0",
+                "run",
+            ]
+            .as_slice(),
+            2,
+        ),
+        (
+            [
+                "tokentree",
+                "node",
+                "--repeat",
+                "100001",
+                "absent.toml",
+                "0",
+                "run",
+            ]
+            .as_slice(),
+            2,
+        ),
+        (["tokentree", "node", "two.toml", "0"].as_slice(), 2),
+        (["tokentree", "up", "absent.toml", "run"].as_slice(), 1),
+        (["tokentree", "up", "two.toml"].as_slice(), 2),
+        (
+            ["tokentree", "schedule", "two.toml", "--rounds", "1"].as_slice(),
+            0,
+        ),
+        (
+            [
+                "tokentree",
+                "schedule",
+                "two.toml",
+                "--rounds",
+                "0",
+                "--scramble",
+                "4294967295",
+            ]
+            .as_slice(),
+            0,
+        ),
+        (
+            [
+                "tokentree",
+                "schedule",
+                "two.toml",
+                "--random",
+                "9",
+                "--seed",
+                "1",
+                "--loss",
+                "100",
+                "--clients",
+            ]
+            .as_slice(),
+            0,
+        ),
+        (["tokentree", "schedule", "two.toml"].as_slice(), 2),
+        (
+            ["tokentree", "schedule", "absent.toml", "--rounds", "1"].as_slice(),
+            1,
+        ),
+        (
+            [
+                "tokentree",
+                "schedule",
+                "two.toml",
+                "--rounds",
+                "4294967296",
+            ]
+            .as_slice(),
+            2,
+        ),
+        (
+            ["tokentree", "schedule", "two.toml", "--random", "9"].as_slice(),
+            2,
+        ),
+        (
+            [
+                "tokentree",
+                "schedule",
+                "two.toml",
+                "--rounds",
+                "1",
+                "--random",
+                "9",
+                "--seed",
+                "1",
+            ]
+            .as_slice(),
+            2,
+        ),
+        (
+            [
+                "tokentree",
+                "schedule",
+                "two.toml",
+                "--rounds",
+                "1",
+                "--clients",
+            ]
+            .as_slice(),
+            2,
+        ),
+        (
+            [
+                "tokentree",
+                "schedule",
+                "two.toml",
+                "--random",
+                "9",
+                "--seed",
+                "1",
+                "--loss",
+                "101",
+            ]
+            .as_slice(),
+            2,
+        ),
+        (
+            ["tokentree", "measure", "two.toml", "--runs", "3"].as_slice(),
+            0,
+        ),
+        (
+            [
+                "tokentree",
+                "measure",
+                "two.toml",
+                "--runs",
+                "1",
+                "--random",
+                "--table",
+            ]
+            .as_slice(),
+            0,
+        ),
+        (
+            ["tokentree", "measure", "bad.toml", "--runs", "1"].as_slice(),
+            1,
+        ),
+        (
+            ["tokentree", "measure", "two.toml", "--runs", "0"].as_slice(),
+            2,
+        ),
+        (
+            ["tokentree", "measure", "two.toml", "--rounds", "--random"].as_slice(),
+            2,
+        ),
     ] {
         assert_eq!(rt; run_words(&rt, words), ExitCode::from(want), "at {words:?}");
     }

@@ -76,7 +76,8 @@ impl Write for Shelf<'_> {
     }
 }
 
-/// The answer of a simulation, and what was written where there is so much room.
+/// The answer of a simulation, and what was written where there is room for `room`
+/// bytes.
 fn simulated(
     alloc: Global,
     answers: &[Answer<'_>],

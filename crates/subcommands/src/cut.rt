@@ -1,0 +1,45 @@
+//! `cut PATH LENGTH`: a file, as a write that broke off may leave it.
+ghost use Rattle.std.specs.Prelude.{◌≡◌, ℕ, List, length, take};
+ghost use Rattle.subcommands.specs.Cut.{IsCutTo};
+
+use crate::path_fault::PathFault;
+use std::fs::{OpenFile, OpenOptions};
+use std::io::ErrorKind;
+use std::process::ExitCode;
+use std::rt::Files;
+use std::{fs, io};
+
+/// Shortens a file to its first bytes, and leaves one that is not longer as it is.
+///
+/// # Errors
+/// Where the file cannot be written, is not there, or is no plain file.
+pub fn run<'a, R: Files>(rt: &R, path: &'a str, most: u32) -> Result<ExitCode, PathFault<'a>> {
+    match shorten(rt, path, u64::from(most)) {
+        Ok(()) => Ok(ExitCode::SUCCESS),
+        Err(_) => Err(PathFault::Unwritable(path)),
+    }
+}
+
+/// Shortens a file, whose bytes are not read. What a file holds is told to no contract, so this has
+/// none; tests look at the files.
+fn shorten<R: Files>(rt: &R, path: &str, most: u64) -> io::Result<()> {
+    if !fs::metadata(rt, path)?.is_file() {
+        return Err(io::Error::from(ErrorKind::InvalidInput));
+    }
+    let file = OpenOptions::new().write(true).open(rt, path)?;
+    if let Some(length) = cut_length(file.metadata()?.len(), most) {
+        file.set_len(length)?;
+    }
+    Ok(())
+}
+
+/// How many bytes a file of that length keeps, where it is cut to at most so many; none where it
+/// stays as it is.
+fn cut_length(len: u64, most: u64) -> Option<u64>
+    ensures { (bytes : List ℕ) → length bytes ≡ len → IsCutTo result bytes (take most bytes) }
+{
+    if len > most { Some(most) } else { None }
+}
+
+#[cfg(test)]
+mod tests;

@@ -1,0 +1,61 @@
+//! `junk SEED LINES`: lines that mean nothing.
+ghost use Rattle.std.specs.Prelude.{◌≡◌, ◌+◌, ◌≤◌, IfErr, OnOk, [], ◌++◌, codes, length, take};
+ghost use Rattle.byte_streams.specs.Streams.{Rose, Takes};
+ghost use Rattle.damage_tool.specs.Draws.{draw_junk};
+ghost use Rattle.subcommands.specs.Damaged.{junk_text, seeded};
+ghost use Rattle.subcommands.specs.declared.fault.Fault.TheVariants.{Output};
+
+use crate::fault::Fault;
+use crate::streams::{Flush, WriteSink};
+use damage_tool::junk_line;
+use rand_core::SeedableRng;
+use rand_pcg::Lcg64Xsh32;
+use std::io::{BufWriter, writer};
+use std::process::ExitCode;
+use world::streams::{Failed, Sink, write_all};
+
+/// Prints that many lines of junk, drawn by the generator of that seed.
+///
+/// # Errors
+/// Where memory runs out, or standard output does not take the text.
+pub fn run<R: Print + AllocGlobal>(rt: &R, seed: u32, lines: u32) -> Result<ExitCode, Fault> {
+    let Ok(output) = BufWriter::new(rt.alloc(), writer(rt)) else {
+        return Err(Fault::Memory);
+    };
+    write_junk(seed, lines, &mut WriteSink::new(output))?;
+    Ok(ExitCode::SUCCESS)
+}
+
+/// Writes that many lines of junk, all of them.
+///
+/// What is unproved: that the text stands in standard output, which tells no bytes.
+fn write_junk<W: Flush>(seed: u32, lines: u32, sink: &mut W) -> Result<(), Fault>
+    ensures text { OnOk result
+        (Takes (junk_text lines (seeded seed)) (W.taken sink.old) (W.taken sink.new)) }
+    ensures written { OnOk result (W.unwritten sink.new ≡ []) }
+    ensures err { IfErr result
+        (λ fault. (fault ≡ Output) × Rose (W.failures sink.old) (W.failures sink.new)) }
+{
+    let mut generator = Lcg64Xsh32::seed_from_u64(u64::from(seed));
+    for _line in 0..lines {
+        write_line(&mut generator, sink).map_err(|_| Fault::Output)?;
+    }
+    sink.flush().map_err(|_| Fault::Output)
+}
+
+/// Writes a line of junk with its newline.
+fn write_line<W: Sink>(generator: &mut Lcg64Xsh32, sink: &mut W) -> Result<(), Failed>
+    ensures text { OnOk result (Takes ((draw_junk generator.old).0 ++ codes "\n") (W.taken sink.old)
+        (W.taken sink.new)) }
+    ensures generator { generator.new ≡ (draw_junk generator.old).1 }
+    ensures cause { IfErr result (λ _. Rose (W.failures sink.old) (W.failures sink.new)) }
+    ensures grows { W.failures sink.old ≤ W.failures sink.new }
+{
+    let mut line = [0; 41];
+    let count = junk_line(generator, &mut line);
+    line[count] = b'\n';
+    write_all(sink, &line[..count + 1])
+}
+
+#[cfg(test)]
+mod tests;

@@ -1,0 +1,194 @@
+//! `measure FILE`: behind how many sweeps scrambled worlds served.
+ghost use Rattle.std.specs.Prelude.{◌≡◌, ◌++◌, OnOk, IfOk, string_bytes, if◌then◌else◌};
+ghost use Rattle.std.specs.Process.{exit_status};
+ghost use Rattle.subcommands.specs.Measured.{has_served, run_line, served_sweeps, summary_line};
+ghost use Rattle.subcommands.specs.Measured.{shown_line, run_lines, totals, IsMeasured};
+
+use crate::bound::push_number;
+use crate::fault::Fault;
+use crate::network_file::read_network;
+use experiments::{Recovery, Scheduler, Summary, measure_run, summary_of};
+use rayon::prelude::*;
+use std::alloc::{AllocError, Global};
+use std::fmt::Write;
+use std::process::ExitCode;
+use std::rt::Files;
+use std::thread::Threads;
+use topology::Net;
+
+/// What is measured.
+#[derive(Clone, Copy, Debug, PartialEq, Eq)]
+pub struct Plan {
+    /// How many runs there are.
+    pub runs: u32,
+    /// The first one's seed; each other has the next one.
+    pub seed: u32,
+    /// Who moves when.
+    pub scheduler: Scheduler,
+    /// Whether each run has a line.
+    pub table: bool,
+}
+
+/// Prints behind how many sweeps the runs served.
+///
+/// # Errors
+/// Where no network is read of the file, memory runs out, or standard output does not take the
+/// text: the first of these that is met.
+pub fn run<R: Files + Print + AllocGlobal + Threads + Sync>(
+    rt: &R,
+    network: &str,
+    plan: Plan,
+) -> Result<ExitCode, Fault> {
+    let net = read_network(rt, network)?;
+    let runs = measured(rt, rt.alloc(), &net, plan).map_err(|_| Fault::Memory)?;
+    let text = measured_text(rt.alloc(), &net, runs.as_slice(), plan.table).map_err(
+        |_| Fault::Memory,
+    )?;
+    rt.print(text.as_str()).map_err(|_| Fault::Output)?;
+    let bound = net.sharp_bound();
+    Ok(status(runs.iter().all(|run| has_served(run, bound))))
+}
+
+/// The status of runs that were all made.
+fn status(all_served: bool) -> ExitCode
+    ensures { exit_status result ≡ (if all_served then 0 else 1) }
+{
+    if all_served {
+        ExitCode::SUCCESS
+    } else {
+        ExitCode::FAILURE
+    }
+}
+
+/// Makes the runs, over as many threads as there are processors.
+fn measured<R: Threads + Sync>(
+    rt: &R,
+    alloc: Global,
+    net: &Net,
+    plan: Plan,
+) -> Result<Vec<Recovery>, AllocError> {
+    let answers: Vec<Result<Recovery, AllocError>> = (0..plan.runs)
+        .into_par_iter()
+        .map(|i: u32| -> Result<Recovery, AllocError> {
+            let seed = u64::from(plan.seed) + u64::from(i);
+            measure_run(alloc, net, plan.scheduler, seed)
+        })
+        .collect(rt, alloc)?;
+    let mut runs = Vec::new(alloc);
+    for answer in answers {
+        runs.push(answer?)?;
+    }
+    Ok(runs)
+}
+
+/// Whether a run had as many sweeps as the sharper bound says, and served behind that many of them.
+fn has_served(run: &Recovery, bound: u32) -> bool
+    ensures { result ≡ has_served run.now bound }
+{
+    run.seen >= u64::from(bound) && run.sweeps <= u64::from(bound)
+}
+
+/// The lines of the runs, all of them or those alone that have not served, and the lines that sum
+/// them up.
+pub fn measured_text(
+    alloc: Global,
+    net: &Net,
+    runs: &[Recovery],
+    table: bool,
+) -> Result<String, AllocError>
+    ensures { IfOk result (λ text. IsMeasured net.now runs.now table (string_bytes text)) }
+{
+    let mut text = String::new(alloc);
+    let bound = net.sharp_bound();
+    push_runs(&mut text, runs, bound, table)?;
+    let mut served = served_sweeps(alloc, runs, bound)?;
+    let summary = summary_of(served.as_mut_slice());
+    push_totals(&mut text, net, runs.len(), summary)?;
+    Ok(text)
+}
+
+/// Adds the lines that sum the runs up.
+fn push_totals(
+    text: &mut String,
+    net: &Net,
+    runs: usize,
+    summary: Option<Summary>,
+) -> Result<(), AllocError>
+    ensures { OnOk result (string_bytes text.new
+        ≡ string_bytes text.old ++ totals net.now runs summary) }
+{
+    writeln!(text, "runs {runs}")?;
+    push_summary(text, summary)?;
+    push_number(text, "sharp", net.sharp_bound())?;
+    push_number(text, "sweeps-bound", net.bound())
+}
+
+/// Adds the lines of the runs, all of them or those alone that have not served.
+fn push_runs(
+    text: &mut String,
+    runs: &[Recovery],
+    bound: u32,
+    table: bool,
+) -> Result<(), AllocError>
+    ensures { OnOk result (string_bytes text.new
+        ≡ string_bytes text.old ++ run_lines bound table runs.now) }
+{
+    for run in runs {
+        push_shown(text, run, bound, table)?;
+    }
+    Ok(())
+}
+
+/// Adds the line of a run where it is to be shown.
+fn push_shown(text: &mut String, run: &Recovery, bound: u32, table: bool) -> Result<(), AllocError>
+    ensures { OnOk result (string_bytes text.new
+        ≡ string_bytes text.old ++ shown_line bound table run.now) }
+{
+    if table || !has_served(run, bound) {
+        push_run(text, run, bound)
+    } else {
+        Ok(())
+    }
+}
+
+/// Adds the line of a run: its seed, and behind how many sweeps it served, or `none`.
+fn push_run(text: &mut String, run: &Recovery, bound: u32) -> Result<(), AllocError>
+    ensures { OnOk result (string_bytes text.new
+        ≡ string_bytes text.old ++ run_line bound run.now) }
+{
+    if has_served(run, bound) {
+        writeln!(text, "seed {} sweeps {}", run.seed, run.sweeps)
+    } else {
+        writeln!(text, "seed {} sweeps none", run.seed)
+    }
+}
+
+/// The sweeps behind which those runs served that did.
+fn served_sweeps(alloc: Global, runs: &[Recovery], bound: u32) -> Result<Vec<u64>, AllocError>
+    ensures { IfOk result (λ sweeps. sweeps.items ≡ served_sweeps runs.now bound) }
+{
+    let mut sweeps = Vec::new(alloc);
+    for run in runs {
+        if has_served(run, bound) {
+            sweeps.push(run.sweeps)?;
+        }
+    }
+    Ok(sweeps)
+}
+
+/// Adds the line of the least, the median and the most.
+fn push_summary(text: &mut String, summary: Option<Summary>) -> Result<(), AllocError>
+    ensures { OnOk result (string_bytes text.new
+        ≡ string_bytes text.old ++ summary_line summary) }
+{
+    match summary {
+        Some(
+            Summary {
+                least,
+                median,
+                most,
+            },
+        ) => writeln!(text, "sweeps least {least} median {median} most {most}"),
+        None => text.push_str("sweeps least none median none most none\n"),
+    }
+}

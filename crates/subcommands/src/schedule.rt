@@ -1,0 +1,132 @@
+//! `schedule FILE`: the events of a schedule for a network.
+ghost use Rattle.std.specs.Prelude.{◌≡◌, [], Err, OnOk};
+ghost use Rattle.std.specs.Io.Buffered.{writer_buffer, writer_contents};
+ghost use Rattle.byte_streams.specs.Streams.{Rose};
+ghost use Rattle.experiments.specs.Plan.{planned};
+ghost use Rattle.subcommands.specs.EventText.{GrowsByText};
+ghost use Rattle.subcommands.specs.declared.fault.Fault.TheVariants.{Output};
+
+use crate::event_text::EventText;
+use crate::fault::Fault;
+use crate::network_file::read_network;
+use experiments::{Order, PlanFault, give_plan};
+use rand_core::SeedableRng;
+use rand_pcg::Lcg64Xsh32;
+use schedules::Chances;
+use std::alloc::Global;
+use std::io::{BufWriter, Write, writer};
+use std::process::ExitCode;
+use std::rt::Files;
+use topology::Net;
+
+/// What follows the scramble.
+#[derive(Clone, Copy, Debug, PartialEq, Eq)]
+pub enum Turns {
+    /// As many rounds.
+    Rounds(u32),
+    /// Steps drawn from a seed.
+    Random {
+        /// How many.
+        steps: u32,
+        /// The seed.
+        seed: u32,
+        /// Which steps there are beside ticks, sends and takes.
+        chances: Chances,
+    },
+}
+
+impl Turns {
+    /// The order, with the generator of its seed.
+    fn order(self) -> Order {
+        match self {
+            Turns::Rounds(count) => Order::Rounds {
+                count: u64::from(count),
+            },
+            Turns::Random {
+                steps,
+                seed,
+                chances,
+            } => Order::Random {
+                steps: u64::from(steps),
+                chances,
+                generator: seeded(seed),
+            },
+        }
+    }
+}
+
+/// The generator of a seed.
+fn seeded(seed: u32) -> Lcg64Xsh32 {
+    Lcg64Xsh32::seed_from_u64(u64::from(seed))
+}
+
+impl From<PlanFault> for Fault {
+    ghost use Rattle.std.specs.Prelude.{◌≡◌};
+    ghost use Rattle.subcommands.specs.PlanFault.{fault_of};
+
+    ghost from_gives = { λ p fault. fault ≡ fault_of p };
+
+    fn from(fault: PlanFault) -> Fault {
+        match fault {
+            PlanFault::Memory => Fault::Memory,
+            PlanFault::Sink => Fault::Output,
+        }
+    }
+}
+
+/// Prints the events text of a schedule for the network of a file: the harms of a scramble by a
+/// seed, where one is given, and then its turns.
+///
+/// What is unproved: that the text stands in standard output, which tells nothing of its bytes.
+///
+/// # Errors
+/// Where no network is read of the file, memory runs out, or standard output does not take the
+/// text: the first of these that is met.
+pub fn run<R: Files + Print + AllocGlobal>(
+    rt: &R,
+    network: &str,
+    scramble: Option<u32>,
+    turns: Turns,
+) -> Result<ExitCode, Fault> {
+    let net = read_network(rt, network)?;
+    let Ok(output) = BufWriter::new(rt.alloc(), writer(rt)) else {
+        return Err(Fault::Memory);
+    };
+    let mut text = EventText::new(output);
+    write_plan(
+        rt.alloc(),
+        &net,
+        scramble.map(seeded),
+        turns.order(),
+        &mut text,
+    )?;
+    Ok(ExitCode::SUCCESS)
+}
+
+/// Writes the lines of a schedule's events, and sees to it that all of them are written: after a
+/// fault too, as far as it had come.
+fn write_plan<W: Write + Drop>(
+    alloc: Global,
+    net: &Net,
+    scramble: Option<Lcg64Xsh32>,
+    order: Order,
+    text: &mut EventText<W>,
+) -> Result<(), Fault>
+    // Where the writer tells its bytes, they are the text.
+    ensures text { OnOk result (GrowsByText (writer_contents W.contents text.old.writer)
+        (planned net.now scramble order) (writer_contents W.contents text.new.writer)) }
+    ensures written { OnOk result (writer_buffer text.new.writer ≡ []) }
+    // A fault of the output only where the writer failed.
+    ensures cause { result ≡ Err Output → Rose text.old.failures text.new.failures }
+{
+    let given = give_plan(alloc, net, scramble, order, text);
+    let flushed = text.flush();
+    given?;
+    match flushed {
+        Ok(()) => Ok(()),
+        Err(_) => Err(Fault::Output),
+    }
+}
+
+#[cfg(test)]
+mod tests;

@@ -1,0 +1,113 @@
+//! Schedules as texts: by hand, and where the writer has too little room.
+use super::*;
+use std::io::{Error, ErrorKind};
+use std::test::Fail;
+
+/// One round of two nodes whose links hold one item.
+const ROUND: &str = "\
+tick 0
+tick 1
+send 0 1
+take 0 1
+send 0 1
+take 0 1
+send 1 0
+take 1 0
+send 1 0
+take 1 0
+";
+
+/// Keeps what is written to it, as far as it has room, and then fails.
+#[derive(Drop)]
+struct Shelf<'a> {
+    taken: &'a mut Vec<u8>,
+    room: usize,
+}
+
+impl Write for Shelf<'_> {
+    fn write(&mut self, bytes: &[u8]) -> std::io::Result<usize> {
+        let count = bytes.len().min(self.room);
+        if count == 0 && !bytes.is_empty() {
+            return Err(Error::from(ErrorKind::BrokenPipe));
+        }
+        self.taken.extend_from_slice(&bytes[..count])?;
+        self.room -= count;
+        Ok(count)
+    }
+
+    fn flush(&mut self) -> std::io::Result<()> {
+        Ok(())
+    }
+}
+
+/// The answer, and the text of a schedule for two nodes where there is so much room.
+fn written(
+    alloc: Global,
+    scramble: Option<u32>,
+    turns: Turns,
+    room: usize,
+) -> Result<(Result<(), Fault>, String), Fail> {
+    let net = Net::make(alloc, 2, 0, 1, 0, &[(0, 1)])?;
+    let mut taken = Vec::new(alloc);
+    let shelf = Shelf {
+        taken: &mut taken,
+        room,
+    };
+    let mut text = EventText::new(BufWriter::with_capacity(alloc, 16, shelf)?);
+    let answer = write_plan(alloc, &net, scramble.map(seeded), turns.order(), &mut text);
+    drop(text);
+    let text = String::from_str(alloc, std::str::from_utf8(taken.as_slice())?)?;
+    Ok((answer, text))
+}
+
+#[test]
+fn a_round_without_room_is_a_fault(rt: HostRuntime) -> Result<(), Fail> {
+    for room in 0..=ROUND.len() {
+        let (answer, text) = written(rt.alloc(), None, Turns::Rounds(1), room)?;
+        let want = if room < ROUND.len() {
+            Err(Fault::Output)
+        } else {
+            Ok(())
+        };
+        assert_eq!(rt; answer, want, "with room for {room} bytes");
+        assert_eq!(rt; text.as_bytes(), &ROUND.as_bytes()[..room]);
+    }
+    Ok(())
+}
+
+/// In a text of random steps that are all drawn, none but the asked for kinds stand.
+#[test]
+fn losses_and_clients_only_where_asked_for(rt: HostRuntime) -> Result<(), Fail> {
+    for (loss, clients) in [(0, false), (100, false), (0, true)] {
+        let turns = Turns::Random {
+            steps: 400,
+            seed: 3,
+            chances: Chances { loss, clients },
+        };
+        let (answer, text) = written(rt.alloc(), None, turns, 100_000)?;
+        assert_eq!(rt; answer, Ok(()));
+        let text = text.as_str();
+        assert_eq!(rt;
+            text.contains("lose "),
+            loss > 0,
+            "loss {loss}, clients {clients}"
+        );
+        assert_eq!(rt;
+            text.contains("take "),
+            loss < 100,
+            "loss {loss}, clients {clients}"
+        );
+        assert_eq!(rt;
+            text.contains("ask "),
+            clients,
+            "loss {loss}, clients {clients}"
+        );
+        assert_eq!(rt;
+            text.contains("leave "),
+            clients,
+            "loss {loss}, clients {clients}"
+        );
+        assert_eq!(rt; text.lines().count(), 400);
+    }
+    Ok(())
+}

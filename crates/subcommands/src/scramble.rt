@@ -1,0 +1,86 @@
+//! `scramble FILE ID PATH SEED`: the state file of a node, as a fault may leave it.
+ghost use Rattle.std.specs.Prelude.{◌≡◌, ◌<◌, ◌≤◌, IfOk, IfErr, nat_lt, if◌then◌else◌, take};
+ghost use Rattle.node_state_file.specs.Stores.{Saves};
+ghost use Rattle.subcommands.specs.Damaged.{scrambled_file};
+ghost use Rattle.subcommands.specs.declared.fault.Fault.TheVariants.{NoNode, Memory};
+
+use crate::fault::Fault;
+use crate::network_file::read_network;
+use crate::path_fault::PathFault;
+use damage_tool::scramble_node;
+use node_core::NodeState;
+use node_state_file::{FileStore, Store, StoreFault, encode};
+use rand_core::SeedableRng;
+use rand_pcg::Lcg64Xsh32;
+use std::alloc::Global;
+use std::process::ExitCode;
+use std::rt::Files;
+use topology::Net;
+
+/// Writes the state file of a node of the network of a file: its default state, scrambled by the
+/// generator of that seed.
+///
+/// # Errors
+/// Where no network is read of the file, it has no such node, memory runs out, or the state file
+/// cannot be written: the first of these that is met.
+pub fn run<'a, R: Files + AllocGlobal>(
+    rt: &R,
+    network: &str,
+    id: u16,
+    path: &'a str,
+    seed: u32,
+) -> Result<ExitCode, PathFault<'a>> {
+    let net = read_network(rt, network)?;
+    let mut store = FileStore::new(rt, path);
+    match save_scrambled(rt.alloc(), &net, id, seed, &mut store)? {
+        Ok(()) => Ok(ExitCode::SUCCESS),
+        Err(_) => Err(PathFault::Unwritable(path)),
+    }
+}
+
+/// Saves the state file of a scrambled node, and says what the store answers.
+fn save_scrambled<S: Store>(
+    alloc: Global,
+    net: &Net,
+    id: u16,
+    seed: u32,
+    store: &mut S,
+) -> Result<Result<(), StoreFault>, Fault>
+    // The store is asked to save those very bytes.
+    ensures saves { IfOk result (λ saved. Saves saved (scrambled_file net.now id seed)
+        (S.stored store.old) (S.stored store.new) (S.failures store.old) (S.failures store.new)) }
+    ensures err { IfErr result
+        (λ fault. fault ≡ (if nat_lt id net.now.nodes then Memory else NoNode)) }
+    ensures spares { IfErr result (λ _. store.new ≡ store.old) }
+{
+    let mut bytes = [0; 1276];
+    let count = write_scrambled(alloc, net, id, seed, &mut bytes)?;
+    Ok(store.save(&bytes[..count]))
+}
+
+/// Writes the state file of a scrambled node to the front of `bytes`, and answers how many bytes it
+/// has.
+fn write_scrambled(
+    alloc: Global,
+    net: &Net,
+    id: u16,
+    seed: u32,
+    bytes: &mut [u8; 1276],
+) -> Result<usize, Fault>
+    ensures ok { IfOk result (λ count. take count bytes.new ≡ scrambled_file net.now id seed) }
+    ensures room { IfOk result (λ count. count ≤ 1276) }
+    ensures node { IfOk result (λ _. id < net.now.nodes) }
+    ensures err { IfErr result
+        (λ fault. fault ≡ (if nat_lt id net.now.nodes then Memory else NoNode)) }
+{
+    if id >= net.nodes() {
+        return Err(Fault::NoNode);
+    }
+    let mut node = NodeState::new(alloc, net, id).map_err(|_| Fault::Memory)?;
+    let mut generator = Lcg64Xsh32::seed_from_u64(u64::from(seed));
+    scramble_node(&mut node, net, &mut generator);
+    Ok(encode(&node, net, bytes))
+}
+
+#[cfg(test)]
+mod tests;

@@ -1,0 +1,79 @@
+//! The words of `threads`.
+use crate::commands::{LINE_REFUSED, NETWORK_FILE, file};
+use clap::{Arg, ArgAction, ArgMatches, Command};
+use std::alloc::{AllocError, Global};
+use std::process::ExitCode;
+use std::rt::Files;
+use std::sync::Wait;
+use std::thread::Threads;
+use subcommands::{Fault, decimal_number, threads};
+
+/// The most turns of a node on a thread.
+const MOST_TURNS: u32 = 1_000_000;
+
+/// What follows the help of `threads`.
+const HELP: &str = "\
+Each node does so many turns, from nodes as they start and empty links on, each on a thread of its own: in a turn it
+ticks, then sends to each neighbour where a place is free, and takes up to two items from each. Nobody holds the
+threads back, so what happens differs from run to run; but it is always a list of events that could have happened one
+after the other. The state that they lead to is shown as simulate shows it, with the sweeps in that list:
+
+  $ tokentree threads two-nodes.toml 1000 --events done.events
+  node 0 distance 0 parent none token no lent none waiting 0
+  node 1 distance 1 parent 0 token yes lent none waiting 0
+  link 0 1 items 1
+  link 1 0 items 0
+  privileged 1 lending 0
+  sweeps 331 of 69
+
+With --events the list is written to a file, and simulate shows the same of it:
+
+  $ tokentree simulate two-nodes.toml done.events
+
+All memory is taken before the first turn: a run that does not fit is refused at once. Nothing is printed before the
+end.
+
+Statuses: 0 done; 1 a file, memory, a thread or standard output was refused, with its fault on standard error; 2 the
+command line was refused.";
+
+/// What `threads` takes.
+pub fn threads_command<'a>(alloc: Global) -> Result<Command<'a>, AllocError> {
+    Command::new(alloc, "threads")
+        .about(
+            "Runs each node of a network on a thread of its own, and shows the state they lead to",
+        )
+        .after_help(HELP)
+        .arg(file(alloc, "FILE", NETWORK_FILE))?
+        .arg(file(
+            alloc,
+            "TURNS",
+            "How many turns each node does, 1 to 1000000",
+        ))?
+        .arg(events(alloc))
+}
+
+/// The option by which `threads` writes what the nodes did to a file.
+fn events<'a>(alloc: Global) -> Arg<'a> {
+    Arg::new(alloc, "events")
+        .long("events")
+        .value_name("PATH")
+        .action(ArgAction::Set)
+        .help("Write what the nodes did to this file, as an events text")
+}
+
+/// Does what the words say.
+pub fn run_threads<R: Files + Print + Eprint + Threads + Wait + Sync + AllocGlobal>(
+    rt: &R,
+    given: &ArgMatches,
+) -> Result<ExitCode, Fault> {
+    let (Some(network), Some(turns)) = (given.get_str("FILE"), given.get_str("TURNS")) else {
+        return Ok(ExitCode::from(LINE_REFUSED));
+    };
+    match decimal_number(turns, MOST_TURNS) {
+        None | Some(0) => {
+            let _ = eprintln!(rt; "tokentree: TURNS is no decimal number from 1 to {MOST_TURNS}");
+            Ok(ExitCode::from(LINE_REFUSED))
+        }
+        Some(turns) => threads::run(rt, network, turns, given.get_str("events")),
+    }
+}
