@@ -1,0 +1,162 @@
+#!/usr/bin/env bash
+# Measures nodes that run as processes, on rings of three and of eight (or of the numbers of nodes that are given): the
+# load of an idle node, how long a client that asks now and then waits for the lock at the root and far from it, how many
+# grants a second there are where a client at each node wants the lock all the time, and a node's memory and descriptors.
+# Beside it what a command costs under the lock and under flock(1), and a loop that locks one file, so that the price is
+# seen. Wants python3 and flock; takes half a minute for each ring.
+set -euo pipefail
+[ $# -gt 0 ] || set -- 3 8
+cd "$(dirname "$0")/.."
+./tokentree --help > /dev/null
+program=$PWD/crates/tokentree/out/tokentree
+folder=$(mktemp -d)
+trap 'rm -rf "$folder"' EXIT
+python3 - "$program" "$folder" "$@" <<'PYTHON'
+import fcntl, multiprocessing, os, socket, subprocess, sys, time
+
+program, folder, sizes = sys.argv[1], sys.argv[2], [int(n) for n in sys.argv[3:]]
+TICKS = os.sysconf("SC_CLK_TCK")
+
+
+class Client:
+    """A client of one node's desk."""
+
+    def __init__(self, run, node):
+        self.socket = socket.socket(socket.AF_UNIX)
+        self.socket.settimeout(10)
+        self.socket.connect(f"{run}/desk-{node}.sock")
+        self.rest = b""
+
+    def line(self):
+        while b"\n" not in self.rest:
+            self.rest += self.socket.recv(512)
+        line, self.rest = self.rest.split(b"\n", 1)
+        return line
+
+    def ask(self, words, want=None):
+        self.socket.sendall(words + b"\n")
+        line = self.line()
+        assert want is None or line == want, line
+        return line
+
+    def cycle(self):
+        start = time.perf_counter()
+        self.ask(b"lock", b"granted")
+        waited = time.perf_counter() - start
+        self.ask(b"unlock", b"released")
+        return waited
+
+
+def used(process):
+    """The seconds of a processor that a process has used."""
+    words = open(f"/proc/{process.pid}/stat").read().rsplit(")", 1)[1].split()
+    return (int(words[11]) + int(words[12])) / TICKS
+
+
+def memory(process):
+    """The kilobytes that a process has."""
+    return next(int(l.split()[1]) for l in open(f"/proc/{process.pid}/status") if l.startswith("VmRSS"))
+
+
+def descriptors(process):
+    return len(os.listdir(f"/proc/{process.pid}/fd"))
+
+
+def grants(run, node, seconds, out):
+    """How often a client that always wants the lock gets it."""
+    client, count, end = Client(run, node), 0, time.perf_counter() + seconds
+    while time.perf_counter() < end:
+        client.cycle()
+        count += 1
+    out.put(count)
+
+
+def spread(run, node, times):
+    """Half of all waits, and all but one in a hundred, are at most so many milliseconds."""
+    client, waits = Client(run, node), []
+    for _ in range(times):
+        time.sleep(0.005)
+        waits.append(client.cycle() * 1000)
+    waits.sort()
+    return waits[times // 2], waits[times * 99 // 100]
+
+
+def ring(nodes):
+    network, run = f"{folder}/ring-{nodes}.toml", f"{folder}/run-{nodes}"
+    edges = [[i, (i + 1) % nodes] for i in range(nodes)]
+    with open(network, "w") as file:
+        file.write(f"nodes = {nodes}\nroot = 0\ncapacity = 512\nlease = 0\nedges = {edges}\n")
+    running = [
+        subprocess.Popen([program, "node", network, str(i), run], stdout=subprocess.PIPE) for i in range(nodes)
+    ]
+    for process in running:
+        assert process.stdout.readline().startswith(b"start") and process.stdout.readline() == b"ready\n"
+    far = nodes // 2
+    while b"distance %d " % far not in Client(run, far).ask(b"status"):
+        time.sleep(0.01)
+    time.sleep(1)
+    before = [used(process) for process in running]
+    time.sleep(5)
+    idle = sum(used(process) - b for process, b in zip(running, before)) / 5 / nodes * 100
+    near_half, near_most = spread(run, 0, 500)
+    far_half, far_most = spread(run, far, 500)
+    start = memory(running[0]), descriptors(running[0])
+    out = multiprocessing.Queue()
+    clients = [multiprocessing.Process(target=grants, args=(run, i, 5, out)) for i in range(nodes)]
+    for client in clients:
+        client.start()
+    rate = sum(out.get() for _ in clients) / 5
+    for client in clients:
+        client.join()
+    end = memory(running[0]), descriptors(running[0])
+    for i in range(nodes):
+        open(f"{run}/stop-{i}", "w").close()
+    statuses = [process.wait(timeout=10) for process in running]
+    print(
+        f"ring of {nodes:2}  idle {idle:5.1f} %  lock at the root {near_half:.2f} and {near_most:.2f} ms"
+        f"  far from it {far_half:.2f} and {far_most:.2f} ms  all {rate:6.0f} grants a second"
+        f"  memory {start[0]} to {end[0]} kB  descriptors {start[1]} to {end[1]}  statuses {statuses}",
+        flush=True,
+    )
+
+
+def locked_file(seconds):
+    """How often a second one process locks and unlocks a file that nobody else wants."""
+    count, end = 0, time.perf_counter() + seconds
+    with open(f"{folder}/locked", "w") as file:
+        while time.perf_counter() < end:
+            fcntl.flock(file, fcntl.LOCK_EX)
+            fcntl.flock(file, fcntl.LOCK_UN)
+            count += 1
+    return count / seconds
+
+
+def command_time(words, times):
+    """The milliseconds of one command among as many, one after the other."""
+    start = time.perf_counter()
+    for _ in range(times):
+        subprocess.run(words, check=True, stdin=subprocess.DEVNULL)
+    return (time.perf_counter() - start) / times * 1000
+
+
+def commands(times):
+    """What it costs to run a command under the lock, and under flock(1) on a file."""
+    run, locked = f"{folder}/run-commands", f"{folder}/locked"
+    network = "examples/ring-of-three.toml"
+    up = subprocess.Popen([program, "up", network, run], stdin=subprocess.PIPE, stdout=subprocess.PIPE)
+    ready = 0
+    while ready < 3:
+        ready += up.stdout.readline().endswith(b"ready\n")
+    by_lock = command_time([program, "lock", run, "1", "--", "true"], times)
+    up.stdin.close()
+    assert up.wait(timeout=10) == 0
+    by_flock = command_time(["flock", locked, "true"], times)
+    alone = command_time(["true"], times)
+    print(f"true under lock {by_lock:.2f} ms, under flock {by_flock:.2f} ms, alone {alone:.2f} ms", flush=True)
+
+
+for nodes in sizes:
+    ring(nodes)
+commands(1000)
+print(f"flock on a file, one process: {locked_file(2):.0f} a second")
+PYTHON

@@ -1,0 +1,170 @@
+#!/bin/sh
+# Holds the files for packagers against the command line's own list of commands and flags, so that they cannot fall
+# behind: the man page, the completions and OPERATING.md. Status 1 where one of them lacks a command or a flag, or has
+# one that is not there.
+#
+#   bench/packaging.sh             compares
+#   bench/packaging.sh --write     writes the completions anew; the other files are written by hand
+#
+# The program is ./tokentree, or what TOKENTREE names.
+set -eu
+cd "$(dirname "$0")/.."
+program=${TOKENTREE:-./tokentree}
+found=0
+made=$(mktemp -d)
+trap 'rm -rf "$made"' EXIT
+
+fault() {
+    echo "packaging: $1" >&2
+    found=1
+}
+
+# The commands with what they do, a line each: NAME, a tab, the text.
+"$program" --help | awk '
+    /^Commands:/ { on = 1; next }
+    on && /^$/ { exit }
+    on && /^  [a-z]/ { name = $1; sub(/^ +[a-z]+ +/, ""); if (name != "help") print name "\t" $0 }
+' >"$made/commands"
+[ -s "$made/commands" ] || { fault "$program --help shows no commands"; exit 1; }
+
+# The flags of a command with what they do, a line each: --NAME, a tab, yes or no for a value, a tab, the text.
+flags() {
+    "$program" help "$1" | awk '
+        /^Options:/ { on = 1; next }
+        on && /^$/ { exit }
+        on && match($0, /--[a-z][a-z-]*/) {
+            name = substr($0, RSTART, RLENGTH)
+            rest = substr($0, RSTART + RLENGTH)
+            value = match(rest, /^ <[A-Z]+>/) ? "yes" : "no"
+            sub(/^ <[A-Z]+>/, "", rest)
+            sub(/^ +/, "", rest)
+            if (name != "--help") print name "\t" value "\t" rest
+        }
+    '
+}
+
+while IFS='	' read -r name _; do flags "$name" >"$made/flags-$name"; done <"$made/commands"
+names=$(cut -f1 "$made/commands" | tr '\n' ' ')
+names=${names% }
+
+bash_file() {
+    echo "# bash completion for tokentree, made by bench/packaging.sh --write"
+    echo "_tokentree() {"
+    # shellcheck disable=SC2016
+    echo '    local current=${COMP_WORDS[COMP_CWORD]} flags='
+    echo "    if [ \"\$COMP_CWORD\" -eq 1 ]; then"
+    echo "        mapfile -t COMPREPLY < <(compgen -W '$names help --help --version' -- \"\$current\")"
+    echo "        return"
+    echo "    fi"
+    # shellcheck disable=SC2016
+    echo '    case ${COMP_WORDS[1]} in'
+    while IFS='	' read -r name _; do
+        echo "    $name) flags='$(cut -f1 "$made/flags-$name" | tr '\n' ' ')--help' ;;"
+    done <"$made/commands"
+    echo "    help)"
+    echo "        mapfile -t COMPREPLY < <(compgen -W '$names' -- \"\$current\")"
+    echo "        return"
+    echo "        ;;"
+    echo "    esac"
+    # shellcheck disable=SC2016
+    echo '    if [[ $current == -* ]]; then'
+    # shellcheck disable=SC2016
+    echo '        mapfile -t COMPREPLY < <(compgen -W "$flags" -- "$current")'
+    echo "    elif [ \"\${COMP_WORDS[1]}\" = lock ] && [ \"\$COMP_CWORD\" -gt 3 ]; then"
+    # shellcheck disable=SC2016
+    echo '        mapfile -t COMPREPLY < <(compgen -A file -A command -- "$current")'
+    echo "    else"
+    # shellcheck disable=SC2016
+    echo '        mapfile -t COMPREPLY < <(compgen -A file -- "$current")'
+    echo "    fi"
+    echo "}"
+    echo "complete -o filenames -F _tokentree tokentree"
+}
+
+# A text within single quotes, and one within brackets within these.
+quoted() { printf '%s' "$1" | sed "s/'/'\\\\''/g"; }
+bracketed() { quoted "$1" | sed 's/[]:[]/\\&/g'; }
+
+zsh_file() {
+    echo "#compdef tokentree"
+    echo "# zsh completion for tokentree, made by bench/packaging.sh --write"
+    echo "local -a commands"
+    echo "commands=("
+    while IFS='	' read -r name text; do echo "    '$name:$(quoted "$text")'"; done <"$made/commands"
+    echo "    'help:Shows the help of a command'"
+    echo ")"
+    echo "if (( CURRENT == 2 )); then"
+    echo "    _describe command commands"
+    echo "    _arguments '--help[Print help]' '--version[Print version]'"
+    echo "    return"
+    echo "fi"
+    # shellcheck disable=SC2016
+    echo 'case $words[2] in'
+    while IFS='	' read -r name _; do
+        echo "$name)"
+        printf '    _arguments '
+        while IFS='	' read -r flag value text; do
+            if [ "$value" = yes ]; then more=':value:'; else more=; fi
+            printf "'%s[%s]%s' " "$flag" "$(bracketed "$text")" "$more"
+        done <"$made/flags-$name"
+        echo "'--help[Print help]' '*:file:_files'"
+        echo "    ;;"
+    done <"$made/commands"
+    echo "help) _describe command commands ;;"
+    echo "esac"
+}
+
+fish_file() {
+    echo "# fish completion for tokentree, made by bench/packaging.sh --write"
+    echo "complete -c tokentree -n __fish_use_subcommand -l help -d 'Print help'"
+    echo "complete -c tokentree -n __fish_use_subcommand -l version -d 'Print version'"
+    while IFS='	' read -r name text; do
+        echo "complete -c tokentree -n __fish_use_subcommand -f -a $name -d '$(quoted "$text")'"
+        while IFS='	' read -r flag value text; do
+            if [ "$value" = yes ]; then more=' -x'; else more=; fi
+            echo "complete -c tokentree -n '__fish_seen_subcommand_from $name' -l ${flag#--}$more -d '$(quoted "$text")'"
+        done <"$made/flags-$name"
+    done <"$made/commands"
+}
+
+# A file of completions is as it is made from the list.
+compare() {
+    if [ "$write" = yes ]; then
+        cp "$made/$2" "$1"
+    elif ! cmp -s "$made/$2" "$1"; then
+        fault "$1 is not as bench/packaging.sh --write makes it"
+    fi
+}
+
+write=no
+[ "${1:-}" != --write ] || write=yes
+bash_file >"$made/bash"
+zsh_file >"$made/zsh"
+fish_file >"$made/fish"
+compare packaging/completions/tokentree.bash bash
+compare packaging/completions/_tokentree zsh
+compare packaging/completions/tokentree.fish fish
+
+# The section of a command in the man page, from its heading to the next one.
+section() {
+    awk -v heading="$1" '/^\.S[SH] / { on = ($2 == heading) } on' docs/tokentree.1 | sed 's/\\-/-/g'
+}
+
+while IFS='	' read -r name _; do
+    section "$name" >"$made/section"
+    [ -s "$made/section" ] || fault "docs/tokentree.1 has no section on $name"
+    cut -f1 "$made/flags-$name" | while read -r flag; do
+        grep -q -e "$flag" "$made/section" || echo "$flag"
+    done >"$made/lacks"
+    while read -r flag; do fault "docs/tokentree.1 lacks $flag of $name"; done <"$made/lacks"
+    grep -o -e '--[a-z][a-z-]*' "$made/section" | sort -u | while read -r flag; do
+        grep -q -e "^$flag	" "$made/flags-$name" || echo "$flag"
+    done >"$made/more"
+    while read -r flag; do fault "docs/tokentree.1 has $flag, which $name does not take"; done <"$made/more"
+    grep -q -e "tokentree $name\b" docs/OPERATING.md README.md || fault "neither OPERATING.md nor README.md shows $name"
+done <"$made/commands"
+awk '/^\.SS / { print $2 }' docs/tokentree.1 | while read -r name; do
+    cut -f1 "$made/commands" | grep -qx -e "$name" || echo "$name"
+done >"$made/gone"
+while read -r name; do fault "docs/tokentree.1 has a section on $name, which is no command"; done <"$made/gone"
+exit $found

@@ -1,0 +1,58 @@
+#!/usr/bin/env bash
+# Draws the pictures of docs/ anew: the forged tokens, and a scrambled square whose edge 1-3 goes and joins again. Where Chromium is there
+# (CHROMIUM, or chromium in PATH), it shows each of them without a screen, as NAME.png in the folder $1 (or in a new folder).
+set -euo pipefail
+cd "$(dirname "$0")/.."
+shown=${1:-$(mktemp -d)}
+mkdir -p "$shown"
+folder=$(mktemp -d)
+trap 'rm -rf "$folder"' EXIT
+
+# So many rounds of the square: each node ticks, and then each frame goes twice over each link.
+square_rounds() {
+    awk -v rounds="$1" -v links="$2" 'BEGIN {
+        count = split(links, link, ",")
+        for (i = 0; i < rounds; i++) {
+            for (v = 0; v < 4; v++) print "tick " v
+            for (k = 1; k <= count; k++) for (times = 0; times < 2; times++) print "send " link[k] "\ntake " link[k]
+        }
+    }'
+}
+
+# Two nodes: the tokens are forged; 3 rounds, ticket 5 gives the lock back, 72 rounds, of which each is a sweep.
+{
+    cat examples/forged-tokens.txt
+    for _ in 1 2 3; do cat examples/round.txt; done
+    echo "leave 0 5"
+    for _ in $(seq 72); do cat examples/round.txt; done
+} > "$folder/forged-tokens"
+./tokentree draw examples/two-nodes.toml "$folder/forged-tokens" > docs/forged-tokens.svg
+
+# The square: all is scrambled; from round 20 on clients ask at nodes 1 and 2; after 80 rounds the edge 1-3 goes, and after 40 more it joins.
+all="0 1,0 2,1 0,1 3,2 0,2 3,3 1,3 2"
+{
+    cat examples/scrambled-square.txt
+    square_rounds 20 "$all"
+    printf 'ask 1 21\nask 2 22\n'
+    square_rounds 20 "$all"
+    printf 'leave 1 21\n'
+    square_rounds 20 "$all"
+    printf 'leave 2 22\n'
+    square_rounds 20 "$all"
+    echo "harm part 1 3"
+    square_rounds 40 "0 1,0 2,1 0,2 0,2 3,3 2"
+    echo "harm join 1 3"
+    square_rounds 80 "$all"
+} > "$folder/scrambled-square"
+./tokentree draw examples/square.toml "$folder/scrambled-square" > docs/scrambled-square.svg
+
+browser=${CHROMIUM:-$(command -v chromium || command -v chromium-browser || true)}
+for name in forged-tokens scrambled-square; do
+    echo "docs/$name.svg $(wc -c < "docs/$name.svg") bytes"
+    if [ -n "$browser" ]; then
+        "$browser" --headless --no-sandbox --disable-gpu --hide-scrollbars --window-size=1440,900 \
+            --screenshot="$shown/$name.png" "file://$PWD/docs/$name.svg" 2> /dev/null
+        echo "$shown/$name.png"
+    fi
+done
+[ -n "$browser" ] || echo "no Chromium is there to show them"
