@@ -1,6 +1,7 @@
 #!/usr/bin/env bash
-# Draws the pictures of docs/ anew: the forged tokens, and a scrambled square whose edge 1-3 goes and joins again. Where Chromium is there
-# (CHROMIUM, or chromium in PATH), it shows each of them without a screen, as NAME.png in the folder $1 (or in a new folder).
+# Draws the pictures of docs/ anew: the forged tokens, a scrambled square whose edge 1-3 goes and joins again, and what
+# three nodes did on threads, which differs from run to run. Where Chromium is there (CHROMIUM, or chromium in PATH), it
+# shows each of them without a screen, as NAME.png in the folder $1 (or in a new folder).
 set -euo pipefail
 cd "$(dirname "$0")/.."
 shown=${1:-$(mktemp -d)}
@@ -8,7 +9,7 @@ mkdir -p "$shown"
 folder=$(mktemp -d)
 trap 'rm -rf "$folder"' EXIT
 
-# So many rounds of the square: each node ticks, and then each frame goes twice over each link.
+# As many rounds of the square as $1 says, over the links $2: each node ticks, and then each frame goes twice over each link.
 square_rounds() {
     awk -v rounds="$1" -v links="$2" 'BEGIN {
         count = split(links, link, ",")
@@ -46,8 +47,12 @@ all="0 1,0 2,1 0,1 3,2 0,2 3,3 1,3 2"
 } > "$folder/scrambled-square"
 ./tokentree draw examples/square.toml "$folder/scrambled-square" > docs/scrambled-square.svg
 
+# A line of three: what its nodes did on threads in 3,000 turns each.
+./tokentree threads examples/line-of-three.toml 3000 --events "$folder/threads" > /dev/null
+./tokentree draw examples/line-of-three.toml "$folder/threads" > docs/threads.svg
+
 browser=${CHROMIUM:-$(command -v chromium || command -v chromium-browser || true)}
-for name in forged-tokens scrambled-square; do
+for name in forged-tokens scrambled-square threads; do
     echo "docs/$name.svg $(wc -c < "docs/$name.svg") bytes"
     if [ -n "$browser" ]; then
         "$browser" --headless --no-sandbox --disable-gpu --hide-scrollbars --window-size=1440,900 \
