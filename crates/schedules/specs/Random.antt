@@ -17,7 +17,7 @@ draw_link net g =
     let edge = get_or net.edges at.0 (0, 0) in
     (if way.0 == 0 then edge else (edge.1, edge.0), way.1)
 
--- an arrival on a link: of a hundred, so many are losses
+-- an arrival on a link: of a hundred, as many as `loss` says are losses
 abbrev pub draw_arrival : Network → ℕ → Lcg → Event × Lcg
 draw_arrival net loss g =
     let link = draw_link net g in

@@ -33,7 +33,7 @@ fn shorten<R: Files>(rt: &R, path: &str, most: u64) -> io::Result<()> {
     Ok(())
 }
 
-/// How many bytes a file of that length keeps, where it is cut to at most so many; none where it
+/// How many bytes a file of that length keeps, where it is cut to at most `most`; none where it
 /// stays as it is.
 fn cut_length(len: u64, most: u64) -> Option<u64>
     ensures { (bytes : List ℕ) → length bytes ≡ len → IsCutTo result bytes (take most bytes) }
