@@ -463,7 +463,7 @@ impl<D: Doors, S: Store + Drop, A: Allocator + Copy> NodeRun<D, S, A> {
     }
 }
 
-/// The memory of a node that runs in a network of so many nodes.
+/// The memory of a node that runs, in a network of a known number of nodes.
 type Reserved<P, A> = (Vec<NodePort<P>, A>, Lobby<P, A>, Clients<P, A>);
 
 /// Reserves the memory of a node that runs in a network of this many nodes.

@@ -43,7 +43,7 @@ piece_read bytes buffer n count k same few =
     sym (take_first k count buffer few) ∙ ap (take k) same ∙ take_first k count (drop n bytes) few in
     ap (λ xs. take n bytes ++ xs) first ∙ sym (take-add n k bytes)
 
--- so many bytes have been read, and then more
+-- some bytes have been read, and then more
 pub read_more : (bytes : List ℕ) (after : Option (List ℕ)) (n count : ℕ) → n ≤ length bytes → count ≤ length (drop n bytes) → after ≡ Some (drop count (drop n bytes))
     → (n + count ≤ length bytes) × (after ≡ Some (drop (n + count) bytes))
 read_more bytes after n count within more is = grind (arith, common_steps)

@@ -33,8 +33,8 @@ fn shorten<R: Files>(rt: &R, path: &str, most: u64) -> io::Result<()> {
     Ok(())
 }
 
-/// How many bytes a file of that length keeps, where it is cut to at most `most`; none where it
-/// stays as it is.
+/// How many bytes a file of that length keeps, where it is cut to `most` bytes at most; none where
+/// it stays as it is.
 fn cut_length(len: u64, most: u64) -> Option<u64>
     ensures { (bytes : List ℕ) → length bytes ≡ len → IsCutTo result bytes (take most bytes) }
 {

@@ -5,11 +5,11 @@ use Rattle.thread_net.specs.declared.runner.Runner.{Runner}
 use Rattle.thread_net.specs.Runner.{IsReady, Does, port_ids, round_room}
 use Rattle.thread_net.specs.Rounds.{AreRounds}
 
--- the runner is ready, with room for so many turns
+-- the runner is ready, with room for that number of turns
 abbrev pub MayRun : {A : Type 0} → ℕ → Runner A → Type 0
 MayRun turns r = IsReady r × (length r.journal.entries.items + turns * round_room r ≤ vec_capacity r.journal.entries)
 
--- it did so many rounds, and nothing else
+-- it did that number of rounds, and nothing else
 abbrev pub HasRun : {A : Type 0} → ℕ → Runner A → Runner A → Type 0
 HasRun turns was now =
     (deeds : List Deed) × Does deeds was now × AreRounds (port_ids was) turns deeds

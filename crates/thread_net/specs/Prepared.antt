@@ -8,7 +8,7 @@ use Rattle.thread_net.specs.Cables.{IsOver}
 use Rattle.thread_net.specs.Seats.{AreAtStart, nodes_of, total_room}
 use Rattle.thread_net.specs.Tables.{AreEmptySeats}
 
--- The runners are at the start of so many turns from the world, the links are the world's, and
+-- The runners are at the start of `turns` turns from the world, the links are the world's, and
 -- there is room for whatever comes back.
 pub record IsPrepared {A : Type 0} (w : World) (turns : ℕ) (p : Prepared A) : Type 0 where
   pub runners : AreAtStart w turns p.runners.items

@@ -38,7 +38,7 @@ abbrev pub total_room : ℕ → List NodeView → ℕ
 total_room turns [] = 0
 total_room turns (node ∷ nodes) = entry_room turns (degree_of node) + total_room turns nodes
 
--- there is room in the journal for so many turns
+-- there is room in the journal for that number of turns
 abbrev pub HasRoom : {A : Type 0} → ℕ → Seat A → Type 0
 HasRoom turns s = entry_room turns (degree_of s.1) ≤ vec_capacity s.3.entries
 

@@ -87,7 +87,7 @@ pub struct Trip {
 }
 
 impl Trip {
-    /// The call behind so many others fails.
+    /// The call behind that number of others fails.
     pub fn after(calls: u64) -> Trip {
         Trip {
             left: Cell::new(Some(calls)),

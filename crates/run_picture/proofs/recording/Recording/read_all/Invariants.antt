@@ -4,7 +4,7 @@ use Rattle.world.specs.Simulating.{longest_text}
 use Rattle.run_picture.specs.Recordings.{IsReading}
 use Rattle.run_picture.proofs.recording.Recording.read_all.Given as goal
 
--- so many bytes of the text may still come, and the others have been taken
+-- some bytes of the text may still come, and the others have been taken
 abbrev pub invariant-loop-count : goal.invariant-loop-count
 invariant-loop-count g l =
     (l.left ≤ longest_text)

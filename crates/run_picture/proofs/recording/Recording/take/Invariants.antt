@@ -3,7 +3,7 @@ use Rattle.run_model.specs.World.{World}
 use Rattle.run_picture.specs.Recordings.{IsReading}
 use Rattle.run_picture.proofs.recording.Recording.take.Given as goal
 
--- so many bytes of the piece have been taken
+-- the first bytes of the piece have been taken
 abbrev pub invariant-loop-at : goal.invariant-loop-at
 invariant-loop-at g l =
     (l.at ≤ length l.piece)
