@@ -36,7 +36,8 @@ no_newline = grind arith
 no_newline_not : ¬ HasNoNewline (newline ∷ [])
 no_newline_not = λ h. grind (arith, h)
 
--- with room for two bytes a line of two is kept whole; of one of three its first two are, and that there are more
+-- with room for two bytes a line of two is kept whole; of one of three its first two are, and that
+-- there are more
 kept-whole : kept 2 (codes "ab") ≡ record { first = codes "ab"; is_long = false }
 kept-whole = refl
 

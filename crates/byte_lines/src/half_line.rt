@@ -55,10 +55,13 @@ impl<const N: usize> HalfLine<N> {
     pub fn take<R: LineReading<N>>(&mut self, piece: &[u8], reading: &R) -> Taken<R::Read>
         ensures used { result.used ≤ length piece.now }
         ensures all { IfNone result.line (result.used ≡ length piece.now) }
+        // A line that ends takes its newline at least.
         ensures some { OnSome result.line (0 < result.used) }
+        // It keeps the half line that then stands at the end, and has read the line that ended.
         ensures reads { Reads N (R.reading reading.now) self.old self.new
             (take result.used piece.now)
             (option_to_list result.line) }
+        // The same, told of the whole text from its first byte on.
         ensures so_far { ReadsOn N (R.reading reading.now) self.old self.new
             (take result.used piece.now)
             (option_to_list result.line) }

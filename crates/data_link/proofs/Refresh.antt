@@ -1,4 +1,5 @@
--- On a stable link the staged payload comes to far's copy, and what is staged was handed in as present
+-- On a stable link the staged payload comes to far's copy, and what is staged was handed in as
+-- present
 use Rattle.std.proofs.Common.{◌≡◌, ◌≢◌, ℕ, ◌<◌, ◌⊎◌, inl, inr, suc, List, [], ◌∷◌, ◌++◌, map, Bool, true, IsTrue, refl, sym, ◌∙◌, ap, subst, append_assoc, arith}
 use Rattle.std.specs.List.{AllByRecursion}
 use Rattle.std.proofs.lemmas.Bool.{cases_eq}
@@ -182,7 +183,8 @@ module _ (good_front : GoodHasFront) (stable-event : (capacity : ℕ) (s : EdgeS
 
   -- ---- three sweeps
 
-  -- two sweeps, in which the staged payload becomes one that was handed in; one, in which it comes to far's copy; and what follows
+  -- two sweeps, in which the staged payload becomes one that was handed in; one, in which it comes
+  -- to far's copy; and what follows
   from_parts : (test : Payload → Bool) (capacity : ℕ) (s : EdgeState) (one two three rest : List EdgeEvent) → IsEdgeInRange capacity s → IsStable capacity s →
       IsSweep capacity s one → IsSweep capacity (edge_run capacity s one) two → IsSweep capacity (edge_run capacity (edge_run capacity s one) two) three →
       AllByRecursion (PresentPasses test) (one ++ two) → AllByRecursion (PresentPasses test) three → AllByRecursion (PresentPasses test) rest →

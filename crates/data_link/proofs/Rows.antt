@@ -27,7 +27,8 @@ frame n m p = record { seq = n; ack = m; payload = p }
 
 -- ---- ports
 
--- the number is acknowledged and goes round, the present payload is staged, and the new number is accepted
+-- the number is acknowledged and goes round, the present payload is staged, and the new number is
+-- accepted
 acknowledged_and_accepted : port_after 5 (port 4 1 old old) (frame 2 4 new) later ≡ port 0 2 later new
 acknowledged_and_accepted = refl
 
@@ -67,7 +68,8 @@ not_stable_payload h = let e : 0 ≡ 1 = ap (λ (p : Payload). p.distance) h.out
 not_stable_copy : IsStable 1 (edge 2 new 2 old [] []) → ⊥
 not_stable_copy h = let e : 2 ≡ 1 = ap (λ (p : Payload). p.distance) h.copied in omega (arith, e)
 
--- the sender's number moves by the acknowledgement, and the link is stable: the present payload is staged
+-- the sender's number moves by the acknowledgement, and the link is stable: the present payload is
+-- staged
 moved_once : moves_in 1 (edge 2 new 2 new [] []) (SendBack ∷ TakeBack later ∷ []) ≡ 1
 moved_once = refl
 

@@ -1,4 +1,5 @@
--- Six sweeps make a link stable: after two each number is one that near has had since; a move then leaves near's number fresh, and the next one mends the rest
+-- Six sweeps make a link stable: after two each number is one that near has had since; a move then
+-- leaves near's number fresh, and the next one mends the rest
 use Rattle.std.proofs.Common.{◌≡◌, ℕ, ◌+◌, ◌*◌, ◌<◌, ◌≤◌, ◌⊎◌, inl, inr, List, [], ◌∷◌, ◌++◌, sym, ◌∙◌, ap, subst, arith}
 use Rattle.std.proofs.lemmas.Bool.{cases_lt}
 use Rattle.std.proofs.lemmas.Grind.{common_steps}
@@ -53,7 +54,8 @@ module _ (of_start : AgeOfStart) (next : AgeGoesOn) where
   -- ---- two moves of near's number
 
   module _ (stays : GoodStays) (good_front : GoodHasFront) (fresh_front : FreshHasFront) (front : FrontStaysOrTurnsGood) (some_fresh : SomeValueIsFresh) where
-    -- where no number is further from `start` than near's: once near's has moved it is fresh, and once it has moved again the link is stable
+    -- where no number is further from `start` than near's: once near's has moved it is fresh, and
+    -- once it has moved again the link is stable
     two-moves : (capacity start m : ℕ) (s : EdgeState) (es : List EdgeEvent) → IsEdgeInRange capacity s → near_age capacity start s ≡ m
         → m + 1 < modulus_of capacity → AreKnown (IsWithin capacity start m) s → 2 ≤ moves_in capacity s es → IsStable capacity (edge_run capacity s es)
     two-moves capacity start m s [] r a l k two = absurd (omega arith)

@@ -66,7 +66,8 @@ accepted-after R q p (item.Frame f ∷ items) present h g = taken R q p f presen
 pub near-stays : (capacity : ℕ) (s : EdgeState) (e : EdgeEvent) → moves s e ≡ 0 → ((edge_step capacity s e).near.seq ≡ s.near.seq) × ((edge_step capacity s e).near.staged ≡ s.near.staged)
 near-stays capacity s e i = grind (arith, common_steps)
 
--- what holds of the staged payload under the number, and of all that is under way, holds after every event
+-- what holds of the staged payload under the number, and of all that is under way, holds after
+-- every event
 pub all-stays : (R : ℕ → Payload → Type 0) (capacity : ℕ) (s : EdgeState) (e : EdgeEvent) → R s.near.seq s.near.staged → OfAll R s → OfAll R (edge_step capacity s e)
 all-stays R capacity s SendOut n h = record { out = All-put (OfItem R) capacity s.out _ h.out n; accepted = h.accepted }
 all-stays R capacity s SendBack n h = record { out = h.out; accepted = h.accepted }

@@ -130,13 +130,16 @@ impl Port {
     /// Takes a frame from the neighbour. `present` is what the node has to say to the neighbour in
     /// the state *before* the frame: it is staged where the frame acknowledges the port's number.
     /// Then the frame is accepted where its number is not the last one.
+    #[inline(always)]
     pub fn on_frame(&mut self, frame: &Frame, present: Payload) -> Heard
         requires frame_fits { IsTrue (frame_fits self.old.ranges frame.now) }
         requires present_fits { IsTrue (payload_fits self.old.ranges present) }
+        // The port after the frame, by the rule; nothing else has changed.
         ensures port { self.new
             ≡ record self.old {
               state = port_after self.old.ranges.counter self.old.state frame.now present;
             } }
+        // The answer says whether the number moved and whether the frame was accepted.
         ensures heard { result ≡ heard_of self.old.state frame.now }
     {
         let moved = frame.ack == self.seq;
@@ -155,6 +158,7 @@ impl Port {
     /// Writes both numbers. `OutOfRange` comes exactly where one is not below the counters'
     /// modulus.
     pub fn set_counters(&mut self, seq: u16, last: u16) -> Result<(), OutOfRange>
+        // It is written exactly where it is in range.
         ensures variant { IsOk result ↔ IsTrue (counters_fit self.old.ranges seq last) }
         ensures ok { OnOk result (self.new
             ≡ record self.old { state = record self.old.state { seq = seq; last = last } }) }
@@ -171,6 +175,7 @@ impl Port {
     /// Writes the staged payload. `OutOfRange` comes exactly where a field of it is not in its
     /// range.
     pub fn set_staged(&mut self, payload: Payload) -> Result<(), OutOfRange>
+        // It is written exactly where it is in range.
         ensures variant { IsOk result ↔ IsTrue (payload_fits self.old.ranges payload) }
         ensures ok { OnOk result (self.new
             ≡ record self.old { state = record self.old.state { staged = payload } }) }
@@ -186,6 +191,7 @@ impl Port {
     /// Writes the copy of the neighbour's payload. `OutOfRange` comes exactly where a field of it
     /// is not in its range.
     pub fn set_copy(&mut self, payload: Payload) -> Result<(), OutOfRange>
+        // It is written exactly where it is in range.
         ensures variant { IsOk result ↔ IsTrue (payload_fits self.old.ranges payload) }
         ensures ok { OnOk result (self.new
             ≡ record self.old { state = record self.old.state { copy = payload } }) }

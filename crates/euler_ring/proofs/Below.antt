@@ -1,4 +1,5 @@
--- What is below a node on the tour: it follows stop by stop, along edges of the tree, and does not come to the root.
+-- What is below a node on the tour: it follows stop by stop, along edges of the tree, and does not
+-- come to the root.
 use Rattle.std.proofs.Common.{◌≡◌, ◌≢◌, ℕ, ◌+◌, ◌<◌, ◌≤◌, zero, suc, true, List, [], ◌∷◌, Some, None, inl, inr, refl, sym, ◌∙◌, ap, subst, arith, IsTrue}
 use Rattle.std.specs.List.{AllByRecursion}
 use Rattle.std.proofs.lemmas.Bool.{cases_eq}

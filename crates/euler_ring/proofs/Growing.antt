@@ -1,4 +1,5 @@
--- A mask that is made one neighbour after the other: its bits are those of the first k that pass a test.
+-- A mask that is made one neighbour after the other: its bits are those of the first k that pass a
+-- test.
 use Rattle.std.proofs.Common.{◌≡◌, ◌≢◌, ℕ, ◌+◌, ◌<◌, ◌⊎◌, Bool, true, false, List, length, Option, sym, ◌∙◌, ap, subst, arith, inl, inr, take, get_or, IsTrue, Contains}
 use Rattle.std.specs.Prelude.{filter}
 use Rattle.std.proofs.lemmas.Bool.{cases_eq}

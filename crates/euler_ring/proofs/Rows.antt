@@ -82,7 +82,8 @@ from_the_middle = refl
 from_the_end : tour (line_from 2) ≡ (1, 2) ∷ (2, 1) ∷ (1, 0) ∷ (0, 1) ∷ []
 from_the_end = refl
 
--- node 3 hangs below the root 2 and has the children 0, 1 and 4: after its parent come 4, then 0 and 1
+-- node 3 hangs below the root 2 and has the children 0, 1 and 4: after its parent come 4, then 0
+-- and 1
 abbrev bent : Network
 bent = record { nodes = 5; root = 2; capacity = 1; lease = 0; edges = (2, 3) ∷ (3, 1) ∷ (3, 4) ∷ (3, 0) ∷ [] }
 

@@ -69,6 +69,7 @@ pub fn without_lowest(ids: u64) -> u64
 pub fn with(ids: u64, id: u16) -> u64
     requires { id < 64 }
     ensures same { has_id result id ≡ true }
+    // Every other id is in it where it was.
     ensures others { (i : ℕ) → i < 64 → i ≢ id → has_id result i ≡ has_id ids i }
 {
     ids | 1 << id

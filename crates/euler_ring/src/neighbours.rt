@@ -51,6 +51,7 @@ impl TreeNeighbours {
     pub fn get(&self, i: usize) -> u16
         requires { i < length self.now }
         ensures item { slice_get self.now i ≡ Some result }
+        // It is a tree neighbour.
         ensures there { IsTrue (is_on self.now result) }
     {
         let mut rest = self.ids;
@@ -65,6 +66,7 @@ impl TreeNeighbours {
     pub fn next_after(&self, t: u16) -> u16
         requires { IsTrue (is_on self.now t) }
         ensures next { result ≡ next_after self.now t }
+        // It is a tree neighbour.
         ensures there { IsTrue (is_on self.now result) }
     {
         mask::lowest(mask::above(self.ids, t))
@@ -77,6 +79,7 @@ impl TreeNeighbours {
     pub fn source_for(&self, w: u16) -> u16
         requires { IsTrue (is_on self.now w) }
         ensures source { result ≡ source_for self.now w }
+        // It is a tree neighbour.
         ensures there { IsTrue (is_on self.now result) }
     {
         mask::highest(mask::below(self.ids, w))
@@ -118,7 +121,9 @@ pub fn tree_neighbours<F: Fn(u16) -> Option<u16>>(
 ) -> TreeNeighbours
     requires few { All (λ w. w < 64) neighbours.now }
     requires ascending { IsStrictlyIncreasing neighbours.now }
+    // The copied parent of each neighbour may be asked for.
     requires readable { (w : ℕ) → Contains neighbours.now w → F.pre copied_parent w }
+    // Whatever function of the neighbour the call computes.
     ensures found { (parent_of : ℕ → Option ℕ)
         → ((w : ℕ) (p : Option ℕ) → Contains neighbours.now w → F.post copied_parent w p
         → p ≡ parent_of w)

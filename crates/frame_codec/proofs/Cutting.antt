@@ -1,4 +1,5 @@
--- A text may be cut anywhere: its frames are those of the front, and then those of the back behind the front's half line.
+-- A text may be cut anywhere: its frames are those of the front, and then those of the back behind
+-- the front's half line.
 use Rattle.std.proofs.Common.{◌≡◌, ℕ, List, [], ◌∷◌, ◌++◌, refl, ap, sym, ◌∙◌, append_assoc}
 use Rattle.std.proofs.lemmas.List.Elements.{filter_map-append}
 use Rattle.std.specs.List.{concat}

@@ -45,8 +45,10 @@ fn digit_value(byte: u8) -> Option<u16>
 /// The number whose four digits stand from an index on; none where no number's do.
 pub fn number_at(line: &[u8], at: usize) -> Option<u16>
     requires { at + 4 ≤ length line.now }
+    // The four bytes are the digits of this number.
     ensures some { IfSome result (λ number. (take 4 (drop at line.now) ≡ digits number)
         × (number ≡ number_from line.now at)) }
+    // The four bytes are the digits of no number.
     ensures none { IfNone result ((number : ℕ) → take 4 (drop at line.now) ≢ digits number) }
 {
     let first = digit_value(line[at])?;

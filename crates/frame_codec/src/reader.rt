@@ -42,6 +42,7 @@ impl LineReader {
     pub fn push(&mut self, byte: u8, net: &Net) -> Option<Frame>
         ensures frames { ReadsFrames (ranges_of net.now) self.old self.new (byte ∷ [])
             (option_to_list result) }
+        // The same, told of the whole stream from its first byte on.
         ensures any_cutting { ReadsOn (ranges_of net.now) self.old self.new (byte ∷ [])
             (option_to_list result) }
     {
@@ -54,9 +55,12 @@ impl LineReader {
     /// it where none does: how many bytes it read, and the frame of that line.
     pub fn next_frame(&mut self, piece: &[u8], net: &Net) -> (usize, Option<Frame>)
         ensures used { result.0 ≤ length piece.now }
+        // Where no good line ends, the piece is read to its end.
         ensures all { IfNone result.1 (result.0 ≡ length piece.now) }
+        // The frames are those of the good lines that end in the bytes read: one, or none.
         ensures frames { ReadsFrames (ranges_of net.now) self.old self.new (take result.0 piece.now)
             (option_to_list result.1) }
+        // The same, told of the whole stream from its first byte on.
         ensures any_cutting { ReadsOn (ranges_of net.now) self.old self.new
             (take result.0 piece.now)
             (option_to_list result.1) }

@@ -52,7 +52,8 @@ not_parallel_two_places h = grind arith
 turns_good : Run 3 1 (0 ∷ 2 ∷ 0 ∷ []) (1 ∷ 0 ∷ 0 ∷ [])
 turns_good = Change_first Written (Move_first (Moved refl) Done)
 
--- two values are too few for four items: two head moves lead back to a ring that is not good, and so may the next two
+-- two values are too few for four items: two head moves lead back to a ring that is not good, and
+-- so may the next two
 half_round : (a b : ℕ) → root_moved a 2 ≡ b → Run 2 1 (a ∷ b ∷ a ∷ b ∷ []) (b ∷ a ∷ b ∷ a ∷ [])
 half_round a b e =
     let moved : Run 2 1 (a ∷ a ∷ b ∷ a ∷ []) (b ∷ a ∷ b ∷ a ∷ []) = rw (← e) (Move_first (Moved refl) Done) in
@@ -85,8 +86,8 @@ falling_turns_good =
     let two_equal : Run 7 1 (0 ∷ 0 ∷ 5 ∷ []) (1 ∷ 0 ∷ 0 ∷ []) = Change_first (Further Written) all_equal in
     Change_first Written two_equal
 
--- With two values for four items ages are of no use: within three head moves each item has become a copy of what the head held meanwhile, and the fourth move
--- leads to a ring that is not good.
+-- With two values for four items ages are of no use: within three head moves each item has become a
+-- copy of what the head held meanwhile, and the fourth move leads to a ring that is not good.
 copied_all : Run 2 3 (0 ∷ 1 ∷ 0 ∷ 1 ∷ []) (1 ∷ 0 ∷ 1 ∷ 0 ∷ [])
 copied_all = joined 2 too_few_values (half_round 0 1 refl)
 

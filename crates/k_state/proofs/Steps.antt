@@ -1,4 +1,5 @@
--- One step of the ring: what keeps a good ring good, what it makes of a front, which values stand in the ring, and when the head's stands nowhere else
+-- One step of the ring: what keeps a good ring good, what it makes of a front, which values stand
+-- in the ring, and when the head's stands nowhere else
 use Rattle.std.proofs.Common.{◌≡◌, ◌≢◌, ℕ, ◌+◌, ◌%◌, ◌<◌, ◌≤◌, ◌⊎◌, inl, inr, suc, List, [], ◌∷◌, length, refl, sym, ◌∙◌, ap, subst, arith}
 use Rattle.std.specs.List.{AllByRecursion}
 use Rattle.std.proofs.Math.Nat.{mod-lt, mod-add-mod, mod-eq_of_lt}

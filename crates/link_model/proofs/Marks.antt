@@ -1,4 +1,5 @@
--- A list whose items have their origins beside them: what is sent inside the stretch has P, and so has all behind it
+-- A list whose items have their origins beside them: what is sent inside the stretch has P, and so
+-- has all behind it
 use Rattle.std.proofs.Common.{◌≡◌, ℕ, ◌||◌, nat_lt, zero, suc, List, [], ◌∷◌, ◌++◌, length, drop, remove, map, Bool, true, false, cond, refl, ap, arith, length-append}
 use Rattle.std.specs.List.{AllByRecursion}
 use Rattle.link_model.specs.Acts.{put_last, LinkAct, Puts, Takes, Loses, Rests, list_after, Origin, Before, Sent, takes_sent}
@@ -92,7 +93,8 @@ marked-taken P Takes (Before ∷ os) xs t m = absurd cc
 marked-taken P Takes (Sent i ∷ os) [] t m = absurd m
 marked-taken P Takes (Sent i ∷ os) (x ∷ xs) t m = (refl, (m.0, m.1))
 
--- either the first act of a stretch takes an item that was sent inside it, or the rest of the stretch does
+-- either the first act of a stretch takes an item that was sent inside it, or the rest of the
+-- stretch does
 pub by_taken : {P : Type 0} (taken rest : Bool) → (taken || rest) ≡ true → (taken ≡ true → P) → (taken ≡ false → rest ≡ true → P) → P
 by_taken true rest h t f = t refl
 by_taken false rest h t f = f refl h

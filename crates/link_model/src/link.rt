@@ -81,6 +81,7 @@ impl<A: Allocator> Link<A> {
 
     /// Puts an item last. A full link stays as it is: the item is dropped, and none is overwritten.
     pub fn put(&mut self, item: Item) -> Result<(), Full>
+        // A full link refuses, and no other does.
         ensures variant { IsOk result ↔ (length self.old.items < self.old.capacity) }
         ensures ok { OnOk result (self.new ≡ link self.old.capacity (self.old.items ++ item ∷ [])) }
         ensures full { OnErr result (self.new ≡ self.old) }
@@ -93,6 +94,7 @@ impl<A: Allocator> Link<A> {
 
     /// Takes the oldest item.
     pub fn take(&mut self) -> Option<Item>
+        // The item stood in front of all that are left.
         ensures some { IfSome result (λ item. self.old
             ≡ link self.new.capacity (item ∷ self.new.items)) }
         ensures none { IfNone result ((self.old.items ≡ []) × (self.new ≡ self.old)) }
@@ -103,6 +105,7 @@ impl<A: Allocator> Link<A> {
     /// Loses the item at an index, where 0 is the oldest; the others keep their order.
     /// Each item is taken from the front once, and all but the lost one are put at the back again.
     pub fn lose(&mut self, index: usize) -> Result<(), NoItem>
+        // There is an item to lose exactly where the index is below their number.
         ensures variant { IsOk result ↔ (index < length self.old.items) }
         ensures ok { OnOk result (self.new ≡ link self.old.capacity (remove self.old.items index)) }
         ensures no_item { OnErr result (self.new ≡ self.old) }

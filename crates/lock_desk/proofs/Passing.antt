@@ -1,4 +1,5 @@
--- A full tick with privilege, while somebody waits, is one of a desk that had served, or one that ended a loan.
+-- A full tick with privilege, while somebody waits, is one of a desk that had served, or one that
+-- ended a loan.
 use Rattle.std.proofs.Common.{◌≡◌, ◌⊎◌, ℕ, ◌<◌, true, false, length, Option, Some, None, refl, inl, inr, arith}
 use Rattle.std.proofs.lemmas.Grind.{common_steps}
 use Rattle.std.proofs.lemmas.Bool.Decides.{nat_tests}

@@ -30,8 +30,8 @@ fits-loan : desk_fits 3 (loan 3 (8 ∷ [])) ≡ true
 unfolding loan
 fits-loan = refl
 
--- out of range: 65 who wait; a ticket that waits twice; a borrower that waits; more left than the lease; something left of no
--- loan; a number that is no ticket
+-- out of range: 65 who wait; a ticket that waits twice; a borrower that waits; more left than the
+-- lease; something left of no loan; a number that is no ticket
 fits_not-65 : desk_fits 0 (queue (range_with_len 0 65)) ≡ false
 unfolding queue
 fits_not-65 = refl
@@ -107,7 +107,8 @@ ends : desk_ticked 0 false (loan 0 (8 ∷ [])) ≡ queue (8 ∷ [])
 unfolding loan queue
 ends = refl
 
--- a desk that has served lends to nobody in its next tick, though it is privileged and somebody waits; then it may
+-- a desk that has served lends to nobody in its next tick, though it is privileged and somebody
+-- waits; then it may
 waits_once : desk_ticked 0 true (record (queue (7 ∷ [])) { served = true }) ≡ queue (7 ∷ [])
 unfolding queue
 waits_once = refl
@@ -120,7 +121,8 @@ lost : desk_act (loan 0 []) (desk_ticked 0 false (loan 0 [])) ≡ Lost 7
 unfolding loan
 lost = refl
 
--- a desk that neither lends nor has served does begin a loan, so the law of one loan a stay needs its premise
+-- a desk that neither lends nor has served does begin a loan, so the law of one loan a stay needs
+-- its premise
 begins : begins_loan 0 (Ticks true) (queue (7 ∷ [])) ≡ true
 unfolding queue
 begins = refl

@@ -112,6 +112,7 @@ impl<A: Allocator> Desk<A> {
     /// whichever they are, and else as `Twice` where this one waits or the lock is lent to it; then
     /// nothing has changed.
     pub fn ask(&mut self, ticket: u16) -> Result<(), AskFault>
+        // It is accepted exactly where nothing forbids it; else the first fault is told.
         ensures accepted { OnOk result (ask_fault ticket self.old.state ≡ None) }
         ensures asked { OnOk result (self.new
             ≡ record self.old { state = asked ticket self.old.state }) }
@@ -133,6 +134,7 @@ impl<A: Allocator> Desk<A> {
     pub fn leave(&mut self, ticket: u16) -> Result<(), Stranger>
         ensures gone { OnOk result (self.new
             ≡ record self.old { state = after_leave ticket self.old.state }) }
+        // Exactly a stranger, who neither waits nor borrows, is refused.
         ensures known { OnOk result (is_stranger ticket self.old.state ≡ false) }
         ensures refused { OnErr result (is_stranger ticket self.old.state ≡ true) }
         ensures unchanged { OnErr result (self.new ≡ self.old) }
@@ -165,6 +167,7 @@ impl<A: Allocator> Desk<A> {
     pub fn tick(&mut self, privileged: bool) -> DeskAct
         ensures ticked { self.new
             ≡ record self.old { state = desk_ticked self.old.lease privileged self.old.state } }
+        // What the tick did to the loan is seen from the states before and after it.
         ensures act { result ≡ desk_act self.old.state self.new.state }
     {
         let before = self.lent;
@@ -211,6 +214,7 @@ impl<A: Allocator> Desk<A> {
     pub fn set_loan(&mut self, lent: Option<u16>, left: u16, served: bool) -> Result<(), OutOfRange>
         ensures written { OnOk result (self.new
             ≡ record self.old { state = with_loan self.old.state lent left served }) }
+        // It is written exactly where the desk may hold it.
         ensures fits { OnOk result (IsTrue (loan_fits self.old.lease self.old.state lent left)) }
         ensures refused { OnErr result (loan_fits self.old.lease self.old.state lent left ≡ false) }
         ensures unchanged { OnErr result (self.new ≡ self.old) }
@@ -229,6 +233,7 @@ impl<A: Allocator> Desk<A> {
     pub fn set_waiting(&mut self, tickets: &[u16]) -> Result<(), OutOfRange>
         ensures written { OnOk result (self.new
             ≡ record self.old { state = with_queue self.old.state tickets.now }) }
+        // It is written exactly where the desk may hold it.
         ensures fits { OnOk result (IsTrue (queue_fits tickets.now self.old.state.lent)) }
         ensures refused { OnErr result (queue_fits tickets.now self.old.state.lent ≡ false) }
         ensures unchanged { OnErr result (self.new ≡ self.old) }

@@ -50,7 +50,8 @@ pub not_yet : (ns : List ℕ) (q : ℕ → Bool) (m x now : ℕ → ℕ) (k t : 
     → ((i : ℕ) → now i ≡ moved_at (take k ns) q m x i) → now t ≡ x t
 not_yet ns q m x now k t up within is before = grind (arith, common_steps, before t, not_before ns k up within)
 
--- the registers when the first k neighbours had their turn: of the old ones only values have changed, those of machines that might move
+-- the registers when the first k neighbours had their turn: of the old ones only values have
+-- changed, those of machines that might move
 pub record IsMovedUpTo (old now : RegistersView) (tree : List ℕ) (chosen : Option ℕ) (k : ℕ) : Type 0 where
   pub rest : now ≡ record old { values = now.values }
   pub values : (t : ℕ) → value_of now t ≡ moved_at (take k old.neighbours) (λ u. is_on tree u && machine_may_move old chosen u) (machine_moved old chosen) (value_of old) t

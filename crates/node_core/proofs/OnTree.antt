@@ -1,7 +1,8 @@
 -- A test on the tree neighbours is a test on all neighbours.
-use Rattle.std.proofs.Common.{◌≡◌, ℕ, Bool, true, false, ◌&&◌, IsTrue, List, Contains, refl, sym, ◌∙◌, ◌==◌, subst, get_or, take, ◌<◌, ◌≤◌, length}
+use Rattle.std.proofs.Common.{◌≡◌, ℕ, Bool, true, false, ◌&&◌, IsTrue, List, [], ◌∷◌, filter, Contains, arith, refl, sym, ◌∙◌, ◌==◌, subst, get_or, take, ◌<◌, ◌≤◌, length}
 use Rattle.std.specs.List.{list_any}
 use Rattle.std.proofs.lemmas.Bool.{eq-eqb, eqb-true}
+use Rattle.std.proofs.lemmas.Bool.Decides.{nat_tests}
 use Rattle.std.proofs.lemmas.List.{take_all}
 use Rattle.std.proofs.lemmas.List.Folds.{Any-from_list_any, list_any_at}
 use Rattle.euler_ring.specs.Cycle.{is_on}
@@ -15,6 +16,11 @@ same_test false false f g = refl
 -- what stands at a place is on the list
 pub on-from_Contains : (ts : List ℕ) (t : ℕ) → Contains ts t → is_on ts t ≡ true
 on-from_Contains ts t (k, within, is) = list_any_at (λ u. u == t) ts k t within (eq-eqb (get_or ts k t) t is)
+
+-- what fails the test is not on the list of those that pass it
+pub not_on : (q : ℕ → Bool) (ns : List ℕ) (w : ℕ) → q w ≡ false → is_on (filter q ns) w ≡ false
+not_on q [] w fails = refl
+not_on q (n ∷ ns) w fails = grind (arith, nat_tests, not_on q ns w fails)
 
 -- and what is on the list stands at a place
 pub Contains-from_on : (ts : List ℕ) (t : ℕ) → is_on ts t ≡ true → Contains ts t
@@ -53,3 +59,19 @@ none_on ts ns q k inside past none =
     let whole : take k ns ≡ ns = take_all k ns past in
     let found : list_any (λ w. is_on ts w && q w) ns ≡ false = rw whole at none in
     sym found ∙ any_on ts ns q inside
+
+-- a test of each neighbour that passes another test is one of those that pass it
+pub any_passing : (p q : ℕ → Bool) (ns : List ℕ) → list_any (λ w. p w && q w) ns ≡ list_any q (filter p ns)
+any_passing p q [] = refl
+any_passing p q (n ∷ ns) = grind (arith, nat_tests, any_passing p q ns)
+
+pub one_passing : (p q : ℕ → Bool) (ns : List ℕ) (k : ℕ) → k < length ns → true ≡ (p (get_or ns k 0) && q (get_or ns k 0))
+    → true ≡ list_any q (filter p ns)
+one_passing p q ns k within passes = sym (list_any_at (λ w. p w && q w) ns k 0 within (sym passes)) ∙ any_passing p q ns
+
+pub none_passing : (p q : ℕ → Bool) (ns : List ℕ) (k : ℕ) → length ns ≤ k → list_any (λ w. p w && q w) (take k ns) ≡ false
+    → false ≡ list_any q (filter p ns)
+none_passing p q ns k past none =
+    let whole : take k ns ≡ ns = take_all k ns past in
+    let found : list_any (λ w. p w && q w) ns ≡ false = rw whole at none in
+    sym found ∙ any_passing p q ns

@@ -56,7 +56,8 @@ nothing_moves = refl
 tree_of_root : tree_of near (root_with 3 3) ≡ 1 ∷ []
 tree_of_root = refl
 
--- the root's machine may move where it sees its own value, and goes on by one; the child's where it sees another
+-- the root's machine may move where it sees its own value, and goes on by one; the child's where it
+-- sees another
 root_may : is_node_privileged near (root_with 3 3) ≡ true
 root_may = refl
 
@@ -89,7 +90,8 @@ lending_stays = refl
 lending_lends : (ticked near (asked_for (root_with 3 3))).desk.lent ≡ Some 9
 lending_lends = refl
 
--- distance and parent are made anew in a tick: a child that believed in the distance 2 and no parent
+-- distance and parent are made anew in a tick: a child that believed in the distance 2 and no
+-- parent
 child_finds_its_way : (ticked far (record (child_with 0 0) { distance = 2; parent = None })).distance ≡ 1
 child_finds_its_way = refl
 
@@ -116,7 +118,8 @@ frame_is_copied = refl
 frame_out_of_range_changes_nothing : taken far 0 (item.Frame (frame_with 3)) (child_with 3 4) ≡ child_with 3 4
 frame_out_of_range_changes_nothing = refl
 
--- a child that loses its only neighbour drops the value from there, and still names it as its parent; one that gets another keeps it
+-- a child that loses its only neighbour drops the value from there, and still names it as its
+-- parent; one that gets another keeps it
 value_dropped : (rewired (ranges_of two) (0 ∷ []) [] (child_with 3 4)).value 0 ≡ 0
 value_dropped = refl
 

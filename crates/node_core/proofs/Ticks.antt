@@ -1,4 +1,5 @@
--- A tick of the code is a tick: what the desk and the machines made of a node is what the definition says.
+-- A tick of the code is a tick: what the desk and the machines made of a node is what the
+-- definition says.
 use Rattle.std.proofs.Common.{◌≡◌, ◌∙◌, ℕ, Bool, true, false, ◌&&◌, List, is_none, refl, sym, ap, if◌then◌else◌}
 use Rattle.std.specs.List.{list_any}
 use Rattle.lock_desk.specs.Desk.{desk_ticked}

@@ -19,7 +19,7 @@ ghost use Rattle.node_core.specs.Rewire.{rewired};
 ghost use Rattle.node_core.specs.Status.{status_line};
 ghost use Rattle.node_core.specs.View.{NodeView, site_in, state_of};
 
-use crate::machines::{move_machines, ring_for, some_may_move, tree};
+use crate::machines::{move_machines, ring_towards, some_may_copy, some_may_move, tree};
 use crate::own::new_own;
 use crate::status::{push_number, push_number_or_none};
 use crate::ticked::Ticked;
@@ -235,6 +235,7 @@ impl<A: Allocator> Node<A> {
     pub fn frame_for(&self, port: u16) -> Frame
         requires { port < (site_in self.now).ranges.nodes }
         ensures frame { result ≡ frame_of ((state_of self.now).port port) }
+        // Every field of it is in its range.
         ensures fits { IsTrue (frame_fits (site_in self.now).ranges result) }
     {
         self.registers.frame_for(port)
@@ -243,12 +244,14 @@ impl<A: Allocator> Node<A> {
     /// A client's ticket asks for the lock. Refused as `Full` where 64 tickets wait, and else as
     /// `Twice` where this one waits or the lock is lent to it; then nothing has changed.
     pub fn ask(&mut self, ticket: u16) -> Result<(), AskFault>
+        // It is accepted exactly where nothing forbids it; else the first fault is told.
         ensures accepted { OnOk result (ask_fault ticket (state_of self.old).desk ≡ None) }
         ensures asked { OnOk result (state_of self.new
             ≡ record (state_of self.old) { desk = asked ticket (state_of self.old).desk }) }
         ensures refused { IfErr result (λ fault. ask_fault ticket (state_of self.old).desk
             ≡ Some fault) }
         ensures unchanged { OnErr result (self.new ≡ self.old) }
+        // A node keeps its place in the network, whatever it is asked.
         ensures site { site_in self.new ≡ site_in self.old }
     {
         self.desk.ask(ticket)
@@ -257,6 +260,7 @@ impl<A: Allocator> Node<A> {
     /// A client's ticket gives the lock back, or waits no longer. Refused where it does neither;
     /// then nothing has changed.
     pub fn leave(&mut self, ticket: u16) -> Result<(), Stranger>
+        // Exactly a stranger, who neither waits nor borrows, is refused.
         ensures known { OnOk result (is_stranger ticket (state_of self.old).desk ≡ false) }
         ensures left { OnOk result (state_of self.new
             ≡ record (state_of self.old) { desk = after_leave ticket (state_of self.old).desk }) }
@@ -270,6 +274,7 @@ impl<A: Allocator> Node<A> {
     /// Writes the distance and the parent. `OutOfRange` comes exactly where the distance is above
     /// the number of nodes, or the parent is no node; then nothing has changed.
     pub fn set_own(&mut self, distance: u16, parent: Option<u16>) -> Result<(), OutOfRange>
+        // It is written exactly where it is in range, and then nothing else has changed.
         ensures variant { IsOk result
             ↔ IsTrue (own_fits (site_in self.old).ranges distance parent) }
         ensures ok { OnOk result (state_of self.new
@@ -290,6 +295,7 @@ impl<A: Allocator> Node<A> {
     /// below the counters' modulus; then nothing has changed.
     pub fn set_counters(&mut self, port: u16, seq: u16, last: u16) -> Result<(), OutOfRange>
         requires { Contains (site_in self.old).neighbours port }
+        // It is written exactly where it is in range, and then nothing else has changed.
         ensures variant { IsOk result ↔ IsTrue (counters_fit (site_in self.old).ranges seq last) }
         ensures ok { OnOk result (state_of self.new
             ≡ with_port (state_of self.old) port
@@ -304,6 +310,7 @@ impl<A: Allocator> Node<A> {
     /// of it is not in its range; then nothing has changed.
     pub fn set_staged(&mut self, port: u16, payload: Payload) -> Result<(), OutOfRange>
         requires { Contains (site_in self.old).neighbours port }
+        // It is written exactly where it is in range, and then nothing else has changed.
         ensures variant { IsOk result ↔ IsTrue (payload_fits (site_in self.old).ranges payload) }
         ensures ok { OnOk result (state_of self.new
             ≡ with_port (state_of self.old) port
@@ -318,6 +325,7 @@ impl<A: Allocator> Node<A> {
     /// field of it is not in its range; then nothing has changed.
     pub fn set_copy(&mut self, port: u16, payload: Payload) -> Result<(), OutOfRange>
         requires { Contains (site_in self.old).neighbours port }
+        // It is written exactly where it is in range, and then nothing else has changed.
         ensures variant { IsOk result ↔ IsTrue (payload_fits (site_in self.old).ranges payload) }
         ensures ok { OnOk result (state_of self.new
             ≡ with_port (state_of self.old) port
@@ -332,6 +340,7 @@ impl<A: Allocator> Node<A> {
     /// exactly where it is not below the ring values' modulus; then nothing has changed.
     pub fn set_value(&mut self, port: u16, value: u16) -> Result<(), OutOfRange>
         requires { Contains (site_in self.old).neighbours port }
+        // It is written exactly where it is in range, and then nothing else has changed.
         ensures variant { IsOk result ↔ (value < (site_in self.old).ranges.ring) }
         ensures ok { OnOk result (state_of self.new
             ≡ record (state_of self.old) { value = at (state_of self.old).value port value }) }
@@ -344,6 +353,7 @@ impl<A: Allocator> Node<A> {
     /// Writes the loan. `OutOfRange` comes exactly where its ticket waits, where more is left than
     /// the lease, or where anything is left of no loan; then nothing has changed.
     pub fn set_desk(&mut self, lent: Option<u16>, left: u16, served: bool) -> Result<(), OutOfRange>
+        // It is written exactly where it is in range, and then nothing else has changed.
         ensures variant { IsOk result
             ↔ IsTrue (loan_fits (site_in self.old).lease (state_of self.old).desk lent left) }
         ensures ok { OnOk result (state_of self.new
@@ -363,6 +373,7 @@ impl<A: Allocator> Node<A> {
     /// more than 64, where one stands twice, or where one of them borrows; then nothing has
     /// changed.
     pub fn set_waiting(&mut self, tickets: &[u16]) -> Result<(), OutOfRange>
+        // It is written exactly where it is in range, and then nothing else has changed.
         ensures variant { IsOk result
             ↔ IsTrue (queue_fits tickets.now (state_of self.old).desk.lent) }
         ensures ok { OnOk result (state_of self.new
@@ -380,14 +391,14 @@ impl<A: Allocator> Node<A> {
 
     /// What the node has to say to `port` now.
     fn payload_for(&self, port: u16) -> Payload
+        requires { port < (site_in self.now).ranges.nodes }
         ensures payload { result ≡ payload_for (site_in self.now) (state_of self.now) port }
         ensures fits { IsTrue (payload_fits (site_in self.now).ranges result) }
     {
-        let tree = tree(&self.registers, self.parent, self.id);
         Payload {
             distance: self.distance,
             parent: self.parent,
-            ring: ring_for(&self.registers, &tree, port),
+            ring: ring_towards(&self.registers, self.parent, self.id, port),
         }
     }
 
@@ -395,8 +406,10 @@ impl<A: Allocator> Node<A> {
     /// field out of its range. Of any other frame, what the node had to say *before* it is staged
     /// where the frame acknowledges the port's number; then its payload is copied where its number
     /// is new. No other port changes.
+    #[inline(always)]
     pub fn take(&mut self, port: u16, item: &Item)
         requires { Contains (site_in self.old).neighbours port }
+        // The state is that of the rule for a taken item, which says also what noise does.
         ensures state { state_of self.new
             ≡ taken (site_in self.old) port item.now (state_of self.old) }
         ensures site { site_in self.new ≡ site_in self.old }
@@ -407,8 +420,13 @@ impl<A: Allocator> Node<A> {
         if !self.registers.ranges().fits(frame) {
             return;
         }
-        let present = self.payload_for(port);
-        let _heard = self.registers.hear(port, frame, present);
+        if frame.ack == self.registers.seq(port) {
+            let present = self.payload_for(port);
+            let _heard = self.registers.hear(port, frame, present);
+        } else {
+            // Nothing is staged, so what it has to say is no matter.
+            let _heard = self.registers.hear(port, frame, frame.payload);
+        }
     }
 
     /// Takes up the neighbours that it has in a network with the same nodes, root, capacity and
@@ -429,9 +447,13 @@ impl<A: Allocator> Node<A> {
     }
 
     /// Whether one of its machines may move.
+    #[inline(never)]
     pub fn privileged(&self) -> bool
         ensures { result ≡ is_node_privileged (site_in self.now) (state_of self.now) }
     {
+        if !self.is_root {
+            return some_may_copy(&self.registers, self.parent, self.id);
+        }
         let tree = tree(&self.registers, self.parent, self.id);
         some_may_move(&self.registers, &tree, self.is_root)
     }
@@ -469,10 +491,14 @@ impl<A: Allocator> Node<A> {
 
     /// One tick, in this order: distance and parent follow from the copies; the desk ends a loan or
     /// begins one; and where it then lends to nobody, each machine that may move does.
+    #[inline(never)]
     pub fn tick(&mut self) -> Ticked
+        // The state is that of the rule for a tick.
         ensures state { state_of self.new ≡ ticked (site_in self.old) (state_of self.old) }
         ensures site { site_in self.new ≡ site_in self.old }
+        // What became of the loan, as it is seen from the desk before and after the tick.
         ensures act { result.act ≡ desk_act (state_of self.old).desk (state_of self.new).desk }
+        // The tick is a full one exactly where the node lends to nobody behind it.
         ensures full { result.full ≡ is_none (state_of self.new).desk.lent }
     {
         self.recompute();
@@ -484,6 +510,7 @@ impl<A: Allocator> Node<A> {
     /// L waiting W`: T is `yes` where the node is privileged and else `no`, P and L may be `none`.
     pub fn status(&self, line: &mut [u8; 96]) -> usize
         ensures text { take result line.new ≡ status_line (site_in self.now) (state_of self.now) }
+        // Behind the line nothing is written.
         ensures rest { drop result line.new ≡ drop result line.old }
         ensures within { result ≤ 96 }
     {

@@ -10,6 +10,7 @@ use itoa::Buffer;
 pub fn push_number(text: &mut ArrayString<96>, name: &str, number: u16)
     requires { array_string_len text.old + length name.now + 5 ≤ 96 }
     ensures bytes { text.new.bytes ≡ text.old.bytes ++ name.now ++ decimal number }
+    // A number below 65536 has at most 5 digits.
     ensures short { array_string_len text.new ≤ array_string_len text.old + length name.now + 5 }
 {
     text.push_str(name);
@@ -21,6 +22,7 @@ pub fn push_number(text: &mut ArrayString<96>, name: &str, number: u16)
 pub fn push_number_or_none(text: &mut ArrayString<96>, name: &str, number: Option<u16>)
     requires { array_string_len text.old + length name.now + 5 ≤ 96 }
     ensures bytes { text.new.bytes ≡ text.old.bytes ++ name.now ++ number_or_none number }
+    // A number below 65536 has at most 5 digits, and `none` has 4.
     ensures short { array_string_len text.new ≤ array_string_len text.old + length name.now + 5 }
 {
     match number {

@@ -1,5 +1,5 @@
--- Small examples of each rule, and ones that fail. Times are microseconds; a frame is repeated after
--- 8,000, and a hold lasts 2,000.
+-- Small examples of each rule, and ones that fail. Times are microseconds; a frame is repeated
+-- after 8,000, and a hold lasts 2,000.
 use Rattle.std.proofs.Common.{◌≡◌, ℕ, true, false, Some, refl}
 use Rattle.topology.specs.declared.frame.Payload.{Payload}
 use Rattle.topology.specs.declared.frame.Frame.{Frame}
@@ -92,7 +92,8 @@ owes_not-answered : (given_port (framed 5) 10001 (heard_port (framed 9) (heard_p
 unfolding seeing framed saying given_once
 owes_not-answered = refl
 
--- the second equal frame is a question, the third nothing, the fourth a call; another one starts anew
+-- the second equal frame is a question, the third nothing, the fourth a call; another one starts
+-- anew
 hears : hearing_of 1 ≡ hearing.Frame
 hears = refl
 

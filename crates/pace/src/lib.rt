@@ -30,6 +30,6 @@ mod node;
 mod pace;
 mod port;
 
-pub use node::Outlook;
-pub use pace::{Manner, Pace, Plan};
-pub use port::{Hearing, PortSight};
+pub use node::{NodePace, Outlook};
+pub use pace::{Manner, PORTS, Pace, Plan};
+pub use port::{Hearing, PortPace, PortSight};

@@ -33,17 +33,18 @@ pub struct Outlook {
     pub let_go: bool,
 }
 
-/// What a node remembers of its own haste. Times are microseconds.
+/// What a node remembers of its own haste. Times are microseconds. Whatever stands here, a pace goes
+/// by it, and loses no more than time.
 #[derive(Clone, Copy, Debug, PartialEq, Eq)]
 pub struct NodePace {
     /// Until when it keeps the news of its machines to itself.
-    hold_until: u64,
+    pub hold_until: u64,
     /// How many moves of its machines are still to be hasty.
-    credit: u32,
+    pub credit: u32,
     /// When it was last called, or called itself.
-    called_at: u64,
+    pub called_at: u64,
     /// When it ticked last.
-    ticked_at: u64,
+    pub ticked_at: u64,
 }
 
 impl NodePace {

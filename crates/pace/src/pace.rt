@@ -66,6 +66,18 @@ impl Pace {
         }
     }
 
+    /// A node that remembers this, whatever it is: by the port's number, what was given and heard
+    /// there.
+    pub fn remembering(manner: Manner, node: NodePace, ports: [PortPace; PORTS]) -> Pace
+        ensures { (result.manner ≡ manner) × (result.node ≡ node) × (result.ports ≡ ports) }
+    {
+        Pace {
+            manner,
+            node,
+            ports,
+        }
+    }
+
     /// A port has a new connection: what was given and heard there counts for nothing.
     pub fn attached(&mut self, port: usize)
         requires { port < 64 }

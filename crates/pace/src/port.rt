@@ -36,20 +36,24 @@ pub enum Hearing {
     Call,
 }
 
-/// What was given and heard at one port.
+/// What was given and heard at one port. Whatever stands here, a pace goes by it, and loses no more
+/// than time.
 #[derive(Clone, Copy, Debug, PartialEq, Eq)]
 pub struct PortPace {
-    /// The frame given last, how many times in a row, and when.
-    given: Option<Frame>,
-    given_times: u32,
-    given_at: u64,
-    /// The frame heard last, and how many times in a row.
-    heard: Option<Frame>,
-    heard_times: u32,
+    /// The frame given last.
+    pub given: Option<Frame>,
+    /// How many times in a row it was given.
+    pub given_times: u32,
+    /// When it was given last, in microseconds.
+    pub given_at: u64,
+    /// The frame heard last.
+    pub heard: Option<Frame>,
+    /// How many times in a row it was heard.
+    pub heard_times: u32,
     /// Whether an answer is owed.
-    owes: bool,
+    pub owes: bool,
     /// Whether a call is to be passed on.
-    calls: bool,
+    pub calls: bool,
 }
 
 impl PortPace {

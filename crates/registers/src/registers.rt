@@ -62,6 +62,7 @@ impl<A: Allocator + Copy> Registers<A> {
         requires { id < net.now.nodes }
         ensures ranges { IfOk result (λ r. r.ranges ≡ ranges_of net.now) }
         ensures neighbours { IfOk result (λ r. r.neighbours ≡ neighbours_of net.now id) }
+        // Each port is as a port starts, also one of a node that is no neighbour.
         ensures ports { IfOk result (λ r. port_of r ≡ (λ w. default_port (ranges_of net.now))) }
         ensures values { IfOk result (λ r. value_of r ≡ (λ w. 0)) }
     {
@@ -81,6 +82,7 @@ impl<A: Allocator> Registers<A> {
     /// The ranges of all fields, those of the network.
     pub fn ranges(&self) -> Ranges
         ensures ranges { result ≡ self.now.ranges }
+        // All that holds of registers: one port and one value a node, all in range.
         ensures registers { IsRegisters self.now }
     {
         self.ranges
@@ -130,6 +132,7 @@ impl<A: Allocator> Registers<A> {
     pub fn copy_of(&self, port: u16) -> Payload
         requires { port < self.now.ranges.nodes }
         ensures copy { result ≡ (port_of self.now port).copy }
+        // Every field of it is in its range.
         ensures fits { IsTrue (payload_fits self.now.ranges result) }
     {
         self.ports[port as usize].copy()
@@ -139,6 +142,7 @@ impl<A: Allocator> Registers<A> {
     pub fn value(&self, port: u16) -> u16
         requires { port < self.now.ranges.nodes }
         ensures value { result ≡ value_of self.now port }
+        // It is below the modulus of the ring values.
         ensures below { result < self.now.ranges.ring }
     {
         self.values[port as usize]
@@ -148,6 +152,7 @@ impl<A: Allocator> Registers<A> {
     pub fn frame_for(&self, port: u16) -> Frame
         requires { port < self.now.ranges.nodes }
         ensures frame { result ≡ frame_of (port_of self.now port) }
+        // Every field of it is in its range.
         ensures fits { IsTrue (frame_fits self.now.ranges result) }
     {
         self.ports[port as usize].frame()
@@ -155,6 +160,7 @@ impl<A: Allocator> Registers<A> {
 
     /// Takes a frame from the neighbour `port`; `present` is what the node had to say to it before
     /// the frame. No other port changes.
+    #[inline(always)]
     pub fn hear(&mut self, port: u16, frame: &Frame, present: Payload) -> Heard
         requires neighbour { Contains self.old.neighbours port }
         requires frame_fits { IsTrue (frame_fits self.old.ranges frame.now) }
@@ -162,6 +168,7 @@ impl<A: Allocator> Registers<A> {
         ensures port { port_of self.new
             ≡ at (port_of self.old) port
             (port_after self.old.ranges.counter (port_of self.old port) frame.now present) }
+        // Neighbours, ranges and values stay.
         ensures rest { self.new ≡ record self.old { ports = self.new.ports } }
         ensures heard { result ≡ heard_of (port_of self.old port) frame.now }
     {
@@ -175,6 +182,7 @@ impl<A: Allocator> Registers<A> {
         requires neighbour { Contains self.old.neighbours port }
         requires below { value < self.old.ranges.ring }
         ensures value { value_of self.new ≡ at (value_of self.old) port value }
+        // Neighbours, ranges and ports stay.
         ensures rest { self.new ≡ record self.old { values = self.new.values } }
     {
         self.values[port as usize] = value;
@@ -184,8 +192,10 @@ impl<A: Allocator> Registers<A> {
     /// exactly where it is not below the ring values' modulus.
     pub fn set_value(&mut self, port: u16, value: u16) -> Result<(), OutOfRange>
         requires { Contains self.old.neighbours port }
+        // It is written exactly where it is in range.
         ensures variant { IsOk result ↔ (value < self.old.ranges.ring) }
         ensures value { OnOk result (value_of self.new ≡ at (value_of self.old) port value) }
+        // Neighbours, ranges and ports stay.
         ensures rest { self.new ≡ record self.old { values = self.new.values } }
         ensures out_of_range { OnErr result (self.new ≡ self.old) }
     {
@@ -200,10 +210,12 @@ impl<A: Allocator> Registers<A> {
     /// below the counters' modulus.
     pub fn set_counters(&mut self, port: u16, seq: u16, last: u16) -> Result<(), OutOfRange>
         requires { Contains self.old.neighbours port }
+        // It is written exactly where it is in range.
         ensures variant { IsOk result ↔ IsTrue (counters_fit self.old.ranges seq last) }
         ensures port { OnOk result (port_of self.new
             ≡ at (port_of self.old) port
             (record (port_of self.old port) { seq = seq; last = last })) }
+        // Neighbours, ranges and values stay.
         ensures rest { self.new ≡ record self.old { ports = self.new.ports } }
         ensures out_of_range { OnErr result (self.new ≡ self.old) }
     {
@@ -214,9 +226,11 @@ impl<A: Allocator> Registers<A> {
     /// of it is not in its range.
     pub fn set_staged(&mut self, port: u16, payload: Payload) -> Result<(), OutOfRange>
         requires { Contains self.old.neighbours port }
+        // It is written exactly where it is in range.
         ensures variant { IsOk result ↔ IsTrue (payload_fits self.old.ranges payload) }
         ensures port { OnOk result (port_of self.new
             ≡ at (port_of self.old) port (record (port_of self.old port) { staged = payload })) }
+        // Neighbours, ranges and values stay.
         ensures rest { self.new ≡ record self.old { ports = self.new.ports } }
         ensures out_of_range { OnErr result (self.new ≡ self.old) }
     {
@@ -227,9 +241,11 @@ impl<A: Allocator> Registers<A> {
     /// field of it is not in its range.
     pub fn set_copy(&mut self, port: u16, payload: Payload) -> Result<(), OutOfRange>
         requires { Contains self.old.neighbours port }
+        // It is written exactly where it is in range.
         ensures variant { IsOk result ↔ IsTrue (payload_fits self.old.ranges payload) }
         ensures port { OnOk result (port_of self.new
             ≡ at (port_of self.old) port (record (port_of self.old port) { copy = payload })) }
+        // Neighbours, ranges and values stay.
         ensures rest { self.new ≡ record self.old { ports = self.new.ports } }
         ensures out_of_range { OnErr result (self.new ≡ self.old) }
     {

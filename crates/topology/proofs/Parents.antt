@@ -1,4 +1,5 @@
--- True parents: one for each node but the root, and the computed distance and parent are the true ones.
+-- True parents: one for each node but the root, and the computed distance and parent are the true
+-- ones.
 use Rattle.std.proofs.Common.{◌≡◌, ◌≢◌, ◌∙◌, ℕ, zero, suc, ◌+◌, ◌<◌, ◌≤◌, Bool, true, false, ◌&&◌, List, [], ◌∷◌, ◌++◌, length, refl, sym, ap, arith, length-append, ltb, IsTrue, inl, inr, ◌⊎◌}
 use Rattle.std.specs.Prelude.{Option, Some, None, is_some, unwrap_or, ◌↔◌}
 use Rattle.std.specs.List.{find, filter, range_with_len}

@@ -1,4 +1,5 @@
--- Numbers of steps that lead to a node are lengths of walks, and each node of an accepted network has a least one, below the number of nodes.
+-- Numbers of steps that lead to a node are lengths of walks, and each node of an accepted network
+-- has a least one, below the number of nodes.
 use Rattle.std.proofs.Common.{◌≡◌, ◌∙◌, ℕ, zero, suc, ◌<◌, ◌≤◌, Bool, true, false, List, [], ◌∷◌, ◌++◌, length, refl, sym, arith, length-append, eqb, inl, inr, ◌⊎◌}
 use Rattle.std.specs.List.{All, list_any, IsDistinct, AllByRecursion}
 use Rattle.std.proofs.lemmas.Bool.{cases_Bool, false≢true}

@@ -1,4 +1,5 @@
--- Small networks for which the definitions give what one sees in a drawing, and some that they refuse.
+-- Small networks for which the definitions give what one sees in a drawing, and some that they
+-- refuse.
 use Rattle.std.proofs.Common.{◌≡◌, ℕ, ◌∷◌, [], List, refl, arith, true, false, pos, ℤ, zero, suc, inl, inr}
 use Rattle.std.specs.Prelude.{Option, Some, None, negsuc, All, ◌⊎◌}
 use Rattle.std.proofs.lemmas.Bool.Decides.{nat_tests}
@@ -44,14 +45,16 @@ square-numbers = (refl, refl, refl)
 square-neighbours : (neighbours_of square 0 ≡ 1 ∷ 2 ∷ []) × (neighbours_of square 3 ≡ 1 ∷ 2 ∷ [])
 square-neighbours = (refl, refl)
 
--- an edge joins the square between 1 and 2, and comes last; it may not join who is joined, or itself, or no node
+-- an edge joins the square between 1 and 2, and comes last; it may not join who is joined, or
+-- itself, or no node
 square-joined : (join_fault square 1 2 ≡ None) × ((joined_net square 1 2).edges ≡ (0, 1) ∷ (0, 2) ∷ (1, 3) ∷ (2, 3) ∷ (1, 2) ∷ [])
 square-joined = (refl, refl)
 
 square-not-joined : (join_fault square 1 0 ≡ Some DoubleEdge) × (join_fault square 3 3 ≡ Some LoopEdge) × (join_fault square 0 4 ≡ Some BadEdge)
 square-not-joined = (refl, refl, refl)
 
--- the edge between 1 and 3 may go, either way round, and then the one between 2 and 3 may not: 3 would be alone
+-- the edge between 1 and 3 may go, either way round, and then the one between 2 and 3 may not: 3
+-- would be alone
 square-parted : (part_fault square 3 1 ≡ None) × ((parted_net square 3 1).edges ≡ (0, 1) ∷ (0, 2) ∷ (2, 3) ∷ [])
 square-parted = (refl, refl)
 

@@ -35,7 +35,8 @@ middle-sharp = (refl, refl)
 square-sharp : (eccentricity_of square ≡ 2) × (sharp_of square ≡ 71)
 square-sharp = (refl, refl)
 
--- of a small star the distances are computed; of every other, the root being in its middle, they are the same
+-- of a small star the distances are computed; of every other, the root being in its middle, they
+-- are the same
 small-star-sharp : (eccentricity_of (star-of 8) ≡ 1) × (sharp_of (star-of 8) ≡ 131)
 small-star-sharp = (refl, refl)
 
@@ -48,7 +49,8 @@ large-star-sharp = sharp-is (star-of 64) 1
 large-star-bound : bound_of (star-of 64) ≡ 207161
 large-star-bound = refl
 
--- a walk that leads to the far end of the line in two steps, so it is not 3 away; and none leads there in one
+-- a walk that leads to the far end of the line in two steps, so it is not 3 away; and none leads
+-- there in one
 end-not-three : IsDistance line 2 3 → ⊥
 end-not-three h = absurd (omega (arith, h.least (1 ∷ 2 ∷ []) (refl, (refl, refl))))
 
