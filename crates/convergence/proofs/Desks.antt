@@ -1,4 +1,5 @@
--- A node that lends moves no machine, so a loan with privilege keeps it; and a full tick ends each other loan.
+-- A node that lends moves no machine, so a loan with privilege keeps it; and a full tick ends each
+-- other loan.
 use Rattle.std.proofs.Common.{◌≡◌, ℕ, ◌<◌, inl, inr, true, false, ◌==◌, ◌&&◌, List, [], ◌∷◌, Option, Some, None, refl, sym, ◌∙◌, ap, subst}
 use Rattle.std.specs.Prelude.{is_some, is_none, if◌then◌else◌}
 use Rattle.std.specs.List.{list_any}
@@ -37,7 +38,8 @@ loan_stops_machines : (site : Site) (s : LocalState) (t : ℕ) → is_none (tick
 loan_stops_machines site s t h =
     ap (λ c. if c && (list_any (λ u. u == t) (tree_of site (ticked site s)) && may_move site (desk_done site (recomputed site s)) t) then moved_value site (desk_done site (recomputed site s)) t else s.value t) h
 
--- a node that lends after a tick is privileged then: the loan needed privilege, and no machine moved
+-- a node that lends after a tick is privileged then: the loan needed privilege, and no machine
+-- moved
 pub tick-keeps_privilege : LoansNeedPrivilege → (site : Site) (s : LocalState) → is_some (ticked site s).desk.lent ≡ true → is_node_privileged site (ticked site s) ≡ true
 tick-keeps_privilege loans site s h =
     let old = recomputed site s in

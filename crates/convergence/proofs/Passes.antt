@@ -1,4 +1,5 @@
--- A machine moves in a full tick with privilege: so at a desk where a ticket waits, only where it had served or a loan ends.
+-- A machine moves in a full tick with privilege: so at a desk where a ticket waits, only where it
+-- had served or a loan ends.
 use Rattle.std.proofs.Common.{◌≡◌, ◌≢◌, ℕ, inl, inr, true, false, ◌==◌, ◌&&◌, sym, ◌∙◌, ap}
 use Rattle.std.specs.Prelude.{is_none, is_some, if◌then◌else◌}
 use Rattle.std.specs.List.{list_any}

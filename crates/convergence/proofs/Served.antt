@@ -1,5 +1,6 @@
--- A ticket that waits is served. In 8(n - 1) sweeps a machine of its node moves; each move but the first ends a loan of its desk, and each loan takes the
--- first of the list. So the number of moves that may still come stands above the ticket's place, or at it where the desk is ready to lend.
+-- A ticket that waits is served. In 8(n - 1) sweeps a machine of its node moves; each move but the
+-- first ends a loan of its desk, and each loan takes the first of the list. So the number of moves
+-- that may still come stands above the ticket's place, or at it where the desk is ready to lend.
 use Rattle.std.proofs.Common.{◌≡◌, ◌≢◌, ℕ, zero, suc, ◌+◌, ◌*◌, ◌-◌, ◌<◌, ◌≤◌, ◌⊎◌, inl, inr, Bool, true, false, ◌==◌, ◌&&◌, ◌||◌, List, [], ◌∷◌, ◌++◌, length, Option, Some, None, refl, sym, ◌∙◌, ap, subst, arith}
 use Rattle.std.specs.Prelude.{is_none, is_some, not, if◌then◌else◌}
 use Rattle.std.proofs.lemmas.Bool.{cases_Bool, cases_eq, false≢true, cond-true, cond-false, eq-eqb, ne_eqb, or_left, or_right, or_cases, or_parts}
@@ -179,7 +180,8 @@ turned t k before after (Some y) (Some x) was served e c s = inr (record {
   ready = elim s.ready [ inl l ↦ inl l | inr q ↦ absurd (false≢true (sym q.0)) ];
 })
 
--- a tick after which the desk lends to nobody leaves the list as it was; and one that ends a loan had one
+-- a tick after which the desk lends to nobody leaves the list as it was; and one that ends a loan
+-- had one
 same-list : (before after : List ℕ) (old new : Option ℕ) → is_some new ≡ false → IsTurn before after (act_between old new) → before ≡ after
 same-list before after None None h e = e
 same-list before after (Some y) None h e = e

@@ -1,4 +1,5 @@
--- The layers put together: closure, what a legitimate world serves, and convergence from every state.
+-- The layers put together: closure, what a legitimate world serves, and convergence from every
+-- state.
 use Rattle.std.proofs.Common.{◌≡◌, ℕ, ◌+◌, ◌*◌, ◌-◌, ◌<◌, List, ◌++◌, Option, Some, None, refl, sym, ◌∙◌, ap, subst, arith}
 use Rattle.std.specs.Prelude.{is_some, IfSome}
 use Rattle.topology.specs.Network.{Network, bound_of, IsTrueParent}

@@ -1,5 +1,6 @@
--- Along a run: what each event keeps, the run keeps; and what a full tick of a node brings about, a list with such a tick brings about. No clause can range
--- over what may hold of a world, so the crates above cite the two from here.
+-- Along a run: what each event keeps, the run keeps; and what a full tick of a node brings about, a
+-- list with such a tick brings about. No clause can range over what may hold of a world, so the
+-- crates above cite the two from here.
 use Rattle.std.proofs.Common.{◌≡◌, List, [], ◌∷◌, ℕ, true, false, refl, inl, inr}
 use Rattle.std.proofs.lemmas.Bool.{or_parts, or_cases, or_from, false≢true}
 use Rattle.run_model.specs.World.{World, IsWorldInRange}
@@ -17,7 +18,8 @@ undamaged-front w e es u = or_parts (is_damage w e) (has_damage (step w e) es) u
 pub undamaged-one : (w : World) (e : Event) → is_damage w e ≡ false → IsUndamaged w (e ∷ [])
 undamaged-one w e d = or_from (is_damage w e) false d refl
 
--- What is known along a run: it holds of a world and the events to come, tells something of the next event, and holds behind that event too.
+-- What is known along a run: it holds of a world and the events to come, tells something of the
+-- next event, and holds behind that event too.
 pub record Course : Type 1 where
   pub holds : World → List Event → Type 0
   pub tells : World → Event → Type 0
@@ -32,7 +34,8 @@ pub kept : (c : Course) (P : World → Type 0) → IsKept c P → (w : World) (e
 kept c P k w [] h p = p
 kept c P k w (e ∷ es) h p = kept c P k (step w e) es (c.later w e es h) (k w e (c.now w e es h) p)
 
--- where P is kept, Q is kept while P holds, and a full tick of v brings Q about while P holds: a list with a full tick of v brings Q about
+-- where P is kept, Q is kept while P holds, and a full tick of v brings Q about while P holds: a
+-- list with a full tick of v brings Q about
 pub ticked : (c : Course) (P Q : World → Type 0) (v : ℕ) → IsKept c P
     → ((w : World) (e : Event) → c.tells w e → P w → Q w → Q (step w e))
     → ((w : World) (e : Event) → c.tells w e → P w → is_full_tick w e v ≡ true → Q (step w e))

@@ -38,7 +38,8 @@ sweeps-join w (suc r) s first rest edges fine (one, others, e, sweep, a) b (suc 
       (subst (λ x. Sweeps x s rest) (ap (run w) e ∙ runs-join w one others) b) n (omega arith),
 )
 
--- of two beginnings of one list, the first is a beginning of the second, or the second a proper one of the first
+-- of two beginnings of one list, the first is a beginning of the second, or the second a proper one
+-- of the first
 pub data TwoBeginnings (a b c d : List Event) : Type 0 where
   Longer : (mid : List Event) → c ≡ a ++ mid → b ≡ mid ++ d → TwoBeginnings a b c d
   Shorter : (e : Event) (mid : List Event) → a ≡ c ++ e ∷ mid → d ≡ e ∷ (mid ++ b) → TwoBeginnings a b c d

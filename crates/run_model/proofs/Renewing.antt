@@ -1,4 +1,5 @@
--- Longer stretches: what a part of a stretch hands over, the whole hands over, and so a sweep stays one where events are added before or behind it.
+-- Longer stretches: what a part of a stretch hands over, the whole hands over, and so a sweep stays
+-- one where events are added before or behind it.
 use Rattle.std.proofs.Common.{◌≡◌, ℕ, ◌<◌, suc, List, [], ◌∷◌, ◌++◌, true, IsTrue, length, map, refl, sym, ap, subst, arith}
 use Rattle.std.proofs.lemmas.Bool.{or_left, or_right, or_parts}
 use Rattle.std.proofs.lemmas.List.{map-append}
@@ -36,7 +37,8 @@ ticked-late w (e ∷ xs) ys v h = or_right (is_full_tick w e v) (has_full_tick (
 abbrev pub IsSent : Origin → Type 0
 IsSent origin = IsTrue (is_first_sent (origin ∷ []))
 
--- where each item that was sent inside one stretch was sent inside another, the other hands over such an item too
+-- where each item that was sent inside one stretch was sent inside another, the other hands over
+-- such an item too
 more-sent : (capacity i j : ℕ) (acts : List LinkAct) (few many : List Origin) → IsMarked IsSent few many
     → hands_over_sent capacity i acts few ≡ true → hands_over_sent capacity j acts many ≡ true
 more-sent capacity i j [] few many m h = h

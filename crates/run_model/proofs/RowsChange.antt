@@ -1,4 +1,5 @@
--- Edges that join and go on a square, where its nodes and links are not as at the start: what changes, what stays, and what is refused.
+-- Edges that join and go on a square, where its nodes and links are not as at the start: what
+-- changes, what stays, and what is refused.
 use Rattle.std.proofs.Common.{◌≡◌, List, [], ◌∷◌, Some, None, true, false, refl, ap}
 use Rattle.data_link.specs.Port.{default_port}
 use Rattle.topology.specs.Network.{Network, Edge, neighbours_of}
@@ -15,7 +16,8 @@ use Rattle.run_model.specs.declared.event.EventFault.TheVariants.{NoNode, NoLink
 use Rattle.run_model.specs.declared.event.Harm.TheVariants.{Counters, Value, Own, Item, Join, Part}
 use Rattle.run_model.proofs.RowsFaults.{square}
 
--- each node's port and value to node 3 are marked, and so are node 3's to 1 and 2; an item is under way on each link of the edge between 1 and 3, and one on another
+-- each node's port and value to node 3 are marked, and so are node 3's to 1 and 2; an item is under
+-- way on each link of the edge between 1 and 3, and one on another
 abbrev marked : World
 marked =
     run (world_with_spares square 1)
@@ -80,7 +82,8 @@ join-forgets = (refl, refl)
 join-keeps_other_ports : ((joined.node 3).port 2).seq ≡ 2
 join-keeps_other_ports = refl
 
--- the network is another one, since its edges come in another order; the neighbours are those that were
+-- the network is another one, since its edges come in another order; the neighbours are those that
+-- were
 not_the_same_network : ¬ (joined.net ≡ square)
 not_the_same_network same =
     let edges : ◌≡◌ {A = List Edge} ((0, 1) ∷ (0, 2) ∷ (2, 3) ∷ (3, 1) ∷ []) ((0, 1) ∷ (0, 2) ∷ (1, 3) ∷ (2, 3) ∷ []) = ap (λ (net : Network). net.edges) same in

@@ -66,7 +66,8 @@ twice = refl
 stranger : refusal (step start (Ask 0 5)) (Leave 0 6) ≡ Some Stranger
 stranger = refl
 
--- the first refusal counts: no node before Full and Twice, before Stranger, and before what is out of range
+-- the first refusal counts: no node before Full and Twice, before Stranger, and before what is out
+-- of range
 no-node_before_full : refusal crowd (Ask 2 64) ≡ Some NoNode
 no-node_before_full = refl
 
@@ -154,7 +155,8 @@ link-is_emptied = refl
 
 -- ---- a take of a frame
 
--- node 0 takes a frame by which node 1 says that 0 is its parent: what 0 then stages for 1 is what it had to say before it knew of its child
+-- node 0 takes a frame by which node 1 says that 0 is its parent: what 0 then stages for 1 is what
+-- it had to say before it knew of its child
 abbrev child : Payload
 child = record { distance = 1; parent = Some 0; ring = 3 }
 

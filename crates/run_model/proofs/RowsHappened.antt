@@ -16,7 +16,8 @@ start = default_world two_nodes
 full-tick : happened start (Tick 0) ≡ FullTick 0
 full-tick = refl
 
--- node 0 has copied that node 1 is its child, so it is privileged, and lends to the client that asked; at the next tick it lends still
+-- node 0 has copied that node 1 is its child, so it is privileged, and lends to the client that
+-- asked; at the next tick it lends still
 abbrev lending : World
 lending = run start (Damage (Copy 0 1 (record { distance = 1; parent = Some 0; ring = 0 })) ∷ Ask 0 5 ∷ [])
 

@@ -23,7 +23,8 @@ rounds (suc n) = round ++ rounds n
 abbrev pub after : ℕ → World
 after n = run (default_world two_nodes) (rounds n)
 
--- where all values of the token ring are equal, the special machine may move: node 0 is privileged, alone
+-- where all values of the token ring are equal, the special machine may move: node 0 is privileged,
+-- alone
 node-0_after_four : is_privileged (after 4) 0 ≡ true
 node-0_after_four = refl
 
@@ -54,7 +55,8 @@ one-visited = refl
 both-visited : is_visited (after 4) (rounds 2) 1 ≡ true
 both-visited = refl
 
--- Damage begins anew, with the nodes that are privileged right after it: an emptied link takes the visit of node 1 away, and node 0's machine is where it was.
+-- Damage begins anew, with the nodes that are privileged right after it: an emptied link takes the
+-- visit of node 1 away, and node 0's machine is where it was.
 visited-before_damage : is_visited (after 4) (rounds 2 ++ round) 1 ≡ true
 visited-before_damage = refl
 

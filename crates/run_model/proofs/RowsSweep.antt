@@ -29,7 +29,8 @@ least-is_sweep = record {
   renewed = each-link (λ u v. is_renewed start least u v ≡ true) refl refl;
 }
 
--- the order does not matter, nor does a loss, nor a refused event, nor a send that finds the link full
+-- the order does not matter, nor does a loss, nor a refused event, nor a send that finds the link
+-- full
 abbrev mixed : List Event
 mixed =
     Send 1 0 ∷ Send 1 0 ∷ Leave 0 9 ∷ Take 1 0 ∷ Tick 1 ∷ Send 0 1 ∷ Lose 0 1 0 ∷ Take 0 1 ∷ Send 0 1 ∷ Tick 0 ∷ Take 0 1 ∷ []
@@ -64,7 +65,8 @@ noisy = with_link start 0 1 (Noise ∷ [])
 noise-is_taken : is_renewed noisy (Tick 0 ∷ Tick 1 ∷ Take 0 1 ∷ Send 1 0 ∷ Take 1 0 ∷ []) 0 1 ≡ false
 noise-is_taken = refl
 
--- a frame is under way from 0 to 1; the new one finds the link full and is lost, and the old one is taken
+-- a frame is under way from 0 to 1; the new one finds the link full and is lost, and the old one is
+-- taken
 abbrev busy : World
 busy = step start (Send 0 1)
 

@@ -1,4 +1,5 @@
--- Stretches event by event: the old items of a link are the oldest, and a take meets a new one exactly where none of them is left.
+-- Stretches event by event: the old items of a link are the oldest, and a take meets a new one
+-- exactly where none of them is left.
 use Rattle.std.proofs.Common.{◌≡◌, ℕ, ◌+◌, ◌-◌, ◌≤◌, zero, suc, List, [], ◌∷◌, ◌++◌, false, ◌||◌, length, map, drop, refl, sym, ◌∙◌, ap, subst, arith}
 use Rattle.std.specs.Prelude.{nat_lt}
 use Rattle.std.specs.List.{AllByRecursion, remove}

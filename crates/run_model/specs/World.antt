@@ -9,8 +9,8 @@ use Rattle.node_core.specs.Site.{Site, site_of}
 pub use Rattle.node_core.specs.Step.{item_fits}
 use Rattle.node_core.specs.State.{LocalState, IsNodeInRange}
 
--- The network stands in the world, since edges join and go while it runs. `spares` counts the
--- spare pairs of links, each for one more edge. `link u v` holds what is under way from u to v, oldest
+-- The network stands in the world, since edges join and go while it runs. `spares` counts the spare
+-- pairs of links, each for one more edge. `link u v` holds what is under way from u to v, oldest
 -- first.
 pub record World : Type 0 where
   pub net : Network

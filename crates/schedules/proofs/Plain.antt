@@ -1,4 +1,5 @@
--- Lists of ticks, sends and takes at nodes and links of a network: they are accepted, and no damage.
+-- Lists of ticks, sends and takes at nodes and links of a network: they are accepted, and no
+-- damage.
 use Rattle.std.proofs.Common.{◌≡◌, ◌∙◌, ℕ, ◌+◌, ◌<◌, Bool, true, false, zero, suc, None, List, [], ◌∷◌, ◌++◌, map, filter, refl, arith}
 use Rattle.std.proofs.lemmas.Grind.{common_steps}
 use Rattle.std.proofs.lemmas.Bool.Decides.{nat_tests}

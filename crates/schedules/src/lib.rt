@@ -1,9 +1,10 @@
 //! Schedules: orders in which the nodes and links of a network do their part, as lists of events.
 //!
 //! What a self-stabilising system does depends on who moves when. A schedule by *rounds* is the
-//! plainest fair one: in each round every node ticks once, and every link carries one item more than
-//! it holds. Whether a run is fair is otherwise an assumption; of this schedule it is a law that
-//! each of its rounds is a sweep (`laws::rounds`), so the theorem on sweeps says what it leads to.
+//! plainest fair one: in each round every node ticks once, and every link carries one item more
+//! than it holds. Whether a run is fair is otherwise an assumption; of this schedule it is a law
+//! that each of its rounds is a sweep (`laws::rounds`), so the theorem on sweeps says what it leads
+//! to.
 //!
 //! Another is the *random* one: each step is drawn from a seeded generator, so the same seed gives
 //! the same events on any machine. It can lose items, and have clients who ask and leave.

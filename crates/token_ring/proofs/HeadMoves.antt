@@ -1,5 +1,6 @@
--- The head moves at least once in any 8(n - 1) sweeps, so the token ring is good after 48(n - 1)(n - 1). And it is good after 16(n - 1): half of these make
--- known every value of the ring, and the others hold a move of the head.
+-- The head moves at least once in any 8(n - 1) sweeps, so the token ring is good after 48(n - 1)(n
+-- - 1). And it is good after 16(n - 1): half of these make known every value of the ring, and the
+-- others hold a move of the head.
 use Rattle.std.proofs.Common.{◌≡◌, ◌≢◌, ℕ, zero, suc, ◌+◌, ◌*◌, ◌-◌, ◌<◌, ◌≤◌, inl, inr, true, List, [], ◌∷◌, ◌++◌, length, refl, sym, ◌∙◌, ap, subst, arith}
 use Rattle.std.proofs.lemmas.Bool.{cases_eq, cases_lt}
 use Rattle.topology.specs.Network.{Network, ring_of}
@@ -105,7 +106,8 @@ module _ (b : Below) where
         (run mid y.0) y.1 (later-within mid x.1 y.0 y.1 h1 q) taken in
         subst (λ v. Known v (suc j)) (sym (p.leads ∙ q.leads)) done
 
-    -- four sweeps for each leg that is still ahead, and three for what is staged and copied of the last
+    -- four sweeps for each leg that is still ahead, and three for what is staged and copied of the
+    -- last
     pub copied-ahead : (k : ℕ) (w : World) (es : List Event) (j : ℕ) → Within w es → j + k ≡ last → Known w j → Sweeps w (4 * k + 3) es
         → IsCopied place since (run w es) last
     copied-ahead zero w es j h e c sweeps =
@@ -159,8 +161,9 @@ module _ (b : Below) where
     abbrev behind : ℕ
     behind = length tour.others
 
-    -- Where the values up to the j-th machine are the head's, the head moves in four sweeps for each machine from there on: were there no move, all values
-    -- would be its own, and a full tick of the root would move it.
+    -- Where the values up to the j-th machine are the head's, the head moves in four sweeps for
+    -- each machine from there on: were there no move, all values would be its own, and a full tick
+    -- of the root would move it.
     pub moves-ahead : (j k : ℕ) (w : World) (es : List Event) (small : 0 < ring_of net) → IsSettledOn net w → IsUndamaged w es → j + k ≡ behind
         → IsKnown (leg b net tour (machine_value w tour.first) 0 small) (old b net tour (machine_value w tour.first) 0 small) w j
         → Sweeps w ((4 * k + 3) + 1) es → 0 < head_moves w es

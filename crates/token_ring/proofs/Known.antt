@@ -1,5 +1,6 @@
--- How what the head held since some moment goes round the tour: four sweeps a leg. Its age tells of a value when the head held it; where the values of the
--- first legs are known, their ages do not rise from one to the next.
+-- How what the head held since some moment goes round the tour: four sweeps a leg. Its age tells of
+-- a value when the head held it; where the values of the first legs are known, their ages do not
+-- rise from one to the next.
 use Rattle.std.proofs.Common.{◌≡◌, ◌≢◌, ℕ, zero, suc, ◌+◌, ◌<◌, ◌≤◌, ◌⊎◌, inl, inr, Bool, true, false, ◌==◌, List, [], ◌∷◌, length, refl, sym, ◌∙◌, ap, subst, arith}
 use Rattle.std.specs.Prelude.{if◌then◌else◌, nat_le}
 use Rattle.std.proofs.lemmas.Bool.{eq-eqb, ne_eqb, cases_eq, cases_Bool}
@@ -25,7 +26,8 @@ use Rattle.token_ring.proofs.Settled.{IsSettledOn, settled-event}
 use Rattle.token_ring.proofs.LegEvents.{moved_leg, staged-event, copied-event, full-tick, present-is, leg-joined}
 use Rattle.token_ring.proofs.RingEvents.{plain-event, special-event, head-move-is, first-sees, special-on, head-goes-on, head-in, two-values-at-least}
 
--- From the head to the machine of leg j ages do not rise: nor from a machine to what is staged of it, nor to what is copied of that, nor to the next machine.
+-- From the head to the machine of leg j ages do not rise: nor from a machine to what is staged of
+-- it, nor to what is copied of that, nor to the next machine.
 pub record IsKnown (leg : ℕ → Leg) (old : ℕ → ℕ) (w : World) (j : ℕ) : Type 0 where
   pub staged : (i : ℕ) → i < j → old (staged_value w (leg i)) ≤ old (machine_value w (leg i))
   pub copied : (i : ℕ) → i < j → old (copied_value w (leg i)) ≤ old (staged_value w (leg i))
@@ -287,7 +289,8 @@ module _ (b : Below) (net : Network) (tour : IsTour net) (start bound : ℕ) (sm
       let r = machines-fall w j c i (omega (arith, h)) in
       omega (arith, a, p, n, r)
 
-  -- where the last copy is as old as the head, the special machine sees its own value, and a full tick of the root moves the head
+  -- where the last copy is as old as the head, the special machine sees its own value, and a full
+  -- tick of the root moves the head
   pub special-ticks : (w : World) (e : Event) → IsSettledOn net w → is_damage w e ≡ false → machine_value w tour.first ≡ seen_value w tour.first
       → is_full_tick w e tour.first.here ≡ true → head_move w e ≢ 0
   special-ticks w e s d same h z =

@@ -43,7 +43,8 @@ tick-value site s t ts e = ap (λ us. value_ticked site s t us (is_none (ticked 
 abbrev pub moved_leg : World → Leg → ℕ
 moved_leg w l = if is_special_leg w.net l then root_moved (machine_value w l) (ring_of w.net) else seen_value w l
 
--- after a tick of the leg's node its machine has moved where it may and the node lends to nobody, and it sees what it saw
+-- after a tick of the leg's node its machine has moved where it may and the node lends to nobody,
+-- and it sees what it saw
 abbrev pub IsLegTicked : World → World → Leg → Type 0
 IsLegTicked w new l =
     (machine_value new l ≡ (if is_none (new.node l.here).desk.lent && leg_may_move w l then moved_leg w l else machine_value w l))

@@ -1,5 +1,7 @@
--- On a good token ring each machine moves in any 8(n - 1) sweeps. One that has not the head's value takes it, 4 sweeps a leg from the head. One that has it
--- stands at the end of values that all are the head's: so the head moves in 4 sweeps for each leg from the machine on, and then the machine has not its value.
+-- On a good token ring each machine moves in any 8(n - 1) sweeps. One that has not the head's value
+-- takes it, 4 sweeps a leg from the head. One that has it stands at the end of values that all are
+-- the head's: so the head moves in 4 sweeps for each leg from the machine on, and then the machine
+-- has not its value.
 use Rattle.std.proofs.Common.{◌≡◌, ◌≢◌, ℕ, zero, suc, ◌+◌, ◌*◌, ◌-◌, ◌<◌, ◌≤◌, inl, inr, List, [], ◌∷◌, ◌++◌, length, refl, sym, ◌∙◌, ap, subst, arith}
 use Rattle.std.specs.List.{AllByRecursion}
 use Rattle.std.proofs.lemmas.Bool.{cases_eq}
@@ -162,7 +164,8 @@ module _ (b : Below) (net : Network) (tour : IsTour net) where
         next = λ i l. equals older (machine_value w (place (suc i))) (copied_value w (place i)) ((all i l).3 ∙ sym (all i l).2);
       }
 
-  -- Where a machine has the head's value, the head moves in 4 sweeps for each leg from the machine on; then the machine has not its value.
+  -- Where a machine has the head's value, the head moves in 4 sweeps for each leg from the machine
+  -- on; then the machine has not its value.
   with-head : (w : World) (xs ys : List Event) (k : ℕ) → IsSettledOn net w → IsUndamaged w xs → IsUndamaged (run w xs) ys → IsTokenRingGood w → k ≤ count
       → machine_value w (place k) ≡ machine_value w tour.first → Sweeps w ((4 * (count - k) + 3) + 1) xs → Sweeps (run w xs) (4 * k) ys → Moment w (xs ++ ys) (place k)
   with-head w xs ys k s u v g h same sweeps more =

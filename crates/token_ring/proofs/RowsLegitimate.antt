@@ -1,4 +1,5 @@
--- Two nodes and links of capacity 1: the token ring after the first rounds, a world that is legitimate, and worlds that are not, each for one reason alone.
+-- Two nodes and links of capacity 1: the token ring after the first rounds, a world that is
+-- legitimate, and worlds that are not, each for one reason alone.
 use Rattle.std.proofs.Common.{◌≡◌, [], ◌∷◌, IsTrue, ◌==◌, ◌&&◌, refl, ap, inl, arith}
 use Rattle.std.proofs.lemmas.Bool.{false≢true}
 use Rattle.std.specs.Prelude.{if◌then◌else◌}
@@ -19,7 +20,8 @@ use Rattle.token_ring.specs.Legitimate.{IsLegitimate}
 
 -- ---- the first rounds
 
--- the values: node 0's machine, what is staged for 1, 1's copy; 1's machine, what is staged for 0, 0's copy
+-- the values: node 0's machine, what is staged for 1, 1's copy; 1's machine, what is staged for 0,
+-- 0's copy
 ring-after_four : token_ring (after 4) ≡ (1 ∷ 1 ∷ 1 ∷ 1 ∷ 1 ∷ 1 ∷ [])
 ring-after_four = refl
 
@@ -94,7 +96,8 @@ unprivileged-serves = record {
 
 -- ---- not legitimate for its links alone
 
--- a frame is under way to node 1 with the number of node 0's port, and a ring value that node 0 has not staged
+-- a frame is under way to node 1 with the number of node 0's port, and a ring value that node 0 has
+-- not staged
 abbrev late : World
 late = record {
   net = two_nodes;

@@ -12,7 +12,8 @@ use Rattle.token_ring.specs.Moves.{head_move, head_moves}
 
 -- ---- The token ring needs a value more than it has places: with 4 values on the 6 places of two nodes it may go round for ever and never be good.
 
--- values are copied to the right and the head moves, with the number of its moves, and no ring on the way or at the end is good
+-- values are copied to the right and the head moves, with the number of its moves, and no ring on
+-- the way or at the end is good
 data NeverGood (q : ℕ) : ℕ → List ℕ → List ℕ → Type 0 where
   Ends : {xs : List ℕ} → NeverGood q zero xs xs
   Copies : {n : ℕ} {xs ys zs : List ℕ} → Change xs ys → ¬ IsGood q ys → NeverGood q n ys zs → NeverGood q n xs zs
@@ -28,8 +29,9 @@ third-value q a c front back ne low g =
     let each = Front-each (λ x. x ≡ a) (λ x. root_moved x q ≡ a) (a ∷ (front ++ c ∷ back)) g in
     elim (one_of_two (λ x. (x ≡ a) ⊎ (root_moved x q ≡ a)) c front back each.1) [ inl e ↦ ne e | inr e ↦ low e ]
 
--- With a, b, c, d one above the other, modulo 4: each place takes what stands at its left, from the right to the left, and the head moves from a to b. Of the
--- six places these are the machine of node 0, what it stages, what node 1 copies, and the same of node 1.
+-- With a, b, c, d one above the other, modulo 4: each place takes what stands at its left, from the
+-- right to the left, and the head moves from a to b. Of the six places these are the machine of
+-- node 0, what it stages, what node 1 copies, and the same of node 1.
 round_by_one : (a b c d : ℕ) → root_moved a 4 ≡ b → c ≢ a → root_moved c 4 ≢ a → d ≢ b → root_moved d 4 ≢ b
     → NeverGood 4 1 (a ∷ d ∷ c ∷ b ∷ a ∷ a ∷ []) (b ∷ a ∷ d ∷ c ∷ b ∷ b ∷ [])
 round_by_one a b c d e ca ca' db db' =

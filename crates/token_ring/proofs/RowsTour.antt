@@ -1,4 +1,5 @@
--- The tour and the token ring of a square, 0 - 1 - 3 - 2 - 0 with root 0: node 3 is as near by 1 as by 2, and its parent is 1.
+-- The tour and the token ring of a square, 0 - 1 - 3 - 2 - 0 with root 0: node 3 is as near by 1 as
+-- by 2, and its parent is 1.
 use Rattle.std.proofs.Common.{◌≡◌, ℕ, ◌+◌, ◌*◌, [], ◌∷◌, None, refl}
 use Rattle.run_model.proofs.RowsFaults.{square}
 use Rattle.topology.specs.declared.frame.Payload.{Payload}
@@ -14,7 +15,8 @@ the-square_is_toured = refl
 abbrev says : ℕ → Payload
 says ring = record { distance = 0; parent = None; ring = ring }
 
--- each place has a number of its own, three digits: the node, the neighbour, and 0 for a machine's value, 1 for a staged one, 2 for a copy
+-- each place has a number of its own, three digits: the node, the neighbour, and 0 for a machine's
+-- value, 1 for a staged one, 2 for a copy
 abbrev numbered : ℕ → LocalState
 numbered v = record {
   distance = 0;
@@ -24,7 +26,8 @@ numbered v = record {
   desk = no_desk;
 }
 
--- node 0's machine from 1, what it has staged for 2, and 2's copy of it; then 2's machine from 0, and so on round the tour
+-- node 0's machine from 1, what it has staged for 2, and 2's copy of it; then 2's machine from 0,
+-- and so on round the tour
 the-token_ring_follows_the_tour :
     token_ring (record { net = square; spares = 0; node = numbered; link = λ u v. [] })
     ≡ (10 ∷ 21 ∷ 202 ∷ 200 ∷ 201 ∷ 22 ∷ 20 ∷ 11 ∷ 102 ∷ 100 ∷ 131 ∷ 312 ∷ 310 ∷ 311 ∷ 132 ∷ 130 ∷ 101 ∷ 12 ∷ [])

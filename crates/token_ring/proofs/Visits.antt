@@ -1,4 +1,5 @@
--- Between two moves of the head of a good token ring each machine takes the head's new value, and it is privileged when it does.
+-- Between two moves of the head of a good token ring each machine takes the head's new value, and
+-- it is privileged when it does.
 use Rattle.std.proofs.Common.{◌≡◌, ◌≢◌, ℕ, ◌*◌, ◌-◌, ◌<◌, ◌≤◌, inl, inr, true, false, ◌==◌, List, [], ◌∷◌, ◌++◌, refl, sym, ◌∙◌, ap, subst, arith}
 use Rattle.std.specs.Prelude.{if◌then◌else◌}
 use Rattle.std.specs.List.{AllByRecursion}

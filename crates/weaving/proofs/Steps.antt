@@ -1,4 +1,5 @@
--- One deed of a node, where the accounts match: its event is not refused, does what it says, and the accounts of what is to come match again.
+-- One deed of a node, where the accounts match: its event is not refused, does what it says, and
+-- the accounts of what is to come match again.
 use Rattle.std.proofs.Common.{◌≡◌, ◌≢◌, ℕ, suc, ◌<◌, ◌≤◌, List, [], ◌∷◌, ◌++◌, IsTrue, None, length, refl, ap, ◌∙◌, sym, subst, arith}
 use Rattle.std.proofs.lemmas.Grind.{common_steps}
 use Rattle.std.proofs.lemmas.List.{length-append}
