@@ -1,43 +1,111 @@
 #!/usr/bin/env bash
-# Measures `tokentree simulate` on the square: the best of five runs, in million lines a second, and the most memory of a run, of 2,000,016 lines and of twice
-# as many (or of $1 rounds and of twice as many). In a round each node ticks, and then each frame goes twice over each link: 36 lines.
+# Measures `tokentree simulate` on four networks: a square, a path of 64 nodes, a star of 64 with room for 4096 items on
+# each link, and 23 nodes with 250 edges. Of each it prints the best of five runs, in million lines a second of a processor, the
+# instructions that a line costs, where valgrind is there, and the most memory of a run. Given an older build of the
+# program, `bench/simulate.sh OLD`, it measures that one beside today's, turn by turn. TOKENTREE names today's program
+# where it is not to be built. Wants python3.
+# In a round each node ticks, and then each frame goes twice over each link; the rounds of a text have some 2,000,000 lines.
 set -euo pipefail
-rounds=${1:-55556}
+older=${1:+$(realpath "$1")}
 cd "$(dirname "$0")/../crates/tokentree"
-rt run -- --help > /dev/null 2>&1
-network=../../examples/square.toml
+if [ -n "${TOKENTREE:-}" ]; then
+    today=$(realpath "$TOKENTREE")
+else
+    rt run -- --help > /dev/null 2>&1
+    today=$PWD/out/tokentree
+fi
+lines=2000000
 folder=$(mktemp -d)
 trap 'rm -rf "$folder"' EXIT
 
-# The events text of so many rounds.
+# Prints the edges of a network, one a line.
+edges() {
+    case $1 in
+    square) printf '%s\n' '0 1' '0 2' '1 3' '2 3' ;;
+    path) for v in $(seq 1 63); do echo "$((v - 1)) $v"; done ;;
+    star) for v in $(seq 1 63); do echo "0 $v"; done ;;
+    dense) for v in $(seq 1 22); do for u in $(seq 0 $((v - 1))); do echo "$u $v"; done; done | head -n 250 ;;
+    esac
+}
+
+# Prints the network file of $2 nodes with capacity $3, whose edges are those of $1.
+network() {
+    echo "nodes = $2"
+    echo "root = 0"
+    echo "capacity = $3"
+    echo "lease = 0"
+    echo "edges = [$(edges "$1" | sed 's/ /, /; s/.*/[&]/' | paste -sd, -)]"
+}
+
+# Prints the events of as many whole rounds as come next to a number of lines.
 events() {
-    awk -v rounds="$1" 'BEGIN {
-        for (v = 0; v < 4; v++) round = round "tick " v "\n"
-        links = split("0 1,0 2,1 0,1 3,2 0,2 3,3 1,3 2", link, ",")
-        for (i = 1; i <= links; i++)
-            for (times = 0; times < 2; times++) round = round "send " link[i] "\ntake " link[i] "\n"
-        for (i = 0; i < rounds; i++) printf "%s", round
-    }'
+    edges "$1" | awk -v nodes="$2" -v lines="$3" '
+        { link[count++] = $1 " " $2; link[count++] = $2 " " $1 }
+        END {
+            for (v = 0; v < nodes; v++) round = round "tick " v "\n"
+            for (i = 0; i < count; i++)
+                for (times = 0; times < 2; times++) round = round "send " link[i] "\ntake " link[i] "\n"
+            size = nodes + 4 * count
+            for (done = 0; done + size / 2 < lines; done += size) printf "%s", round
+        }'
 }
 
-# Runs the program on a text, and prints the microseconds that it took and its most memory in kilobytes.
+# Runs a program on a text, and prints the microseconds of a processor that it took.
 measure() {
-    local start=${EPOCHREALTIME//[!0-9]/}
-    if [ -x /usr/bin/time ]; then
-        /usr/bin/time -f %M -o "$folder/memory" out/tokentree simulate "$network" "$1" > "$folder/output"
-    else
-        python3 -c 'import resource, subprocess, sys
-subprocess.run(sys.argv[1:], check=True, stdout=open(sys.argv[-1] + ".output", "w"))
-print(resource.getrusage(resource.RUSAGE_CHILDREN).ru_maxrss)' out/tokentree simulate "$network" "$1" > "$folder/memory"
-    fi
-    echo "$((${EPOCHREALTIME//[!0-9]/} - start)) $(cat "$folder/memory")"
+    python3 -c 'import resource, subprocess, sys
+subprocess.run(sys.argv[1:], check=True, stdout=subprocess.DEVNULL)
+used = resource.getrusage(resource.RUSAGE_CHILDREN)
+print(int(1000000 * (used.ru_utime + used.ru_stime)))' "$1" simulate "$folder/network.toml" "$folder/events"
 }
 
-for times in 1 2; do
-    events "$((rounds * times))" > "$folder/events"
+# Runs a program on a text that comes in by a pipe, and prints the most memory that it has had before the end, in kilobytes.
+memory() {
+    python3 -c 'import subprocess, sys, time
+child = subprocess.Popen(sys.argv[1:4] + ["-"], stdin=subprocess.PIPE, stdout=subprocess.DEVNULL)
+child.stdin.write(open(sys.argv[4], "rb").read())
+child.stdin.flush()
+time.sleep(0.2)
+print(next(line.split()[1] for line in open(f"/proc/{child.pid}/status") if line.startswith("VmHWM")))
+child.stdin.close()
+child.wait()' "$1" simulate "$folder/network.toml" "$folder/events"
+}
+
+# The instructions that a program spends on a text.
+instructions() {
+    valgrind --tool=callgrind --callgrind-out-file=/dev/null "$1" simulate "$folder/network.toml" "$2" 2>&1 > /dev/null |
+        awk '/Collected/ { print $NF }'
+}
+
+# The instructions of a line: what a text of twice as many rounds costs more.
+per_line() {
+    command -v valgrind > /dev/null || { echo "-"; return; }
+    local few more
+    few=$(instructions "$1" "$folder/few")
+    more=$(instructions "$1" "$folder/more")
+    echo "$(((more - few) / ($(wc -l < "$folder/more") - $(wc -l < "$folder/few"))))"
+}
+
+printf '%-8s %-6s %18s %20s %10s\n' network build 'million lines/s' 'instructions/line' memory
+while read -r name nodes capacity; do
+    network "$name" "$nodes" "$capacity" > "$folder/network.toml"
+    events "$name" "$nodes" "$lines" > "$folder/events"
+    events "$name" "$nodes" 40000 > "$folder/few"
+    events "$name" "$nodes" 80000 > "$folder/more"
+    count=$(wc -l < "$folder/events")
     for _ in 1 2 3 4 5; do
-        measure "$folder/events"
-    done | awk -v lines="$((36 * rounds * times))" '
-        { rate = lines / $1; if (rate > best) best = rate; if ($2 > memory) memory = $2 }
-        END { printf "%8d lines %6.2f million a second %6d kB\n", lines, best, memory }'
-done
+        [ -z "$older" ] || echo "older $(measure "$older")"
+        echo "today $(measure "$today")"
+    done > "$folder/runs"
+    for build in ${older:+older} today; do
+        program=$([ "$build" = today ] && echo "$today" || echo "$older")
+        awk -v name="$name" -v build="$build" -v lines="$count" -v instructions="$(per_line "$program")" \
+            -v memory="$(memory "$program")" '
+            $1 == build { rate = lines / $2; if (rate > best) best = rate }
+            END { printf "%-8s %-6s %18.2f %20s %7d kB\n", name, build, best, instructions, memory }' "$folder/runs"
+    done
+done << 'NETWORKS'
+square 4 1
+path 64 1
+star 64 4096
+dense 23 1
+NETWORKS

@@ -3,7 +3,8 @@ use Rattle.std.proofs.Common.{◌≡◌, [], ◌∷◌, None, Some, refl, arith,
 use Rattle.byte_streams.specs.Streams.{Gives, Takes, Rose}
 use Rattle.byte_streams.specs.Fuse.{left_after, failures_of}
 
--- a source gives its next bytes; it does not give others, and nothing only at its end or where there is no room
+-- a source gives its next bytes; it does not give others, and nothing only at its end or where
+-- there is no room
 gives-two : Gives 2 (Some (1 ∷ 2 ∷ 3 ∷ [])) (Some (3 ∷ [])) (1 ∷ 2 ∷ 0 ∷ 0 ∷ [])
 gives-two = (omega arith, refl, refl, λ none. absurd (grind arith))
 

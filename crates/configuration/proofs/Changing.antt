@@ -21,7 +21,8 @@ use Rattle.configuration.specs.Placed.{ArePlaced, AreStocked}
 use Rattle.configuration.specs.LinksView.{LinksView, IsLinks, spare_pairs, under_way}
 use Rattle.configuration.proofs.LinkMoves.{IsAt, clear-links, clear-under}
 use Rattle.configuration.proofs.LinkPlaces.{first-empty}
-use Rattle.configuration.proofs.Placing.{joined_but, joined_too, given-one, laid-one, placed-edge, two-less}
+use Rattle.configuration.proofs.JoinedPairs.{joined_but, joined_too}
+use Rattle.configuration.proofs.Placing.{given-one, laid-one, placed-edge, two-less}
 
 -- an answer that is no refusal keeps what it promises
 pub must-ok : {T E P : Type 0} (r : Result T E) (fault : Option E) → fault ≡ None → IfErr r (λ x. fault ≡ Some x) → OnOk r P → P
@@ -265,9 +266,16 @@ module _ (l : LinksView) (u v : ℕ) (second third : PairTableView) (one two : L
 
 -- ---- both links of the edge are emptied first
 
+-- the links after that: nothing is under way on these two, and all else is as it was
+pub record AreEmptied (l : LinksView) (u v : ℕ) (now : LinksView) : Type 0 where
+  pub links : IsLinks now
+  pub under : under_way now ≡ at_pair (at_pair (under_way l) u v []) v u []
+  pub out : under_way now u v ≡ []
+  pub back : under_way now v u ≡ []
+
 module _ (l : LinksView) (u v p q : ℕ) (old new old-back new-back : LinkView) (h : IsAt l u v p old) (cleared : new ≡ link old.capacity [])
     (place : q ≡ value_at l.places v u) (value : old-back ≡ slice_index_or (slice_set l.links p new) q old-back) (cleared-back : new-back ≡ link old-back.capacity []) where
-  abbrev pub one-empty : LinksView
+  abbrev one-empty : LinksView
   one-empty = record l { links = slice_set l.links p new }
 
   abbrev pub both-empty : LinksView
@@ -276,10 +284,10 @@ module _ (l : LinksView) (u v p q : ℕ) (old new old-back new-back : LinkView) 
   back-at : IsAt one-empty v u q old-back
   back-at = record { links = clear-links l u v p old h new cleared; from_in = h.to_in; to_in = h.from_in; place = place; value = value }
 
-  pub empty-links : IsLinks both-empty
+  empty-links : IsLinks both-empty
   empty-links = clear-links one-empty v u q old-back back-at new-back cleared-back
 
-  pub empty-under : under_way both-empty ≡ at_pair (at_pair (under_way l) u v []) v u []
+  empty-under : under_way both-empty ≡ at_pair (at_pair (under_way l) u v []) v u []
   empty-under = clear-under one-empty v u q old-back back-at new-back cleared-back ∙ ap (λ f. at_pair f v u []) (clear-under l u v p old h new cleared)
 
   there : (f : ℕ → ℕ → List Item) → at_pair (at_pair f u v []) v u [] u v ≡ []
@@ -288,8 +296,10 @@ module _ (l : LinksView) (u v p q : ℕ) (old new old-back new-back : LinkView) 
   there-back : (f : ℕ → ℕ → List Item) → at_pair (at_pair f u v []) v u [] v u ≡ []
   there-back f = grind (arith, common_steps)
 
-  pub none-out : under_way both-empty u v ≡ []
-  none-out = ap (λ f. f u v) empty-under ∙ there (under_way l)
-
-  pub none-back : under_way both-empty v u ≡ []
-  none-back = ap (λ f. f v u) empty-under ∙ there-back (under_way l)
+  pub emptied : AreEmptied l u v both-empty
+  emptied = record {
+    links = empty-links;
+    under = empty-under;
+    out = ap (λ f. f u v) empty-under ∙ there (under_way l);
+    back = ap (λ f. f v u) empty-under ∙ there-back (under_way l);
+  }

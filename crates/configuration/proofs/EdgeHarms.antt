@@ -1,9 +1,10 @@
 -- Harms by which an edge joins or goes.
-use Rattle.std.proofs.Common.{◌≡◌, ◌≢◌, ◌∙◌, ◌+◌, inl, inr, is_err, OnOk, sym, ap, Bool, true, false, ℕ, ◌<◌, [], arith, refl, IsTrue, List, None, Some, Result, Ok, Err, OnErr, ◌↔◌, IsOk}
+use Rattle.std.proofs.Common.{◌≡◌, ◌≢◌, ◌∙◌, ◌+◌, inl, inr, is_err, OnOk, sym, ap, subst, Bool, true, false, ℕ, ◌<◌, [], arith, refl, IsTrue, List, None, Some, Result, Ok, Err, OnErr, ◌↔◌, IsOk}
 use Rattle.std.proofs.lemmas.Bool.{cases_Bool, false≢true}
 use Rattle.std.proofs.lemmas.Grind.{common_steps}
 use Rattle.topology.specs.At.{at}
-use Rattle.topology.specs.Network.{Edge, Network, parted_net}
+use Rattle.topology.specs.Network.{Edge, Network, IsAcceptedNetwork, are_joined, parted_net}
+use Rattle.topology.specs.Laws.{NotToItself}
 use Rattle.topology.specs.Tree.{is_connected}
 use Rattle.topology.specs.Change.{join_fault}
 use Rattle.node_core.specs.View.{NodeView}
@@ -28,6 +29,10 @@ join-fault-none net u v un vn can = grind (arith, common_steps, un, vn, can)
 -- an edge joins two nodes, not one
 pub joins-two : (net : Network) (u v : ℕ) → can_join net u v ≡ true → u ≢ v
 joins-two net u v can = grind (arith, common_steps, can)
+
+-- an edge that may go joins two nodes, not one
+pub parts-two : (net : Network) (u v : ℕ) → NotToItself → IsAcceptedNetwork net → are_joined net.edges u v ≡ true → u ≢ v
+parts-two net u v not-to-itself ok joined same = false≢true (sym (not-to-itself net v ok) ∙ subst (λ k. are_joined net.edges k v ≡ true) same joined)
 
 module _ (w : World) (u v : ℕ) (found : nodes_fault w u v ≡ None) where
   pub join-out-of-range : can_join w.net u v ≡ false → refusal w (Damage (harm.Join u v)) ≡ Some OutOfRange

@@ -11,3 +11,4 @@ mod WorldRanges
 mod WorldSteps
 pub mod LinkPlaces
 pub mod PairTables
+pub mod JoinedPairs

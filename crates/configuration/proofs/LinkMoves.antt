@@ -26,6 +26,17 @@ pub record IsAt (l : LinksView) (u v p : ℕ) (old : LinkView) : Type 0 where
   pub place : p ≡ value_at l.places u v
   pub value : old ≡ slice_index_or l.links p old
 
+-- the link is there where it was found
+pub found-at : {l seen : LinksView} {u v p : ℕ} {old : LinkView} → l ≡ seen → IsLinks l → u < seen.net.nodes → v < seen.net.nodes
+    → p ≡ value_at seen.places u v → old ≡ slice_index_or l.links p old → IsAt l u v p old
+found-at {l} {seen} {u} {v} {p} {old} same links un vn place value = record {
+  links = links;
+  from_in = rw (← same) at un;
+  to_in = rw (← same) at vn;
+  place = rw (← same) at place;
+  value = value;
+}
+
 module _ (l : LinksView) (u v p : ℕ) (old : LinkView) (h : IsAt l u v p old) where
   there : value_at l.places u v < length l.links
   there = h.links.placed.inside u v h.from_in h.to_in

@@ -1,13 +1,14 @@
 -- What a changed node does to all nodes.
-use Rattle.std.proofs.Common.{◌≡◌, ◌∙◌, sym, ap, subst, ℕ, ◌<◌, ◌⊎◌, inl, inr, arith, List, length, slice_set, slice_index_or}
+use Rattle.std.proofs.Common.{◌≡◌, ◌∙◌, sym, ap, subst, ℕ, ◌<◌, ◌⊎◌, inl, inr, arith, List, length, None, IsTrue, Contains, slice_set, slice_index_or}
 use Rattle.std.proofs.Math.Path.{fun_ext}
 use Rattle.std.proofs.lemmas.Grind.{common_steps}
 use Rattle.std.proofs.lemmas.List.{length-set}
 use Rattle.topology.specs.At.{at}
-use Rattle.topology.specs.Network.{Network}
+use Rattle.topology.specs.Network.{Network, are_joined, neighbours_of}
 use Rattle.node_core.specs.Site.{site_of}
 use Rattle.node_core.specs.View.{NodeView, site_in, state_of}
-use Rattle.configuration.specs.ConfigurationView.{AreNodesOf, no_node, node_at, states_of}
+use Rattle.run_model.specs.Step.{link_fault}
+use Rattle.configuration.specs.ConfigurationView.{AreNodesOf, ConfigurationView, no_node, node_at, states_of, world_of}
 
 -- the node v stands at place p, and is `old`
 pub record IsNodeAt (net : Network) (nodes : List NodeView) (v p : ℕ) (old : NodeView) : Type 0 where
@@ -17,9 +18,10 @@ pub record IsNodeAt (net : Network) (nodes : List NodeView) (v p : ℕ) (old : N
   pub value : old ≡ slice_index_or nodes p old
 
 -- the node is there where it was found
-pub found-there : (net : Network) (nodes : List NodeView) (v p : ℕ) (old : NodeView) {T : Type 0} → AreNodesOf net nodes → (p ≡ v) × (v < net.nodes) × T
-    → old ≡ slice_index_or nodes p old → IsNodeAt net nodes v p old
-found-there net nodes v p old are found value = record { nodes_are = are; in_net = found.1; place = found.0; value = value }
+pub found-there : {w seen : ConfigurationView} {v p : ℕ} {old : NodeView} {T : Type 0} → w ≡ seen → AreNodesOf w.links.net w.nodes
+    → (p ≡ v) × (v < (world_of seen).net.nodes) × T → old ≡ slice_index_or w.nodes p old → IsNodeAt w.links.net w.nodes v p old
+found-there {w} {seen} {v} {p} {old} same are found value =
+    record { nodes_are = are; in_net = rw (← same) at found.1; place = found.0; value = value }
 
 module _ (net : Network) (nodes : List NodeView) (v p : ℕ) (old : NodeView) (h : IsNodeAt net nodes v p old) where
   there : v < length nodes
@@ -66,3 +68,22 @@ module _ (net : Network) (nodes : List NodeView) (v p : ℕ) (old : NodeView) (h
 
     pub now-states : states_of net (slice_set nodes p new) ≡ at (states_of net nodes) v (state_of new)
     now-states = subst (λ k. states_of net (slice_set nodes k new) ≡ at (states_of net nodes) v (state_of new)) (sym h.place) (fun_ext state-one)
+
+-- the node v, which stands at place p and is `old`, has a link to u, one of its neighbours
+pub record IsPortAt (w : ConfigurationView) (v u p : ℕ) (old : NodeView) : Type 0 where
+  pub here : IsNodeAt w.links.net w.nodes v p old
+  pub near : Contains (site_in old).neighbours u
+  pub found : link_fault (world_of w) v u ≡ None
+
+-- the port is there where its link was found
+pub port-at : {w seen : ConfigurationView} {v u p : ℕ} {old : NodeView} {T : Type 0} → w ≡ seen → AreNodesOf w.links.net w.nodes
+    → (v < (world_of seen).net.nodes) × (u < (world_of seen).net.nodes) × IsTrue (are_joined (world_of seen).net.edges v u) × (link_fault (world_of seen) v u ≡ None)
+    → Contains (neighbours_of (world_of seen).net v) u × T → p ≡ v → old ≡ slice_index_or w.nodes p old → IsPortAt w v u p old
+port-at {w} {seen} {v} {u} {p} {old} same are ok near place value =
+    let here : IsNodeAt w.links.net w.nodes v p old = record { nodes_are = are; in_net = rw (← same) at ok.0; place = place; value = value } in
+    let beside : Contains (neighbours_of w.links.net v) u = rw (← same) at near.0 in
+    record {
+      here = here;
+      near = subst (λ s. Contains s.neighbours u) (sym (site-is _ _ _ _ _ here)) beside;
+      found = rw (← same) at ok.3;
+    }

@@ -1,22 +1,15 @@
 -- Where links stand: a spare one is laid between two nodes, or is spare again.
-use Rattle.std.proofs.Common.{◌≡◌, ◌≢◌, ◌*◌, take, ◌∙◌, sym, ap, subst, ℕ, ◌+◌, ◌-◌, ◌<◌, ◌≤◌, ◌⊎◌, inl, inr, ◌==◌, ◌&&◌, ◌||◌, not, Bool, true, arith, refl, List, [], ◌∷◌, ◌++◌, length, slice_index_or, slice_set, if◌then◌else◌}
+use Rattle.std.proofs.Common.{◌≡◌, ◌≢◌, ◌*◌, take, ◌∙◌, sym, ap, subst, ℕ, ◌+◌, ◌-◌, ◌<◌, ◌≤◌, ◌⊎◌, inl, inr, Bool, true, arith, refl, List, [], ◌∷◌, ◌++◌, length, slice_index_or, slice_set, if◌then◌else◌}
 use Rattle.std.proofs.Math.Path.{fun_ext}
 use Rattle.std.proofs.lemmas.Grind.{common_steps}
 use Rattle.std.proofs.lemmas.List.{get_or_append_left, get_or-take, length-append, length-set, take_more}
 use Rattle.std.proofs.Math.Seq.{get_or-append_seam}
-use Rattle.std.proofs.lemmas.List.Folds.{list_any-append}
-use Rattle.topology.specs.Network.{Edge, Network, are_joined, is_between}
+use Rattle.topology.specs.Network.{Edge, Network, are_joined}
 use Rattle.link_model.specs.Link.{LinkView, link}
 use Rattle.run_model.specs.World.{at_pair}
 use Rattle.configuration.specs.PairTable.{PairTableView, value_at}
 use Rattle.configuration.specs.Placed.{ArePlaced, AreStocked, IsSpare}
-
--- one more pair is joined, or one less
-abbrev pub joined_too : (ℕ → ℕ → Bool) → ℕ → ℕ → ℕ → ℕ → Bool
-joined_too is_joined a b u v = is_joined u v || ((u == a) && (v == b))
-
-abbrev pub joined_but : (ℕ → ℕ → Bool) → ℕ → ℕ → ℕ → ℕ → Bool
-joined_but is_joined a b u v = is_joined u v && not ((u == a) && (v == b))
+use Rattle.configuration.proofs.JoinedPairs.{joined_but, joined_too, two-ways}
 
 -- ---- the number of one pair is written
 
@@ -254,13 +247,6 @@ placed-set net is_joined places links spares u v new placed un vn same = record 
 
 -- ---- all links at once
 
--- an edge joins its two ends both ways
-pub two-ways : (edges : List Edge) (a b u v : ℕ) → joined_too (joined_too (are_joined edges) a b) b a u v ≡ are_joined (edges ++ (a, b) ∷ []) u v
-two-ways edges a b u v =
-    let one = list_any-append (is_between u v) edges ((a, b) ∷ []) in
-    let sides : (((u == a) && (v == b)) || ((u == b) && (v == a))) ≡ is_between u v (a, b) = grind (arith, common_steps) in
-    grind (arith, common_steps, one, sides)
-
 -- both links of one more edge are laid
 pub placed-edge : (net : Network) (edges : List Edge) (a b : ℕ) (first second third : PairTableView) (links : List LinkView) (spares one two : List ℕ)
     → ArePlaced net (are_joined edges) first links spares → 2 ≤ length spares → second.nodes ≡ first.nodes → third.nodes ≡ second.nodes
@@ -275,7 +261,7 @@ placed-edge net edges a b first second third links spares one two placed enough 
     let some : 0 < length one = rw one-is (grind (arith, common_steps, enough)) in
     let whole : ArePlaced net (joined_too (joined_too (are_joined edges) a b) b a) third links two =
     rw two-is (laid-one net (joined_too (are_joined edges) a b) second third links one b a (slice_index_or one (length one - 1) 0) half also back some refl) in
-    subst (λ j. ArePlaced net j third links two) (fun_ext (λ u. fun_ext (λ v. two-ways edges a b u v))) whole
+    subst (λ j. ArePlaced net j third links two) (fun_ext (λ u. fun_ext (λ v. two-ways edges (a, b) u v))) whole
 
 -- two spare links less
 pub two-less : (spares one two : List ℕ) → 2 ≤ length spares → one ≡ take (length spares - 1) spares → two ≡ take (length one - 1) one → length two + 2 ≡ length spares

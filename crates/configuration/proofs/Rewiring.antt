@@ -17,6 +17,16 @@ pub other-edges : (net : Network) (edges : List Edge) (nodes : List NodeView) (v
     → record (site_in (node_at nodes v)) { neighbours = neighbours_of (record net { edges = edges }) v } ≡ site_of (record net { edges = edges }) v
 other-edges net edges nodes v are vn = ap {A = Site} {B = Site} (λ s. record s { neighbours = neighbours_of (record net { edges = edges }) v }) (are.sites v vn)
 
+-- what the node w is then, where it is an end of the edge
+abbrev pub ended : Network → List Edge → List NodeView → ℕ → LocalState
+ended net edges nodes w = rewired (ranges_of net) (neighbours_of net w) (neighbours_of (record net { edges = edges }) w) (states_of net nodes w)
+
+-- The ends u and v of an edge that has joined or gone have taken up their neighbours in the network
+-- with these edges; no other node has changed.
+pub record AreRewired (net : Network) (edges : List Edge) (u v : ℕ) (old new : List NodeView) : Type 0 where
+  pub nodes : AreNodesOf (record net { edges = edges }) new
+  pub states : states_of (record net { edges = edges }) new ≡ at (at (states_of net old) u (ended net edges old u)) v (ended net edges old v)
+
 module _ (net : Network) (edges : List Edge) (u v : ℕ) (un : u < net.nodes) (vn : v < net.nodes) (no-loop : u ≢ v)
     (others : (w : ℕ) → w ≢ u → w ≢ v → neighbours_of (record net { edges = edges }) w ≡ neighbours_of net w)
     (nodes one two : List NodeView) (are : AreNodesOf net nodes) where
@@ -40,12 +50,11 @@ module _ (net : Network) (edges : List Edge) (u v : ℕ) (un : u < net.nodes) (v
             ∙ ap {A = List ℕ} {B = Site} (λ ns. record (site_of net w) { neighbours = ns }) (sym (others w p.0 p.1))
       ]
 
-      pub now-nodes : AreNodesOf changed two
+      now-nodes : AreNodesOf changed two
       now-nodes = record { all_nodes = second.all_nodes ∙ first.all_nodes ∙ are.all_nodes; sites = site-one }
 
-      -- what an end is now, where it was this node
-      abbrev pub end-state : ℕ → LocalState
-      end-state w = rewired (ranges_of net) (neighbours_of net w) (neighbours_of changed w) (states_of net nodes w)
+      abbrev end-state : ℕ → LocalState
+      end-state = ended net edges nodes
 
       of-site : Site → ℕ → LocalState → LocalState
       of-site s w state = rewired s.ranges s.neighbours (neighbours_of changed w) state
@@ -99,5 +108,8 @@ module _ (net : Network) (edges : List Edge) (u v : ℕ) (un : u < net.nodes) (v
             ]
           ]
 
-      pub now-states : states_of changed two ≡ at (at (states_of net nodes) u (end-state u)) v (end-state v)
+      now-states : states_of changed two ≡ at (at (states_of net nodes) u (end-state u)) v (end-state v)
       now-states = fun_ext state-one
+
+      pub are-rewired : AreRewired net edges u v nodes two
+      are-rewired = record { nodes = now-nodes; states = now-states }

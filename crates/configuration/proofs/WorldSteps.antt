@@ -35,7 +35,8 @@ pub now-world : (w : ConfigurationView) (v p : ℕ) (old new : NodeView) → IsN
     → world_of (record w { nodes = slice_set w.nodes p new }) ≡ with_node (world_of w) v (state_of new)
 now-world w v p old new h = ap (λ f. record { net = w.links.net; spares = spare_pairs w.links; node = f; link = under_way w.links }) (now-states w.links.net w.nodes v p old h new)
 
--- an event that is not refused is answered with what it did, and one that is refused with the refusal
+-- an event that is not refused is answered with what it did, and one that is refused with the
+-- refusal
 pub accepted : (w new : ConfigurationView) (e : Event) (did : Happened) → refusal (world_of w) e ≡ None → world_of new ≡ step (world_of w) e
     → did ≡ happened (world_of w) e → Answers w e new (Ok did)
 accepted w new e did none leads is = record { world = leads; ok = none; did = is; err = tt }

@@ -137,6 +137,7 @@ impl<A: Allocator + Copy> Configuration<A> {
     pub fn node(&self, v: u16) -> &Node<A>
         requires { v < (world_of self.now).net.nodes }
         ensures state { state_of result.now ≡ (world_of self.now).node v }
+        // It knows its own id, neighbours and ranges.
         ensures site { site_in result.now ≡ site (world_of self.now) v }
     {
         &self.nodes[usize::from(v)]
@@ -159,6 +160,7 @@ impl<A: Allocator + Copy> Configuration<A> {
         requires from_in { from < (world_of self.now).net.nodes }
         requires to_in { to < (world_of self.now).net.nodes }
         ensures items { result ≡ length ((world_of self.now).link from to) }
+        // 4096 is the greatest capacity.
         ensures few { result ≤ 4096 }
     {
         self.links.len(from, to)
@@ -191,6 +193,7 @@ impl<A: Allocator + Copy> Configuration<A> {
     }
 
     /// Refuses what is no node.
+    #[inline(always)]
     fn find_node(&self, v: u16) -> Result<usize, EventFault>
         ensures ok { IfOk result (λ place. (place ≡ v) × (v < (world_of self.now).net.nodes)
             × (node_fault (world_of self.now) v ≡ None)) }
@@ -204,6 +207,7 @@ impl<A: Allocator + Copy> Configuration<A> {
     }
 
     /// Refuses what are no two nodes.
+    #[inline(always)]
     fn find_nodes(&self, from: u16, to: u16) -> Result<(), EventFault>
         ensures ok { OnOk result ((from < (world_of self.now).net.nodes)
             × (to < (world_of self.now).net.nodes)
@@ -219,6 +223,7 @@ impl<A: Allocator + Copy> Configuration<A> {
     }
 
     /// Refuses what are no two neighbours.
+    #[inline(always)]
     fn find_link(&self, from: u16, to: u16) -> Result<(), EventFault>
         ensures ok { OnOk result ((from < (world_of self.now).net.nodes)
             × (to < (world_of self.now).net.nodes)
@@ -239,6 +244,7 @@ impl<A: Allocator + Copy> Configuration<A> {
     }
 
     /// The node `from` sends the frame of its port to `to`.
+    #[inline(always)]
     fn send(&mut self, from: u16, to: u16) -> Result<Happened, EventFault>
         ensures { Answers self.old (Send from to) self.new result }
     {
@@ -249,6 +255,7 @@ impl<A: Allocator + Copy> Configuration<A> {
     }
 
     /// A node ticks.
+    #[inline(always)]
     fn tick(&mut self, node: u16) -> Result<Happened, EventFault>
         ensures { Answers self.old (Tick node) self.new result }
     {
@@ -258,6 +265,7 @@ impl<A: Allocator + Copy> Configuration<A> {
     }
 
     /// The node `to` takes the oldest item of the link from `from`, if there is one.
+    #[inline(always)]
     fn take(&mut self, from: u16, to: u16) -> Result<Happened, EventFault>
         ensures { Answers self.old (Take from to) self.new result }
     {
@@ -272,6 +280,7 @@ impl<A: Allocator + Copy> Configuration<A> {
     }
 
     /// An item of a link is lost; 0 is the oldest.
+    #[inline(never)]
     fn lose(&mut self, from: u16, to: u16, item: u16) -> Result<Happened, EventFault>
         ensures { Answers self.old (Lose from to item) self.new result }
     {
@@ -283,6 +292,7 @@ impl<A: Allocator + Copy> Configuration<A> {
     }
 
     /// A client asks a node for the lock.
+    #[inline(never)]
     fn ask(&mut self, node: u16, ticket: u16) -> Result<Happened, EventFault>
         ensures { Answers self.old (Ask node ticket) self.new result }
     {
@@ -294,6 +304,7 @@ impl<A: Allocator + Copy> Configuration<A> {
     }
 
     /// A client gives the lock back to a node, or waits no longer.
+    #[inline(never)]
     fn leave(&mut self, node: u16, ticket: u16) -> Result<Happened, EventFault>
         ensures { Answers self.old (Leave node ticket) self.new result }
     {
@@ -308,17 +319,20 @@ impl<A: Allocator + Copy> Configuration<A> {
     /// the order of `EventFault`; then nothing has changed.
     ///
     /// No step takes memory, looks through the network, or copies a state.
+    #[inline(always)]
     pub fn step(&mut self, event: &Event) -> Result<Happened, EventFault>
         ensures { Answers self.old event.now self.new result }
     {
+        // An answer that a call hands on whole is kept in memory for every event; taken apart and
+        // made anew it is not.
         match *event {
             Event::Send { from, to } => self.send(from, to),
             Event::Take { from, to } => self.take(from, to),
-            Event::Lose { from, to, item } => self.lose(from, to, item),
+            Event::Lose { from, to, item } => Ok(self.lose(from, to, item)?),
             Event::Tick { node } => self.tick(node),
-            Event::Ask { node, ticket } => self.ask(node, ticket),
-            Event::Leave { node, ticket } => self.leave(node, ticket),
-            Event::Damage(harm) => self.damage(&harm),
+            Event::Ask { node, ticket } => Ok(self.ask(node, ticket)?),
+            Event::Leave { node, ticket } => Ok(self.leave(node, ticket)?),
+            Event::Damage(harm) => Ok(self.damage(&harm)?),
         }
     }
 }

@@ -153,6 +153,7 @@ impl<A: Allocator + Copy> Links<A> {
         requires few { pairs ≤ 256 }
         ensures net { IfOk result (λ links. links.net ≡ net.now) }
         ensures spares { IfOk result (λ links. spare_pairs links ≡ pairs) }
+        // Nothing is under way between any two nodes.
         ensures empty { IfOk result (λ links. under_way links ≡ λ u v. []) }
     {
         let net = net.copy(alloc)?;
@@ -226,6 +227,7 @@ impl<A: Allocator + Copy> Links<A> {
         requires from_in { from < self.now.net.nodes }
         requires to_in { to < self.now.net.nodes }
         ensures items { result ≡ length (under_way self.now from to) }
+        // 4096 is the greatest capacity.
         ensures few { result ≤ 4096 }
     {
         let place = self.place(from, to);
@@ -263,9 +265,11 @@ impl<A: Allocator + Copy> Links<A> {
     pub fn lose(&mut self, from: u16, to: u16, index: usize) -> Result<(), NoItem>
         requires from_in { from < self.old.net.nodes }
         requires to_in { to < self.old.net.nodes }
+        // There is an item to lose exactly where the index is below their number.
         ensures variant { IsOk result ↔ (index < length (under_way self.old from to)) }
         ensures net { self.new.net ≡ self.old.net }
         ensures spares { self.new.spares ≡ self.old.spares }
+        // The others keep their order, and no other link changes.
         ensures ok { OnOk result (under_way self.new
             ≡ at_pair (under_way self.old) from to (remove (under_way self.old from to) index)) }
         ensures no_item { OnErr result (under_way self.new ≡ under_way self.old) }
@@ -280,6 +284,7 @@ impl<A: Allocator + Copy> Links<A> {
         requires to_in { to < self.old.net.nodes }
         ensures net { self.new.net ≡ self.old.net }
         ensures spares { self.new.spares ≡ self.old.spares }
+        // No other link changes.
         ensures empty { under_way self.new ≡ at_pair (under_way self.old) from to [] }
     {
         let place = self.place(from, to);
@@ -288,10 +293,12 @@ impl<A: Allocator + Copy> Links<A> {
 
     /// An edge joins two nodes, with two empty links, those of a spare pair. No memory is taken.
     pub fn join(&mut self, u: u16, v: u16)
+        // Two nodes that no edge joins, and fewer edges than a network has at most.
         requires allowed { join_fault self.old.net u v ≡ None }
         requires spare { 0 < spare_pairs self.old }
         ensures net { self.new.net ≡ joined_net self.old.net u v }
         ensures spares { spare_pairs self.new ≡ spare_pairs self.old - 1 }
+        // Nothing is under way on the two links, and no other changes.
         ensures empty { under_way self.new
             ≡ at_pair (at_pair (under_way self.old) u v []) v u [] }
     {
@@ -310,9 +317,11 @@ impl<A: Allocator + Copy> Links<A> {
         requires from_in { u < self.old.net.nodes }
         requires to_in { v < self.old.net.nodes }
         requires joined { IsTrue (are_joined self.old.net.edges u v) }
+        // The edge goes exactly where the others hold the nodes together.
         ensures allowed { IsOk result ↔ IsTrue (is_connected (parted_net self.old.net u v)) }
         ensures net { OnOk result (self.new.net ≡ parted_net self.old.net u v) }
         ensures spares { OnOk result (spare_pairs self.new ≡ spare_pairs self.old + 1) }
+        // What was under way on the two links is gone, and no other changes.
         ensures empty { OnOk result (under_way self.new
             ≡ at_pair (at_pair (under_way self.old) u v []) v u []) }
         ensures apart { IfErr result (λ fault. fault ≡ Apart) }

@@ -29,7 +29,7 @@ impl<A: Allocator> Model for PairTable<A> {
 fn write_zeros<A: Allocator>(values: &mut Vec<u16, A>)
     ensures { values.new.items ≡ replicate (length values.old.items) 0 }
 {
-    let _all = values.as_slice();
+    let _known_all = values.as_slice();
     values.fill(0);
 }
 
@@ -79,6 +79,7 @@ impl<A: Allocator> PairTable<A> {
         requires first { first < self.old.nodes }
         requires second { second < self.old.nodes }
         ensures nodes { self.new.nodes ≡ self.old.nodes }
+        // No other pair has another number.
         ensures values { (u v : ℕ) → v < self.old.nodes
             → value_at self.new u v ≡ at_pair (value_at self.old) first second value u v }
     {
@@ -99,6 +100,7 @@ impl<A: Allocator> PairTable<A> {
         requires one { (one.0 < self.old.nodes) × (one.1 < self.old.nodes) }
         requires other { (other.0 < self.old.nodes) × (other.1 < self.old.nodes) }
         ensures nodes { self.new.nodes ≡ self.old.nodes }
+        // Each has the number that the other had, and no other pair changes.
         ensures values { (u v : ℕ) → v < self.old.nodes → value_at self.new u v
             ≡ at_pair (at_pair (value_at self.old) one.0 one.1 (value_at self.old other.0 other.1))
             other.0 other.1 (value_at self.old one.0 one.1) u v }

@@ -4,3 +4,5 @@ pub mod Rows
 pub mod SpellingLemmas
 pub mod EventSpelling
 pub mod EventReading
+pub mod UsualLines
+pub mod UsualReading

@@ -32,6 +32,7 @@ mod line;
 pub mod number;
 mod reader;
 mod text_line;
+mod usual;
 pub mod words;
 
 pub use event_line::EventLine;

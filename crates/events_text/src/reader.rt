@@ -1,11 +1,15 @@
 //! The lines of an events text that comes in pieces.
-ghost use Rattle.std.specs.Prelude.{◌≡◌, ◌<◌, ◌≤◌, ◌++◌, ℕ, List, [], length, take, IfNone, OnSome};
+ghost use Rattle.std.specs.Prelude.{◌≡◌, ◌<◌, ◌≤◌, ◌∷◌, ◌++◌, ℕ, List, [], length, take, IfNone, IfSome};
+ghost use Rattle.std.specs.Prelude.{OnSome};
 ghost use Rattle.std.specs.Option.{option_to_list};
 ghost use Rattle.byte_lines.specs.Kept.{StandsAfter};
 ghost use Rattle.events_text.specs.EventsText.{text_line, ended_lines, text_lines};
+ghost use Rattle.events_text.specs.declared.text_line.TextLine.TheVariants.{Told};
 
 use super::text_line::{LONGEST, TextLine, text_line};
+use super::usual::usual_line;
 use byte_lines::{HalfLine, LineReading};
+use run_model::Event;
 use std::marker::Model;
 
 /// Reads the lines of an events text, in whatever pieces it comes. It keeps the line under way, up
@@ -57,8 +61,41 @@ impl EventReader {
             → ended_lines (bytes ++ take result.used piece.now)
             ≡ ended_lines bytes ++ option_to_list result.line }
     {
+        byte_lines::laws::any_cutting();
+        byte_lines::laws::lines_grow();
+        if self.half.is_empty() {
+            if let Some((event, rest)) = usual_line(piece) {
+                return Taken {
+                    used: piece.len() - rest.len(),
+                    line: Some(TextLine::Told(event)),
+                };
+            }
+        }
         let byte_lines::Taken { used, line } = self.half.take(piece, &TextLines);
         Taken { used, line }
+    }
+
+    /// Takes the line in front of a piece, where none is under way and it is a usual one: `send U
+    /// V`, `take U V` or `tick V` with ids below 100. The answer is its event and how many bytes it
+    /// took; where there is none, nothing is taken, and [`EventReader::take`] is to read on.
+    #[inline(always)]
+    pub fn take_usual(&self, piece: &[u8]) -> Option<(Event, usize)>
+        ensures used { IfSome result (λ taken. (0 < taken.1) × (taken.1 ≤ length piece.now)) }
+        // It stands after the bytes that it had and those that it has now used.
+        ensures stands { IfSome result (λ taken. (bytes : List ℕ) → StandsAfter 64 bytes self.now
+            → StandsAfter 64 (bytes ++ take taken.1 piece.now) self.now) }
+        // What it answers is the event of the one line that these bytes end.
+        ensures line { IfSome result (λ taken. (bytes : List ℕ) → StandsAfter 64 bytes self.now
+            → ended_lines (bytes ++ take taken.1 piece.now)
+            ≡ ended_lines bytes ++ Told taken.0 ∷ []) }
+    {
+        byte_lines::laws::any_cutting();
+        byte_lines::laws::lines_grow();
+        if !self.half.is_empty() {
+            return None;
+        }
+        let (event, rest) = usual_line(piece)?;
+        Some((event, piece.len() - rest.len()))
     }
 
     /// The last line of a text that ends here, where no newline ended it.

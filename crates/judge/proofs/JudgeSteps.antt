@@ -122,6 +122,14 @@ placed w (Damage h) table all fits = refl
 pub undamaged-one : (w : World) (e : Event) → is_damage w e ≡ false → IsUndamaged w (e ∷ [])
 undamaged-one w e none = rw none refl
 
+-- room for a network is room for it behind an event without damage, whose take or loss was noted
+pub room-behind : Below → (now next : World) (e : Event) (did : Happened) (s before new : StretchView) → next ≡ step now e → is_damage now e ≡ false
+    → before ≡ cleared s → IsRoomFor now.net s → new.tallies.table ≡ before.tallies.table
+    → ((u v : ℕ) → v < before.tallies.table.nodes → tally_of new.tallies u v ≡ tally_behind u v did (tally_of before.tallies u v)) → IsRoomFor next.net new
+room-behind laws now next e did s before new is_next calm is_before room table tallies =
+    let same : now.net ≡ next.net = sym (ap (λ w. w.net) is_next ∙ laws.network now (e ∷ []) (undamaged-one now e calm)) in
+    subst (λ net. IsRoomFor net new) same (room-noted now.net did before new (room-cleared now.net s before is_before room) table tallies)
+
 -- room that no tally takes is room for every network of as many nodes whose links have places
 pub room-empty : (net : Network) (s : StretchView) → s.tallies.table.nodes ≡ net.nodes
     → ((u v : ℕ) → IsTrue (are_joined net.edges u v) → IsTrue (has_place s.tallies.table u v)) → ((u v : ℕ) → tally_of s.tallies u v ≡ no_tally) → IsRoomFor net s

@@ -1,4 +1,5 @@
--- What is to hold of a judge goes on with each event: one that is refused, damage, one that completes a sweep, and any other.
+-- What is to hold of a judge goes on with each event: one that is refused, damage, one that
+-- completes a sweep, and any other.
 use Rattle.std.proofs.Common.{◌≡◌, ◌∙◌, sym, ap, subst, ℕ, ◌+◌, ◌-◌, ◌^◌, min, true, false, IsTrue, is_some, if◌then◌else◌, suc, List, [], ◌∷◌, ◌++◌, append_assoc, arith, refl}
 use Rattle.std.proofs.lemmas.Grind.{common_steps}
 use Rattle.std.proofs.lemmas.List.{append-nil}

@@ -1,27 +1,16 @@
 -- Places of tallies, laid one after the other.
-use Rattle.std.proofs.Common.{◌≡◌, ◌*◌, take, ◌∙◌, sym, ap, subst, ℕ, ◌+◌, ◌<◌, ◌≤◌, ◌⊎◌, inl, inr, ◌==◌, ◌&&◌, ◌||◌, Bool, false, arith, List, [], ◌∷◌, ◌++◌, length, replicate, slice_index_or}
+use Rattle.std.proofs.Common.{◌≡◌, ◌*◌, take, ◌∙◌, sym, ap, subst, ℕ, ◌+◌, ◌<◌, ◌≤◌, ◌⊎◌, inl, inr, Bool, false, arith, List, [], ◌∷◌, ◌++◌, length, replicate, slice_index_or}
 use Rattle.std.proofs.Math.Path.{fun_ext}
 use Rattle.std.proofs.lemmas.Grind.{common_steps}
 use Rattle.std.proofs.lemmas.List.{length-replicate, take_more}
-use Rattle.std.proofs.lemmas.List.Folds.{list_any-append}
-use Rattle.topology.specs.Network.{Edge, Network, IsAcceptedNetwork, are_joined, is_between}
+use Rattle.topology.specs.Network.{Edge, Network, IsAcceptedNetwork, are_joined}
 use Rattle.run_model.specs.World.{at_pair}
 use Rattle.configuration.specs.PairTable.{PairTableView, value_at}
+use Rattle.configuration.proofs.JoinedPairs.{joined_too, two-ways}
 use Rattle.judge.specs.declared.tallies.Tally.{Tally}
 use Rattle.judge.specs.Tallies.{IsTallied, most_tallies, no_tally, unrenewed_in}
 use Rattle.judge.specs.Laid.{IsLaid}
 use Rattle.judge.proofs.TallyCounts.{none-there, none-unrenewed}
-
--- one more pair is joined
-abbrev joined_too : (ℕ → ℕ → Bool) → ℕ → ℕ → ℕ → ℕ → Bool
-joined_too is_joined a b u v = is_joined u v || ((u == a) && (v == b))
-
--- an edge joins its two ends both ways
-two-ways : (edges : List Edge) (e : Edge) (u v : ℕ) → joined_too (joined_too (are_joined edges) e.0 e.1) e.1 e.0 u v ≡ are_joined (edges ++ e ∷ []) u v
-two-ways edges e u v =
-    let one = list_any-append (is_between u v) edges (e ∷ []) in
-    let sides : (((u == e.0) && (v == e.1)) || ((u == e.1) && (v == e.0))) ≡ is_between u v e = grind (arith, common_steps) in
-    grind (arith, common_steps, one, sides)
 
 module _ (nodes : ℕ) (is_joined : ℕ → ℕ → Bool) (old new : PairTableView) (next a b : ℕ) (some : 0 < next)
     (laid : IsLaid nodes is_joined old next) (same_nodes : new.nodes ≡ old.nodes)

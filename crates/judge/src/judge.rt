@@ -50,6 +50,7 @@ fn begin_link<A: Allocator + Copy>(
 }
 
 /// Begins a stretch at a configuration. It looks at the links of the edges alone.
+#[inline(never)]
 fn begin<A: Allocator + Copy>(configuration: &Configuration<A>, stretch: &mut Stretch<A>)
     requires { IsRoomFor (world_of configuration.now).net stretch.old }
     // What is kept is that of an empty stretch, and the room is still the network's.
@@ -126,6 +127,8 @@ impl<A: Allocator + Copy> Judge<A> {
 
     /// One event happens, as in `World::step`; a refused one is counted. It looks at two tallies at
     /// most, except where a sweep ends or damage is accepted.
+    // A call of its own would write the event to memory for each line of a text, and read it again.
+    #[inline(always)]
     pub fn step(&mut self, event: &Event) -> Result<(), EventFault>
         ensures world { world_of self.new.configuration
             ≡ step (world_of self.old.configuration) event.now }

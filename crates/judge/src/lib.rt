@@ -10,7 +10,8 @@
 //!
 //! ```
 //! let mut judge = Judge::new(world);
-//! judge.step(&Event::Tick { node: 0 })?;      // refused, as NoNode is, it is counted, and changes nothing else
+//! // Refused, as NoNode is, it is counted, and changes nothing else.
+//! judge.step(&Event::Tick { node: 0 })?;
 //! let sweeps = judge.sweeps();
 //! ```
 //!

@@ -24,6 +24,7 @@ impl<A: Allocator + Copy> World<A> {
     pub fn into_parts(self) -> Parts<A>
         ensures nodes { result.nodes.items ≡ self.nodes }
         ensures links { result.links ≡ self.links }
+        // What `from_parts` asks for holds of them.
         ensures parts { AreOneWorlds result.nodes.items result.links result.room }
     {
         let World {

@@ -63,6 +63,7 @@ impl<A: Allocator + Copy> Stretch<A> {
 
 impl<A: Allocator> Stretch<A> {
     /// The oldest item of a link is taken.
+    #[inline(always)]
     fn take(&mut self, from: u16, to: u16)
         requires from_in { from < self.old.tallies.table.nodes }
         requires to_in { to < self.old.tallies.table.nodes }
@@ -97,6 +98,7 @@ impl<A: Allocator> Stretch<A> {
     }
 
     /// Adds what an event did, where it is no damage.
+    #[inline(always)]
     pub(crate) fn note(&mut self, happened: &Happened)
         requires few { self.old.tallies.table.nodes ≤ 64 }
         requires nodes { IsTrue (names_below self.old.tallies.table.nodes happened.now) }
@@ -132,6 +134,7 @@ impl<A: Allocator> Stretch<A> {
 
     /// Room for the edges of a network as they are now, with no link to be renewed. The tally of
     /// each link is then to be begun.
+    #[inline(never)]
     pub(crate) fn lay<N: Allocator + Copy>(&mut self, net: &Net<N>)
         requires { self.old.tallies.table.nodes ≡ net.now.nodes }
         ensures nodes { self.new.tallies.table.nodes ≡ net.now.nodes }

@@ -86,7 +86,7 @@ fn lay_all<A: Allocator, N: Allocator + Copy>(table: &mut PairTable<A>, net: &Ne
         (2 * length net.now.edges + 1) }
 {
     topology::laws::joined();
-    let _nodes = net.nodes();
+    let _known_nodes = net.nodes();
     table.clear();
     let mut place = 1;
     for edge in net.edges() {
@@ -124,8 +124,10 @@ impl<A: Allocator + Copy> Tallies<A> {
     /// Tallies for the links of a network, none of them to be renewed. All memory is reserved here.
     pub fn new<N: Allocator + Copy>(alloc: A, net: &Net<N>) -> Result<Tallies<A>, AllocError>
         ensures nodes { IfOk result (λ t. t.table.nodes ≡ net.now.nodes) }
+        // Each link has a tally of its own.
         ensures placed { IfOk result (λ t. (u v : ℕ) → IsTrue (are_joined net.now.edges u v)
             → IsTrue (has_place t.table u v)) }
+        // Nothing is to be renewed, on a link or elsewhere.
         ensures empty { IfOk result (λ t. (u v : ℕ) → tally_of t u v ≡ no_tally) }
         ensures looked { IfOk result (λ t. t.looked ≡ 0) }
     {
@@ -164,10 +166,12 @@ impl<A: Allocator> Tallies<A> {
     }
 
     /// The tally of a link.
+    #[inline(always)]
     pub fn get(&mut self, from: u16, to: u16) -> Tally
         requires from_in { from < self.old.table.nodes }
         requires to_in { to < self.old.table.nodes }
         ensures tally { result ≡ tally_of self.old from to }
+        // The look is counted, up to the greatest number of 32 bits.
         ensures looked { self.new
             ≡ record self.old { looked = min (self.old.looked + 1) (2 ^ 32 - 1) } }
     {
@@ -187,13 +191,16 @@ impl<A: Allocator> Tallies<A> {
     }
 
     /// Writes the tally of a link, which has a place.
+    #[inline(always)]
     pub fn set(&mut self, from: u16, to: u16, tally: Tally)
         requires from_in { from < self.old.table.nodes }
         requires to_in { to < self.old.table.nodes }
         requires placed { IsTrue (has_place self.old.table from to) }
         ensures table { self.new.table ≡ self.old.table }
+        // No other link has another tally.
         ensures tallies { (u v : ℕ) → v < self.old.table.nodes
             → tally_of self.new u v ≡ at_pair (tally_of self.old) from to tally u v }
+        // The look is counted, up to the greatest number of 32 bits.
         ensures looked { self.new.looked ≡ min (self.old.looked + 1) (2 ^ 32 - 1) }
     {
         self.looked = self.looked.saturating_add(1);
@@ -217,8 +224,10 @@ impl<A: Allocator> Tallies<A> {
     pub fn lay<N: Allocator + Copy>(&mut self, net: &Net<N>)
         requires { self.old.table.nodes ≡ net.now.nodes }
         ensures nodes { self.new.table.nodes ≡ net.now.nodes }
+        // Each link of the network has a tally of its own.
         ensures placed { (u v : ℕ) → IsTrue (are_joined net.now.edges u v)
             → IsTrue (has_place self.new.table u v) }
+        // Nothing is to be renewed, on a link or elsewhere.
         ensures empty { (u v : ℕ) → tally_of self.new u v ≡ no_tally }
     {
         topology::laws::joined();

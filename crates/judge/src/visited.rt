@@ -18,6 +18,7 @@ fn with(mask: u64, node: u16) -> u64
 }
 
 /// The nodes that are privileged now. It looks at each.
+#[inline(never)]
 pub fn privileged_nodes<A: Allocator + Copy>(configuration: &Configuration<A>) -> u64
     ensures { (v : ℕ) → has_bit result v ≡ (nat_lt v (world_of configuration.now).net.nodes
         && is_privileged (world_of configuration.now) v) }
@@ -34,6 +35,7 @@ pub fn privileged_nodes<A: Allocator + Copy>(configuration: &Configuration<A>) -
 
 /// The mask with the bit of a node, where that is privileged now. It looks at no node whose bit is
 /// there.
+#[inline(always)]
 fn visit<A: Allocator + Copy>(configuration: &Configuration<A>, mask: u64, node: u16) -> u64
     requires { node < (world_of configuration.now).net.nodes }
     ensures { (v : ℕ) → has_bit result v
@@ -51,6 +53,7 @@ fn visit<A: Allocator + Copy>(configuration: &Configuration<A>, mask: u64, node:
 
 /// The nodes visited, behind what happened, where that is no damage. It looks at the one node that
 /// ticked or took, if there is one, since the machines and copies of no other have changed.
+#[inline(always)]
 pub fn visited_behind<A: Allocator + Copy>(
     configuration: &Configuration<A>,
     visited: u64,

@@ -81,6 +81,7 @@ impl<A: Allocator + Copy> World<A> {
     pub fn node(&self, v: u16) -> &Node<A>
         requires { v < (world_of self.now).net.nodes }
         ensures state { state_of result.now ≡ (world_of self.now).node v }
+        // It knows its own id, neighbours and ranges.
         ensures site { site_in result.now ≡ site (world_of self.now) v }
     {
         self.configuration.node(v)
@@ -99,6 +100,7 @@ impl<A: Allocator + Copy> World<A> {
         requires from_in { from < (world_of self.now).net.nodes }
         requires to_in { to < (world_of self.now).net.nodes }
         ensures items { result ≡ length ((world_of self.now).link from to) }
+        // 4096 is the greatest capacity.
         ensures few { result ≤ 4096 }
     {
         self.configuration.under_way(from, to)
@@ -132,7 +134,9 @@ impl<A: Allocator + Copy> World<A> {
     ///
     /// No step takes memory, looks through the network, or copies a state.
     pub fn step(&mut self, event: &Event) -> Result<(), EventFault>
+        // The world is that of the model's step; one that is refused changes nothing there.
         ensures world { world_of self.new ≡ step (world_of self.old) event.now }
+        // It is accepted where the model refuses nothing, and else the first refusal is told.
         ensures ok { OnOk result (refusal (world_of self.old) event.now ≡ None) }
         ensures err { IfErr result (λ fault. refusal (world_of self.old) event.now ≡ Some fault) }
     {

@@ -18,11 +18,13 @@ use Rattle.judge.specs.Judging.{counted_up_to}
 use Rattle.judge.specs.JudgeView.{JudgeView, HasSeen}
 use Rattle.configuration.specs.ConfigurationView.{ConfigurationView, world_of}
 
--- as many sweeps without damage as the network needs lead from each world in range to one of which P holds
+-- as many sweeps without damage as the network needs lead from each world in range to one of which
+-- P holds
 abbrev pub LeadsTo : (Network → ℕ) → (World → Type 0) → Type 0
 LeadsTo needed P = (w : World) (es : List Event) → IsWorldInRange w → IsUndamaged w es → Sweeps w (needed w.net) es → P (run w es)
 
--- The network at the moment after the last damage is the one that stands at the end, and what those sweeps lead to the run has led to.
+-- The network at the moment after the last damage is the one that stands at the end, and what those
+-- sweeps lead to the run has led to.
 module _ (network : NetworkStays) (leads : MomentLeads) (start : World) (es : List Event) (ok : IsWorldInRange start) where
   pub same-network : (after_damage start es).world.net ≡ (run start es).net
   same-network =

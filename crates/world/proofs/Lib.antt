@@ -1,8 +1,8 @@
 mod Writing
-mod SimulatedLines
+pub mod SimulatedLines
 mod SimulatedBytes
 mod SimulatedEnd
-mod SimulatedPieces
+pub mod SimulatedPieces
 mod RowsSimulated
 mod Headline
 mod Visits

@@ -1,4 +1,5 @@
--- Runs of two nodes: a payload that was staged at the start and never again is not fresh after them, and their start is not legitimate.
+-- Runs of two nodes: a payload that was staged at the start and never again is not fresh after
+-- them, and their start is not legitimate.
 use Rattle.std.proofs.Common.{◌≡◌, ℕ, ◌<◌, zero, suc, List, [], ◌∷◌, ◌++◌, ◌==◌, true, false, refl, subst, Contains, arith}
 use Rattle.std.proofs.lemmas.List.Elements.{All-contains}
 use Rattle.std.proofs.lemmas.List.Sums.{AllPass-from_list_all}
@@ -84,7 +85,8 @@ says-one p c =
     let said = said_in (after 8) (repeated 3) 1 0 in
     All-contains (λ x. x.distance == 1 ≡ true) said p (AllPass-from_list_all (λ x. x.distance == 1) said refl) c
 
--- at the start it says 2, the greatest distance, and a world that still has this staged is not what these sweeps lead to
+-- at the start it says 2, the greatest distance, and a world that still has this staged is not what
+-- these sweeps lead to
 stale : ¬ ArePayloadsFresh start (repeated 11) start
 stale fresh = absurd (let h = says-one _ (fresh (repeated 8) (repeated 3) 1 0 refl refl eight-sweeps three-sweeps).0 in cc)
 

@@ -1,8 +1,7 @@
 -- A simulation goes on with each piece of its text.
-use Rattle.std.proofs.Common.{◌≡◌, ◌∙◌, ap, sym, ℕ, ◌+◌, ◌-◌, ◌≤◌, Bool, true, false, List, [], ◌∷◌, ◌++◌, Option, Result, Ok, Err, IsErr, length, take, drop, map, arith, refl}
+use Rattle.std.proofs.Common.{◌≡◌, ◌∙◌, ap, ℕ, ◌+◌, List, [], ◌∷◌, ◌++◌, Option, Result, Ok, Err, IsErr, length, map, arith}
 use Rattle.std.proofs.lemmas.Grind.{common_steps}
 use Rattle.std.proofs.lemmas.List.{map-append}
-use Rattle.std.proofs.Math.Seq.{take-add}
 use Rattle.byte_lines.specs.Lines.{lines_after, half_line, whole_lines}
 use Rattle.byte_lines.specs.Kept.{Kept, StandsAfter}
 use Rattle.byte_lines.proofs.Cutting.{lines_cut}
@@ -14,12 +13,7 @@ use Rattle.world.specs.SimulatedText.{told_events, refusals_of, refusal_lines}
 use Rattle.byte_streams.specs.Streams.{TakesABeginning}
 use Rattle.world.specs.UnderWay.{SimulationView, HasRun, IsUnderWay, GoesOn}
 use Rattle.world.proofs.SimulatedLines.{refusals_both}
-use Rattle.world.proofs.Writing.{take_rest, beginning_of_more}
-
--- the first bytes of a piece, and more of them
-pub piece_more : (piece : List ℕ) (at used : ℕ) → at ≤ length piece
-    → take (at + used) piece ≡ take at piece ++ take used (take (length piece - at) (drop at piece))
-piece_more piece at used within = take-add at used piece ∙ ap (λ xs. take at piece ++ take used xs) (sym (take_rest piece at within))
+use Rattle.world.proofs.Writing.{beginning_of_more}
 
 -- the refusal lines of the whole lines of bytes are the first ones of more bytes
 pub beginning_of_bytes : (start : World) (bytes more : List ℕ) (before after : Option (List ℕ))

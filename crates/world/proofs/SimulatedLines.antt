@@ -13,7 +13,8 @@ use Rattle.world.specs.SimulatedText.{line_refusal, refusal_line, refusal_lines,
 use Rattle.byte_streams.specs.Streams.{Takes, TakesABeginning, WritesAll}
 use Rattle.world.specs.UnderWay.{SimulationView, HasRun, HasSeenLine, Runs}
 use Rattle.configuration.specs.ConfigurationView.{world_of}
-use Rattle.world.proofs.Writing.{takes_both, takes_nothing, then_beginning}
+use Rattle.byte_streams.proofs.Writing.{takes_both}
+use Rattle.world.proofs.Writing.{takes_nothing, then_beginning}
 
 -- the events of lines and then more lines
 pub told_both : (lines more : List TextLine) → told_events (lines ++ more) ≡ told_events lines ++ told_events more

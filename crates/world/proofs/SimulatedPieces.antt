@@ -1,5 +1,5 @@
 -- What becomes of a text that is read in pieces.
-use Rattle.std.proofs.Common.{◌≡◌, ◌∙◌, ap, sym, refl, ℕ, zero, suc, ◌+◌, ◌-◌, ◌≤◌, List, [], ◌∷◌, ◌++◌, Option, Some, length, take, drop, map, arith}
+use Rattle.std.proofs.Common.{◌≡◌, ◌∙◌, ap, sym, ℕ, ◌+◌, ◌-◌, ◌≤◌, List, [], ◌++◌, Option, Some, length, take, drop, map, arith}
 use Rattle.std.proofs.lemmas.Grind.{common_steps}
 use Rattle.std.proofs.Math.Seq.{take-add}
 use Rattle.std.proofs.lemmas.List.{take-append-drop, length-drop, append-nil}
@@ -9,29 +9,10 @@ use Rattle.run_model.specs.Run.{run}
 use Rattle.events_text.specs.EventsText.{text_line, ended_lines, last_line, text_lines}
 use Rattle.world.specs.SimulatedText.{told_events, refusals_of, refusal_lines}
 use Rattle.world.specs.Simulating.{HasRead}
-use Rattle.byte_streams.specs.Streams.{Gives, GivesNext, TakesABeginning}
+use Rattle.byte_streams.specs.Streams.{TakesABeginning}
 use Rattle.world.proofs.SimulatedBytes.{beginning_of_bytes}
 use Rattle.world.proofs.SimulatedLines.{refusals_both}
 use Rattle.world.proofs.Writing.{beginning_of_more}
-
--- what a source gives that still has these bytes to give
-pub given : (count : ℕ) (before after : Option (List ℕ)) (buffer rest : List ℕ) → before ≡ Some rest → Gives count before after buffer → GivesNext count rest after buffer
-given count before after buffer rest is gives = rw is at gives
-
--- the first of the first items
-take_first : (k count : ℕ) (xs : List ℕ) → k ≤ count → take k (take count xs) ≡ take k xs
-take_first zero count xs few = refl
-take_first (suc k) zero xs few = grind (arith, common_steps)
-take_first (suc k) (suc count) [] few = refl
-take_first (suc k) (suc count) (x ∷ xs) few = ap (λ ys. x ∷ ys) (take_first k count xs (grind (arith, common_steps)))
-
--- the bytes that have been taken, and the first ones of the buffer
-pub piece_read : (bytes buffer : List ℕ) (n count k : ℕ) → take count buffer ≡ take count (drop n bytes) → k ≤ count
-    → take n bytes ++ take k buffer ≡ take (n + k) bytes
-piece_read bytes buffer n count k same few =
-    let first : take k buffer ≡ take k (drop n bytes) =
-    sym (take_first k count buffer few) ∙ ap (take k) same ∙ take_first k count (drop n bytes) few in
-    ap (λ xs. take n bytes ++ xs) first ∙ sym (take-add n k bytes)
 
 -- n bytes have been read, and then `count` more
 pub read_more : (bytes : List ℕ) (after : Option (List ℕ)) (n count : ℕ) → n ≤ length bytes → count ≤ length (drop n bytes) → after ≡ Some (drop count (drop n bytes))

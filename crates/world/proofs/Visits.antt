@@ -5,7 +5,7 @@ use Rattle.topology.specs.Network.{Network, IsAcceptedNetwork, bound_of}
 use Rattle.topology.specs.Eccentricity.{SharpWithinBound, sharp_of}
 use Rattle.run_model.specs.World.{World, IsWorldInRange}
 use Rattle.run_model.specs.Step.{step}
-use Rattle.run_model.specs.Run.{run, has_damage, IsUndamaged}
+use Rattle.run_model.specs.Run.{run, IsUndamaged}
 use Rattle.run_model.specs.Sweep.{Sweeps}
 use Rattle.run_model.specs.Count.{Moment, after_damage, IsSweepCount}
 use Rattle.run_model.specs.Laws.{FewerSweeps, NetworkStays, FrameStays, MomentLeads}

@@ -1,25 +1,17 @@
 -- Texts that are written part by part, and the one of a sink that fails on the way.
-use Rattle.std.proofs.Common.{◌≡◌, ◌∙◌, ap, sym, ℕ, ◌+◌, ◌-◌, ◌<◌, ◌≤◌, List, [], ◌∷◌, ◌++◌, Option, Some, None, Result, Ok, Err, IsErr, length, take, drop, get_or, append_assoc, arith, refl}
+use Rattle.std.proofs.Common.{◌≡◌, ◌∙◌, ap, sym, ℕ, ◌+◌, ◌<◌, ◌≤◌, List, [], ◌∷◌, ◌++◌, Option, Some, None, Result, Ok, Err, length, take, drop, get_or, append_assoc, arith}
 use Rattle.std.specs.List.{flat_map, range_with_len}
 use Rattle.std.proofs.lemmas.Grind.{common_steps, flat_map-append}
-use Rattle.std.proofs.lemmas.List.{take-append-drop, append-nil}
+use Rattle.std.proofs.lemmas.List.{append-nil}
 use Rattle.std.proofs.lemmas.List.FromFn.{get_or-range_with_len, length-range_with_len}
-use Rattle.std.proofs.Math.Seq.{take-add, take-length}
-use Rattle.byte_streams.specs.Streams.{Takes, TakesABeginning, WritesAll, Rose}
-
--- what was taken in two parts was taken in one
-pub takes_both : (xs ys : List ℕ) (before between after : Option (List ℕ)) → Takes xs before between → Takes ys between after → Takes (xs ++ ys) before after
-takes_both xs ys None between after first second = grind (arith, common_steps)
-takes_both xs ys (Some taken) between after first second = grind (arith, common_steps)
+use Rattle.std.proofs.Math.Seq.{take-length}
+use Rattle.byte_streams.specs.Streams.{Takes, TakesABeginning, WritesAll}
+use Rattle.byte_streams.proofs.Writing.{takes_both}
 
 -- nothing is taken
 pub takes_nothing : (before : Option (List ℕ)) → Takes [] before before
 takes_nothing None = grind (arith, common_steps)
 takes_nothing (Some taken) = grind (arith, common_steps)
-
--- all that is left is as long as it is
-pub take_rest : (bytes : List ℕ) (n : ℕ) → n ≤ length bytes → take (length bytes - n) (drop n bytes) ≡ drop n bytes
-take_rest bytes n within = grind (arith, common_steps)
 
 -- a beginning of the bytes is one of more bytes
 pub beginning_of_more : (xs ys : List ℕ) (before after : Option (List ℕ)) → TakesABeginning xs before after → TakesABeginning (xs ++ ys) before after
@@ -36,12 +28,6 @@ then_beginning xs ys before between after first b =
       parts = ap (λ zs. xs ++ zs) b.parts ∙ sym (append_assoc xs b.front b.back);
       taken = takes_both xs b.front before between after first b.taken;
     }
-
--- the sink failed after a beginning
-pub fails_within : {E : Type 0} (result : Result (Unit {0}) E) (bytes : List ℕ) (before after : Option (List ℕ)) (failures more : ℕ)
-    → IsErr result → TakesABeginning bytes before after → failures ≤ more → Rose failures more → WritesAll result bytes before after failures more
-fails_within (Ok value) bytes before after failures more failed b higher rose = grind (arith, common_steps)
-fails_within (Err e) bytes before after failures more failed b higher rose = (b, higher, rose)
 
 -- all of these were written, and then those were, or the sink failed
 pub writes_then : {E : Type 0} (result : Result (Unit {0}) E) (xs ys : List ℕ) (before between after : Option (List ℕ)) (failures more most : ℕ)

@@ -45,7 +45,7 @@
 //! memory; a program puts files behind the two traits:
 //!
 //! ```
-//! let summary = simulate(alloc, &net, &mut source, &mut sink)?;      // summary.refused, summary.sweeps
+//! let Summary { refused, sweeps } = simulate(alloc, &net, &mut source, &mut sink)?;
 //! ```
 #![tactic(auto)]
 

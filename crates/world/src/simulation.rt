@@ -3,7 +3,7 @@
 //! ```
 //! let mut source = MemorySource::new(b"tick 0\nsend 0 1\ntake 0 1\n", 4096);
 //! let mut sink = MemorySink::new(alloc, 4096)?;
-//! let summary = simulate(alloc, &net, &mut source, &mut sink)?;      // summary.refused, summary.sweeps
+//! let Summary { refused, sweeps } = simulate(alloc, &net, &mut source, &mut sink)?;
 //! ```
 //!
 //! The events text may be as long as [`LONGEST_TEXT`] says; whatever its length, memory is taken

@@ -201,7 +201,7 @@ impl<A: Allocator + Copy> Configuration<A> {
         topology::laws::changes();
         topology::laws::joined();
         self.find_link(u, v)?;
-        let _nodes = self.links.net().nodes();
+        let _known_nodes = self.links.net().nodes();
         if self.links.part(u, v).is_err() {
             return Err(EventFault::Apart);
         }
@@ -211,6 +211,7 @@ impl<A: Allocator + Copy> Configuration<A> {
     }
 
     /// A transient fault writes one part of the world, or changes one edge.
+    #[inline(never)]
     pub(super) fn damage(&mut self, harm: &Harm) -> Result<Happened, EventFault>
         ensures { Answers self.old (Damage harm.now) self.new result }
     {

@@ -12,6 +12,7 @@ pub type Line = ArrayString<96>;
 pub fn push_number(line: &mut Line, word: &str, number: u64)
     requires { array_string_len line.old + length word.now + 20 ≤ 96 }
     ensures bytes { line.new.bytes ≡ line.old.bytes ++ word.now ++ decimal number }
+    // A number of 64 bits has at most 20 digits.
     ensures short { array_string_len line.new ≤ array_string_len line.old + length word.now + 20 }
 {
     line.push_str(word);

@@ -64,11 +64,15 @@ impl<A: Allocator + Copy> Simulation<A> {
         sink: &mut W,
     ) -> Result<(), SimFault>
         requires { self.old.lines ≡ 0 }
+        // No line is counted twice: there are at most as many as a text may have bytes.
         ensures lines { OnOk result (self.new.lines ≤ longest_text) }
+        // What its whole lines tell has happened, and what is refused of it is written.
         ensures text { ReadsAll self.old (R.rest source.old) (W.taken sink.old) result self.new
             (R.rest source.new) (W.taken sink.new) }
+        // That the source or the sink failed is answered only where it did.
         ensures cause { HasCause result (R.failures source.old) (R.failures source.new)
             (W.failures sink.old) (W.failures sink.new) }
+        // No failure is forgotten.
         ensures source { R.failures source.old ≤ R.failures source.new }
         ensures sink { W.failures sink.old ≤ W.failures sink.new }
     {
@@ -95,6 +99,7 @@ impl<A: Allocator + Copy> Simulation<A> {
     /// has led.
     pub fn finish<W: Sink>(&mut self, sink: &mut W) -> Result<Summary, SimFault>
         requires { self.old.lines < 2 ^ 64 - 1 }
+        // The last line counts also where no newline ended it; then comes the state.
         ensures text { EndsThere self.old (W.taken sink.old) result (W.taken sink.new) }
         ensures failures { CountsFailures result (W.failures sink.old) (W.failures sink.new) }
         ensures err { IfErr result (λ fault. fault ≡ Write) }
@@ -121,7 +126,7 @@ impl<A: Allocator + Copy> Simulation<A> {
         let Some(line) = self.reader.last() else {
             return Ok(());
         };
-        self.line(line, sink)
+        self.rare_line(line, sink)
     }
 
     /// Takes a piece of the text: its events happen, and its refused lines are told.
@@ -134,17 +139,37 @@ impl<A: Allocator + Copy> Simulation<A> {
     {
         let mut at = 0;
         while at < piece.len() {
+            if let Some((event, used)) = self.reader.take_usual(&piece[at..]) {
+                at += used;
+                self.line(TextLine::Told(event), sink)?;
+                continue;
+            }
             let taken = self.reader.take(&piece[at..]);
             at += taken.used;
             let Some(line) = taken.line else {
                 return Ok(());
             };
-            self.line(line, sink)?;
+            self.rare_line(line, sink)?;
         }
         Ok(())
     }
 
+    /// The next line, as [`Simulation::line`] runs it: for lines that are few.
+    #[inline(never)]
+    fn rare_line<W: Sink>(&mut self, line: TextLine, sink: &mut W) -> Result<(), Failed>
+        requires { self.old.lines < 2 ^ 64 - 1 }
+        ensures lines { self.new.lines ≡ self.old.lines + 1 }
+        ensures reader { self.new.reader ≡ self.old.reader }
+        ensures runs { RunsNext self.old (W.taken sink.old) line result self.new
+            (W.taken sink.new) }
+        ensures failures { CountsFailures result (W.failures sink.old) (W.failures sink.new) }
+    {
+        self.line(line, sink)
+    }
+
     /// The next line: its event happens, or it is told that it is refused.
+    // A call of its own would write the event to memory for each line, and read it again.
+    #[inline(always)]
     fn line<W: Sink>(&mut self, line: TextLine, sink: &mut W) -> Result<(), Failed>
         requires { self.old.lines < 2 ^ 64 - 1 }
         ensures lines { self.new.lines ≡ self.old.lines + 1 }
@@ -163,6 +188,7 @@ impl<A: Allocator + Copy> Simulation<A> {
 }
 
 /// Lets the event of a line happen. The answer is why the line is refused, if it is.
+#[inline(always)]
 fn refusal<A: Allocator + Copy>(judge: &mut Judge<A>, line: TextLine) -> Option<&'static str>
     ensures name { option_map (λ name. name.now) result
         ≡ line_refusal (world_of judge.old.configuration) line }

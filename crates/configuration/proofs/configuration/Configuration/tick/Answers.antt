@@ -3,7 +3,7 @@ use Rattle.run_model.specs.declared.event.Event.TheVariants.{Tick}
 use Rattle.run_model.specs.declared.happened.Happened.TheVariants.{FullTick, LendingTick}
 use Rattle.run_model.specs.Step.{refusal}
 use Rattle.configuration.specs.ConfigurationView.{ConfigurationView, world_of}
-use Rattle.configuration.proofs.NodePlaces.{IsNodeAt, now-nodes}
+use Rattle.configuration.proofs.NodePlaces.{IsNodeAt, found-there, now-nodes}
 use Rattle.configuration.proofs.WorldSteps.{tick-answers}
 use Rattle.configuration.proofs.configuration.Configuration.tick.Given as given
 use Rattle.configuration.proofs.configuration.Configuration.tick.Goals as goal
@@ -14,9 +14,7 @@ module _ (g : given.Over) (c : goal.After-tick_of g) where
   old = record { nodes = c.self.inside.nodes.items; links = c.self.inside.links }
 
   here : IsNodeAt old.links.net old.nodes c.args.node c.in_ok-place.place c.index_mut.result.now
-  here =
-      let ok = c.in_ok-place.ensures.ok in
-      record { nodes_are = c.self.invariant; in_net = rw (← c.self.view_is) at ok.1; place = ok.0; value = c.index_mut.ensures.value }
+  here = found-there c.self.view_is c.self.invariant c.in_ok-place.ensures.ok c.index_mut.ensures.value
 
 pub invariant_of-self : goal.invariant_of-self
 invariant_of-self g c = now-nodes _ _ _ _ _ (here g c) c.tick-ticked.new.self c.tick-ticked.ensures.site

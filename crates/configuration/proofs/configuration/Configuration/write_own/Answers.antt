@@ -4,7 +4,7 @@ use Rattle.run_model.specs.declared.event.Harm.{Harm}
 use Rattle.run_model.specs.declared.event.Harm.TheVariants.{Own}
 use Rattle.run_model.specs.Step.{harm_fits, harm_place_fault}
 use Rattle.configuration.specs.ConfigurationView.{ConfigurationView, world_of}
-use Rattle.configuration.proofs.NodePlaces.{IsNodeAt, now-nodes, site-is}
+use Rattle.configuration.proofs.NodePlaces.{IsNodeAt, found-there, now-nodes, site-is}
 use Rattle.configuration.proofs.Harms.{harm-answers}
 use Rattle.configuration.proofs.configuration.Configuration.write_own.Given as given
 use Rattle.configuration.proofs.configuration.Configuration.write_own.Goals as goal
@@ -18,9 +18,7 @@ module _ (g : given.Over) (c : goal.After-damaged g) where
   written = Own c.args.node c.args.distance c.args.parent
 
   here : IsNodeAt old.links.net old.nodes c.args.node c.in_ok-place.place c.index_mut.result.now
-  here =
-      let ok = c.in_ok-place.ensures.ok in
-      record { nodes_are = c.self.invariant; in_net = rw (← c.self.view_is) at ok.1; place = ok.0; value = c.index_mut.ensures.value }
+  here = found-there c.self.view_is c.self.invariant c.in_ok-place.ensures.ok c.index_mut.ensures.value
 
   found : harm_place_fault (world_of old) written ≡ None
   found = rw (← c.self.view_is) at c.in_ok-place.ensures.ok.2

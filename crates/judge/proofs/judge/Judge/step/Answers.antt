@@ -1,8 +1,8 @@
 use Rattle.std.proofs.Common.{◌≡◌, ◌∙◌, ap, sym, subst, IsTrue, [], ◌∷◌, inl, inr, arith, refl}
 use Rattle.topology.specs.Network.{IsAcceptedNetwork, are_joined}
 use Rattle.configuration.specs.ConfigurationView.{world_of}
-use Rattle.judge.specs.Stretch.{IsRoomFor, names_below, names_place}
-use Rattle.judge.proofs.JudgeSteps.{names, names-behind, placed, accepted-damage, no-damage, refused-step, damage-step, other-step, sweep-step, sweep-ends, few-looks, room-cleared, room-empty, room-noted, undamaged-one}
+use Rattle.judge.specs.Stretch.{names_below, names_place}
+use Rattle.judge.proofs.JudgeSteps.{names, names-behind, placed, accepted-damage, no-damage, refused-step, damage-step, other-step, sweep-step, sweep-ends, few-looks, room-cleared, room-empty, room-behind}
 use Rattle.judge.proofs.Visits.{visited-refused, visited-damage, visited-goes_on}
 use Rattle.judge.proofs.judge.Judge.step.Goals as goal
 
@@ -102,18 +102,12 @@ returns-else-is_complete g c = record {
 
 pub invariant_of-self-else-is_complete : goal.invariant_of-self-else-is_complete
 invariant_of-self-else-is_complete g c =
-    let now = world_of c.self.inside.configuration in
-    let same : now.net ≡ c.step.new.self.links.net = sym (ap (λ w. w.net) c.step.ensures.world ∙ c.below.ensures.network now (c.args.event.now ∷ [])
-    (undamaged-one now c.args.event.now (no-damage now c.args.event.now (λ damaged. c.in_default.not-Damaged (c.in-Ok.ensures.did ∙ damaged))))) in
-    let room = room-cleared now.net c.self.inside.stretch c.clear_looked.new.self c.clear_looked.ensures c.self.invariant in
-    subst (λ net. IsRoomFor net c.note.new.self) same
-    (room-noted now.net c.in-Ok.happened c.clear_looked.new.self c.note.new.self room c.note.ensures.table c.note.ensures.tallies)
+    room-behind c.below.ensures (world_of c.self.inside.configuration) (world_of c.step.new.self) c.args.event.now c.in-Ok.happened c.self.inside.stretch c.clear_looked.new.self
+    c.note.new.self c.step.ensures.world (no-damage (world_of c.self.inside.configuration) c.args.event.now (λ damaged. c.in_default.not-Damaged (c.in-Ok.ensures.did ∙ damaged)))
+    c.clear_looked.ensures c.self.invariant c.note.ensures.table c.note.ensures.tallies
 
 pub begin-requires-then-is_complete : goal.begin-requires-then-is_complete
 begin-requires-then-is_complete g c =
-    let now = world_of c.self.inside.configuration in
-    let same : now.net ≡ c.step.new.self.links.net = sym (ap (λ w. w.net) c.step.ensures.world ∙ c.below.ensures.network now (c.args.event.now ∷ [])
-    (undamaged-one now c.args.event.now (no-damage now c.args.event.now (λ damaged. c.in_default.not-Damaged (c.in-Ok.ensures.did ∙ damaged))))) in
-    let room = room-cleared now.net c.self.inside.stretch c.clear_looked.new.self c.clear_looked.ensures c.self.invariant in
-    subst (λ net. IsRoomFor net c.note.new.self) same
-    (room-noted now.net c.in-Ok.happened c.clear_looked.new.self c.note.new.self room c.note.ensures.table c.note.ensures.tallies)
+    room-behind c.below.ensures (world_of c.self.inside.configuration) (world_of c.step.new.self) c.args.event.now c.in-Ok.happened c.self.inside.stretch c.clear_looked.new.self
+    c.note.new.self c.step.ensures.world (no-damage (world_of c.self.inside.configuration) c.args.event.now (λ damaged. c.in_default.not-Damaged (c.in-Ok.ensures.did ∙ damaged)))
+    c.clear_looked.ensures c.self.invariant c.note.ensures.table c.note.ensures.tallies

@@ -5,7 +5,8 @@ use Rattle.std.proofs.lemmas.List.FromFn.{length-range_with_len}
 use Rattle.world.specs.StateText.{links_from}
 use Rattle.byte_streams.specs.Streams.{Takes, TakesABeginning}
 use Rattle.configuration.specs.ConfigurationView.{world_of}
-use Rattle.world.proofs.Writing.{fails_within, texts_fail, texts_go_on, number_at, all_numbers}
+use Rattle.byte_streams.proofs.Writing.{fails_within}
+use Rattle.world.proofs.Writing.{texts_fail, texts_go_on, number_at, all_numbers}
 use Rattle.world.proofs.simulation.state.write_links.Goals as goal
 
 pub returns-in_err-write_links_from : goal.returns-in_err-write_links_from

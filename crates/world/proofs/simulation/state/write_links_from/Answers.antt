@@ -6,7 +6,8 @@ use Rattle.topology.specs.Network.{neighbours_of}
 use Rattle.world.specs.StateText.{link_line}
 use Rattle.byte_streams.specs.Streams.{Takes, TakesABeginning}
 use Rattle.configuration.specs.ConfigurationView.{world_of}
-use Rattle.world.proofs.Writing.{fails_within, texts_fail, texts_go_on}
+use Rattle.byte_streams.proofs.Writing.{fails_within}
+use Rattle.world.proofs.Writing.{texts_fail, texts_go_on}
 use Rattle.world.proofs.simulation.state.write_links_from.Goals as goal
 
 pub write_link-requires-clause-to_in : goal.write_link-requires-clause-to_in

@@ -8,7 +8,8 @@ use Rattle.run_model.specs.World.{site}
 use Rattle.world.specs.StateText.{node_line}
 use Rattle.byte_streams.specs.Streams.{Takes, TakesABeginning}
 use Rattle.configuration.specs.ConfigurationView.{world_of}
-use Rattle.world.proofs.Writing.{fails_within, texts_fail, texts_go_on, number_at, all_numbers}
+use Rattle.byte_streams.proofs.Writing.{fails_within}
+use Rattle.world.proofs.Writing.{texts_fail, texts_go_on, number_at, all_numbers}
 use Rattle.world.proofs.simulation.state.write_nodes.Goals as goal
 
 pub returns-in_err-write_all : goal.returns-in_err-write_all

@@ -2,7 +2,8 @@ use Rattle.std.proofs.Common.{◌++◌, arith}
 use Rattle.std.proofs.lemmas.Grind.{common_steps}
 use Rattle.world.specs.StateText.{node_lines, link_lines, counts_line, sweeps_line}
 use Rattle.configuration.specs.ConfigurationView.{world_of}
-use Rattle.world.proofs.Writing.{then_beginning, beginning_of_more, fails_within, writes_then}
+use Rattle.byte_streams.proofs.Writing.{fails_within}
+use Rattle.world.proofs.Writing.{then_beginning, beginning_of_more, writes_then}
 use Rattle.world.proofs.simulation.state.write_state.Goals as goal
 
 pub returns-in_err-write_links : goal.returns-in_err-write_links

@@ -1,7 +1,8 @@
 use Rattle.std.proofs.Common.{◌≡◌, ◌∙◌, ap, ◌+◌, ◌-◌, ◌≤◌, ◌<◌, length, take, drop, arith}
 use Rattle.std.proofs.lemmas.Grind.{common_steps}
 use Rattle.world.specs.Simulating.{longest_text}
-use Rattle.world.proofs.SimulatedPieces.{given, piece_read, read_more, all_read, beginning_of_text}
+use Rattle.byte_streams.proofs.Reading.{given, piece_read}
+use Rattle.world.proofs.SimulatedPieces.{read_more, all_read, beginning_of_text}
 use Rattle.world.proofs.simulation.under_way.Simulation.read_all.Goals as goal
 
 pub returns-in_default-clause-text : goal.returns-in_default-clause-text
