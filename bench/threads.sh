@@ -1,15 +1,26 @@
 #!/usr/bin/env bash
-# Measures `tokentree threads` on the line of three, the square and a ring of 16: for each the best of three runs of 20,000 turns
-# (or of $1), in million events a second, beside `simulate` on the same events, and the most memory of each. What `threads`
-# takes includes weaving and judging the events; `simulate` reads them from a text.
+# Measures the threads of `tokentree threads` on the line of three, the square and a ring of 16, beside the same threads in
+# plain Rust (plain_threads.rs): for each the best of three runs of 200,000 turns (or of $1), in million events a second from
+# the first thread's start to the last one's end, as the system tells it, and the most memory of each program. How many
+# events there are differs from run to run. Where there is no `rustc`, it says so, and measures `simulate` on the events of
+# the last run instead, reading and printing included. Wants python3. The program is ./tokentree, or what TOKENTREE names.
 set -euo pipefail
-turns=${1:-20000}
-cd "$(dirname "$0")/../crates/tokentree"
-rt run -- --help > /dev/null 2>&1
+turns=${1:-200000}
+cd "$(dirname "$0")/.."
+program=$(realpath "${TOKENTREE:-./tokentree}")
+"$program" --help > /dev/null
+[ -n "${TOKENTREE:-}" ] || program=$PWD/crates/tokentree/out/tokentree
 folder=$(mktemp -d)
 trap 'rm -rf "$folder"' EXIT
+plain=
+if command -v rustc > /dev/null; then
+    rustc -C opt-level=3 -o "$folder/plain" bench/plain_threads.rs
+    plain=$folder/plain
+else
+    echo 'no rustc: nothing in plain Rust is measured' >&2
+fi
 
-# The network file of so many nodes, with these edges, and links of 16 items.
+# Writes the network file of $1 nodes with the edges $2, whose links hold 16 items.
 network() {
     printf 'nodes = %s\nroot = 0\ncapacity = 16\nlease = 0\nedges = [%s]\n' "$1" "$2"
 }
@@ -19,24 +30,79 @@ network 4 '[0, 1], [0, 2], [1, 3], [2, 3]' > "$folder/square.toml"
 network 16 "$(awk 'BEGIN { for (v = 0; v < 16; v++) printf "%s[%d, %d]", v ? ", " : "", v, (v + 1) % 16 }')" \
     > "$folder/ring.toml"
 
-# Runs the program, and prints the microseconds that it took and its most memory in kilobytes.
-measure() {
-    python3 -c 'import resource, subprocess, sys, time
-start = time.time()
-subprocess.run(sys.argv[1:], check=True, stdout=subprocess.DEVNULL)
-print(int((time.time() - start) * 1e6), resource.getrusage(resource.RUSAGE_CHILDREN).ru_maxrss)' "$@"
-}
+python3 - "$folder" "$turns" "$program" "$plain" <<'PYTHON'
+import re, subprocess, sys, time
 
-# The best of some measures of so many events.
-best() {
-    sort -n | head -n 1 | awk -v what="$1" -v events="$2" \
-        '{ printf "%s: %.2f million events a second, %d KB\n", what, events / $1, $2 }'
-}
+folder, turns, program, plain = sys.argv[1:]
+RUNS = 3
 
-for name in line square ring; do
-    out/tokentree threads "$folder/$name.toml" "$turns" --events "$folder/events" > /dev/null
-    events=$(wc -l < "$folder/events")
-    for _ in 1 2 3; do measure out/tokentree threads "$folder/$name.toml" "$turns"; done | best "$name threads" "$events"
-    for _ in 1 2 3; do measure out/tokentree simulate "$folder/$name.toml" "$folder/events"; done \
-        | best "$name simulate" "$events"
-done
+
+class Measure:
+    """One run of a program: the seconds in which it had threads, its seconds in all, its most kilobytes, its output."""
+
+    def __init__(self, words):
+        self.memory = 0
+        start = time.perf_counter()
+        with open(f"{folder}/output", "w+") as output:
+            child = subprocess.Popen(words, stdout=output)
+            self.threads = self.watch(child.pid)
+            assert child.wait() == 0, words
+            self.all = time.perf_counter() - start
+            output.seek(0)
+            self.output = output.read()
+
+    def watch(self, process):
+        """Looks every half millisecond how many threads there are, until the process has ended."""
+        first = last = None
+        while True:
+            with open(f"/proc/{process}/status") as lines:
+                status = dict(line.split(":", 1) for line in lines)
+            now = time.perf_counter()
+            if "VmHWM" not in status:
+                return last - first if first and last > first else None
+            self.memory = int(status["VmHWM"].split()[0])
+            if int(status["Threads"]) > 1:
+                first, last = first or now, now
+            time.sleep(0.0005)
+
+
+def best(name, what, run):
+    """The best of some runs, each a number of events and the seconds that they took."""
+    rows = [run() for _ in range(RUNS)]
+    rows = [(events / seconds / 1e6, memory) for events, seconds, memory in rows if seconds]
+    if not rows:
+        print(f"{name:6} {what:11} too short to be seen: give more turns")
+        return None
+    rate, memory = max(rows)
+    print(f"{name:6} {what:11} {rate:7.2f} million events a second, {memory / 1000:7.1f} MB", flush=True)
+    return rate
+
+
+def of_threads(name):
+    events = f"{folder}/events"
+    measure = Measure([program, "threads", f"{folder}/{name}.toml", turns, "--events", events])
+    with open(events, "rb") as text:
+        return sum(block.count(b"\n") for block in iter(lambda: text.read(1 << 20), b"")), measure.threads, measure.memory
+
+
+def of_plain(name):
+    measure = Measure([plain, name, turns])
+    return int(re.match(r"(\d+) events", measure.output)[1]), measure.threads, measure.memory
+
+
+def of_simulate(name):
+    events = f"{folder}/events"
+    measure = Measure([program, "simulate", f"{folder}/{name}.toml", events])
+    with open(events, "rb") as text:
+        return sum(block.count(b"\n") for block in iter(lambda: text.read(1 << 20), b"")), measure.all, measure.memory
+
+
+for name in ("line", "square", "ring"):
+    ours = best(name, "tokentree", lambda: of_threads(name))
+    if plain:
+        other = best(name, "plain Rust", lambda: of_plain(name))
+        if ours and other:
+            print(f"{name:6} ratio {ours / other:.2f}", flush=True)
+    else:
+        best(name, "simulate", lambda: of_simulate(name))
+PYTHON

@@ -1,11 +1,10 @@
 -- One more pair of nodes is joined by rings.
-use Rattle.std.proofs.Common.{◌≡◌, ◌≢◌, ◌⊎◌, inl, inr, ℕ, zero, suc, ◌+◌, ◌<◌, ◌≤◌, ◌==◌, Bool, true, false, if◌then◌else◌, nat_lt, IsTrue, List, [], ◌∷◌, ◌++◌, length, map, filter, ap, refl, sym, subst, ◌∙◌, arith, append-nil, slice_index_or, slice_set, All}
+use Rattle.std.proofs.Common.{◌≡◌, ◌≢◌, ◌⊎◌, inl, inr, ℕ, zero, suc, ◌+◌, ◌<◌, ◌≤◌, Bool, true, false, if◌then◌else◌, List, [], ◌∷◌, ◌++◌, length, filter, ap, refl, sym, subst, ◌∙◌, arith, append-nil, slice_index_or, slice_set, All}
 use Rattle.std.specs.List.{range_with_len}
 use Rattle.std.proofs.lemmas.Grind.{common_steps}
-use Rattle.std.proofs.lemmas.List.{get_or-map, map_push, get_or-set_same, get_or-set_other, get_or_append_left, length-append, length-set}
-use Rattle.std.proofs.Math.Seq.{get_or-append_seam}
+use Rattle.std.proofs.lemmas.List.{get_or-map, map_push, get_or-set_same, get_or-set_other, length-set}
 use Rattle.std.proofs.lemmas.List.Elements.{All-push, All-nil, filter-append}
-use Rattle.topology.specs.Network.{Network, are_joined, neighbours_of}
+use Rattle.topology.specs.Network.{Network, are_joined}
 use Rattle.run_model.specs.World.{World}
 use Rattle.weaving.proofs.Changed.{same-or-not}
 use Rattle.thread_net.specs.declared.runner.Port.{Port}

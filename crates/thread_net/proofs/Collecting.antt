@@ -1,6 +1,5 @@
 -- Outcomes, one after the other.
-use Rattle.std.proofs.Common.{◌≡◌, Bool, true, false, ◌&&◌, List, [], ◌∷◌, ◌++◌, ap, refl}
-use Rattle.std.proofs.lemmas.Grind.{common_steps}
+use Rattle.std.proofs.Common.{◌≡◌, Bool, true, false, ◌&&◌, List, [], ◌∷◌, ◌++◌, refl}
 use Rattle.thread_net.specs.declared.threads.Outcome.{Outcome}
 use Rattle.thread_net.specs.Outcomes.{have_run}
 

@@ -1,7 +1,7 @@
 -- Runners that came back, and the world that is made of them.
-use Rattle.std.proofs.Common.{◌≡◌, ◌⊎◌, inl, inr, ℕ, zero, suc, ◌+◌, ◌*◌, ◌<◌, ◌≤◌, ◌&&◌, Bool, true, false, if◌then◌else◌, nat_lt, IsTrue, Option, Some, None, List, [], ◌∷◌, ◌++◌, length, map, ap, refl, sym, subst, ◌∙◌, arith, slice_index_or, slice_get, All, vec_capacity}
+use Rattle.std.proofs.Common.{◌≡◌, ◌⊎◌, inl, inr, ℕ, zero, suc, ◌+◌, ◌*◌, ◌<◌, ◌≤◌, ◌&&◌, Bool, true, false, if◌then◌else◌, nat_lt, IsTrue, Option, Some, None, List, [], ◌∷◌, length, map, ap, refl, sym, subst, ◌∙◌, arith, slice_index_or, slice_get, All}
 use Rattle.std.proofs.lemmas.Grind.{common_steps}
-use Rattle.std.specs.List.{AllZip, AllByRecursion}
+use Rattle.std.specs.List.{AllZip}
 use Rattle.std.specs.declared.alloc.Global.{Global}
 use Rattle.topology.specs.Network.{Network, are_joined, neighbours_of}
 use Rattle.topology.specs.Laws.{JoinedAreNodes}
@@ -31,7 +31,7 @@ use Rattle.thread_net.specs.Runner.{IsTold, AreSamePorts, IsSamePort, port_ids, 
 use Rattle.thread_net.specs.Rounds.{AreRounds}
 use Rattle.thread_net.specs.Cables.{AreCabled, AreEnds, IsCable, IsOver, AreSettleable, IsFlushedBetween, ids_in, row, rows_of, settled}
 use Rattle.thread_net.specs.Seats.{AreAtStart, IsAtStart, degree_of, entries_of_all, nodes_of, total_room}
-use Rattle.thread_net.specs.Keeps.{Keeps, HasRun}
+use Rattle.thread_net.specs.Keeps.{Keeps}
 use Rattle.thread_net.specs.Outcomes.{MayRun, IsOutcomeOf, have_run, runners_in, turns_of}
 use Rattle.thread_net.specs.declared.prepare.Prepared.{Prepared}
 use Rattle.thread_net.specs.Prepared.{IsPrepared}
@@ -43,6 +43,7 @@ use Rattle.thread_net.proofs.Maps.{map-long}
 use Rattle.thread_net.proofs.PortLists.{all-same, long}
 use Rattle.thread_net.proofs.Zips.{zip_length}
 use Rattle.thread_net.proofs.Gathering.{is-run, last, settleable, get-mapped}
+use Rattle.thread_net.proofs.Starting.{below-long}
 
 -- ---- a world and its start
 
@@ -90,25 +91,35 @@ get-row f (y ∷ ys) (suc k) x is = get-row f ys k x is
 port-ids-are : (w : World) (turns v : ℕ) (r : Runner Global) → IsAtStart w turns v r → port_ids r ≡ neighbours_of w.net v
 port-ids-are w turns v r start = start.ready.ports ∙ ap (λ s. s.neighbours) start.told.site
 
-done-as : (w : World) (turns v : ℕ) (r now : Runner Global) (ran : Bool) → IsAtStart w turns v r → Keeps turns r now ran → HasDone w v (if ran then turns else 0) now
-done-as w turns v r now true start (deeds, does, rounds, few) = record {
+-- a node has at most 64 neighbours
+few-ports : (w : World) (turns v : ℕ) (r : Runner Global) → IsWorldInRange w → IsAtStart w turns v r → length r.ports.items ≤ 64
+few-ports w turns v r range start =
+    let a = long r.ports.items in
+    let b = ap length (port-ids-are w turns v r start) in
+    let c = below-long w.net v w.net.nodes in
+    let most = range.network.limits.most in
+    omega (arith, a, b, c, most)
+
+done-as : (w : World) (turns v : ℕ) (r now : Runner Global) (ran : Bool) → IsWorldInRange w → IsAtStart w turns v r → Keeps turns r now ran → HasDone w v (if ran then turns else 0) now
+done-as w turns v r now true range start (deeds, does, rounds, few, first) = record {
   deeds = deeds;
   told = does.told w v [] start.told;
   rounds = subst (λ us. AreRounds us turns deeds) (port-ids-are w turns v r start) rounds;
+  first = λ some. first some start.clock (few-ports w turns v r range start) w v start.told range.capacity;
 }
-done-as w turns v r now false start same = record { deeds = []; told = subst (IsTold w v []) (sym same) start.told; rounds = refl }
+done-as w turns v r now false range start same = record { deeds = []; told = subst (IsTold w v []) (sym same) start.told; rounds = refl; first = λ some. absurd (omega (arith, some)) }
 
 ids-as : (w : World) (turns v : ℕ) (r now : Runner Global) (ran : Bool) → IsAtStart w turns v r → Keeps turns r now ran → port_ids now ≡ neighbours_of w.net v
-ids-as w turns v r now true start (deeds, does, rounds, few) = does.ready.ports ∙ (ap (λ s. s.neighbours) does.site ∙ (sym start.ready.ports ∙ port-ids-are w turns v r start))
+ids-as w turns v r now true start (deeds, does, rounds, few, first) = does.ready.ports ∙ (ap (λ s. s.neighbours) does.site ∙ (sym start.ready.ports ∙ port-ids-are w turns v r start))
 ids-as w turns v r now false start same = ap port_ids same ∙ port-ids-are w turns v r start
 
 ports-as : (turns : ℕ) (r now : Runner Global) (ran : Bool) → Keeps turns r now ran → AreSamePorts r.ports.items now.ports.items
-ports-as turns r now true (deeds, does, rounds, few) = does.ports
+ports-as turns r now true (deeds, does, rounds, few, first) = does.ports
 ports-as turns r now false same = subst (λ n. AreSamePorts r.ports.items n.ports.items) (sym same) (all-same r.ports.items)
 
 entries-as : (w : World) (turns v : ℕ) (r now : Runner Global) (ran : Bool) → IsAtStart w turns v r → Keeps turns r now ran
     → length now.journal.entries.items ≤ turns * (1 + 3 * degree_of r.node)
-entries-as w turns v r now true start (deeds, does, rounds, few) =
+entries-as w turns v r now true start (deeds, does, rounds, few, first) =
     let none = ap length start.told.journal in
     let count = does.entries in
     let same : round_room r ≡ 1 + 3 * degree_of r.node = ap (λ k. 1 + 3 * k) (sym (long r.ports.items) ∙ ap length start.ready.ports) in
@@ -186,7 +197,7 @@ cabled-stays old new same cabled u v i d there j e there' forth home =
     cable-stays (slice_index_or (row old u) i d) (slice_index_or (row new u) i d) (slice_index_or (row old v) j e) (slice_index_or (row new v) j e) x y
     (cabled u v i d i-in j e j-in (sym x.0 ∙ forth) (sym y.0 ∙ home))
 
-module _ (w : World) (turns : ℕ) (rs : List (Runner Global)) (os : List Outcome) (start : AreAtStart w turns rs) (all : AllZip (IsOutcomeOf turns) rs os) where
+module _ (w : World) (turns : ℕ) (rs : List (Runner Global)) (os : List Outcome) (range : IsWorldInRange w) (start : AreAtStart w turns rs) (all : AllZip (IsOutcomeOf turns) rs os) where
   at : (v : ℕ) (r : Runner Global) → slice_get rs v ≡ Some r → IsAtStart w turns v r
   at v r is = let g = get-index rs v r is in let l = g.0 in let c = start.count in subst (IsAtStart w turns v) g.1 (start.each v r (omega (arith, l, c)))
 
@@ -199,7 +210,7 @@ module _ (w : World) (turns : ℕ) (rs : List (Runner Global)) (os : List Outcom
     each = λ v now is.
         let c = come-back os v now is in
         let z = zip-get turns rs os v c.0 all c.1 in
-        let one = done-as w turns v z.0 c.0.runner c.0.ran (at v z.0 z.1) z.2 in
+        let one = done-as w turns v z.0 c.0.runner c.0.ran range (at v z.0 z.1) z.2 in
         subst (HasDone w v (turns_of turns os v)) c.2 (subst (λ t. HasDone w v t c.0.runner) (sym (turns-at turns v os c.0 c.1)) one);
     ids = λ x xn.
         let g = get-some (runners_in os) x (let c = came-count in omega (arith, c, xn)) in
@@ -220,9 +231,9 @@ fit-from w turns k (r ∷ rs) (o ∷ os) at all =
     let later = fit-from w turns (k + 1) rs os (λ v q is. subst (λ n. IsAtStart w turns n q) (omega arith) (at (suc v) q is)) all.1 in
     omega (arith, one, later)
 
-pub entries-fit : (w : World) (turns : ℕ) (rs : List (Runner Global)) (os : List Outcome) → AreAtStart w turns rs → AllZip (IsOutcomeOf turns) rs os
+pub entries-fit : (w : World) (turns : ℕ) (rs : List (Runner Global)) (os : List Outcome) → IsWorldInRange w → AreAtStart w turns rs → AllZip (IsOutcomeOf turns) rs os
     → entry_count (entries_of_all (runners_in os)) ≤ total_room turns (nodes_of rs)
-entries-fit w turns rs os start all = fit-from w turns 0 rs os (λ v r is. subst (λ n. IsAtStart w turns n r) (omega arith) (at w turns rs os start all v r is)) all
+entries-fit w turns rs os range start all = fit-from w turns 0 rs os (λ v r is. subst (λ n. IsAtStart w turns n r) (omega arith) (at w turns rs os range start all v r is)) all
 
 -- ---- who ran
 
@@ -266,6 +277,8 @@ run-as some other w last events same run = record {
   told = run.told;
   matched = run.matched;
   rounds = λ v vn. subst (λ t. AreRounds (neighbours_of w.net v) t (run.account v)) (same v vn) (run.rounds v vn);
+  ticks = λ v vn. run.ticks v vn ∙ same v vn;
+  first = λ v vn more. run.first v vn (let e = same v vn in omega (arith, e, more));
 }
 
 -- ---- the world that is made of them
@@ -331,17 +344,17 @@ module _ (view : ConfigurationView) (first : World) (turns : ℕ) (p : Prepared 
   here = subst (λ w. IsPrepared w turns p) same ready
 
   count-is : length os ≡ view.links.net.nodes
-  count-is = let a = map-long (λ o. o.runner) os in let b = came-count (world_of view) turns p.runners.items os here.runners all in omega (arith, a, b)
+  count-is = let a = map-long (λ o. o.runner) os in let b = came-count (world_of view) turns p.runners.items os range here.runners all in omega (arith, a, b)
 
   pub gatherable : IsGatherable (world_of view) (turns_of turns os) back p.links p.room p.seats p.events
   gatherable =
-      let count = came-count (world_of view) turns p.runners.items os here.runners all in
-      let few = entries-fit (world_of view) turns p.runners.items os here.runners all in
+      let count = came-count (world_of view) turns p.runners.items os range here.runners all in
+      let few = entries-fit (world_of view) turns p.runners.items os range here.runners all in
       let room = here.events in
       rw came
       (record {
         start = start-of view range;
-        done = have-done (world_of view) turns p.runners.items os here.runners all;
+        done = have-done (world_of view) turns p.runners.items os range here.runners all;
         over = here.links;
         spares = here.spares;
         judged = here.room;

@@ -1,10 +1,10 @@
 -- What runners that are done tell together.
-use Rattle.std.proofs.Common.{◌≡◌, ◌≢◌, ◌⊎◌, inl, inr, ℕ, zero, suc, ◌+◌, ◌-◌, ◌<◌, ◌≤◌, ◌==◌, Bool, true, false, if◌then◌else◌, nat_lt, IsTrue, Option, Some, None, List, [], ◌∷◌, ◌++◌, length, map, drop, ap, refl, sym, subst, ◌∙◌, arith, append-nil, slice_index_or, slice_get, All}
+use Rattle.std.proofs.Common.{◌≡◌, ◌⊎◌, inl, inr, ℕ, zero, suc, ◌-◌, ◌<◌, ◌≤◌, ◌==◌, Bool, true, false, if◌then◌else◌, nat_lt, IsTrue, Option, Some, None, List, [], ◌∷◌, length, map, drop, ap, refl, sym, subst, ◌∙◌, arith, append-nil, slice_index_or, slice_get, All}
 use Rattle.std.proofs.lemmas.Grind.{common_steps}
 use Rattle.std.proofs.lemmas.List.Elements.{All-head, All-tail}
 use Rattle.std.specs.List.{AllByRecursion}
 use Rattle.topology.specs.Network.{Network, are_joined, neighbours_of}
-use Rattle.topology.specs.Laws.{JoinedBack, JoinedAreNodes}
+use Rattle.topology.specs.Laws.{JoinedAreNodes}
 use Rattle.topology.specs.Ranges.{ranges_of}
 use Rattle.node_core.specs.State.{LocalState, default_node}
 use Rattle.node_core.specs.View.{state_of}
@@ -14,12 +14,11 @@ use Rattle.run_model.specs.Run.{run}
 use Rattle.run_model.specs.Laws.{RangesStay}
 use Rattle.run_model.specs.declared.event.Event.{Event}
 use Rattle.configuration.specs.ConfigurationView.{no_node, states_of}
-use Rattle.weaving.specs.declared.journal.Entry.{Entry}
 use Rattle.weaving.specs.declared.journal.Stamped.{Stamped}
 use Rattle.weaving.specs.Account.{Deed, Ticks, Sends, Takes, entry_of, sent_to, taken_from, Leads}
 use Rattle.weaving.specs.Journals.{journal_of}
 use Rattle.weaving.specs.Laws.{GoesThrough, WovenIsRun}
-use Rattle.weaving.specs.Matched.{AreMatched, AreOf, IsLinkMatched, stamps, items}
+use Rattle.weaving.specs.Matched.{AreMatched, AreOf, IsLinkMatched, stamps}
 use Rattle.weaving.specs.Woven.{AreRising, IsWoven}
 use Rattle.thread_net.specs.declared.runner.Port.{Port}
 use Rattle.thread_net.specs.declared.runner.Runner.{Runner}
@@ -30,6 +29,10 @@ use Rattle.thread_net.specs.Cables.{row, rows_of, port_to, left_between, left_on
 use Rattle.thread_net.specs.Seats.{nodes_of, entries_of_all}
 use Rattle.thread_net.specs.Done.{HasDone, HaveDone, IsStart}
 use Rattle.thread_net.specs.ThreadRun.{IsThreadRun}
+use Rattle.thread_net.specs.FirstTurn.{IsFirstTurn, count_of, is_tick_of}
+use Rattle.thread_net.specs.Due.{events_of}
+use Rattle.thread_net.proofs.AccountEvents.{rounds-ticks}
+use Rattle.thread_net.proofs.OwnEvents.{own-deeds, own-ticks}
 use Rattle.thread_net.proofs.Matching.{Rise, link-matched}
 
 -- ---- lists that are read at a place
@@ -129,12 +132,12 @@ module _ {A : Type 0} where
   -- what is known of a node: its runner and its account, or that it is none
   abbrev Known : World → (ℕ → ℕ) → ℕ → Option (Runner A) → List Deed → Type 0
   Known w turns v o account =
-      ((r : Runner A) × (o ≡ Some r) × IsTold w v account r × AreRounds (neighbours_of w.net v) (turns v) account)
+      ((r : Runner A) × (o ≡ Some r) × IsTold w v account r × AreRounds (neighbours_of w.net v) (turns v) account × (0 < turns v → IsFirstTurn w v (events_of v account)))
       ⊎ ((o ≡ None) × (account ≡ []))
 
   known-from : (w : World) (turns : ℕ → ℕ) (v : ℕ) (o : Option (Runner A)) (f : (r : Runner A) → o ≡ Some r → HasDone w v (turns v) r) → Known w turns v o (account-from w turns v o f)
   known-from w turns v None f = inr (refl, refl)
-  known-from w turns v (Some r) f = inl (r, refl, (f r refl).told, (f r refl).rounds)
+  known-from w turns v (Some r) f = inl (r, refl, (f r refl).told, (f r refl).rounds, (f r refl).first)
 
   module _ (w : World) (turns : ℕ → ℕ) (rs : List (Runner A)) (done : HaveDone w turns rs) (start : IsStart w) where
     abbrev pub account : ℕ → List Deed
@@ -154,7 +157,7 @@ module _ {A : Type 0} where
 
     leads : (v : ℕ) → Leads w.net v (w.node v) (account v) (last.node v)
     leads v = elim (known v) [
-      | inl (r, is, told, rounds) ↦
+      | inl (r, is, told, rounds, first) ↦
           let lt = within v r is in
           let test : nat_lt v w.net.nodes ≡ true = grind (arith, common_steps, lt) in
           let node : last.node v ≡ state_of r.node =
@@ -169,7 +172,7 @@ module _ {A : Type 0} where
 
     nobody : (v : ℕ) → w.net.nodes ≤ v → account v ≡ []
     nobody v le = elim (known v) [
-      | inl (r, is, told, rounds) ↦ absurd (let lt = within v r is in omega (arith, lt, le))
+      | inl (r, is, told, rounds, first) ↦ absurd (let lt = within v r is in omega (arith, lt, le))
       | inr (is, none) ↦ none
     ]
 
@@ -200,19 +203,25 @@ module _ {A : Type 0} where
 
     pub told-of : AreOf account (journal_of (entries_of_all rs))
     told-of v = elim (known v) [
-      | inl (r, is, told, rounds) ↦ get-mapped (λ r. r.journal.entries.items) rs v r [] is ∙ told.journal
+      | inl (r, is, told, rounds, first) ↦ get-mapped (λ r. r.journal.entries.items) rs v r [] is ∙ told.journal
       | inr (is, none) ↦ none-mapped (λ r. r.journal.entries.items) rs v [] is ∙ ap (map (entry_of v)) (sym none)
     ]
 
     pub all-rising : (v : ℕ) → AreRising (journal_of (entries_of_all rs) v)
     all-rising v = elim (known v) [
-      | inl (r, is, told, rounds) ↦ subst AreRising (sym (told-of v)) told.rising
+      | inl (r, is, told, rounds, first) ↦ subst AreRising (sym (told-of v)) told.rising
       | inr (is, none) ↦ subst AreRising (sym (none-mapped (λ r. r.journal.entries.items) rs v [] is)) tt
     ]
 
     all-rounds : (v : ℕ) → v < w.net.nodes → AreRounds (neighbours_of w.net v) (turns v) (account v)
     all-rounds v lt = elim (known v) [
-      | inl (r, is, told, rounds) ↦ rounds
+      | inl (r, is, told, rounds, first) ↦ rounds
+      | inr (is, none) ↦ absurd (let le = beyond v is in omega (arith, lt, le))
+    ]
+
+    all-first : (v : ℕ) → v < w.net.nodes → 0 < turns v → IsFirstTurn w v (events_of v (account v))
+    all-first v lt = elim (known v) [
+      | inl (r, is, told, rounds, first) ↦ first
       | inr (is, none) ↦ absurd (let le = beyond v is in omega (arith, lt, le))
     ]
 
@@ -223,9 +232,9 @@ module _ {A : Type 0} where
           let both = nodes w.net u v start.range.network joined in
           elim (known u) [
             | inr (is, none) ↦ absurd (let le = beyond u is in let lt = both.0 in omega (arith, le, lt))
-            | inl (r, is-u, told-u, rounds-u) ↦ elim (known v) [
+            | inl (r, is-u, told-u, rounds-u, first-u) ↦ elim (known v) [
               | inr (is, none) ↦ absurd (let le = beyond v is in let lt = both.1 in omega (arith, le, lt))
-              | inl (s, is-v, told-v, rounds-v) ↦
+              | inl (s, is-v, told-v, rounds-v, first-v) ↦
                   on-ports u v (port_to (row (rows_of rs) u) v) (port_to (row (rows_of rs) v) u) (account u) (account v) (flushed u v joined)
                   (told-port u v r is-u told-u) (told-port v u s is-v told-v) (rise-of v u s told-v)
             ]
@@ -267,6 +276,10 @@ module _ {A : Type 0} where
           told = told-of;
           matched = matched;
           rounds = all-rounds;
+          ticks = λ v lt.
+              own-ticks v events
+              ∙ (ap (count_of (is_tick_of v)) (own-deeds account (journal_of (entries_of_all rs)) events v told-of woven) ∙ rounds-ticks v (neighbours_of w.net v) (turns v) (account v) (all-rounds v lt));
+          first = λ v lt some. subst (IsFirstTurn w v) (sym (own-deeds account (journal_of (entries_of_all rs)) events v told-of woven)) (all-first v lt some);
         }
 
         pub settleable : RangesStay → AreSettleable w.net (rows_of rs)

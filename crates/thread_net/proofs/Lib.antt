@@ -1,6 +1,10 @@
 pub mod Stamps
 pub mod Spends
 pub mod Accounts
+pub mod AccountEvents
+pub mod OwnEvents
+pub mod FirstRows
+pub mod Chances
 pub mod Deeds
 pub mod PortLists
 pub mod PortDeeds
@@ -9,6 +13,7 @@ pub mod Zips
 pub mod Maps
 pub mod Cabling
 pub mod Settling
+pub mod Popping
 pub mod Seating
 pub mod Matching
 pub mod Draining

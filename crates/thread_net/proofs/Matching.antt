@@ -1,15 +1,15 @@
 -- The ends of a link tell together what the link did.
-use Rattle.std.proofs.Common.{◌≡◌, ◌⊎◌, inl, inr, ℕ, zero, suc, ◌+◌, ◌-◌, ◌<◌, ◌≤◌, List, [], ◌∷◌, ◌++◌, length, map, drop, filter, nat_le, true, false, ap, refl, sym, subst, ◌∙◌, arith, append_assoc, append-nil}
+use Rattle.std.proofs.Common.{◌≡◌, ◌⊎◌, inl, inr, ℕ, suc, ◌-◌, ◌<◌, ◌≤◌, List, [], ◌∷◌, ◌++◌, length, drop, filter, nat_le, true, false, ap, refl, sym, subst, ◌∙◌, arith, append_assoc}
 use Rattle.std.proofs.lemmas.Grind.{common_steps}
 use Rattle.std.specs.List.{AllZip, AllByRecursion}
-use Rattle.rtrb.specs.Ring.{received, sent}
+use Rattle.rtrb.specs.Ring.{received}
 use Rattle.link_model.specs.declared.item.Item.{Item}
 use Rattle.weaving.specs.declared.journal.Stamped.{Stamped}
 use Rattle.weaving.specs.Matched.{AreAbove, stamps, items, IsLinkMatched}
 use Rattle.thread_net.specs.declared.ports.Outgoing.{Outgoing}
 use Rattle.thread_net.specs.declared.ports.Incoming.{Incoming}
-use Rattle.thread_net.specs.Stamps.{IsTakeOf, given_back, last_place}
-use Rattle.thread_net.specs.Ports.{opening, stamped, IsSender, IsReceiver}
+use Rattle.thread_net.specs.Stamps.{IsTakeOf, last_place}
+use Rattle.thread_net.specs.Ports.{opening, IsSender, IsReceiver}
 use Rattle.thread_net.specs.Cables.{IsFlushed, left_on}
 
 items-append : (xs ys : List Stamped) → items (xs ++ ys) ≡ items xs ++ items ys

@@ -1,10 +1,10 @@
 -- The seats of runners, of which one changes.
-use Rattle.std.proofs.Common.{◌≡◌, ℕ, zero, suc, ◌+◌, ◌*◌, ◌<◌, ◌≤◌, List, [], ◌∷◌, ◌++◌, length, map, ap, refl, sym, subst, ◌∙◌, arith, slice_index_or, slice_set, All, take, take_all, vec_capacity}
+use Rattle.std.proofs.Common.{◌≡◌, ℕ, ◌+◌, ◌<◌, ◌≤◌, List, [], ◌∷◌, ◌++◌, length, ap, sym, subst, ◌∙◌, arith, slice_index_or, slice_set, All, take, take_all}
 use Rattle.std.proofs.lemmas.List.{get_or-map, take_more_set, take_more}
 use Rattle.std.proofs.lemmas.List.Elements.{All-push, All-set}
 use Rattle.node_core.specs.View.{NodeView, site_in}
 use Rattle.thread_net.specs.declared.runner.Runner.{Runner}
-use Rattle.thread_net.specs.Cables.{Seat, seat_of, seats_of}
+use Rattle.thread_net.specs.Cables.{seat_of, seats_of}
 use Rattle.thread_net.specs.Seats.{IsNew, HasRoom, AreShort, degree_of, entry_room, total_room, nodes_of}
 use Rattle.thread_net.proofs.Maps.{map-set, map-long}
 

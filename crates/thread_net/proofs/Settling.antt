@@ -1,5 +1,5 @@
 -- One more pair of links is settled.
-use Rattle.std.proofs.Common.{◌≡◌, ◌≢◌, ◌⊎◌, inl, inr, ℕ, zero, suc, ◌+◌, ◌-◌, ◌<◌, ◌≤◌, ◌==◌, ◌&&◌, Bool, true, false, if◌then◌else◌, IsTrue, Option, Some, None, List, [], ◌∷◌, ◌++◌, length, map, ap, refl, sym, subst, ◌∙◌, arith, slice_index_or, slice_set, All}
+use Rattle.std.proofs.Common.{◌≡◌, ◌≢◌, ◌⊎◌, inl, inr, ℕ, ◌+◌, ◌<◌, ◌==◌, ◌&&◌, Bool, true, false, if◌then◌else◌, IsTrue, Option, Some, None, List, [], ◌∷◌, ◌++◌, length, ap, refl, sym, subst, ◌∙◌, arith, slice_index_or, slice_set, All}
 use Rattle.std.proofs.lemmas.Grind.{common_steps}
 use Rattle.std.proofs.Math.Path.{fun_ext}
 use Rattle.std.specs.List.{AllByRecursion}
@@ -7,7 +7,7 @@ use Rattle.std.proofs.lemmas.List.{map_push, get_or_append_left, length-append, 
 use Rattle.std.proofs.Math.Seq.{get_or-append_seam}
 use Rattle.std.proofs.lemmas.List.Elements.{recursion_from_All}
 use Rattle.topology.specs.Network.{Network, are_joined, neighbours_of}
-use Rattle.topology.specs.Laws.{JoinedBack, JoinedAreNodes, NotToItself}
+use Rattle.topology.specs.Laws.{JoinedAreNodes, NotToItself}
 use Rattle.topology.specs.Network.{IsAcceptedNetwork}
 use Rattle.link_model.specs.declared.item.Item.{Item}
 use Rattle.run_model.specs.World.{at_pair}
@@ -15,7 +15,7 @@ use Rattle.weaving.proofs.Changed.{same-or-not}
 use Rattle.thread_net.specs.declared.runner.Port.{Port}
 use Rattle.thread_net.specs.Cables.{IsCable, AreCabled, ids_in, row, reach, rows_reach, neighbours_below, port_to, left_on, left_on_ports, left_between, settled, IsFlushed, IsFlushedOn, IsFlushedBetween, IsRoomFor, AreSettleable}
 use Rattle.thread_net.specs.Settling.{is_settled, are_from, IsSettling, IsSettlingFrom, AreRowsSettled}
-use Rattle.thread_net.proofs.Cabling.{reach-u, reach-v, next-u, next-v, next-x, below-yes, below-no, below-all, done-reach, row-reach, skip-reach, all-reach, row-other}
+use Rattle.thread_net.proofs.Cabling.{reach-u, reach-v, next-u, next-v, next-x, below-yes, below-all, done-reach, row-reach, skip-reach, all-reach, row-other}
 use Rattle.thread_net.proofs.Maps.{map-long}
 use Rattle.thread_net.proofs.Draining.{same-pair}
 

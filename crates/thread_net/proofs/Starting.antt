@@ -1,5 +1,5 @@
 -- Runners that are furnished are at the start.
-use Rattle.std.proofs.Common.{◌≡◌, ℕ, zero, suc, ◌+◌, ◌*◌, ◌<◌, ◌≤◌, ◌⊎◌, inl, inr, true, false, nat_lt, if◌then◌else◌, List, [], ◌∷◌, ◌++◌, length, map, ap, refl, sym, subst, ◌∙◌, arith, slice_index_or, All, vec_capacity}
+use Rattle.std.proofs.Common.{◌≡◌, ℕ, zero, suc, ◌+◌, ◌*◌, ◌<◌, ◌≤◌, ◌⊎◌, inl, inr, true, false, nat_lt, if◌then◌else◌, List, [], ◌∷◌, length, map, ap, refl, sym, subst, ◌∙◌, arith, slice_index_or, All, vec_capacity}
 use Rattle.std.proofs.lemmas.Grind.{common_steps}
 use Rattle.std.proofs.lemmas.List.{get_or-map, length-append}
 use Rattle.topology.specs.Network.{Network, are_joined, neighbours_of}
@@ -8,10 +8,10 @@ use Rattle.node_core.specs.Site.{site_of}
 use Rattle.node_core.specs.State.{default_node}
 use Rattle.node_core.specs.View.{NodeView, site_in, state_of}
 use Rattle.run_model.specs.World.{World}
-use Rattle.configuration.specs.ConfigurationView.{AreNodesOf, no_node, node_at, states_of, world_of}
+use Rattle.configuration.specs.ConfigurationView.{AreNodesOf, no_node, node_at, world_of}
 use Rattle.configuration.specs.LinksView.{LinksView}
 use Rattle.thread_net.specs.declared.runner.Runner.{Runner}
-use Rattle.thread_net.specs.Runner.{IsPortTold, IsReady, IsTold, port_ids, round_room}
+use Rattle.thread_net.specs.Runner.{IsPortTold, port_ids}
 use Rattle.thread_net.specs.Cables.{AreFurnished, neighbours_below, row, rows_of, seat_of, seats_of}
 use Rattle.thread_net.specs.Seats.{IsNew, HasRoom, AreAtStart, AreShort, IsAtStart, degree_of, nodes_of}
 use Rattle.thread_net.proofs.Cabling.{below-yes, below-no}
@@ -29,7 +29,7 @@ module _ {A : Type 0} where
   same-length xs ys same = let a = map-long seat_of xs in let b = map-long seat_of ys in let c = ap length same in omega (arith, a, b, c)
 
 -- a node has no more neighbours than there are nodes
-below-long : (net : Network) (x k : ℕ) → length (neighbours_below net x k) ≤ k
+pub below-long : (net : Network) (x k : ℕ) → length (neighbours_below net x k) ≤ k
 below-long net x zero = omega arith
 below-long net x (suc k) =
     let on : k + 1 ≡ suc k = omega arith in
@@ -100,6 +100,7 @@ module _ {A : Type 0} (nodes : List NodeView) (links : LinksView) (turns : ℕ) 
         clock = let c = new-is.clock in omega (arith, c);
         ports = ids-are;
       };
+      clock = new-is.clock;
       room =
           let long : length r.ports.items ≡ degree_of r.node = sym (map-long (λ p. p.neighbour) r.ports.items) ∙ ap length ids-are in
           subst (λ k. turns * (1 + 3 * k) ≤ vec_capacity r.journal.entries) (sym long) room-is;

@@ -1,5 +1,5 @@
 -- A list that is gone through while another grows.
-use Rattle.std.proofs.Common.{◌≡◌, ℕ, zero, suc, ◌<◌, ◌+◌, ◌++◌, List, [], ◌∷◌, length, take, drop, ap, refl, rules, arith, ◌≤◌, take_all}
+use Rattle.std.proofs.Common.{◌≡◌, ℕ, zero, suc, ◌+◌, ◌++◌, List, [], ◌∷◌, length, take, drop, ap, refl, rules, arith, ◌≤◌, take_all}
 use Rattle.std.proofs.Math.Numerals.{add-one}
 use Rattle.std.specs.List.{AllZip}
 

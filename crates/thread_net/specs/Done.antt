@@ -1,5 +1,5 @@
 -- Runners that are done.
-use Rattle.std.specs.Prelude.{◌≡◌, ℕ, ◌*◌, ◌<◌, ◌≤◌, List, [], Option, Some, length, slice_get, vec_capacity}
+use Rattle.std.specs.Prelude.{◌≡◌, ℕ, ◌<◌, ◌≤◌, List, [], Some, length, slice_get, vec_capacity}
 use Rattle.std.specs.declared.vec.Vec.{Vec}
 use Rattle.topology.specs.Network.{neighbours_of}
 use Rattle.topology.specs.Ranges.{ranges_of}
@@ -14,16 +14,19 @@ use Rattle.thread_net.specs.declared.runner.Runner.{Runner}
 use Rattle.thread_net.specs.declared.seats.Seats.{Seats}
 use Rattle.thread_net.specs.Runner.{IsTold}
 use Rattle.thread_net.specs.Rounds.{AreRounds}
+use Rattle.thread_net.specs.FirstTurn.{IsFirstTurn}
+use Rattle.thread_net.specs.Due.{events_of}
 use Rattle.thread_net.specs.Cables.{AreCabled, IsOver, ids_in, row, rows_of}
 use Rattle.thread_net.specs.Seats.{entries_of_all}
 use Rattle.thread_net.specs.Tables.{AreEmptySeats}
 use Rattle.thread_net.specs.ThreadRun.{IsThreadRun}
 
--- v did as many rounds since it was as in the world
+-- v did as many rounds since it was as in the world, of which the first is a whole turn
 pub record HasDone {A : Type 0} (w : World) (v turns : ℕ) (r : Runner A) : Type 0 where
   pub deeds : List Deed
   pub told : IsTold w v deeds r
   pub rounds : AreRounds (neighbours_of w.net v) turns deeds
+  pub first : 0 < turns → IsFirstTurn w v (events_of v deeds)
 
 -- each node did its rounds, and the rings belong together
 pub record HaveDone {A : Type 0} (w : World) (turns : ℕ → ℕ) (runners : List (Runner A)) : Type 0 where

@@ -1,19 +1,20 @@
 -- What a thread hands back of the runner that it got.
-use Rattle.std.specs.Prelude.{◌≡◌, ℕ, ◌+◌, ◌*◌, ◌≤◌, Bool, true, false, List, length, vec_capacity}
+use Rattle.std.specs.Prelude.{◌≡◌, ℕ, ◌+◌, ◌*◌, ◌<◌, ◌≤◌, Bool, true, false, List, length, vec_capacity}
 use Rattle.weaving.specs.Account.{Deed}
 use Rattle.thread_net.specs.declared.runner.Runner.{Runner}
 use Rattle.thread_net.specs.Runner.{IsReady, Does, port_ids, round_room}
 use Rattle.thread_net.specs.Rounds.{AreRounds}
+use Rattle.thread_net.specs.Due.{BeginsWhole}
 
 -- the runner is ready, with room for that number of turns
 abbrev pub MayRun : {A : Type 0} → ℕ → Runner A → Type 0
 MayRun turns r = IsReady r × (length r.journal.entries.items + turns * round_room r ≤ vec_capacity r.journal.entries)
 
--- it did that number of rounds, and nothing else
+-- it did that number of rounds, and nothing else; the first one is whole where a run begins with it
 abbrev pub HasRun : {A : Type 0} → ℕ → Runner A → Runner A → Type 0
 HasRun turns was now =
     (deeds : List Deed) × Does deeds was now × AreRounds (port_ids was) turns deeds
-    × (length deeds ≤ turns * round_room was)
+    × (length deeds ≤ turns * round_room was) × (0 < turns → BeginsWhole was deeds)
 
 -- it did all its turns, or is as it was
 abbrev pub Keeps : {A : Type 0} → ℕ → Runner A → Runner A → Bool → Type 0

@@ -2,6 +2,8 @@ pub mod Stamps
 pub mod Ports
 pub mod Runner
 pub mod Rounds
+pub mod FirstTurn
+pub mod Due
 pub mod Cables
 pub mod Seats
 pub mod Settling

@@ -46,6 +46,7 @@ HasRoom turns s = entry_room turns (degree_of s.1) ≤ vec_capacity s.3.entries
 pub record IsAtStart {A : Type 0} (w : World) (turns v : ℕ) (r : Runner A) : Type 0 where
   pub told : IsTold w v [] r
   pub ready : IsReady r
+  pub clock : r.clock ≡ 0
   pub room : turns * round_room r ≤ vec_capacity r.journal.entries
 
 -- there is a runner for each node, at the start, and their rings belong together

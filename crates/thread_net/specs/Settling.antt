@@ -1,5 +1,5 @@
 -- How rings become links again, pair by pair.
-use Rattle.std.specs.Prelude.{◌≡◌, ℕ, ◌+◌, ◌<◌, ◌==◌, ◌&&◌, ◌||◌, Bool, true, false, if◌then◌else◌, nat_lt, nat_le, IsTrue, List}
+use Rattle.std.specs.Prelude.{◌≡◌, ℕ, ◌<◌, ◌==◌, ◌&&◌, ◌||◌, Bool, true, false, if◌then◌else◌, nat_lt, nat_le, IsTrue, List}
 use Rattle.topology.specs.Network.{Network, are_joined}
 use Rattle.link_model.specs.declared.item.Item.{Item}
 use Rattle.thread_net.specs.declared.runner.Port.{Port}

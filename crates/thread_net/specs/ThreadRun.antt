@@ -10,11 +10,13 @@ use Rattle.weaving.specs.Laws.{GoesThrough}
 use Rattle.weaving.specs.Matched.{AreMatched, AreOf}
 use Rattle.weaving.specs.Woven.{AreRising, IsWoven}
 use Rattle.thread_net.specs.Rounds.{AreRounds}
+use Rattle.thread_net.specs.FirstTurn.{IsFirstTurn, count_of, deeds_of, is_tick_of}
 
 -- The events lead from the one world to the other: each is a tick, a send to a link that has room,
 -- or a take of an item that is there, and none is refused. They are woven of one journal a node,
 -- whose stamps rise, and these match. v did `turns v` rounds: each is one tick, then to each
--- neighbour at most one send, then from each at most two takes.
+-- neighbour at most one send, then from each at most two takes. So it ticks `turns v` times, and in
+-- its first turn it sends over each link that has room, and takes what is there, two items at most.
 pub record IsThreadRun (turns : ℕ → ℕ) (start : World) (events : List Event) (last : World) : Type 0 where
   pub leads : run start events ≡ last
   pub through : GoesThrough start events
@@ -25,3 +27,5 @@ pub record IsThreadRun (turns : ℕ → ℕ) (start : World) (events : List Even
   pub told : AreOf account journal
   pub matched : AreMatched start account last
   pub rounds : (v : ℕ) → v < start.net.nodes → AreRounds (neighbours_of start.net v) (turns v) (account v)
+  pub ticks : (v : ℕ) → v < start.net.nodes → count_of (is_tick_of v) events ≡ turns v
+  pub first : (v : ℕ) → v < start.net.nodes → 0 < turns v → IsFirstTurn start v (deeds_of v events)

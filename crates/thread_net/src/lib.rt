@@ -19,7 +19,7 @@
 mod cables;
 mod gates;
 mod ports;
-mod prepare;
+pub mod prepare;
 mod run;
 mod runner;
 mod seats;
@@ -28,5 +28,5 @@ mod threads;
 
 pub use gates::{Gate, Meet, Open, Pace};
 pub use ports::{Incoming, Outgoing, StampBound};
-pub use run::{RunFault, Woven, run_threads};
+pub use run::{RunFault, Woven, prepare_world, run_threads};
 pub use runner::{Port, Runner};

@@ -1,4 +1,5 @@
-//! A world becomes runners whose rings are its links.
+//! A world becomes runners whose rings are its links. Whatever memory a run takes is taken here, or
+//! by the start of a thread.
 ghost use Rattle.std.specs.Prelude.{◌≡◌, ◌≤◌, ℕ, [], IfOk, IfErr, OnOk, All, length, vec_len};
 ghost use Rattle.std.specs.Prelude.{vec_capacity};
 ghost use Rattle.run_model.specs.World.{World};
@@ -20,7 +21,7 @@ use std::alloc::{AllocError, Allocator};
 
 /// All that a run needs, made before its first turn.
 #[derive(Drop)]
-pub(crate) struct Prepared<A: Allocator + Copy> {
+pub struct Prepared<A: Allocator + Copy> {
     pub(crate) runners: Vec<Runner<A>, A>,
     /// The links of the world, which are as they were: what was under way is in the rings too.
     pub(crate) links: Links<A>,
@@ -73,7 +74,7 @@ fn tables<A: Allocator + Copy>(
 
 /// Makes all that a run of a world needs. Where memory is refused for any of it, the world's parts
 /// come back as they were.
-pub(crate) fn prepare<A: Allocator + Copy>(
+pub fn prepare<A: Allocator + Copy>(
     alloc: A,
     parts: Parts<A>,
     turns: u32,

@@ -97,6 +97,22 @@ fn gather<A: Allocator + Copy>(
     }
 }
 
+/// Makes all that a run of a world needs. Where memory is refused for any of it, the world comes
+/// back as it was.
+pub fn prepare_world<A: Allocator + Copy>(
+    alloc: A,
+    world: World<A>,
+    turns: u32,
+) -> Result<Prepared<A>, World<A>>
+    ensures unchanged { IfErr result (λ back. world_of back ≡ world_of world) }
+{
+    world.assure_ranges();
+    match prepare(alloc, world.into_parts(), turns) {
+        Ok(prepared) => Ok(prepared),
+        Err(parts) => Err(World::from_parts(parts)),
+    }
+}
+
 /// Runs each node of a world on a thread of its own, as many turns each, and waits for all. A turn
 /// is a tick, then to each neighbour at most one send, then from each at most two takes; the gate
 /// holds a node before and behind each. What the nodes did, in one list, is a run from the world

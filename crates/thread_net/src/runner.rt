@@ -7,6 +7,8 @@ ghost use Rattle.thread_net.specs.declared.runner.Port.{Port};
 ghost use Rattle.thread_net.specs.Runner.{IsReady, Does, IsOneSend, IsOneTake, port_ids};
 ghost use Rattle.thread_net.specs.Runner.{round_room};
 ghost use Rattle.thread_net.specs.Rounds.{AreSendsTo, AreTakesFrom, IsRound, AreRounds};
+ghost use Rattle.thread_net.specs.Due.{IsSendDue, IsTakeDue, IsSlow, AreSendsDue, AreTakesDue};
+ghost use Rattle.thread_net.specs.Due.{BeginsWhole};
 
 use crate::gates::Gate;
 use crate::ports::{Incoming, Outgoing};
@@ -64,7 +66,7 @@ impl<A: Allocator> Runner<A> {
         requires ready { IsReady self.old }
         requires room { length self.old.journal.entries.items
             < vec_capacity self.old.journal.entries }
-        ensures { (t : ℕ) × Does (Ticks t ∷ []) self.old self.new }
+        ensures { (t : ℕ) × Does (Ticks t ∷ []) self.old self.new × IsSlow 1 self.old self.new }
     {
         let _ticked = self.node.tick();
         let stamp = self.clock + 1;
@@ -78,7 +80,9 @@ impl<A: Allocator> Runner<A> {
         requires room { length self.old.journal.entries.items
             < vec_capacity self.old.journal.entries }
         ensures { (deeds : List Deed) × Does deeds self.old self.new
-            × IsOneSend (slice_index_or (port_ids self.old) place 0) deeds }
+            × IsOneSend (slice_index_or (port_ids self.old) place 0) deeds
+            × IsSendDue (slice_index_or (port_ids self.old) place 0) self.old deeds
+            × IsSlow (length deeds) self.old self.new }
     {
         topology::laws::neighbours();
         let port = &mut self.ports[place];
@@ -105,7 +109,8 @@ impl<A: Allocator> Runner<A> {
         requires room { length self.old.journal.entries.items
             < vec_capacity self.old.journal.entries }
         ensures { (deeds : List Deed) × Does deeds self.old self.new
-            × IsOneTake (slice_index_or (port_ids self.old) place 0) deeds }
+            × IsOneTake (slice_index_or (port_ids self.old) place 0) deeds
+            × IsTakeDue (slice_index_or (port_ids self.old) place 0) self.old deeds }
     {
         topology::laws::neighbours();
         topology::laws::joined();
@@ -134,7 +139,8 @@ impl<A: Allocator> Runner<A> {
             ≤ vec_capacity self.old.journal.entries }
         ensures { (deeds : List Deed) × Does deeds self.old self.new
             × AreSendsTo (port_ids self.old) deeds
-            × (length deeds ≤ length self.old.ports.items) }
+            × (length deeds ≤ length self.old.ports.items)
+            × AreSendsDue (port_ids self.old) self.old deeds }
     {
         for place in 0..self.ports.len() {
             self.send(place);
@@ -148,7 +154,8 @@ impl<A: Allocator> Runner<A> {
             ≤ vec_capacity self.old.journal.entries }
         ensures { (deeds : List Deed) × Does deeds self.old self.new
             × AreTakesFrom (port_ids self.old) deeds
-            × (length deeds ≤ 2 * length self.old.ports.items) }
+            × (length deeds ≤ 2 * length self.old.ports.items)
+            × AreTakesDue (port_ids self.old) self.old deeds }
     {
         for place in 0..self.ports.len() {
             self.take(place);
@@ -163,7 +170,8 @@ impl<A: Allocator> Runner<A> {
             ≤ vec_capacity self.old.journal.entries }
         ensures { (deeds : List Deed) × Does deeds self.old self.new
             × IsRound (port_ids self.old) deeds
-            × (length deeds ≤ round_room self.old) }
+            × (length deeds ≤ round_room self.old)
+            × BeginsWhole self.old deeds }
     {
         self.tick();
         self.send_all();
@@ -177,10 +185,12 @@ impl<A: Allocator> Runner<A> {
         requires ready { IsReady self.old }
         requires room { length self.old.journal.entries.items + turns * round_room self.old
             ≤ vec_capacity self.old.journal.entries }
-        // As many rounds as turns: each begins with the one tick of it.
+        // As many rounds as turns: each begins with the one tick of it. In the first one, at the
+        // start of a run, nothing is left out for which there is room or an item.
         ensures { (deeds : List Deed) × Does deeds self.old self.new
             × AreRounds (port_ids self.old) turns deeds
-            × (length deeds ≤ turns * round_room self.old) }
+            × (length deeds ≤ turns * round_room self.old)
+            × (0 < turns → BeginsWhole self.old deeds) }
     {
         for turn in 0..turns {
             gate.before(self.id, turn);

@@ -9,6 +9,8 @@ mod damaged;
 #[cfg(test)]
 mod meet;
 #[cfg(test)]
+mod memory;
+#[cfg(test)]
 mod open;
 #[cfg(test)]
 mod pace;

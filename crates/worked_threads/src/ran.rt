@@ -1,6 +1,6 @@
 //! Networks, worlds and runs as tests use them. Tests need nothing of what the contracts of these
 //! calls say, and where they are called from here the prover need not carry that along.
-use std::alloc::{AllocError, Global};
+use std::alloc::{AllocError, Allocator, Global};
 use std::sync::Wait;
 use std::thread::Threads;
 use thread_net::{Gate, RunFault, Woven, run_threads};
@@ -16,7 +16,7 @@ pub fn net_of(alloc: Global, nodes: i64, edges: &[(i64, i64)]) -> Result<Net, Ne
 }
 
 /// A network's default world.
-pub fn start(alloc: Global, net: &Net) -> Result<World, AllocError> {
+pub fn start<A: Allocator + Copy>(alloc: A, net: &Net) -> Result<World<A>, AllocError> {
     World::new(alloc, net)
 }
 
@@ -37,12 +37,12 @@ pub fn judged(world: World, events: &[Event]) -> Report {
 }
 
 /// Lets an event happen to a world.
-fn step(world: &mut World, event: &Event) -> Result<(), EventFault> {
+fn step<A: Allocator + Copy>(world: &mut World<A>, event: &Event) -> Result<(), EventFault> {
     world.step(event)
 }
 
 /// Whether each of these events is accepted.
-pub fn happen(world: &mut World, events: &[Event]) -> bool {
+pub fn happen<A: Allocator + Copy>(world: &mut World<A>, events: &[Event]) -> bool {
     let mut accepted = true;
     for event in events {
         accepted &= step(world, event).is_ok();
@@ -51,12 +51,12 @@ pub fn happen(world: &mut World, events: &[Event]) -> bool {
 }
 
 /// Writes the text that shows a world, with no sweeps.
-fn show(world: &World, sink: &mut MemorySink) -> Result<(), SimFault> {
+fn show<A: Allocator + Copy>(world: &World<A>, sink: &mut MemorySink) -> Result<(), SimFault> {
     state_text(world, 0, sink)
 }
 
 /// The text that shows a world, with no sweeps, in at most 4,096 bytes.
-pub fn shown(alloc: Global, world: &World) -> Result<MemorySink, SimFault> {
+pub fn shown<A: Allocator + Copy>(alloc: Global, world: &World<A>) -> Result<MemorySink, SimFault> {
     let mut sink = MemorySink::new(alloc, 4096)?;
     show(world, &mut sink)?;
     Ok(sink)

@@ -1,8 +1,7 @@
-use Rattle.std.proofs.Common.{rules, arith, ap, sym, refl, subst, ◌≡◌, ◌∙◌, ◌+◌}
+use Rattle.std.proofs.Common.{rules, arith, ap, sym, subst, ◌≡◌, ◌∙◌}
 use Rattle.topology.specs.Network.{are_joined, IsAcceptedNetwork}
-use Rattle.thread_net.specs.Cables.{rows_of, reach, rows_reach, AreLaid}
-use Rattle.thread_net.proofs.Cabling.{laid-row, laid-done, laid-nothing, laid-all}
-use Rattle.thread_net.proofs.Starting.{same-length}
+use Rattle.thread_net.specs.Cables.{rows_of, rows_reach, AreLaid}
+use Rattle.thread_net.proofs.Cabling.{laid-row, laid-done, laid-all}
 use Rattle.thread_net.proofs.cables.cable_all.Goals as goal
 
 pub loop-one-preserved : goal.loop-one-preserved

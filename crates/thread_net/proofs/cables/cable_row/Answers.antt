@@ -1,4 +1,4 @@
-use Rattle.std.proofs.Common.{rules, arith, ap, sym, refl, subst, false, ◌≡◌, ◌∙◌, ◌+◌, ◌<◌}
+use Rattle.std.proofs.Common.{rules, arith, ap, sym, subst, false, ◌≡◌, ◌∙◌, ◌<◌}
 use Rattle.topology.specs.Network.{are_joined}
 use Rattle.thread_net.specs.Cables.{rows_of, reach, AreLaid}
 use Rattle.thread_net.proofs.Cabling.{laid-none}

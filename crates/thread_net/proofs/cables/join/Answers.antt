@@ -1,4 +1,4 @@
-use Rattle.std.proofs.Common.{rules, arith, ap, sym, refl, subst, ◌≡◌, ◌∙◌, ◌<◌, ◌+◌, ◌++◌, ◌∷◌, [], length, slice_set}
+use Rattle.std.proofs.Common.{arith, ap, sym, subst, ◌∙◌, ◌+◌, ◌++◌, ◌∷◌, [], slice_set}
 use Rattle.topology.specs.Network.{are_joined}
 use Rattle.thread_net.specs.Cables.{rows_of, row, reach, AreLaid}
 use Rattle.thread_net.proofs.Maps.{map-long}

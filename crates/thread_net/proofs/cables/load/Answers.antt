@@ -1,4 +1,4 @@
-use Rattle.std.proofs.Common.{rules, arith, ap, ◌≡◌, ◌∙◌, ◌++◌, ◌∷◌, [], ◌+◌, take}
+use Rattle.std.proofs.Common.{rules, ap, ◌≡◌, ◌∙◌, ◌++◌, ◌∷◌, [], ◌+◌, take}
 use Rattle.std.proofs.lemmas.List.{map_push}
 use Rattle.configuration.specs.LinksView.{under_way}
 use Rattle.thread_net.specs.Ports.{stamped, opening}

@@ -1,4 +1,4 @@
-use Rattle.std.proofs.Common.{◌≡◌, ◌+◌, ◌≤◌, length, take}
+use Rattle.std.proofs.Common.{◌≡◌, ◌+◌, take}
 use Rattle.configuration.specs.LinksView.{under_way}
 use Rattle.rtrb.specs.Ring.{sent, known_free, SameProducer}
 use Rattle.thread_net.specs.Ports.{opening}

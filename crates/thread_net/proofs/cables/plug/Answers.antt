@@ -1,5 +1,4 @@
-use Rattle.std.proofs.Common.{rules, arith, ap, sym, refl, ◌≡◌, ◌<◌, ◌∙◌, ◌++◌, ◌∷◌, [], length}
-use Rattle.thread_net.specs.declared.runner.Runner.{Runner}
+use Rattle.std.proofs.Common.{rules, arith, refl, ◌≡◌, ◌<◌, ◌++◌, ◌∷◌, [], length}
 use Rattle.thread_net.specs.Cables.{seat_of}
 use Rattle.thread_net.proofs.Maps.{map-set-same, map-set-at}
 use Rattle.thread_net.proofs.cables.plug.Goals as goal

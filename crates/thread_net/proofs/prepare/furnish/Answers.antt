@@ -1,6 +1,6 @@
-use Rattle.std.proofs.Common.{rules, arith, ap, sym, refl, subst, ◌≡◌, ◌∙◌, ◌≤◌, All, length, vec_capacity}
-use Rattle.thread_net.specs.Cables.{rows_of, row}
-use Rattle.thread_net.specs.Seats.{AreShort, IsNew, HasRoom, nodes_of, total_room}
+use Rattle.std.proofs.Common.{arith, ap, sym, subst, ◌∙◌, All, length}
+use Rattle.thread_net.specs.Cables.{row}
+use Rattle.thread_net.specs.Seats.{AreShort, IsNew, HasRoom}
 use Rattle.thread_net.proofs.Maps.{map-long}
 use Rattle.thread_net.proofs.Starting.{same-nodes, same-length}
 use Rattle.thread_net.proofs.prepare.furnish.Goals as goal

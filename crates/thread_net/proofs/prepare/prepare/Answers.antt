@@ -1,7 +1,7 @@
-use Rattle.std.proofs.Common.{rules, arith, ap, sym, refl, subst, ◌≡◌, ◌∙◌, ◌≤◌, length}
+use Rattle.std.proofs.Common.{rules, arith, ap, sym, refl, subst, ◌≡◌, ◌∙◌, length}
 use Rattle.topology.specs.Network.{IsAcceptedNetwork}
 use Rattle.configuration.specs.ConfigurationView.{world_of}
-use Rattle.thread_net.specs.Seats.{AreShort, nodes_of, total_room}
+use Rattle.thread_net.specs.Seats.{AreShort}
 use Rattle.thread_net.specs.Tables.{AreEmptySeats}
 use Rattle.thread_net.proofs.Maps.{map-long}
 use Rattle.thread_net.proofs.Starting.{short-nodes, all-at-start}

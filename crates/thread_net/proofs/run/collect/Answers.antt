@@ -1,4 +1,4 @@
-use Rattle.std.proofs.Common.{rules, arith, ap, sym, refl, ◌≡◌, ◌∙◌, ◌++◌, ◌∷◌, [], ◌+◌, ◌&&◌, drop, take, vec_len}
+use Rattle.std.proofs.Common.{rules, arith, ap, sym, ◌≡◌, ◌∙◌, ◌++◌, ◌∷◌, [], ◌+◌, ◌&&◌, drop, take, vec_len}
 use Rattle.std.specs.Vec.Iter.{into_iter_items}
 use Rattle.std.proofs.lemmas.List.{map_push}
 use Rattle.thread_net.specs.Outcomes.{runners_in, have_run}

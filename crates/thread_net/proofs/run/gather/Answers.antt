@@ -1,11 +1,10 @@
-use Rattle.std.proofs.Common.{rules, arith, ap, sym, refl, subst, ◌≡◌, ◌∙◌, ◌≤◌, length, map, slice_index_or, vec_len, vec_capacity}
+use Rattle.std.proofs.Common.{rules, arith, ap, sym, subst, ◌≡◌, ◌∙◌, ◌≤◌, length, vec_len, vec_capacity}
 use Rattle.weaving.specs.Journals.{entries_in, entry_count, journal_of}
 use Rattle.weaving.specs.Woven.{AreRising, IsWoven}
 use Rattle.topology.specs.Network.{neighbours_of}
 use Rattle.configuration.specs.ConfigurationView.{world_of}
 use Rattle.thread_net.specs.ThreadRun.{IsThreadRun}
 use Rattle.thread_net.specs.Cables.{AreCabled, ids_in, row, rows_of}
-use Rattle.thread_net.specs.Seats.{entries_of_all, nodes_of}
 use Rattle.thread_net.specs.Tables.{AreEmptySeats, rows_in}
 use Rattle.thread_net.proofs.Maps.{map-long}
 use Rattle.thread_net.proofs.Gathering.{all-rising}

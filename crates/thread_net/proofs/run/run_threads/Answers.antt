@@ -1,6 +1,5 @@
-use Rattle.std.proofs.Common.{rules, arith, ap, sym, subst, ◌≡◌, ◌∙◌, true, false, length, vec_len}
-use Rattle.run_model.specs.World.{World}
-use Rattle.configuration.specs.ConfigurationView.{ConfigurationView, world_of}
+use Rattle.std.proofs.Common.{rules, arith, ap, ◌≡◌, true, false, length, vec_len}
+use Rattle.configuration.specs.ConfigurationView.{world_of}
 use Rattle.thread_net.specs.Outcomes.{IsOutcomeOf, have_run, turns_of}
 use Rattle.thread_net.proofs.Zips.{zip_length}
 use Rattle.thread_net.proofs.Finishing.{gatherable, whole, part}

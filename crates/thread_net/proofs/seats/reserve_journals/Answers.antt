@@ -1,4 +1,4 @@
-use Rattle.std.proofs.Common.{rules, arith, ap, sym, refl, subst, ◌≡◌, ◌∙◌, ◌<◌, ◌≤◌, length, vec_capacity}
+use Rattle.std.proofs.Common.{rules, arith, ap, sym, refl, ◌≡◌, ◌∙◌, ◌<◌, ◌≤◌, length}
 use Rattle.std.proofs.lemmas.List.{length-set}
 use Rattle.thread_net.specs.declared.runner.Runner.{Runner}
 use Rattle.thread_net.specs.Cables.{seat_of}

@@ -1,5 +1,5 @@
-use Rattle.std.proofs.Common.{◌≡◌, ◌+◌, ◌≤◌, ℕ, [], All, take, drop, vec_len, length}
-use Rattle.thread_net.specs.Cables.{rows_of, row, seats_of}
+use Rattle.std.proofs.Common.{◌≡◌, All, take, length}
+use Rattle.thread_net.specs.Cables.{rows_of, seats_of}
 use Rattle.thread_net.specs.Seats.{nodes_of, IsNew, HasRoom}
 use Rattle.thread_net.proofs.seats.reserve_journals.Given as goal
 

@@ -1,4 +1,4 @@
-use Rattle.std.proofs.Common.{rules, arith, ap, sym, refl, subst, ◌≡◌, ◌∙◌, ◌<◌, ◌≤◌, ◌+◌, ◌*◌, length}
+use Rattle.std.proofs.Common.{rules, arith, ap, refl, ◌∙◌, ◌<◌, ◌+◌, ◌*◌, length}
 use Rattle.thread_net.specs.Seats.{nodes_of}
 use Rattle.thread_net.proofs.Seating.{short-at, total-more}
 use Rattle.thread_net.proofs.seats.total_room.Goals as goal

@@ -1,10 +1,8 @@
-use Rattle.std.proofs.Common.{rules, arith, ap, sym, refl, ◌≡◌, ◌∙◌, ◌++◌, ◌∷◌, [], ◌+◌, drop, take, vec_len}
+use Rattle.std.proofs.Common.{rules, arith, ap, sym, ◌≡◌, ◌∙◌, ◌++◌, ◌∷◌, [], ◌+◌, drop, take, vec_len}
 use Rattle.std.specs.Vec.Iter.{into_iter_items}
 use Rattle.std.proofs.lemmas.List.{map_push}
-use Rattle.weaving.specs.Journals.{entries_in}
 use Rattle.thread_net.specs.Cables.{rows_of}
 use Rattle.thread_net.specs.Seats.{nodes_of, entries_of_all}
-use Rattle.thread_net.specs.Tables.{rows_in}
 use Rattle.thread_net.proofs.Zips.{drop_one}
 use Rattle.thread_net.proofs.Maps.{take_one}
 use Rattle.thread_net.proofs.seats.unseat_all.Goals as goal

@@ -1,4 +1,4 @@
-use Rattle.std.proofs.Common.{◌≡◌, ◌+◌, ◌≤◌, ℕ, [], take, drop, vec_len, vec_capacity}
+use Rattle.std.proofs.Common.{◌≡◌, ◌+◌, ◌≤◌, take, drop, vec_len, vec_capacity}
 use Rattle.std.specs.Vec.Iter.{into_iter_items, into_iter_len}
 use Rattle.weaving.specs.Journals.{entries_in}
 use Rattle.thread_net.specs.Cables.{rows_of}

@@ -1,4 +1,4 @@
-use Rattle.std.proofs.Common.{rules, arith, ap, sym, refl, subst, ◌≡◌, ◌∙◌, ◌≤◌, ◌∷◌, ◌++◌, length, drop, take, take_all}
+use Rattle.std.proofs.Common.{rules, arith, ap, sym, subst, ◌≡◌, ◌∙◌, ◌≤◌, ◌∷◌, ◌++◌, length, drop, take_all}
 use Rattle.rtrb.specs.Ring.{sent, received, known_items}
 use Rattle.configuration.specs.LinksView.{under_way}
 use Rattle.run_model.specs.World.{at_pair}

@@ -1,9 +1,9 @@
-use Rattle.std.proofs.Common.{rules, arith, ap, sym, refl, subst, false, ◌≡◌, ◌∙◌, ◌+◌, ◌-◌, ◌<◌}
+use Rattle.std.proofs.Common.{rules, arith, sym, subst, ◌≡◌, ◌∙◌, ◌+◌, ◌-◌}
 use Rattle.topology.specs.Network.{IsAcceptedNetwork}
 use Rattle.configuration.specs.LinksView.{under_way}
 use Rattle.thread_net.specs.Settling.{IsSettlingFrom, AreRowsSettled}
 use Rattle.thread_net.specs.Tables.{rows_in}
-use Rattle.thread_net.proofs.Settling.{row-enters, row-leaves, rows-begin, rows-done, rows-flushed}
+use Rattle.thread_net.proofs.Settling.{row-enters, row-leaves, rows-done, rows-flushed}
 use Rattle.thread_net.proofs.settle.settle_all.Goals as goal
 
 pub settle_row-requires-clause-settling : goal.settle_row-requires-clause-settling

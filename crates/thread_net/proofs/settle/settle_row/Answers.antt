@@ -1,4 +1,4 @@
-use Rattle.std.proofs.Common.{rules, arith, ap, sym, refl, subst, false, ◌≡◌, ◌∙◌, ◌+◌, ◌-◌, ◌<◌}
+use Rattle.std.proofs.Common.{rules, arith, sym, subst, false, ◌≡◌, ◌∙◌, ◌+◌, ◌-◌, ◌<◌}
 use Rattle.topology.specs.Network.{are_joined, IsAcceptedNetwork}
 use Rattle.configuration.specs.LinksView.{under_way}
 use Rattle.thread_net.specs.Settling.{IsSettlingFrom}

@@ -1,4 +1,4 @@
-use Rattle.std.proofs.Common.{rules, ◌≡◌, ◌∷◌, List, ◌≤◌, length, vec_len, take, drop}
+use Rattle.std.proofs.Common.{rules, ◌∷◌, ◌≤◌, length, vec_len, drop}
 use Rattle.std.specs.List.{AllZip}
 use Rattle.std.specs.Vec.Iter.{into_iter_items}
 use Rattle.thread_net.specs.Outcomes.{IsStartOf, IsOutcomeOf}

@@ -1,4 +1,3 @@
-use Rattle.std.proofs.Common.{rules}
 use Rattle.thread_net.proofs.threads.run_one.Goals as goal
 
 pub returns : goal.returns

@@ -1,4 +1,4 @@
-use Rattle.std.proofs.Common.{◌≡◌, List, [], ◌∷◌, ◌++◌, ◌∙◌, All, Contains, map, length, arith, rules, refl, sym, subst, ap, inl, inr, append-nil}
+use Rattle.std.proofs.Common.{◌≡◌, IsTrue, List, [], ◌∷◌, ◌++◌, ◌∙◌, All, Contains, map, length, arith, rules, refl, sym, subst, ap, inl, inr, append-nil}
 use Rattle.std.proofs.lemmas.Grind.{common_steps}
 use Rattle.link_model.specs.declared.item.Item.TheVariants.{Frame}
 use Rattle.node_core.specs.View.{site_in, state_of}
@@ -8,6 +8,8 @@ use Rattle.thread_net.specs.Ports.{stamped, IsSender, IsReceiver, SameIncoming}
 use Rattle.thread_net.specs.Runner.{IsPortTold, IsSamePort, AreSamePorts}
 use Rattle.thread_net.proofs.Accounts.{sent-on, taken-on}
 use Rattle.thread_net.proofs.Deeds.{Noted, does-one}
+use Rattle.run_model.specs.Step.{has_room}
+use Rattle.thread_net.proofs.Chances.{none-there, place-at-hand}
 use Rattle.thread_net.proofs.PortDeeds.{IsAt, known, id-at, port-was, now-same, now-ids, now-told, does-none}
 use Rattle.thread_net.proofs.runner.Runner.send.Goals as goal
 
@@ -59,7 +61,13 @@ returns-in-Some g c =
           ) in
           subst (λ ps. All (IsPortTold w v (past ++ deeds)) ps.items) (sym rest.2)
           (now-told a k p at x same w v past deeds c.neighbours.ensures.ascend was (λ u apart. (grind (arith, common_steps), refl)) one);
-    } in (deeds, does-one (Sends n s) a c.note.new.self c.requires.ready noted, inr (s, ap (λ u. Sends u s ∷ []) (id-at a k p at)))
+    } in (
+      deeds,
+      does-one (Sends n s) a c.note.new.self c.requires.ready noted,
+      inr (s, ap (λ u. Sends u s ∷ []) (id-at a k p at)),
+      λ w v past told room none soon. omega arith,
+      λ bound late up. let l = c.in-Some.ensures.later.2 in let e = c.note.ensures.clock in omega (arith, l, e, late, up),
+    )
 
 pub returns-in-None : goal.returns-in-None
 returns-in-None g c =
@@ -79,4 +87,10 @@ returns-in-None g c =
             subst (λ ds. IsReceiver w.net.capacity (length (w.link n v)) (taken_from n ds) p.incoming) (sym (append-nil past)) old.1,
           )),
       inl refl,
+      λ w v past told room none soon.
+          let here = id-at a k p at in
+          let was = port-was a k p at w v past told in
+          let hand = place-at-hand w v n past p was.0 (subst (λ u. IsTrue (has_room w v u)) (sym here) room) (subst (λ u. sent_to u past ≡ []) (sym here) none) in
+          absurd (none-there (c.in-None.ensures.succeeds hand.0 hand.1 soon)),
+      λ bound late up. omega (arith, up),
     )

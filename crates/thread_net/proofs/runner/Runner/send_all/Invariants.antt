@@ -2,8 +2,10 @@ use Rattle.std.proofs.Common.{◌≤◌, List, length, take}
 use Rattle.weaving.specs.Account.{Deed}
 use Rattle.thread_net.specs.Runner.{Does, port_ids}
 use Rattle.thread_net.specs.Rounds.{AreSendsTo}
+use Rattle.thread_net.specs.Due.{AreSendsDue, IsSlow}
 use Rattle.thread_net.proofs.runner.Runner.send_all.Given as goal
 
 abbrev pub invariant-loop-place : goal.invariant-loop-place
 invariant-loop-place g l =
     (deeds : List Deed) × Does deeds l.fn.self l.self × AreSendsTo (take l.place (port_ids l.fn.self)) deeds × (length deeds ≤ l.place)
+    × AreSendsDue (take l.place (port_ids l.fn.self)) l.fn.self deeds × IsSlow (length deeds) l.fn.self l.self

@@ -1,4 +1,4 @@
-use Rattle.std.proofs.Common.{◌≡◌, List, [], ◌∷◌, ◌++◌, ◌∙◌, All, Contains, IsTrue, map, length, arith, rules, refl, sym, subst, ap, inl, inr, append-nil}
+use Rattle.std.proofs.Common.{◌≡◌, ◌<◌, List, [], ◌∷◌, ◌++◌, ◌∙◌, All, Contains, IsTrue, map, length, arith, rules, refl, sym, subst, ap, inl, inr, append-nil}
 use Rattle.std.proofs.lemmas.Grind.{common_steps}
 use Rattle.node_core.specs.Step.{taken}
 use Rattle.node_core.specs.View.{site_in, state_of}
@@ -9,6 +9,8 @@ use Rattle.thread_net.specs.Ports.{IsSender, IsReceiver, SameOutgoing}
 use Rattle.thread_net.specs.Runner.{IsPortTold, IsSamePort, AreSamePorts}
 use Rattle.thread_net.proofs.Accounts.{sent-on, taken-on}
 use Rattle.thread_net.proofs.Deeds.{Noted, does-one}
+use Rattle.topology.specs.Network.{are_joined}
+use Rattle.thread_net.proofs.Chances.{none-there, item-at-hand}
 use Rattle.thread_net.proofs.PortDeeds.{IsAt, known, id-at, port-was, now-same, now-ids, now-told, does-none}
 use Rattle.thread_net.proofs.runner.Runner.take.Goals as goal
 
@@ -58,7 +60,7 @@ returns-in-Some g c =
           ) in
           subst (λ ps. All (IsPortTold w v (past ++ deeds)) ps.items) (sym rest.2)
           (now-told a k p at x same w v past deeds c.neighbours.ensures.ascend was (λ u apart. (refl, grind (arith, common_steps))) one);
-    } in (deeds, does-one (Takes n s) a c.note.new.self c.requires.ready noted, inr (s, ap (λ u. Takes u s ∷ []) (id-at a k p at)))
+    } in (deeds, does-one (Takes n s) a c.note.new.self c.requires.ready noted, inr (s, ap (λ u. Takes u s ∷ []) (id-at a k p at)), λ w v past told links less. omega arith)
 
 pub returns-in-None : goal.returns-in-None
 returns-in-None g c =
@@ -78,4 +80,11 @@ returns-in-None g c =
             subst (λ ds. IsReceiver w.net.capacity (length (w.link n v)) (taken_from n ds) x.incoming) (sym (append-nil past)) (c.in-None.ensures.taken w.net.capacity (length (w.link n v)) (taken_from n past) old.1),
           )),
       inl refl,
+      λ w v past told links less.
+          let here = id-at a k p at in
+          let was = port-was a k p at w v past told in
+          let joined : IsTrue (are_joined w.net.edges n v) =
+          subst IsTrue (c.joined.ensures.back w.net.edges v n) ((c.neighbours.ensures.joined w.net v n).0 (subst (λ s. Contains s.neighbours n) told.site (known a k p at))).1 in
+          let hand = item-at-hand w v n past p was.1 (links n v joined) (subst (λ u. length (taken_from u past) < length (w.link u v)) (sym here) less) in
+          absurd (none-there (c.in-None.ensures.succeeds hand.0 hand.1)),
     )

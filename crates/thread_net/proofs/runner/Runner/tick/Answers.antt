@@ -25,4 +25,4 @@ returns g c =
       leads = λ net v at site. ap state_of rest.1 ∙ (c.tick-ticked.ensures.state ∙ ap (λ s. ticked s (state_of a.node)) site);
       told = λ w v past was.
           subst (λ ps. All (IsPortTold w v (past ++ Ticks t ∷ [])) ps.items) (sym rest.2) (ports-stay w v past (Ticks t ∷ []) a.ports.items (λ u. (refl, refl)) was.ports);
-    } in (t, does-one (Ticks t) a c.note.new.self c.requires.ready noted)
+    } in (t, does-one (Ticks t) a c.note.new.self c.requires.ready noted, λ bound late up. let e = c.note.ensures.clock in omega (arith, e, up))
