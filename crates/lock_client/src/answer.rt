@@ -11,7 +11,7 @@ pub enum Answer {
     Lost,
     /// `released`: it gave the lock back, or waits no longer.
     Released,
-    /// `full`: as many wait at the node as may.
+    /// `full`: 64 wait at the node, the most that may.
     Full,
     /// `twice`: it waits or borrows already.
     Twice,

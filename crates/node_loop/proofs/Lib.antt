@@ -2,3 +2,4 @@ pub mod Became
 pub mod Leaving
 pub mod Sights
 pub mod Pushing
+pub mod Speaking

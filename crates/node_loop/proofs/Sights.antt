@@ -1,8 +1,57 @@
--- Neighbours are nodes, and there are at most 64 of these.
-use Rattle.std.proofs.Common.{◌≡◌, ◌<◌, ◌≤◌, ℕ, arith, Contains, subst, sym}
+-- What is seen at each port, one after the other. Neighbours are nodes, and there are at most 64 of
+-- these.
+use Rattle.std.proofs.Common.{◌≡◌, ◌≢◌, ◌⊎◌, ◌<◌, ◌≤◌, ◌+◌, ℕ, Bool, not, ◌&&◌, List, Some, is_some, Contains, length, slice_get, slice_index_or, slice_set, refl, inl, inr, sym, subst, arith, ◌∙◌}
+use Rattle.std.proofs.lemmas.List.{get_or-set_same, get_or-set_other, length-set}
 use Rattle.topology.specs.Network.{Network, IsAcceptedNetwork}
 use Rattle.topology.specs.Laws.{NeighboursAreJoined, Limits}
+use Rattle.topology.specs.declared.frame.Payload.{Payload}
+use Rattle.topology.specs.declared.frame.Frame.{Frame}
+use Rattle.data_link.specs.Port.{frame_of}
 use Rattle.node_core.specs.Site.{Site, site_of}
+use Rattle.node_core.specs.Machines.{payload_for}
+use Rattle.node_core.specs.View.{NodeView, site_in, state_of}
+use Rattle.pace.specs.Plans.{no_sight, sight_of}
+use Rattle.pace.specs.declared.port.PortSight.{PortSight}
+use Rattle.node_loop.specs.declared.port.NodePort.{NodePort}
+use Rattle.node_loop.specs.Speaking.{sight_at}
+use Rattle.node_loop.proofs.Speaking.{apart, below-or-last, none-below}
+
+-- what a port shows is what is seen there
+pub seen-as : {P : Type 0} (node : NodeView) (ports : List (NodePort P)) (id : ℕ) (port : NodePort P) (takes : Bool) (frame : Frame) (present : Payload)
+    → slice_get ports id ≡ Some port → takes ≡ (is_some port.link.pipe && not port.is_stuck) → frame ≡ frame_of ((state_of node).port id)
+    → present ≡ payload_for (site_in node) (state_of node) id
+    → ◌≡◌ {A = PortSight} (record { takes_frames = takes; frame = frame; present = present }) (sight_at node ports id)
+seen-as node ports id port takes frame present at t f p = rw (at, t, f, p) refl
+
+-- the sights so far: those of the neighbours below i are these
+pub record AreSeen (neighbours : List ℕ) (f : ℕ → PortSight) (sights : List PortSight) (i : ℕ) : Type 0 where
+  pub size : length sights ≡ 64
+  pub below : (w : ℕ) → w < i → Contains neighbours w → sight_of sights w ≡ f w
+
+pub seen-start : (neighbours : List ℕ) (f : ℕ → PortSight) (sights : List PortSight) → length sights ≡ 64 → AreSeen neighbours f sights 0
+seen-start neighbours f sights size = record { size = size; below = λ w below. elim (none-below w below) [ ] }
+
+pub seen-next : (neighbours : List ℕ) (f : ℕ → PortSight) (sights : List PortSight) (i : ℕ) (x : PortSight) → i < 64 → x ≡ f i
+    → AreSeen neighbours f sights i → AreSeen neighbours f (slice_set sights i x) (i + 1)
+seen-next neighbours f sights i x here same so = record {
+  size = length-set sights i x ∙ so.size;
+  below = λ w below has.
+      elim (below-or-last w i below) [
+        | inl less ↦ (let other : w ≢ i = λ e. elim (apart w i less e) [ ] in rw (get_or-set_other sights i w x no_sight other) (so.below w less has))
+        | inr last ↦ rw (last, get_or-set_same sights i x no_sight (rw so.size here)) same
+      ];
+}
+
+pub seen-on : (neighbours : List ℕ) (f : ℕ → PortSight) (sights : List PortSight) (i : ℕ) → (¬ Contains neighbours i)
+    → AreSeen neighbours f sights i → AreSeen neighbours f sights (i + 1)
+seen-on neighbours f sights i not so = record {
+  size = so.size;
+  below = λ w below has.
+      elim (below-or-last w i below) [
+        | inl less ↦ so.below w less has
+        | inr last ↦ elim (not (subst (λ v. Contains neighbours v) last has)) [ ]
+      ];
+}
 
 pub is-node : NeighboursAreJoined → (net : Network) (v w : ℕ) (site : Site) → site ≡ site_of net v → Contains site.neighbours w → w < site.ranges.nodes
 is-node joined net v w site e has =

@@ -4,3 +4,4 @@ pub mod Deeds
 pub mod Answers
 pub mod Clients
 pub mod Arrivals
+pub mod Speaking

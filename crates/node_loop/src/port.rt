@@ -20,6 +20,7 @@ pub(crate) struct NodePort<P> {
 
 impl<P: Pipe> NodePort<P> {
     ghost use Rattle.socket_links.specs.Links.{PushesOn};
+    ghost use Rattle.node_loop.specs.Speaking.{OffersLine, PortSpeaks, PushesOut};
 
     /// A port without a connection.
     pub fn new() -> NodePort<P>
@@ -99,7 +100,9 @@ impl<P: Pipe> NodePort<P> {
 
     /// Writes what is left of the last line, as far as the pipe takes it.
     pub fn push_out(&mut self)
-        ensures { PushesOn P.took [] self.old.link self.new.link }
+        ensures pushed { PushesOut P.gave P.took P.counts self.old self.new }
+        // What the pipe took goes on along that line.
+        ensures line { PushesOn P.took [] self.old.link self.new.link }
     {
         self.is_stuck = self.link.push_out() == Flow::Later;
     }
@@ -107,8 +110,10 @@ impl<P: Pipe> NodePort<P> {
     /// Accepts a frame, if the last line is out, and writes it as far as the pipe takes it. The
     /// answer is whether it was accepted.
     pub fn offer(&mut self, frame: &Frame) -> bool
+        ensures offered { OffersLine P.gave P.took P.counts (spelling frame.now ++ newline ∷ [])
+            self.old self.new result }
         // What the pipe took goes on by the frame's line, or by nothing where it is not accepted.
-        ensures { PushesOn P.took (if result then spelling frame.now ++ newline ∷ [] else [])
+        ensures line { PushesOn P.took (if result then spelling frame.now ++ newline ∷ [] else [])
             self.old.link self.new.link }
     {
         match self.link.offer(frame) {
@@ -119,5 +124,15 @@ impl<P: Pipe> NodePort<P> {
             Offer::Busy => false,
             Offer::Loose => false,
         }
+    }
+
+    /// Writes what is left of the last line, and then offers a frame, if it is to be offered. The
+    /// answer is whether it was accepted.
+    pub fn speak(&mut self, frame: &Frame, is_offered: bool) -> bool
+        ensures { PortSpeaks P.gave P.took P.counts (spelling frame.now ++ newline ∷ []) is_offered
+            self.old self.new result }
+    {
+        self.push_out();
+        is_offered && self.offer(frame)
     }
 }

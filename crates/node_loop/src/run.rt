@@ -1,6 +1,9 @@
 //! A node that runs: what one turn of its process does.
 ghost use Rattle.std.specs.Prelude.{◌≡◌, ◌↔◌, ◌<◌, ◌≤◌, ◌+◌, ◌%◌, true, false, is_some, length};
 ghost use Rattle.std.specs.Prelude.{IfOk, IfErr, IfSome, IsSome, IsTrue, Some, Contains, slice_get};
+ghost use Rattle.std.specs.Prelude.{◌≢◌, ℕ};
+ghost use Rattle.data_link.specs.Port.{frame_of};
+ghost use Rattle.pace.specs.Plans.{port_of};
 ghost use Rattle.topology.specs.Change.{is_same_frame};
 ghost use Rattle.topology.specs.Network.{neighbours_of};
 ghost use Rattle.node_core.specs.Rewire.{rewired};
@@ -64,6 +67,8 @@ pub struct NodeRun<D: Doors, S: Store + Drop, A: Allocator + Copy = Global> {
 impl<D: Doors, S: Store + Drop, A: Allocator + Copy> NodeRun<D, S, A> {
     ghost use Rattle.node_loop.specs.Clients.{AreConnected};
     ghost use Rattle.node_loop.specs.Deeds.{Acts, Became, IsLeave, IsTake, Listens, Turns};
+    ghost use Rattle.node_loop.specs.Speaking.{AtBoth, IsPlanOf, Speaks, SpeaksTo};
+    ghost use Rattle.node_loop.specs.Speaking.{TurnsAtPace, TurnsBy};
 
     /// A node of this network that runs over these doors. All memory that turns ever need is
     /// reserved here; all four come back only where that is refused.
@@ -126,6 +131,20 @@ impl<D: Doors, S: Store + Drop, A: Allocator + Copy> NodeRun<D, S, A> {
     pub fn turn(&mut self, now: u64) -> Turned
         // It is a turn by some plan.
         ensures node { Turns (is_some result.ticked) self.old.node self.new.node }
+        // The plan is the pace's.
+        ensures paced { TurnsAtPace D.P.gave D.P.took D.P.counts (is_some result.ticked) now
+            (record {
+              node = self.old.node;
+              ports = self.old.ports.items;
+              pace = self.old.pace;
+              let_go = self.old.let_go;
+            })
+            (record {
+              node = self.new.node;
+              ports = self.new.ports.items;
+              pace = self.new.pace;
+              let_go = self.new.let_go;
+            }) }
         // Each ticket that waits or borrows is a connected client's.
         ensures connected { AreConnected self.new.clients self.new.node }
         // In each 256th turn, and in no other, the state is stored as it is at the turn's end.
@@ -137,10 +156,7 @@ impl<D: Doors, S: Store + Drop, A: Allocator + Copy> NodeRun<D, S, A> {
             (S.failures self.old.store) (S.failures self.new.store)) }
         ensures net { self.new.net ≡ self.old.net }
     {
-        self.listen(now);
-        let ticked = self.tick_if(self.plan(now).ticks, now);
-        let plan = self.plan(now);
-        self.speak(&plan.offers, now);
+        let ticked = self.act(now);
         Turned {
             ticked,
             saved: self.save(),
@@ -151,6 +167,20 @@ impl<D: Doors, S: Store + Drop, A: Allocator + Copy> NodeRun<D, S, A> {
     pub fn turn_by(&mut self, plan: &Plan, now: u64) -> Turned
         ensures node { Turns plan.now.ticks self.old.node self.new.node }
         ensures ticked { is_some result.ticked ≡ plan.now.ticks }
+        // On each port of the plan the node's frame is offered, and on no other.
+        ensures offered { TurnsBy D.P.gave D.P.took D.P.counts plan.now.ticks plan.now.offers now
+            (record {
+              node = self.old.node;
+              ports = self.old.ports.items;
+              pace = self.old.pace;
+              let_go = self.old.let_go;
+            })
+            (record {
+              node = self.new.node;
+              ports = self.new.ports.items;
+              pace = self.new.pace;
+              let_go = self.new.let_go;
+            }) }
         // Each ticket that waits or borrows is a connected client's.
         ensures connected { AreConnected self.new.clients self.new.node }
         // In each 256th turn, and in no other, the state is stored as it is at the turn's end.
@@ -162,20 +192,91 @@ impl<D: Doors, S: Store + Drop, A: Allocator + Copy> NodeRun<D, S, A> {
             (S.failures self.old.store) (S.failures self.new.store)) }
         ensures net { self.new.net ≡ self.old.net }
     {
-        self.listen(now);
-        let ticked = self.tick_if(plan.ticks, now);
-        self.speak(&plan.offers, now);
+        let ticked = self.act_by(plan, now);
         Turned {
             ticked,
             saved: self.save(),
         }
     }
 
+    /// A turn but for its save, by the plans of the pace.
+    fn act(&mut self, now: u64) -> Option<Ticked>
+        ensures node { Turns (is_some result) self.old.node self.new.node }
+        ensures paced { TurnsAtPace D.P.gave D.P.took D.P.counts (is_some result) now
+            (record {
+              node = self.old.node;
+              ports = self.old.ports.items;
+              pace = self.old.pace;
+              let_go = self.old.let_go;
+            })
+            (record {
+              node = self.new.node;
+              ports = self.new.ports.items;
+              pace = self.new.pace;
+              let_go = self.new.let_go;
+            }) }
+        ensures connected { AreConnected self.new.clients self.new.node }
+        ensures rest { (self.new.net ≡ self.old.net) × (self.new.turns ≡ self.old.turns)
+            × (self.new.store ≡ self.old.store) }
+    {
+        self.listen(now);
+        let ticked = self.tick_if(self.plan(now).ticks, now);
+        let plan = self.plan(now);
+        self.speak(&plan.offers, now);
+        ticked
+    }
+
+    /// A turn but for its save, by a plan that was made before it.
+    fn act_by(&mut self, plan: &Plan, now: u64) -> Option<Ticked>
+        ensures node { Turns plan.now.ticks self.old.node self.new.node }
+        ensures ticked { is_some result ≡ plan.now.ticks }
+        ensures offered { TurnsBy D.P.gave D.P.took D.P.counts plan.now.ticks plan.now.offers now
+            (record {
+              node = self.old.node;
+              ports = self.old.ports.items;
+              pace = self.old.pace;
+              let_go = self.old.let_go;
+            })
+            (record {
+              node = self.new.node;
+              ports = self.new.ports.items;
+              pace = self.new.pace;
+              let_go = self.new.let_go;
+            }) }
+        ensures connected { AreConnected self.new.clients self.new.node }
+        ensures rest { (self.new.net ≡ self.old.net) × (self.new.turns ≡ self.old.turns)
+            × (self.new.store ≡ self.old.store) }
+    {
+        self.listen(now);
+        let ticked = self.tick_if(plan.ticks, now);
+        self.speak(&plan.offers, now);
+        ticked
+    }
+
     /// What the pace would do now.
-    pub fn plan(&self, now: u64) -> Plan {
+    pub fn plan(&self, now: u64) -> Plan
+        ensures { IsPlanOf now
+            (record {
+              node = self.now.node;
+              ports = self.now.ports.items;
+              pace = self.now.pace;
+              let_go = self.now.let_go;
+            })
+            result }
+    {
         let sights = sight::sights(&self.node, &self.net, &self.ports);
         let outlook = sight::outlook(&self.node, self.let_go);
         self.pace.plan(&sights, &outlook, now)
+    }
+
+    /// From now on its pace remembers this, as damage may have it. Nothing else changes.
+    pub fn set_pace(&mut self, pace: Pace)
+        ensures pace { self.new.pace ≡ pace }
+        ensures rest { (self.new.node ≡ self.old.node) × (self.new.net ≡ self.old.net)
+            × (self.new.ports ≡ self.old.ports) × (self.new.clients ≡ self.old.clients)
+            × (self.new.turns ≡ self.old.turns) × (self.new.store ≡ self.old.store) }
+    {
+        self.pace = pace;
     }
 
     /// First part of a turn: all that came is taken, and whoever is gone leaves.
@@ -334,6 +435,7 @@ impl<D: Doors, S: Store + Drop, A: Allocator + Copy> NodeRun<D, S, A> {
     /// Second part of a turn: one tick, if the plan has one.
     fn tick_if(&mut self, ticks: bool, now: u64) -> Option<Ticked>
         ensures node { Acts ticks self.old.node self.new.node }
+        ensures ports { (self.new.ports ≡ self.old.ports) × (self.new.let_go ≡ self.old.let_go) }
         ensures ticked { is_some result ≡ ticks }
         ensures connected { AreConnected self.old.clients self.old.node
             → AreConnected self.new.clients self.new.node }
@@ -346,6 +448,7 @@ impl<D: Doors, S: Store + Drop, A: Allocator + Copy> NodeRun<D, S, A> {
     /// One tick.
     fn tick(&mut self, now: u64) -> Ticked
         ensures node { Acts true self.old.node self.new.node }
+        ensures ports { (self.new.ports ≡ self.old.ports) × (self.new.let_go ≡ self.old.let_go) }
         ensures connected { AreConnected self.old.clients self.old.node
             → AreConnected self.new.clients self.new.node }
         ensures rest { (self.new.net ≡ self.old.net) × (self.new.turns ≡ self.old.turns)
@@ -362,6 +465,19 @@ impl<D: Doors, S: Store + Drop, A: Allocator + Copy> NodeRun<D, S, A> {
 
     /// Third part of a turn: frames on the ports of the plan, and answers to clients.
     fn speak(&mut self, offers: &[bool; NODES], now: u64)
+        ensures spoken { Speaks D.P.gave D.P.took D.P.counts offers.now now
+            (record {
+              node = self.old.node;
+              ports = self.old.ports.items;
+              pace = self.old.pace;
+              let_go = self.old.let_go;
+            })
+            (record {
+              node = self.new.node;
+              ports = self.new.ports.items;
+              pace = self.new.pace;
+              let_go = self.new.let_go;
+            }) }
         ensures node { Became IsLeave self.old.node self.new.node }
         ensures connected { AreConnected self.old.clients self.old.node
             → AreConnected self.new.clients self.new.node }
@@ -376,7 +492,21 @@ impl<D: Doors, S: Store + Drop, A: Allocator + Copy> NodeRun<D, S, A> {
 
     /// Writes what is left of the last line to a neighbour, and then a frame, if one is offered.
     fn speak_to(&mut self, id: u16, offered: bool, now: u64)
+        ensures spoken { Contains (site_in self.old.node).neighbours id
+            → AtBoth (SpeaksTo D.P.gave D.P.took D.P.counts
+            (frame_of ((state_of self.old.node).port id)) offered now
+            (port_of self.old.pace.ports id) (port_of self.new.pace.ports id))
+            (slice_get self.old.ports.items id) (slice_get self.new.ports.items id) }
+        ensures silent { ¬ Contains (site_in self.old.node).neighbours id
+            → (slice_get self.new.ports.items id ≡ slice_get self.old.ports.items id)
+            × (port_of self.new.pace.ports id ≡ port_of self.old.pace.ports id) }
+        ensures others { (w : ℕ) → w ≢ id
+            → (slice_get self.new.ports.items w ≡ slice_get self.old.ports.items w)
+            × (port_of self.new.pace.ports w ≡ port_of self.old.pace.ports w) }
+        ensures pace { (self.new.pace.node ≡ self.old.pace.node)
+            × (self.new.pace.manner ≡ self.old.pace.manner) }
         ensures node { self.new.node ≡ self.old.node }
+        ensures let_go { self.new.let_go ≡ self.old.let_go }
         ensures clients { self.new.clients ≡ self.old.clients }
         ensures rest { (self.new.net ≡ self.old.net) × (self.new.turns ≡ self.old.turns)
             × (self.new.store ≡ self.old.store) }
@@ -385,9 +515,7 @@ impl<D: Doors, S: Store + Drop, A: Allocator + Copy> NodeRun<D, S, A> {
             return;
         }
         let frame = self.node.frame_for(id);
-        let port = &mut self.ports[id as usize];
-        port.push_out();
-        if offered && port.offer(&frame) {
+        if self.ports[id as usize].speak(&frame, offered) {
             self.pace.gave(id as usize, &frame, now);
         }
     }
@@ -402,6 +530,8 @@ impl<D: Doors, S: Store + Drop, A: Allocator + Copy> NodeRun<D, S, A> {
             (S.failures self.old.store) (S.failures self.new.store)) }
         ensures same { (self.new.node ≡ self.old.node) × (self.new.clients ≡ self.old.clients)
             × (self.new.net ≡ self.old.net) }
+        ensures ports { (self.new.ports ≡ self.old.ports) × (self.new.pace ≡ self.old.pace)
+            × (self.new.let_go ≡ self.old.let_go) }
     {
         self.turns = self.turns.wrapping_add(1);
         if self.turns != 0 {

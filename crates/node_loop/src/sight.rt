@@ -1,9 +1,11 @@
 //! What the pace of a node is shown: how its desk stands, and what there is to say at its ports.
-ghost use Rattle.std.specs.Prelude.{◌≡◌, ◌<◌, ◌≤◌, ℕ, IsTrue, length};
+ghost use Rattle.std.specs.Prelude.{◌≡◌, ◌<◌, ◌≤◌, ℕ, IsTrue, Contains, length};
 ghost use Rattle.euler_ring.specs.Cycle.{is_on};
 ghost use Rattle.node_core.specs.Machines.{payload_for, tree_of};
 ghost use Rattle.node_core.specs.Site.{site_of};
 ghost use Rattle.node_core.specs.View.{site_in, state_of};
+ghost use Rattle.pace.specs.Plans.{sight_of};
+ghost use Rattle.node_loop.specs.Speaking.{outlook_of, sight_at};
 
 use crate::port::NodePort;
 use euler_ring::{TreeNeighbours, tree_neighbours};
@@ -17,7 +19,9 @@ use topology::{Frame, Net, Payload};
 pub(crate) const NODES: usize = 64;
 
 /// How the node's desk stands.
-pub(crate) fn outlook<A: Allocator>(node: &Node<A>, let_go: bool) -> Outlook {
+pub(crate) fn outlook<A: Allocator>(node: &Node<A>, let_go: bool) -> Outlook
+    ensures { result ≡ outlook_of node.now let_go }
+{
     Outlook {
         waits: node.waiting() > 0,
         lends: node.lent().is_some(),
@@ -76,11 +80,13 @@ pub(crate) fn sights<P: Pipe, A: Allocator>(
 ) -> [PortSight; NODES]
     requires id { (site_in node.now).id < net.now.nodes }
     requires site { site_in node.now ≡ site_of net.now (site_in node.now).id }
-    requires ports { length ports.now ≡ net.now.nodes }
+    requires ports { (length ports.now ≡ net.now.nodes) × (length ports.now ≤ 64) }
+    ensures { (w : ℕ) → w < 64 → Contains (site_in node.now).neighbours w
+        → sight_of result w ≡ sight_at node.now ports.now w }
 {
     let tree = tree(node, net);
     let mut sights = [no_sight(); NODES];
-    for id in 0..net.nodes() {
+    for id in 0..NODES as u16 {
         if node.is_neighbour(id) {
             sights[id as usize] = PortSight {
                 takes_frames: ports[id as usize].takes_frames(),

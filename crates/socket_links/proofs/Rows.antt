@@ -1,4 +1,5 @@
--- Small examples of what pipes answer and of what a link has pulled, and some that look like them and are none.
+-- Small examples of what pipes answer and of what a link has pulled, and some that look like them
+-- and are none.
 use Rattle.std.proofs.Common.{codes, [], None, Some, refl, arith, inl}
 use Rattle.topology.specs.declared.frame.Ranges.{Ranges}
 use Rattle.byte_lines.specs.Kept.{kept}
@@ -40,6 +41,7 @@ writes_not-done = λ w. grind (arith, w.1)
 abbrev line : Ranges
 line = record { nodes = 3; counter = 5; ring = 13 }
 
--- of what the pipe gave since the start a part was looked at, which had no whole line, and a part waits
+-- of what the pipe gave since the start a part was looked at, which had no whole line, and a part
+-- waits
 pulled-none : HasPulled line (codes "x") [] (codes "xF00") (kept 21 (codes "F")) (codes "00")
 pulled-none = record { read = codes "F"; parts = refl; stands = refl; frames_are = refl }

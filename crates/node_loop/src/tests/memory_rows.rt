@@ -1,12 +1,12 @@
 //! A node's loop takes all memory at its start, and none in its turns.
 use crate::NodeRun;
 use crate::tests::stage::{doors, whole};
-use crate::tests::wires::{Pair, Queue, Trip};
+use crate::tests::wires::{MemoryDoors, Pair, Queue, Trip};
 use linked_list_allocator::LocalHeap;
 use node_core::Node;
 use node_state_file::MemoryStore;
 use pace::Manner;
-use std::alloc::Global;
+use std::alloc::{AllocError, Global};
 use std::test::Fail;
 use topology::Net;
 
@@ -78,5 +78,71 @@ fn only_new_asks_for_memory(rt: HostRuntime) -> Result<(), Fail> {
         }
     }
     assert!(rt; false, "a larger heap is wanted");
+    Ok(())
+}
+
+/// A node that runs on a heap.
+type RunOn<'a, 'h> = NodeRun<MemoryDoors<'a>, MemoryStore, &'h LocalHeap>;
+
+/// Three nodes, the root first, with these edges.
+fn three(alloc: Global, capacity: i64, edges: &[(i64, i64)]) -> Result<Net, Fail> {
+    Ok(Net::make(alloc, 3, 0, capacity, 0, edges)?)
+}
+
+/// The root of three nodes in a row, on a heap.
+fn root_on<'a, 'h>(
+    alloc: Global,
+    heap: &'h LocalHeap,
+    doors: MemoryDoors<'a>,
+) -> Result<RunOn<'a, 'h>, Fail> {
+    let net = three(alloc, 1, &[(0, 1), (1, 2)])?;
+    if net.nodes() == 0 {
+        return Err(Fail::from(AllocError));
+    }
+    let node = Node::new(heap, &net, 0)?;
+    let store = MemoryStore::new(alloc, 1276)?;
+    match NodeRun::new(heap, net, node, doors, store, Manner::usual()) {
+        Ok(run) => Ok(run),
+        Err(_unmade) => Err(Fail::from(AllocError)),
+    }
+}
+
+/// Takes up a network and turns; node 2 knocks before that. Whether the network was taken up, and
+/// whether node 2 was welcome.
+fn rewired(run: &mut RunOn<'_, '_>, net: &Net, links: &Queue<'_>) -> Option<(bool, bool)> {
+    let pair = links.knock()?;
+    pair.up.write(b"H0002\n");
+    let is_taken = run.rewire(net);
+    run.turn_by(&whole(), 0);
+    Some((is_taken, !pair.down.is_closed()))
+}
+
+#[test]
+fn a_network_is_taken_up_without_memory(rt: HostRuntime) -> Result<(), Fail> {
+    let pairs = [Pair::new(), Pair::new(), Pair::new(), Pair::new()];
+    let (links, clients) = (Queue::new(&pairs, 0, 4), Queue::new(&pairs, 4, 4));
+    let trip = Trip::never();
+    let row = three(rt.alloc(), 1, &[(0, 1), (1, 2)])?;
+    let ring = three(rt.alloc(), 1, &[(0, 1), (1, 2), (0, 2)])?;
+    let other = three(rt.alloc(), 2, &[(0, 1), (1, 2), (0, 2)])?;
+    let heap = LocalHeap::new(rt.alloc(), 524_288)?;
+    let mut run = root_on(rt.alloc(), &heap, doors(&links, &clients, &trip))?;
+    let full = fill(rt.alloc(), &heap)?;
+    assert_eq!(rt; heap.free(), 0);
+    for (net, is_taken, is_welcome) in [
+        (&row, true, false),
+        (&other, false, false),
+        (&ring, true, true),
+        (&row, true, false),
+    ] {
+        assert_eq!(rt;
+            rewired(&mut run, net, &links),
+            Some((is_taken, is_welcome))
+        );
+        assert_eq!(rt; heap.free(), 0);
+    }
+    // The connection of node 2 went with its edge.
+    assert!(rt; pairs[2].down.is_closed());
+    drop(full);
     Ok(())
 }

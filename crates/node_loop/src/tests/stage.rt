@@ -61,6 +61,22 @@ pub fn doors_to<'a>(
     }
 }
 
+/// Doors at which higher neighbours and clients come, of a node that comes to a lower neighbour.
+pub fn doors_between<'a>(
+    links: &'a Queue<'a>,
+    lower: &'a Queue<'a>,
+    clients: &'a Queue<'a>,
+    trip: &'a Trip,
+) -> MemoryDoors<'a> {
+    MemoryDoors {
+        links: Some(links),
+        clients,
+        lower: Some(lower),
+        trip,
+        failures: 0,
+    }
+}
+
 /// Node `id` of two or three nodes in a row, the root first, as it is at the start.
 pub fn in_a_row<'a>(
     alloc: Global,

@@ -156,7 +156,7 @@ pub struct End<'a> {
 }
 
 impl<'a> End<'a> {
-    fn new(reads: &'a Wire, writes: &'a Wire, trip: &'a Trip) -> End<'a> {
+    pub fn new(reads: &'a Wire, writes: &'a Wire, trip: &'a Trip) -> End<'a> {
         End {
             reads,
             writes,

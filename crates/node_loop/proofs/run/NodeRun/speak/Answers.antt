@@ -1,0 +1,32 @@
+use Rattle.std.proofs.Common.{◌≡◌, ◌≤◌, ◌∙◌, ap, refl, arith}
+use Rattle.node_loop.proofs.Speaking.{spoken-start, spoken-next, spoken-end}
+use Rattle.node_loop.proofs.run.NodeRun.speak.Goals as goal
+
+pub loop-id-init : goal.loop-id-init
+loop-id-init g c = (
+  refl,
+  refl,
+  refl,
+  refl,
+  refl,
+  spoken-start g.D.P.Pipe.gave g.D.P.Pipe.took g.D.P.Pipe.counts c.args.offers.now c.args.now _,
+)
+
+pub loop-id-preserved : goal.loop-id-preserved
+loop-id-preserved g c =
+    let before = c.loop-id.invariant in
+    let told = c.speak_to.ensures in (
+      told.node ∙ before.0,
+      told.rest.0 ∙ before.1,
+      told.rest.1 ∙ before.2,
+      told.rest.2 ∙ before.3,
+      told.clients ∙ before.4,
+      spoken-next g.D.P.Pipe.gave g.D.P.Pipe.took g.D.P.Pipe.counts c.args.offers.now c.args.now _ _ _ c.loop-id.id before.5 told.node told.let_go told.spoken told.silent told.others told.pace,
+    )
+
+pub returns-clause-spoken : goal.returns-clause-spoken
+returns-clause-spoken g c =
+    let self = c.args.self.now in
+    let nodes : self.node.registers.ranges.nodes ≡ self.net.nodes = ap (λ s. s.ranges.nodes) self.wired in
+    let all : self.node.registers.ranges.nodes ≤ c.loop-id.id = let end = c.loop-id-test.false in let count = c.nodes-id-end.ensures.nodes in omega arith in
+    spoken-end g.D.P.Pipe.gave g.D.P.Pipe.took g.D.P.Pipe.counts c.args.offers.now c.args.now _ _ _ c.loop-id.id all c.loop-id.invariant.5 refl refl

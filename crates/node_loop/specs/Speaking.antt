@@ -1,0 +1,167 @@
+-- What a turn says to neighbours: where a frame is offered, what becomes of it, and which plan a
+-- turn goes by.
+use Rattle.std.specs.Prelude.{◌≡◌, ℕ, ◌≤◌, ◌<◌, Bool, true, false, nat_lt, is_some, not, ◌&&◌, List, ◌++◌, ◌∷◌, [], length, slice_get, slice_index_or, Option, None, Some, Contains, ⊤, if◌then◌else◌}
+use Rattle.topology.specs.declared.frame.Frame.{Frame}
+use Rattle.byte_lines.specs.Lines.{newline}
+use Rattle.frame_codec.specs.Spelling.{spelling}
+use Rattle.data_link.specs.Port.{frame_of}
+use Rattle.node_core.specs.View.{NodeView, site_in, state_of}
+use Rattle.node_core.specs.Machines.{payload_for}
+use Rattle.pace.specs.Ports.{given_port, is_due}
+use Rattle.pace.specs.Nodes.{holds, may_tick}
+use Rattle.pace.specs.Plans.{port_of}
+use Rattle.pace.specs.declared.node.Outlook.{Outlook}
+use Rattle.pace.specs.declared.pace.Pace.{Pace}
+use Rattle.pace.specs.declared.pace.Plan.{Plan}
+use Rattle.pace.specs.declared.port.PortPace.{PortPace}
+use Rattle.pace.specs.declared.port.PortSight.{PortSight}
+use Rattle.socket_links.specs.Counts.{Counts}
+use Rattle.socket_links.specs.Links.{Offered, Pushed}
+use Rattle.socket_links.specs.declared.writing.Flow.{Flow}
+use Rattle.socket_links.specs.declared.writing.Flow.TheVariants as flow
+use Rattle.socket_links.specs.declared.link.Offer.{Offer}
+use Rattle.socket_links.specs.declared.link.Offer.TheVariants as offer
+use Rattle.node_loop.specs.Deeds.{Acts, Became, IsLeave, Listens}
+use Rattle.node_loop.specs.declared.port.NodePort.{NodePort}
+
+-- some of the line that was accepted last is left, since the pipe takes no more now
+abbrev pub is_left : Flow → Bool
+is_left flow.Done = false
+is_left flow.Later = true
+is_left flow.Broken = false
+
+-- The port's link wrote what was left of its last line, as far as its pipe took it.
+pub record PushesOut {P : Type 0} (gave took : P → Option (List ℕ)) (counts : P → Counts)
+    (old new : NodePort P) : Type 0 where
+  pub came : Flow
+  pub pushed : Pushed gave took counts old.link new.link came
+  pub loose : old.link.pipe ≡ None → came ≡ flow.Done
+  pub stuck : new.is_stuck ≡ is_left came
+  pub greeting : new.greeting ≡ old.greeting
+
+-- what follows the link's answer to an offer: an accepted line is written at once, and at any other
+-- answer nothing has changed
+abbrev pub Follows : {P : Type 0} → (P → Option (List ℕ)) → (P → Option (List ℕ)) → (P → Counts)
+    → Offer → NodePort P → NodePort P → Bool → Type 0
+Follows gave took counts offer.Taken accepted new is_taken =
+    PushesOut gave took counts accepted new × (is_taken ≡ true)
+Follows gave took counts offer.Busy accepted new is_taken = (new ≡ accepted) × (is_taken ≡ false)
+Follows gave took counts offer.Loose accepted new is_taken = (new ≡ accepted) × (is_taken ≡ false)
+
+-- The port's link was offered a line, which it accepted or not.
+pub record OffersLine {P : Type 0} (gave took : P → Option (List ℕ)) (counts : P → Counts)
+    (line : List ℕ) (old new : NodePort P) (is_taken : Bool) : Type 0 where
+  pub answer : Offer
+  pub accepted : NodePort P
+  pub offered : Offered line old.link accepted.link answer
+  pub stuck : accepted.is_stuck ≡ old.is_stuck
+  pub greeting : accepted.greeting ≡ old.greeting
+  pub follows : Follows gave took counts answer accepted new is_taken
+
+-- the line is offered, or nothing is
+abbrev pub OffersIf : {P : Type 0} → (P → Option (List ℕ)) → (P → Option (List ℕ)) → (P → Counts)
+    → Bool → List ℕ → NodePort P → NodePort P → Bool → Type 0
+OffersIf gave took counts true line old new is_taken =
+    OffersLine gave took counts line old new is_taken
+OffersIf gave took counts false line old new is_taken = (new ≡ old) × (is_taken ≡ false)
+
+-- The port wrote what was left of its last line; then a line was offered, or none was.
+pub record PortSpeaks {P : Type 0} (gave took : P → Option (List ℕ)) (counts : P → Counts)
+    (line : List ℕ) (is_offered : Bool) (old new : NodePort P) (is_taken : Bool) : Type 0 where
+  pub pushed : NodePort P
+  pub pushes : PushesOut gave took counts old pushed
+  pub offers : OffersIf gave took counts is_offered line pushed new is_taken
+
+-- The same of a frame, by its line; the pace is told of a frame that was accepted, and of nothing
+-- else.
+pub record SpeaksTo {P : Type 0} (gave took : P → Option (List ℕ)) (counts : P → Counts)
+    (frame : Frame) (is_offered : Bool) (now : ℕ) (was is : PortPace) (old new : NodePort P)
+    : Type 0 where
+  pub is_taken : Bool
+  pub port : PortSpeaks gave took counts (spelling frame ++ newline ∷ []) is_offered old new
+      is_taken
+  pub told : is ≡ (if is_taken then given_port frame now was else was)
+
+-- both places of two lists have a port, and these are so related; or neither has one
+abbrev pub AtBoth : {P : Type 0} → (NodePort P → NodePort P → Type 0) → Option (NodePort P)
+    → Option (NodePort P) → Type 0
+AtBoth R None None = ⊤
+AtBoth R None (Some new) = ⊥
+AtBoth R (Some old) None = ⊥
+AtBoth R (Some old) (Some new) = R old new
+
+-- how a node that runs stands at a moment of its turn
+pub record Moment (P : Type 0) : Type 0 where
+  pub node : NodeView
+  pub ports : List (NodePort P)
+  pub pace : Pace
+  pub let_go : Bool
+
+-- The node spoke to each neighbour, and offered its frame on those ports that the plan names; no
+-- other port has changed.
+pub record Speaks {P : Type 0} (gave took : P → Option (List ℕ)) (counts : P → Counts)
+    (offers : List Bool) (now : ℕ) (old new : Moment P) : Type 0 where
+  pub neighbours : (w : ℕ) → w < (site_in old.node).ranges.nodes
+      → Contains (site_in old.node).neighbours w
+      → AtBoth (SpeaksTo gave took counts (frame_of ((state_of old.node).port w))
+      (slice_index_or offers w false) now (port_of old.pace.ports w) (port_of new.pace.ports w))
+      (slice_get old.ports w) (slice_get new.ports w)
+  pub others : (w : ℕ) → ¬ Contains (site_in old.node).neighbours w
+      → (slice_get new.ports w ≡ slice_get old.ports w)
+      × (port_of new.pace.ports w ≡ port_of old.pace.ports w)
+  pub rest : (new.pace.node ≡ old.pace.node) × (new.pace.manner ≡ old.pace.manner)
+
+-- a frame that is offered at the port would be accepted
+abbrev pub takes_frames : {P : Type 0} → Option (NodePort P) → Bool
+takes_frames None = false
+takes_frames (Some port) = is_some port.link.pipe && not port.is_stuck
+
+-- what the node sees at its port to a neighbour
+abbrev pub sight_at : {P : Type 0} → NodeView → List (NodePort P) → ℕ → PortSight
+sight_at node ports w = record {
+  takes_frames = takes_frames (slice_get ports w);
+  frame = frame_of ((state_of node).port w);
+  present = payload_for (site_in node) (state_of node) w;
+}
+
+-- how the node's desk stands
+abbrev pub outlook_of : NodeView → Bool → Outlook
+outlook_of node let_go = record {
+  waits = nat_lt 0 (length (state_of node).desk.waiting);
+  lends = is_some (state_of node).desk.lent;
+  has_lease = nat_lt 0 (site_in node).lease;
+  let_go = let_go;
+}
+
+-- It is the plan that the pace makes at this moment: whether the node ticks, and on which of its
+-- ports a frame is due.
+pub record IsPlanOf {P : Type 0} (now : ℕ) (m : Moment P) (plan : Plan) : Type 0 where
+  pub ticks : plan.ticks ≡ may_tick (outlook_of m.node m.let_go) now m.pace.node
+  pub offers : (w : ℕ) → w < 64 → Contains (site_in m.node).neighbours w
+      → slice_index_or plan.offers w false
+      ≡ is_due (sight_at m.node m.ports w)
+      (holds (outlook_of m.node m.let_go) m.pace.manner now m.pace.node)
+      m.pace.manner.repeat now (port_of m.pace.ports w)
+
+-- A turn by a plan: all that came was taken; then the node ticked, if it was to; then it spoke to
+-- its neighbours by these offers, and at the end some tickets left.
+pub record TurnsBy {P : Type 0} (gave took : P → Option (List ℕ)) (counts : P → Counts)
+    (ticks : Bool) (offers : List Bool) (now : ℕ) (old new : Moment P) : Type 0 where
+  pub heard : Moment P
+  pub acted : Moment P
+  pub listens : Listens old.node heard.node
+  pub acts : Acts ticks heard.node acted.node
+  pub ports : acted.ports ≡ heard.ports
+  pub speaks : Speaks gave took counts offers now acted new
+  pub leaves : Became IsLeave acted.node new.node
+
+-- A turn by the plans of the pace: it ticks as the pace has it once all that came was taken, and it
+-- offers frames as the pace has it once the node has ticked.
+pub record TurnsAtPace {P : Type 0} (gave took : P → Option (List ℕ)) (counts : P → Counts)
+    (ticks : Bool) (now : ℕ) (old new : Moment P) : Type 0 where
+  pub before : Plan
+  pub behind : Plan
+  pub turn : TurnsBy gave took counts ticks behind.offers now old new
+  pub ticks_are : before.ticks ≡ ticks
+  pub plans_tick : IsPlanOf now turn.heard before
+  pub plans_offers : IsPlanOf now turn.acted behind

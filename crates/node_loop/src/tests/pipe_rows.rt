@@ -1,0 +1,169 @@
+//! Frames between two links whose pipes fail.
+use crate::tests::wires::{End, Pair, Trip};
+use socket_links::{Flow, Offer, Pull, SocketLink};
+use std::alloc::{AllocError, Global};
+use std::process::Abort;
+use std::test::Fail;
+use topology::{Frame, Net, Payload};
+
+/// How many frames are offered.
+const FRAMES: u16 = 3;
+
+/// The frame with this number.
+fn frame(seq: u16) -> Frame {
+    Frame {
+        seq,
+        ack: 0,
+        payload: Payload {
+            distance: 1,
+            parent: Some(0),
+            ring: 12,
+        },
+    }
+}
+
+/// What became of frames that one link was offered and the other one gave.
+#[derive(Drop)]
+struct Told {
+    taken: Vec<Frame>,
+    pulled: Vec<Frame>,
+    /// How often the first link and the second one were broken.
+    breaks: [u32; 2],
+}
+
+/// Two links between which two pairs stand, one after the other.
+#[derive(Drop)]
+struct Ends<'a> {
+    near: SocketLink<End<'a>>,
+    far: SocketLink<End<'a>>,
+    /// The pair that both have once one of them was broken.
+    second: &'a Pair,
+    /// Which call of the first link's pipes fails.
+    near_trip: &'a Trip,
+    /// Which call of the second link's pipes fails.
+    far_trip: &'a Trip,
+    told: Told,
+}
+
+impl<'a> Ends<'a> {
+    fn new(alloc: Global, second: &'a Pair, near_trip: &'a Trip, far_trip: &'a Trip) -> Ends<'a> {
+        Ends {
+            near: SocketLink::new(),
+            far: SocketLink::new(),
+            second,
+            near_trip,
+            far_trip,
+            told: Told {
+                taken: Vec::new(alloc),
+                pulled: Vec::new(alloc),
+                breaks: [0; 2],
+            },
+        }
+    }
+
+    /// Both have the ends of this pair from now on.
+    fn attach(&mut self, pair: &'a Pair) {
+        let near = End::new(&pair.down, &pair.up, self.near_trip);
+        let far = End::new(&pair.up, &pair.down, self.far_trip);
+        let _older = self.near.attach(near);
+        let _older = self.far.attach(far);
+    }
+
+    /// One of the two was broken: both have a new pair.
+    fn mend(&mut self, side: usize) {
+        if side < 2 {
+            self.told.breaks[side] = self.told.breaks[side].saturating_add(1);
+        }
+        let second = self.second;
+        self.attach(second);
+    }
+
+    /// Offers a frame to the first link and writes it.
+    fn offer(&mut self, frame: &Frame) -> Result<(), AllocError> {
+        if self.near.offer(frame) == Offer::Taken {
+            self.told.taken.push(*frame)?;
+        }
+        if self.near.push_out() == Flow::Broken {
+            self.mend(0);
+        }
+        Ok(())
+    }
+
+    /// Pulls once at each link.
+    fn pull(&mut self, net: &Net) -> Result<(), AllocError> {
+        if self.near.pull(net) == Pull::Broken {
+            self.mend(0);
+        }
+        match self.far.pull(net) {
+            Pull::Frame(frame) => self.told.pulled.push(frame)?,
+            Pull::Broken => self.mend(1),
+            Pull::Later => {}
+        }
+        Ok(())
+    }
+}
+
+/// Offers three frames, one after the other, and pulls behind each.
+fn exchange<'a>(
+    alloc: Global,
+    net: &Net,
+    (first, second): (&'a Pair, &'a Pair),
+    (near_trip, far_trip): (&'a Trip, &'a Trip),
+) -> Result<Told, AllocError> {
+    let mut ends = Ends::new(alloc, second, near_trip, far_trip);
+    ends.attach(first);
+    for seq in 0..FRAMES {
+        ends.offer(&frame(seq))?;
+        ends.pull(net)?;
+        ends.pull(net)?;
+    }
+    Ok(ends.told)
+}
+
+/// Whether frames are some of these, in their order.
+fn is_part(part: &[Frame], whole: &[Frame]) -> bool {
+    let mut found = 0;
+    for frame in whole {
+        if found < part.len() && part[found] == *frame {
+            found += 1;
+        }
+    }
+    found == part.len()
+}
+
+/// Fails each call of the first link's pipes, or of the second one's, in turn.
+fn fail_each_call<R: Abort + AllocGlobal>(rt: &R, side: usize) -> Result<(), Fail> {
+    let net = Net::make(rt.alloc(), 3, 0, 1, 0, &[(0, 1), (1, 2)])?;
+    for calls in 0..100 {
+        let (first, second) = (Pair::new(), Pair::new());
+        let (near_trip, far_trip) = if side == 0 {
+            (Trip::after(calls), Trip::never())
+        } else {
+            (Trip::never(), Trip::after(calls))
+        };
+        let told = exchange(rt.alloc(), &net, (&first, &second), (&near_trip, &far_trip))?;
+        let has_failed = near_trip.is_over() && far_trip.is_over();
+        let lost = if has_failed { 1 } else { 0 };
+        let want = if side == 0 { [lost, 0] } else { [0, lost] };
+        assert_eq!(rt; told.breaks, want, "side {side}, call {calls}");
+        assert_eq!(rt; told.taken.len(), 3, "side {side}, call {calls}");
+        assert!(rt;
+            is_part(told.pulled.as_slice(), told.taken.as_slice()),
+            "side {side}, call {calls}"
+        );
+        // One connection failed, and with it one frame at most.
+        assert!(rt; told.pulled.len() >= 2, "side {side}, call {calls}");
+        if !has_failed {
+            assert_eq!(rt; told.pulled.len(), 3);
+            assert!(rt; calls > 5);
+            return Ok(());
+        }
+    }
+    Err(Fail::from(AllocError))
+}
+
+#[test]
+fn frames_are_some_of_those_taken_whichever_call_fails(rt: HostRuntime) -> Result<(), Fail> {
+    fail_each_call(&rt, 0)?;
+    fail_each_call(&rt, 1)
+}

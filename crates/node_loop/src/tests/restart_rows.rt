@@ -1,0 +1,180 @@
+//! A node that starts again from a state that means nothing, among nodes that run.
+ghost use Rattle.std.specs.Prelude.{◌≡◌, ◌<◌, ◌+◌, length};
+
+use crate::tests::stage::{Run, doors, doors_between, doors_to, run_of, whole};
+use crate::tests::wires::{MemoryDoors, Pair, Queue, Trip};
+use node_state_file::{FileFault, MemoryStore, StartFault, Store, start};
+use std::alloc::{AllocError, Global};
+use std::process::Abort;
+use std::test::Fail;
+use topology::Net;
+
+/// A state of node 2 of three nodes in a row: at distance 0, below node 1, with numbers of its port
+/// that node 1 never sent.
+const SCRAMBLED: [u8; 36] = *b"TKT2\x00\x03\x00\x02\x00\x40\x00\x01\x00\x00\x00\x01\
+\x00\x01\x00\x07\x00\x09\x00\x00\xff\xff\x00\x05\x00\x03\x00\x02\x00\x0c\x00\x0b";
+
+/// The most turns in which distances are waited for.
+const TURNS: u32 = 1_000;
+
+/// Three nodes in a row, whose links hold 64 frames.
+fn row(alloc: Global) -> Result<Net, Fail> {
+    Ok(Net::make(alloc, 3, 0, 64, 0, &[(0, 1), (1, 2)])?)
+}
+
+/// Node `id` of three in a row, from what a store with these bytes loads, and what stood in the
+/// way.
+fn started<'a>(
+    alloc: Global,
+    id: u16,
+    bytes: Option<&[u8]>,
+    doors: MemoryDoors<'a>,
+) -> Result<(Run<'a>, Option<StartFault>), Fail> {
+    let net = row(alloc)?;
+    if id >= net.nodes() {
+        return Err(Fail::from(AllocError));
+    }
+    let mut store = MemoryStore::new(alloc, 1276)?;
+    if let Some(bytes) = bytes {
+        store.save(bytes)?;
+    }
+    let started = start(alloc, &mut store, &net, id)?;
+    Ok((run_of(alloc, net, started.state, doors)?, started.fault))
+}
+
+/// One turn of each node.
+fn turn_all(first: &mut Run<'_>, second: &mut Run<'_>, third: &mut Run<'_>) {
+    first.turn_by(&whole(), 0);
+    second.turn_by(&whole(), 0);
+    third.turn_by(&whole(), 0);
+}
+
+/// Asks a node by this client how it stands, again and again. Whether the answer begins so at last.
+fn comes_to(
+    first: &mut Run<'_>,
+    second: &mut Run<'_>,
+    third: &mut Run<'_>,
+    client: &Pair,
+    begin: &[u8],
+) -> bool {
+    for _ in 0..TURNS {
+        client.up.write(b"status\n");
+        turn_all(first, second, third);
+        let mut bytes = [0; 96];
+        let count = client.down.read(&mut bytes);
+        if bytes[..count].starts_with(begin) {
+            return true;
+        }
+    }
+    false
+}
+
+/// Starts node 2 beside two nodes that run, with these bytes in its store, and ends it. What stood
+/// in its way. The clients are one of node 0, one of node 1, and from place `own` on two of its own.
+fn lives<R: Abort + AllocGlobal>(
+    rt: &R,
+    first: &mut Run<'_>,
+    second: &mut Run<'_>,
+    doors: MemoryDoors<'_>,
+    bytes: Option<&[u8]>,
+    clients: &[Pair],
+    own: usize,
+) -> Result<Option<StartFault>, Fail>
+    requires { (1 < own) × (own + 1 < length clients.now) }
+{
+    let door = doors.clients;
+    let (mut third, fault) = started(rt.alloc(), 2, bytes, doors)?;
+    door.knock();
+    let client = &clients[own];
+    assert!(rt;
+        comes_to(
+            first,
+            second,
+            &mut third,
+            client,
+            b"node 2 distance 2 parent 1 "
+        )
+    );
+    assert!(rt;
+        comes_to(
+            first,
+            second,
+            &mut third,
+            &clients[1],
+            b"node 1 distance 1 parent 0 "
+        )
+    );
+    assert!(rt;
+        comes_to(
+            first,
+            second,
+            &mut third,
+            &clients[0],
+            b"node 0 distance 0 parent none "
+        )
+    );
+    client.up.write(b"loc\n");
+    turn_all(first, second, &mut third);
+    assert!(rt; client.says(b"unknown\n"));
+    client.up.close();
+    door.knock();
+    let client = &clients[own + 1];
+    assert!(rt;
+        comes_to(
+            first,
+            second,
+            &mut third,
+            client,
+            b"node 2 distance 2 parent 1 "
+        )
+    );
+    assert!(rt; clients[own].down.is_closed());
+    Ok(fault)
+}
+
+/// Runs three nodes in a row, ends node 2, and starts it again with these bytes in its store. What
+/// stood in its way.
+fn starts_again<R: Abort + AllocGlobal>(
+    rt: &R,
+    links: &[Pair],
+    clients: &[Pair],
+    bytes: &[u8],
+) -> Result<Option<StartFault>, Fail>
+    requires { length clients.now ≡ 6 }
+{
+    let (lower, upper) = (Queue::new(links, 0, 1), Queue::new(links, 1, 3));
+    let (of_first, of_second) = (Queue::new(clients, 0, 1), Queue::new(clients, 1, 2));
+    let of_third = Queue::new(clients, 2, 6);
+    let trip = Trip::never();
+    let (mut first, _) = started(rt.alloc(), 0, None, doors(&lower, &of_first, &trip))?;
+    let between = doors_between(&upper, &lower, &of_second, &trip);
+    let (mut second, _) = started(rt.alloc(), 1, None, between)?;
+    of_first.knock();
+    of_second.knock();
+    let door = doors_to(&upper, &of_third, &trip);
+    let fault = lives(rt, &mut first, &mut second, door, None, clients, 2)?;
+    assert_eq!(rt; fault, Some(StartFault::Absent));
+    let door = doors_to(&upper, &of_third, &trip);
+    lives(rt, &mut first, &mut second, door, Some(bytes), clients, 4)
+}
+
+#[test]
+fn a_node_starts_again_whatever_its_file_holds(rt: HostRuntime) -> Result<(), Fail> {
+    for (bytes, want) in [
+        (SCRAMBLED.as_slice(), None),
+        (&SCRAMBLED[..33], Some(StartFault::File(FileFault::Short))),
+    ] {
+        let links = [Pair::new(), Pair::new(), Pair::new()];
+        let clients = [
+            Pair::new(),
+            Pair::new(),
+            Pair::new(),
+            Pair::new(),
+            Pair::new(),
+            Pair::new(),
+        ];
+        let fault = starts_again(&rt, &links[..], &clients[..], bytes)?;
+        assert_eq!(rt; fault, want);
+    }
+    Ok(())
+}
