@@ -3,9 +3,11 @@ use crate::lock;
 use crate::lock::Request;
 use crate::work::command_end;
 use lock_client::Outcome;
+use std::alloc::Global;
 use std::io::Input;
 use std::net::Net;
-use std::process::{Command, Processes};
+use std::path::Path;
+use std::process::{Child, Command, Processes};
 use std::rt::{Env, Files};
 use std::sync::Wait;
 use std::time::Clock;
@@ -30,9 +32,29 @@ pub fn run<R: Env + Net + Files + Processes + Clock + Input + Print + Eprint + A
 
 /// Runs a copy of this program that is guarded, and answers its status.
 fn run_copy<R: Env + Files + Processes + AllocGlobal>(rt: &R, request: &Request) -> io::Result<u8> {
-    let alloc = rt.alloc();
     let program = env::current_exe(rt)?;
-    let mut command = Command::new(alloc, program.as_path())?;
+    let mut copy = start_copy(rt, program.as_path(), request)?;
+    Ok(match copy.wait() {
+        Ok(status) => Outcome::Done(command_end(status)).status(),
+        // Whoever started us may have said that the ends of children are not kept. The copy has
+        // run, so that nothing is to be done again.
+        Err(_) => Outcome::NoService.status(),
+    })
+}
+
+/// Starts a copy of this program that is guarded.
+fn start_copy<R: Processes + AllocGlobal>(
+    rt: &R,
+    program: Path<'_>,
+    request: &Request,
+) -> io::Result<Child<R::Started>> {
+    let mut command = Command::new(rt.alloc(), program)?;
+    add_words(&mut command, rt.alloc(), request)?;
+    command.spawn(rt)
+}
+
+/// Adds the words of a guarded `lock` that is asked for as much.
+fn add_words(command: &mut Command, alloc: Global, request: &Request) -> io::Result<()> {
     command.arg("lock")?.arg("--guarded")?;
     if let Some(seconds) = request.seconds {
         let seconds = format!(in alloc; "{seconds}")?;
@@ -46,13 +68,7 @@ fn run_copy<R: Env + Files + Processes + AllocGlobal>(rt: &R, request: &Request)
     for word in request.command {
         command.arg(*word)?;
     }
-    let mut copy = command.spawn(rt)?;
-    Ok(match copy.wait() {
-        Ok(status) => Outcome::Done(command_end(status)).status(),
-        // Whoever started us may have said that the ends of children are not kept. The copy has
-        // run, so that nothing is to be done again.
-        Err(_) => Outcome::NoService.status(),
-    })
+    Ok(())
 }
 
 /// The line by which the system tells which process is the parent of this one; none where it does

@@ -62,6 +62,8 @@ pub enum Notice<'a> {
     NoCommand(&'a str),
     /// The command cannot be run.
     CannotRun(&'a str),
+    /// The system gives no descriptor, no poll or no clock.
+    System,
     /// Memory ran out.
     Memory,
     /// Standard output took no more.
@@ -158,6 +160,9 @@ impl fmt::Display for Notice<'_> {
             ),
             Notice::NoCommand(name) => write!(f, "there is no command {name}"),
             Notice::CannotRun(name) => write!(f, "{name} cannot be run"),
+            Notice::System => {
+                f.write_str("the system has no descriptor, poll or clock to give; try again")
+            }
             Notice::Memory => f.write_str("memory Refused"),
             Notice::Output => f.write_str("output Refused"),
         }

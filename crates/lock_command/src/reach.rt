@@ -45,6 +45,8 @@ fn why_not<'a>(kind: ErrorKind, has_folder: bool, folder: &'a str, node: u16) ->
     match kind {
         ErrorKind::InvalidInput => Notice::TooLong { folder, node },
         ErrorKind::PermissionDenied => Notice::Forbidden(folder),
+        // So std names what a process without a descriptor left is answered.
+        ErrorKind::Uncategorized => Notice::System,
         _ if has_folder => Notice::NoNode { folder, node },
         _ => Notice::NoFolder(folder),
     }

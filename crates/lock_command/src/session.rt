@@ -9,7 +9,7 @@ use crate::work::{Work, spawn_end, start};
 use lock_client::{CommandEnd, Deed, Event, LockClient, Outcome, Stage};
 use lock_desk::ClientLine;
 use std::alloc::Global;
-use std::io::Input;
+use std::io::{ErrorKind, Input};
 use std::net::Net;
 use std::process::{OpenProcess, Processes};
 use std::rt::Files;
@@ -62,10 +62,11 @@ impl<'a, P: OpenProcess + Drop> Session<'a, P> {
         mut desk: Desk,
     ) -> Result<Session<'a, P>, Notice<'a>> {
         let Ok(now) = Instant::now(rt) else {
-            return Err(Notice::NoService(request.node));
+            return Err(Notice::System);
         };
-        let Ok(waiter) = Waiter::new(rt, rt.alloc(), desk.stream()) else {
-            return Err(Notice::Memory);
+        let waiter = match Waiter::new(rt, rt.alloc(), desk.stream()) {
+            Ok(waiter) => waiter,
+            Err(error) => return Err(why_no_wait(error.kind())),
         };
         let has_failed = desk.write(ClientLine::Lock).is_err();
         let due = match request.seconds {
@@ -305,6 +306,14 @@ fn cause(event: Event) -> Cause {
     match event {
         Event::Gone => Cause::WentAway,
         _ => Cause::Ended,
+    }
+}
+
+/// Why nothing can be waited for, by what the system answered.
+fn why_no_wait<'a>(kind: ErrorKind) -> Notice<'a> {
+    match kind {
+        ErrorKind::OutOfMemory => Notice::Memory,
+        _ => Notice::System,
     }
 }
 

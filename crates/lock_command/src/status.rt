@@ -74,8 +74,10 @@ fn print_status<'a, R: Net + Files + Clock + Print + AllocGlobal>(
     if asked.is_empty() {
         return Err(Notice::NoSockets(folder));
     }
-    let Ok(answers) = ask_all(rt, rt.alloc(), folder, asked) else {
-        return Err(Notice::Memory);
+    let answers = match ask_all(rt, rt.alloc(), folder, asked) {
+        Ok(answers) => answers,
+        Err(error) if error.kind() == ErrorKind::Uncategorized => return Err(Notice::System),
+        Err(_) => return Err(Notice::Memory),
     };
     let Ok(text) = report(rt.alloc(), answers.as_slice()) else {
         return Err(Notice::Memory);
@@ -93,6 +95,7 @@ fn nodes_in<'a, R: Files + AllocGlobal>(rt: &R, folder: &'a str) -> Result<Vec<u
         Err(error) => Err(match error.kind() {
             ErrorKind::NotFound | ErrorKind::NotADirectory => Notice::NoFolder(folder),
             ErrorKind::OutOfMemory => Notice::Memory,
+            ErrorKind::Uncategorized => Notice::System,
             _ => Notice::Forbidden(folder),
         }),
     }
@@ -145,7 +148,7 @@ fn ask_all<R: Net + Clock>(
     Ok(answers)
 }
 
-/// Asks one node.
+/// Asks one node. What the system or memory has not to give is no node's silence, and is answered.
 fn ask<R: Net>(rt: &R, alloc: Global, folder: &str, node: u16) -> io::Result<Asked> {
     let path = desk_path(alloc, folder, node)?;
     let stream = match UnixStream::connect(rt, path.as_str()) {
@@ -153,7 +156,10 @@ fn ask<R: Net>(rt: &R, alloc: Global, folder: &str, node: u16) -> io::Result<Ask
             Ok(()) => Some(stream),
             Err(_) => None,
         },
-        Err(_) => None,
+        Err(error) => match error.kind() {
+            ErrorKind::Uncategorized | ErrorKind::OutOfMemory => return Err(error),
+            _ => None,
+        },
     };
     Ok(Asked {
         node,

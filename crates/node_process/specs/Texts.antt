@@ -13,6 +13,7 @@ use Rattle.node_process.specs.declared.fault.NodeFault.{NodeFault}
 use Rattle.node_process.specs.declared.fault.NodeFault.TheVariants.{Network, NoNode, LongName}
 use Rattle.node_process.specs.declared.fault.NodeFault.TheVariants.{Folder, Lock, Running, Links}
 use Rattle.node_process.specs.declared.fault.NodeFault.TheVariants.{Clients, System, Input, Memory}
+use Rattle.node_process.specs.declared.fault.NodeFault.TheVariants.{UpLock, UpRunning}
 
 -- why a node does not run: which file, and what to do
 abbrev pub refusal_text : List ℕ → List ℕ → ℕ → NodeFault → List ℕ
@@ -30,6 +31,10 @@ refusal_text file dir id Lock =
 refusal_text file dir id Running =
     dir ++ (codes "/lock-" ++ (decimal id ++ (codes ": node " ++ (decimal id
     ++ codes " runs there already; stop it, or choose another DIR"))))
+refusal_text file dir id UpLock =
+    dir ++ codes "/lock-up: cannot be opened; choose a DIR that is yours"
+refusal_text file dir id UpRunning =
+    dir ++ codes "/lock-up: another up runs there already; stop it, or choose another DIR"
 refusal_text file dir id Links =
     dir ++ (codes "/node-" ++ (decimal id ++ codes ".sock: cannot be made; choose another DIR"))
 refusal_text file dir id Clients =
@@ -78,9 +83,9 @@ end_line id Unknown = codes "node " ++ (decimal id ++ codes " ended, and is star
 end_line id Unstarted =
     codes "node " ++ (decimal id ++ codes " cannot be started; it is tried again")
 
--- the line that tells that a network's capacity is less than what a socket may hold
+-- the line that tells that a network's capacity is less than what may be under way on a link
 abbrev pub capacity_line : ℕ → List ℕ
 capacity_line capacity =
-    codes "tokentree: capacity " ++ (decimal capacity ++ (codes " is less than the " ++ (decimal 512
-    ++ (codes " frames that a socket may hold; give the network capacity " ++ (decimal 512
+    codes "tokentree: capacity " ++ (decimal capacity ++ (codes " is less than the " ++ (decimal 64
+    ++ (codes " frames that may be under way on a link; give the network capacity " ++ (decimal 64
     ++ codes " or more")))))

@@ -3,7 +3,7 @@ ghost use Rattle.std.specs.Prelude.{◌≡◌};
 ghost use Rattle.node_loop.specs.Doors.{Opens};
 
 use crate::input::{has_input_ended, watch_input};
-use crate::pipe::{UnixPipe, is_passing};
+use crate::pipe::{UnixPipe, hold_few, is_passing};
 use mio::net::{UnixListener, UnixStream};
 use mio::{Events, Interest, Poll, Token};
 use node_loop::{Door, Doors};
@@ -172,8 +172,8 @@ impl<'a, N: Net> Doors for UnixDoors<'a, N> {
         if !self.links_may_come {
             return Door::Nobody;
         }
-        let accepted = self.links.accept().map(|(stream, _)| stream);
-        let door = self.door_of(accepted);
+        let accepted = self.links.accept();
+        let door = self.door_of(accepted.and_then(|(stream, _)| hold_few(stream)));
         if matches!(door, Door::Nobody) {
             self.links_may_come = false;
         }
@@ -198,6 +198,6 @@ impl<'a, N: Net> Doors for UnixDoors<'a, N> {
             return Door::Failed;
         };
         let made = UnixStream::connect_addr(self.net, address);
-        self.door_of(made)
+        self.door_of(made.and_then(hold_few))
     }
 }

@@ -1,8 +1,11 @@
 //! Why a node does not run, or a network is not kept up.
-ghost use Rattle.std.specs.Prelude.{◌≡◌};
+ghost use Rattle.std.specs.Prelude.{◌≡◌, ◌≢◌};
+ghost use Rattle.std.specs.declared.io.ErrorKind.TheVariants.{OutOfMemory};
+ghost use Rattle.node_process.specs.declared.fault.NodeFault.TheVariants.{Memory, System};
 
 use std::alloc::AllocError;
 use std::fmt;
+use std::io::ErrorKind;
 use subcommands::Fault;
 
 /// Why a node does not run. Printed within a [`Refusal`].
@@ -20,6 +23,10 @@ pub enum NodeFault {
     Lock,
     /// Another process is the node already.
     Running,
+    /// The file by which `up` says that it runs cannot be opened.
+    UpLock,
+    /// Another `up` keeps nodes running there already.
+    UpRunning,
     /// The socket for neighbours cannot be made.
     Links,
     /// The socket for clients cannot be made.
@@ -39,6 +46,17 @@ impl From<AllocError> for NodeFault {
 
     fn from(_: AllocError) -> NodeFault {
         NodeFault::Memory
+    }
+}
+
+/// The fault of a call by which the system was to give something.
+pub fn fault_of(kind: ErrorKind) -> NodeFault
+    ensures memory { kind ≡ OutOfMemory → result ≡ Memory }
+    ensures system { kind ≢ OutOfMemory → result ≡ System }
+{
+    match kind {
+        ErrorKind::OutOfMemory => NodeFault::Memory,
+        _ => NodeFault::System,
     }
 }
 
@@ -91,6 +109,14 @@ impl fmt::Display for Refusal<'_> {
             NodeFault::Running => write!(
                 f,
                 "{dir}/lock-{id}: node {id} runs there already; stop it, or choose another DIR"
+            ),
+            NodeFault::UpLock => write!(
+                f,
+                "{dir}/lock-up: cannot be opened; choose a DIR that is yours"
+            ),
+            NodeFault::UpRunning => write!(
+                f,
+                "{dir}/lock-up: another up runs there already; stop it, or choose another DIR"
             ),
             NodeFault::Links => {
                 write!(

@@ -4,7 +4,7 @@
 //! ```
 //! let words = NodeWords { file: "ring.toml", id: 1, dir: "run", manner, is_child: false };
 //! node::run(rt, &words)?;                         // prints `start default Absent`, then `ready`
-//! let program = OwnProgram::new(rt, "ring.toml", "run")?;
+//! let program = OwnProgram::new(rt, "ring.toml", "run", manner)?;
 //! up::run(rt, &program, "ring.toml", "run")?;     // until standard input ends
 //! ```
 //!

@@ -5,8 +5,10 @@ ghost use Rattle.node_process.specs.Texts.{start_fault_name};
 use node_state_file::{FileFault, StartFault};
 use std::fmt;
 
-/// The most frames that a socket was seen to hold, 281, with as many again to spare.
-pub const SOCKET_FRAMES: u16 = 512;
+/// The frames that may be under way from one node to another are 36: 6 in a socket, 23 in the piece
+/// that was read from it last, one that waits to be written, 6 in the socket of an older connection.
+/// A socket was seen to take 6; where another system's takes more, 28 are to spare.
+pub const SOCKET_FRAMES: u16 = 64;
 
 /// What a node's process tells on standard output.
 #[derive(Clone, Copy, Debug, PartialEq, Eq)]
@@ -76,7 +78,7 @@ impl fmt::Display for NoteLine {
     }
 }
 
-/// The line that tells that this capacity is less than what a socket may hold. The proofs are then
+/// The line that tells that this capacity is less than what may be under way. The proofs are then
 /// about links that hold less than these do.
 #[derive(Drop)]
 pub struct CapacityLine(pub u16);
@@ -91,8 +93,8 @@ impl fmt::Display for CapacityLine {
         let capacity = self.0;
         write!(
             f,
-            "tokentree: capacity {capacity} is less than the {SOCKET_FRAMES} frames that a socket \
-            may hold; give the network capacity {SOCKET_FRAMES} or more"
+            "tokentree: capacity {capacity} is less than the {SOCKET_FRAMES} frames that may be \
+            under way on a link; give the network capacity {SOCKET_FRAMES} or more"
         )
     }
 }

@@ -4,7 +4,7 @@ ghost use Rattle.node_process.specs.declared.fault.NodeFault.TheVariants.{NoNode
 
 use crate::clock::Stopwatch;
 use crate::doors::UnixDoors;
-use crate::fault::NodeFault;
+use crate::fault::{NodeFault, fault_of};
 use crate::folder::{addresses_of, check_names, hold_place, make_folder, make_sockets, remove};
 use crate::lines::{CapacityLine, Note, NoteLine, SOCKET_FRAMES};
 use crate::paths::NodePaths;
@@ -57,8 +57,22 @@ where
     let paths = NodePaths::new(alloc, words.dir, words.id)?;
     // Held until the node ends.
     let _place = hold_place(rt, paths.lock.as_str())?;
-    let mut run = start_node(rt, words, &paths, net)?;
-    run_turns(rt, words, &paths, &mut run)?;
+    run_in_place(rt, words, &paths, net)
+}
+
+/// Runs the node whose place in the folder is held.
+fn run_in_place<R>(
+    rt: &R,
+    words: &NodeWords<'_>,
+    paths: &NodePaths,
+    net: Net,
+) -> Result<(), NodeFault>
+where
+    R: Files<File = File> + Sockets + Clock + Input + Print + Eprint + AllocGlobal,
+    requires { words.now.id < net.nodes }
+{
+    let mut run = start_node(rt, words, paths, net)?;
+    run_turns(rt, words, paths, &mut run)?;
     // A file that cannot be removed is removed by the next start.
     let _ = remove(rt, paths.links.as_str());
     let _ = remove(rt, paths.clients.as_str());
@@ -91,22 +105,46 @@ where
     let alloc: Global = rt.alloc();
     let mut store = FileStore::new(rt, paths.state.as_str());
     let started = start(alloc, &mut store, &net, words.id)?;
-    let (links, clients) = make_sockets(rt, paths)?;
-    let addresses = addresses_of(alloc, words.dir, net.nodes())?;
-    let mut doors = UnixDoors::new(rt, alloc, links, clients, addresses).map_err(
-        |_| NodeFault::System,
-    )?;
-    if words.is_child {
-        doors.watch_input().map_err(|_| NodeFault::Input)?;
-    } else {
-        warn_of_capacity(rt, net.capacity());
-    }
+    let doors = open_doors(rt, words, paths, &net)?;
     let run = NodeRun::new(alloc, net, started.state, doors, store, words.manner).map_err(
         |_| NodeFault::Memory,
     )?;
     tell(rt, words, Note::Started(started.fault));
     tell(rt, words, Note::Ready);
     Ok(run)
+}
+
+/// Makes the node's sockets, and has a child watch its input; any other node says here what its
+/// sockets may hold.
+fn open_doors<'a, R>(
+    rt: &'a R,
+    words: &NodeWords<'_>,
+    paths: &'a NodePaths,
+    net: &Net,
+) -> Result<UnixDoors<'a, R>, NodeFault>
+where
+    R: Files + Sockets + Eprint + AllocGlobal,
+{
+    let mut doors = make_doors(rt, words.dir, paths, net.nodes())?;
+    if words.is_child {
+        doors.watch_input().map_err(|_| NodeFault::Input)?;
+    } else {
+        warn_of_capacity(rt, net.capacity());
+    }
+    Ok(doors)
+}
+
+/// Makes the node's sockets in its folder, in a network of as many nodes.
+fn make_doors<'a, R: Files + Sockets + AllocGlobal>(
+    rt: &'a R,
+    dir: &str,
+    paths: &'a NodePaths,
+    nodes: u16,
+) -> Result<UnixDoors<'a, R>, NodeFault> {
+    let alloc: Global = rt.alloc();
+    let addresses = addresses_of(alloc, dir, nodes)?;
+    let (links, clients) = make_sockets(rt, paths)?;
+    UnixDoors::new(rt, alloc, links, clients, addresses).map_err(|error| fault_of(error.kind()))
 }
 
 /// Takes turns until the node is to end.

@@ -2,9 +2,11 @@
 ghost use Rattle.std.specs.Prelude.{◌≡◌};
 ghost use Rattle.socket_links.specs.Counts.{Counts};
 
+use libc::net::{SO_SNDBUF, SOL_SOCKET, setsockopt};
 use mio::net::UnixStream;
 use socket_links::{Pipe, ReadAnswer, WriteAnswer};
-use std::io::{ErrorKind, Read, Write};
+use std::io::{self, ErrorKind, Read, Write};
+use std::os::fd::AsRawFd;
 
 /// A connection over a Unix socket, which never waits. It is closed where it is dropped. The bytes
 /// that a socket gives and takes are the system's, so it tells contracts nothing of them.
@@ -70,6 +72,21 @@ impl Pipe for UnixPipe {
             }
         }
     }
+}
+
+/// The same socket with the least send buffer that the system gives, so that few frames are under
+/// way in it: an unread one took 6 writes with it, and 278 without.
+///
+/// # Errors
+/// Where the system refuses it.
+pub fn hold_few(stream: UnixStream) -> io::Result<UnixStream> {
+    // A size of 0 bytes stands for the least.
+    let least = [0; 16];
+    let status = unsafe { setsockopt(stream.as_raw_fd(), SOL_SOCKET, SO_SNDBUF, &least, 4) };
+    if status < 0 {
+        return Err(io::Error::from(ErrorKind::Other));
+    }
+    Ok(stream)
 }
 
 /// Whether the same call may succeed a moment later: a socket that is empty or full, and a signal.

@@ -1,5 +1,9 @@
 //! `up FILE DIR`: all nodes of a network as processes, for as long as standard input lasts.
-ghost use Rattle.std.specs.Prelude.{◌≡◌};
+ghost use Rattle.std.specs.Prelude.{◌≡◌, ◌++◌, ◌∷◌, [], OnOk, codes, decimal};
+ghost use Rattle.std.specs.Process.{command_args};
+ghost use Rattle.node_process.specs.Children.{child_words};
+ghost use Rattle.node_process.specs.declared.fault.NodeFault.TheVariants.{Lock, Running};
+ghost use Rattle.node_process.specs.declared.fault.NodeFault.TheVariants.{UpLock, UpRunning};
 
 use crate::fault::NodeFault;
 use crate::folder::{check_names, hold_place, make_folder};
@@ -7,10 +11,11 @@ use crate::input::{has_input_ended, watch_input};
 use crate::lines::{End, EndLine};
 use crate::node::warn_of_capacity;
 use mio::{Events, Poll, Token};
-use std::alloc::Global;
+use pace::Manner;
+use std::alloc::{AllocError, Global};
 use std::fs::File;
 use std::io::Input;
-use std::net::Net;
+use std::net::Net as Sockets;
 use std::os::unix::process::ExitStatusExt;
 use std::path::PathBuf;
 use std::process::{Child, Command, ExitStatus, OpenProcess, Processes, Stdio};
@@ -18,6 +23,7 @@ use std::rt::{Clock, Env, Files};
 use std::time::Duration;
 use std::{env, io, thread};
 use subcommands::read_network;
+use topology::Net;
 
 /// How long one look at the processes takes at most, in milliseconds.
 const LOOK: u64 = 50;
@@ -47,6 +53,8 @@ pub struct OwnProgram<'a> {
     program: PathBuf,
     file: &'a str,
     dir: &'a str,
+    /// The trade between quiet and haste, the same for each node.
+    manner: Manner,
 }
 
 impl<'a> OwnProgram<'a> {
@@ -58,9 +66,15 @@ impl<'a> OwnProgram<'a> {
         rt: &R,
         file: &'a str,
         dir: &'a str,
+        manner: Manner,
     ) -> Result<OwnProgram<'a>, NodeFault> {
         match env::current_exe(rt) {
-            Ok(program) => Ok(OwnProgram { program, file, dir }),
+            Ok(program) => Ok(OwnProgram {
+                program,
+                file,
+                dir,
+                manner,
+            }),
             Err(_) => Err(NodeFault::System),
         }
     }
@@ -68,17 +82,65 @@ impl<'a> OwnProgram<'a> {
 
 impl NodeProgram for OwnProgram<'_> {
     fn command(&self, alloc: Global, id: u16) -> io::Result<Command> {
-        let number = format!(in alloc; "{id}")?;
         let mut command = Command::new(alloc, self.program.as_path())?;
-        command
-            .arg("node")?
-            .arg("--child")?
-            .arg("--")?
-            .arg(self.file)?
-            .arg(number.as_str())?
-            .arg(self.dir)?;
+        add_words(alloc, &mut command, self.manner, self.file, id, self.dir)?;
         Ok(command)
     }
+}
+
+/// Adds the words by which this program is node `id` of the network of FILE in DIR, as a child.
+fn add_words(
+    alloc: Global,
+    command: &mut Command,
+    manner: Manner,
+    file: &str,
+    id: u16,
+    dir: &str,
+) -> io::Result<()>
+    ensures { OnOk result (command_args command.new
+        ≡ command_args command.old ++ child_words manner file.now id dir.now) }
+{
+    add_two(command, "node", "--child")?;
+    add_manner(alloc, command, manner)?;
+    add_place(alloc, command, file, id, dir)
+}
+
+/// Adds the trade between quiet and haste.
+fn add_manner(alloc: Global, command: &mut Command, manner: Manner) -> io::Result<()>
+    ensures { OnOk result (command_args command.new ≡ command_args command.old
+        ++ codes "--hold" ∷ decimal manner.hold
+        ∷ codes "--repeat" ∷ decimal manner.repeat ∷ []) }
+{
+    add_option(alloc, command, "--hold", manner.hold)?;
+    add_option(alloc, command, "--repeat", manner.repeat)
+}
+
+/// Adds an option and its number.
+fn add_option(alloc: Global, command: &mut Command, name: &str, number: u64) -> io::Result<()>
+    ensures { OnOk result (command_args command.new
+        ≡ command_args command.old ++ name.now ∷ decimal number ∷ []) }
+{
+    let number = format!(in alloc; "{number}")?;
+    add_two(command, name, number.as_str())
+}
+
+/// Adds the network, the node and the folder. Behind `--` no name is an option.
+fn add_place(alloc: Global, command: &mut Command, file: &str, id: u16, dir: &str) -> io::Result<()>
+    ensures { OnOk result (command_args command.new ≡ command_args command.old
+        ++ codes "--" ∷ file.now ∷ decimal id ∷ dir.now ∷ []) }
+{
+    add_two(command, "--", file)?;
+    let id = format!(in alloc; "{id}")?;
+    add_two(command, id.as_str(), dir)
+}
+
+/// Adds two words.
+fn add_two(command: &mut Command, first: &str, second: &str) -> io::Result<()>
+    ensures { OnOk result (command_args command.new
+        ≡ command_args command.old ++ first.now ∷ second.now ∷ []) }
+{
+    command.arg(first)?.arg(second)?;
+    Ok(())
 }
 
 /// A node that is kept running.
@@ -103,36 +165,77 @@ enum Process<P: OpenProcess + Drop> {
 /// Why it does not begin. Once it has begun, all processes that it started have ended when it ends.
 pub fn run<R, C: NodeProgram>(rt: &R, program: &C, file: &str, dir: &str) -> Result<(), NodeFault>
 where
-    R: Files<File = File> + Net + Clock + Input + Print + Eprint + Processes + AllocGlobal,
+    R: Files<File = File> + Sockets + Clock + Input + Print + Eprint + Processes + AllocGlobal,
 {
-    let alloc: Global = rt.alloc();
     let net = read_network(rt, file).map_err(NodeFault::Network)?;
-    check_names(alloc, dir, net.nodes())?;
+    check_names(rt.alloc(), dir, net.nodes())?;
     make_folder(rt, dir)?;
-    let lock = format!(in alloc; "{dir}/lock-up")?;
+    let lock = format!(in rt.alloc(); "{dir}/lock-up")?;
     // Held until it ends.
-    let _place = hold_place(rt, lock.as_str())?;
+    let _place = hold_place(rt, lock.as_str()).map_err(fault_of_up)?;
+    run_in_place(rt, program, &net)
+}
+
+/// Keeps all nodes of a network running in the folder whose place is held.
+fn run_in_place<R, C: NodeProgram>(rt: &R, program: &C, net: &Net) -> Result<(), NodeFault>
+where
+    R: Files + Sockets + Clock + Input + Print + Eprint + Processes + AllocGlobal,
+{
     let mut poll = Poll::new(rt).map_err(|_| NodeFault::System)?;
     watch_input(poll.registry(), INPUT, true).map_err(|_| NodeFault::Input)?;
+    let mut events = Events::with_capacity(rt.alloc(), 1)?;
     warn_of_capacity(rt, net.capacity());
-    let mut kept = Vec::with_capacity(alloc, usize::from(net.nodes()))?;
-    let mut events = Events::with_capacity(alloc, 1)?;
-    for id in 0..net.nodes() {
+    let mut kept = all_waiting(rt.alloc(), net.nodes())?;
+    keep_running(rt, program, &mut poll, &mut events, &mut kept);
+    end_all(rt, &mut kept);
+    Ok(())
+}
+
+/// All nodes of a network of `nodes` nodes, none of which was started.
+fn all_waiting<P: OpenProcess + Drop>(
+    alloc: Global,
+    nodes: u16,
+) -> Result<Vec<Kept<P>>, AllocError> {
+    let mut kept = Vec::with_capacity(alloc, usize::from(nodes))?;
+    for id in 0..nodes {
         let process = Process::Waits(0);
-        kept.push(Kept { id, process })
-            .map_err(|_| NodeFault::Memory)?;
+        kept.push(Kept { id, process })?;
     }
+    Ok(kept)
+}
+
+/// Looks at each node again and again, until standard input is at its end.
+fn keep_running<R, C: NodeProgram>(
+    rt: &R,
+    program: &C,
+    poll: &mut Poll,
+    events: &mut Events,
+    kept: &mut Vec<Kept<R::Started>>,
+)
+where
+    R: Input + Print + Processes + AllocGlobal,
+{
     for _ in 0..u64::MAX {
         for one in kept.iter_mut() {
             look_at(rt, program, one);
         }
-        let waited = poll.poll(&mut events, Some(Duration::from_millis(LOOK)));
-        if waited.is_err() || (!events.is_empty() && is_at_end(rt, &poll)) {
-            break;
+        let waited = poll.poll(events, Some(Duration::from_millis(LOOK)));
+        if waited.is_err() || (!events.is_empty() && is_at_end(rt, poll)) {
+            return;
         }
     }
-    end_all(rt, kept);
-    Ok(())
+}
+
+/// What stands in the way of `up` where it takes its place in a folder as a node does.
+fn fault_of_up(fault: NodeFault) -> NodeFault
+    ensures lock { fault ≡ Lock → result ≡ UpLock }
+    ensures running { fault ≡ Running → result ≡ UpRunning }
+{
+    match fault {
+        NodeFault::Lock => NodeFault::UpLock,
+        NodeFault::Running => NodeFault::UpRunning,
+        other => other,
+    }
 }
 
 /// Reads what standard input has, and says whether it is at its end. A poll tells of it again.
@@ -195,7 +298,7 @@ fn tell_end<R: Print + AllocGlobal>(rt: &R, id: u16, end: End) {
 }
 
 /// Ends all processes: their inputs end, so they save and go, and what is left is killed.
-fn end_all<R: Clock + Processes>(rt: &R, mut kept: Vec<Kept<R::Started>>) {
+fn end_all<R: Clock + Processes>(rt: &R, kept: &mut Vec<Kept<R::Started>>) {
     for one in kept.iter_mut() {
         if let Process::Runs(child) = &mut one.process {
             drop(child.stdin.take());
