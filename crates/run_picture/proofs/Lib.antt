@@ -3,5 +3,12 @@ pub mod Columns
 pub mod Strips
 pub mod Marking
 pub mod Nesting
-pub mod Pieces
 pub mod Recordings
+pub mod Visits
+pub mod Curves
+pub mod Words
+pub mod Runs
+pub mod Over
+pub mod Sweeps
+pub mod Axis
+mod Rows

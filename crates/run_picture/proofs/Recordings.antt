@@ -13,7 +13,7 @@ use Rattle.events_text.specs.EventsText.{ended_lines}
 use Rattle.judge.specs.JudgeView.{HasSeen}
 use Rattle.judge.specs.Judging.{counted_up_to}
 use Rattle.world.specs.SimulatedText.{told_events}
-use Rattle.run_picture.proofs.Pieces.{told_both}
+use Rattle.world.proofs.SimulatedLines.{told_both}
 use Rattle.run_picture.specs.declared.column.Column.{Column}
 use Rattle.run_picture.specs.Strips.{Shows}
 use Rattle.run_picture.specs.Recordings.{moment_of, shown_if, ended_at, RecordingView, IsRecorded, IsReading}

@@ -1,3 +1,4 @@
+pub mod Colours
 pub mod Marks
 pub mod Columns
 pub mod Strips
@@ -6,3 +7,11 @@ pub mod Spelling
 pub mod Xml
 pub mod Recordings
 pub mod RecordingSteps
+pub mod Visits
+pub mod Page
+pub mod Words
+pub mod Curves
+pub mod Runs
+pub mod Lanes
+pub mod Ruler
+pub mod Axis

@@ -54,7 +54,8 @@ pub data AreMoments (window : Window) (start : World) : List Event → ℕ → L
       → AreMoments window start (es ++ e ∷ []) (ended_at ended moment) (moments ++ shown_if window (ended_at ended moment) moment)
 
 -- what contracts see of what is kept of a run: its judge, what is kept of the line under way, the
--- columns, the window, the sweeps that have ended, and how many events there were
+-- columns, the window, the sweeps that have ended, how many events there were, and how many lines
+-- spelled none
 pub record RecordingView : Type 0 where
   pub judge : JudgeView
   pub reader : Kept
@@ -62,6 +63,7 @@ pub record RecordingView : Type 0 where
   pub window : Window
   pub ended : ℕ
   pub events : ℕ
+  pub unread : ℕ
 
 -- these events are recorded: the columns show the moments that the window holds
 pub record IsRecorded (start : World) (es : List Event) (r : RecordingView) : Type 0 where

@@ -17,18 +17,17 @@ use crate::element::{Attribute, Drawing};
 use crate::recording::Recording;
 use crate::tour::first_visits;
 use axis::draw_axis;
-use canvas::{Canvas, Point};
-use colours::PAPER;
-use curves::draw_curves;
+use canvas::Canvas;
+use curves::{draw_curves, draw_levels};
 use lanes::draw_lanes;
 use legend::draw_legend;
 use page::Page;
-use px::Px;
+pub(crate) use px::Px;
 use ruler::draw_ruler;
 use std::alloc::{AllocError, Global};
 use topology::Net;
 use tree::draw_tree;
-use words::{describe, draw_title};
+use words::draw_head;
 
 /// The drawing of a run on a network.
 pub fn draw(alloc: Global, net: &Net, recording: &Recording) -> Result<Drawing, AllocError> {
@@ -38,13 +37,11 @@ pub fn draw(alloc: Global, net: &Net, recording: &Recording) -> Result<Drawing, 
     let order = first_visits(alloc, net)?;
     let page = Page::new(net, columns.len());
     let mut canvas = Canvas::new(alloc);
-    describe(&mut canvas, net, recording)?;
-    let corner = Point { x: Px(0), y: Px(0) };
-    canvas.rect(corner, page.width(), page.height(), PAPER)?;
-    draw_title(&mut canvas, net, recording)?;
+    draw_head(&mut canvas, page, net, recording)?;
     draw_legend(&mut canvas, width)?;
     draw_tree(&mut canvas, page, net, order.as_slice())?;
     draw_lanes(&mut canvas, page, order.as_slice(), columns)?;
+    draw_levels(&mut canvas, page, columns)?;
     draw_curves(&mut canvas, page, columns)?;
     draw_axis(&mut canvas, page, before.events, width)?;
     draw_ruler(&mut canvas, page, columns, before.sweeps)?;

@@ -2,6 +2,8 @@
 ghost use Rattle.std.specs.Prelude.{◌≡◌, ◌+◌, ◌^◌, ◌<◌, ◌≤◌, ℕ, List, [], ◌∷◌, ◌++◌, Some, IfOk};
 ghost use Rattle.std.specs.Prelude.{length};
 ghost use Rattle.configuration.specs.ConfigurationView.{world_of};
+ghost use Rattle.judge.specs.Judging.{counted_up_to};
+ghost use Rattle.judge.specs.JudgeView.{AreSweepsSeen};
 ghost use Rattle.world.specs.SimulatedText.{events_of, simulated_start, told_events};
 ghost use Rattle.run_picture.specs.declared.column.Column.{Column};
 ghost use Rattle.run_picture.specs.Strips.{Shows};
@@ -67,6 +69,7 @@ impl<A: Allocator + Copy> Model for Recording<A> {
       window = r.window;
       ended = r.ended;
       events = r.events;
+      unread = r.unread;
     } };
 
     ghost invariant = { λ r. r.strip.moments ≤ r.events + 1 };
@@ -276,7 +279,9 @@ impl<A: Allocator + Copy> Recording<A> {
 
     /// The sweeps since the last accepted damage, at the end.
     pub fn sweeps(&self) -> u64
-        ensures { result ≡ self.now.judge.sweeps }
+        ensures count { result ≡ self.now.judge.sweeps }
+        // Whatever run was recorded, that many sweeps and no more stand behind its last damage.
+        ensures seen { AreSweepsSeen self.now.judge result }
     {
         self.judge.sweeps()
     }
@@ -289,7 +294,9 @@ impl<A: Allocator + Copy> Recording<A> {
     }
 
     /// The lines that were refused: those that spell no event, and those whose event was refused.
-    pub fn refused(&self) -> u64 {
+    pub fn refused(&self) -> u64
+        ensures { result ≡ counted_up_to (self.now.unread + self.now.judge.refused) }
+    {
         self.unread.saturating_add(self.judge.refused())
     }
 

@@ -9,6 +9,8 @@ use std::alloc::Global;
 use std::test::Fail;
 use topology::Net;
 
+mod failures;
+
 /// What a fault may leave of two nodes: a token at each, and each lends it.
 const FORGED: &str = "\
 # a token at each
@@ -117,13 +119,19 @@ fn the_lanes_are_drawn(rt: HostRuntime) -> Result<(), Fail> {
     let drawing = draw(alloc, &net, &recording)?;
     let bytes = spelled(alloc, &drawing)?;
     let text = std::str::from_utf8(bytes.as_slice())?;
-    // Columns are 24 wide from 142 on, and lanes 32 high from 150 on: node 0 lends from event 7 on,
-    // node 1 from event 8 on.
+    // Columns are 24 wide from 142 on, and lanes 32 high from 176 on: node 0 lends from event 7 on,
+    // node 1 from event 8 on. The curves have their 0 at 328, and a node is 24 high: node 0 is
+    // privileged from event 4 on, node 1 from event 6 on.
     for part in [
-        "M310 166h48\"",
-        "M334 198h24\"",
+        "M310 192h48\"",
+        "M334 224h24\"",
         ">5</text>",
+        "M142 328V328H166",
+        "V328H238V304H262V304H286V280H310V280H334V280H358\"",
+        "V328H310V304H334V280H358\"",
         "a column is 1 event<",
+        ">nodes 2, edges 1, root 0, capacity 1, lease 0, sweeps to recover 69, sharp 35<",
+        ">8 events, 0 lines refused; at the end privileged 2, lending 2, sweeps since the last damage 0 of 69<",
     ] {
         assert!(rt; text.contains(part), "{part}");
     }

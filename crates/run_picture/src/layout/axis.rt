@@ -1,13 +1,26 @@
 //! The axis of events.
+ghost use Rattle.std.specs.Prelude.{◌≡◌, ◌^◌, ◌<◌, ◌≤◌, ◌↔◌, IsTrue, IfOk};
+ghost use Rattle.run_picture.specs.Axis.{AreFarApart, IsRoundStep, FirstFarApart};
+ghost use Rattle.run_picture.specs.Axis.{axis_numbers, number_at};
 
 use super::canvas::{Anchor, Canvas, Point, Stroke};
-use super::colours::INK;
+use super::colours::Colour;
 use super::page::Page;
 use super::px::Px;
-use std::alloc::AllocError;
+use super::words::numeral;
+use std::alloc::{AllocError, Global};
 
 /// The least distance of two numbers on the axis.
-const APART: u64 = 70;
+const APART: u128 = 70;
+
+/// A number of the axis.
+#[derive(Clone, Copy, Debug, PartialEq, Eq)]
+pub struct AxisNumber {
+    /// The column in which the moment is shown.
+    pub place: usize,
+    /// How many events have led to the moment.
+    pub event: u64,
+}
 
 /// Draws the ticks of the axis. The first moment is that behind as many events, and a column shows
 /// as many moments.
@@ -15,53 +28,102 @@ pub fn draw_axis(
     canvas: &mut Canvas,
     page: Page,
     first: u64,
-    width: u64,
+    moments: u64,
 ) -> Result<(), AllocError> {
-    let step = round_step(width, u64::from(page.column.0));
-    let mut event = next_multiple(first, step);
-    for _ in 0..page.columns {
-        let place = (event.saturating_sub(first))
-            .checked_div(width)
-            .unwrap_or(0) as usize;
-        if place >= page.columns {
-            return Ok(());
-        }
-        let x = page.x(place);
-        let y = page.ground();
-        canvas.line(
-            Point { x, y },
-            Point { x, y: y + Px(6) },
-            Stroke::whole(INK, 1),
-        )?;
-        let text = format!(in canvas.alloc; "{event}")?;
-        let below = Point { x, y: y + Px(20) };
-        canvas.words(below, Anchor::Middle, INK, text.as_str())?;
-        event = event.saturating_add(step);
+    let step = round_step(moments, page.column);
+    let numbers = axis_numbers(canvas.alloc(), page.columns, first, moments, step)?;
+    for number in numbers.as_slice() {
+        draw_number(canvas, page, *number)?;
     }
     Ok(())
 }
 
-/// The least of 1, 2, 5, 10, 20, 50 and so on whose ticks are far enough apart.
-fn round_step(width: u64, column: u64) -> u64 {
-    let mut power = 1u64;
-    for _ in 0..19 {
-        for factor in [1, 2, 5] {
-            let step = power.saturating_mul(factor);
-            if step.saturating_mul(column) >= width.saturating_mul(APART) {
-                return step;
-            }
+/// Draws a tick with its number.
+fn draw_number(canvas: &mut Canvas, page: Page, number: AxisNumber) -> Result<(), AllocError> {
+    let x = page.x(number.place);
+    let y = page.ground();
+    canvas.line(
+        Point { x, y },
+        Point { x, y: y + Px(6) },
+        Stroke::whole(Colour::Ink, 1),
+    )?;
+    let text = numeral(canvas.alloc(), number.event)?;
+    let below = Point { x, y: y + Px(20) };
+    canvas.words(below, Anchor::Middle, Colour::Ink, text.as_str())
+}
+
+/// The numbers of the axis, a step apart.
+fn axis_numbers(
+    alloc: Global,
+    columns: usize,
+    first: u64,
+    moments: u64,
+    step: u64,
+) -> Result<Vec<AxisNumber>, AllocError>
+    requires { 0 < step }
+    ensures { IfOk result (λ numbers. numbers.items ≡ axis_numbers columns first moments step) }
+{
+    let mut numbers = Vec::new(alloc);
+    let mut next = first.checked_next_multiple_of(step);
+    for _ in 0..columns {
+        let Some(event) = next else {
+            return Ok(numbers);
+        };
+        let number = number_at(first, moments, event);
+        if number.place >= columns {
+            return Ok(numbers);
         }
-        power = power.saturating_mul(10);
+        numbers.push(number)?;
+        next = event.checked_add(step);
+    }
+    Ok(numbers)
+}
+
+/// The number of the moment behind as many events.
+fn number_at(first: u64, moments: u64, event: u64) -> AxisNumber
+    ensures { result ≡ number_at first moments event }
+{
+    let behind = event.saturating_sub(first);
+    AxisNumber {
+        place: behind.checked_div(moments).unwrap_or(0) as usize,
+        event,
+    }
+}
+
+/// The least of 1, 2, 5, 10, 20, 50 and so on whose ticks are far enough apart, where a column
+/// shows as many moments and is as wide.
+fn round_step(moments: u64, width: Px) -> u64
+    ensures { IsRoundStep moments width.0 result }
+{
+    let mut power = 1;
+    for _ in 0..19usize {
+        if let Some(step) = step_from(power, moments, width) {
+            return step;
+        }
+        power *= 10;
     }
     power
 }
 
-/// The least multiple of a step that is not below a number.
-fn next_multiple(number: u64, step: u64) -> u64 {
-    number
-        .saturating_add(step)
-        .saturating_sub(1)
-        .checked_div(step)
-        .unwrap_or(0)
-        .saturating_mul(step)
+/// The first of a power of ten, twice, and five times it whose ticks are far enough apart.
+fn step_from(power: u64, moments: u64, width: Px) -> Option<u64>
+    requires { power ≤ 10 ^ 18 }
+    ensures { FirstFarApart moments width.0 power result }
+{
+    if are_far_apart(power, moments, width) {
+        Some(power)
+    } else if are_far_apart(2 * power, moments, width) {
+        Some(2 * power)
+    } else if are_far_apart(5 * power, moments, width) {
+        Some(5 * power)
+    } else {
+        None
+    }
+}
+
+/// Whether ticks that are as many events apart are far enough apart.
+fn are_far_apart(step: u64, moments: u64, width: Px) -> bool
+    ensures { IsTrue result ↔ AreFarApart moments width.0 step }
+{
+    u128::from(moments) * APART <= u128::from(step) * u128::from(width.0)
 }

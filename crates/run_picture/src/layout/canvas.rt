@@ -1,5 +1,6 @@
 //! Where the elements of a drawing are collected.
 
+use super::colours::Colour;
 use super::px::Px;
 use crate::element::Element;
 use std::alloc::{AllocError, Global};
@@ -7,30 +8,48 @@ use std::alloc::{AllocError, Global};
 /// A place on the page.
 #[derive(Clone, Copy)]
 pub struct Point {
+    /// How far it is from the left end.
     pub x: Px,
+    /// How far it is from the upper end.
     pub y: Px,
 }
 
 /// Which part of a text stands at its place.
 #[derive(Clone, Copy)]
 pub enum Anchor {
+    /// Its left end.
     Start,
+    /// Its middle.
     Middle,
+    /// Its right end.
     End,
+}
+
+impl Anchor {
+    /// How SVG writes it.
+    fn code(self) -> &'static str {
+        match self {
+            Anchor::Start => "start",
+            Anchor::Middle => "middle",
+            Anchor::End => "end",
+        }
+    }
 }
 
 /// How a line is drawn.
 #[derive(Clone, Copy)]
 pub struct Stroke {
-    pub colour: &'static str,
+    /// Its colour.
+    pub colour: Colour,
+    /// Its width.
     pub width: Px,
-    /// The lengths of dashes and gaps; nothing for a whole line.
+    /// The lengths of dashes and gaps; `none` for a whole line.
     pub dashes: &'static str,
 }
 
 impl Stroke {
     /// A whole line.
-    pub fn whole(colour: &'static str, width: u32) -> Stroke {
+    pub fn whole(colour: Colour, width: u32) -> Stroke {
         Stroke {
             colour,
             width: Px(width),
@@ -42,7 +61,7 @@ impl Stroke {
 /// The elements of a drawing, the undermost first.
 #[derive(Drop)]
 pub struct Canvas {
-    pub alloc: Global,
+    alloc: Global,
     pub elements: Vec<Element>,
 }
 
@@ -53,6 +72,11 @@ impl Canvas {
             alloc,
             elements: Vec::new(alloc),
         }
+    }
+
+    /// What memory is taken from.
+    pub fn alloc(&self) -> Global {
+        self.alloc
     }
 
     /// Adds an element over all others.
@@ -73,24 +97,24 @@ impl Canvas {
         at: Point,
         width: Px,
         height: Px,
-        colour: &str,
+        colour: Colour,
     ) -> Result<(), AllocError> {
         let rect = Element::new(self.alloc, "rect")
             .with(self.alloc, "x", at.x)?
             .with(self.alloc, "y", at.y)?
             .with(self.alloc, "width", width)?
             .with(self.alloc, "height", height)?
-            .with(self.alloc, "fill", colour)?;
+            .with(self.alloc, "fill", colour.code())?;
         self.add(rect)
     }
 
     /// A filled circle.
-    pub fn circle(&mut self, at: Point, radius: Px, colour: &str) -> Result<(), AllocError> {
+    pub fn circle(&mut self, at: Point, radius: Px, colour: Colour) -> Result<(), AllocError> {
         let circle = Element::new(self.alloc, "circle")
             .with(self.alloc, "cx", at.x)?
             .with(self.alloc, "cy", at.y)?
             .with(self.alloc, "r", radius)?
-            .with(self.alloc, "fill", colour)?;
+            .with(self.alloc, "fill", colour.code())?;
         self.add(circle)
     }
 
@@ -106,17 +130,17 @@ impl Canvas {
         let path = Element::new(self.alloc, "path")
             .with(self.alloc, "d", steps)?
             .with(self.alloc, "fill", "none")?
-            .with(self.alloc, "stroke", stroke.colour)?
+            .with(self.alloc, "stroke", stroke.colour.code())?
             .with(self.alloc, "stroke-width", stroke.width)?
             .with(self.alloc, "stroke-dasharray", stroke.dashes)?;
         self.add(path)
     }
 
     /// A filled form: its steps are those of an SVG path.
-    pub fn form(&mut self, steps: &str, colour: &str) -> Result<(), AllocError> {
+    pub fn form(&mut self, steps: &str, colour: Colour) -> Result<(), AllocError> {
         let form = Element::new(self.alloc, "path")
             .with(self.alloc, "d", steps)?
-            .with(self.alloc, "fill", colour)?;
+            .with(self.alloc, "fill", colour.code())?;
         self.add(form)
     }
 
@@ -125,19 +149,14 @@ impl Canvas {
         &mut self,
         at: Point,
         anchor: Anchor,
-        colour: &str,
+        colour: Colour,
         text: &str,
     ) -> Result<(), AllocError> {
-        let anchor = match anchor {
-            Anchor::Start => "start",
-            Anchor::Middle => "middle",
-            Anchor::End => "end",
-        };
         let words = Element::new(self.alloc, "text")
             .with(self.alloc, "x", at.x)?
             .with(self.alloc, "y", at.y)?
-            .with(self.alloc, "text-anchor", anchor)?
-            .with(self.alloc, "fill", colour)?
+            .with(self.alloc, "text-anchor", anchor.code())?
+            .with(self.alloc, "fill", colour.code())?
             .saying(text)?;
         self.add(words)
     }

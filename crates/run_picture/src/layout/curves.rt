@@ -1,37 +1,145 @@
 //! What stands below the lanes: how many nodes are privileged, and how many lend.
+ghost use Rattle.std.specs.Prelude.{◌≡◌, ◌++◌, ◌<◌, ◌^◌, OnOk, IfOk, codes, string_bytes, slice_index_or};
+ghost use Rattle.std.specs.Prelude.{length, map};
+ghost use Rattle.run_picture.specs.Curves.{most_nodes, node_height, count_in, curve_steps};
+ghost use Rattle.run_picture.specs.Curves.{step_in, first_count};
 
 use super::canvas::{Anchor, Canvas, Point, Stroke};
-use super::colours::{FAINT, GOLD, INK, RED};
+use super::colours::Colour;
 use super::page::Page;
 use super::px::Px;
+use super::words::numeral;
 use crate::column::Column;
-use std::alloc::AllocError;
+use std::alloc::{AllocError, Global};
 use std::fmt::Write;
 
-/// Draws both curves, and the line at 1.
+/// What a curve counts.
+#[derive(Clone, Copy)]
+pub enum Curve {
+    /// The privileged nodes.
+    Privileged,
+    /// The nodes that lend.
+    Lending,
+}
+
+impl Curve {
+    /// How many nodes it counts in a column.
+    fn count(self, column: &Column) -> usize
+        ensures { result ≡ count_in self column.now }
+    {
+        match self {
+            Curve::Privileged => column.privileged,
+            Curve::Lending => column.lending,
+        }
+    }
+}
+
+/// The line of the privileged nodes.
+const PRIVILEGED: Stroke = Stroke {
+    colour: Colour::Gold,
+    width: Px(3),
+    dashes: "none",
+};
+
+/// The line of the nodes that lend.
+const LENDING: Stroke = Stroke {
+    colour: Colour::Red,
+    width: Px(2),
+    dashes: "4 2",
+};
+
+/// Draws both curves.
 pub fn draw_curves(canvas: &mut Canvas, page: Page, columns: &[Column]) -> Result<(), AllocError> {
+    let node = node_height(most_nodes(columns));
+    let privileged = steps_of(canvas.alloc(), page, node, Curve::Privileged, columns)?;
+    canvas.path(privileged.as_str(), PRIVILEGED)?;
+    let lending = steps_of(canvas.alloc(), page, node, Curve::Lending, columns)?;
+    canvas.path(lending.as_str(), LENDING)
+}
+
+/// The steps of a curve.
+fn steps_of(
+    alloc: Global,
+    page: Page,
+    node: Px,
+    curve: Curve,
+    columns: &[Column],
+) -> Result<String, AllocError>
+    ensures { IfOk result (λ steps. string_bytes steps
+        ≡ curve_steps page node.0 (map (count_in curve) columns.now)) }
+{
+    let start = page.left.0;
+    let y = page.level(node, first_count(curve, columns)).0;
+    let mut steps = format!(in alloc; "M{start} {y}")?;
+    for place in 0..columns.len() {
+        push_step(&mut steps, page, node, place, curve.count(&columns[place]))?;
+    }
+    Ok(steps)
+}
+
+/// What a curve counts in the first column, if there is one.
+fn first_count(curve: Curve, columns: &[Column]) -> usize
+    ensures { result ≡ first_count (map (count_in curve) columns.now) }
+{
+    match columns {
+        [first, ..] => curve.count(first),
+        [] => 0,
+    }
+}
+
+/// Adds a curve's steps in a column.
+fn push_step(
+    steps: &mut String,
+    page: Page,
+    node: Px,
+    place: usize,
+    count: usize,
+) -> Result<(), AllocError>
+    requires { place < 2 ^ 63 }
+    ensures { OnOk result (string_bytes steps.new
+        ≡ string_bytes steps.old ++ step_in page node.0 place count) }
+{
+    let y = page.level(node, count).0;
+    let end = page.x(place + 1).0;
+    write!(steps, "V{y}H{end}")
+}
+
+/// The most nodes that are privileged, or lend, in any column; at least 1.
+fn most_nodes(columns: &[Column]) -> usize
+    ensures { result ≡ most_nodes columns.now }
+{
+    let mut most = 1;
+    for column in columns {
+        most = most.max(column.privileged.max(column.lending));
+    }
+    most
+}
+
+/// How high a node is.
+fn node_height(most: usize) -> Px
+    ensures { result.0 ≡ node_height most }
+{
+    let height = 64 / most.max(1);
+    Px(height.min(24).max(1) as u32)
+}
+
+/// Draws the lines at no node, at 1 and at the most, with their numbers; and says which curve is
+/// which.
+pub fn draw_levels(canvas: &mut Canvas, page: Page, columns: &[Column]) -> Result<(), AllocError> {
     let most = most_nodes(columns);
-    let node = Px((Page::CURVES / most).0.clamp(1, 24));
+    let node = node_height(most);
     for count in [0, 1, most] {
-        let y = page.ground() - node * count;
+        let y = page.level(node, count);
         let from = Point { x: page.left, y };
         let to = Point { x: page.right(), y };
         canvas.line(from, to, level(count))?;
-        let text = format!(in canvas.alloc; "{count}")?;
+        let text = numeral(canvas.alloc(), count as u64)?;
         let name = Point {
             x: page.left - Px(8),
             y: y + Px(4),
         };
-        canvas.words(name, Anchor::End, INK, text.as_str())?;
+        canvas.words(name, Anchor::End, Colour::Ink, text.as_str())?;
     }
-    let privileged = steps_of(canvas, page, node, columns, |column| column.privileged)?;
-    canvas.path(privileged.as_str(), Stroke::whole(GOLD, 3))?;
-    let lending = steps_of(canvas, page, node, columns, |column| column.lending)?;
-    let dashed = Stroke {
-        dashes: "4 2",
-        ..Stroke::whole(RED, 2)
-    };
-    canvas.path(lending.as_str(), dashed)?;
     draw_names(canvas, page)
 }
 
@@ -40,62 +148,18 @@ fn level(count: usize) -> Stroke {
     if count == 1 {
         Stroke {
             dashes: "1 3",
-            ..Stroke::whole(INK, 1)
+            ..Stroke::whole(Colour::Ink, 1)
         }
     } else {
-        Stroke::whole(FAINT, 1)
+        Stroke::whole(Colour::Faint, 1)
     }
-}
-
-/// The most nodes that are privileged or lend in any column, at least 1.
-fn most_nodes(columns: &[Column]) -> usize {
-    columns
-        .iter()
-        .map(|column| column.privileged.max(column.lending))
-        .max()
-        .unwrap_or(1)
-        .max(1)
-}
-
-/// The path of a step curve.
-fn steps_of<F: Fn(&Column) -> usize>(
-    canvas: &Canvas,
-    page: Page,
-    node: Px,
-    columns: &[Column],
-    count: F,
-) -> Result<String, AllocError>
-    requires { F.IsAlwaysCallable count }
-{
-    let mut steps = String::new(canvas.alloc);
-    for (place, column) in columns.iter().enumerate() {
-        let y = page.ground() - node * count(column);
-        let end = page.x(place.saturating_add(1));
-        if place == 0 {
-            let start = page.left;
-            write!(steps, "M{start} {y}")?;
-        } else {
-            write!(steps, "V{y}")?;
-        }
-        write!(steps, "H{end}")?;
-    }
-    Ok(steps)
 }
 
 /// Says which curve is which.
 fn draw_names(canvas: &mut Canvas, page: Page) -> Result<(), AllocError> {
     let y = page.ground() + Px(48);
     let mut x = page.left;
-    for (name, stroke) in [
-        ("privileged nodes", Stroke::whole(GOLD, 3)),
-        (
-            "lending nodes",
-            Stroke {
-                dashes: "4 2",
-                ..Stroke::whole(RED, 2)
-            },
-        ),
-    ] {
+    for (name, stroke) in [("privileged nodes", PRIVILEGED), ("lending nodes", LENDING)] {
         let from = Point { x, y: y - Px(4) };
         let to = Point {
             x: x + Px(24),
@@ -103,9 +167,9 @@ fn draw_names(canvas: &mut Canvas, page: Page) -> Result<(), AllocError> {
         };
         canvas.line(from, to, stroke)?;
         let at = Point { x: x + Px(30), y };
-        canvas.words(at, Anchor::Start, INK, name)?;
+        canvas.words(at, Anchor::Start, Colour::Ink, name)?;
         x = x + Px(150);
     }
     let title = Point { x: page.right(), y };
-    canvas.words(title, Anchor::End, INK, "events since the start")
+    canvas.words(title, Anchor::End, Colour::Ink, "events since the start")
 }

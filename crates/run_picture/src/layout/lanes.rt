@@ -1,13 +1,19 @@
 //! The lanes: of each node its marks from left to right.
+ghost use Rattle.std.specs.Prelude.{◌≡◌, ◌++◌, OnOk, IfOk, string_bytes};
+ghost use Rattle.std.specs.List.{flat_map};
+ghost use Rattle.std.specs.Option.{option_map};
+ghost use Rattle.run_picture.specs.Lanes.{bar, width_of};
+ghost use Rattle.run_picture.specs.Words.{ticket_words};
 
 use super::canvas::{Anchor, Canvas, Point, Stroke};
-use super::colours::{GOLD, GREY, PALE, PAPER, RED};
+use super::colours::Colour;
 use super::page::Page;
 use super::px::Px;
 use super::runs::{Run, runs_of};
+use super::words::numeral;
 use crate::column::Column;
 use crate::mark::Mark;
-use std::alloc::AllocError;
+use std::alloc::{AllocError, Global};
 use std::fmt::Write;
 
 /// Draws the lane of each node; the nodes are those of the lanes from above.
@@ -17,65 +23,126 @@ pub fn draw_lanes(
     order: &[u16],
     columns: &[Column],
 ) -> Result<(), AllocError> {
-    for (lane, v) in order.iter().enumerate() {
-        let runs = runs_of(canvas.alloc, columns, *v)?;
-        draw_lane(canvas, page, page.y(lane), runs.as_slice())?;
+    for lane in 0..order.len() {
+        let runs = runs_of(canvas.alloc(), columns, order[lane])?;
+        draw_lane(canvas, page, lane, runs.as_slice())?;
     }
     Ok(())
 }
 
-/// Draws a lane, whose middle is given. Of the bars the worse is the higher, too.
-fn draw_lane(canvas: &mut Canvas, page: Page, y: Px, runs: &[Run]) -> Result<(), AllocError> {
+/// Draws a lane. Of the bars the worse is the higher, too.
+fn draw_lane(canvas: &mut Canvas, page: Page, lane: usize, runs: &[Run]) -> Result<(), AllocError> {
+    let y = page.y(lane);
     let high = page.lane - Px(2);
     let top = Point {
         x: page.left,
-        y: y - high / 2,
+        y: y - high.half(),
     };
-    canvas.rect(top, page.right() - page.left, high, PALE)?;
-    for (mark, colour, height) in [
-        (Mark::Wrong, GREY, high / 2),
-        (Mark::Privileged, GOLD, Px((high * 3).0 / 4)),
-        (Mark::Lending { ticket: 0 }, RED, high),
-    ] {
-        let steps = bars(canvas, page, y, runs, mark.rank())?;
-        if !steps.as_str().is_empty() {
-            let stroke = Stroke {
-                width: height,
-                ..Stroke::whole(colour, 0)
-            };
-            canvas.path(steps.as_str(), stroke)?;
-        }
-    }
+    canvas.rect(top, page.right() - page.left, high, Colour::Pale)?;
+    draw_all_bars(canvas, page, y, runs, high)?;
     draw_tickets(canvas, page, y, runs)
 }
 
-/// The path along all runs whose mark is as bad.
-fn bars(canvas: &Canvas, page: Page, y: Px, runs: &[Run], rank: u8) -> Result<String, AllocError> {
-    let mut steps = String::new(canvas.alloc);
+/// Draws the bars of the runs that are wrong, privileged and lending, by the ranks of their marks.
+fn draw_all_bars(
+    canvas: &mut Canvas,
+    page: Page,
+    y: Px,
+    runs: &[Run],
+    high: Px,
+) -> Result<(), AllocError> {
+    let wrong = bars(canvas.alloc(), page, y, runs, 1)?;
+    draw_steps(canvas, wrong.as_str(), Colour::Grey, high.half())?;
+    let privileged = bars(canvas.alloc(), page, y, runs, 2)?;
+    draw_steps(
+        canvas,
+        privileged.as_str(),
+        Colour::Gold,
+        (high * 3).half().half(),
+    )?;
+    let lending = bars(canvas.alloc(), page, y, runs, 3)?;
+    draw_steps(canvas, lending.as_str(), Colour::Red, high)
+}
+
+/// Draws bars along steps, if there are any.
+fn draw_steps(
+    canvas: &mut Canvas,
+    steps: &str,
+    colour: Colour,
+    height: Px,
+) -> Result<(), AllocError> {
+    if steps.is_empty() {
+        return Ok(());
+    }
+    let stroke = Stroke {
+        width: height,
+        ..Stroke::whole(colour, 0)
+    };
+    canvas.path(steps, stroke)
+}
+
+/// The steps along all runs whose mark is as bad.
+fn bars(alloc: Global, page: Page, y: Px, runs: &[Run], bad: u8) -> Result<String, AllocError>
+    ensures { IfOk result (λ steps. string_bytes steps ≡ flat_map (bar page y.0 bad) runs.now) }
+{
+    let mut steps = String::new(alloc);
     for run in runs {
-        if run.mark.rank() == rank {
-            let x = page.x(run.first);
-            let width = page.column * run.count;
-            write!(steps, "M{x} {y}h{width}")?;
-        }
+        push_bar(&mut steps, page, y, run, bad)?;
     }
     Ok(steps)
+}
+
+/// Adds the steps along a run, if its mark is as bad.
+fn push_bar(steps: &mut String, page: Page, y: Px, run: &Run, bad: u8) -> Result<(), AllocError>
+    ensures { OnOk result (string_bytes steps.new
+        ≡ string_bytes steps.old ++ bar page y.0 bad run.now) }
+{
+    if run.mark.rank() != bad {
+        return Ok(());
+    }
+    let x = page.x(run.first).0;
+    let y = y.0;
+    let width = width_of(page, run).0;
+    write!(steps, "M{x} {y}h{width}")
+}
+
+/// How wide a run is.
+fn width_of(page: Page, run: &Run) -> Px
+    ensures { result.0 ≡ width_of page run.now }
+{
+    page.column * run.count
 }
 
 /// Writes the tickets of the runs that have room for them.
 fn draw_tickets(canvas: &mut Canvas, page: Page, y: Px, runs: &[Run]) -> Result<(), AllocError> {
     for run in runs {
-        if let Mark::Lending { ticket } = run.mark {
-            let text = format!(in canvas.alloc; "{ticket}")?;
-            let width = page.column * run.count;
-            if (Px(7) * text.as_str().len() + Px(3)).0 <= width.0 {
-                let middle = Point {
-                    x: page.x(run.first) + width / 2,
-                    y: y + Px(4),
-                };
-                canvas.words(middle, Anchor::Middle, PAPER, text.as_str())?;
-            }
-        }
+        draw_ticket(canvas, page, y, run)?;
     }
     Ok(())
+}
+
+/// Writes the ticket of a run that lends, if it has room.
+fn draw_ticket(canvas: &mut Canvas, page: Page, y: Px, run: &Run) -> Result<(), AllocError> {
+    let Some(text) = ticket_words(canvas.alloc(), run.mark)? else {
+        return Ok(());
+    };
+    let width = width_of(page, run);
+    if width.0 < (Px(7) * text.as_str().len() + Px(3)).0 {
+        return Ok(());
+    }
+    let middle = Point {
+        x: page.x(run.first) + width.half(),
+        y: y + Px(4),
+    };
+    canvas.words(middle, Anchor::Middle, Colour::Paper, text.as_str())
+}
+
+/// The ticket of a node that lends, as a text.
+fn ticket_words(alloc: Global, mark: Mark) -> Result<Option<String>, AllocError>
+    ensures { IfOk result (λ words. option_map string_bytes words ≡ ticket_words mark) }
+{
+    match mark {
+        Mark::Lending { ticket } => Ok(Some(numeral(alloc, u64::from(ticket))?)),
+        _ => Ok(None),
+    }
 }

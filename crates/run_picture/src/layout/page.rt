@@ -1,24 +1,18 @@
 //! Where the parts of a picture stand on the page.
+ghost use Rattle.std.specs.Prelude.{◌≡◌};
+ghost use Rattle.run_picture.specs.Page.{column_width, lane_height, x_of, right_of, middle_of};
+ghost use Rattle.run_picture.specs.Page.{y_of, top_of, ground_of, level_of};
+ghost use Rattle.run_picture.specs.Page.{page_width, page_height};
 
 use super::canvas::Point;
 use super::px::Px;
-use std::alloc::Allocator;
 use topology::Net;
-
-/// How wide the columns may be together.
-const WIDEST: u32 = 1200;
-
-/// How wide a column may be.
-const WIDEST_COLUMN: usize = 24;
-
-/// How high the lanes are together, where each may be as high as it should.
-const HIGHEST: u32 = 640;
-
-/// The least width of the page, in which the legend has room.
-const LEAST_WIDTH: u32 = 800;
 
 /// How wide the legend of the tree's edges and the nodes' names is.
 const NAMES: u32 = 104;
+
+/// The least width of the page, in which the legend has room.
+const LEAST_WIDTH: u32 = 800;
 
 /// Where the parts of a picture stand. From above: title, legend, the line of damage and that of
 /// sweeps, the lanes, the curves with their axis. Left of the lanes stands the tree.
@@ -40,7 +34,7 @@ pub struct Page {
 
 impl Page {
     /// The top of the lanes.
-    pub const TOP: Px = Px(150);
+    pub const TOP: Px = Px(176);
 
     /// The left end of titles and legend, and of the tree.
     pub const MARGIN: Px = Px(16);
@@ -49,52 +43,86 @@ impl Page {
     pub const CURVES: Px = Px(64);
 
     /// The page for as many columns.
-    pub fn new<A: Allocator + Copy>(net: &Net<A>, columns: usize) -> Page {
-        let depth = usize::from(net.eccentricity());
-        let indent = Px((Px(200) / depth).0.clamp(3, 22));
+    pub fn new(net: &Net, columns: usize) -> Page
+        ensures column { result.column.0 ≡ column_width columns }
+        ensures columns { result.columns ≡ columns }
+        ensures lane { result.lane.0 ≡ lane_height net.now.nodes }
+        ensures lanes { result.lanes ≡ net.now.nodes }
+    {
+        let depth = u32::from(net.eccentricity()).max(1);
+        let indent = Px((200 / depth).min(22).max(3));
+        let lanes = usize::from(net.nodes());
         Page {
-            left: Page::MARGIN + indent * depth + Px(NAMES),
-            column: Px((Px(WIDEST) / columns).0.clamp(1, WIDEST_COLUMN as u32)),
+            left: Page::MARGIN + indent * depth as usize + Px(NAMES),
+            column: Px(column_width(columns)),
             columns,
-            lane: Px((Px(HIGHEST) / usize::from(net.nodes())).0.clamp(12, 32)),
-            lanes: usize::from(net.nodes()),
+            lane: Px(lane_height(lanes)),
+            lanes,
             indent,
         }
     }
 
     /// The left end of a column.
-    pub fn x(self, column: usize) -> Px {
+    pub fn x(self, column: usize) -> Px
+        ensures { result.0 ≡ x_of self column }
+    {
         self.left + self.column * column
     }
 
+    /// The middle of a column.
+    pub fn middle(self, column: usize) -> Px
+        ensures { result.0 ≡ middle_of self column }
+    {
+        self.x(column) + self.column.half()
+    }
+
     /// The right end of the columns.
-    pub fn right(self) -> Px {
+    pub fn right(self) -> Px
+        ensures { result.0 ≡ right_of self }
+    {
         self.x(self.columns)
     }
 
     /// The middle of a lane.
-    pub fn y(self, lane: usize) -> Px {
-        Page::TOP + self.lane * lane + self.lane / 2
+    pub fn y(self, lane: usize) -> Px
+        ensures { result.0 ≡ y_of self lane }
+    {
+        self.top(lane) + self.lane.half()
     }
 
-    /// The lower end of the lanes.
-    pub fn bottom(self) -> Px {
-        Page::TOP + self.lane * self.lanes
+    /// The upper end of a lane.
+    fn top(self, lane: usize) -> Px
+        ensures { result.0 ≡ top_of self lane }
+    {
+        Page::TOP + self.lane * lane
     }
 
-    /// The line of no node of the curves.
-    pub fn ground(self) -> Px {
-        self.bottom() + Px(24) + Page::CURVES
+    /// The line of the curves at no node.
+    pub fn ground(self) -> Px
+        ensures { result.0 ≡ ground_of self }
+    {
+        self.top(self.lanes) + Px(24) + Page::CURVES
+    }
+
+    /// The line of the curves at as many nodes, of which each is as high.
+    pub fn level(self, node: Px, count: usize) -> Px
+        ensures { result.0 ≡ level_of self node.0 count }
+    {
+        self.ground() - node * count
     }
 
     /// The width of the page.
-    pub fn width(self) -> Px {
+    pub fn width(self) -> Px
+        ensures { result.0 ≡ page_width self }
+    {
         let width = self.right() + Px(48);
         Px(width.0.max(LEAST_WIDTH))
     }
 
     /// The height of the page.
-    pub fn height(self) -> Px {
+    pub fn height(self) -> Px
+        ensures { result.0 ≡ page_height self }
+    {
         self.ground() + Px(64)
     }
 
@@ -105,4 +133,20 @@ impl Page {
             y: self.y(lane),
         }
     }
+}
+
+/// The width of a column, of as many.
+fn column_width(columns: usize) -> u32
+    ensures { result ≡ column_width columns }
+{
+    let width = 1200 / columns.max(1);
+    width.min(24).max(1) as u32
+}
+
+/// The height of a lane, of as many.
+fn lane_height(lanes: usize) -> u32
+    ensures { result ≡ lane_height lanes }
+{
+    let height = 640 / lanes.max(1);
+    height.min(32).max(12) as u32
 }

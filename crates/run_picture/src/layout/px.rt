@@ -1,6 +1,9 @@
 //! Lengths on a page.
+ghost use Rattle.std.specs.Prelude.{◌≡◌, ◌+◌, ◌-◌, ◌*◌, ◌/◌};
+ghost use Rattle.run_picture.specs.Page.{px};
+
 use std::fmt;
-use std::ops::{Add, Div, Mul, Sub};
+use std::ops::{Add, Mul, Sub};
 
 /// A length, or a place from the left or the top, in units of the page. What is computed of lengths
 /// stays within 0 and the greatest value.
@@ -10,7 +13,9 @@ pub struct Px(pub u32);
 impl Add for Px {
     type Output = Px;
 
-    fn add(self, other: Px) -> Px {
+    fn add(self, other: Px) -> Px
+        ensures { result.0 ≡ px (self.0 + other.0) }
+    {
         Px(self.0.saturating_add(other.0))
     }
 }
@@ -18,7 +23,9 @@ impl Add for Px {
 impl Sub for Px {
     type Output = Px;
 
-    fn sub(self, other: Px) -> Px {
+    fn sub(self, other: Px) -> Px
+        ensures { result.0 ≡ self.0 - other.0 }
+    {
         Px(self.0.saturating_sub(other.0))
     }
 }
@@ -26,19 +33,24 @@ impl Sub for Px {
 impl Mul<usize> for Px {
     type Output = Px;
 
-    fn mul(self, count: usize) -> Px {
-        let count = u32::try_from(count).unwrap_or(u32::MAX);
-        Px(self.0.saturating_mul(count))
+    fn mul(self, count: usize) -> Px
+        ensures { result.0 ≡ px (self.0 * count) }
+    {
+        let length = u64::from(self.0).saturating_mul(count as u64);
+        if length <= 4_294_967_295 {
+            Px(length as u32)
+        } else {
+            Px(u32::MAX)
+        }
     }
 }
 
-impl Div<usize> for Px {
-    type Output = Px;
-
-    /// Rounded down; by 0 the length itself.
-    fn div(self, count: usize) -> Px {
-        let count = u32::try_from(count).unwrap_or(u32::MAX);
-        Px(self.0.checked_div(count).unwrap_or(self.0))
+impl Px {
+    /// Half of it, rounded down.
+    pub fn half(self) -> Px
+        ensures { result.0 ≡ self.0 / 2 }
+    {
+        Px(self.0 / 2)
     }
 }
 

@@ -1,12 +1,14 @@
 //! The network, beside the lanes: each node in its lane, as far to the right as it is from the
 //! root.
+ghost use Rattle.std.specs.Prelude.{◌≡◌, IfOk, string_bytes};
+ghost use Rattle.run_picture.specs.Words.{node_name};
 
 use super::canvas::{Anchor, Canvas, Point, Stroke};
-use super::colours::{FAINT, INK};
+use super::colours::Colour;
 use super::page::Page;
 use super::px::Px;
 use crate::tour::is_tree_edge;
-use std::alloc::AllocError;
+use std::alloc::{AllocError, Global};
 use topology::Net;
 
 /// Draws the network; the nodes are those of the lanes from above.
@@ -21,15 +23,22 @@ pub fn draw_tree(
     }
     for (lane, v) in order.iter().enumerate() {
         let at = place_of(page, net, lane, *v);
-        canvas.circle(at, Px(5), INK)?;
-        let text = format!(in canvas.alloc; "node {v}")?;
+        canvas.circle(at, Px(5), Colour::Ink)?;
+        let text = node_name(canvas.alloc(), *v)?;
         let name = Point {
             x: page.left - Px(8),
             y: at.y + Px(4),
         };
-        canvas.words(name, Anchor::End, INK, text.as_str())?;
+        canvas.words(name, Anchor::End, Colour::Ink, text.as_str())?;
     }
     Ok(())
+}
+
+/// The name of a node.
+fn node_name(alloc: Global, v: u16) -> Result<String, AllocError>
+    ensures { IfOk result (λ words. string_bytes words ≡ node_name v) }
+{
+    format!(in alloc; "node {v}")
 }
 
 /// The place of a node in its lane.
@@ -67,12 +76,12 @@ fn draw_edge(
     let to = place_of(page, net, lower.0, lower.1);
     let (x, y, end_x, end_y) = (from.x, from.y, to.x, to.y);
     if is_tree_edge(net, v, w) {
-        let steps = format!(in canvas.alloc; "M{x} {y}V{end_y}H{end_x}")?;
-        canvas.path(steps.as_str(), Stroke::whole(INK, 3))
+        let steps = format!(in canvas.alloc(); "M{x} {y}V{end_y}H{end_x}")?;
+        canvas.path(steps.as_str(), Stroke::whole(Colour::Ink, 3))
     } else {
-        let turn = Px(x.0.max(end_x.0)) + Px(((end_y - y) / 3).0.clamp(8, 40));
-        let middle = y + (end_y - y) / 2;
-        let steps = format!(in canvas.alloc; "M{x} {y}Q{turn} {middle} {end_x} {end_y}")?;
-        canvas.path(steps.as_str(), Stroke::whole(FAINT, 1))
+        let turn = Px(x.0.max(end_x.0)) + Px(((end_y - y).0 / 3).clamp(8, 40));
+        let middle = y + (end_y - y).half();
+        let steps = format!(in canvas.alloc(); "M{x} {y}Q{turn} {middle} {end_x} {end_y}")?;
+        canvas.path(steps.as_str(), Stroke::whole(Colour::Faint, 1))
     }
 }

@@ -2,7 +2,7 @@ use Rattle.std.proofs.Common.{◌∙◌, ap, [], ◌∷◌, ◌++◌}
 use Rattle.std.specs.Option.{option_to_list}
 use Rattle.events_text.specs.EventsText.{ended_lines}
 use Rattle.world.specs.SimulatedText.{told_events}
-use Rattle.run_picture.proofs.Pieces.{told_both}
+use Rattle.world.proofs.SimulatedLines.{told_both}
 use Rattle.run_picture.proofs.recording.Recording.last_line.Goals as goal
 
 pub returns-in-Some-clause-text : goal.returns-in-Some-clause-text

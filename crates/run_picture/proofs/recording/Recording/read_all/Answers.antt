@@ -1,7 +1,8 @@
-use Rattle.std.proofs.Common.{◌≡◌, ◌∙◌, ap, ◌+◌, ◌-◌, ◌≤◌, ◌<◌, length, take, drop, arith}
+use Rattle.std.proofs.Common.{◌≡◌, ◌∙◌, ap, ◌+◌, ◌-◌, ◌≤◌, ◌<◌, length, take, drop, arith, refl}
 use Rattle.std.proofs.lemmas.Grind.{common_steps}
 use Rattle.world.specs.Simulating.{longest_text}
-use Rattle.run_picture.proofs.Pieces.{given, piece_read, read_more, all_read}
+use Rattle.byte_streams.proofs.Reading.{given, piece_read}
+use Rattle.world.proofs.SimulatedPieces.{read_more, all_read}
 use Rattle.run_picture.proofs.recording.Recording.read_all.Goals as goal
 
 pub returns-then-count-eq0-clause-text : goal.returns-then-count-eq0-clause-text
@@ -11,7 +12,7 @@ returns-then-count-eq0-clause-text g c =
     let n = longest_text - c.loop-count.left in
     let room : 0 < length c.read.new.buffer = grind (arith, common_steps) in
     let gives = given c.in-Ok.count _ _ c.read.new.buffer (drop n bytes) so_far.1 c.in-Ok.ensures.reads.1 in
-    rw (all_read bytes n (gives.3 c.if-count-eq0.true room)) at so_far.2
+    rw (all_read bytes _ n so_far.0 (gives.3 c.if-count-eq0.true room) refl).2 at so_far.2
 
 pub loop-count-preserved : goal.loop-count-preserved
 loop-count-preserved g c =

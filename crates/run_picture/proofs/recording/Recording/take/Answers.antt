@@ -4,7 +4,7 @@ use Rattle.std.proofs.lemmas.List.{append-nil}
 use Rattle.std.specs.Option.{option_to_list}
 use Rattle.events_text.specs.EventsText.{ended_lines}
 use Rattle.world.specs.SimulatedText.{told_events}
-use Rattle.run_picture.proofs.Pieces.{piece_more}
+use Rattle.byte_streams.proofs.Reading.{piece_more}
 use Rattle.run_picture.proofs.Recordings.{line_ends, half_line_grows}
 use Rattle.run_picture.proofs.recording.Recording.take.Goals as goal
 
@@ -25,7 +25,7 @@ loop-at-preserved g c =
           let ends : ended_lines (so_far ++ more) ≡ ended_lines so_far ++ c.in-Some.line ∷ [] =
           c.take-taken.ensures.line so_far now.stands ∙ ap (λ line. ended_lines so_far ++ option_to_list line) c.in-Some.is in
           let further : bytes ++ take (at + used) piece ≡ so_far ++ more =
-          ap (λ xs. bytes ++ xs) (piece_more piece at used within) ∙ sym (append_assoc bytes (take at piece) more) in
+          ap (λ xs. bytes ++ xs) (piece_more piece at used) ∙ sym (append_assoc bytes (take at piece) more) in
           rw further (line_ends start so_far more c.in-Some.line _ c.line.new.self c.take-taken.new.self now
           (c.take-taken.ensures.stands so_far now.stands) ends (c.line.ensures.records start (told_events (ended_lines so_far))) c.line.ensures.reader),
     )

@@ -1,0 +1,54 @@
+-- Where the parts of a picture stand on the page, in units of the page from its left and upper ends.
+-- From above: title, legend, damage, sweeps, the lanes, the curves with their axis. Left of the
+-- lanes stands the tree.
+use Rattle.std.specs.Prelude.{ℕ, ◌+◌, ◌-◌, ◌*◌, ◌/◌, max, min}
+use Rattle.run_picture.specs.declared.layout.page.Page.{Page}
+
+-- a length is at most what 32 bits hold
+abbrev pub px : ℕ → ℕ
+px length = min length 4294967295
+
+-- how wide a column is: of as many as are given, all are 1200 wide together, but each at least 1 and
+-- at most 24
+abbrev pub column_width : ℕ → ℕ
+column_width columns = max (min (1200 / max columns 1) 24) 1
+
+-- how high a lane is: all are 640 high together, but each at least 12 and at most 32
+abbrev pub lane_height : ℕ → ℕ
+lane_height lanes = max (min (640 / max lanes 1) 32) 12
+
+-- the left end of a column; the columns count from 0
+abbrev pub x_of : Page → ℕ → ℕ
+x_of page column = px (page.left.0 + px (page.column.0 * column))
+
+-- the right end of all columns
+abbrev pub right_of : Page → ℕ
+right_of page = x_of page page.columns
+
+-- the middle of a column
+abbrev pub middle_of : Page → ℕ → ℕ
+middle_of page column = px (x_of page column + page.column.0 / 2)
+
+-- the upper end of a lane, below 176 of title, legend, damage and sweeps; the lanes count from 0
+abbrev pub top_of : Page → ℕ → ℕ
+top_of page lane = px (176 + px (page.lane.0 * lane))
+
+-- the middle of a lane
+abbrev pub y_of : Page → ℕ → ℕ
+y_of page lane = px (top_of page lane + page.lane.0 / 2)
+
+-- where the curves stand at no node: their line at 0, which is 24 and then 64 below the lanes
+abbrev pub ground_of : Page → ℕ
+ground_of page = px (px (top_of page page.lanes + 24) + 64)
+
+-- where a curve stands at as many nodes, of which each is as high
+abbrev pub level_of : Page → ℕ → ℕ → ℕ
+level_of page node count = ground_of page - px (node * count)
+
+-- the width of the page, in which the legend has room
+abbrev pub page_width : Page → ℕ
+page_width page = max (px (right_of page + 48)) 800
+
+-- the height of the page
+abbrev pub page_height : Page → ℕ
+page_height page = px (ground_of page + 64)

@@ -1,0 +1,77 @@
+-- What stands above the lanes: damage, and the sweeps.
+use Rattle.std.specs.Prelude.{◌≡◌, ℕ, suc, ◌+◌, ◌<◌, ◌≤◌, ◌&&◌, ◌⊎◌, Bool, true, nat_lt, nat_le, if◌then◌else◌, List, [], ◌∷◌, ◌++◌, length, take, codes, decimal, sum_by, slice_get, IfSome}
+use Rattle.std.specs.List.{AllByRecursion}
+use Rattle.judge.specs.Judging.{counted_up_to}
+use Rattle.run_picture.specs.declared.column.Column.{Column}
+use Rattle.run_picture.specs.declared.layout.page.Page.{Page}
+use Rattle.run_picture.specs.declared.layout.ruler.SweepNumber.{SweepNumber}
+use Rattle.run_picture.specs.Page.{px, middle_of}
+
+-- what is written over columns from left to right, of which the first stands at a place
+abbrev pub over_each : (ℕ → Column → List ℕ) → ℕ → List Column → List ℕ
+over_each over place [] = []
+over_each over place (column ∷ columns) = over place column ++ over_each over (suc place) columns
+
+-- the mark over a column, if damage was accepted in it: from 134 below the upper end of the page on
+abbrev pub damage_over : Page → ℕ → Column → List ℕ
+damage_over page place column =
+    if column.damaged then codes "M" ++ (decimal (middle_of page place) ++ (codes " " ++ (decimal 134 ++ codes "l4 0l-2 5l3 0l-6 9l2 -6l-3 0z")))
+    else []
+
+-- the tick over a column, if a sweep ends in it: 10 high, from 164 below the upper end of the page on
+abbrev pub tick_over : Page → ℕ → Column → List ℕ
+tick_over page place column =
+    if nat_lt 0 column.sweeps then codes "M" ++ (decimal (middle_of page place) ++ (codes " " ++ (decimal 164 ++ codes "v10")))
+    else []
+
+-- how many sweeps have ended in these columns, where as many had before them; the count stays at the
+-- greatest value of 64 bits
+abbrev pub ended_in : ℕ → List Column → ℕ
+ended_in before columns = counted_up_to (before + sum_by (λ column. column.sweeps) columns)
+
+-- a sweep ends in the column at a place
+abbrev pub HasTick : List Column → ℕ → Type 0
+HasTick columns place = IfSome (slice_get columns place) (λ column. 0 < column.sweeps)
+
+-- a number stands over the tick of one of the first columns, of which there are as many, and says how
+-- many sweeps have ended up to this column
+abbrev pub IsSweepNumber : ℕ → List Column → ℕ → SweepNumber → Type 0
+IsSweepNumber before columns upto number =
+    (number.place < upto) × HasTick columns number.place × (number.ended ≡ ended_in before (take (suc number.place) columns))
+
+-- from where on there is room for the next number: 30 right of the one over a column
+abbrev pub room_behind : Page → ℕ → ℕ
+room_behind page place = px (middle_of page place + 30)
+
+-- neighbours are far enough apart
+abbrev pub HaveRoom : Page → List SweepNumber → Type 0
+HaveRoom page [] = Unit {0}
+HaveRoom page (number ∷ []) = Unit {0}
+HaveRoom page (number ∷ next ∷ numbers) = (room_behind page number.place ≤ middle_of page next.place) × HaveRoom page (next ∷ numbers)
+
+-- one of the numbers stands over a column, or so near left of it that it leaves no room there
+abbrev pub IsTaken : Page → List SweepNumber → ℕ → Type 0
+IsTaken page [] place = ⊥
+IsTaken page (number ∷ numbers) place =
+    (number.place ≡ place)
+    ⊎ ((number.place < place) × (middle_of page place < room_behind page number.place))
+    ⊎ IsTaken page numbers place
+
+-- These are the numbers over the first columns, of which there are as many: each stands over a tick,
+-- with its count of sweeps; they are far enough apart; and where a tick has none, there is no room.
+pub record AreNumbers (page : Page) (before : ℕ) (columns : List Column) (upto : ℕ) (numbers : List SweepNumber) : Type 0 where
+  pub right : AllByRecursion (IsSweepNumber before columns upto) numbers
+  pub apart : HaveRoom page numbers
+  pub taken : (place : ℕ) → place < upto → HasTick columns place → IsTaken page numbers place
+
+-- ---- what the steps keep
+
+-- the last number, if there is one, leaves room for one over a column
+abbrev pub has_room : Page → List SweepNumber → ℕ → Bool
+has_room page [] place = true
+has_room page (number ∷ []) place = nat_le (room_behind page number.place) (middle_of page place)
+has_room page (number ∷ next ∷ numbers) place = has_room page (next ∷ numbers) place
+
+-- where as many sweeps end in the number's column, and there is room, the number stands behind the others
+abbrev pub with_number : Page → ℕ → SweepNumber → List SweepNumber → List SweepNumber
+with_number page sweeps number numbers = if nat_lt 0 sweeps && has_room page numbers number.place then numbers ++ number ∷ [] else numbers
