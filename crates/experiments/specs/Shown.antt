@@ -1,7 +1,10 @@
 -- What a measured run has shown.
-use Rattle.std.specs.Prelude.{◌≡◌, ℕ, List, Option}
+use Rattle.std.specs.Prelude.{◌≡◌, ◌≤◌, ℕ, List, Option}
+use Rattle.rand_core.specs.Pcg32Seed.{pcg32_seed}
 use Rattle.rand_pcg.specs.Lcg.{Lcg}
+use Rattle.rand_pcg.specs.Pcg.{pcg32_of_seed}
 use Rattle.topology.specs.Network.{Network}
+use Rattle.topology.specs.Eccentricity.{sharp_of}
 use Rattle.run_model.specs.World.{World}
 use Rattle.run_model.specs.Start.{default_world}
 use Rattle.run_model.specs.Run.{run, IsUndamaged}
@@ -27,3 +30,14 @@ pub record IsShown (start : World) (r : Recovery) : Type 0 where
   pub count : ℕ
   pub counted : IsSweepCount start events count
   pub seen_are : r.seen ≡ counted_up_to count
+
+-- the generator of a seed
+abbrev pub seeded : ℕ → Lcg
+seeded seed = pcg32_of_seed (pcg32_seed 16 seed)
+
+-- The run of a seed on a network: it bears the seed, it is shown from the world that this seed
+-- scrambles, and it serves behind the sharper bound at the latest.
+pub record IsRunOf (net : Network) (seed : ℕ) (r : Recovery) : Type 0 where
+  pub seed_is : r.seed ≡ seed
+  pub shown : IsShown (scrambled net (seeded seed)) r
+  pub within : r.sweeps ≤ sharp_of net

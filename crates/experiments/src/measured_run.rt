@@ -1,10 +1,8 @@
 //! One run: a scrambled world, and a schedule up to the sharper bound.
-ghost use Rattle.std.specs.Prelude.{◌≡◌, ◌≤◌, IfOk};
-ghost use Rattle.rand_pcg.specs.Lcg.{Lcg};
-ghost use Rattle.topology.specs.Eccentricity.{sharp_of};
+ghost use Rattle.std.specs.Prelude.{◌≡◌, IfOk};
 ghost use Rattle.run_model.specs.Run.{run};
 ghost use Rattle.configuration.specs.ConfigurationView.{world_of};
-ghost use Rattle.experiments.specs.Shown.{scrambled, IsShown};
+ghost use Rattle.experiments.specs.Shown.{scrambled, seeded, IsRunOf};
 ghost use Rattle.experiments.specs.Watched.{GoesOnUnharmed};
 
 use crate::watch::Watch;
@@ -61,11 +59,9 @@ pub fn measure_run<A: Allocator + Copy>(
     scheduler: Scheduler,
     seed: u64,
 ) -> Result<Recovery, AllocError>
-    ensures seed { IfOk result (λ r. r.seed ≡ seed) }
-    // What is shown is shown by a run without damage, from a world that is scrambled.
-    ensures shown { IfOk result (λ r. (g : Lcg) × IsShown (scrambled net.now g) r) }
-    // No run serves later than the theorem says.
-    ensures within { IfOk result (λ r. r.sweeps ≤ sharp_of net.now) }
+    // What is shown is shown by a run without damage from the world that the seed scrambles, and no
+    // run serves later than the theorem says.
+    ensures { IfOk result (IsRunOf net.now seed) }
 {
     topology::laws::limits();
     run_model::laws::runs();
@@ -90,7 +86,7 @@ fn scrambled_world<A: Allocator + Copy>(
     net: &Net<A>,
     seed: u64,
 ) -> Result<World<A>, AllocError>
-    ensures { IfOk result (λ world. (g : Lcg) × (world_of world ≡ scrambled net.now g)) }
+    ensures { IfOk result (λ world. world_of world ≡ scrambled net.now (seeded seed)) }
 {
     let mut world = World::new(alloc, net)?;
     let mut generator = Lcg64Xsh32::seed_from_u64(seed);

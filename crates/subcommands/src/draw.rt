@@ -5,12 +5,14 @@ ghost use Rattle.std.specs.Process.{exit_status};
 use crate::fault::Fault;
 use crate::network_file::read_network;
 use crate::streams::ReadSource;
-use run_picture::{Window, draw, record, spelled};
+use run_picture::{Recording, Window, draw, record, spelled};
+use std::alloc::{AllocError, Global};
 use std::fs;
-use std::io::{Input, Read, Write, writer};
+use std::io::{Input, Write, writer};
 use std::process::ExitCode;
 use std::rt::Files;
 use topology::Net;
+use world::streams::Source;
 
 /// The most columns of a picture.
 pub const MOST_COLUMNS: u16 = 1200;
@@ -48,27 +50,41 @@ pub fn run<R: Files + Input + Print + AllocGlobal>(
 ) -> Result<ExitCode, Fault> {
     let net = read_network(rt, network)?;
     if events == STANDARD_INPUT {
-        print_picture(rt, &net, rt.reader(), wanted)
+        let mut source = ReadSource::new(rt.reader());
+        write_picture(rt.alloc(), &net, &mut source, &mut writer(rt), wanted)
     } else {
         let file = fs::open(rt, events).map_err(|_| Fault::EventsUnreadable)?;
-        print_picture(rt, &net, file, wanted)
+        let mut source = ReadSource::new(file);
+        write_picture(rt.alloc(), &net, &mut source, &mut writer(rt), wanted)
     }
 }
 
-/// Prints the picture of what the events that a reader gives lead to.
-fn print_picture<R: Print + AllocGlobal, E: Read + Drop>(
-    rt: &R,
+/// Writes the picture of what the events that a source gives lead to.
+fn write_picture<S: Source, W: Write>(
+    alloc: Global,
     net: &Net,
-    events: E,
+    source: &mut S,
+    output: &mut W,
     wanted: Wanted,
 ) -> Result<ExitCode, Fault> {
-    let mut source = ReadSource::new(events);
     let columns = usize::from(wanted.columns.max(1));
-    let recording = record(rt.alloc(), net, &mut source, columns, wanted.window)?;
-    let drawing = draw(rt.alloc(), net, &recording).map_err(|_| Fault::Memory)?;
-    let text = spelled(rt.alloc(), &drawing).map_err(|_| Fault::Memory)?;
-    match writer(rt).write_all(text.as_slice()) {
-        Ok(()) => Ok(status(recording.refused())),
+    let recording = record(alloc, net, source, columns, wanted.window)?;
+    match picture(alloc, net, &recording) {
+        Ok(text) => put(output, text.as_slice(), status(recording.refused())),
+        Err(_) => Err(Fault::Memory),
+    }
+}
+
+/// The picture of a recording, as a text.
+fn picture(alloc: Global, net: &Net, recording: &Recording) -> Result<Vec<u8>, AllocError> {
+    let drawing = draw(alloc, net, recording)?;
+    spelled(alloc, &drawing)
+}
+
+/// Writes a text whole, and answers this status then.
+fn put<W: Write>(output: &mut W, text: &[u8], status: ExitCode) -> Result<ExitCode, Fault> {
+    match output.write_all(text) {
+        Ok(()) => Ok(status),
         Err(_) => Err(Fault::Output),
     }
 }
@@ -83,3 +99,6 @@ fn status(refused: u64) -> ExitCode
         ExitCode::from(LINES_REFUSED)
     }
 }
+
+#[cfg(test)]
+mod tests;

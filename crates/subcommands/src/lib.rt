@@ -16,7 +16,7 @@
 //! let status = schedule::run(rt, "two-nodes.toml", Some(7), Turns::Rounds(100))?;
 //! // prints behind how many sweeps 1000 scrambled worlds served
 //! let status = measure::run(rt, "two-nodes.toml", &plan)?;
-//! let status = threads::run(rt, "two-nodes.toml", 100, None)?;         // 100 turns of each node
+//! let status = threads::run(rt, "two-nodes.toml", 100, None, false)?;  // 100 turns of each node
 //! ```
 //!
 //! The trap: what was printed before a fault stays printed; `simulate` tells the refused lines of
@@ -33,6 +33,7 @@ pub mod measure;
 mod network_file;
 mod number;
 mod path_fault;
+mod progress;
 pub mod schedule;
 pub mod scramble;
 pub mod simulate;

@@ -1,12 +1,16 @@
 //! `measure FILE`: behind how many sweeps scrambled worlds served.
-ghost use Rattle.std.specs.Prelude.{◌≡◌, ◌++◌, OnOk, IfOk, string_bytes, if◌then◌else◌};
+ghost use Rattle.std.specs.Prelude.{◌≡◌, ◌↔◌, ◌+◌, ◌++◌, OnOk, IfOk, IfErr, IsOk};
+ghost use Rattle.std.specs.Prelude.{string_bytes, if◌then◌else◌};
 ghost use Rattle.std.specs.Process.{exit_status};
 ghost use Rattle.subcommands.specs.Measured.{has_served, run_line, served_sweeps, summary_line};
 ghost use Rattle.subcommands.specs.Measured.{shown_line, run_lines, totals, IsMeasured};
+ghost use Rattle.subcommands.specs.declared.fault.Fault.TheVariants.{Output};
+ghost use Rattle.experiments.specs.Shown.{IsRunOf};
 
 use crate::bound::push_number;
 use crate::fault::Fault;
 use crate::network_file::read_network;
+use crate::progress::Progress;
 use experiments::{Recovery, Scheduler, Summary, measure_run, summary_of};
 use rayon::prelude::*;
 use std::alloc::{AllocError, Global};
@@ -14,6 +18,7 @@ use std::fmt::Write;
 use std::process::ExitCode;
 use std::rt::Files;
 use std::thread::Threads;
+use std::time::Clock;
 use topology::Net;
 
 /// What is measured.
@@ -27,6 +32,8 @@ pub struct Plan {
     pub scheduler: Scheduler,
     /// Whether each run has a line.
     pub table: bool,
+    /// Whether it is told on standard error how many runs are done.
+    pub progress: bool,
 }
 
 /// Prints behind how many sweeps the runs served.
@@ -34,7 +41,7 @@ pub struct Plan {
 /// # Errors
 /// Where no network is read of the file, memory runs out, or standard output does not take the
 /// text: the first of these that is met.
-pub fn run<R: Files + Print + AllocGlobal + Threads + Sync>(
+pub fn run<R: Files + Print + Eprint + Clock + AllocGlobal + Threads + Sync>(
     rt: &R,
     network: &str,
     plan: Plan,
@@ -44,36 +51,55 @@ pub fn run<R: Files + Print + AllocGlobal + Threads + Sync>(
     let text = measured_text(rt.alloc(), &net, runs.as_slice(), plan.table).map_err(
         |_| Fault::Memory,
     )?;
-    rt.print(text.as_str()).map_err(|_| Fault::Output)?;
     let bound = net.sharp_bound();
-    Ok(status(runs.iter().all(|run| has_served(run, bound))))
+    let all_served = runs.iter().all(|run| has_served(run, bound));
+    ending(rt.print(text.as_str()), all_served)
 }
 
-/// The status of runs that were all made.
-fn status(all_served: bool) -> ExitCode
-    ensures { exit_status result ≡ (if all_served then 0 else 1) }
+/// How the command ends where all runs were made, by what printing their text answered.
+fn ending<E: Drop>(printed: Result<(), E>, all_served: bool) -> Result<ExitCode, Fault>
+    ensures printed { IsOk printed ↔ IsOk result }
+    ensures ok { IfOk result (λ status. exit_status status ≡ (if all_served then 0 else 1)) }
+    ensures err { IfErr result (λ fault. fault ≡ Output) }
 {
-    if all_served {
-        ExitCode::SUCCESS
-    } else {
-        ExitCode::FAILURE
+    match printed {
+        Ok(()) if all_served => Ok(ExitCode::SUCCESS),
+        Ok(()) => Ok(ExitCode::FAILURE),
+        Err(_) => Err(Fault::Output),
     }
 }
 
 /// Makes the runs, over as many threads as there are processors.
-fn measured<R: Threads + Sync>(
+fn measured<R: Eprint + Clock + Threads + Sync>(
     rt: &R,
     alloc: Global,
     net: &Net,
     plan: Plan,
 ) -> Result<Vec<Recovery>, AllocError> {
+    let progress = if plan.progress {
+        Progress::begin(rt, "runs", plan.runs)
+    } else {
+        None
+    };
     let answers: Vec<Result<Recovery, AllocError>> = (0..plan.runs)
         .into_par_iter()
-        .map(|i: u32| -> Result<Recovery, AllocError> {
-            let seed = u64::from(plan.seed) + u64::from(i);
-            measure_run(alloc, net, plan.scheduler, seed)
-        })
+        .map(
+            // Run i is that of its own seed, shown from the world which that seed scrambles.
+            |i: u32| -> Result<Recovery, AllocError>
+                ensures { IfOk result (IsRunOf net.entry.now (plan.seed + i)) }
+            {
+                let seed = u64::from(plan.seed) + u64::from(i);
+                let run = measure_run(alloc, net, plan.scheduler, seed);
+                if let Some(progress) = &progress {
+                    progress.advance(rt);
+                }
+                run
+            },
+        )
         .collect(rt, alloc)?;
+    if let Some(progress) = &progress {
+        progress.end(rt);
+    }
     let mut runs = Vec::new(alloc);
     for answer in answers {
         runs.push(answer?)?;
@@ -192,3 +218,6 @@ fn push_summary(text: &mut String, summary: Option<Summary>) -> Result<(), Alloc
         None => text.push_str("sweeps least none median none most none\n"),
     }
 }
+
+#[cfg(test)]
+mod tests;

@@ -1,52 +1,84 @@
 //! `threads FILE TURNS`: each node of a network on a thread of its own, and the state that this
 //! leads to.
-ghost use Rattle.std.specs.Prelude.{◌≡◌, ◌++◌, IfOk, IfErr, OnOk, IsOk, ◌↔◌, string_bytes};
-ghost use Rattle.std.specs.Process.{exit_status};
-ghost use Rattle.std.specs.List.{flat_map};
+ghost use Rattle.std.specs.Prelude.{◌≡◌, [], IfOk, IfErr, OnOk};
+ghost use Rattle.std.specs.Io.Buffered.{writer_buffer, writer_contents};
+ghost use Rattle.byte_streams.specs.Streams.{CountsFailures, Rose};
 ghost use Rattle.run_model.specs.Start.{default_world};
 ghost use Rattle.configuration.specs.ConfigurationView.{world_of};
-ghost use Rattle.subcommands.specs.Threads.{event_line, AllRan};
-ghost use Rattle.subcommands.specs.declared.fault.Fault.TheVariants.{Memory};
+ghost use Rattle.subcommands.specs.EventText.{GrowsByText};
+ghost use Rattle.subcommands.specs.Threads.{AllRan};
+ghost use Rattle.subcommands.specs.declared.fault.Fault.TheVariants.{EventsUnwritable, Memory};
 
+mod progress;
+
+use crate::event_text::EventText;
 use crate::fault::Fault;
 use crate::network_file::read_network;
 use crate::streams::{Flush, WriteSink};
-use std::alloc::{AllocError, Global};
-use std::fmt::Write;
+use progress::Watch;
+use schedules::EventSink;
+use std::alloc::Global;
 use std::fs;
-use std::io::{BufWriter, writer};
+use std::io::{BufWriter, Write, writer};
 use std::process::ExitCode;
 use std::rt::Files;
 use std::sync::Wait;
 use std::thread::Threads;
-use thread_net::{Open, RunFault, Woven, run_threads};
+use std::time::Clock;
+use thread_net::{Gate, RunFault, Woven, run_threads};
 use topology::Net;
 use world::report::judge;
 use world::simulation::state_text;
+use world::streams::Failed;
 use world::{Event, World};
 
 /// Lets each node of the network of a file do its turns on a thread of its own, from nodes as they
 /// start and empty links on, and prints the state that they lead to, with the sweeps of what they
-/// did. What they did is written to the file `events`, where one is named, as an events text.
+/// did. What they did is written to the file `events`, where one is named, as an events text. Where
+/// `tells` says so, a line of standard error tells meanwhile how far they are.
 ///
 /// # Errors
 /// Where no network is read of the file, memory runs out, a thread is refused, the events cannot be
 /// written, or standard output does not take the text: the first of these that is met.
-pub fn run<R: Files + Print + Threads + Wait + Sync + AllocGlobal>(
+pub fn run<R: Files + Clock + Print + Eprint + Threads + Wait + Sync + AllocGlobal>(
     rt: &R,
     network: &str,
     turns: u32,
     events: Option<&str>,
+    tells: bool,
 ) -> Result<ExitCode, Fault> {
     let net = read_network(rt, network)?;
-    let woven = run_nodes(rt, rt.alloc(), &net, turns)?;
     let start = new_world(rt.alloc(), &net)?;
+    let woven = run_watched(rt, &net, turns, tells)?;
     let report = judge(start, woven.events.as_slice());
+    show(rt, &woven, report.sweeps, events)
+}
+
+/// What the nodes of a network do on threads, with a line that tells how far they are if wanted.
+fn run_watched<R: Clock + Eprint + Threads + Wait + Sync + AllocGlobal>(
+    rt: &R,
+    net: &Net,
+    turns: u32,
+    tells: bool,
+) -> Result<Woven, Fault> {
+    let watch = Watch::start(rt, turns, tells);
+    let ran = run_nodes(rt, rt.alloc(), net, turns, &watch);
+    watch.end();
+    ran
+}
+
+/// Writes what the nodes did to the file `events`, where one is named, and prints the state that it
+/// led to, with its sweeps.
+fn show<R: Files + Print + AllocGlobal>(
+    rt: &R,
+    woven: &Woven,
+    sweeps: u64,
+    events: Option<&str>,
+) -> Result<ExitCode, Fault> {
     if let Some(path) = events {
-        let text = events_text(rt.alloc(), woven.events.as_slice()).map_err(|_| Fault::Memory)?;
-        fs::write(rt, path, text.as_bytes()).map_err(|_| Fault::EventsUnwritable)?;
+        write_file(rt, path, woven.events.as_slice())?;
     }
-    print_state(rt, &woven.world, report.sweeps)?;
+    print_state(rt, &woven.world, sweeps)?;
     Ok(ExitCode::SUCCESS)
 }
 
@@ -61,17 +93,18 @@ fn new_world(alloc: Global, net: &Net) -> Result<World, Fault>
     }
 }
 
-/// What the nodes of a network do on threads, without a gate, from that world on.
-fn run_nodes<R: Threads + Wait + Sync>(
+/// What the nodes of a network do on threads, from that world on.
+fn run_nodes<R: Threads + Wait + Sync, G: Gate>(
     rt: &R,
     alloc: Global,
     net: &Net,
     turns: u32,
+    gate: &G,
 ) -> Result<Woven, Fault>
     ensures { IfOk result (AllRan turns net.now) }
 {
     let start = new_world(alloc, net)?;
-    match run_threads(rt, alloc, start, turns, &Open) {
+    match run_threads(rt, alloc, start, turns, gate) {
         Ok(woven) => Ok(woven),
         Err(fault) => Err(refused(&fault)),
     }
@@ -85,27 +118,47 @@ fn refused(fault: &RunFault) -> Fault {
     }
 }
 
-/// The events text of what nodes do by themselves: a line each.
-fn events_text(alloc: Global, events: &[Event]) -> Result<String, AllocError>
-    ensures { IfOk result (λ text. string_bytes text ≡ flat_map event_line events.now) }
-{
-    let mut text = String::new(alloc);
-    for event in events {
-        push_event(&mut text, event)?;
-    }
-    Ok(text)
+/// Writes the events text of what nodes did to a file, line by line.
+///
+/// What is unproved: that the text stands in the file, which tells nothing of its bytes.
+fn write_file<R: Files + AllocGlobal>(rt: &R, path: &str, events: &[Event]) -> Result<(), Fault> {
+    let file = fs::create(rt, path).map_err(|_| Fault::EventsUnwritable)?;
+    let Ok(writer) = BufWriter::new(rt.alloc(), file) else {
+        return Err(Fault::Memory);
+    };
+    write_events(events, &mut EventText::new(writer))
 }
 
-/// Adds the line of a tick, a send or a take; of any other event there is none.
-fn push_event(text: &mut String, event: &Event) -> Result<(), AllocError>
-    ensures { OnOk result (string_bytes text.new ≡ string_bytes text.old ++ event_line event.now) }
+/// Writes the line of each event, and sees to it that all of them are written.
+fn write_events<W: Write + Drop>(events: &[Event], text: &mut EventText<W>) -> Result<(), Fault>
+    // Where the writer tells its bytes, they are the text.
+    ensures text { OnOk result (GrowsByText (writer_contents W.contents text.old.writer) events.now
+        (writer_contents W.contents text.new.writer)) }
+    ensures written { OnOk result (writer_buffer text.new.writer ≡ []) }
+    // A fault only where the writer failed.
+    ensures cause { IfErr result (λ fault. (fault ≡ EventsUnwritable)
+        × Rose text.old.failures text.new.failures) }
 {
-    match *event {
-        Event::Tick { node } => writeln!(text, "tick {node}"),
-        Event::Send { from, to } => writeln!(text, "send {from} {to}"),
-        Event::Take { from, to } => writeln!(text, "take {from} {to}"),
-        _ => Ok(()),
+    let given = give_events(events, text);
+    let flushed = text.flush();
+    if given.is_err() {
+        return Err(Fault::EventsUnwritable);
     }
+    match flushed {
+        Ok(()) => Ok(()),
+        Err(_) => Err(Fault::EventsUnwritable),
+    }
+}
+
+/// Gives events to a sink, one after the other.
+fn give_events<S: EventSink>(events: &[Event], sink: &mut S) -> Result<(), Failed>
+    ensures taken { OnOk result (S.takes sink.old events.now sink.new) }
+    ensures cause { CountsFailures result (S.failures sink.old) (S.failures sink.new) }
+{
+    for event in events {
+        sink.take(event)?;
+    }
+    Ok(())
 }
 
 /// Prints the text that shows a world. Of standard output nothing is known but its failures.

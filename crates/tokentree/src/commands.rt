@@ -3,13 +3,16 @@ ghost use Rattle.std.specs.Prelude.{◌≡◌, ◌≢◌, ◌≤◌, if◌then�
 ghost use Rattle.std.specs.Process.{exit_status};
 ghost use Rattle.clap.specs.Values.{kind_of};
 ghost use Rattle.clap.specs.declared.error.kind.ErrorKind.TheVariants.{DisplayHelp, DisplayVersion};
+ghost use Rattle.clap.specs.declared.error.kind.ErrorKind.TheVariants.{OutOfMemory};
 
 use crate::draw_words::{draw_command, run_draw};
 use crate::experiment_words::{measure_command, run_measure, run_schedule, schedule_command};
 use crate::fault_line::FaultLine;
 use crate::node_commands::{node_command, run_node, run_up, up_command};
 use crate::threads_words::{run_threads, threads_command};
+use crate::words::{Refusal, word};
 use crate::{damage, help, locking};
+use clap::error::ErrorKind;
 use clap::{Arg, ArgAction, ArgMatches, Command};
 use std::alloc::{AllocError, Global};
 use std::convert::AsStr;
@@ -32,35 +35,19 @@ pub const NETWORK_FILE: &str = "The network file (TOML)";
 /// The version that is told.
 const VERSION: &str = "0.1.0";
 
-/// Does what the program's own words say.
-pub fn run<R>(rt: &R) -> ExitCode
-where
-    R: Files<File = File>
-        + Net
-        + Clock
-        + Env
-        + Input
-        + Print
-        + Eprint
-        + Processes
-        + Threads
-        + Wait
-        + AllocGlobal
-        + Sync,
-{
+/// The program's own words, or the status of a program that cannot read them.
+pub fn own_words<R: Env + Eprint + AllocGlobal>(rt: &R) -> Result<Vec<String>, ExitCode> {
     let Ok(arguments) = std::env::args(rt) else {
         let _ = eprintln!(rt; "tokentree: arguments Unreadable");
-        return ExitCode::from(LINE_REFUSED);
+        return Err(ExitCode::from(LINE_REFUSED));
     };
     let collected: Result<Vec<String>, AllocError> = arguments.collect(rt.alloc());
-    match collected {
-        Ok(words) => run_words(rt, words.as_slice()),
-        Err(_) => fails(rt, Fault::Memory),
-    }
+    collected.map_err(|_| fails(rt, Fault::Memory))
 }
 
-/// Does what the words say, of which the first is the program's name.
-pub fn run_words<R, S: AsStr>(rt: &R, words: &[S]) -> ExitCode
+/// Does what the words say, of which the first is the program's name, and says with which status it
+/// is done. Progress is told where standard error is a terminal.
+pub fn run_words<R, S: AsStr>(rt: &R, words: &[S], on_terminal: bool) -> ExitCode
 where
     R: Files<File = File>
         + Net
@@ -75,76 +62,79 @@ where
         + AllocGlobal
         + Sync,
 {
-    let Ok(command) = command(rt.alloc()) else {
-        return fails(rt, Fault::Memory);
-    };
-    let matches = match command.try_get_matches_from(words) {
+    let matches = match matches_of(rt, words) {
         Ok(matches) => matches,
-        Err(error) => return shows(rt, &error),
+        Err(status) => return status,
     };
-    match run_command(rt, &matches) {
-        Ok(status) => status,
-        Err(fault) => fails(rt, fault),
-    }
-}
-
-/// Does the command that was given, and says with which status it is done.
-fn run_command<R>(rt: &R, matches: &ArgMatches) -> Result<ExitCode, Fault>
-where
-    R: Files<File = File>
-        + Net
-        + Clock
-        + Env
-        + Input
-        + Print
-        + Eprint
-        + Processes
-        + Threads
-        + Wait
-        + AllocGlobal
-        + Sync,
-{
-    match matches.subcommand() {
-        Some(("bound", given)) => match given.get_str("FILE") {
-            Some(network) => bound::run(rt, network, given.get_flag("sharp")),
-            None => Ok(ExitCode::from(LINE_REFUSED)),
-        },
-        Some(("simulate", given)) => match (given.get_str("FILE"), given.get_str("EVENTS")) {
-            (Some(network), Some(events)) => simulate::run(rt, network, events),
-            _ => Ok(ExitCode::from(LINE_REFUSED)),
-        },
-        Some(("lock", given)) => Ok(locking::lock(rt, given)),
-        Some(("status", given)) => Ok(locking::status(rt, given)),
-        Some(("scramble", given)) => Ok(damage::scramble(rt, given)),
-        Some(("cut", given)) => Ok(damage::cut(rt, given)),
+    let done = match matches.subcommand() {
+        Some(("bound", given)) => run_bound(rt, given),
+        Some(("simulate", given)) => run_simulate(rt, given),
+        Some(("lock", given)) => locking::lock(rt, given),
+        Some(("status", given)) => locking::status(rt, given),
+        Some(("scramble", given)) => damage::scramble(rt, given),
+        Some(("cut", given)) => damage::cut(rt, given),
         Some(("junk", given)) => damage::junk(rt, given),
-        Some(("node", given)) => Ok(run_node(rt, given)),
-        Some(("up", given)) => Ok(run_up(rt, given)),
-        Some(("schedule", given)) => match run_schedule(rt, given) {
-            Some(done) => done,
-            None => Ok(ExitCode::from(LINE_REFUSED)),
-        },
-        Some(("measure", given)) => match run_measure(rt, given) {
-            Some(done) => done,
-            None => Ok(ExitCode::from(LINE_REFUSED)),
-        },
-        Some(("draw", given)) => run_draw(rt, given, ExitCode::from(LINE_REFUSED)),
-        Some(("threads", given)) => run_threads(rt, given),
-        _ => Ok(ExitCode::from(LINE_REFUSED)),
+        Some(("node", given)) => run_node(rt, given),
+        Some(("up", given)) => run_up(rt, given),
+        Some(("schedule", given)) => run_schedule(rt, given),
+        Some(("measure", given)) => run_measure(rt, given, on_terminal),
+        Some(("draw", given)) => run_draw(rt, given),
+        Some(("threads", given)) => run_threads(rt, given, on_terminal),
+        _ => Err(Refusal::Line),
+    };
+    match done {
+        Ok(status) => status,
+        Err(Refusal::Line) => ExitCode::from(LINE_REFUSED),
+        Err(Refusal::Fault(fault)) => fails(rt, fault),
     }
 }
 
-/// Shows the help that was asked for, or why the command line was refused.
+/// What the words give, or the status of a line that has shown help or was refused.
+fn matches_of<'a, R: Print + Eprint + AllocGlobal, S: AsStr>(
+    rt: &R,
+    words: &'a [S],
+) -> Result<ArgMatches<'a>, ExitCode> {
+    let Ok(command) = command(rt.alloc()) else {
+        return Err(fails(rt, Fault::Memory));
+    };
+    match command.try_get_matches_from(words) {
+        Ok(matches) => Ok(matches),
+        Err(error) => Err(shows(rt, &error)),
+    }
+}
+
+/// Does `bound`, and says with which status it is done.
+fn run_bound<R: Files + Print + AllocGlobal>(
+    rt: &R,
+    given: &ArgMatches,
+) -> Result<ExitCode, Refusal> {
+    Ok(bound::run(rt, word(given, "FILE")?, given.get_flag("sharp"))?)
+}
+
+/// Does `simulate`, and says with which status it is done.
+fn run_simulate<R: Files + Input + Print + AllocGlobal>(
+    rt: &R,
+    given: &ArgMatches,
+) -> Result<ExitCode, Refusal> {
+    Ok(simulate::run(rt, word(given, "FILE")?, word(given, "EVENTS")?)?)
+}
+
+/// Shows the help that was asked for, or why the command line was refused, or that memory ran out
+/// before it was read.
 fn shows<R: Print + Eprint>(rt: &R, error: &clap::Error) -> ExitCode
     ensures mistake { kind_of error.now ≢ DisplayHelp → kind_of error.now ≢ DisplayVersion
-        → exit_status result ≡ 2 }
+        → kind_of error.now ≢ OutOfMemory → exit_status result ≡ 2 }
+    ensures memory { kind_of error.now ≡ OutOfMemory → exit_status result ≡ 1 }
     ensures help { kind_of error.now ≡ DisplayHelp → exit_status result ≤ 1 }
 {
-    let printed = error.print(rt);
-    if error.use_stderr() {
-        return ExitCode::from(LINE_REFUSED);
+    match error.kind() {
+        ErrorKind::OutOfMemory => fails(rt, Fault::Memory),
+        ErrorKind::DisplayHelp | ErrorKind::DisplayVersion => help_status(rt, error.print(rt)),
+        _ => {
+            let _ = error.print(rt);
+            ExitCode::from(LINE_REFUSED)
+        }
     }
-    help_status(rt, printed)
 }
 
 /// The status of help that was asked for, by what printing it answered: a fault is shown where it

@@ -1,72 +1,76 @@
 //! The words of the commands that do damage on purpose.
-ghost use Rattle.std.specs.Prelude.{◌≡◌, ◌≤◌, IfSome, IfOk, IfErr};
+ghost use Rattle.std.specs.Prelude.{◌≡◌, IfOk, IfErr};
 ghost use Rattle.std.specs.Process.{exit_status};
 
-use crate::commands::{LINE_REFUSED, NETWORK_FILE, file};
+use crate::commands::{NETWORK_FILE, file};
 use crate::damage_help;
 use crate::path_fault_line::PathFaultLine;
+use crate::words::{Number, Refusal, given_number, word};
 use clap::{ArgMatches, Command};
 use std::alloc::{AllocError, Global};
 use std::process::ExitCode;
 use std::rt::Files;
-use subcommands::{Fault, PathFault, cut, decimal_number, junk, scramble};
+use subcommands::{PathFault, cut, junk, scramble};
 
-/// The greatest id that is taken; which ids there are the network says.
-const MOST_ID: u32 = 65_535;
+/// Which id is taken; which ids there are the network says.
+const ID: Number<'static> = Number {
+    id: "ID",
+    name: "ID",
+    least: 0,
+    most: 65_535,
+};
 
-/// The greatest length and number of lines that is taken.
-const MOST: u32 = 1_000_000;
+/// Which seed is taken.
+const SEED: Number<'static> = Number {
+    id: "SEED",
+    name: "SEED",
+    least: 0,
+    most: 4_294_967_295,
+};
+
+/// To how many bytes a file is cut.
+const LENGTH: Number<'static> = Number {
+    id: "LENGTH",
+    name: "LENGTH",
+    least: 0,
+    most: 1_000_000,
+};
+
+/// How many lines of junk are printed.
+const LINES: Number<'static> = Number {
+    id: "LINES",
+    name: "LINES",
+    least: 0,
+    most: 1_000_000,
+};
 
 /// Does `scramble`, and says with which status it is done.
-pub fn scramble<R: Files + Eprint + AllocGlobal>(rt: &R, given: &ArgMatches) -> ExitCode {
-    let (Some(network), Some(path)) = (given.get_str("FILE"), given.get_str("PATH")) else {
-        return ExitCode::from(LINE_REFUSED);
-    };
-    let Some(id) = number(rt, given, "ID", MOST_ID) else {
-        return ExitCode::from(LINE_REFUSED);
-    };
-    let Some(seed) = number(rt, given, "SEED", u32::MAX) else {
-        return ExitCode::from(LINE_REFUSED);
-    };
-    status(rt, scramble::run(rt, network, id as u16, path, seed))
+pub fn scramble<R: Files + Eprint + AllocGlobal>(
+    rt: &R,
+    given: &ArgMatches,
+) -> Result<ExitCode, Refusal> {
+    let network = word(given, "FILE")?;
+    let path = word(given, "PATH")?;
+    let id = given_number(rt, given, ID)? as u16;
+    let seed = given_number(rt, given, SEED)? as u32;
+    Ok(status(rt, scramble::run(rt, network, id, path, seed)))
 }
 
 /// Does `cut`, and says with which status it is done.
-pub fn cut<R: Files + Eprint>(rt: &R, given: &ArgMatches) -> ExitCode {
-    let Some(path) = given.get_str("PATH") else {
-        return ExitCode::from(LINE_REFUSED);
-    };
-    let Some(length) = number(rt, given, "LENGTH", MOST) else {
-        return ExitCode::from(LINE_REFUSED);
-    };
-    status(rt, cut::run(rt, path, length))
+pub fn cut<R: Files + Eprint>(rt: &R, given: &ArgMatches) -> Result<ExitCode, Refusal> {
+    let path = word(given, "PATH")?;
+    let length = given_number(rt, given, LENGTH)? as u32;
+    Ok(status(rt, cut::run(rt, path, length)))
 }
 
 /// Does `junk`, and says with which status it is done.
 pub fn junk<R: Print + Eprint + AllocGlobal>(
     rt: &R,
     given: &ArgMatches,
-) -> Result<ExitCode, Fault> {
-    let Some(seed) = number(rt, given, "SEED", u32::MAX) else {
-        return Ok(ExitCode::from(LINE_REFUSED));
-    };
-    let Some(lines) = number(rt, given, "LINES", MOST) else {
-        return Ok(ExitCode::from(LINE_REFUSED));
-    };
-    junk::run(rt, seed, lines)
-}
-
-/// The number that a word of the line spells; where it is none, or too great, that is told.
-fn number<R: Eprint>(rt: &R, given: &ArgMatches, name: &str, greatest: u32) -> Option<u32>
-    ensures { IfSome result (λ number. number ≤ greatest) }
-{
-    let number = given
-        .get_str(name)
-        .and_then(|word| decimal_number(word, greatest));
-    if number.is_none() {
-        let _ = eprintln!(rt; "tokentree: {name} is no decimal number from 0 to {greatest}");
-    }
-    number
+) -> Result<ExitCode, Refusal> {
+    let seed = given_number(rt, given, SEED)? as u32;
+    let lines = given_number(rt, given, LINES)? as u32;
+    Ok(junk::run(rt, seed, lines)?)
 }
 
 /// The status of a command that changes a file; why it did not is told.

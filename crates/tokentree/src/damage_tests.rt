@@ -72,7 +72,7 @@ fn damage_ends_with_the_status(rt: HostRuntime) -> Result<(), Fail> {
     ] {
         let mut line = vec![in rt.alloc(); "tokentree"]?;
         line.extend_from_slice(words)?;
-        let status = run_words(&rt, line.as_slice());
+        let status = run_words(&rt, line.as_slice(), false);
         assert_eq!(rt; status, ExitCode::from(want), "at {words:?}");
     }
     assert_eq!(rt; fs::metadata(&rt, "one.state")?.len(), 33);

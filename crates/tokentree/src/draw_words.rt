@@ -1,13 +1,38 @@
 //! The words of `draw`.
 
-use clap::{Arg, ArgAction, ArgMatches, Command, value_parser};
+use crate::commands::{NETWORK_FILE, file};
+use crate::words::{Number, Refusal, number_if_given, word};
+use clap::{Arg, ArgAction, ArgMatches, Command};
 use run_picture::Window;
 use std::alloc::{AllocError, Global};
 use std::io::Input;
 use std::process::ExitCode;
 use std::rt::Files;
-use subcommands::Fault;
 use subcommands::draw::{MOST_COLUMNS, Wanted, run};
+
+/// How many columns a picture may have.
+const COLUMNS: Number<'static> = Number {
+    id: "columns",
+    name: "--columns",
+    least: 1,
+    most: 1200,
+};
+
+/// Where a picture may begin, in sweeps.
+const FROM: Number<'static> = Number {
+    id: "from",
+    name: "--from",
+    least: 0,
+    most: u64::MAX,
+};
+
+/// Where a picture may end, in sweeps.
+const TO: Number<'static> = Number {
+    id: "to",
+    name: "--to",
+    least: 0,
+    most: u64::MAX,
+};
 
 /// What follows the help of `draw`.
 const HELP: &str = "\
@@ -32,46 +57,38 @@ pub fn draw_command<'a>(alloc: Global) -> Result<Command<'a>, AllocError> {
     Command::new(alloc, "draw")
         .about("Draws a picture of a run: when which nodes were wrong, privileged or lending")
         .after_help(HELP)
-        .arg(file(alloc, "FILE", "The network file (TOML)"))?
+        .arg(file(alloc, "FILE", NETWORK_FILE))?
         .arg(file(alloc, "EVENTS", "The events text, or - for standard input"))?
-        .arg(option(alloc, "columns", "N", "The most columns, 1 to 1200").value_parser(
-            value_parser!(u16).range(1..=1200),
-        ))?
+        .arg(option(alloc, "columns", "N", "The most columns, 1 to 1200"))?
         .arg(option(
             alloc,
             "from",
             "SWEEP",
             "Begin where as many sweeps have ended",
-        )
-        .value_parser(value_parser!(u64)))?
-        .arg(option(alloc, "to", "SWEEP", "End where more sweeps have ended").value_parser(
-            value_parser!(u64),
-        ))
+        ))?
+        .arg(option(alloc, "to", "SWEEP", "End where more sweeps have ended"))
 }
 
 /// Draws, as the words say.
-pub fn run_draw<R: Files + Input + Print + AllocGlobal>(
+pub fn run_draw<R: Files + Input + Print + Eprint + AllocGlobal>(
     rt: &R,
     given: &ArgMatches,
-    refused: ExitCode,
-) -> Result<ExitCode, Fault> {
-    let (Some(network), Some(events)) = (given.get_str("FILE"), given.get_str("EVENTS")) else {
-        return Ok(refused);
-    };
+) -> Result<ExitCode, Refusal> {
+    let network = word(given, "FILE")?;
+    let events = word(given, "EVENTS")?;
     let window = Window {
-        from: given.get_one::<u64>("from").unwrap_or(Window::ALL.from),
-        to: given.get_one::<u64>("to").unwrap_or(Window::ALL.to),
+        from: number_if_given(rt, given, FROM)?.unwrap_or(Window::ALL.from),
+        to: number_if_given(rt, given, TO)?.unwrap_or(Window::ALL.to),
     };
-    let columns = given.get_one::<u16>("columns").unwrap_or(MOST_COLUMNS);
-    run(rt, network, events, Wanted { columns, window })
-}
-
-/// A file, as an argument that must be given.
-fn file<'a>(alloc: Global, name: &'a str, help: &'a str) -> Arg<'a> {
-    Arg::new(alloc, name)
-        .required(true)
-        .action(ArgAction::Set)
-        .help(help)
+    if window.to < window.from {
+        let _ = eprintln!(rt; "tokentree: --from is greater than --to");
+        return Err(Refusal::Line);
+    }
+    let columns = match number_if_given(rt, given, COLUMNS)? {
+        None => MOST_COLUMNS,
+        Some(columns) => columns as u16,
+    };
+    Ok(run(rt, network, events, Wanted { columns, window })?)
 }
 
 /// A number, as an option.

@@ -1,5 +1,7 @@
 //! The words of `schedule` and `measure`.
+use crate::commands::{NETWORK_FILE, file};
 use crate::help;
+use crate::words::{Number, Refusal, given_number, number_if_given, word};
 use clap::{Arg, ArgAction, ArgGroup, ArgMatches, Command};
 use experiments::Scheduler;
 use schedules::Chances;
@@ -7,56 +9,107 @@ use std::alloc::{AllocError, Global};
 use std::process::ExitCode;
 use std::rt::Files;
 use std::thread::Threads;
+use std::time::Clock;
 use subcommands::schedule::Turns;
-use subcommands::{Fault, measure, schedule};
+use subcommands::{measure, schedule};
 
-/// The most runs that `measure` makes.
-const MOST_RUNS: u32 = 1_000_000;
+/// Which seeds a scramble takes.
+const SCRAMBLE: Number<'static> = Number {
+    id: "scramble",
+    name: "--scramble",
+    least: 0,
+    most: 4_294_967_295,
+};
 
-/// Does what the words of `schedule` say; none where a word is missing, which the command line
-/// rules out.
-pub fn run_schedule<R: Files + Print + AllocGlobal>(
+/// How many rounds a schedule has.
+const ROUNDS: Number<'static> = Number {
+    id: "rounds",
+    name: "--rounds",
+    least: 0,
+    most: 4_294_967_295,
+};
+
+/// How many random steps a schedule has.
+const RANDOM: Number<'static> = Number {
+    id: "random",
+    name: "--random",
+    least: 0,
+    most: 4_294_967_295,
+};
+
+/// Which seeds there are, of random steps and of a first run.
+const SEED: Number<'static> = Number {
+    id: "seed",
+    name: "--seed",
+    least: 0,
+    most: 4_294_967_295,
+};
+
+/// How many of a hundred random takes are losses.
+const LOSS: Number<'static> = Number {
+    id: "loss",
+    name: "--loss",
+    least: 0,
+    most: 100,
+};
+
+/// How many runs are measured.
+const RUNS: Number<'static> = Number {
+    id: "runs",
+    name: "--runs",
+    least: 1,
+    most: 1_000_000,
+};
+
+/// Does what the words of `schedule` say.
+pub fn run_schedule<R: Files + Print + Eprint + AllocGlobal>(
     rt: &R,
     given: &ArgMatches,
-) -> Option<Result<ExitCode, Fault>> {
-    let network = given.get_str("FILE")?;
-    let scramble = given.get_one::<u32>("scramble");
-    Some(schedule::run(rt, network, scramble, turns(given)?))
+) -> Result<ExitCode, Refusal> {
+    let network = word(given, "FILE")?;
+    let scramble = number_if_given(rt, given, SCRAMBLE)?;
+    let turns = turns(rt, given)?;
+    Ok(schedule::run(rt, network, scramble.map(|seed| seed as u32), turns)?)
 }
 
 /// The turns that the words of `schedule` say.
-fn turns(given: &ArgMatches) -> Option<Turns> {
-    if let Some(count) = given.get_one::<u32>("rounds") {
-        return Some(Turns::Rounds(count));
+fn turns<R: Eprint>(rt: &R, given: &ArgMatches) -> Result<Turns, Refusal> {
+    if let Some(count) = number_if_given(rt, given, ROUNDS)? {
+        return Ok(Turns::Rounds(count as u32));
     }
-    Some(Turns::Random {
-        steps: given.get_one::<u32>("random")?,
-        seed: given.get_one::<u32>("seed")?,
+    let loss = match number_if_given(rt, given, LOSS)? {
+        None => 0,
+        Some(loss) => loss as u16,
+    };
+    Ok(Turns::Random {
+        steps: given_number(rt, given, RANDOM)? as u32,
+        seed: given_number(rt, given, SEED)? as u32,
         chances: Chances {
-            loss: given.get_one::<u16>("loss").unwrap_or(0),
+            loss,
             clients: given.get_flag("clients"),
         },
     })
 }
 
-/// Does what the words of `measure` say; none where a word is missing, which the command line rules
-/// out.
-pub fn run_measure<R: Files + Print + AllocGlobal + Threads + Sync>(
+/// Does what the words of `measure` say, and tells its progress where that is wanted.
+pub fn run_measure<R: Files + Print + Eprint + Clock + AllocGlobal + Threads + Sync>(
     rt: &R,
     given: &ArgMatches,
-) -> Option<Result<ExitCode, Fault>> {
-    let network = given.get_str("FILE")?;
+    progress: bool,
+) -> Result<ExitCode, Refusal> {
+    let network = word(given, "FILE")?;
     let plan = measure::Plan {
-        runs: given.get_one::<u32>("runs")?,
-        seed: given.get_one::<u32>("seed")?,
+        runs: given_number(rt, given, RUNS)? as u32,
+        seed: given_number(rt, given, SEED)? as u32,
         scheduler: if given.get_flag("random") {
             Scheduler::Random
         } else {
             Scheduler::Rounds
         },
         table: given.get_flag("table"),
+        progress,
     };
-    Some(measure::run(rt, network, plan))
+    Ok(measure::run(rt, network, plan)?)
 }
 
 /// What `schedule` takes.
@@ -64,13 +117,13 @@ pub fn schedule_command<'a>(alloc: Global) -> Result<Command<'a>, AllocError> {
     Command::new(alloc, "schedule")
         .about("Prints a schedule for a network as an events text, which simulate reads")
         .after_help(help::SCHEDULE)
-        .arg(network_file(alloc))?
-        .arg(number(alloc, "scramble", "SEED", SCRAMBLE))?
-        .arg(number(alloc, "rounds", "N", ROUNDS))?
-        .arg(number(alloc, "random", "EVENTS", RANDOM).requires_arg("seed")?)?
-        .arg(of_random(number(alloc, "seed", "SEED", SEED))?)?
-        .arg(of_random(loss(alloc))?)?
-        .arg(of_random(flag(alloc, "clients", CLIENTS))?)?
+        .arg(file(alloc, "FILE", NETWORK_FILE))?
+        .arg(option(alloc, SCRAMBLE, "SEED", SCRAMBLE_HELP))?
+        .arg(option(alloc, ROUNDS, "N", ROUNDS_HELP))?
+        .arg(option(alloc, RANDOM, "EVENTS", RANDOM_HELP).requires_arg("seed")?)?
+        .arg(of_random(option(alloc, SEED, "SEED", SEED_HELP))?)?
+        .arg(of_random(option(alloc, LOSS, "PERCENT", LOSS_HELP))?)?
+        .arg(of_random(flag(alloc, "clients", CLIENTS_HELP))?)?
         .group(rounds_or_random(alloc)?)
 }
 
@@ -90,24 +143,28 @@ fn rounds_or_random<'a>(alloc: Global) -> Result<ArgGroup<'a>, AllocError> {
 }
 
 /// The help of each option of `schedule`.
-const SCRAMBLE: &str = "Begin with harms that write every part of the world, drawn from this seed";
+const SCRAMBLE_HELP: &str =
+    "Begin with harms that write every part of the world, drawn from this seed";
 
-const ROUNDS: &str = "Rounds: each node ticks, and each link carries one item more than it holds";
+const ROUNDS_HELP: &str =
+    "Rounds: each node ticks, and each link carries one item more than it holds";
 
-const RANDOM: &str = "Steps, each drawn: a tick, a send or a take";
+const RANDOM_HELP: &str = "Steps, each drawn: a tick, a send or a take";
 
-const SEED: &str = "The seed of the random steps";
+const SEED_HELP: &str = "The seed of the random steps";
 
-const CLIENTS: &str = "Random steps of a fourth kind, too: a client asks, or leaves";
+const LOSS_HELP: &str = "Of a hundred random takes, how many are losses: 0 to 100";
+
+const CLIENTS_HELP: &str = "Random steps of a fourth kind, too: a client asks, or leaves";
 
 /// What `measure` takes.
 pub fn measure_command<'a>(alloc: Global) -> Result<Command<'a>, AllocError> {
     Command::new(alloc, "measure")
         .about("Scrambles a network again and again, and shows after how many sweeps it worked")
         .after_help(help::MEASURE)
-        .arg(network_file(alloc))?
-        .arg(runs(alloc))?
-        .arg(number(alloc, "seed", "SEED", FIRST_SEED).default_value("0"))?
+        .arg(file(alloc, "FILE", NETWORK_FILE))?
+        .arg(option(alloc, RUNS, "N", "How many runs, 1 to 1000000").default_value("1000"))?
+        .arg(option(alloc, SEED, "SEED", FIRST_SEED).default_value("0"))?
         .arg(flag(alloc, "rounds", "Run by rounds, as where nothing is said"))?
         .arg(flag(alloc, "random", "Run by steps that are drawn").conflicts_with("rounds")?)?
         .arg(flag(alloc, "table", "Show a line for each run, too"))
@@ -116,43 +173,13 @@ pub fn measure_command<'a>(alloc: Global) -> Result<Command<'a>, AllocError> {
 /// The help of the seed of `measure`.
 const FIRST_SEED: &str = "The first run's seed; each other run has the next one";
 
-/// The network file.
-fn network_file<'a>(alloc: Global) -> Arg<'a> {
-    Arg::new(alloc, "FILE")
-        .required(true)
-        .action(ArgAction::Set)
-        .help("The network file (TOML)")
-}
-
-/// An option with a number, 0 to 4294967295.
-fn number<'a>(alloc: Global, name: &'a str, value: &'a str, help: &'a str) -> Arg<'a> {
-    Arg::new(alloc, name)
-        .long(name)
+/// An option with a number.
+fn option<'a>(alloc: Global, number: Number<'a>, value: &'a str, help: &'a str) -> Arg<'a> {
+    Arg::new(alloc, number.id)
+        .long(number.id)
         .value_name(value)
         .action(ArgAction::Set)
-        .value_parser(clap::value_parser!(u32))
         .help(help)
-}
-
-/// The option that says how many of a hundred items are lost.
-fn loss<'a>(alloc: Global) -> Arg<'a> {
-    Arg::new(alloc, "loss")
-        .long("loss")
-        .value_name("PERCENT")
-        .action(ArgAction::Set)
-        .value_parser(clap::value_parser!(u16).range(0..=100))
-        .help("Of a hundred random takes, how many are losses: 0 to 100")
-}
-
-/// The option that says how many runs there are.
-fn runs<'a>(alloc: Global) -> Arg<'a> {
-    Arg::new(alloc, "runs")
-        .long("runs")
-        .value_name("N")
-        .action(ArgAction::Set)
-        .value_parser(clap::value_parser!(u32).range(1..=i64::from(MOST_RUNS)))
-        .default_value("1000")
-        .help("How many runs, 1 to 1000000")
 }
 
 /// A flag.

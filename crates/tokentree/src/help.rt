@@ -122,7 +122,8 @@ It ends with status 0 within 256 turns, at most half a second, once a file DIR/s
 
 As often it saves its state and reads FILE again: edges may join and go while it runs; any other change means nothing.
 
-The network's capacity is a premise of what is proved. A socket was seen to hold 281 frames; give it 512 or more.
+The network's capacity is a premise of what is proved. On a link of two processes 36 frames may be under way; give it 64
+or more.
 
 --hold is how long a node keeps news to itself where nobody wants the lock, --repeat after what time it sends a frame
 again; both in microseconds. Less of either is more work and less waiting.
@@ -141,7 +142,7 @@ Each node of the network of FILE runs as a process of its own, with its files in
 
 A node that ends, in whatever way, is started again within a second, and a line tells so. End it by the end of its
 standard input (Ctrl-D on a terminal): the nodes save their states and end, and what has not ended after five seconds
-is killed. Where `up` itself is killed the nodes end as well.
+is killed. Where `up` itself is killed the nodes end as well. Each node is given --hold and --repeat (see `help node`).
 
 Statuses: 0 standard input has ended, and all nodes have; 1 it cannot run, with the reason on standard error; 2 the
 command line was refused.";
@@ -182,9 +183,10 @@ network served at each moment of the run: all distances and parents true, one no
   sweeps-bound 69
 
 Of an even number of runs the median is the lower one of the two in the middle. With --table each run has a line 'seed S
-sweeps K' before these. 'sweeps none' stands for a run that did not serve behind the bound, or had not so many sweeps
-after 1000 rounds (or as many steps) for each of them; it is always shown, and the status is 1. 'schedule FILE
---scramble S --rounds N' prints the events of such a run, but for the lock that is given back.
+sweeps K' before these. 'sweeps none' stands for a run that did not serve behind the sharper bound, or that had fewer
+sweeps than it says after 1000 rounds, or stretches of random steps, for each of them; it is always shown, and the
+status is 1. 'schedule FILE --scramble S --rounds N' prints the events of such a run, but for the lock that is given
+back.
 
 Statuses: 0 done; 1 a file, memory or standard output was refused, with its fault on standard error, or a run did not
 serve; 2 the command line was refused.";

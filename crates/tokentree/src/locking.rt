@@ -1,6 +1,7 @@
 //! The words of the commands for those who use the lock.
-use crate::commands::{LINE_REFUSED, file};
+use crate::commands::file;
 use crate::locking_help;
+use crate::words::{Number, Refusal, given_number, number_if_given, spelled, word};
 use clap::{Arg, ArgAction, ArgMatches, Command};
 use lock_command::{Request, guard, lock, status};
 use std::alloc::{AllocError, Global};
@@ -10,31 +11,37 @@ use std::process::{ExitCode, Processes};
 use std::rt::{Env, Files};
 use std::sync::Wait;
 use std::time::Clock;
-use subcommands::decimal_number;
+use subcommands::Fault;
 
 /// What the first argument of each command is.
 const FOLDER: &str = "The folder of the nodes' sockets";
 
-/// The greatest number that is taken, of seconds and as an id.
-const MOST: u32 = 65_535;
+/// Which ids are taken.
+const ID: Number<'static> = Number {
+    id: "ID",
+    name: "ID",
+    least: 0,
+    most: 65_535,
+};
+
+/// How many seconds are waited for the lock.
+const TIMEOUT: Number<'static> = Number {
+    id: "timeout",
+    name: "--timeout",
+    least: 0,
+    most: 65_535,
+};
 
 /// Does `lock`, and says with which status it is done.
 pub fn lock<R: Env + Net + Files + Processes + Clock + Input + Print + Eprint + AllocGlobal + Wait>(
     rt: &R,
     given: &ArgMatches,
-) -> ExitCode {
-    let Some(folder) = given.get_str("DIR") else {
-        return ExitCode::from(LINE_REFUSED);
-    };
-    let Some(node) = given.get_str("ID").and_then(|word| told(rt, "ID", word)) else {
-        return ExitCode::from(LINE_REFUSED);
-    };
-    let seconds = match given.get_str("timeout") {
+) -> Result<ExitCode, Refusal> {
+    let folder = word(given, "DIR")?;
+    let node = given_number(rt, given, ID)? as u16;
+    let seconds = match number_if_given(rt, given, TIMEOUT)? {
         None => None,
-        Some(word) => match told(rt, "SECONDS", word) {
-            None => return ExitCode::from(LINE_REFUSED),
-            seconds => seconds,
-        },
+        Some(seconds) => Some(seconds as u16),
     };
     let request = Request {
         folder,
@@ -44,41 +51,25 @@ pub fn lock<R: Env + Net + Files + Processes + Clock + Input + Print + Eprint + 
         guarded: given.get_flag("guarded"),
         command: given.get_strs("COMMAND").unwrap_or(&[]),
     };
-    ExitCode::from(if request.guarded {
+    Ok(ExitCode::from(if request.guarded {
         lock::run(rt, &request)
     } else {
         guard::run(rt, &request)
-    })
+    }))
 }
 
 /// Does `status`, and says with which status it is done.
 pub fn status<R: Net + Files + Clock + Print + Eprint + AllocGlobal>(
     rt: &R,
     given: &ArgMatches,
-) -> ExitCode {
-    let Some(folder) = given.get_str("DIR") else {
-        return ExitCode::from(LINE_REFUSED);
-    };
+) -> Result<ExitCode, Refusal> {
+    let folder = word(given, "DIR")?;
     let mut nodes = Vec::new(rt.alloc());
     for word in given.get_strs("ID").unwrap_or(&[]) {
-        let Some(node) = told(rt, "ID", word) else {
-            return ExitCode::from(LINE_REFUSED);
-        };
-        if nodes.push(node).is_err() {
-            let _ = eprintln!(rt; "tokentree: memory Refused");
-            return ExitCode::FAILURE;
-        }
+        let node = spelled(rt, ID, word)? as u16;
+        nodes.push(node).map_err(|_| Fault::Memory)?;
     }
-    ExitCode::from(status::run(rt, folder, nodes.as_slice()))
-}
-
-/// The number that a word of the line spells; where it is none, that is told.
-fn told<R: Eprint>(rt: &R, name: &str, word: &str) -> Option<u16> {
-    let number = decimal_number(word, MOST);
-    if number.is_none() {
-        let _ = eprintln!(rt; "tokentree: {name} is no decimal number from 0 to {MOST}");
-    }
-    number.map(|number| number as u16)
+    Ok(ExitCode::from(status::run(rt, folder, nodes.as_slice())))
 }
 
 /// What `lock` takes.

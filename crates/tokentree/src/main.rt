@@ -36,14 +36,25 @@ mod locking_help;
 mod node_commands;
 mod path_fault_line;
 mod threads_words;
+mod words;
 
+use std::io::IsTerminal;
 use std::process::ExitCode;
 
 fn main(rt: HostRuntime) -> ExitCode {
-    commands::run(&rt)
+    match commands::own_words(&rt) {
+        Ok(words) => commands::run_words(&rt, words.as_slice(), rt.stderr().is_terminal()),
+        Err(status) => status,
+    }
 }
 
 #[cfg(test)]
 mod damage_tests;
+#[cfg(test)]
+mod draw_tests;
+#[cfg(test)]
+mod network_tests;
+#[cfg(test)]
+mod number_tests;
 #[cfg(test)]
 mod tests;

@@ -246,7 +246,11 @@ fn ends_with_the_status(rt: HostRuntime) -> Result<(), Fail> {
             2,
         ),
     ] {
-        assert_eq!(rt; run_words(&rt, words), ExitCode::from(want), "at {words:?}");
+        assert_eq!(rt;
+            run_words(&rt, words, false),
+            ExitCode::from(want),
+            "at {words:?}"
+        );
     }
     fs::remove_file(&rt, "two.toml")?;
     fs::remove_file(&rt, "bad.toml")?;
@@ -316,7 +320,11 @@ fn tells_each_refusal_of_a_network_by_its_name(rt: HostRuntime) -> Result<(), Fa
     for (text, want) in REFUSED {
         fs::write(&rt, "refused.toml", text)?;
         let words = ["tokentree", "bound", "refused.toml"];
-        assert_eq!(rt; run_words(&rt, &words), ExitCode::FAILURE, "at {text:?}");
+        assert_eq!(rt;
+            run_words(&rt, &words, false),
+            ExitCode::FAILURE,
+            "at {text:?}"
+        );
         assert_eq!(rt; fault_line(&rt, "refused.toml")?.as_str(), want);
     }
     fs::remove_file(&rt, "refused.toml")?;

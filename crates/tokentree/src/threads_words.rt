@@ -1,19 +1,26 @@
 //! The words of `threads`.
-use crate::commands::{LINE_REFUSED, NETWORK_FILE, file};
+use crate::commands::{NETWORK_FILE, file};
+use crate::words::{Number, Refusal, given_number, word};
 use clap::{Arg, ArgAction, ArgMatches, Command};
 use std::alloc::{AllocError, Global};
 use std::process::ExitCode;
 use std::rt::Files;
 use std::sync::Wait;
 use std::thread::Threads;
-use subcommands::{Fault, decimal_number, threads};
+use std::time::Clock;
+use subcommands::threads;
 
-/// The most turns of a node on a thread.
-const MOST_TURNS: u32 = 1_000_000;
+/// How many turns a node does on a thread.
+const TURNS: Number<'static> = Number {
+    id: "TURNS",
+    name: "TURNS",
+    least: 1,
+    most: 1_000_000,
+};
 
 /// What follows the help of `threads`.
 const HELP: &str = "\
-Each node does so many turns, from nodes as they start and empty links on, each on a thread of its own: in a turn it
+Each node does TURNS turns, from nodes as they start and empty links on, each on a thread of its own: in a turn it
 ticks, then sends to each neighbour where a place is free, and takes up to two items from each. Nobody holds the
 threads back, so what happens differs from run to run; but it is always a list of events that could have happened one
 after the other. The state that they lead to is shown as simulate shows it, with the sweeps in that list:
@@ -31,7 +38,7 @@ With --events the list is written to a file, and simulate shows the same of it:
   $ tokentree simulate two-nodes.toml done.events
 
 All memory is taken before the first turn: a run that does not fit is refused at once. Nothing is printed before the
-end.
+end; on a terminal, one line of standard error tells meanwhile how many turns node 0 has done.
 
 Statuses: 0 done; 1 a file, memory, a thread or standard output was refused, with its fault on standard error; 2 the
 command line was refused.";
@@ -61,19 +68,14 @@ fn events<'a>(alloc: Global) -> Arg<'a> {
         .help("Write what the nodes did to this file, as an events text")
 }
 
-/// Does what the words say.
-pub fn run_threads<R: Files + Print + Eprint + Threads + Wait + Sync + AllocGlobal>(
+/// Does what the words say, and tells its progress where that is wanted.
+pub fn run_threads<R: Files + Clock + Print + Eprint + Threads + Wait + Sync + AllocGlobal>(
     rt: &R,
     given: &ArgMatches,
-) -> Result<ExitCode, Fault> {
-    let (Some(network), Some(turns)) = (given.get_str("FILE"), given.get_str("TURNS")) else {
-        return Ok(ExitCode::from(LINE_REFUSED));
-    };
-    match decimal_number(turns, MOST_TURNS) {
-        None | Some(0) => {
-            let _ = eprintln!(rt; "tokentree: TURNS is no decimal number from 1 to {MOST_TURNS}");
-            Ok(ExitCode::from(LINE_REFUSED))
-        }
-        Some(turns) => threads::run(rt, network, turns, given.get_str("events")),
-    }
+    progress: bool,
+) -> Result<ExitCode, Refusal> {
+    let network = word(given, "FILE")?;
+    let turns = given_number(rt, given, TURNS)? as u32;
+    let events = given.get_str("events");
+    Ok(threads::run(rt, network, turns, events, progress)?)
 }

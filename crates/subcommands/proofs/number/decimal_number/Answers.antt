@@ -7,7 +7,7 @@ use Rattle.subcommands.proofs.number.decimal_number.Goals.{else-number-greatest-
 pub returns-in_err-number-clause-none : goal.returns-in_err-number-clause-none
 returns-in_err-number-clause-none c = λ none number few spelled.
     let fits = c.ranges.greatest.fits in
-    let parsed : c.parse.result ≡ Ok number = parse-decimal 32 number c.args.word.now c.parse.result (omega (arith, few, fits)) (omega (arith, few, fits)) spelled c.parse.ensures.value.0 in
+    let parsed : c.parse.result ≡ Ok number = parse-decimal 64 number c.args.word.now c.parse.result (omega (arith, few, fits)) (omega (arith, few, fits)) spelled c.parse.ensures.value.0 in
     let value = c.ok.ensures.value in
     let was = c.in_err-number.was in
     grind (arith, parsed, value, was)
@@ -15,7 +15,7 @@ returns-in_err-number-clause-none c = λ none number few spelled.
 pub returns-else-number-greatest-clause-none : goal.returns-else-number-greatest-clause-none
 returns-else-number-greatest-clause-none c = λ none number few spelled.
     let fits = c.ranges.greatest.fits in
-    let parsed : c.parse.result ≡ Ok number = parse-decimal 32 number c.args.word.now c.parse.result (omega (arith, few, fits)) (omega (arith, few, fits)) spelled c.parse.ensures.value.0 in
+    let parsed : c.parse.result ≡ Ok number = parse-decimal 64 number c.args.word.now c.parse.result (omega (arith, few, fits)) (omega (arith, few, fits)) spelled c.parse.ensures.value.0 in
     let value = c.ok.ensures.value in
     let was = c.in_ok-number.was in
     let same : c.in_ok-number.number ≡ number = grind (arith, parsed, value, was) in

@@ -1,0 +1,94 @@
+//! Pictures of two nodes, from texts that are refused in part, cannot be read, or have no room.
+use super::*;
+use byte_streams::MemorySource;
+use std::io::{Error, ErrorKind};
+use std::test::Fail;
+
+/// Keeps what is written to it, as far as it has room, and then fails.
+#[derive(Drop)]
+struct Shelf<'a> {
+    taken: &'a mut Vec<u8>,
+    room: usize,
+}
+
+impl Write for Shelf<'_> {
+    fn write(&mut self, bytes: &[u8]) -> std::io::Result<usize> {
+        let count = bytes.len().min(self.room);
+        if count == 0 && !bytes.is_empty() {
+            return Err(Error::from(ErrorKind::BrokenPipe));
+        }
+        self.taken.extend_from_slice(&bytes[..count])?;
+        self.room -= count;
+        Ok(count)
+    }
+
+    fn flush(&mut self) -> std::io::Result<()> {
+        Ok(())
+    }
+}
+
+/// Fails when it is read.
+#[derive(Drop)]
+struct Broken;
+
+impl std::io::Read for Broken {
+    fn read(&mut self, _buffer: &mut [u8]) -> std::io::Result<usize> {
+        Err(Error::from(ErrorKind::BrokenPipe))
+    }
+}
+
+/// What is to be drawn: one column of the whole run.
+const WANTED: Wanted = Wanted {
+    columns: 1,
+    window: Window::ALL,
+};
+
+/// The picture that a source's events make on two nodes, where there is room for `room` bytes; and
+/// how it ended.
+fn drawn<S: Source + Drop>(
+    alloc: Global,
+    mut source: S,
+    room: usize,
+) -> Result<(Result<ExitCode, Fault>, String), Fail> {
+    let net = Net::make(alloc, 2, 0, 1, 0, &[(0, 1)])?;
+    let mut taken = Vec::new(alloc);
+    let mut shelf = Shelf {
+        taken: &mut taken,
+        room,
+    };
+    let answer = write_picture(alloc, &net, &mut source, &mut shelf, WANTED);
+    let text = String::from_str(alloc, std::str::from_utf8(taken.as_slice())?)?;
+    Ok((answer, text))
+}
+
+#[test]
+fn draws_what_is_accepted_and_counts_what_is_refused(rt: HostRuntime) -> Result<(), Fail> {
+    let source = MemorySource::new(b"tick 2\ntick 0\nTick 0", 5);
+    let (answer, text) = drawn(rt.alloc(), source, 100_000)?;
+    assert_eq!(rt; answer, Ok(ExitCode::from(3)));
+    // Two events, of which one was refused, and a line that spells none: three moments in a column.
+    for part in [
+        "<desc>2 events, 2 lines refused; at the end privileged 0, lending 0, sweeps since the last damage 0 of 69</desc>",
+        ">a column is 4 events, and shows the worst of them<",
+    ] {
+        assert!(rt; text.contains(part), "{part}");
+    }
+    Ok(())
+}
+
+#[test]
+fn draws_nothing_of_events_that_cannot_be_read(rt: HostRuntime) -> Result<(), Fail> {
+    let (answer, text) = drawn(rt.alloc(), ReadSource::new(Broken), 100_000)?;
+    assert_eq!(rt; answer, Err(Fault::EventsUnreadable));
+    assert_eq!(rt; text.as_str(), "");
+    Ok(())
+}
+
+#[test]
+fn a_picture_without_room_is_a_fault(rt: HostRuntime) -> Result<(), Fail> {
+    let source = MemorySource::new(b"tick 0\n", 5);
+    let (answer, text) = drawn(rt.alloc(), source, 300)?;
+    assert_eq!(rt; answer, Err(Fault::Output));
+    assert_eq!(rt; text.len(), 300);
+    Ok(())
+}
