@@ -56,7 +56,7 @@ pub fn file_of(word: &[u8], numbers: &[u16]) -> File {
 }
 
 /// The file of a node's state.
-fn written<A: Allocator>(node: &NodeState<A>, net: &Net, id: u16) -> File
+pub fn written<A: Allocator>(node: &NodeState<A>, net: &Net, id: u16) -> File
     requires id { id < net.now.nodes }
     requires site { site_in node.now ≡ site_of net.now id }
 {

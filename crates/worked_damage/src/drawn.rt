@@ -32,7 +32,7 @@ fn scrambled_states(rt: HostRuntime) -> Result<(), Fail> {
 }
 
 /// Lines of junk, each with its newline.
-fn junk(alloc: Global, seed: u64, lines: u32) -> Result<Vec<u8>, AllocError> {
+pub fn junk(alloc: Global, seed: u64, lines: u32) -> Result<Vec<u8>, AllocError> {
     let mut generator = Lcg64Xsh32::seed_from_u64(seed);
     let mut text = Vec::new(alloc);
     for _ in 0..lines {

@@ -2,7 +2,7 @@
 //! refused.
 use frame_codec::{LineReader, decode, decode_hello, encode, encode_hello};
 use linked_list_allocator::LocalHeap;
-use std::alloc::{AllocError, Global};
+use std::alloc::{AllocError, Allocator, Global};
 use std::test::Fail;
 use topology::{Frame, Net, NetFault, Payload};
 
@@ -131,28 +131,58 @@ fn a_dropped_half_line_spoils_nothing(rt: HostRuntime) -> Result<(), Fail> {
     Ok(())
 }
 
+/// What ends the half line `F00000000`, and four lines more: more frames than there is room for
+/// behind one.
+const REST: &[u8] = b"00010000000c\nF000400030000ffff0000\nF000400030000ffff0000\n\
+    F000400030000ffff0000\nF000400030000ffff0000\n";
+
+/// Feeds a reader. Rows need nothing of what its contract says, and where it is called from here
+/// the prover need not carry that along.
+fn feed<A: Allocator>(
+    reader: &mut LineReader,
+    piece: &[u8],
+    net: &Net,
+    frames: &mut Vec<Frame, A>,
+) -> Result<(), AllocError> {
+    reader.feed(piece, net, frames)
+}
+
 #[test]
 fn a_refused_growth_reads_nothing(rt: HostRuntime) -> Result<(), Fail> {
     let net = line_of_three(rt.alloc())?;
+    let first = frame(0, 0, 1, Some(0), 12);
     let mut refused = 0u32;
     for units in 1..100usize {
         let heap = LocalHeap::new(rt.alloc(), units * 16)?;
         let mut frames = Vec::new(&heap);
         let mut reader = LineReader::new();
-        reader.feed(b"F00000000", &net, &mut frames)?;
-        match reader.feed(b"00010000000c\nF000400030000ffff0000\n", &net, &mut frames) {
+        if feed(
+            &mut reader,
+            b"F0000000000010000000c\nF00000000",
+            &net,
+            &mut frames,
+        )
+        .is_err()
+        {
+            assert!(rt; frames.is_empty());
+            continue;
+        }
+        match feed(&mut reader, REST, &net, &mut frames) {
             Ok(()) => {
-                let both = [frame(0, 0, 1, Some(0), 12), frame(4, 3, 0, None, 0)];
-                assert_eq!(rt; frames.as_slice(), both.as_slice());
+                let last = frame(4, 3, 0, None, 0);
+                assert_eq!(rt;
+                    frames.as_slice(),
+                    [first, first, last, last, last, last].as_slice()
+                );
                 assert!(rt; refused > 0);
                 return Ok(());
             }
             Err(AllocError) => {
                 refused = refused.wrapping_add(1);
-                assert!(rt; frames.is_empty());
+                assert_eq!(rt; frames.as_slice(), [first].as_slice());
                 let mut ample = Vec::new(rt.alloc());
-                reader.feed(b"00010000000c\n", &net, &mut ample)?;
-                assert_eq!(rt; ample.as_slice(), [frame(0, 0, 1, Some(0), 12)].as_slice());
+                feed(&mut reader, b"00010000000c\n", &net, &mut ample)?;
+                assert_eq!(rt; ample.as_slice(), [first].as_slice());
             }
         }
     }

@@ -1,4 +1,5 @@
 //! A link that fills, loses and empties, and its memory refused.
+use crate::full_heap::fill;
 use link_model::{Frame, Full, Item, Link, NoItem, Payload};
 use linked_list_allocator::LocalHeap;
 use std::test::Fail;
@@ -50,14 +51,18 @@ fn only_new_asks_for_memory(rt: HostRuntime) -> Result<(), Fail> {
         let heap = LocalHeap::new(rt.alloc(), units * 16)?;
         match Link::new(&heap, 4) {
             Ok(mut link) => {
-                let used = heap.used();
+                let taken = fill(rt.alloc(), &heap)?;
+                assert_eq!(rt; heap.free(), 0);
                 for seq in 0..4 {
                     assert_eq!(rt; link.put(numbered(seq)), Ok(()));
                 }
+                assert_eq!(rt; link.take(), Some(numbered(0)));
+                assert_eq!(rt; link.put(Item::Noise), Ok(()));
+                assert_eq!(rt; link.put(Item::Noise), Err(Full));
                 assert_eq!(rt; link.lose(0), Ok(()));
                 link.clear();
                 assert!(rt; link.is_empty());
-                assert_eq!(rt; heap.used(), used);
+                drop(taken);
                 assert!(rt; units > 1);
                 return Ok(());
             }

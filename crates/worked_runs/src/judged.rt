@@ -24,7 +24,7 @@ const JUNK: Event = Event::Damage(Harm::Item {
 });
 
 /// Distance, parent, and whether it is privileged, of the far one of two nodes.
-fn far(world: &World) -> Option<(u16, Option<u16>, bool)> {
+fn far<A: Allocator + Copy>(world: &World<A>) -> Option<(u16, Option<u16>, bool)> {
     if world.net().nodes() < 2 {
         return None;
     }

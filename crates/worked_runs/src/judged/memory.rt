@@ -1,19 +1,8 @@
 //! What memory a judge takes: none.
 use super::*;
+use crate::full_heap::fill;
 use crate::worlds::happen;
 use linked_list_allocator::LocalHeap;
-
-/// Takes what a heap has left, so that it refuses every growth from then on.
-fn fill<'h>(alloc: Global, heap: &'h LocalHeap) -> Result<Vec<Vec<u8, &'h LocalHeap>>, Fail> {
-    let mut taken = Vec::with_capacity(alloc, heap.size())?;
-    for _ in 0..heap.size() {
-        match Vec::with_capacity(heap, 1) {
-            Ok(bytes) if taken.len() < taken.capacity() => taken.push_reserved(bytes),
-            _ => break,
-        }
-    }
-    Ok(taken)
-}
 
 /// An event of each kind that does not stand in a round.
 const OTHERS: &str = "\

@@ -1,0 +1,17 @@
+//! Heaps that refuse every growth.
+use linked_list_allocator::LocalHeap;
+use std::alloc::Global;
+use std::test::Fail;
+
+/// Takes all that a heap has left, so that it refuses every growth until what is answered is
+/// dropped.
+pub fn fill<'h>(alloc: Global, heap: &'h LocalHeap) -> Result<Vec<Vec<u8, &'h LocalHeap>>, Fail> {
+    let mut taken = Vec::with_capacity(alloc, heap.size())?;
+    for _ in 0..heap.size() {
+        match Vec::with_capacity(heap, 1) {
+            Ok(bytes) if taken.len() < taken.capacity() => taken.push_reserved(bytes),
+            _ => break,
+        }
+    }
+    Ok(taken)
+}

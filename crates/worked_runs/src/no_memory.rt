@@ -1,0 +1,117 @@
+//! What takes no memory: edges that join and go, and the text of a world, on a heap without a free
+//! byte.
+use crate::full_heap::fill;
+use crate::worlds::{event_of, net_of, told};
+use linked_list_allocator::LocalHeap;
+use run_model::EventFault;
+use std::alloc::{AllocError, Allocator, Global};
+use std::test::Fail;
+use topology::{Net, NetFault};
+use world::simulation::{SimFault, state_text};
+use world::streams::MemorySink;
+use world::{Judge, World};
+
+/// A square: node 3 lies opposite the root.
+fn square(alloc: Global) -> Result<Net, NetFault> {
+    net_of(alloc, 4, 0, &[(0, 1), (0, 2), (1, 3), (2, 3)])
+}
+
+/// What happens on the square where one pair of links is spare, and what is answered: edges join
+/// and go, and items are sent over them.
+const CHANGES: [(&str, Result<(), EventFault>); 14] = [
+    ("harm join 1 1", Err(EventFault::OutOfRange)),
+    ("harm join 0 4", Err(EventFault::NoNode)),
+    ("harm join 0 1", Err(EventFault::OutOfRange)),
+    ("harm join 0 3", Ok(())),
+    ("harm join 1 2", Err(EventFault::NoSpare)),
+    ("harm part 1 2", Err(EventFault::NoLink)),
+    ("harm part 1 3", Ok(())),
+    ("harm join 1 2", Ok(())),
+    ("harm part 2 3", Ok(())),
+    ("harm part 0 3", Err(EventFault::Apart)),
+    ("send 1 2", Ok(())),
+    ("send 3 2", Err(EventFault::NoLink)),
+    ("send 0 3", Ok(())),
+    ("take 0 3", Ok(())),
+];
+
+/// What is shown behind them, with 5 sweeps.
+const SHOWN: &str = "\
+node 0 distance 4 parent none token no lent none waiting 0
+node 1 distance 4 parent none token no lent none waiting 0
+node 2 distance 4 parent none token no lent none waiting 0
+node 3 distance 4 parent none token no lent none waiting 0
+link 0 1 items 0
+link 0 2 items 0
+link 0 3 items 0
+link 1 0 items 0
+link 1 2 items 1
+link 2 0 items 0
+link 2 1 items 0
+link 3 0 items 0
+privileged 0 lending 0
+sweeps 5 of 461
+";
+
+/// The default world of a network with one spare pair of links.
+fn with_a_spare<A: Allocator + Copy>(alloc: A, net: &Net) -> Result<World<A>, AllocError> {
+    World::with_spares(alloc, net, 1)
+}
+
+/// Whether a world answers each change as it is told.
+fn all_answered<A: Allocator + Copy>(world: &mut World<A>) -> bool {
+    let mut well = true;
+    for (line, answer) in CHANGES {
+        well &= told(world, line) == Some(answer);
+    }
+    well
+}
+
+/// What a judge answers to the event of a line; none where the line spells none.
+fn judged<A: Allocator + Copy>(judge: &mut Judge<A>, line: &str) -> Option<Result<(), EventFault>> {
+    let event = event_of(line)?;
+    Some(judge.step(&event))
+}
+
+/// Whether a judge of a world answers each change as it is told, and counts those that are refused.
+fn all_judged<A: Allocator + Copy>(world: World<A>) -> bool {
+    let mut judge = Judge::new(world);
+    let mut well = true;
+    for (line, answer) in CHANGES {
+        well &= judged(&mut judge, line) == Some(answer);
+    }
+    well && judge.refused() == 7 && judge.sweeps() == 0
+}
+
+/// Shows a world.
+fn show<A: Allocator + Copy>(world: &World<A>, sink: &mut MemorySink<A>) -> Result<(), SimFault> {
+    state_text(world, 5, sink)
+}
+
+#[test]
+fn a_world_changes_its_edges_and_is_shown_without_memory(rt: HostRuntime) -> Result<(), Fail> {
+    let net = square(rt.alloc())?;
+    let heap = LocalHeap::new(rt.alloc(), 65536)?;
+    let mut world = with_a_spare(&heap, &net)?;
+    let mut sink = MemorySink::new(&heap, SHOWN.len())?;
+    let full = fill(rt.alloc(), &heap)?;
+    assert_eq!(rt; heap.free(), 0);
+    assert!(rt; all_answered(&mut world));
+    assert_eq!(rt; show(&world, &mut sink), Ok(()));
+    assert_eq!(rt; sink.taken(), SHOWN.as_bytes());
+    drop(full);
+    Ok(())
+}
+
+#[test]
+fn a_judge_sees_edges_change_without_memory(rt: HostRuntime) -> Result<(), Fail> {
+    let net = square(rt.alloc())?;
+    let heap = LocalHeap::new(rt.alloc(), 65536)?;
+    let world = with_a_spare(&heap, &net)?;
+    let full = fill(rt.alloc(), &heap)?;
+    assert_eq!(rt; heap.free(), 0);
+    assert!(rt; all_judged(world));
+    drop(full);
+    assert_eq!(rt; heap.used(), 0);
+    Ok(())
+}
