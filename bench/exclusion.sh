@@ -15,7 +15,7 @@ folder=$(mktemp -d)
 cat >"$folder/ring.toml" <<'END'
 nodes = 3
 root = 0
-capacity = 512
+capacity = 64
 lease = 0
 edges = [[0, 1], [1, 2], [0, 2]]
 END

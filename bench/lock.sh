@@ -3,12 +3,13 @@
 # load of an idle node, how long a client that asks now and then waits for the lock at the root and far from it, how many
 # grants a second there are where a client at each node wants the lock all the time, and a node's memory and descriptors.
 # Beside it what a command costs under the lock and under flock(1), and a loop that locks one file, so that the price is
-# seen. Wants python3 and flock; takes half a minute for each ring.
+# seen. Wants python3 and flock; takes half a minute for each ring. The program is ./tokentree, or what TOKENTREE names.
 set -euo pipefail
 [ $# -gt 0 ] || set -- 3 8
 cd "$(dirname "$0")/.."
-./tokentree --help > /dev/null
-program=$PWD/crates/tokentree/out/tokentree
+program=$(realpath "${TOKENTREE:-./tokentree}")
+"$program" --help > /dev/null
+[ -n "${TOKENTREE:-}" ] || program=$PWD/crates/tokentree/out/tokentree
 folder=$(mktemp -d)
 trap 'rm -rf "$folder"' EXIT
 python3 - "$program" "$folder" "$@" <<'PYTHON'
@@ -72,7 +73,7 @@ def grants(run, node, seconds, out):
 
 
 def spread(run, node, times):
-    """Half of all waits, and all but one in a hundred, are at most so many milliseconds."""
+    """The milliseconds of which half of all waits have no more, and those of which all but one in a hundred have no more."""
     client, waits = Client(run, node), []
     for _ in range(times):
         time.sleep(0.005)
@@ -85,7 +86,7 @@ def ring(nodes):
     network, run = f"{folder}/ring-{nodes}.toml", f"{folder}/run-{nodes}"
     edges = [[i, (i + 1) % nodes] for i in range(nodes)]
     with open(network, "w") as file:
-        file.write(f"nodes = {nodes}\nroot = 0\ncapacity = 512\nlease = 0\nedges = {edges}\n")
+        file.write(f"nodes = {nodes}\nroot = 0\ncapacity = 64\nlease = 0\nedges = {edges}\n")
     running = [
         subprocess.Popen([program, "node", network, str(i), run], stdout=subprocess.PIPE) for i in range(nodes)
     ]
@@ -132,7 +133,7 @@ def locked_file(seconds):
 
 
 def command_time(words, times):
-    """The milliseconds of one command among as many, one after the other."""
+    """The milliseconds that one command takes, of `times` that run one after the other."""
     start = time.perf_counter()
     for _ in range(times):
         subprocess.run(words, check=True, stdin=subprocess.DEVNULL)
@@ -147,6 +148,8 @@ def commands(times):
     ready = 0
     while ready < 3:
         ready += up.stdout.readline().endswith(b"ready\n")
+    # In their first sweeps nodes that start may still end a loan.
+    time.sleep(1)
     by_lock = command_time([program, "lock", run, "1", "--", "true"], times)
     up.stdin.close()
     assert up.wait(timeout=10) == 0

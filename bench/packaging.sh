@@ -1,10 +1,11 @@
 #!/bin/sh
 # Holds the files for packagers against the command line's own list of commands and flags, so that they cannot fall
-# behind: the man page, the completions and OPERATING.md. Status 1 where one of them lacks a command or a flag, or has
-# one that is not there.
+# behind: the man page, the completions and OPERATING.md. Then has each shell that is there complete each command and
+# flag but for its last letter. Status 1 where a file lacks a command or a flag, or has one that is not there, or where
+# a shell does not complete one.
 #
-#   bench/packaging.sh             compares
-#   bench/packaging.sh --write     writes the completions anew; the other files are written by hand
+#   bench/packaging.sh             compares, and tries the shells
+#   bench/packaging.sh --write     writes the completions anew first; the other files are written by hand
 #
 # The program is ./tokentree, or what TOKENTREE names.
 set -eu
@@ -118,6 +119,8 @@ fish_file() {
     echo "# fish completion for tokentree, made by bench/packaging.sh --write"
     echo "complete -c tokentree -n __fish_use_subcommand -l help -d 'Print help'"
     echo "complete -c tokentree -n __fish_use_subcommand -l version -d 'Print version'"
+    echo "complete -c tokentree -n __fish_use_subcommand -f -a help -d 'Shows the help of a command'"
+    echo "complete -c tokentree -n '__fish_seen_subcommand_from help' -f -a '$names'"
     while IFS='	' read -r name text; do
         echo "complete -c tokentree -n __fish_use_subcommand -f -a $name -d '$(quoted "$text")'"
         while IFS='	' read -r flag value text; do
@@ -167,4 +170,74 @@ awk '/^\.SS / { print $2 }' docs/tokentree.1 | while read -r name; do
     cut -f1 "$made/commands" | grep -qx -e "$name" || echo "$name"
 done >"$made/gone"
 while read -r name; do fault "docs/tokentree.1 has a section on $name, which is no command"; done <"$made/gone"
+
+# What is typed, without the last letter of its last word, a tab, and that word.
+wants() { printf '%s\t%s\n' "${1%?}" "${1##* }"; }
+{
+    for word in $names help --help --version; do wants "tokentree $word"; done
+    for name in $names; do
+        wants "tokentree help $name"
+        cut -f1 "$made/flags-$name" | while read -r flag; do wants "tokentree $name $flag"; done
+    done
+} >"$made/wanted"
+
+# Each prints, of the lines of its input, what is typed where the shell does not complete it.
+try_bash() {
+    # shellcheck disable=SC2016,SC2317
+    bash --norc --noprofile -c '
+        source packaging/completions/tokentree.bash
+        while IFS="	" read -r typed word; do
+            read -ra COMP_WORDS <<<"$typed"
+            COMP_CWORD=$((${#COMP_WORDS[@]} - 1)) COMPREPLY=()
+            _tokentree
+            printf "%s\n" "${COMPREPLY[@]}" | grep -qxe "$word" || echo "$typed"
+        done'
+}
+
+try_fish() {
+    # shellcheck disable=SC2016,SC2317
+    HOME=$made fish --no-config -c '
+        source packaging/completions/tokentree.fish
+        while read -d \t typed word
+            contains -- $word (complete -C "$typed" | string split -f 1 \t); or echo $typed
+        end'
+}
+
+# A zsh on a terminal of its own, in which a key completes the line and writes it into a file.
+try_zsh() {
+    # shellcheck disable=SC2016,SC2317
+    zsh -f -c '
+        zmodload zsh/zpty
+        shown=$1
+        : >$shown
+        zpty -b shell zsh -f -i
+        zpty -w shell "PROMPT= RPROMPT=; fpath=(${(q)PWD}/packaging/completions \$fpath)
+            autoload -Uz compinit; compinit -D -u
+            show() { zle complete-word; print -r -- \$BUFFER >>${(q)shown}; BUFFER=; zle redisplay }
+            zle -N show; bindkey ^X show; print ready >>${(q)shown}"
+        wait_for_lines() {
+            repeat 500; do
+                (( $(wc -l <$shown) >= $1 )) && return
+                zpty -r -t shell output
+                sleep 0.02
+            done
+        }
+        wait_for_lines 1
+        count=1
+        while IFS="	" read -r typed word; do
+            zpty -n -w shell "$typed"$'\''\x18'\''
+            wait_for_lines $((++count))
+            [[ $(tail -n 1 $shown) == "${typed% *} $word " ]] || echo $typed
+        done
+        zpty -d shell' zsh "$made/shown"
+}
+
+for shell in bash zsh fish; do
+    if ! command -v "$shell" >/dev/null; then
+        echo "packaging: $shell is not there to try its completions" >&2
+        continue
+    fi
+    "try_$shell" <"$made/wanted" >"$made/not-completed" || fault "$shell cannot try its completions"
+    while read -r typed; do fault "$shell does not complete: $typed"; done <"$made/not-completed"
+done
 exit $found

@@ -1,9 +1,11 @@
 #!/usr/bin/env bash
 # Draws the pictures of docs/ anew: the forged tokens, a scrambled square whose edge 1-3 goes and joins again, and what
 # three nodes did on threads, which differs from run to run. Where Chromium is there (CHROMIUM, or chromium in PATH), it
-# shows each of them without a screen, as NAME.png in the folder $1 (or in a new folder).
+# shows each of them without a screen, as NAME.png in the folder $1 (or in a new folder). The program is ./tokentree, or
+# what TOKENTREE names.
 set -euo pipefail
 cd "$(dirname "$0")/.."
+program=$(realpath "${TOKENTREE:-./tokentree}")
 shown=${1:-$(mktemp -d)}
 mkdir -p "$shown"
 folder=$(mktemp -d)
@@ -27,7 +29,7 @@ square_rounds() {
     echo "leave 0 5"
     for _ in $(seq 72); do cat examples/round.txt; done
 } > "$folder/forged-tokens"
-./tokentree draw examples/two-nodes.toml "$folder/forged-tokens" > docs/forged-tokens.svg
+"$program" draw examples/two-nodes.toml "$folder/forged-tokens" > docs/forged-tokens.svg
 
 # The square: all is scrambled; from round 20 on clients ask at nodes 1 and 2; after 80 rounds the edge 1-3 goes, and after 40 more it joins.
 all="0 1,0 2,1 0,1 3,2 0,2 3,3 1,3 2"
@@ -45,11 +47,12 @@ all="0 1,0 2,1 0,1 3,2 0,2 3,3 1,3 2"
     echo "harm join 1 3"
     square_rounds 80 "$all"
 } > "$folder/scrambled-square"
-./tokentree draw examples/square.toml "$folder/scrambled-square" > docs/scrambled-square.svg
+"$program" draw examples/square.toml "$folder/scrambled-square" > docs/scrambled-square.svg
 
-# A line of three: what its nodes did on threads in 3,000 turns each.
-./tokentree threads examples/line-of-three.toml 3000 --events "$folder/threads" > /dev/null
-./tokentree draw examples/line-of-three.toml "$folder/threads" > docs/threads.svg
+# A line of three: what its nodes did on threads in 60,000 turns each.
+# Threads often run one after the other at first, so the turns are many; the picture ends with the 60th sweep.
+"$program" threads examples/line-of-three.toml 60000 --events "$folder/threads" > /dev/null
+"$program" draw examples/line-of-three.toml "$folder/threads" --from 0 --to 60 > docs/threads.svg
 
 browser=${CHROMIUM:-$(command -v chromium || command -v chromium-browser || true)}
 for name in forged-tokens scrambled-square threads; do

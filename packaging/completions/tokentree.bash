@@ -14,7 +14,7 @@ _tokentree() {
     cut) flags='--help' ;;
     junk) flags='--help' ;;
     node) flags='--hold --repeat --child --help' ;;
-    up) flags='--help' ;;
+    up) flags='--hold --repeat --help' ;;
     schedule) flags='--scramble --rounds --random --seed --loss --clients --help' ;;
     measure) flags='--runs --seed --rounds --random --table --help' ;;
     draw) flags='--columns --from --to --help' ;;

@@ -1,6 +1,8 @@
 # fish completion for tokentree, made by bench/packaging.sh --write
 complete -c tokentree -n __fish_use_subcommand -l help -d 'Print help'
 complete -c tokentree -n __fish_use_subcommand -l version -d 'Print version'
+complete -c tokentree -n __fish_use_subcommand -f -a help -d 'Shows the help of a command'
+complete -c tokentree -n '__fish_seen_subcommand_from help' -f -a 'bound simulate lock status scramble cut junk node up schedule measure draw threads'
 complete -c tokentree -n __fish_use_subcommand -f -a bound -d 'Shows a network'\''s numbers, distances and parents, and after how many sweeps its lock works from any state'
 complete -c tokentree -n '__fish_seen_subcommand_from bound' -l sharp -d 'Show the bound in which the capacity has no part, too'
 complete -c tokentree -n __fish_use_subcommand -f -a simulate -d 'Lets a list of events happen on a network, tells which are refused, and shows the state they lead to'
@@ -16,6 +18,8 @@ complete -c tokentree -n '__fish_seen_subcommand_from node' -l hold -x -d 'How l
 complete -c tokentree -n '__fish_seen_subcommand_from node' -l repeat -x -d 'When a frame is sent again, at most 100000 [default: 8000]'
 complete -c tokentree -n '__fish_seen_subcommand_from node' -l child -d 'Name the node in each line, and end as standard input does, for `up`'
 complete -c tokentree -n __fish_use_subcommand -f -a up -d 'Runs all nodes of a network, and starts again what ends, until standard input ends'
+complete -c tokentree -n '__fish_seen_subcommand_from up' -l hold -x -d 'How long quiet news waits, 0 to 2000 [default: 2000]'
+complete -c tokentree -n '__fish_seen_subcommand_from up' -l repeat -x -d 'When a frame is sent again, at most 100000 [default: 8000]'
 complete -c tokentree -n __fish_use_subcommand -f -a schedule -d 'Prints a schedule for a network as an events text, which simulate reads'
 complete -c tokentree -n '__fish_seen_subcommand_from schedule' -l scramble -x -d 'Begin with harms that write every part of the world, drawn from this seed'
 complete -c tokentree -n '__fish_seen_subcommand_from schedule' -l rounds -x -d 'Rounds: each node ticks, and each link carries one item more than it holds'

@@ -1,0 +1,66 @@
+#!/bin/sh
+# Makes the Debian package, and installs, runs, removes and purges it in a throw-away system: this machine's own, seen
+# through an overlay whose changes stay in memory and are gone at the end. Status 1 where something is not as it should
+# be; where no such system can be made it says so, and the status is 77.
+#
+#   bench/deb.sh
+#
+# The program is the one that packaging/deb.sh takes. Wants root, unshare, and dpkg.
+set -eu
+cd "$(dirname "$0")/.."
+
+if [ "${1:-}" != --inside ]; then
+    made=$(mktemp -d)
+    trap 'rm -rf "$made"' EXIT
+    packaging/deb.sh "$made" >/dev/null
+    mkdir "$made/system"
+    status=0
+    unshare --mount bench/deb.sh --inside "$made" || status=$?
+    exit $status
+fi
+
+# From here on in a space of mounts of its own, which ends with this script.
+system=$2/system
+package=$(echo "$2"/*.deb)
+cannot() { echo "deb: no throw-away system can be made here" >&2; exit 77; }
+mount -t tmpfs tmpfs "$system" || cannot
+mkdir "$system/changes" "$system/work" "$system/root"
+mount -t overlay overlay -o "lowerdir=/,upperdir=$system/changes,workdir=$system/work" "$system/root" || cannot
+mount --rbind /dev "$system/root/dev"
+mount -t proc proc "$system/root/proc"
+cp "$package" "$system/root/tokentree.deb"
+
+found=0
+fault() {
+    echo "deb: $1" >&2
+    found=1
+}
+inside() { chroot "$system/root" "$@"; }
+
+inside dpkg --install /tokentree.deb >"$system/log" 2>&1 || { cat "$system/log" >&2; fault "it is not installed"; }
+inside getent passwd tokentree >/dev/null || fault "there is no user tokentree"
+inside /usr/bin/tokentree --version || fault "the program does not run"
+inside tokentree bound /usr/share/doc/tokentree/examples/two-nodes.toml | grep -qx 'sweeps 69' ||
+    fault "the program does not know the bound of two nodes"
+inside dpkg --listfiles tokentree | while read -r file; do
+    [ -e "$system/root$file" ] || echo "$file"
+done >"$system/absent"
+while read -r file; do fault "$file is not there"; done <"$system/absent"
+inside dpkg --listfiles tokentree >"$system/files"
+wc -l <"$system/files" | sed 's/$/ files and folders/'
+
+# What a node leaves in its folder goes with a purge, not with a removal.
+mkdir "$system/root/var/lib/tokentree"
+: >"$system/root/var/lib/tokentree/state-0.tkt"
+inside dpkg --remove tokentree >"$system/log" 2>&1 || { cat "$system/log" >&2; fault "it is not removed"; }
+[ ! -e "$system/root/usr/bin/tokentree" ] || fault "the program is still there"
+[ -e "$system/root/var/lib/tokentree/state-0.tkt" ] || fault "the states go where it is removed"
+inside dpkg --purge tokentree >"$system/log" 2>&1 || { cat "$system/log" >&2; fault "it is not purged"; }
+while read -r file; do
+    case $file in
+    *tokentree*) [ ! -e "$system/root$file" ] || fault "$file is left over" ;;
+    esac
+done <"$system/files"
+[ ! -e "$system/root/var/lib/tokentree" ] || fault "the states are left over"
+[ $found -ne 0 ] || echo "installed, run, removed and purged"
+exit $found
