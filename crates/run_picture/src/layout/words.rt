@@ -19,8 +19,8 @@ use std::alloc::{AllocError, Global};
 use std::fmt::Write;
 use topology::Net;
 
-/// Draws what stands first: title and description, for who does not see the picture, the paper, the
-/// headline, and below it what the run was.
+/// Draws what stands first: title and description, for who does not see the picture, the white
+/// ground, the headline, and below it what the run was.
 pub fn draw_head(
     canvas: &mut Canvas,
     page: Page,
