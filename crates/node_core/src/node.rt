@@ -389,8 +389,9 @@ impl<A: Allocator> Node<A> {
         }
     }
 
-    /// What the node has to say to `port` now.
-    fn payload_for(&self, port: u16) -> Payload
+    /// What the node has to say to the node `port` now: its distance, its parent, and its part of the
+    /// token ring.
+    pub fn payload_for(&self, port: u16) -> Payload
         requires { port < (site_in self.now).ranges.nodes }
         ensures payload { result ≡ payload_for (site_in self.now) (state_of self.now) port }
         ensures fits { IsTrue (payload_fits (site_in self.now).ranges result) }

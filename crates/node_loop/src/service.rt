@@ -33,7 +33,7 @@ fn dismiss<P: Pipe, A: Allocator + Copy>(
     ensures connected { AreConnected clients.old node.old → AreConnected clients.new node.new }
 {
     // The desk is in range, which the prover needs: a borrower does not wait.
-    let _in_range = node.ranges();
+    let _known_ranges = node.ranges();
     clients.close(ticket);
     leave(node, ticket);
 }
@@ -148,7 +148,7 @@ fn leave_lent<P: Pipe, A: Allocator + Copy>(node: &mut Node<A>, clients: &Client
         → is_connected clients.now t ≡ true }
 {
     // The desk is in range, which the prover needs: a borrower does not wait.
-    let _in_range = node.ranges();
+    let _known_ranges = node.ranges();
     let Some(ticket) = node.lent() else {
         return;
     };

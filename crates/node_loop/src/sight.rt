@@ -1,7 +1,7 @@
 //! What the pace of a node is shown: how its desk stands, and what there is to say at its ports.
 ghost use Rattle.std.specs.Prelude.{◌≡◌, ◌<◌, ◌≤◌, ℕ, IsTrue, Contains, length};
 ghost use Rattle.euler_ring.specs.Cycle.{is_on};
-ghost use Rattle.node_core.specs.Machines.{payload_for, tree_of};
+ghost use Rattle.node_core.specs.Machines.{tree_of};
 ghost use Rattle.node_core.specs.Site.{site_of};
 ghost use Rattle.node_core.specs.View.{site_in, state_of};
 ghost use Rattle.pace.specs.Plans.{sight_of};
@@ -84,36 +84,17 @@ pub(crate) fn sights<P: Pipe, A: Allocator>(
     ensures { (w : ℕ) → w < 64 → Contains (site_in node.now).neighbours w
         → sight_of result w ≡ sight_at node.now ports.now w }
 {
-    let tree = tree(node, net);
     let mut sights = [no_sight(); NODES];
     for id in 0..NODES as u16 {
         if node.is_neighbour(id) {
             sights[id as usize] = PortSight {
                 takes_frames: ports[id as usize].takes_frames(),
                 frame: node.frame_for(id),
-                present: payload_for(node, &tree, id),
+                present: node.payload_for(id),
             };
         }
     }
     sights
-}
-
-/// What the node has to say to a neighbour now.
-fn payload_for<A: Allocator>(node: &Node<A>, tree: &TreeNeighbours, id: u16) -> Payload
-    requires tree { tree.now ≡ tree_of (site_in node.now) (state_of node.now) }
-    requires within { (w : ℕ) → IsTrue (is_on tree.now w) → w < (site_in node.now).ranges.nodes }
-    ensures { result ≡ payload_for (site_in node.now) (state_of node.now) id }
-{
-    let ring = if tree.contains(id) {
-        node.value(tree.source_for(id))
-    } else {
-        0
-    };
-    Payload {
-        distance: node.distance(),
-        parent: node.parent(),
-        ring,
-    }
 }
 
 /// A port without a connection.

@@ -12,7 +12,7 @@ network_of n = record {
   root = n.root;
   capacity = n.capacity;
   lease = n.lease;
-  edges = n.links.items;
+  edges = n.edges.items;
 }
 
 -- rows as lists
@@ -29,7 +29,7 @@ pub record IsLaidOut {A : Type 0} (net : Network) (neighbours : List (Vec ℕ A)
 
 -- there is room for 256 edges, and in each node's list for all nodes, so that edges may join and go
 -- without new memory
-pub record HasRoom {A : Type 0} (nodes : ℕ) (links : Vec Edge A)
+pub record HasRoom {A : Type 0} (nodes : ℕ) (edges : Vec Edge A)
     (neighbours : List (Vec ℕ A)) : Type 0 where
-  pub for_edges : 256 ≤ vec_capacity links
+  pub for_edges : 256 ≤ vec_capacity edges
   pub for_neighbours : All (λ row. nodes ≤ vec_capacity row) neighbours

@@ -26,11 +26,11 @@ pub struct Net<A: Allocator + Copy = Global> {
     root: u16,
     capacity: u16,
     lease: u16,
-    links: Vec<(u16, u16), A>,
+    edges: Vec<(u16, u16), A>,
     /// The neighbours of each node.
-    rows: Vec<Vec<u16, A>, A>,
+    neighbours: Vec<Vec<u16, A>, A>,
     /// The distance of each node.
-    depths: Vec<u16, A>,
+    distances: Vec<u16, A>,
 }
 
 impl<A: Allocator + Copy> Model for Net<A> {
@@ -42,8 +42,8 @@ impl<A: Allocator + Copy> Model for Net<A> {
 
     ghost view = { network_of };
 
-    ghost invariant = { λ n. IsLaidOut (network_of n) n.rows.items n.depths.items
-        × HasRoom n.nodes n.links n.rows.items };
+    ghost invariant = { λ n. IsLaidOut (network_of n) n.neighbours.items n.distances.items
+        × HasRoom n.nodes n.edges n.neighbours.items };
 }
 
 impl<A: Allocator + Copy> Net<A> {
@@ -83,7 +83,7 @@ impl<A: Allocator + Copy> Net<A> {
     pub fn edges(&self) -> &[(u16, u16)]
         ensures { result.now ≡ self.now.edges }
     {
-        &self.links
+        &self.edges
     }
 
     /// The neighbours of a node, ascending.
@@ -91,7 +91,7 @@ impl<A: Allocator + Copy> Net<A> {
         requires { v < self.now.nodes }
         ensures { result.now ≡ neighbours_of self.now v }
     {
-        &self.rows[v as usize]
+        &self.neighbours[v as usize]
     }
 
     /// Whether an edge joins the two nodes. It looks through the edges; the ids may be any.
@@ -156,7 +156,7 @@ impl<A: Allocator + Copy> Net<A> {
         ensures walk { IsDistance self.now v result }
         ensures computed { result ≡ distance_of self.now v }
     {
-        self.depths[v as usize]
+        self.distances[v as usize]
     }
 
     /// The true parent of a node: the neighbour of smallest id that is one nearer to the root; none

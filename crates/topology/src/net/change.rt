@@ -26,7 +26,7 @@ impl<A: Allocator + Copy> Net<A> {
         ensures refused { IfErr result (λ fault. join_fault self.old u v ≡ Some fault) }
         ensures unchanged { OnErr result (self.new ≡ self.old) }
     {
-        if self.links.len() >= MOST_EDGES {
+        if self.edges.len() >= MOST_EDGES {
             return Err(NetFault::TooBig);
         }
         if u >= self.nodes || v >= self.nodes {
@@ -35,12 +35,12 @@ impl<A: Allocator + Copy> Net<A> {
         if u == v {
             return Err(NetFault::LoopEdge);
         }
-        if are_joined(&self.links, u, v) {
+        if are_joined(&self.edges, u, v) {
             return Err(NetFault::DoubleEdge);
         }
-        self.links.push_reserved((u, v));
-        write_all_neighbours(&mut self.rows, self.nodes, &self.links);
-        write_distances(&mut self.depths, &self.links, self.root);
+        self.edges.push_reserved((u, v));
+        write_all_neighbours(&mut self.neighbours, self.nodes, &self.edges);
+        write_distances(&mut self.distances, &self.edges, self.root);
         Ok(())
     }
 
@@ -60,17 +60,17 @@ impl<A: Allocator + Copy> Net<A> {
         if u >= self.nodes || v >= self.nodes {
             return Err(NetFault::BadEdge);
         }
-        let Some(place) = place_of_edge(&self.links, u, v) else {
+        let Some(place) = place_of_edge(&self.edges, u, v) else {
             return Err(NetFault::NoEdge);
         };
-        let edge = self.links.remove(place);
-        write_distances(&mut self.depths, &self.links, self.root);
-        if has_unreached(&self.depths) {
-            put_edge(&mut self.links, place, edge);
-            write_distances(&mut self.depths, &self.links, self.root);
+        let edge = self.edges.remove(place);
+        write_distances(&mut self.distances, &self.edges, self.root);
+        if has_unreached(&self.distances) {
+            put_edge(&mut self.edges, place, edge);
+            write_distances(&mut self.distances, &self.edges, self.root);
             return Err(NetFault::Apart);
         }
-        write_all_neighbours(&mut self.rows, self.nodes, &self.links);
+        write_all_neighbours(&mut self.neighbours, self.nodes, &self.edges);
         Ok(())
     }
 
@@ -90,8 +90,8 @@ impl<A: Allocator + Copy> Net<A> {
         requires { IsTrue (is_same_frame self.old other.now) }
         ensures { self.new ≡ other.now }
     {
-        write_edges(&mut self.links, &other.links);
-        write_all_neighbours(&mut self.rows, self.nodes, &self.links);
-        write_distances(&mut self.depths, &self.links, self.root);
+        write_edges(&mut self.edges, &other.edges);
+        write_all_neighbours(&mut self.neighbours, self.nodes, &self.edges);
+        write_distances(&mut self.distances, &self.edges, self.root);
     }
 }

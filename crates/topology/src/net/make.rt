@@ -94,12 +94,12 @@ impl<A: Allocator + Copy> Net<A> {
         if has_double(edges) {
             return Err(NetFault::DoubleEdge);
         }
-        let links = narrow_edges(alloc, nodes, edges)?;
+        let narrowed = narrow_edges(alloc, nodes, edges)?;
         let node_count = narrow(nodes);
         let root_id = narrow(root);
         let places = narrow(capacity);
         let ticks = narrow(lease);
-        Net::lay_out(alloc, node_count, root_id, places, ticks, links)
+        Net::lay_out(alloc, node_count, root_id, places, ticks, narrowed)
     }
 
     /// The network of values that are right one by one, unless the graph is not connected.
@@ -109,7 +109,7 @@ impl<A: Allocator + Copy> Net<A> {
         root: u16,
         capacity: u16,
         lease: u16,
-        links: Vec<(u16, u16), A>,
+        edges: Vec<(u16, u16), A>,
     ) -> Result<Net<A>, NetFault>
         requires limits { IsWithinLimits
             (record {
@@ -117,16 +117,16 @@ impl<A: Allocator + Copy> Net<A> {
               root = root;
               capacity = capacity;
               lease = lease;
-              edges = links.items;
+              edges = edges.items;
             }) }
-        requires room { 256 ≤ vec_capacity links }
+        requires room { 256 ≤ vec_capacity edges }
         ensures ok { IfOk result (λ net. (net
             ≡ record {
               nodes = nodes;
               root = root;
               capacity = capacity;
               lease = lease;
-              edges = links.items;
+              edges = edges.items;
             }) × IsAcceptedNetwork net) }
         ensures err { IfErr result
             (IsNotJoined (record {
@@ -134,12 +134,12 @@ impl<A: Allocator + Copy> Net<A> {
               root = root;
               capacity = capacity;
               lease = lease;
-              edges = links.items;
+              edges = edges.items;
             })) }
     {
-        let rows = all_neighbours(alloc, nodes, links.as_slice())?;
-        let depths = distances_from(alloc, nodes, links.as_slice(), root)?;
-        if has_unreached(depths.as_slice()) {
+        let neighbours = all_neighbours(alloc, nodes, edges.as_slice())?;
+        let distances = distances_from(alloc, nodes, edges.as_slice(), root)?;
+        if has_unreached(distances.as_slice()) {
             return Err(NetFault::Apart);
         }
         Ok(Net {
@@ -147,9 +147,9 @@ impl<A: Allocator + Copy> Net<A> {
             root,
             capacity,
             lease,
-            links,
-            rows,
-            depths,
+            edges,
+            neighbours,
+            distances,
         })
     }
 
@@ -160,17 +160,17 @@ impl<A: Allocator + Copy> Net<A> {
     pub fn copy<B: Allocator + Copy>(&self, alloc: B) -> Result<Net<B>, AllocError>
         ensures { IfOk result (λ net. net ≡ self.now) }
     {
-        let links = copy_edges(alloc, self.links.as_slice())?;
-        let rows = all_neighbours(alloc, self.nodes, self.links.as_slice())?;
-        let depths = copy_numbers(alloc, self.depths.as_slice())?;
+        let edges = copy_edges(alloc, self.edges.as_slice())?;
+        let neighbours = all_neighbours(alloc, self.nodes, self.edges.as_slice())?;
+        let distances = copy_numbers(alloc, self.distances.as_slice())?;
         Ok(Net {
             nodes: self.nodes,
             root: self.root,
             capacity: self.capacity,
             lease: self.lease,
-            links,
-            rows,
-            depths,
+            edges,
+            neighbours,
+            distances,
         })
     }
 }

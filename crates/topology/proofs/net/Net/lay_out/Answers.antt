@@ -8,24 +8,24 @@ use Rattle.topology.proofs.net.Net.lay_out.Goals as goal
 
 pub returns-then-has_unreached-clause-err : goal.returns-then-has_unreached-clause-err
 returns-then-has_unreached-clause-err g c =
-    let net : Network = record { nodes = c.args.nodes; root = c.args.root; capacity = c.args.capacity; lease = c.args.lease; edges = c.args.links.items } in
-    let searched : IsSearched net.edges net.root c.in_ok-depths.depths.items = rw c.as_slice-2.ensures.value at c.in_ok-depths.ensures.searched in
-    let some : list_any is_unreached c.in_ok-depths.depths.items ≡ true = rw (← c.as_slice-3.ensures.value) (sym c.if-has_unreached.ensures) in
-    not_connected net c.in_ok-depths.depths.items c.in_ok-depths.ensures.length searched some
+    let net : Network = record { nodes = c.args.nodes; root = c.args.root; capacity = c.args.capacity; lease = c.args.lease; edges = c.args.edges.items } in
+    let searched : IsSearched net.edges net.root c.in_ok-distances.distances.items = rw c.as_slice-2.ensures.value at c.in_ok-distances.ensures.searched in
+    let some : list_any is_unreached c.in_ok-distances.distances.items ≡ true = rw (← c.as_slice-3.ensures.value) (sym c.if-has_unreached.ensures) in
+    not_connected net c.in_ok-distances.distances.items c.in_ok-distances.ensures.length searched some
 
 pub invariant_of-result : goal.invariant_of-result
 invariant_of-result g c =
-    let net : Network = record { nodes = c.args.nodes; root = c.args.root; capacity = c.args.capacity; lease = c.args.lease; edges = c.args.links.items } in
-    let searched : IsSearched net.edges net.root c.in_ok-depths.depths.items = rw c.as_slice-2.ensures.value at c.in_ok-depths.ensures.searched in
-    let none : list_any is_unreached c.in_ok-depths.depths.items ≡ false = rw (← c.as_slice-3.ensures.value) (sym c.if-has_unreached.ensures) in
-    let rows : rows_of c.in_ok-rows.rows.items ≡ map (neighbours_in net.nodes net.edges) (range_with_len 0 net.nodes) = rw c.as_slice.ensures.value at c.in_ok-rows.ensures.neighbours in
-    (laid_out net c.in_ok-rows.rows.items c.in_ok-depths.depths.items c.requires.limits rows c.in_ok-depths.ensures.length searched none, record { for_edges = c.requires.room; for_neighbours = c.in_ok-rows.ensures.room })
+    let net : Network = record { nodes = c.args.nodes; root = c.args.root; capacity = c.args.capacity; lease = c.args.lease; edges = c.args.edges.items } in
+    let searched : IsSearched net.edges net.root c.in_ok-distances.distances.items = rw c.as_slice-2.ensures.value at c.in_ok-distances.ensures.searched in
+    let none : list_any is_unreached c.in_ok-distances.distances.items ≡ false = rw (← c.as_slice-3.ensures.value) (sym c.if-has_unreached.ensures) in
+    let rows : rows_of c.in_ok-neighbours.neighbours.items ≡ map (neighbours_in net.nodes net.edges) (range_with_len 0 net.nodes) = rw c.as_slice.ensures.value at c.in_ok-neighbours.ensures.neighbours in
+    (laid_out net c.in_ok-neighbours.neighbours.items c.in_ok-distances.distances.items c.requires.limits rows c.in_ok-distances.ensures.length searched none, record { for_edges = c.requires.room; for_neighbours = c.in_ok-neighbours.ensures.room })
 
 pub returns-clause-ok : goal.returns-clause-ok
 returns-clause-ok g c =
-    let net : Network = record { nodes = c.args.nodes; root = c.args.root; capacity = c.args.capacity; lease = c.args.lease; edges = c.args.links.items } in
-    let searched : IsSearched net.edges net.root c.in_ok-depths.depths.items = rw c.as_slice-2.ensures.value at c.in_ok-depths.ensures.searched in
-    let none : list_any is_unreached c.in_ok-depths.depths.items ≡ false = rw (← c.as_slice-3.ensures.value) (sym c.if-has_unreached.ensures) in
-    let rows : rows_of c.in_ok-rows.rows.items ≡ map (neighbours_in net.nodes net.edges) (range_with_len 0 net.nodes) = rw c.as_slice.ensures.value at c.in_ok-rows.ensures.neighbours in
-    let laid = laid_out net c.in_ok-rows.rows.items c.in_ok-depths.depths.items c.requires.limits rows c.in_ok-depths.ensures.length searched none in
+    let net : Network = record { nodes = c.args.nodes; root = c.args.root; capacity = c.args.capacity; lease = c.args.lease; edges = c.args.edges.items } in
+    let searched : IsSearched net.edges net.root c.in_ok-distances.distances.items = rw c.as_slice-2.ensures.value at c.in_ok-distances.ensures.searched in
+    let none : list_any is_unreached c.in_ok-distances.distances.items ≡ false = rw (← c.as_slice-3.ensures.value) (sym c.if-has_unreached.ensures) in
+    let rows : rows_of c.in_ok-neighbours.neighbours.items ≡ map (neighbours_in net.nodes net.edges) (range_with_len 0 net.nodes) = rw c.as_slice.ensures.value at c.in_ok-neighbours.ensures.neighbours in
+    let laid = laid_out net c.in_ok-neighbours.neighbours.items c.in_ok-distances.distances.items c.requires.limits rows c.in_ok-distances.ensures.length searched none in
     (refl, laid.network)

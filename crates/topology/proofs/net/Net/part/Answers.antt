@@ -27,8 +27,8 @@ write_distances-requires-then-has_unreached-clause-edges_in g c =
     let place : IsPlaceOf net.edges c.args.u c.args.v c.in-Some.place = place_found net.edges c.args.u c.args.v c.in-Some.place c.self.invariant.0.network.limits.no_double (rw c.deref.ensures.value at c.in-Some.ensures) in
     let same : c.put_edge.new.list.items ≡ net.edges = rw (c.put_edge.ensures.edges, c.remove-edge.ensures.items) (put_back_value net.edges c.in-Some.place c.remove-edge.result place.within c.remove-edge.ensures.value) in
     let long : length c.write_distances.new.distances ≡ net.nodes = omega (arith, c.write_distances.ensures.length, ap length c.deref_mut.ensures.value, c.self.invariant.0.all_distances) in
-    let same_depths : length c.write_distances.new.distances ≡ c.self.inside.depths.len = omega (arith, long, c.self.invariant.0.all_distances, c.self.inside.depths.ok.0) in
-    let wrote = written_back c.self.inside.depths.len c.write_distances.new.distances c.self.inside.depths.items same_depths in
+    let same_depths : length c.write_distances.new.distances ≡ c.self.inside.distances.len = omega (arith, long, c.self.invariant.0.all_distances, c.self.inside.distances.ok.0) in
+    let wrote = written_back c.self.inside.distances.len c.write_distances.new.distances c.self.inside.distances.items same_depths in
     let length_now : length c.deref_mut-then-has_unreached.result.now ≡ net.nodes = ap length c.deref_mut-then-has_unreached.ensures.value ∙ ap length wrote ∙ long in
     rw (length_now, c.deref-then-has_unreached.ensures.value, same) c.self.invariant.0.network.limits.edges_in
 
@@ -38,17 +38,17 @@ invariant_of-self g c =
     let place : IsPlaceOf net.edges c.args.u c.args.v c.in-Some.place = place_found net.edges c.args.u c.args.v c.in-Some.place c.self.invariant.0.network.limits.no_double (rw c.deref.ensures.value at c.in-Some.ensures) in
     let same : c.put_edge.new.list.items ≡ net.edges = rw (c.put_edge.ensures.edges, c.remove-edge.ensures.items) (put_back_value net.edges c.in-Some.place c.remove-edge.result place.within c.remove-edge.ensures.value) in
     let long : length c.write_distances.new.distances ≡ net.nodes = omega (arith, c.write_distances.ensures.length, ap length c.deref_mut.ensures.value, c.self.invariant.0.all_distances) in
-    let same_depths : length c.write_distances.new.distances ≡ c.self.inside.depths.len = omega (arith, long, c.self.invariant.0.all_distances, c.self.inside.depths.ok.0) in
-    let wrote = written_back c.self.inside.depths.len c.write_distances.new.distances c.self.inside.depths.items same_depths in
+    let same_depths : length c.write_distances.new.distances ≡ c.self.inside.distances.len = omega (arith, long, c.self.invariant.0.all_distances, c.self.inside.distances.ok.0) in
+    let wrote = written_back c.self.inside.distances.len c.write_distances.new.distances c.self.inside.distances.items same_depths in
     let length_now : length c.deref_mut-then-has_unreached.result.now ≡ net.nodes = ap length c.deref_mut-then-has_unreached.ensures.value ∙ ap length wrote ∙ long in
     let again : length c.write_distances-then-has_unreached.new.distances ≡ net.nodes = c.write_distances-then-has_unreached.ensures.length ∙ length_now in
-    let same_again : length c.write_distances-then-has_unreached.new.distances ≡ c.self.inside.depths.len = omega (arith, again, long, same_depths) in
+    let same_again : length c.write_distances-then-has_unreached.new.distances ≡ c.self.inside.distances.len = omega (arith, again, long, same_depths) in
     let new : Network = record { nodes = net.nodes; root = net.root; capacity = net.capacity; lease = net.lease; edges = c.put_edge.new.list.items } in
     let ok : IsAcceptedNetwork new = rw same c.self.invariant.0.network in
-    let rows : rows_of c.self.inside.rows.items ≡ map (neighbours_in new.nodes new.edges) (range_with_len 0 new.nodes) = rw same c.self.invariant.0.neighbours_are in
+    let rows : rows_of c.self.inside.neighbours.items ≡ map (neighbours_in new.nodes new.edges) (range_with_len 0 new.nodes) = rw same c.self.invariant.0.neighbours_are in
     let searched : IsSearched new.edges new.root c.write_distances-then-has_unreached.new.distances = rw c.deref-then-has_unreached.ensures.value at c.write_distances-then-has_unreached.ensures.searched in
-    rw (written_back c.self.inside.depths.len c.write_distances-then-has_unreached.new.distances _ same_again)
-    (laid_out_anew new c.self.inside.rows.items c.write_distances-then-has_unreached.new.distances ok rows again searched, record { for_edges = omega (arith, c.put_edge.ensures.room, c.remove-edge.ensures.capacity, c.self.invariant.1.for_edges); for_neighbours = c.self.invariant.1.for_neighbours })
+    rw (written_back c.self.inside.distances.len c.write_distances-then-has_unreached.new.distances _ same_again)
+    (laid_out_anew new c.self.inside.neighbours.items c.write_distances-then-has_unreached.new.distances ok rows again searched, record { for_edges = omega (arith, c.put_edge.ensures.room, c.remove-edge.ensures.capacity, c.self.invariant.1.for_edges); for_neighbours = c.self.invariant.1.for_neighbours })
 
 pub returns-then-has_unreached-clause-refused : goal.returns-then-has_unreached-clause-refused
 returns-then-has_unreached-clause-refused g c =
@@ -58,14 +58,14 @@ returns-then-has_unreached-clause-refused g c =
     let left : c.remove-edge.new.self.items ≡ parted.edges = c.remove-edge.ensures.items ∙ sym place.removed in
     let searched : IsSearched parted.edges net.root c.write_distances.new.distances = rw (c.deref-2.ensures.value, left) at c.write_distances.ensures.searched in
     let long : length c.write_distances.new.distances ≡ net.nodes = omega (arith, c.write_distances.ensures.length, ap length c.deref_mut.ensures.value, c.self.invariant.0.all_distances) in
-    let same_depths : length c.write_distances.new.distances ≡ c.self.inside.depths.len = omega (arith, long, c.self.invariant.0.all_distances, c.self.inside.depths.ok.0) in
-    let wrote = written_back c.self.inside.depths.len c.write_distances.new.distances c.self.inside.depths.items same_depths in
+    let same_depths : length c.write_distances.new.distances ≡ c.self.inside.distances.len = omega (arith, long, c.self.invariant.0.all_distances, c.self.inside.distances.ok.0) in
+    let wrote = written_back c.self.inside.distances.len c.write_distances.new.distances c.self.inside.distances.items same_depths in
     let some : list_any is_unreached c.write_distances.new.distances ≡ true = sym (rw (c.deref-3.ensures.value, wrote) at c.if-has_unreached.ensures) in
     rw (← c.self.view_is) (is_apart net c.args.u c.args.v (omega arith) (omega arith) place.joined (not_connected_test parted (not_connected parted c.write_distances.new.distances long searched some)))
 
 pub write_all_neighbours-requires-clause-all : goal.write_all_neighbours-requires-clause-all
 write_all_neighbours-requires-clause-all g c =
-    omega (arith, ap length c.deref_mut-2.ensures.value, rows_long (network_of c.self.inside) c.self.inside.rows.items c.self.invariant.0.neighbours_are)
+    omega (arith, ap length c.deref_mut-2.ensures.value, rows_long (network_of c.self.inside) c.self.inside.neighbours.items c.self.invariant.0.neighbours_are)
 
 pub invariant_of-self-2 : goal.invariant_of-self-2
 invariant_of-self-2 g c =
@@ -75,15 +75,15 @@ invariant_of-self-2 g c =
     let left : c.remove-edge.new.self.items ≡ parted.edges = c.remove-edge.ensures.items ∙ sym place.removed in
     let searched : IsSearched parted.edges net.root c.write_distances.new.distances = rw (c.deref-2.ensures.value, left) at c.write_distances.ensures.searched in
     let long : length c.write_distances.new.distances ≡ net.nodes = omega (arith, c.write_distances.ensures.length, ap length c.deref_mut.ensures.value, c.self.invariant.0.all_distances) in
-    let same_depths : length c.write_distances.new.distances ≡ c.self.inside.depths.len = omega (arith, long, c.self.invariant.0.all_distances, c.self.inside.depths.ok.0) in
-    let wrote = written_back c.self.inside.depths.len c.write_distances.new.distances c.self.inside.depths.items same_depths in
+    let same_depths : length c.write_distances.new.distances ≡ c.self.inside.distances.len = omega (arith, long, c.self.invariant.0.all_distances, c.self.inside.distances.ok.0) in
+    let wrote = written_back c.self.inside.distances.len c.write_distances.new.distances c.self.inside.distances.items same_depths in
     let none : list_any is_unreached c.write_distances.new.distances ≡ false = sym (rw (c.deref-3.ensures.value, wrote) at c.if-has_unreached.ensures) in
     let new : Network = record { nodes = net.nodes; root = net.root; capacity = net.capacity; lease = net.lease; edges = c.remove-edge.new.self.items } in
     let limits : IsWithinLimits new = rw left (parted_limits net c.args.u c.args.v c.self.invariant.0.network.limits) in
     let searched_new : IsSearched new.edges new.root c.write_distances.new.distances = rw c.deref-2.ensures.value at c.write_distances.ensures.searched in
     let rows : rows_of c.write_all_neighbours.new.rows ≡ map (neighbours_in new.nodes new.edges) (range_with_len 0 new.nodes) = rw c.deref-4.ensures.value at c.write_all_neighbours.ensures.neighbours in
-    let same_rows : length c.write_all_neighbours.new.rows ≡ c.self.inside.rows.len = omega (arith, rows_long new c.write_all_neighbours.new.rows rows, rows_long net c.self.inside.rows.items c.self.invariant.0.neighbours_are, c.self.inside.rows.ok.0) in
-    rw (written_back c.self.inside.rows.len c.write_all_neighbours.new.rows c.self.inside.rows.items same_rows, written_back c.self.inside.depths.len c.write_distances.new.distances c.self.inside.depths.items same_depths)
+    let same_rows : length c.write_all_neighbours.new.rows ≡ c.self.inside.neighbours.len = omega (arith, rows_long new c.write_all_neighbours.new.rows rows, rows_long net c.self.inside.neighbours.items c.self.invariant.0.neighbours_are, c.self.inside.neighbours.ok.0) in
+    rw (written_back c.self.inside.neighbours.len c.write_all_neighbours.new.rows c.self.inside.neighbours.items same_rows, written_back c.self.inside.distances.len c.write_distances.new.distances c.self.inside.distances.items same_depths)
     (laid_out new c.write_all_neighbours.new.rows c.write_distances.new.distances limits rows long searched_new none, record { for_edges = omega (arith, c.remove-edge.ensures.capacity, c.self.invariant.1.for_edges); for_neighbours = c.write_all_neighbours.ensures.room })
 
 pub returns-clause-allowed : goal.returns-clause-allowed
@@ -94,8 +94,8 @@ returns-clause-allowed g c =
     let left : c.remove-edge.new.self.items ≡ parted.edges = c.remove-edge.ensures.items ∙ sym place.removed in
     let searched : IsSearched parted.edges net.root c.write_distances.new.distances = rw (c.deref-2.ensures.value, left) at c.write_distances.ensures.searched in
     let long : length c.write_distances.new.distances ≡ net.nodes = omega (arith, c.write_distances.ensures.length, ap length c.deref_mut.ensures.value, c.self.invariant.0.all_distances) in
-    let same_depths : length c.write_distances.new.distances ≡ c.self.inside.depths.len = omega (arith, long, c.self.invariant.0.all_distances, c.self.inside.depths.ok.0) in
-    let wrote = written_back c.self.inside.depths.len c.write_distances.new.distances c.self.inside.depths.items same_depths in
+    let same_depths : length c.write_distances.new.distances ≡ c.self.inside.distances.len = omega (arith, long, c.self.invariant.0.all_distances, c.self.inside.distances.ok.0) in
+    let wrote = written_back c.self.inside.distances.len c.write_distances.new.distances c.self.inside.distances.items same_depths in
     let none : list_any is_unreached c.write_distances.new.distances ≡ false = sym (rw (c.deref-3.ensures.value, wrote) at c.if-has_unreached.ensures) in
     rw (← c.self.view_is) (no_fault net c.args.u c.args.v (omega arith) (omega arith) place.joined (test_from_connected parted (record { limits = parted_limits net c.args.u c.args.v c.self.invariant.0.network.limits; connected = all_connected parted c.write_distances.new.distances long searched none })))
 
