@@ -46,4 +46,6 @@ pub use number::decimal_number;
 pub use path_fault::PathFault;
 
 #[cfg(test)]
+mod shelf;
+#[cfg(test)]
 mod tests;

@@ -35,16 +35,6 @@ pub const NETWORK_FILE: &str = "The network file (TOML)";
 /// The version that is told.
 const VERSION: &str = "0.1.0";
 
-/// The program's own words, or the status of a program that cannot read them.
-pub fn own_words<R: Env + Eprint + AllocGlobal>(rt: &R) -> Result<Vec<String>, ExitCode> {
-    let Ok(arguments) = std::env::args(rt) else {
-        let _ = eprintln!(rt; "tokentree: arguments Unreadable");
-        return Err(ExitCode::from(LINE_REFUSED));
-    };
-    let collected: Result<Vec<String>, AllocError> = arguments.collect(rt.alloc());
-    collected.map_err(|_| fails(rt, Fault::Memory))
-}
-
 /// Does what the words say, of which the first is the program's name, and says with which status it
 /// is done. Progress is told where standard error is a terminal.
 pub fn run_words<R, S: AsStr>(rt: &R, words: &[S], on_terminal: bool) -> ExitCode
@@ -149,7 +139,7 @@ fn help_status<R: Eprint, E: Drop>(rt: &R, printed: Result<(), E>) -> ExitCode
 }
 
 /// Shows a fault, and ends with status 1.
-fn fails<R: Eprint>(rt: &R, fault: Fault) -> ExitCode
+pub fn fails<R: Eprint>(rt: &R, fault: Fault) -> ExitCode
     ensures { exit_status result ≡ 1 }
 {
     let _ = rt.eprintln(FaultLine(fault));

@@ -34,6 +34,7 @@ mod help;
 mod locking;
 mod locking_help;
 mod node_commands;
+mod own_words;
 mod path_fault_line;
 mod threads_words;
 mod words;
@@ -42,7 +43,7 @@ use std::io::IsTerminal;
 use std::process::ExitCode;
 
 fn main(rt: HostRuntime) -> ExitCode {
-    match commands::own_words(&rt) {
+    match own_words::own_words(&rt) {
         Ok(words) => commands::run_words(&rt, words.as_slice(), rt.stderr().is_terminal()),
         Err(status) => status,
     }

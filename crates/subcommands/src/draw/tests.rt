@@ -1,31 +1,9 @@
 //! Pictures of two nodes, from texts that are refused in part, cannot be read, or have no room.
 use super::*;
+use crate::shelf::Shelf;
 use byte_streams::MemorySource;
 use std::io::{Error, ErrorKind};
 use std::test::Fail;
-
-/// Keeps what is written to it, as far as it has room, and then fails.
-#[derive(Drop)]
-struct Shelf<'a> {
-    taken: &'a mut Vec<u8>,
-    room: usize,
-}
-
-impl Write for Shelf<'_> {
-    fn write(&mut self, bytes: &[u8]) -> std::io::Result<usize> {
-        let count = bytes.len().min(self.room);
-        if count == 0 && !bytes.is_empty() {
-            return Err(Error::from(ErrorKind::BrokenPipe));
-        }
-        self.taken.extend_from_slice(&bytes[..count])?;
-        self.room -= count;
-        Ok(count)
-    }
-
-    fn flush(&mut self) -> std::io::Result<()> {
-        Ok(())
-    }
-}
 
 /// Fails when it is read.
 #[derive(Drop)]

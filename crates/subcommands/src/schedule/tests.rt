@@ -1,6 +1,6 @@
 //! Schedules as texts: by hand, and where the writer has too little room.
 use super::*;
-use std::io::{Error, ErrorKind};
+use crate::shelf::Shelf;
 use std::test::Fail;
 
 /// One round of two nodes whose links hold one item.
@@ -16,29 +16,6 @@ take 1 0
 send 1 0
 take 1 0
 ";
-
-/// Keeps what is written to it, as far as it has room, and then fails.
-#[derive(Drop)]
-struct Shelf<'a> {
-    taken: &'a mut Vec<u8>,
-    room: usize,
-}
-
-impl Write for Shelf<'_> {
-    fn write(&mut self, bytes: &[u8]) -> std::io::Result<usize> {
-        let count = bytes.len().min(self.room);
-        if count == 0 && !bytes.is_empty() {
-            return Err(Error::from(ErrorKind::BrokenPipe));
-        }
-        self.taken.extend_from_slice(&bytes[..count])?;
-        self.room -= count;
-        Ok(count)
-    }
-
-    fn flush(&mut self) -> std::io::Result<()> {
-        Ok(())
-    }
-}
 
 /// The answer, and the text of a schedule for two nodes where there is so much room.
 fn written(

@@ -1,5 +1,6 @@
 //! Readers that are interrupted or fail, and writers that have too little room.
 use super::*;
+use crate::shelf::Shelf;
 use std::io::{Error, ErrorKind};
 use std::test::Fail;
 
@@ -50,29 +51,6 @@ impl Read for Answers<'_> {
             Answer::Interrupted => Err(Error::from(ErrorKind::Interrupted)),
             Answer::Broken => Err(Error::from(ErrorKind::BrokenPipe)),
         }
-    }
-}
-
-/// Keeps what is written to it, as far as it has room, and then fails.
-#[derive(Drop)]
-struct Shelf<'a> {
-    taken: &'a mut Vec<u8>,
-    room: usize,
-}
-
-impl Write for Shelf<'_> {
-    fn write(&mut self, bytes: &[u8]) -> std::io::Result<usize> {
-        let count = bytes.len().min(self.room);
-        if count == 0 && !bytes.is_empty() {
-            return Err(Error::from(ErrorKind::BrokenPipe));
-        }
-        self.taken.extend_from_slice(&bytes[..count])?;
-        self.room -= count;
-        Ok(count)
-    }
-
-    fn flush(&mut self) -> std::io::Result<()> {
-        Ok(())
     }
 }
 
