@@ -65,8 +65,15 @@ fn draws_nothing_of_events_that_cannot_be_read(rt: HostRuntime) -> Result<(), Fa
 #[test]
 fn a_picture_without_room_is_a_fault(rt: HostRuntime) -> Result<(), Fail> {
     let source = MemorySource::new(b"tick 0\n", 5);
-    let (answer, text) = drawn(rt.alloc(), source, 300)?;
-    assert_eq!(rt; answer, Err(Fault::Output));
-    assert_eq!(rt; text.len(), 300);
+    let (answer, whole) = drawn(rt.alloc(), source, 100_000)?;
+    assert_eq!(rt; answer, Ok(ExitCode::SUCCESS));
+    let all_but_one = whole.len().saturating_sub(1);
+    for room in [0, 1, 300, 4000, all_but_one] {
+        let source = MemorySource::new(b"tick 0\n", 5);
+        let (answer, text) = drawn(rt.alloc(), source, room)?;
+        assert_eq!(rt; answer, Err(Fault::Output), "with room for {room} bytes");
+        assert_eq!(rt; text.len(), room);
+        assert!(rt; whole.as_bytes().starts_with(text.as_bytes()));
+    }
     Ok(())
 }
