@@ -82,7 +82,8 @@ pub fn serves_behind<A: Allocator + Copy>(
     if let Event::Damage(_) = event {
         return serves(configuration);
     }
-    if before == touched_sight(configuration, event) {
+    let is_same = before == touched_sight(configuration, event);
+    if is_same {
         served
     } else {
         serves(configuration)

@@ -18,10 +18,10 @@ equal-sights a b e = grind (arith, common_steps, nat_tests)
 equal : (a b : Option Sight) → option_eq same.eq-value.it a b ≡ true → a ≡ b
 equal a b e = grind (arith, common_steps, equal-sights)
 
-pub returns-then-eq : goal.returns-then-eq
-returns-then-eq g c old happens before served =
+pub returns-then-is_same : goal.returns-then-is_same
+returns-then-is_same g c old happens before served =
     let e = c.args.event.now in
-    let same : c.args.before ≡ c.touched_sight.result = equal c.args.before c.touched_sight.result (sym c.eq.ensures ∙ c.if-eq.true) in
+    let same : c.args.before ≡ c.touched_sight.result = equal c.args.before c.touched_sight.result (sym c.eq-is_same.ensures ∙ c.if-is_same.true) in
     let after : IsTouchedSight (step old e) e c.args.before =
     subst (λ (w : World). IsTouchedSight w e c.args.before) happens
     (subst (IsTouchedSight (world_of c.args.configuration.now) e) (sym same) c.touched_sight.ensures)
