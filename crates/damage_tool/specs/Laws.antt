@@ -4,7 +4,9 @@ use Rattle.rand_pcg.specs.Lcg.{Lcg}
 use Rattle.lock_desk.specs.Desk.{waits}
 use Rattle.run_model.specs.World.{World, IsWorldInRange}
 use Rattle.run_model.specs.Step.{refusal, step}
+use Rattle.run_model.specs.Run.{run}
 use Rattle.run_model.specs.declared.event.Event.{Event}
+use Rattle.damage_tool.specs.Draws.{draw}
 use Rattle.damage_tool.specs.Harms.{draw_world}
 
 -- no event of the list is refused, where they happen one after the other
@@ -22,3 +24,13 @@ abbrev pub ScrambleIsAccepted : Type 0
 ScrambleIsAccepted =
     (w : World) (g : Lcg) → IsWorldInRange w → WaitsNowhere w 65535
     → AreAccepted w (draw_world w.net g).0
+
+-- and the harms leave the network as it is
+abbrev pub ScrambleKeepsNetwork : Type 0
+ScrambleKeepsNetwork =
+    (w : World) (g : Lcg) → IsWorldInRange w → WaitsNowhere w 65535
+    → (run w (draw_world w.net g).0).net ≡ w.net
+
+-- what is drawn of k numbers is below k
+abbrev pub DrawsAreBelow : Type 0
+DrawsAreBelow = (k : ℕ) (g : Lcg) → 0 < k → (draw k g).0 < k

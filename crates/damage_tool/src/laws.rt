@@ -1,10 +1,18 @@
 //! What holds of damage that is drawn: each law is the contract of a function that does nothing.
-ghost use Rattle.damage_tool.specs.Laws.{ScrambleIsAccepted};
+ghost use Rattle.damage_tool.specs.Laws.{ScrambleIsAccepted, ScrambleKeepsNetwork, DrawsAreBelow};
 
-/// Every harm of a scramble is accepted where no client waits: what it writes is in range, and no
-/// link gets more items than it holds. Whoever lets the harms happen need look at no refusal.
+/// Every harm of a scramble is accepted where no client waits: what it writes is in range, no link
+/// gets more items than it holds, and no edge joins or goes. Whoever lets the harms happen need
+/// look at no refusal, and may speak of the network behind them as of the one before.
 pub fn scramble()
-    ensures { ScrambleIsAccepted }
+    ensures accepted { ScrambleIsAccepted }
+    ensures network { ScrambleKeepsNetwork }
 {
     topology::laws::limits();
 }
+
+/// What is drawn of so many numbers is one of them. Whoever draws a node or an edge by its place
+/// needs it.
+pub fn draws()
+    ensures { DrawsAreBelow }
+{}

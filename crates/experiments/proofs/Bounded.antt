@@ -1,5 +1,5 @@
 -- A run that goes on without damage fails to serve for the last time before the sharper bound.
-use Rattle.std.proofs.Common.{◌≡◌, ◌∙◌, ap, sym, subst, ℕ, ◌+◌, ◌<◌, ◌≤◌, Option, Some, None, List, [], ◌++◌, arith, inl, inr}
+use Rattle.std.proofs.Common.{◌≡◌, ◌∙◌, ap, sym, subst, ℕ, ◌<◌, ◌≤◌, Option, Some, None, List, arith, inl, inr}
 use Rattle.std.specs.Prelude.{◌⊎◌}
 use Rattle.topology.specs.Network.{Network}
 use Rattle.topology.specs.Eccentricity.{sharp_of}
@@ -10,7 +10,6 @@ use Rattle.run_model.specs.Headline.{IsServing}
 use Rattle.run_model.specs.Laws.{FewerSweeps, NetworkStays, UndamagedSplits, MomentLeads}
 use Rattle.run_model.specs.declared.event.Event.{Event}
 use Rattle.convergence.specs.Sharp.{SharpHeadline}
-use Rattle.judge.specs.Judging.{counted_up_to}
 use Rattle.experiments.specs.Recovery.{FailedLast, counted_from}
 
 module _ (network : NetworkStays) (splits : UndamagedSplits) (leads : MomentLeads) (fewer : FewerSweeps) (sharp : SharpHeadline) (start : World)

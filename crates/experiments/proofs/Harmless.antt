@@ -1,11 +1,11 @@
 -- Runs that go on without damage.
-use Rattle.std.proofs.Common.{◌≡◌, ◌∙◌, ap, sym, subst, ℕ, ◌+◌, ◌<◌, ◌≤◌, Bool, true, false, Option, Some, None, List, [], ◌∷◌, ◌++◌, Result, Ok, Err, OnOk, arith, refl, inl, inr}
-use Rattle.std.specs.Prelude.{◌||◌, ◌⊎◌}
+use Rattle.std.proofs.Common.{◌≡◌, ℕ, Bool, true, false, Option, List, [], ◌∷◌, ◌++◌, Result, Ok, Err, OnOk, arith, refl, inl, inr}
+use Rattle.std.specs.Prelude.{◌||◌}
 use Rattle.topology.specs.Network.{Network}
 use Rattle.byte_streams.specs.Streams.{CountsFailures, Rose}
 use Rattle.run_model.specs.World.{World}
 use Rattle.run_model.specs.Step.{step}
-use Rattle.run_model.specs.Run.{run, is_damage, has_damage, IsUndamaged}
+use Rattle.run_model.specs.Run.{is_damage, has_damage, IsUndamaged}
 use Rattle.run_model.specs.declared.event.Event.{Event}
 use Rattle.run_model.specs.declared.event.Event.TheVariants.{Send, Take, Lose, Tick, Ask, Leave, Damage}
 use Rattle.judge.specs.JudgeView.{JudgeView}

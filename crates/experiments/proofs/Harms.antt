@@ -4,7 +4,7 @@ use Rattle.std.proofs.lemmas.Grind.{common_steps}
 use Rattle.std.specs.List.{slice_index_or}
 use Rattle.byte_streams.specs.Streams.{Rose}
 use Rattle.run_model.specs.declared.event.Event.{Event}
-use Rattle.schedules.proofs.Taking.{TakesBoth}
+use Rattle.schedules.specs.Taking.{TakesBoth}
 use Rattle.experiments.specs.Plan.{CountsSinkFailures}
 use Rattle.experiments.specs.declared.plan.PlanFault.{PlanFault}
 use Rattle.experiments.specs.declared.plan.PlanFault.TheVariants.{Memory, Sink}

@@ -1,5 +1,5 @@
 -- Every random step is accepted.
-use Rattle.std.proofs.Common.{◌≡◌, ◌∙◌, ap, sym, subst, ℕ, ◌+◌, ◌<◌, ◌≤◌, Bool, true, false, zero, suc, Option, Some, None, List, [], ◌∷◌, ◌++◌, length, get_or, arith, refl, inl, inr}
+use Rattle.std.proofs.Common.{◌≡◌, ◌∙◌, ap, sym, subst, ℕ, ◌<◌, Bool, true, false, zero, suc, Option, Some, None, [], ◌∷◌, length, get_or, arith, refl, inl, inr}
 use Rattle.std.specs.Prelude.{◌⊎◌, ◌==◌, nat_lt, if◌then◌else◌, is_some}
 use Rattle.std.proofs.lemmas.Grind.{common_steps}
 use Rattle.std.proofs.lemmas.Bool.Decides.{nat_tests}
@@ -13,8 +13,7 @@ use Rattle.run_model.specs.declared.event.Event.{Event}
 use Rattle.run_model.specs.declared.event.EventFault.{EventFault}
 use Rattle.run_model.specs.declared.event.Event.TheVariants.{Send, Take, Lose, Tick, Ask, Leave, Damage}
 use Rattle.damage_tool.specs.Draws.{draw}
-use Rattle.damage_tool.specs.Laws.{AreAccepted}
-use Rattle.damage_tool.proofs.Accepted.{draw-below}
+use Rattle.damage_tool.specs.Laws.{AreAccepted, DrawsAreBelow}
 use Rattle.schedules.specs.Random.{draw_link, draw_arrival, draw_client, draw_step, node_at, admitted, random_steps}
 use Rattle.schedules.specs.declared.random.Chances.{Chances}
 
@@ -78,20 +77,20 @@ end-below : (n : ℕ) (b : Bool) (edge : Edge) → IsEdgeBelow n edge → (if b 
 end-below n true edge below = below.second
 end-below n false edge below = below.first
 
-link-below : (net : Network) → IsAcceptedNetwork net → 0 < length net.edges → (g : Lcg) → (draw_link net g).0.1 < net.nodes
-link-below net ok some g =
+link-below : DrawsAreBelow → (net : Network) → IsAcceptedNetwork net → 0 < length net.edges → (g : Lcg) → (draw_link net g).0.1 < net.nodes
+link-below draw_below net ok some g =
     let at = draw (length net.edges) g in
     let way = draw 2 at.1 in
     let edge = get_or net.edges at.0 (0, 0) in
     end-below net.nodes (way.0 == 0) edge
-    (All-get_or (IsEdgeBelow net.nodes) net.edges at.0 (0, 0) (draw-below (length net.edges) g some) ok.limits.edges_in)
+    (All-get_or (IsEdgeBelow net.nodes) net.edges at.0 (0, 0) (draw_below (length net.edges) g some) ok.limits.edges_in)
 
-module _ (net : Network) (ok : IsAcceptedNetwork net) (some : 0 < length net.edges) where
+module _ (draw_below : DrawsAreBelow) (net : Network) (ok : IsAcceptedNetwork net) (some : 0 < length net.edges) where
   arrival-step : (loss : ℕ) (g : Lcg) → IsStepOf net (draw_arrival net loss g).0
   arrival-step loss g =
       let link = draw_link net g in
       let percent = draw 100 link.1 in
-      let below : link.0.1 < net.nodes = link-below net ok some g in
+      let below : link.0.1 < net.nodes = link-below draw_below net ok some g in
       either (IsStepOf net) (nat_lt percent.0 loss) (Lose link.0.0 link.0.1 0) (Take link.0.0 link.0.1) below below
 
   client-step : (g : Lcg) → IsStepOf net (draw_client net g).0
@@ -99,7 +98,7 @@ module _ (net : Network) (ok : IsAcceptedNetwork net) (some : 0 < length net.edg
       let node = draw net.nodes g in
       let ticket = draw 16 node.1 in
       let way = draw 2 ticket.1 in
-      let below : node.0 < net.nodes = draw-below net.nodes g (omega (arith, ok.limits.two)) in
+      let below : node.0 < net.nodes = draw_below net.nodes g (omega (arith, ok.limits.two)) in
       either (IsStepOf net) (way.0 == 0) (Ask node.0 ticket.0) (Leave node.0 ticket.0) below below
 
   pub drawn-step : (c : Chances) (g : Lcg) → IsStepOf net (draw_step net c g).0
@@ -107,12 +106,12 @@ module _ (net : Network) (ok : IsAcceptedNetwork net) (some : 0 < length net.edg
       let kind = draw (if c.clients then 4 else 3) g in
       let node = draw net.nodes kind.1 in
       let link = draw_link net kind.1 in
-      let below : node.0 < net.nodes = draw-below net.nodes kind.1 (omega (arith, ok.limits.two)) in
+      let below : node.0 < net.nodes = draw_below net.nodes kind.1 (omega (arith, ok.limits.two)) in
       either-drawn (IsStepOf net) (kind.0 == 0) (Tick node.0, node.1)
       (if kind.0 == 1 then (Send link.0.0 link.0.1, link.1) else if kind.0 == 2 then draw_arrival net c.loss kind.1 else draw_client net kind.1)
       below
       (either-drawn (IsStepOf net) (kind.0 == 1) (Send link.0.0 link.0.1, link.1)
-      (if kind.0 == 2 then draw_arrival net c.loss kind.1 else draw_client net kind.1) (link-below net ok some kind.1)
+      (if kind.0 == 2 then draw_arrival net c.loss kind.1 else draw_client net kind.1) (link-below draw_below net ok some kind.1)
       (either-drawn (IsStepOf net) (kind.0 == 2) (draw_arrival net c.loss kind.1) (draw_client net kind.1) (arrival-step c.loss kind.1) (client-step kind.1)))
 
   pub random-accepted : NetworkStays → (c : Chances) (n : ℕ) (w : World) (g : Lcg) → w.net ≡ net → AreAccepted w (random_steps w c n g)

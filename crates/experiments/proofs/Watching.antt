@@ -1,6 +1,6 @@
 -- A run is watched from its start on, event by event.
-use Rattle.std.proofs.Common.{◌≡◌, ◌∙◌, ap, sym, subst, ℕ, List, [], ◌∷◌, ◌++◌, Option, Some, None, append_assoc, refl, inl, inr}
-use Rattle.std.specs.Prelude.{◌⊎◌}
+use Rattle.std.proofs.Common.{◌≡◌, ◌∙◌, ap, sym, subst, ℕ, Bool, true, false, List, [], ◌∷◌, ◌++◌, Option, Some, None, IsTrue, append_assoc, refl, arith, inl, inr}
+use Rattle.std.specs.Prelude.{◌↔◌, if◌then◌else◌}
 use Rattle.std.proofs.lemmas.List.{append-nil}
 use Rattle.run_model.specs.World.{World}
 use Rattle.run_model.specs.Step.{step}
@@ -8,7 +8,10 @@ use Rattle.run_model.specs.Run.{run}
 use Rattle.run_model.specs.Count.{IsSweepCount}
 use Rattle.run_model.specs.Headline.{IsServing}
 use Rattle.run_model.specs.declared.event.Event.{Event}
+use Rattle.configuration.specs.ConfigurationView.{ConfigurationView, world_of}
 use Rattle.judge.specs.Judging.{counted_up_to}
+use Rattle.serving.specs.Sight.{IsTouchedSight}
+use Rattle.serving.specs.declared.sight.Sight.{Sight}
 use Rattle.experiments.specs.Recovery.{ServesBehindEach, IsLastFailure, FailedLast, IsLastNow}
 
 run-append : (w : World) (xs ys : List Event) → run w (xs ++ ys) ≡ run (run w xs) ys
@@ -40,6 +43,23 @@ last-stays : (start : World) (es : List Event) (e : Event) (last : Option ℕ) �
     → FailedLast start (es ++ e ∷ []) last
 last-stays start es e None f serves = (f.0, serves-more start es e f.1 serves)
 last-stays start es e (Some sweeps) f serves = failure-stays start es e sweeps f serves
+
+-- the flag is set exactly where the world serves
+abbrev pub IsExact : Bool → World → Type 0
+IsExact serves w = IsTrue serves ↔ IsServing w
+
+-- whatever keeps a flag exact over an event by the sight of the touched node keeps it so here
+pub exact-behind : (old new read after : ConfigurationView) (e : Event) (sight : Option Sight) (served serves : Bool) → read ≡ old → after ≡ new
+    → world_of new ≡ step (world_of old) e → IsTouchedSight (world_of read) e sight → IsExact served (world_of old)
+    → ((w : World) → world_of after ≡ step w e → IsTouchedSight w e sight → IsExact served w → IsExact serves (world_of after)) → IsExact serves (world_of after)
+exact-behind old new read after e sight served serves is_read is_after happens touched exact keeps =
+    keeps (world_of old) (ap world_of is_after ∙ happens) (subst (λ j. IsTouchedSight (world_of j) e sight) is_read touched) exact
+
+-- the last failure by such a flag
+pub last-by : (w : World) (serves : Bool) (sweeps : ℕ) (before after : Option ℕ) → IsExact serves w
+    → after ≡ (if serves then before else Some sweeps) → IsLastNow w sweeps before after
+last-by w true sweeps before after exact is = inl (exact.0 refl, is)
+last-by w false sweeps before after exact is = inr (λ serving. let wrong = exact.1 serving in grind arith, is)
 
 -- it fails now
 pub fails-now : (start : World) (es : List Event) (sweeps : ℕ) → (count : ℕ) → IsSweepCount start es count → sweeps ≡ counted_up_to count

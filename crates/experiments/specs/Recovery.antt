@@ -9,6 +9,12 @@ use Rattle.run_model.specs.declared.event.Event.{Event}
 use Rattle.judge.specs.Judging.{counted_up_to}
 use Rattle.judge.specs.JudgeView.{JudgeView, HasSeen}
 
+-- what contracts see of a watch: the judge of the run, and how many sweeps there had been when the
+-- run last failed to serve
+pub record WatchView : Type 0 where
+  pub judge : JudgeView
+  pub last : Option ℕ
+
 -- the network serves behind each of these events
 abbrev pub ServesBehindEach : World → List Event → Type 0
 ServesBehindEach w [] = Unit {0}

@@ -6,8 +6,10 @@ ghost use Rattle.experiments.specs.Laws.{PlansAreAccepted};
 pub fn accepted()
     ensures { PlansAreAccepted }
 {
-    topology::laws::limits();
-    topology::laws::tree();
     run_model::laws::runs();
+    run_model::laws::start();
+    damage_tool::laws::scramble();
+    damage_tool::laws::draws();
     schedules::laws::accepted();
+    schedules::laws::edges();
 }

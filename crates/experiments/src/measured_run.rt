@@ -63,11 +63,12 @@ pub fn measure_run<A: Allocator + Copy>(
     // run serves later than the theorem says.
     ensures { IfOk result (IsRunOf net.now seed) }
 {
-    topology::laws::limits();
     run_model::laws::runs();
+    run_model::laws::start();
     run_model::laws::moments();
     run_model::laws::sweep_numbers();
     convergence::laws::sharp();
+    damage_tool::laws::scramble();
     let _known_nodes = net.nodes();
     let start = scrambled_world(alloc, net, seed)?;
     let mut watch = Watch::new(start);
@@ -144,6 +145,7 @@ fn give_stretch<A: Allocator + Copy>(
 fn give_one_round<A: Allocator + Copy>(net: &Net<A>, watch: &mut Watch<A>)
     ensures { GoesOnUnharmed watch.old.judge watch.old.last watch.new.judge watch.new.last }
 {
+    schedules::laws::accepted();
     // A watch never fails.
     let _given = give_round(net, watch);
 }
@@ -152,7 +154,8 @@ fn give_one_round<A: Allocator + Copy>(net: &Net<A>, watch: &mut Watch<A>)
 fn give_steps<A: Allocator + Copy>(net: &Net<A>, generator: &mut Lcg64Xsh32, watch: &mut Watch<A>)
     ensures { GoesOnUnharmed watch.old.judge watch.old.last watch.new.judge watch.new.last }
 {
-    topology::laws::tree();
+    damage_tool::laws::draws();
+    schedules::laws::edges();
     let nodes = u64::from(net.nodes());
     for step in 0..nodes + 4 * net.edges().len() as u64 {
         let event = draw_step(net, PLAIN, generator);

@@ -140,6 +140,7 @@ fn give_harms<A: Allocator + Copy, S: EventSink>(
     ensures taken { OnOk result (S.takes sink.old harms.now sink.new) }
     ensures cause { CountsFailures result (S.failures sink.old) (S.failures sink.new) }
 {
+    schedules::laws::taking::<S>();
     for harm in harms {
         let _happened = configuration.step(harm);
         sink.take(harm)?;

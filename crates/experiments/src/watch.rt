@@ -1,8 +1,8 @@
 //! A run under way, and since when it serves.
-ghost use Rattle.std.specs.Prelude.{◌≡◌, ◌∷◌, [], IsOk};
+ghost use Rattle.std.specs.Prelude.{◌≡◌, ◌∷◌, [], IsOk, if◌then◌else◌, Some};
 ghost use Rattle.configuration.specs.ConfigurationView.{world_of};
 ghost use Rattle.judge.specs.JudgeView.{AreSweepsSeen};
-ghost use Rattle.experiments.specs.Recovery.{counted_from, IsLastNow, IsWatched};
+ghost use Rattle.experiments.specs.Recovery.{counted_from, IsWatched};
 ghost use Rattle.experiments.specs.Watched.{GoesOn};
 
 use byte_streams::Failed;
@@ -10,7 +10,9 @@ use configuration::Configuration;
 use judge::{Judge, World};
 use run_model::Event;
 use schedules::EventSink;
+use serving::{serves, serves_behind, touched_sight};
 use std::alloc::{Allocator, Global};
+use std::marker::Model;
 
 /// Lets events happen from a world on, counts their sweeps, and keeps after how many of them the
 /// network last did not serve.
@@ -19,6 +21,22 @@ pub struct Watch<A: Allocator + Copy = Global> {
     judge: Judge<A>,
     /// How many sweeps there had been at the last moment at which it did not serve.
     last: Option<u64>,
+    /// Whether it serves now. It is kept so that an event need be asked of the node alone that it
+    /// touches.
+    serves: bool,
+}
+
+impl<A: Allocator + Copy> Model for Watch<A> {
+    ghost use Rattle.std.specs.Prelude.{◌↔◌, IsTrue};
+    ghost use Rattle.configuration.specs.ConfigurationView.{world_of};
+    ghost use Rattle.run_model.specs.Headline.{IsServing};
+    ghost use Rattle.experiments.specs.Recovery.{WatchView};
+
+    ghost Value = { WatchView };
+
+    ghost view = { λ w. record { judge = w.judge; last = w.last } };
+
+    ghost invariant = { λ w. IsTrue w.serves ↔ IsServing (world_of w.judge.configuration) };
 }
 
 impl<A: Allocator + Copy> Watch<A> {
@@ -27,8 +45,13 @@ impl<A: Allocator + Copy> Watch<A> {
         ensures { IsWatched (world_of world) [] result.judge result.last }
     {
         let judge = Judge::new(world);
-        let last = last_failure(judge.configuration(), judge.sweeps(), None);
-        Watch { judge, last }
+        let serves = serves(judge.configuration());
+        let last = last_failure(serves, judge.sweeps(), None);
+        Watch {
+            judge,
+            last,
+            serves,
+        }
     }
 
     /// The nodes and links now.
@@ -58,18 +81,10 @@ impl<A: Allocator + Copy> Watch<A> {
 }
 
 /// The sweeps at the last moment at which a network did not serve, with one moment more.
-fn last_failure<A: Allocator + Copy>(
-    configuration: &Configuration<A>,
-    sweeps: u64,
-    last: Option<u64>,
-) -> Option<u64>
-    ensures { IsLastNow (world_of configuration.now) sweeps last result }
+fn last_failure(serves: bool, sweeps: u64, last: Option<u64>) -> Option<u64>
+    ensures { result ≡ (if serves then last else Some sweeps) }
 {
-    if serving::serves(configuration) {
-        last
-    } else {
-        Some(sweeps)
-    }
+    if serves { last } else { Some(sweeps) }
 }
 
 impl<A: Allocator + Copy> EventSink for Watch<A> {
@@ -79,14 +94,18 @@ impl<A: Allocator + Copy> EventSink for Watch<A> {
 
     ghost failures = { λ w. 0 };
 
-    /// It never fails.
+    /// It never fails. The whole network is looked at only where the node that the event touches
+    /// looks otherwise behind it, and at harms.
     fn take(&mut self, event: &Event) -> Result<(), Failed>
         ensures taken { GoesOn self.old.judge self.old.last (event.now ∷ []) self.new.judge
             self.new.last }
         ensures done { IsOk result }
     {
+        let before = touched_sight(self.judge.configuration(), event);
         let _answer = self.judge.step(event);
-        self.last = last_failure(self.judge.configuration(), self.judge.sweeps(), self.last);
+        let now = self.judge.configuration();
+        self.serves = serves_behind(now, event, self.serves, before);
+        self.last = last_failure(self.serves, self.judge.sweeps(), self.last);
         Ok(())
     }
 

@@ -1,5 +1,5 @@
 -- The lists of a schedule, each as its next part and what is left behind that.
-use Rattle.std.proofs.Common.{◌≡◌, ◌∙◌, ap, sym, ℕ, ◌+◌, ◌-◌, ◌<◌, suc, List, [], ◌∷◌, ◌++◌, length, drop, get_or, map, append_assoc, arith, refl}
+use Rattle.std.proofs.Common.{◌≡◌, ◌∙◌, ap, sym, ℕ, ◌+◌, ◌-◌, ◌<◌, suc, List, [], ◌∷◌, ◌++◌, length, drop, get_or, map, arith}
 use Rattle.std.specs.List.{flat_map, range_with_len}
 use Rattle.std.proofs.lemmas.Grind.{common_steps}
 use Rattle.rand_pcg.specs.Lcg.{Lcg}
@@ -8,10 +8,11 @@ use Rattle.run_model.specs.World.{World}
 use Rattle.run_model.specs.Step.{step}
 use Rattle.run_model.specs.declared.event.Event.{Event}
 use Rattle.run_model.specs.declared.event.Event.TheVariants.{Send, Take, Tick}
-use Rattle.schedules.specs.Rounds.{exchanges, exchanges_from, round, rounds}
+use Rattle.schedules.specs.Rounds.{exchanges, round, rounds}
 use Rattle.schedules.specs.Random.{draw_step, admitted, random_steps}
 use Rattle.schedules.specs.declared.random.Chances.{Chances}
-use Rattle.schedules.proofs.Taking.{IsUnderWay, TakesBoth, goes-on}
+use Rattle.schedules.specs.Taking.{IsUnderWay, TakesBoth}
+use Rattle.schedules.proofs.Taking.{goes-on}
 
 -- what is left of n, the next being i, is one more than what is left behind it
 one-more : (i n : ℕ) → i < n → n - i ≡ suc (n - (i + 1))

@@ -2,16 +2,7 @@
 use Rattle.std.proofs.Common.{◌≡◌, ◌∙◌, ap, sym, subst, List, [], ◌++◌, append_assoc, refl}
 use Rattle.std.proofs.lemmas.List.{append-nil}
 use Rattle.run_model.specs.declared.event.Event.{Event}
-
--- from one state of the sink to another it has taken the whole list but what is left
-pub record IsUnderWay {S : Type 0} (takes : S → List Event → S → Type 0) (old : S) (whole left : List Event) (now : S) : Type 0 where
-  pub done : List Event
-  pub parts : whole ≡ done ++ left
-  pub taken : takes old done now
-
--- what is taken in two parts is taken together
-abbrev pub TakesBoth : {S : Type 0} → (S → List Event → S → Type 0) → Type 0
-TakesBoth {S} takes = (a b c : S) (xs ys : List Event) → takes a xs b → takes b ys c → takes a (xs ++ ys) c
+use Rattle.schedules.specs.Taking.{TakesBoth, IsUnderWay}
 
 pub begins : {S : Type 0} (takes : S → List Event → S → Type 0) → ((s : S) → takes s [] s) → (s : S) (whole : List Event) → IsUnderWay takes s whole whole s
 begins takes none s whole = record { done = []; parts = refl; taken = none s }

@@ -1,7 +1,8 @@
 -- What holds of the schedule by rounds.
-use Rattle.std.specs.Prelude.{◌≡◌, ℕ, ◌<◌, true, zero, suc, [], None}
+use Rattle.std.specs.Prelude.{◌≡◌, ℕ, ◌<◌, true, zero, suc, [], None, length}
+use Rattle.topology.specs.Network.{Network, IsAcceptedNetwork}
 use Rattle.run_model.specs.World.{World, IsWorldInRange}
-use Rattle.run_model.specs.Run.{run}
+use Rattle.run_model.specs.Run.{run, IsUndamaged}
 use Rattle.run_model.specs.Sweep.{is_full_tick, IsSweep, Sweeps}
 use Rattle.run_model.specs.declared.event.Event.TheVariants.{Tick}
 use Rattle.damage_tool.specs.Laws.{AreAccepted}
@@ -38,3 +39,11 @@ IdleRoundsAreSweeps =
 -- no event of the rounds is refused
 abbrev pub RoundsAreAccepted : Type 0
 RoundsAreAccepted = (w : World) (n : ℕ) → AreAccepted w (rounds w.net n)
+
+-- and none of a round is damage
+abbrev pub RoundIsUndamaged : Type 0
+RoundIsUndamaged = (net : Network) (w : World) → IsUndamaged w (round net)
+
+-- an accepted network has an edge, so there is one to draw
+abbrev pub HasEdge : Type 0
+HasEdge = (net : Network) → IsAcceptedNetwork net → 0 < length net.edges

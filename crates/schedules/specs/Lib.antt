@@ -1,3 +1,4 @@
 pub mod Rounds
 pub mod Random
+pub mod Taking
 pub mod Laws

@@ -1,6 +1,9 @@
 //! What holds of schedules: each law is the contract of a function that does nothing.
 ghost use Rattle.schedules.specs.Laws.{RoundIsSweep, RoundsAreSweeps, IdleRoundsAreSweeps};
-ghost use Rattle.schedules.specs.Laws.{RoundsAreAccepted};
+ghost use Rattle.schedules.specs.Laws.{RoundsAreAccepted, RoundIsUndamaged, HasEdge};
+ghost use Rattle.schedules.specs.Taking.{TakesOn};
+
+use crate::event_sink::EventSink;
 
 /// A round is a sweep in every world in which each tick is full, and n rounds are n sweeps where
 /// that holds at the start of each; in a network without clients it always does. Whoever asks how
@@ -19,9 +22,23 @@ pub fn rounds()
     run_model::laws::sweep_numbers();
 }
 
-/// No event of a round is refused, in whatever state the world is.
+/// No event of a round is refused, and none is damage, in whatever state the world is.
 pub fn accepted()
-    ensures { RoundsAreAccepted }
+    ensures accepted { RoundsAreAccepted }
+    ensures undamaged { RoundIsUndamaged }
 {
     run_model::laws::runs();
 }
+
+/// An accepted network has an edge. Whoever draws one needs it.
+pub fn edges()
+    ensures { HasEdge }
+{
+    topology::laws::tree();
+}
+
+/// A sink that took a whole list but what is left, and then the part in front of that, took all but
+/// the rest. Whoever gives a sink a list part by part needs it.
+pub fn taking<S: EventSink>()
+    ensures { TakesOn S.takes }
+{}

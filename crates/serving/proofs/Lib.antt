@@ -1,1 +1,3 @@
+mod RowsSight
 mod Serving
+mod Sights

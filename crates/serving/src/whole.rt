@@ -1,5 +1,6 @@
 //! The test, over all nodes.
-ghost use Rattle.std.specs.Prelude.{◌↔◌, ◌<◌, IsTrue};
+ghost use Rattle.std.specs.Prelude.{◌↔◌, ◌<◌, ◌≤◌, IsTrue};
+ghost use Rattle.run_model.specs.NodeCounts.{lending_count, privileged_count};
 ghost use Rattle.run_model.specs.Headline.{IsServing};
 ghost use Rattle.configuration.specs.ConfigurationView.{world_of};
 ghost use Rattle.serving.specs.TreeShown.{IsNodeShown, IsTreeShown};
@@ -14,7 +15,16 @@ pub fn serves<A: Allocator + Copy>(configuration: &Configuration<A>) -> bool
 {
     topology::laws::tree();
     configuration.assure_ranges();
-    shows_tree(configuration) && configuration.privileged() <= 1 && configuration.lending() <= 1
+    // To count the nodes costs less than to look for their parents.
+    has_few(configuration) && shows_tree(configuration)
+}
+
+/// Whether at most one node is privileged, and at most one lends.
+fn has_few<A: Allocator + Copy>(configuration: &Configuration<A>) -> bool
+    ensures { IsTrue result ↔ ((privileged_count (world_of configuration.now) ≤ 1)
+        × (lending_count (world_of configuration.now) ≤ 1)) }
+{
+    configuration.privileged() <= 1 && configuration.lending() <= 1
 }
 
 /// Whether each node has its distance and its true parent.

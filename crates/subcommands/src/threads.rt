@@ -155,6 +155,7 @@ fn give_events<S: EventSink>(events: &[Event], sink: &mut S) -> Result<(), Faile
     ensures taken { OnOk result (S.takes sink.old events.now sink.new) }
     ensures cause { CountsFailures result (S.failures sink.old) (S.failures sink.new) }
 {
+    schedules::laws::taking::<S>();
     for event in events {
         sink.take(event)?;
     }

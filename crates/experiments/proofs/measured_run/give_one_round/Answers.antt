@@ -1,5 +1,4 @@
 use Rattle.schedules.specs.Rounds.{round}
-use Rattle.schedules.proofs.Plain.{plain-round, plain-undamaged}
 use Rattle.experiments.proofs.Harmless.{never-fails}
 use Rattle.experiments.proofs.measured_run.give_one_round.Goals as goal
 
@@ -8,6 +7,6 @@ returns g c =
     let net = c.args.net.now in
     record {
       events = round net;
-      harmless = λ w. plain-undamaged net w (round net) (plain-round net);
+      harmless = c.accepted.ensures.undamaged net;
       goes_on = never-fails c.give_round-given.result c.give_round-given.ensures.cause c.give_round-given.ensures.taken;
     }

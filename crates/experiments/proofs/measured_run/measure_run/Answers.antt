@@ -1,4 +1,4 @@
-use Rattle.std.proofs.Common.{◌≡◌, ◌∙◌, ap, sym, subst, ℕ, ◌≤◌, Option, Some, List, [], arith, refl}
+use Rattle.std.proofs.Common.{◌≡◌, subst, ◌≤◌, Some, [], arith, refl}
 use Rattle.topology.specs.Network.{Network}
 use Rattle.topology.specs.Eccentricity.{sharp_of}
 use Rattle.run_model.specs.World.{World}
@@ -6,12 +6,12 @@ use Rattle.configuration.specs.ConfigurationView.{world_of}
 use Rattle.experiments.specs.Recovery.{IsWatched, counted_from}
 use Rattle.experiments.specs.Shown.{scrambled, seeded}
 use Rattle.experiments.proofs.Bounded.{recovers-within}
-use Rattle.experiments.proofs.Plans.{harms-go}
+use Rattle.experiments.proofs.Plans.{harms-keep}
 use Rattle.experiments.proofs.measured_run.measure_run.Given as given
 use Rattle.experiments.proofs.measured_run.measure_run.Goals as goal
-use Rattle.experiments.proofs.measured_run.measure_run.Goals.{After-drop-watch-9}
+use Rattle.experiments.proofs.measured_run.measure_run.Goals.{After-drop-watch-inside-9}
 
-module _ (g : given.Over) (c : After-drop-watch-9 g) where
+module _ (g : given.Over) (c : After-drop-watch-inside-9 g) where
   -- the watch has seen the stretches from the scrambled world on
   watched : IsWatched (scrambled c.args.net.now (seeded c.args.seed)) c.give_stretches.ensures.events c.give_stretches.new.watch.judge c.give_stretches.new.watch.last
   watched =
@@ -25,8 +25,7 @@ returns g c =
     let w = watched g c in
     let start = scrambled net (seeded c.args.seed) in
     let count = c.sweeps.ensures.sweeps start c.give_stretches.ensures.events w.seen in
-    let limits = c.limits.ensures net c.nodes-known_nodes.ensures.network in
-    let same : start.net ≡ net = (harms-go net (record { counter = omega arith; ring = omega arith }) (Some (seeded c.args.seed))).open_then.same in
+    let same : start.net ≡ net = harms-keep c.start.ensures net c.nodes-known_nodes.ensures.network c.scramble.ensures.network (Some (seeded c.args.seed)) in
     let less : counted_from c.give_stretches.new.watch.last ≤ sharp_of start.net =
     recovers-within c.runs.ensures.network c.runs.ensures.undamaged_splits c.moments.ensures.leads c.sweep_numbers.ensures.fewer c.sharp.ensures.headline
     start w.seen.judging.in_range c.give_stretches.ensures.events c.give_stretches.new.watch.last (c.give_stretches.ensures.harmless start) w.failed in

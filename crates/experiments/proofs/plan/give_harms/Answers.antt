@@ -2,7 +2,6 @@ use Rattle.std.proofs.Common.{◌+◌, ◌∙◌, ap, sym, drop, arith}
 use Rattle.run_model.specs.World.{World}
 use Rattle.run_model.specs.Run.{run}
 use Rattle.configuration.specs.ConfigurationView.{world_of}
-use Rattle.schedules.proofs.Taking.{goes-on}
 use Rattle.experiments.proofs.Harms.{drop-front}
 use Rattle.experiments.proofs.plan.give_harms.Goals as goal
 
@@ -14,6 +13,6 @@ loop-harm-preserved g c =
     record {
       happen = c.loop-harm.invariant.happen ∙ ap (run (world_of c.loop-harm.configuration)) front
           ∙ ap (λ (w : World). run w left) (sym c.step-happened.ensures.world);
-      taken = goes-on g.S.EventSink.takes g.met.S.EventSink.takes_both _ _ _ _ _ _ _ c.loop-harm.invariant.taken front more.taken;
+      taken = c.taking.ensures _ _ _ _ _ _ _ c.loop-harm.invariant.taken front more.taken;
       failures = omega (arith, c.loop-harm.invariant.failures, more.cause);
     }

@@ -1,7 +1,7 @@
-use Rattle.std.proofs.Common.{◌≡◌, ◌≤◌, take, drop}
+use Rattle.std.proofs.Common.{◌≡◌, ◌≤◌, drop}
 use Rattle.run_model.specs.Run.{run}
 use Rattle.configuration.specs.ConfigurationView.{world_of}
-use Rattle.schedules.proofs.Taking.{IsUnderWay}
+use Rattle.schedules.specs.Taking.{IsUnderWay}
 use Rattle.experiments.proofs.plan.give_harms.Given as goal
 
 -- the harms but those that are left have happened, and were taken

@@ -1,6 +1,6 @@
 use Rattle.std.proofs.Common.{◌≤◌, ◌-◌}
 use Rattle.schedules.specs.Rounds.{exchanges}
-use Rattle.schedules.proofs.Taking.{IsUnderWay}
+use Rattle.schedules.specs.Taking.{IsUnderWay}
 use Rattle.schedules.proofs.by_rounds.give_exchanges.Given as goal
 
 -- the exchanges but those that are left were taken

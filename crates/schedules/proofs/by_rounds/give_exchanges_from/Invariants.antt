@@ -1,7 +1,7 @@
 use Rattle.std.proofs.Common.{◌≤◌, ◌+◌, drop}
 use Rattle.std.specs.List.{flat_map}
 use Rattle.schedules.specs.Rounds.{exchanges}
-use Rattle.schedules.proofs.Taking.{IsUnderWay}
+use Rattle.schedules.specs.Taking.{IsUnderWay}
 use Rattle.schedules.proofs.by_rounds.give_exchanges_from.Given as goal
 
 -- the exchanges with the neighbours but those that are left were taken

@@ -2,7 +2,7 @@ use Rattle.std.proofs.Common.{◌≤◌, ◌-◌, ◌++◌, map}
 use Rattle.std.specs.List.{flat_map, range_with_len}
 use Rattle.run_model.specs.declared.event.Event.TheVariants.{Tick}
 use Rattle.schedules.specs.Rounds.{exchanges_from, round}
-use Rattle.schedules.proofs.Taking.{IsUnderWay}
+use Rattle.schedules.specs.Taking.{IsUnderWay}
 use Rattle.schedules.proofs.by_rounds.give_round.Given as goal
 
 -- the ticks but those that are left were taken

@@ -1,6 +1,6 @@
 use Rattle.std.proofs.Common.{◌≤◌, ◌-◌}
 use Rattle.schedules.specs.Rounds.{rounds}
-use Rattle.schedules.proofs.Taking.{IsUnderWay}
+use Rattle.schedules.specs.Taking.{IsUnderWay}
 use Rattle.schedules.proofs.by_rounds.give_rounds.Given as goal
 
 -- the rounds but those that are left were taken

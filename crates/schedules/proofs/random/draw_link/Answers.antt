@@ -1,4 +1,4 @@
-use Rattle.std.proofs.Common.{◌<◌, length, arith}
+use Rattle.std.proofs.Common.{◌<◌, length}
 use Rattle.schedules.proofs.Edges.{has-edge}
 use Rattle.schedules.proofs.random.draw_link.Goals as goal
 

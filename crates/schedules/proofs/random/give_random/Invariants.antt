@@ -1,7 +1,7 @@
-use Rattle.std.proofs.Common.{◌≡◌, ◌≤◌, ◌-◌}
+use Rattle.std.proofs.Common.{◌≤◌, ◌-◌}
 use Rattle.configuration.specs.ConfigurationView.{world_of}
 use Rattle.schedules.specs.Random.{random_steps}
-use Rattle.schedules.proofs.Taking.{IsUnderWay}
+use Rattle.schedules.specs.Taking.{IsUnderWay}
 use Rattle.schedules.proofs.random.give_random.Given as goal
 
 -- the steps but those that are left were taken

@@ -1,6 +1,5 @@
 use Rattle.std.proofs.Common.{arith}
 use Rattle.experiments.proofs.Harms.{drop-front}
-use Rattle.schedules.proofs.Taking.{goes-on}
 use Rattle.subcommands.proofs.threads.give_events.Goals as goal
 
 pub loop-event-preserved : goal.loop-event-preserved
@@ -8,6 +7,6 @@ loop-event-preserved g c =
     let more = c.in_ok-take.ensures in
     let front = drop-front c.args.events.now c.loop-event.event-index _ c.loop-event-test.true in
     record {
-      taken = goes-on g.S.EventSink.takes g.met.S.EventSink.takes_both _ _ _ _ _ _ _ c.loop-event.invariant.taken front more.taken;
+      taken = c.taking.ensures _ _ _ _ _ _ _ c.loop-event.invariant.taken front more.taken;
       failures = omega (arith, c.loop-event.invariant.failures, more.cause);
     }

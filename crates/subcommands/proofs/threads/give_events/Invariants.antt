@@ -1,5 +1,5 @@
 use Rattle.std.proofs.Common.{◌≤◌, drop}
-use Rattle.schedules.proofs.Taking.{IsUnderWay}
+use Rattle.schedules.specs.Taking.{IsUnderWay}
 use Rattle.subcommands.proofs.threads.give_events.Given as goal
 
 -- the sink took all but those that are left
