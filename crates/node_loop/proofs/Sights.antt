@@ -1,6 +1,6 @@
 -- What is seen at each port, one after the other. Neighbours are nodes, and there are at most 64 of
 -- these.
-use Rattle.std.proofs.Common.{◌≡◌, ◌≢◌, ◌⊎◌, ◌<◌, ◌≤◌, ◌+◌, ℕ, Bool, not, ◌&&◌, List, Some, is_some, Contains, length, slice_get, slice_index_or, slice_set, refl, inl, inr, sym, subst, arith, ◌∙◌}
+use Rattle.std.proofs.Common.{◌≡◌, ◌≢◌, ◌<◌, ◌≤◌, ◌+◌, ℕ, Bool, not, ◌&&◌, List, Some, is_some, Contains, length, slice_get, slice_set, refl, inl, inr, sym, subst, arith, ◌∙◌}
 use Rattle.std.proofs.lemmas.List.{get_or-set_same, get_or-set_other, length-set}
 use Rattle.topology.specs.Network.{Network, IsAcceptedNetwork}
 use Rattle.topology.specs.Laws.{NeighboursAreJoined, Limits}

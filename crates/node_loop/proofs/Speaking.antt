@@ -1,12 +1,9 @@
 -- Speaking to the neighbours, one after the other.
-use Rattle.std.proofs.Common.{◌≡◌, ◌≢◌, ◌⊎◌, ◌<◌, ◌≤◌, ◌+◌, ℕ, Bool, false, List, Option, Contains, slice_get, slice_index_or, refl, inl, inr, sym, arith, ◌∙◌, subst, ap}
-use Rattle.std.proofs.lemmas.Grind.{common_steps}
+use Rattle.std.proofs.Common.{◌≡◌, ◌≢◌, ◌⊎◌, ◌<◌, ◌≤◌, ◌+◌, ℕ, Bool, false, List, Option, Contains, slice_get, slice_index_or, refl, inl, inr, sym, arith, ◌∙◌, subst}
 use Rattle.data_link.specs.Port.{frame_of}
-use Rattle.node_core.specs.View.{NodeView, site_in, state_of}
+use Rattle.node_core.specs.View.{site_in, state_of}
 use Rattle.pace.specs.Plans.{port_of}
-use Rattle.pace.specs.declared.port.PortPace.{PortPace}
 use Rattle.socket_links.specs.Counts.{Counts}
-use Rattle.node_loop.specs.declared.port.NodePort.{NodePort}
 use Rattle.node_loop.specs.Speaking.{AtBoth, Moment, Speaks, SpeaksTo}
 
 below-or-from : (w i : ℕ) → (w < i) ⊎ (i ≤ w)

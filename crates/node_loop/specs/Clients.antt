@@ -2,7 +2,7 @@
 use Rattle.std.specs.Prelude.{◌≡◌, ℕ, ◌≤◌, Bool, true, false, is_some, ⊤, List, [], ◌-◌, length, slice_index_or}
 use Rattle.circular_buffer.specs.Buffer.{buffer}
 use Rattle.slab.specs.Slab.{get}
-use Rattle.lock_desk.specs.Desk.{DeskState, is_stranger}
+use Rattle.lock_desk.specs.Desk.{is_stranger}
 use Rattle.node_core.specs.View.{NodeView, state_of}
 use Rattle.socket_links.specs.declared.pipe.ReadAnswer.{ReadAnswer}
 use Rattle.socket_links.specs.declared.pipe.ReadAnswer.TheVariants as read

@@ -1,5 +1,5 @@
 -- What a turn does with a node: it takes frames, its clients ask and leave, and it ticks once.
-use Rattle.std.specs.Prelude.{◌≡◌, ℕ, Bool, List, [], ◌∷◌, All, Contains, ⊤, Option, Some, None, if◌then◌else◌, is_none}
+use Rattle.std.specs.Prelude.{◌≡◌, ℕ, Bool, List, [], ◌∷◌, All, Contains, ⊤, if◌then◌else◌, is_none}
 use Rattle.topology.specs.declared.frame.Frame.{Frame}
 use Rattle.link_model.specs.declared.item.Item.TheVariants as item
 use Rattle.lock_desk.specs.Desk.{DeskState, ask_fault, asked, after_leave}

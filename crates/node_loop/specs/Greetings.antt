@@ -1,5 +1,5 @@
 -- How far a hello went out.
-use Rattle.std.specs.Prelude.{◌≡◌, ℕ, ◌≤◌, ◌-◌, List, Option, take, drop, ⊤}
+use Rattle.std.specs.Prelude.{ℕ, ◌≤◌, ◌-◌, List, Option, take, drop, ⊤}
 use Rattle.socket_links.specs.Pipes.{GoesOn}
 use Rattle.node_loop.specs.declared.greeting.Greeting.{Greeting}
 use Rattle.node_loop.specs.declared.greeting.Greeted.{Greeted}

@@ -1,6 +1,6 @@
 -- What a turn says to neighbours: where a frame is offered, what becomes of it, and which plan a
 -- turn goes by.
-use Rattle.std.specs.Prelude.{◌≡◌, ℕ, ◌≤◌, ◌<◌, Bool, true, false, nat_lt, is_some, not, ◌&&◌, List, ◌++◌, ◌∷◌, [], length, slice_get, slice_index_or, Option, None, Some, Contains, ⊤, if◌then◌else◌}
+use Rattle.std.specs.Prelude.{◌≡◌, ℕ, ◌<◌, Bool, true, false, nat_lt, is_some, not, ◌&&◌, List, ◌++◌, ◌∷◌, [], length, slice_get, slice_index_or, Option, None, Some, Contains, ⊤, if◌then◌else◌}
 use Rattle.topology.specs.declared.frame.Frame.{Frame}
 use Rattle.byte_lines.specs.Lines.{newline}
 use Rattle.frame_codec.specs.Spelling.{spelling}

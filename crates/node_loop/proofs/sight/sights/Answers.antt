@@ -20,11 +20,14 @@ loop-id-preserved g c =
           let within : id < length ports = let below = w.if-is_neighbour.ensures.node refl in let long = c.requires.ports.0 in omega arith in
           rw w.sights-is (seen-next (site_in node).neighbours (sight_at node ports) c.loop-id.sights id _ c.loop-id-test.true
           (seen-as node ports id w.index-ports-id.result _ _ _ (slice_get_read ports (length ports) id w.index-ports-id.result refl within w.index-ports-id.is)
-          w.takes_frames.ensures w.frame_for.ensures.frame w.payload_for.ensures)
+          w.takes_frames.ensures w.frame_for.ensures.frame w.payload_for.ensures.payload)
           c.loop-id.invariant))
       | else-is_neighbour w ↦ rw w.sights-is (seen-on (site_in node).neighbours (sight_at node ports) c.loop-id.sights id
           (λ has. let no : ◌≡◌ {A = Bool} false true = w.if-is_neighbour.ensures.neighbour.1 has in grind (arith, no)) c.loop-id.invariant)
     ]
+
+pub payload_for-requires : goal.payload_for-requires
+payload_for-requires g c = c.if-is_neighbour.ensures.node refl
 
 pub returns : goal.returns
 returns g c w here has = c.loop-id.invariant.below w (let end = c.loop-id-test.false in omega arith) has

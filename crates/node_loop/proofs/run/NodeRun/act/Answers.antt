@@ -1,5 +1,5 @@
 use Rattle.std.proofs.Common.{ap, subst, sym, is_some}
-use Rattle.node_loop.specs.Deeds.{Acts, Turns}
+use Rattle.node_loop.specs.Deeds.{Acts}
 use Rattle.node_loop.proofs.Became.{act-more}
 use Rattle.node_loop.proofs.run.NodeRun.act.Goals as goal
 
