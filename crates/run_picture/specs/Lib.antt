@@ -1,4 +1,5 @@
 pub mod Colours
+pub mod Drawn
 pub mod Marks
 pub mod Columns
 pub mod Strips

@@ -53,8 +53,8 @@ pub fn draw(alloc: Global, net: &Net, recording: &Recording) -> Result<Drawing, 
 
 /// The attributes of the element that holds a page.
 fn page_attributes(alloc: Global, page: Page) -> Result<Vec<Attribute>, AllocError> {
-    let width = page.width();
-    let height = page.height();
+    let width = page.width().0;
+    let height = page.height().0;
     let mut attributes = Vec::new(alloc);
     for (name, value) in [
         ("xmlns", format!(in alloc; "http://www.w3.org/2000/svg")?),

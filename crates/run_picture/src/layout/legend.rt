@@ -50,8 +50,7 @@ fn draw_signs(canvas: &mut Canvas) -> Result<(), AllocError> {
     let y = SIGNS;
     let top = y - Px(10);
     let x = Page::MARGIN;
-    let bolt_x = x + Px(6);
-    let bolt = format!(in canvas.alloc(); "M{bolt_x} {top}{BOLT}")?;
+    let bolt = bolt(canvas.alloc(), x + Px(6), top)?;
     canvas.form(bolt.as_str(), Colour::Red)?;
     let x = explain(canvas, x + Px(22), y, "damage")?;
     let x = draw_upright(canvas, x, Stroke::whole(Colour::Ink, 1))?;
@@ -63,6 +62,12 @@ fn draw_signs(canvas: &mut Canvas) -> Result<(), AllocError> {
     let x = draw_edge(canvas, x, Stroke::whole(Colour::Faint, 1))?;
     explain(canvas, x, y, "other edge")?;
     Ok(())
+}
+
+/// The steps of a mark of damage.
+fn bolt(alloc: Global, x: Px, y: Px) -> Result<String, AllocError> {
+    let (x, y) = (x.0, y.0);
+    format!(in alloc; "M{x} {y}{BOLT}")
 }
 
 /// Draws an upright line of the legend, and says where its meaning may stand.

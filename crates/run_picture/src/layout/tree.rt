@@ -74,14 +74,26 @@ fn draw_edge(
     };
     let from = place_of(page, net, upper.0, upper.1);
     let to = place_of(page, net, lower.0, lower.1);
-    let (x, y, end_x, end_y) = (from.x, from.y, to.x, to.y);
     if is_tree_edge(net, v, w) {
-        let steps = format!(in canvas.alloc(); "M{x} {y}V{end_y}H{end_x}")?;
+        let steps = corner(canvas.alloc(), from, to)?;
         canvas.path(steps.as_str(), Stroke::whole(Colour::Ink, 3))
     } else {
-        let turn = Px(x.0.max(end_x.0)) + Px(((end_y - y).0 / 3).clamp(8, 40));
-        let middle = y + (end_y - y).half();
-        let steps = format!(in canvas.alloc(); "M{x} {y}Q{turn} {middle} {end_x} {end_y}")?;
+        let steps = bow(canvas.alloc(), from, to)?;
         canvas.path(steps.as_str(), Stroke::whole(Colour::Faint, 1))
     }
+}
+
+/// The steps of a line with a corner.
+fn corner(alloc: Global, from: Point, to: Point) -> Result<String, AllocError> {
+    let (x, y, end_x, end_y) = (from.x.0, from.y.0, to.x.0, to.y.0);
+    format!(in alloc; "M{x} {y}V{end_y}H{end_x}")
+}
+
+/// The steps of a bow to the right.
+fn bow(alloc: Global, from: Point, to: Point) -> Result<String, AllocError> {
+    let (x, y, end_x, end_y) = (from.x.0, from.y.0, to.x.0, to.y.0);
+    let high = to.y - from.y;
+    let turn = (Px(x.max(end_x)) + Px((high.0 / 3).clamp(8, 40))).0;
+    let middle = (from.y + high.half()).0;
+    format!(in alloc; "M{x} {y}Q{turn} {middle} {end_x} {end_y}")
 }
