@@ -2,7 +2,6 @@
 use Rattle.std.proofs.Common.{◌≡◌, ◌∙◌, ap, sym, subst, refl, ℕ, List, [], ◌∷◌, ◌++◌, Result, OnOk, append_assoc, arith}
 use Rattle.run_picture.specs.Drawn.{Given, Shown, with_given, with_text}
 
-
 -- what was added is what is shown
 pub shown_as : {T E : Type 0} (result : Result T E) (now before : List Shown) (added shown : Shown) → added ≡ shown
     → OnOk result (now ≡ before ++ added ∷ []) → OnOk result (now ≡ before ++ shown ∷ [])

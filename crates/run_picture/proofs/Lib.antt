@@ -1,5 +1,6 @@
 pub mod Marks
 pub mod Drawn
+pub mod Tree
 pub mod Columns
 pub mod Strips
 pub mod Marking

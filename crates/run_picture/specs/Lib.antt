@@ -11,6 +11,7 @@ pub mod RecordingSteps
 pub mod Visits
 pub mod Page
 pub mod Words
+pub mod Tree
 pub mod Curves
 pub mod Runs
 pub mod Lanes
