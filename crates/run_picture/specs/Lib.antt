@@ -13,6 +13,7 @@ pub mod Page
 pub mod Words
 pub mod Curves
 pub mod Runs
+pub mod Added
 pub mod Lanes
 pub mod Ruler
 pub mod Axis
