@@ -1,4 +1,5 @@
 pub mod Marks
+pub mod Drawn
 pub mod Columns
 pub mod Strips
 pub mod Marking
