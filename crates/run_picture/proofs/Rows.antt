@@ -1,7 +1,13 @@
 -- Small examples, by computation: some that hold, and some that do not.
-use Rattle.std.proofs.Common.{◌≡◌, ℕ, List, [], ◌∷◌, codes, refl, false, arith}
+use Rattle.std.proofs.Common.{◌≡◌, ℕ, List, [], ◌∷◌, length, codes, refl, sym, false, arith}
+use Rattle.std.proofs.lemmas.Grind.{common_steps}
 use Rattle.topology.specs.Network.{Network, bound_of}
 use Rattle.topology.specs.Eccentricity.{sharp_of}
+use Rattle.run_model.specs.World.{World}
+use Rattle.run_model.specs.declared.event.Event.{Event}
+use Rattle.run_picture.specs.Recordings.{moment_of, AreMoments, IsFirstHeld, IsBefore}
+use Rattle.run_picture.specs.Recordings.AreMoments.{Start}
+use Rattle.run_picture.specs.Recordings.IsFirstHeld.{AtStart, Behind}
 use Rattle.run_picture.specs.Visits.{first_of_each, first_visits}
 use Rattle.run_picture.specs.Page.{column_width, lane_height}
 use Rattle.run_picture.specs.Curves.{node_height}
@@ -10,6 +16,8 @@ use Rattle.run_picture.specs.Runs.{AreRuns}
 use Rattle.run_picture.specs.Ruler.{ended_in}
 use Rattle.run_picture.specs.Axis.{round_number, axis_numbers}
 use Rattle.run_picture.specs.declared.column.Column.{Column}
+use Rattle.run_picture.specs.declared.recording.Before.{Before}
+use Rattle.run_picture.specs.declared.window.Window.{Window}
 use Rattle.run_picture.specs.declared.mark.Mark.{Mark}
 use Rattle.run_picture.specs.declared.mark.Mark.TheVariants.{Settled, Wrong}
 use Rattle.run_picture.specs.declared.layout.runs.Run.{Run}
@@ -74,6 +82,32 @@ no_torn_run runs = runs.apart.0 refl
 -- a run does not go on under another mark
 no_swallowed_mark : ¬ AreRuns (Settled ∷ Wrong ∷ []) (run_of 0 2 Settled ∷ [])
 no_swallowed_mark runs = grind (arith, runs.are)
+
+-- ---- what was before the first moment shown
+
+abbrev window_of : ℕ → ℕ → Window
+window_of from to = record { from = from; to = to }
+
+abbrev before_of : ℕ → ℕ → Before
+before_of events sweeps = record { events = events; sweeps = sweeps }
+
+-- where the start is shown, nothing was before it
+none_before : (start : World) → IsBefore (window_of 0 9) start [] (before_of 0 0)
+none_before start = record { front = []; back = []; are = refl; first = AtStart (moment_of start false 0 0) Start; events_are = refl }
+
+-- and no sweep was
+none_at_start : (window : Window) (start : World) (es : List Event) (sweeps : ℕ) → IsFirstHeld window start es sweeps → length es ≡ 0 → sweeps ≡ 0
+none_at_start window start es sweeps (AtStart moment are) none = refl
+none_at_start window start es sweeps (Behind e moment before are) none = grind (arith, common_steps)
+
+no_sweep_before : (window : Window) (start : World) → ¬ IsBefore window start [] (before_of 0 1)
+no_sweep_before window start before =
+    let none : 1 ≡ 0 = none_at_start window start before.front 1 before.first (sym before.events_are) in
+    omega (arith, none)
+
+-- of a run without events nothing is shown from the first sweep on
+none_shown : (start : World) → AreMoments (window_of 1 9) start [] 0 []
+none_shown start = Start
 
 -- ---- sweeps
 

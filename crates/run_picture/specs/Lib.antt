@@ -14,6 +14,7 @@ pub mod Words
 pub mod Tree
 pub mod Curves
 pub mod Runs
+pub mod Added
 pub mod Lanes
 pub mod Ruler
 pub mod Axis
