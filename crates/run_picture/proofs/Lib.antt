@@ -1,6 +1,7 @@
 pub mod Marks
 pub mod Drawn
 pub mod Tree
+pub mod Legend
 pub mod Columns
 pub mod Strips
 pub mod Marking

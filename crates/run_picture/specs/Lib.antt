@@ -12,6 +12,7 @@ pub mod Visits
 pub mod Page
 pub mod Words
 pub mod Tree
+pub mod Legend
 pub mod Curves
 pub mod Runs
 pub mod Added
