@@ -2,6 +2,7 @@ pub mod Marks
 pub mod Drawn
 pub mod Tree
 pub mod Legend
+pub mod Picture
 pub mod Columns
 pub mod Strips
 pub mod Marking

@@ -11,6 +11,7 @@ pub mod RecordingSteps
 pub mod Visits
 pub mod Page
 pub mod Words
+pub mod Head
 pub mod Tree
 pub mod Legend
 pub mod Curves
@@ -19,3 +20,4 @@ pub mod Added
 pub mod Lanes
 pub mod Ruler
 pub mod Axis
+pub mod Picture
