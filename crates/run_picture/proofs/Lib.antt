@@ -1,5 +1,6 @@
 pub mod Marks
 pub mod Drawn
+pub mod Head
 pub mod Tree
 pub mod Legend
 pub mod Picture
