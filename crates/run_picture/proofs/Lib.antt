@@ -16,4 +16,6 @@ pub mod Runs
 pub mod Over
 pub mod Sweeps
 pub mod Axis
+pub mod Parts
+pub mod Lanes
 mod Rows

@@ -46,3 +46,9 @@ over_next_on over columns place d start before after within so_far added =
     let item = over place (slice_index_or columns place d) in
     added ∙ ap (λ xs. xs ++ item) so_far ∙ append_assoc start here item
     ∙ ap (λ xs. start ++ xs) (over_next over columns place d here (here ++ item) within refl refl)
+
+-- and behind the last column it is whole
+pub over_all_on : {X : Type 0} (over : ℕ → Column → List X) (columns : List Column) (place : ℕ) (start now : List X) → length columns ≡ place
+    → now ≡ start ++ over_each over 0 (take place columns) → now ≡ start ++ over_each over 0 columns
+over_all_on over columns place start now all is =
+    is ∙ ap (λ xs. start ++ xs) (over_all over columns place (over_each over 0 (take place columns)) all refl)

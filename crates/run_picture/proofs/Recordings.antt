@@ -17,8 +17,8 @@ use Rattle.world.proofs.SimulatedLines.{told_both}
 use Rattle.run_picture.specs.declared.column.Column.{Column}
 use Rattle.run_picture.specs.declared.recording.Before.{Before}
 use Rattle.run_picture.specs.declared.window.Window.{Window}
-use Rattle.run_picture.specs.Strips.{AreShown, Shows}
-use Rattle.run_picture.specs.Strips.AreShown as strip
+use Rattle.run_picture.specs.Strips.{Shows}
+use Rattle.run_picture.proofs.Strips.{as_empty}
 use Rattle.run_picture.specs.Recordings.{moment_of, shown_if, ended_at, AreMoments, IsBeforeAny, RecordingView, IsRecorded, IsReading}
 use Rattle.run_picture.specs.Recordings.AreMoments.{Start, Next}
 use Rattle.run_picture.specs.Recordings.IsFirstHeld.{AtStart, Behind}
@@ -63,19 +63,16 @@ before_more window start es e sweeps ended [] (moment ∷ []) was now are next f
   events_are = grind (arith, common_steps, is);
 }
 before_more window start es e sweeps ended [] (moment ∷ more ∷ shown) was now are next few before is = let no : ⊥ = grind (arith, few) in elim no [ ]
-before_more window start es e sweeps ended (moment ∷ moments) shown was now are next few before is = rw is (record {
-  front = before.front;
-  back = before.back ++ e ∷ [];
-  are = ap (λ xs. xs ++ e ∷ []) before.are ∙ append_assoc before.front before.back (e ∷ []);
-  first = before.first;
-  events_are = before.events_are;
-})
-
--- columns are shown where moments are
-as_empty : (width last : ℕ) (moments columns : List Column) → AreShown width last moments columns → (length columns == 0) ≡ (length moments == 0)
-as_empty width last moments columns strip.None = refl
-as_empty width last moments columns (strip.Last first later is few) = refl
-as_empty width last moments columns (strip.Further first later is rest) = refl
+before_more window start es e sweeps ended (moment ∷ moments) shown was now are next few before is =
+    let some : (length (moment ∷ moments) == 0) ≡ false = grind (arith, common_steps) in
+    let same : now ≡ was = is ∙ ap (λ empty. if empty then record { events = length es + 1; sweeps = sweeps } else was) some in
+    rw same (record {
+      front = before.front;
+      back = before.back ++ e ∷ [];
+      are = ap (λ xs. xs ++ e ∷ []) before.are ∙ append_assoc before.front before.back (e ∷ []);
+      first = before.first;
+      events_are = before.events_are;
+    })
 
 -- ---- what is recorded
 
@@ -96,22 +93,22 @@ abbrev pub IsCount : World → List Event → ℕ → Type 0
 IsCount start es sweeps = (count : ℕ) × IsSweepCount start es count × (sweeps ≡ counted_up_to count)
 
 -- an event more has happened
-pub recorded_more : (start : World) (es : List Event) (e : Event) (old new : RecordingView) (before after : ℕ) (moment : Column)
+pub recorded_more : (start : World) (es : List Event) (e : Event) (old new : RecordingView) (before after : ℕ) (moment : Column) (empty : Bool)
     → (h : IsRecorded start es old) → HasSeen new.judge start (es ++ e ∷ []) → IsCount start es before → IsCount start (es ++ e ∷ []) after
     → moment ≡ moment_of (run start (es ++ e ∷ [])) (is_damage (run start es) e) before after
     → new.window ≡ old.window → new.ended ≡ ended_at old.ended moment
     → Shows new.strip (h.moments ++ shown_if old.window new.ended moment)
     → new.events ≡ old.events + 1
-    → new.before ≡ (if length old.strip.columns == 0 then record { events = new.events; sweeps = old.ended } else old.before)
+    → empty ≡ (length old.strip.columns == 0) → new.before ≡ (if empty then record { events = new.events; sweeps = old.ended } else old.before)
     → IsRecorded start (es ++ e ∷ []) new
-recorded_more start es e old new before after moment h seen (count, counted, before_is) (next, counted_next, after_is) is window ended shown events first =
+recorded_more start es e old new before after moment empty h seen (count, counted, before_is) (next, counted_next, after_is) is window ended shown events empty_is first =
     let exact = is ∙ ap (λ b. moment_of (run start (es ++ e ∷ [])) (is_damage (run start es) e) b after) before_is
     ∙ ap (moment_of (run start (es ++ e ∷ [])) (is_damage (run start es) e) (counted_up_to count)) after_is in
     let are = Next e count next h.are counted counted_next moment exact in
     let led : new.events ≡ length es + 1 = events ∙ ap (λ n. n + 1) h.events_are in
     let first_is : new.before ≡ (if length h.moments == 0 then record { events = length es + 1; sweeps = old.ended } else old.before) =
     first
-    ∙ ap (λ empty. if empty then record { events = new.events; sweeps = old.ended } else old.before) (as_empty old.strip.width old.strip.last h.moments old.strip.columns h.shown.0)
+    ∙ ap (λ b. if b then record { events = new.events; sweeps = old.ended } else old.before) (empty_is ∙ as_empty old.strip.width old.strip.last h.moments old.strip.columns h.shown.0)
     ∙ ap (λ n. if length h.moments == 0 then record { events = n; sweeps = old.ended } else old.before) led in
     record {
       seen = seen;

@@ -1,11 +1,10 @@
 //! What stands below the lanes: how many nodes are privileged, and how many lend.
-ghost use Rattle.std.specs.Prelude.{◌≡◌, ◌+◌, ◌++◌, ◌<◌, ◌^◌, OnOk, IfOk, codes, string_bytes, slice_index_or};
+ghost use Rattle.std.specs.Prelude.{◌≡◌, ◌++◌, ◌<◌, ◌^◌, OnOk, IfOk, string_bytes};
 ghost use Rattle.std.specs.Prelude.{length, map};
 ghost use Rattle.run_picture.specs.Curves.{most_nodes, node_height, count_in, curve_steps};
 ghost use Rattle.run_picture.specs.Curves.{step_in, first_count, curves_shown, levels_shown};
 ghost use Rattle.run_picture.specs.Curves.{level_shown, level_pen, name_shown, names_shown};
 ghost use Rattle.run_picture.specs.Drawn.{drawn, pen_of};
-ghost use Rattle.run_picture.specs.Page.{px, ground_of};
 
 use super::canvas::{Anchor, Canvas, Point, Stroke};
 use super::colours::Colour;

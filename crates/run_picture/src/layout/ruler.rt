@@ -1,5 +1,6 @@
 //! What stands above the lanes: damage, sweeps, and from where on the guarantee holds.
-ghost use Rattle.std.specs.Prelude.{◌≡◌, [], ◌∷◌, ◌++◌, OnOk, IfOk, string_bytes, length, map};
+ghost use Rattle.std.specs.Prelude.{◌≡◌, if◌then◌else◌, [], ◌∷◌, ◌++◌, OnOk, IfOk};
+ghost use Rattle.std.specs.Prelude.{string_bytes, length, map};
 ghost use Rattle.run_picture.specs.Added.{Adds};
 ghost use Rattle.run_picture.specs.Drawn.{drawn};
 ghost use Rattle.run_picture.specs.Ruler.{damage_over, tick_over, over_each, AreNumbers};
@@ -265,13 +266,25 @@ fn draw_guarantees_over(
     ensures { OnOk result (drawn canvas.new
         ≡ drawn canvas.old ++ guarantees_over page place column.now) }
 {
-    if column.sharp {
-        draw_guarantee(canvas, page, place, SHARP)?;
+    draw_if_reached(canvas, page, place, column.sharp, SHARP)?;
+    draw_if_reached(canvas, page, place, column.bound, BOUND)
+}
+
+/// Draws the line of a bound in a column, if it is reached there.
+fn draw_if_reached(
+    canvas: &mut Canvas,
+    page: Page,
+    place: usize,
+    is_reached: bool,
+    line: Guarantee,
+) -> Result<(), AllocError>
+    ensures { OnOk result (drawn canvas.new ≡ drawn canvas.old ++ (if is_reached
+        then guarantee_shown page place line.name_at.0 line.dashes.now line.name.now else [])) }
+{
+    if !is_reached {
+        return Ok(());
     }
-    if column.bound {
-        draw_guarantee(canvas, page, place, BOUND)?;
-    }
-    Ok(())
+    draw_guarantee(canvas, page, place, line)
 }
 
 /// Draws the line of a bound through the middle of a column, with its name.
