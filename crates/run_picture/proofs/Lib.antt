@@ -19,3 +19,4 @@ pub mod Axis
 pub mod Parts
 pub mod Lanes
 mod Rows
+mod RowsPicture
