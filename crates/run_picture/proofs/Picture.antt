@@ -45,10 +45,21 @@ added_parts : (page : Page) (net : Network) (order : List ℕ) (columns : List C
     → x₃ ≡ x₂ ++ tree_shown page net order → Adds (AreLanes page columns 0 order) x₃ x₄ → x₅ ≡ x₄ ++ levels_shown page columns
     → x₆ ≡ x₅ ++ curves_shown page columns → Adds (IsAxis page before.events width) x₆ x₇ → Adds (IsRuler page before.sweeps columns) x₇ x₈
     → Parts page net order columns width before told x₈
-added_parts page net order columns width before told x₀ x₁ x₂ x₃ x₄ x₅ x₆ x₇ x₈ nothing head legend tree (lanes, are_lanes, i₄) levels curves (axis, is_axis, i₇) (ruler, is_ruler, i₈) =
-    (lanes, are_lanes, (axis, is_axis, (ruler, is_ruler, eight (head_shown page net told) (legend_shown width) (tree_shown page net order) lanes
-    (levels_shown page columns) (curves_shown page columns) axis ruler x₁ x₂ x₃ x₄ x₅ x₆ x₇ x₈ (head ∙ ap (λ x. x ++ head_shown page net told) nothing)
-    legend tree i₄ levels curves i₇ i₈)))
+added_parts page net order columns width before told x₀ x₁ x₂ x₃ x₄ x₅ x₆ x₇ x₈ nothing head legend tree (lanes, are_lanes, i₄) levels curves (axis, is_axis, i₇) (ruler, is_ruler, i₈) = (
+  lanes,
+  are_lanes,
+  (
+    axis,
+    is_axis,
+    (
+      ruler,
+      is_ruler,
+      eight (head_shown page net told) (legend_shown width) (tree_shown page net order) lanes
+          (levels_shown page columns) (curves_shown page columns) axis ruler x₁ x₂ x₃ x₄ x₅ x₆ x₇ x₈ (head ∙ ap (λ x. x ++ head_shown page net told) nothing)
+          legend tree i₄ levels curves i₇ i₈,
+    ),
+  ),
+)
 
 -- what is given is what was recorded
 shows_run : (net : Network) (r : RecordingView) (shown : List Shown)
