@@ -1,6 +1,5 @@
 use Rattle.std.proofs.Common.{◌≡◌, ◌<◌, length, arith}
 use Rattle.std.proofs.lemmas.Grind.{common_steps}
-use Rattle.run_picture.specs.Drawn.{drawn}
 use Rattle.run_picture.proofs.Lanes.{no_lanes, lanes_next, lanes_all}
 use Rattle.run_picture.proofs.layout.lanes.draw_lanes.Goals as goal
 

@@ -1,6 +1,5 @@
-use Rattle.std.proofs.Common.{◌≡◌, ◌<◌, ◌++◌, length, arith}
+use Rattle.std.proofs.Common.{◌≡◌, ◌<◌, length, arith}
 use Rattle.std.proofs.lemmas.Grind.{common_steps}
-use Rattle.run_picture.specs.Drawn.{drawn}
 use Rattle.run_picture.specs.Ruler.{guarantees_over}
 use Rattle.run_picture.proofs.Over.{over_next_on, over_all_on}
 use Rattle.run_picture.proofs.layout.ruler.draw_guarantees.Goals as goal
