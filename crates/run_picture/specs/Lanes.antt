@@ -1,5 +1,5 @@
 -- The lanes: of each node its marks from left to right.
-use Rattle.std.specs.Prelude.{◌≡◌, ℕ, suc, ◌+◌, ◌-◌, ◌*◌, ◌/◌, ◌==◌, if◌then◌else◌, nat_lt, List, [], ◌∷◌, ◌++◌, Option, None, Some, length, map, codes, decimal}
+use Rattle.std.specs.Prelude.{ℕ, suc, ◌+◌, ◌-◌, ◌*◌, ◌/◌, ◌==◌, if◌then◌else◌, nat_lt, List, [], ◌∷◌, ◌++◌, Option, None, Some, length, map, codes, decimal}
 use Rattle.std.specs.List.{flat_map}
 use Rattle.run_picture.specs.declared.column.Column.{Column}
 use Rattle.run_picture.specs.declared.layout.canvas.Anchor.TheVariants.{Middle}
@@ -24,13 +24,13 @@ bar page y bad run =
     codes "M" ++ (decimal (x_of page run.first) ++ (codes " " ++ (decimal y ++ (codes "h" ++ decimal (width_of page run)))))
     else []
 
--- bars of one colour and height along their middles, if there are any
+-- bars of one colour and height, as a thick line along their middles; nothing where there is no bar
 abbrev pub bars_shown : List ℕ → Colour → ℕ → List Shown
 bars_shown steps colour height = if length steps == 0 then [] else path_shown steps (whole colour height) ∷ []
 
--- The bars in a lane that is as high: grey ones along the runs that are wrong, half as high; over them
--- gold ones along those that are privileged, three quarters as high; and over these red ones along
--- those that lend, as high as the lane.
+-- The bars over the ground of a lane, by how high it is: grey ones along the runs that are wrong, half
+-- as high; over them gold ones along those that are privileged, three quarters as high; and over
+-- these red ones along those that lend, as high as the ground.
 abbrev pub all_bars_shown : Page → ℕ → ℕ → List Run → List Shown
 all_bars_shown page y high runs =
     bars_shown (flat_map (bar page y 1) runs) Grey (high / 2)
@@ -48,7 +48,7 @@ ticket_in page y run (Some digits) =
 abbrev pub ticket_shown : Page → ℕ → Run → List Shown
 ticket_shown page y run = ticket_in page y run (ticket_words run.mark)
 
--- how high the ground of a lane is: less than the lane, so that two do not touch
+-- how high the ground of a lane is: 2 less than the lane, so that two grounds do not touch
 abbrev pub ground_height : Page → ℕ
 ground_height page = page.lane.0 - 2
 
