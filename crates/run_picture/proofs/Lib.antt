@@ -1,4 +1,9 @@
 pub mod Marks
+pub mod Drawn
+pub mod Head
+pub mod Tree
+pub mod Legend
+pub mod Picture
 pub mod Columns
 pub mod Strips
 pub mod Marking
@@ -11,4 +16,7 @@ pub mod Runs
 pub mod Over
 pub mod Sweeps
 pub mod Axis
+pub mod Parts
+pub mod Lanes
 mod Rows
+mod RowsPicture

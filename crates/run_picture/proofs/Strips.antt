@@ -1,5 +1,5 @@
 -- Columns show one moment more, and the same moments where each two become one.
-use Rattle.std.proofs.Common.{◌≡◌, ◌∙◌, ap, sym, refl, subst, ℕ, suc, ◌+◌, ◌≤◌, ◌<◌, Bool, true, false, List, [], ◌∷◌, ◌++◌, length, take, drop, append_assoc, arith}
+use Rattle.std.proofs.Common.{◌≡◌, ◌∙◌, ap, sym, refl, subst, ℕ, suc, ◌+◌, ◌≤◌, ◌<◌, ◌==◌, Bool, true, false, List, [], ◌∷◌, ◌++◌, length, take, drop, append_assoc, arith}
 use Rattle.std.proofs.lemmas.Grind.{common_steps}
 use Rattle.std.proofs.lemmas.List.{append-nil}
 use Rattle.run_picture.specs.declared.column.Column.{Column}
@@ -7,6 +7,12 @@ use Rattle.run_picture.specs.Columns.{worse_column, worst, folded, is_even, with
 use Rattle.run_picture.specs.Strips.{AreShown}
 use Rattle.run_picture.specs.Strips.AreShown.{None, Last, Further}
 use Rattle.run_picture.proofs.Columns.{worst_both}
+
+-- there are columns where there are moments
+pub as_empty : (width last : ℕ) (moments columns : List Column) → AreShown width last moments columns → (length columns == 0) ≡ (length moments == 0)
+as_empty width last moments columns None = refl
+as_empty width last moments columns (Last first later is few) = grind (arith, common_steps)
+as_empty width last moments columns (Further first later is rest) = grind (arith, common_steps)
 
 -- one moment more, where all columns are full
 pub shown_new : (width : ℕ) (last : ℕ) (moments columns : List Column) (moment : Column) → 0 < width → last ≡ width

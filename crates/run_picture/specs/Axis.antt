@@ -1,8 +1,13 @@
 -- The axis of events.
-use Rattle.std.specs.Prelude.{◌≡◌, ℕ, zero, suc, ◌+◌, ◌-◌, ◌*◌, ◌/◌, ◌^◌, ◌<◌, ◌≤◌, ◌⊎◌, Bool, ◌&&◌, nat_lt, List, [], ◌∷◌, map, Option, None, Some}
+use Rattle.std.specs.Prelude.{◌≡◌, ℕ, zero, suc, ◌+◌, ◌-◌, ◌*◌, ◌/◌, ◌^◌, ◌<◌, ◌≤◌, ◌⊎◌, Bool, ◌&&◌, nat_lt, List, [], ◌∷◌, map, Option, None, Some, decimal}
 use Rattle.std.specs.Int.{next_multiple_of}
-use Rattle.std.specs.List.{take_while}
+use Rattle.std.specs.List.{flat_map, take_while}
 use Rattle.run_picture.specs.declared.layout.axis.AxisNumber.{AxisNumber}
+use Rattle.run_picture.specs.declared.layout.canvas.Anchor.TheVariants.{Middle}
+use Rattle.run_picture.specs.declared.layout.colours.Colour.TheVariants.{Ink}
+use Rattle.run_picture.specs.declared.layout.page.Page.{Page}
+use Rattle.run_picture.specs.Drawn.{Shown, line_shown, words_shown, whole}
+use Rattle.run_picture.specs.Page.{px, x_of, ground_of}
 
 -- the round numbers: 1, 2, 5, 10, 20, 50 and so on
 abbrev pub round_number : ℕ → ℕ
@@ -43,6 +48,19 @@ is_on_axis columns number = nat_lt number.place columns && nat_lt number.event (
 abbrev pub axis_numbers : ℕ → ℕ → ℕ → ℕ → List AxisNumber
 axis_numbers columns first moments step =
     take_while (is_on_axis columns) (map (number_at first moments) (row_from step (next_multiple_of first step) columns))
+
+-- a number of the axis: a tick below the curves, and below it how many events have led there
+abbrev pub number_shown : Page → AxisNumber → List Shown
+number_shown page number =
+    line_shown (x_of page number.place) (ground_of page) (x_of page number.place) (px (ground_of page + 6)) (whole Ink 1)
+    ∷ words_shown (x_of page number.place) (px (ground_of page + 20)) Middle Ink (decimal number.event) ∷ []
+
+-- This is the axis of the columns of a page, of which the first begins with the moment behind `first`
+-- events, and each shows as many moments: its numbers are a round step apart.
+pub record IsAxis (page : Page) (first moments : ℕ) (shown : List Shown) : Type 0 where
+  pub step : ℕ
+  pub round : IsRoundStep moments page.column.0 step
+  pub are : shown ≡ flat_map (number_shown page) (axis_numbers page.columns first moments step)
 
 -- ---- what the steps keep
 

@@ -1,10 +1,14 @@
 -- The two step curves below the lanes: how many nodes are privileged, and how many lend.
-use Rattle.std.specs.Prelude.{ℕ, suc, ◌+◌, ◌/◌, max, min, List, [], ◌∷◌, ◌++◌, codes, decimal, fold, map}
+use Rattle.std.specs.Prelude.{ℕ, suc, ◌+◌, ◌-◌, ◌/◌, ◌==◌, if◌then◌else◌, max, min, List, [], ◌∷◌, ◌++◌, codes, decimal, fold, map}
+use Rattle.std.specs.List.{flat_map}
 use Rattle.run_picture.specs.declared.column.Column.{Column}
+use Rattle.run_picture.specs.declared.layout.canvas.Anchor.TheVariants.{Start, End}
+use Rattle.run_picture.specs.declared.layout.colours.Colour.TheVariants.{Gold, Red, Ink, Faint}
 use Rattle.run_picture.specs.declared.layout.page.Page.{Page}
 use Rattle.run_picture.specs.declared.layout.curves.Curve.{Curve}
 use Rattle.run_picture.specs.declared.layout.curves.Curve.TheVariants.{Privileged, Lending}
-use Rattle.run_picture.specs.Page.{x_of, level_of}
+use Rattle.run_picture.specs.Drawn.{Shown, Pen, line_shown, path_shown, words_shown, whole}
+use Rattle.run_picture.specs.Page.{px, x_of, right_of, ground_of, level_of}
 
 -- the most nodes that are privileged, or lend, in any column, at least 1
 abbrev pub most_nodes : List Column → ℕ
@@ -38,3 +42,49 @@ steps_from page node place (count ∷ counts) = step_in page node place count ++
 abbrev pub curve_steps : Page → ℕ → List ℕ → List ℕ
 curve_steps page node counts =
     codes "M" ++ (decimal page.left.0 ++ (codes " " ++ (decimal (level_of page node (first_count counts)) ++ steps_from page node 0 counts)))
+
+-- the line of the privileged nodes
+abbrev pub privileged_pen : Pen
+privileged_pen = whole Gold 3
+
+-- the line of the nodes that lend
+abbrev pub lending_pen : Pen
+lending_pen = record { colour = Red; width = 2; dashes = codes "4 2" }
+
+-- both curves, where a node is as high: that of the privileged nodes, and over it that of those that lend
+abbrev pub both_curves : Page → ℕ → List Column → List Shown
+both_curves page node columns =
+    path_shown (curve_steps page node (map (count_in Privileged) columns)) privileged_pen
+    ∷ path_shown (curve_steps page node (map (count_in Lending) columns)) lending_pen ∷ []
+
+-- both curves of these columns
+abbrev pub curves_shown : Page → List Column → List Shown
+curves_shown page columns = both_curves page (node_height (most_nodes columns)) columns
+
+-- the line at a number of nodes: the one at 1 stands out, for no more may be privileged
+abbrev pub level_pen : ℕ → Pen
+level_pen count = if count == 1 then record { colour = Ink; width = 1; dashes = codes "1 3" } else whole Faint 1
+
+-- the line at a number of nodes, with this number left of it
+abbrev pub level_shown : Page → ℕ → ℕ → List Shown
+level_shown page node count =
+    line_shown page.left.0 (level_of page node count) (right_of page) (level_of page node count) (level_pen count)
+    ∷ words_shown (page.left.0 - 8) (px (level_of page node count + 4)) End Ink (decimal count) ∷ []
+
+-- a piece of a line, and behind it what the line is
+abbrev pub name_shown : ℕ → ℕ → List ℕ → Pen → List Shown
+name_shown x y name pen =
+    line_shown x (y - 4) (px (x + 24)) (y - 4) pen ∷ words_shown (px (x + 30)) y Start Ink name ∷ []
+
+-- which curve is which, below the axis, and what the axis counts
+abbrev pub names_shown : Page → ℕ → List Shown
+names_shown page y =
+    name_shown page.left.0 y (codes "privileged nodes") privileged_pen
+    ++ (name_shown (px (page.left.0 + 150)) y (codes "lending nodes") lending_pen
+    ++ words_shown (right_of page) y End Ink (codes "events since the start") ∷ [])
+
+-- the lines at no node, at 1 and at the most, and below them which curve is which
+abbrev pub levels_shown : Page → List Column → List Shown
+levels_shown page columns =
+    flat_map (level_shown page (node_height (most_nodes columns))) (0 ∷ 1 ∷ most_nodes columns ∷ [])
+    ++ names_shown page (px (ground_of page + 48))

@@ -1,4 +1,5 @@
 pub mod Colours
+pub mod Drawn
 pub mod Marks
 pub mod Columns
 pub mod Strips
@@ -10,8 +11,13 @@ pub mod RecordingSteps
 pub mod Visits
 pub mod Page
 pub mod Words
+pub mod Head
+pub mod Tree
+pub mod Legend
 pub mod Curves
 pub mod Runs
+pub mod Added
 pub mod Lanes
 pub mod Ruler
 pub mod Axis
+pub mod Picture

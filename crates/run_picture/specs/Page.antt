@@ -2,6 +2,8 @@
 -- From above: title, legend, damage, sweeps, the lanes, the curves with their axis. Left of the
 -- lanes stands the tree.
 use Rattle.std.specs.Prelude.{ℕ, ◌+◌, ◌-◌, ◌*◌, ◌/◌, max, min}
+use Rattle.topology.specs.Network.{Network}
+use Rattle.topology.specs.Eccentricity.{eccentricity_of}
 use Rattle.run_picture.specs.declared.layout.page.Page.{Page}
 
 -- a length is at most what 32 bits hold
@@ -16,6 +18,26 @@ column_width columns = max (min (1200 / max columns 1) 24) 1
 -- how high a lane is: all are 640 high together, but each at least 12 and at most 32
 abbrev pub lane_height : ℕ → ℕ
 lane_height lanes = max (min (640 / max lanes 1) 32) 12
+
+-- how far to the right a node is from its parent: a tree that is as deep is 200 wide, but each step
+-- is at least 3 and at most 22
+abbrev pub indent_of : ℕ → ℕ
+indent_of depth = max (min (200 / max depth 1) 22) 3
+
+-- where the columns begin: behind a margin of 16, the tree, and 104 for the nodes' names
+abbrev pub left_of : ℕ → ℕ
+left_of depth = px (px (16 + px (indent_of depth * max depth 1)) + 104)
+
+-- the page for a network and as many columns
+abbrev pub page_of : Network → ℕ → Page
+page_of net columns = record {
+  left = record { 0 = left_of (eccentricity_of net) };
+  column = record { 0 = column_width columns };
+  columns = columns;
+  lane = record { 0 = lane_height net.nodes };
+  lanes = net.nodes;
+  indent = record { 0 = indent_of (eccentricity_of net) };
+}
 
 -- the left end of a column; the columns count from 0
 abbrev pub x_of : Page → ℕ → ℕ
@@ -52,3 +74,7 @@ page_width page = max (px (right_of page + 48)) 800
 -- the height of the page
 abbrev pub page_height : Page → ℕ
 page_height page = px (ground_of page + 64)
+
+-- how far from the left a node of the tree stands that is as far from the root
+abbrev pub node_x : Page → ℕ → ℕ
+node_x page depth = px (px (16 + 8) + px (page.indent.0 * depth))

@@ -13,6 +13,7 @@ use Rattle.judge.specs.JudgeView.{JudgeView, HasSeen}
 use Rattle.judge.specs.Judging.{counted_up_to}
 use Rattle.world.specs.SimulatedText.{told_events}
 use Rattle.run_picture.specs.declared.column.Column.{Column}
+use Rattle.run_picture.specs.declared.recording.Before.{Before}
 use Rattle.run_picture.specs.declared.window.Window.{Window}
 use Rattle.run_picture.specs.Seen.{marks_of}
 use Rattle.run_picture.specs.Strips.{StripView, Shows}
@@ -53,9 +54,32 @@ pub data AreMoments (window : Window) (start : World) : List Event → ℕ → L
       → moment ≡ moment_of (run start (es ++ e ∷ [])) (is_damage (run start es) e) (counted_up_to before) (counted_up_to after)
       → AreMoments window start (es ++ e ∷ []) (ended_at ended moment) (moments ++ shown_if window (ended_at ended moment) moment)
 
+-- The first moment of a run that a window holds is the one behind all these events, and as many
+-- sweeps had ended before it: it is the start, or the moment behind the last event, where none
+-- before it is held.
+pub data IsFirstHeld (window : Window) (start : World) : List Event → ℕ → Type 0 where
+  AtStart : (moment : Column) → AreMoments window start [] 0 (moment ∷ []) → IsFirstHeld window start [] 0
+  Behind : {es : List Event} {sweeps ended : ℕ} (e : Event) (moment : Column)
+      → AreMoments window start es sweeps [] → AreMoments window start (es ++ e ∷ []) ended (moment ∷ [])
+      → IsFirstHeld window start (es ++ e ∷ []) sweeps
+
+-- That was before the first moment of a run that a window holds: the events of its front, and no
+-- others, led to this moment, and as many sweeps had ended before it.
+pub record IsBefore (window : Window) (start : World) (es : List Event) (before : Before) : Type 0 where
+  pub front : List Event
+  pub back : List Event
+  pub are : es ≡ front ++ back
+  pub first : IsFirstHeld window start front before.sweeps
+  pub events_are : before.events ≡ length front
+
+-- if any moments of a run are shown, that was before the first of them
+abbrev pub IsBeforeAny : Window → World → List Event → List Column → Before → Type 0
+IsBeforeAny window start es [] before = Unit {0}
+IsBeforeAny window start es (moment ∷ moments) before = IsBefore window start es before
+
 -- what contracts see of what is kept of a run: its judge, what is kept of the line under way, the
--- columns, the window, the sweeps that have ended, how many events there were, and how many lines
--- spelled none
+-- columns, the window, the sweeps that have ended, how many events there were, how many lines
+-- spelled none, and what was before the first moment shown
 pub record RecordingView : Type 0 where
   pub judge : JudgeView
   pub reader : Kept
@@ -64,14 +88,17 @@ pub record RecordingView : Type 0 where
   pub ended : ℕ
   pub events : ℕ
   pub unread : ℕ
+  pub before : Before
 
--- these events are recorded: the columns show the moments that the window holds
+-- these events are recorded: the columns show the moments that the window holds, and it is known
+-- what was before the first of them
 pub record IsRecorded (start : World) (es : List Event) (r : RecordingView) : Type 0 where
   pub seen : HasSeen r.judge start es
   pub moments : List Column
   pub are : AreMoments r.window start es r.ended moments
   pub shown : Shows r.strip moments
   pub events_are : r.events ≡ length es
+  pub before_is : IsBeforeAny r.window start es moments r.before
 
 -- whatever events were recorded, these are recorded behind them
 abbrev pub RecordsNext : RecordingView → List Event → RecordingView → Type 0

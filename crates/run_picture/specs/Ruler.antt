@@ -1,14 +1,17 @@
 -- What stands above the lanes: damage, and the sweeps.
-use Rattle.std.specs.Prelude.{◌≡◌, ℕ, suc, ◌+◌, ◌<◌, ◌≤◌, ◌&&◌, ◌⊎◌, Bool, true, nat_lt, nat_le, if◌then◌else◌, List, [], ◌∷◌, ◌++◌, length, take, codes, decimal, sum_by, slice_get, IfSome}
+use Rattle.std.specs.Prelude.{◌≡◌, ℕ, suc, ◌+◌, ◌-◌, ◌<◌, ◌≤◌, ◌&&◌, ◌⊎◌, Bool, true, nat_lt, nat_le, if◌then◌else◌, List, [], ◌∷◌, ◌++◌, length, map, take, codes, decimal, sum_by, slice_get, IfSome}
 use Rattle.std.specs.List.{AllByRecursion}
 use Rattle.judge.specs.Judging.{counted_up_to}
 use Rattle.run_picture.specs.declared.column.Column.{Column}
+use Rattle.run_picture.specs.declared.layout.canvas.Anchor.TheVariants.{Middle, End}
+use Rattle.run_picture.specs.declared.layout.colours.Colour.TheVariants.{Red, Ink, Blue}
 use Rattle.run_picture.specs.declared.layout.page.Page.{Page}
 use Rattle.run_picture.specs.declared.layout.ruler.SweepNumber.{SweepNumber}
-use Rattle.run_picture.specs.Page.{px, middle_of}
+use Rattle.run_picture.specs.Drawn.{Shown, form_shown, line_shown, path_shown, words_shown, whole}
+use Rattle.run_picture.specs.Page.{px, middle_of, ground_of}
 
--- what is written over columns from left to right, of which the first stands at a place
-abbrev pub over_each : (ℕ → Column → List ℕ) → ℕ → List Column → List ℕ
+-- what stands over columns from left to right, of which the first stands at a place
+abbrev pub over_each : {X : Type 0} → (ℕ → Column → List X) → ℕ → List Column → List X
 over_each over place [] = []
 over_each over place (column ∷ columns) = over place column ++ over_each over (suc place) columns
 
@@ -63,6 +66,50 @@ pub record AreNumbers (page : Page) (before : ℕ) (columns : List Column) (upto
   pub right : AllByRecursion (IsSweepNumber before columns upto) numbers
   pub apart : HaveRoom page numbers
   pub taken : (place : ℕ) → place < upto → HasTick columns place → IsTaken page numbers place
+
+-- ---- what is drawn
+
+-- what the two lines are, left of them
+abbrev pub lines_named : Page → List Shown
+lines_named page =
+    words_shown (page.left.0 - 8) 145 End Ink (codes "damage") ∷ words_shown (page.left.0 - 8) 172 End Ink (codes "sweeps") ∷ []
+
+-- a mark over each column in which damage was accepted
+abbrev pub damage_shown : Page → List Column → Shown
+damage_shown page columns = form_shown (over_each (damage_over page) 0 columns) Red
+
+-- a tick over each column in which a sweep ends
+abbrev pub ticks_shown : Page → List Column → Shown
+ticks_shown page columns = path_shown (over_each (tick_over page) 0 columns) (whole Ink 1)
+
+-- how many sweeps have ended, over the tick of its column
+abbrev pub sweeps_shown : Page → SweepNumber → Shown
+sweeps_shown page number = words_shown (middle_of page number.place) 162 Middle Ink (decimal number.ended)
+
+-- the line of a bound through the middle of a column, from an upper end to the curves' line at no node, and its name left of it
+abbrev pub guarantee_shown : Page → ℕ → ℕ → List ℕ → List ℕ → List Shown
+guarantee_shown page place top dashes name =
+    line_shown (middle_of page place) top (middle_of page place) (ground_of page) (record { colour = Blue; width = 2; dashes = dashes })
+    ∷ words_shown (middle_of page place - 4) (px (top + 9)) End Blue name ∷ []
+
+-- the lines of the bounds that the sweeps since the last damage reach in a column
+abbrev pub guarantees_over : Page → ℕ → Column → List Shown
+guarantees_over page place column =
+    (if column.sharp then guarantee_shown page place 110 (codes "2 3") (codes "sharp bound") else [])
+    ++ (if column.bound then guarantee_shown page place 122 (codes "7 3") (codes "bound") else [])
+
+-- all that stands above the lanes, with these numbers over the ticks
+abbrev pub ruler_shown : Page → List Column → List SweepNumber → List Shown
+ruler_shown page columns numbers =
+    lines_named page
+    ++ (damage_shown page columns ∷ ticks_shown page columns
+    ∷ (map (sweeps_shown page) numbers ++ over_each (guarantees_over page) 0 columns))
+
+-- This stands above the lanes, where as many sweeps have ended before the first of these columns.
+pub record IsRuler (page : Page) (before : ℕ) (columns : List Column) (shown : List Shown) : Type 0 where
+  pub numbers : List SweepNumber
+  pub are_numbers : AreNumbers page before columns (length columns) numbers
+  pub are : shown ≡ ruler_shown page columns numbers
 
 -- ---- what the steps keep
 

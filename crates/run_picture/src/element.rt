@@ -1,7 +1,8 @@
 //! What a drawing is made of.
+ghost use Rattle.std.specs.Prelude.{◌≡◌, ◌++◌, [], IfOk, decimal};
+ghost use Rattle.run_picture.specs.Drawn.{shown_of, with_given, with_text, numbered, note_shown};
 
 use std::alloc::{AllocError, Global};
-use std::fmt::Display;
 
 /// An attribute of an element.
 #[derive(Drop)]
@@ -25,7 +26,9 @@ pub struct Element {
 
 impl Element {
     /// An element without attributes and text.
-    pub fn new(alloc: Global, name: &'static str) -> Element {
+    pub fn new(alloc: Global, name: &'static str) -> Element
+        ensures { shown_of result ≡ note_shown name.now [] }
+    {
         Element {
             name,
             attributes: Vec::new(alloc),
@@ -34,19 +37,40 @@ impl Element {
     }
 
     /// The element with one attribute more.
-    pub fn with<D: Display + Drop>(
+    pub fn with(
         mut self,
         alloc: Global,
         name: &'static str,
-        value: D,
-    ) -> Result<Element, AllocError> {
+        value: &str,
+    ) -> Result<Element, AllocError>
+        ensures { IfOk result (λ element. shown_of element
+            ≡ with_given (shown_of self) (record { name = name.now; value = value.now })) }
+    {
         let value = format!(in alloc; "{value}")?;
         self.attributes.push(Attribute { name, value })?;
         Ok(self)
     }
 
+    /// The element with one attribute more, whose value is a number.
+    pub fn with_number(
+        mut self,
+        alloc: Global,
+        name: &'static str,
+        number: u32,
+    ) -> Result<Element, AllocError>
+        ensures { IfOk result (λ element. shown_of element
+            ≡ with_given (shown_of self) (numbered name.now number)) }
+    {
+        let value = format!(in alloc; "{number}")?;
+        self.attributes.push(Attribute { name, value })?;
+        Ok(self)
+    }
+
     /// The element with this text behind its own.
-    pub fn saying(mut self, text: &str) -> Result<Element, AllocError> {
+    pub fn saying(mut self, text: &str) -> Result<Element, AllocError>
+        ensures { IfOk result (λ element. shown_of element
+            ≡ with_text (shown_of self) text.now) }
+    {
         self.text.push_str(text)?;
         Ok(self)
     }

@@ -1,4 +1,7 @@
 //! A run laid out on a page.
+ghost use Rattle.std.specs.Prelude.{◌≡◌, ◌∷◌, ◌++◌, [], IfOk, OnOk, map, string_bytes};
+ghost use Rattle.run_picture.specs.Drawn.{given_of, numbered};
+ghost use Rattle.run_picture.specs.Picture.{page_attributes, IsPicture};
 
 mod axis;
 mod canvas;
@@ -30,7 +33,9 @@ use tree::draw_tree;
 use words::draw_head;
 
 /// The drawing of a run on a network.
-pub fn draw(alloc: Global, net: &Net, recording: &Recording) -> Result<Drawing, AllocError> {
+pub fn draw(alloc: Global, net: &Net, recording: &Recording) -> Result<Drawing, AllocError>
+    ensures { IfOk result (IsPicture net.now recording.now) }
+{
     let columns = recording.strip().columns();
     let width = recording.strip().width();
     let before = recording.before();
@@ -52,20 +57,54 @@ pub fn draw(alloc: Global, net: &Net, recording: &Recording) -> Result<Drawing, 
 }
 
 /// The attributes of the element that holds a page.
-fn page_attributes(alloc: Global, page: Page) -> Result<Vec<Attribute>, AllocError> {
-    let width = page.width();
-    let height = page.height();
+fn page_attributes(alloc: Global, page: Page) -> Result<Vec<Attribute>, AllocError>
+    ensures { IfOk result (λ attributes. map given_of attributes.items ≡ page_attributes page) }
+{
+    let width = page.width().0;
+    let height = page.height().0;
     let mut attributes = Vec::new(alloc);
-    for (name, value) in [
-        ("xmlns", format!(in alloc; "http://www.w3.org/2000/svg")?),
-        ("version", format!(in alloc; "1.1")?),
-        ("width", format!(in alloc; "{width}")?),
-        ("height", format!(in alloc; "{height}")?),
-        ("viewBox", format!(in alloc; "0 0 {width} {height}")?),
-        ("font-family", format!(in alloc; "sans-serif")?),
-        ("font-size", format!(in alloc; "11")?),
-    ] {
-        attributes.push(Attribute { name, value })?;
-    }
+    put(
+        &mut attributes,
+        alloc,
+        "xmlns",
+        "http://www.w3.org/2000/svg",
+    )?;
+    put(&mut attributes, alloc, "version", "1.1")?;
+    put_number(&mut attributes, alloc, "width", width)?;
+    put_number(&mut attributes, alloc, "height", height)?;
+    let shown = format!(in alloc; "0 0 {width} {height}")?;
+    put(&mut attributes, alloc, "viewBox", shown.as_str())?;
+    put(&mut attributes, alloc, "font-family", "sans-serif")?;
+    put(&mut attributes, alloc, "font-size", "11")?;
     Ok(attributes)
+}
+
+/// Adds an attribute.
+fn put(
+    attributes: &mut Vec<Attribute>,
+    alloc: Global,
+    name: &'static str,
+    value: &str,
+) -> Result<(), AllocError>
+    ensures { OnOk result (map given_of attributes.new.items
+        ≡ map given_of attributes.old.items ++ record { name = name.now; value = value.now } ∷ []) }
+{
+    let value = format!(in alloc; "{value}")?;
+    attributes.push(Attribute { name, value })?;
+    Ok(())
+}
+
+/// Adds an attribute that has a number for its value.
+fn put_number(
+    attributes: &mut Vec<Attribute>,
+    alloc: Global,
+    name: &'static str,
+    number: u32,
+) -> Result<(), AllocError>
+    ensures { OnOk result (map given_of attributes.new.items
+        ≡ map given_of attributes.old.items ++ numbered name.now number ∷ []) }
+{
+    let value = format!(in alloc; "{number}")?;
+    attributes.push(Attribute { name, value })?;
+    Ok(())
 }

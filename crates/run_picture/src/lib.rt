@@ -33,7 +33,7 @@ pub use column::Column;
 pub use element::{Attribute, Drawing, Element};
 pub use layout::draw;
 pub use mark::Mark;
-pub use recording::{Recording, record};
+pub use recording::{Before, Recording, record};
 pub use spelling::spelled;
 pub use strip::Strip;
 pub use tour::first_visits;

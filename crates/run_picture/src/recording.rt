@@ -1,6 +1,6 @@
 //! What is kept of a run for its picture.
 ghost use Rattle.std.specs.Prelude.{◌≡◌, ◌+◌, ◌^◌, ◌<◌, ◌≤◌, ℕ, List, [], ◌∷◌, ◌++◌, Some, IfOk};
-ghost use Rattle.std.specs.Prelude.{length};
+ghost use Rattle.std.specs.Prelude.{length, if◌then◌else◌};
 ghost use Rattle.configuration.specs.ConfigurationView.{world_of};
 ghost use Rattle.judge.specs.Judging.{counted_up_to};
 ghost use Rattle.judge.specs.JudgeView.{AreSweepsSeen};
@@ -70,6 +70,7 @@ impl<A: Allocator + Copy> Model for Recording<A> {
       ended = r.ended;
       events = r.events;
       unread = r.unread;
+      before = r.before;
     } };
 
     ghost invariant = { λ r. r.strip.moments ≤ r.events + 1 };
@@ -254,12 +255,12 @@ impl<A: Allocator + Copy> Recording<A> {
             self.judge.sweeps(),
         );
         self.events += 1;
-        self.ended = self.ended.saturating_add(moment.sweeps);
         let now = Before {
             events: self.events,
-            sweeps: self.ended.saturating_sub(moment.sweeps),
+            sweeps: self.ended,
         };
         self.before = now_where(self.strip.columns().is_empty(), now, self.before);
+        self.ended = self.ended.saturating_add(moment.sweeps);
         keep(&mut self.strip, self.window, self.ended, &moment);
     }
 
@@ -301,13 +302,17 @@ impl<A: Allocator + Copy> Recording<A> {
     }
 
     /// What was before the first moment that is shown.
-    pub fn before(&self) -> Before {
+    pub fn before(&self) -> Before
+        ensures { result ≡ self.now.before }
+    {
         self.before
     }
 }
 
 /// What is now, where nothing is shown yet; else what was.
-fn now_where(is_first: bool, now: Before, was: Before) -> Before {
+fn now_where(is_first: bool, now: Before, was: Before) -> Before
+    ensures { result ≡ (if is_first then now else was) }
+{
     if is_first { now } else { was }
 }
 

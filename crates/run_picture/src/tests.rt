@@ -2,7 +2,7 @@
 ghost use Rattle.std.specs.Prelude.{◌<◌};
 
 use crate::{
-    Column, Drawing, Element, Mark, Recording, Window, draw, first_visits, record, spelled,
+    Before, Column, Drawing, Element, Mark, Recording, Window, draw, first_visits, record, spelled,
 };
 use byte_streams::MemorySource;
 use std::alloc::Global;
@@ -82,6 +82,35 @@ fn a_column_shows_the_worst_of_its_moments(rt: HostRuntime) -> Result<(), Fail> 
     assert_eq!(rt; empty.strip().columns().len(), 0);
     assert_eq!(rt; empty.events(), 8);
     assert_eq!(rt; empty.refused(), 0);
+    Ok(())
+}
+
+/// A sweep of two nodes: both tick, and each link hands over what was sent inside.
+const SWEEP: &str = "tick 0\ntick 1\nsend 0 1\ntake 0 1\nsend 1 0\ntake 1 0\n";
+
+/// The recording of two sweeps of two nodes, and of a tick behind them.
+fn swept(alloc: Global, window: Window) -> Result<Recording, Fail> {
+    let net = Net::make(alloc, 2, 0, 1, 0, &[(0, 1)])?;
+    let text = format!(in alloc; "{SWEEP}{SWEEP}tick 0\n")?;
+    let mut source = MemorySource::new(text.as_bytes(), 7);
+    Ok(record(alloc, &net, &mut source, 20, window)?)
+}
+
+#[test]
+fn what_was_before_the_first_moment_shown(rt: HostRuntime) -> Result<(), Fail> {
+    // Sweeps end behind the events 6 and 12, and the run has 13.
+    for (from, to, events, sweeps, moments) in [
+        (0, 9, 0, 0, 14),
+        (1, 9, 6, 0, 8),
+        (1, 1, 6, 0, 6),
+        (2, 9, 12, 1, 2),
+    ] {
+        let recording = swept(rt.alloc(), Window { from, to })?;
+        let before = Before { events, sweeps };
+        assert_eq!(rt; recording.before(), before, "from {from} to {to}");
+        let columns = recording.strip().columns();
+        assert_eq!(rt; columns.len(), moments, "from {from} to {to}");
+    }
     Ok(())
 }
 

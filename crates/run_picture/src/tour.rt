@@ -4,6 +4,7 @@ ghost use Rattle.euler_ring.specs.Cycle.{is_named, is_on};
 ghost use Rattle.euler_ring.specs.Laws.{true_neighbours, stop_after};
 ghost use Rattle.euler_ring.specs.Tour.{tour};
 ghost use Rattle.topology.specs.Tree.{parent_of};
+ghost use Rattle.run_picture.specs.Tree.{has_parent, is_on_tree};
 ghost use Rattle.run_picture.specs.Visits.{visit_of, IsOnTree, LeadsAlong, with_new, first_visits};
 
 use euler_ring::{TreeNeighbours, tree_neighbours};
@@ -98,15 +99,17 @@ fn neighbours_on_tree(net: &Net, v: u16) -> TreeNeighbours
 
 /// Whether an edge of the tree joins two nodes.
 pub fn is_tree_edge(net: &Net, v: u16, w: u16) -> bool
-    ensures { v < net.now.nodes → w < net.now.nodes
+    ensures between { v < net.now.nodes → w < net.now.nodes
         → result ≡ (is_named (parent_of net.now v) w || is_named (parent_of net.now w) v) }
+    ensures tree { result ≡ is_on_tree net.now v w }
 {
     is_parent(net, v, w) || is_parent(net, w, v)
 }
 
 /// Whether a node is the parent of another.
 fn is_parent(net: &Net, child: u16, parent: u16) -> bool
-    ensures { child < net.now.nodes → result ≡ is_named (parent_of net.now child) parent }
+    ensures parent { child < net.now.nodes → result ≡ is_named (parent_of net.now child) parent }
+    ensures has { result ≡ has_parent net.now child parent }
 {
     child < net.nodes() && net.parent(child) == Some(parent)
 }

@@ -1,7 +1,10 @@
 //! The axis of events.
-ghost use Rattle.std.specs.Prelude.{◌≡◌, ◌^◌, ◌<◌, ◌≤◌, ◌↔◌, IsTrue, IfOk};
+ghost use Rattle.std.specs.Prelude.{◌≡◌, ◌^◌, ◌<◌, ◌≤◌, ◌++◌, ◌↔◌, IsTrue, IfOk, OnOk};
+ghost use Rattle.std.specs.List.{flat_map};
+ghost use Rattle.run_picture.specs.Added.{Adds};
 ghost use Rattle.run_picture.specs.Axis.{AreFarApart, IsRoundStep, FirstFarApart};
-ghost use Rattle.run_picture.specs.Axis.{axis_numbers, number_at};
+ghost use Rattle.run_picture.specs.Axis.{axis_numbers, number_at, number_shown, IsAxis};
+ghost use Rattle.run_picture.specs.Drawn.{drawn};
 
 use super::canvas::{Anchor, Canvas, Point, Stroke};
 use super::colours::Colour;
@@ -29,17 +32,30 @@ pub fn draw_axis(
     page: Page,
     first: u64,
     moments: u64,
-) -> Result<(), AllocError> {
+) -> Result<(), AllocError>
+    ensures { OnOk result
+        (Adds (IsAxis page first moments) (drawn canvas.old) (drawn canvas.new)) }
+{
     let step = round_step(moments, page.column);
     let numbers = axis_numbers(canvas.alloc(), page.columns, first, moments, step)?;
-    for number in numbers.as_slice() {
+    draw_numbers(canvas, page, numbers.as_slice())
+}
+
+/// Draws the ticks with their numbers.
+fn draw_numbers(canvas: &mut Canvas, page: Page, numbers: &[AxisNumber]) -> Result<(), AllocError>
+    ensures { OnOk result (drawn canvas.new
+        ≡ drawn canvas.old ++ flat_map (number_shown page) numbers.now) }
+{
+    for number in numbers {
         draw_number(canvas, page, *number)?;
     }
     Ok(())
 }
 
 /// Draws a tick with its number.
-fn draw_number(canvas: &mut Canvas, page: Page, number: AxisNumber) -> Result<(), AllocError> {
+fn draw_number(canvas: &mut Canvas, page: Page, number: AxisNumber) -> Result<(), AllocError>
+    ensures { OnOk result (drawn canvas.new ≡ drawn canvas.old ++ number_shown page number) }
+{
     let x = page.x(number.place);
     let y = page.ground();
     canvas.line(

@@ -1,8 +1,10 @@
 //! What stands below the lanes: how many nodes are privileged, and how many lend.
-ghost use Rattle.std.specs.Prelude.{◌≡◌, ◌++◌, ◌<◌, ◌^◌, OnOk, IfOk, codes, string_bytes, slice_index_or};
+ghost use Rattle.std.specs.Prelude.{◌≡◌, ◌++◌, ◌<◌, ◌^◌, OnOk, IfOk, string_bytes};
 ghost use Rattle.std.specs.Prelude.{length, map};
 ghost use Rattle.run_picture.specs.Curves.{most_nodes, node_height, count_in, curve_steps};
-ghost use Rattle.run_picture.specs.Curves.{step_in, first_count};
+ghost use Rattle.run_picture.specs.Curves.{step_in, first_count, curves_shown, levels_shown};
+ghost use Rattle.run_picture.specs.Curves.{level_shown, level_pen, name_shown, names_shown};
+ghost use Rattle.run_picture.specs.Drawn.{drawn, pen_of};
 
 use super::canvas::{Anchor, Canvas, Point, Stroke};
 use super::colours::Colour;
@@ -49,7 +51,9 @@ const LENDING: Stroke = Stroke {
 };
 
 /// Draws both curves.
-pub fn draw_curves(canvas: &mut Canvas, page: Page, columns: &[Column]) -> Result<(), AllocError> {
+pub fn draw_curves(canvas: &mut Canvas, page: Page, columns: &[Column]) -> Result<(), AllocError>
+    ensures { OnOk result (drawn canvas.new ≡ drawn canvas.old ++ curves_shown page columns.now) }
+{
     let node = node_height(most_nodes(columns));
     let privileged = steps_of(canvas.alloc(), page, node, Curve::Privileged, columns)?;
     canvas.path(privileged.as_str(), PRIVILEGED)?;
@@ -125,26 +129,38 @@ fn node_height(most: usize) -> Px
 
 /// Draws the lines at no node, at 1 and at the most, with their numbers; and says which curve is
 /// which.
-pub fn draw_levels(canvas: &mut Canvas, page: Page, columns: &[Column]) -> Result<(), AllocError> {
+pub fn draw_levels(canvas: &mut Canvas, page: Page, columns: &[Column]) -> Result<(), AllocError>
+    ensures { OnOk result (drawn canvas.new ≡ drawn canvas.old ++ levels_shown page columns.now) }
+{
     let most = most_nodes(columns);
     let node = node_height(most);
-    for count in [0, 1, most] {
-        let y = page.level(node, count);
-        let from = Point { x: page.left, y };
-        let to = Point { x: page.right(), y };
-        canvas.line(from, to, level(count))?;
-        let text = numeral(canvas.alloc(), count as u64)?;
-        let name = Point {
-            x: page.left - Px(8),
-            y: y + Px(4),
-        };
-        canvas.words(name, Anchor::End, Colour::Ink, text.as_str())?;
-    }
-    draw_names(canvas, page)
+    draw_level(canvas, page, node, 0)?;
+    draw_level(canvas, page, node, 1)?;
+    draw_level(canvas, page, node, most)?;
+    draw_names(canvas, page, page.ground() + Px(48))
+}
+
+/// Draws the line at a number of nodes, with this number.
+fn draw_level(canvas: &mut Canvas, page: Page, node: Px, count: usize) -> Result<(), AllocError>
+    ensures { OnOk result (drawn canvas.new
+        ≡ drawn canvas.old ++ level_shown page node.0 count) }
+{
+    let y = page.level(node, count);
+    let from = Point { x: page.left, y };
+    let to = Point { x: page.right(), y };
+    canvas.line(from, to, level(count))?;
+    let text = numeral(canvas.alloc(), count as u64)?;
+    let name = Point {
+        x: page.left - Px(8),
+        y: y + Px(4),
+    };
+    canvas.words(name, Anchor::End, Colour::Ink, text.as_str())
 }
 
 /// The line at a number of nodes: the one at 1 stands out.
-fn level(count: usize) -> Stroke {
+fn level(count: usize) -> Stroke
+    ensures { pen_of result ≡ level_pen count }
+{
     if count == 1 {
         Stroke {
             dashes: "1 3",
@@ -155,21 +171,36 @@ fn level(count: usize) -> Stroke {
     }
 }
 
-/// Says which curve is which.
-fn draw_names(canvas: &mut Canvas, page: Page) -> Result<(), AllocError> {
-    let y = page.ground() + Px(48);
-    let mut x = page.left;
-    for (name, stroke) in [("privileged nodes", PRIVILEGED), ("lending nodes", LENDING)] {
-        let from = Point { x, y: y - Px(4) };
-        let to = Point {
-            x: x + Px(24),
-            y: y - Px(4),
-        };
-        canvas.line(from, to, stroke)?;
-        let at = Point { x: x + Px(30), y };
-        canvas.words(at, Anchor::Start, Colour::Ink, name)?;
-        x = x + Px(150);
-    }
+/// Says which curve is which, and what the axis counts.
+fn draw_names(canvas: &mut Canvas, page: Page, y: Px) -> Result<(), AllocError>
+    ensures { OnOk result (drawn canvas.new ≡ drawn canvas.old ++ names_shown page y.0) }
+{
+    let left = Point { x: page.left, y };
+    draw_name(canvas, left, "privileged nodes", PRIVILEGED)?;
+    let right = Point {
+        x: page.left + Px(150),
+        y,
+    };
+    draw_name(canvas, right, "lending nodes", LENDING)?;
     let title = Point { x: page.right(), y };
     canvas.words(title, Anchor::End, Colour::Ink, "events since the start")
+}
+
+/// Draws a piece of a line, and says behind it what the line is.
+fn draw_name(canvas: &mut Canvas, at: Point, name: &str, stroke: Stroke) -> Result<(), AllocError>
+    ensures { OnOk result (drawn canvas.new
+        ≡ drawn canvas.old ++ name_shown at.x.0 at.y.0 name.now (pen_of stroke)) }
+{
+    let y = at.y - Px(4);
+    let from = Point { x: at.x, y };
+    let to = Point {
+        x: at.x + Px(24),
+        y,
+    };
+    canvas.line(from, to, stroke)?;
+    let behind = Point {
+        x: at.x + Px(30),
+        y: at.y,
+    };
+    canvas.words(behind, Anchor::Start, Colour::Ink, name)
 }

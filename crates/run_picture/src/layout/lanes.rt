@@ -2,7 +2,10 @@
 ghost use Rattle.std.specs.Prelude.{◌≡◌, ◌++◌, OnOk, IfOk, string_bytes};
 ghost use Rattle.std.specs.List.{flat_map};
 ghost use Rattle.std.specs.Option.{option_map};
-ghost use Rattle.run_picture.specs.Lanes.{bar, width_of};
+ghost use Rattle.run_picture.specs.Added.{Adds};
+ghost use Rattle.run_picture.specs.Drawn.{drawn};
+ghost use Rattle.run_picture.specs.Lanes.{bar, width_of, all_bars_shown, bars_shown, lane_shown};
+ghost use Rattle.run_picture.specs.Lanes.{ticket_shown, AreLanes};
 ghost use Rattle.run_picture.specs.Words.{ticket_words};
 
 use super::canvas::{Anchor, Canvas, Point, Stroke};
@@ -22,7 +25,10 @@ pub fn draw_lanes(
     page: Page,
     order: &[u16],
     columns: &[Column],
-) -> Result<(), AllocError> {
+) -> Result<(), AllocError>
+    ensures { OnOk result
+        (Adds (AreLanes page columns.now 0 order.now) (drawn canvas.old) (drawn canvas.new)) }
+{
     for lane in 0..order.len() {
         let runs = runs_of(canvas.alloc(), columns, order[lane])?;
         draw_lane(canvas, page, lane, runs.as_slice())?;
@@ -31,7 +37,9 @@ pub fn draw_lanes(
 }
 
 /// Draws a lane. Of the bars the worse is the higher, too.
-fn draw_lane(canvas: &mut Canvas, page: Page, lane: usize, runs: &[Run]) -> Result<(), AllocError> {
+fn draw_lane(canvas: &mut Canvas, page: Page, lane: usize, runs: &[Run]) -> Result<(), AllocError>
+    ensures { OnOk result (drawn canvas.new ≡ drawn canvas.old ++ lane_shown page lane runs.now) }
+{
     let y = page.y(lane);
     let high = page.lane - Px(2);
     let top = Point {
@@ -50,7 +58,10 @@ fn draw_all_bars(
     y: Px,
     runs: &[Run],
     high: Px,
-) -> Result<(), AllocError> {
+) -> Result<(), AllocError>
+    ensures { OnOk result (drawn canvas.new
+        ≡ drawn canvas.old ++ all_bars_shown page y.0 high.0 runs.now) }
+{
     let wrong = bars(canvas.alloc(), page, y, runs, 1)?;
     draw_steps(canvas, wrong.as_str(), Colour::Grey, high.half())?;
     let privileged = bars(canvas.alloc(), page, y, runs, 2)?;
@@ -70,7 +81,10 @@ fn draw_steps(
     steps: &str,
     colour: Colour,
     height: Px,
-) -> Result<(), AllocError> {
+) -> Result<(), AllocError>
+    ensures { OnOk result (drawn canvas.new
+        ≡ drawn canvas.old ++ bars_shown steps.now colour height.0) }
+{
     if steps.is_empty() {
         return Ok(());
     }
@@ -114,7 +128,10 @@ fn width_of(page: Page, run: &Run) -> Px
 }
 
 /// Writes the tickets of the runs that have room for them.
-fn draw_tickets(canvas: &mut Canvas, page: Page, y: Px, runs: &[Run]) -> Result<(), AllocError> {
+fn draw_tickets(canvas: &mut Canvas, page: Page, y: Px, runs: &[Run]) -> Result<(), AllocError>
+    ensures { OnOk result (drawn canvas.new
+        ≡ drawn canvas.old ++ flat_map (ticket_shown page y.0) runs.now) }
+{
     for run in runs {
         draw_ticket(canvas, page, y, run)?;
     }
@@ -122,7 +139,9 @@ fn draw_tickets(canvas: &mut Canvas, page: Page, y: Px, runs: &[Run]) -> Result<
 }
 
 /// Writes the ticket of a run that lends, if it has room.
-fn draw_ticket(canvas: &mut Canvas, page: Page, y: Px, run: &Run) -> Result<(), AllocError> {
+fn draw_ticket(canvas: &mut Canvas, page: Page, y: Px, run: &Run) -> Result<(), AllocError>
+    ensures { OnOk result (drawn canvas.new ≡ drawn canvas.old ++ ticket_shown page y.0 run.now) }
+{
     let Some(text) = ticket_words(canvas.alloc(), run.mark)? else {
         return Ok(());
     };

@@ -1,5 +1,12 @@
 //! What the colours and signs of a picture mean.
-ghost use Rattle.std.specs.Prelude.{◌≡◌, IfOk, string_bytes};
+ghost use Rattle.std.specs.Prelude.{◌≡◌, ◌+◌, ◌-◌, ◌∷◌, ◌++◌, [], IfOk, OnOk, string_bytes};
+ghost use Rattle.run_picture.specs.Drawn.{drawn, pen_of, line_shown, words_shown};
+ghost use Rattle.run_picture.specs.declared.layout.canvas.Anchor.TheVariants.{Start};
+ghost use Rattle.run_picture.specs.declared.layout.colours.Colour.TheVariants.{Ink};
+ghost use Rattle.run_picture.specs.declared.layout.legend.Sign.TheVariants.{Bar, Bolt};
+ghost use Rattle.run_picture.specs.Legend.{sign_shown, room_of, behind, meanings_shown};
+ghost use Rattle.run_picture.specs.Legend.{colour_meanings, sign_meanings, legend_shown};
+ghost use Rattle.run_picture.specs.Page.{px};
 ghost use Rattle.run_picture.specs.Words.{column_words};
 
 use super::canvas::{Anchor, Canvas, Point, Stroke};
@@ -19,73 +26,131 @@ const COLUMNS: Px = Px(104);
 /// How wide a letter is taken to be.
 const LETTER: Px = Px(6);
 
+/// What the legend explains.
+#[derive(Clone, Copy)]
+pub enum Sign {
+    /// A bar of a lane.
+    Bar {
+        /// Its colour.
+        colour: Colour,
+        /// Its height.
+        height: u32,
+    },
+    /// The mark of damage.
+    Bolt,
+    /// A line that stands over the lanes, or goes through them.
+    Upright {
+        /// Its colour.
+        colour: Colour,
+        /// Its width.
+        width: u32,
+    },
+    /// A line that joins two nodes.
+    Edge {
+        /// Its colour.
+        colour: Colour,
+        /// Its width.
+        width: u32,
+    },
+}
+
+impl Sign {
+    /// How far behind its place its meaning stands.
+    fn room(self) -> Px
+        ensures { result.0 ≡ room_of self }
+    {
+        match self {
+            Sign::Upright { .. } => Px(16),
+            _ => Px(22),
+        }
+    }
+}
+
 /// Draws the legend. A column shows as many moments.
-pub fn draw_legend(canvas: &mut Canvas, width: u64) -> Result<(), AllocError> {
+pub fn draw_legend(canvas: &mut Canvas, width: u64) -> Result<(), AllocError>
+    ensures { OnOk result (drawn canvas.new ≡ drawn canvas.old ++ legend_shown width) }
+{
     draw_colours(canvas)?;
     draw_signs(canvas)?;
     draw_width(canvas, width)
 }
 
 /// What the colours of the lanes mean.
-fn draw_colours(canvas: &mut Canvas) -> Result<(), AllocError> {
-    let mut x = Page::MARGIN;
-    for (colour, height, meaning) in [
-        (Colour::Pale, Px(12), "distance and parent true"),
-        (Colour::Grey, Px(6), "distance or parent wrong"),
-        (Colour::Gold, Px(9), "privileged"),
-        (Colour::Red, Px(12), "lends the lock, to the ticket written"),
-    ] {
-        let at = Point {
-            x,
-            y: COLOURS - Px(4) - height.half(),
-        };
-        canvas.rect(at, Px(16), height, colour)?;
-        x = explain(canvas, x + Px(22), COLOURS, meaning)?;
-    }
+fn draw_colours(canvas: &mut Canvas) -> Result<(), AllocError>
+    ensures { OnOk result (drawn canvas.new
+        ≡ drawn canvas.old ++ meanings_shown 16 68 colour_meanings) }
+{
+    let start = Point {
+        x: Page::MARGIN,
+        y: COLOURS,
+    };
+    let sign = Sign::Bar {
+        colour: Colour::Pale,
+        height: 12,
+    };
+    let next = explain(canvas, start, sign, "distance and parent true")?;
+    let sign = Sign::Bar {
+        colour: Colour::Grey,
+        height: 6,
+    };
+    let next = explain(canvas, next, sign, "distance or parent wrong")?;
+    let sign = Sign::Bar {
+        colour: Colour::Gold,
+        height: 9,
+    };
+    let next = explain(canvas, next, sign, "privileged")?;
+    let sign = Sign::Bar {
+        colour: Colour::Red,
+        height: 12,
+    };
+    explain(canvas, next, sign, "lends the lock, to the ticket written")?;
     Ok(())
 }
 
 /// What the signs above the lanes mean, and the edges beside them.
-fn draw_signs(canvas: &mut Canvas) -> Result<(), AllocError> {
-    let y = SIGNS;
-    let top = y - Px(10);
-    let x = Page::MARGIN;
-    let bolt_x = x + Px(6);
-    let bolt = format!(in canvas.alloc(); "M{bolt_x} {top}{BOLT}")?;
-    canvas.form(bolt.as_str(), Colour::Red)?;
-    let x = explain(canvas, x + Px(22), y, "damage")?;
-    let x = draw_upright(canvas, x, Stroke::whole(Colour::Ink, 1))?;
-    let x = explain(canvas, x, y, "a sweep ends")?;
-    let x = draw_upright(canvas, x, Stroke::whole(Colour::Blue, 2))?;
-    let x = explain(canvas, x, y, "the guarantee holds from here")?;
-    let x = draw_edge(canvas, x, Stroke::whole(Colour::Ink, 3))?;
-    let x = explain(canvas, x, y, "edge of the tree")?;
-    let x = draw_edge(canvas, x, Stroke::whole(Colour::Faint, 1))?;
-    explain(canvas, x, y, "other edge")?;
+fn draw_signs(canvas: &mut Canvas) -> Result<(), AllocError>
+    ensures { OnOk result (drawn canvas.new
+        ≡ drawn canvas.old ++ meanings_shown 16 86 sign_meanings) }
+{
+    let start = Point {
+        x: Page::MARGIN,
+        y: SIGNS,
+    };
+    let next = explain(canvas, start, Sign::Bolt, "damage")?;
+    let sign = Sign::Upright {
+        colour: Colour::Ink,
+        width: 1,
+    };
+    let next = explain(canvas, next, sign, "a sweep ends")?;
+    let sign = Sign::Upright {
+        colour: Colour::Blue,
+        width: 2,
+    };
+    let next = explain(canvas, next, sign, "the guarantee holds from here")?;
+    let sign = Sign::Edge {
+        colour: Colour::Ink,
+        width: 3,
+    };
+    let next = explain(canvas, next, sign, "edge of the tree")?;
+    let sign = Sign::Edge {
+        colour: Colour::Faint,
+        width: 1,
+    };
+    explain(canvas, next, sign, "other edge")?;
     Ok(())
-}
-
-/// Draws an upright line of the legend, and says where its meaning may stand.
-fn draw_upright(canvas: &mut Canvas, x: Px, stroke: Stroke) -> Result<Px, AllocError> {
-    let x = x + Px(8);
-    let y = SIGNS - Px(10);
-    canvas.line(Point { x, y }, Point { x, y: SIGNS }, stroke)?;
-    Ok(x + Px(8))
-}
-
-/// Draws an edge of the legend, and says where its meaning may stand.
-fn draw_edge(canvas: &mut Canvas, x: Px, stroke: Stroke) -> Result<Px, AllocError> {
-    let y = SIGNS - Px(4);
-    let end = Point { x: x + Px(16), y };
-    canvas.line(Point { x, y }, end, stroke)?;
-    Ok(x + Px(22))
 }
 
 /// What a column is.
-fn draw_width(canvas: &mut Canvas, width: u64) -> Result<(), AllocError> {
+fn draw_width(canvas: &mut Canvas, width: u64) -> Result<(), AllocError>
+    ensures { OnOk result (drawn canvas.new
+        ≡ drawn canvas.old ++ words_shown 16 104 Start Ink (column_words width) ∷ []) }
+{
     let what = column_words(canvas.alloc(), width)?;
-    explain(canvas, Page::MARGIN, COLUMNS, what.as_str())?;
-    Ok(())
+    let at = Point {
+        x: Page::MARGIN,
+        y: COLUMNS,
+    };
+    canvas.words(at, Anchor::Start, Colour::Ink, what.as_str())
 }
 
 /// How many moments a column shows, in words.
@@ -99,8 +164,84 @@ fn column_words(alloc: Global, width: u64) -> Result<String, AllocError>
     }
 }
 
-/// Writes what a sign means, and says where the next one may stand.
-fn explain(canvas: &mut Canvas, x: Px, y: Px, meaning: &str) -> Result<Px, AllocError> {
+/// Draws a sign, writes behind it what it means, and says where the next one may stand.
+fn explain(canvas: &mut Canvas, at: Point, sign: Sign, meaning: &str) -> Result<Point, AllocError>
+    ensures signs { OnOk result (drawn canvas.new
+        ≡ drawn canvas.old ++ (sign_shown at.x.0 at.y.0 sign
+        ∷ words_shown (px (at.x.0 + room_of sign)) at.y.0 Start Ink meaning.now ∷ [])) }
+    ensures x { IfOk result (λ next. next.x.0
+        ≡ behind (px (at.x.0 + room_of sign)) meaning.now) }
+    ensures y { IfOk result (λ next. next.y.0 ≡ at.y.0) }
+{
+    draw_sign(canvas, at, sign)?;
+    let Point { x, y } = at;
+    let x = x + sign.room();
     canvas.words(Point { x, y }, Anchor::Start, Colour::Ink, meaning)?;
-    Ok(x + LETTER * meaning.len() + Px(16))
+    Ok(Point {
+        x: x + LETTER * meaning.len() + Px(16),
+        y,
+    })
+}
+
+/// Draws a sign.
+fn draw_sign(canvas: &mut Canvas, at: Point, sign: Sign) -> Result<(), AllocError>
+    ensures { OnOk result (drawn canvas.new
+        ≡ drawn canvas.old ++ sign_shown at.x.0 at.y.0 sign ∷ []) }
+{
+    match sign {
+        Sign::Bar { colour, height } => draw_bar(canvas, at, colour, Px(height)),
+        Sign::Bolt => draw_bolt(canvas, at),
+        Sign::Upright { colour, width } => draw_upright(canvas, at, Stroke::whole(colour, width)),
+        Sign::Edge { colour, width } => draw_edge(canvas, at, Stroke::whole(colour, width)),
+    }
+}
+
+/// Draws a bar of a lane.
+fn draw_bar(canvas: &mut Canvas, at: Point, colour: Colour, height: Px) -> Result<(), AllocError>
+    ensures { OnOk result (drawn canvas.new
+        ≡ drawn canvas.old ++ sign_shown at.x.0 at.y.0 (Bar colour height.0) ∷ []) }
+{
+    let top = Point {
+        x: at.x,
+        y: at.y - Px(4) - height.half(),
+    };
+    canvas.rect(top, Px(16), height, colour)
+}
+
+/// Draws a mark of damage.
+fn draw_bolt(canvas: &mut Canvas, at: Point) -> Result<(), AllocError>
+    ensures { OnOk result (drawn canvas.new
+        ≡ drawn canvas.old ++ sign_shown at.x.0 at.y.0 Bolt ∷ []) }
+{
+    let x = (at.x + Px(6)).0;
+    let y = (at.y - Px(10)).0;
+    let steps = format!(in canvas.alloc(); "M{x} {y}{BOLT}")?;
+    canvas.form(steps.as_str(), Colour::Red)
+}
+
+/// Draws an upright line.
+fn draw_upright(canvas: &mut Canvas, at: Point, stroke: Stroke) -> Result<(), AllocError>
+    ensures { OnOk result (drawn canvas.new ≡ drawn canvas.old
+        ++ line_shown (px (at.x.0 + 8)) (at.y.0 - 10) (px (at.x.0 + 8)) at.y.0 (pen_of stroke)
+        ∷ []) }
+{
+    let x = at.x + Px(8);
+    let top = Point {
+        x,
+        y: at.y - Px(10),
+    };
+    canvas.line(top, Point { x, y: at.y }, stroke)
+}
+
+/// Draws an edge.
+fn draw_edge(canvas: &mut Canvas, at: Point, stroke: Stroke) -> Result<(), AllocError>
+    ensures { OnOk result (drawn canvas.new ≡ drawn canvas.old
+        ++ line_shown at.x.0 (at.y.0 - 4) (px (at.x.0 + 16)) (at.y.0 - 4) (pen_of stroke) ∷ []) }
+{
+    let y = at.y - Px(4);
+    let end = Point {
+        x: at.x + Px(16),
+        y,
+    };
+    canvas.line(Point { x: at.x, y }, end, stroke)
 }

@@ -2,7 +2,7 @@
 ghost use Rattle.std.specs.Prelude.{◌≡◌};
 ghost use Rattle.run_picture.specs.Page.{column_width, lane_height, x_of, right_of, middle_of};
 ghost use Rattle.run_picture.specs.Page.{y_of, top_of, ground_of, level_of};
-ghost use Rattle.run_picture.specs.Page.{page_width, page_height};
+ghost use Rattle.run_picture.specs.Page.{page_width, page_height, page_of, indent_of, node_x};
 
 use super::canvas::Point;
 use super::px::Px;
@@ -44,16 +44,13 @@ impl Page {
 
     /// The page for as many columns.
     pub fn new(net: &Net, columns: usize) -> Page
-        ensures column { result.column.0 ≡ column_width columns }
-        ensures columns { result.columns ≡ columns }
-        ensures lane { result.lane.0 ≡ lane_height net.now.nodes }
-        ensures lanes { result.lanes ≡ net.now.nodes }
+        ensures { result ≡ page_of net.now columns }
     {
-        let depth = u32::from(net.eccentricity()).max(1);
-        let indent = Px((200 / depth).min(22).max(3));
+        let depth = usize::from(net.eccentricity());
+        let indent = Px(indent_of(depth));
         let lanes = usize::from(net.nodes());
         Page {
-            left: Page::MARGIN + indent * depth as usize + Px(NAMES),
+            left: Page::MARGIN + indent * depth.max(1) + Px(NAMES),
             column: Px(column_width(columns)),
             columns,
             lane: Px(lane_height(lanes)),
@@ -127,12 +124,23 @@ impl Page {
     }
 
     /// The place of a node of the tree.
-    pub fn node(self, lane: usize, depth: usize) -> Point {
+    pub fn node(self, lane: usize, depth: usize) -> Point
+        ensures x { result.x.0 ≡ node_x self depth }
+        ensures y { result.y.0 ≡ y_of self lane }
+    {
         Point {
             x: Page::MARGIN + Px(8) + self.indent * depth,
             y: self.y(lane),
         }
     }
+}
+
+/// How far to the right a node is from its parent, in a tree that is as deep.
+fn indent_of(depth: usize) -> u32
+    ensures { result ≡ indent_of depth }
+{
+    let indent = 200 / depth.max(1);
+    indent.min(22).max(3) as u32
 }
 
 /// The width of a column, of as many.

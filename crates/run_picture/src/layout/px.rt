@@ -2,7 +2,6 @@
 ghost use Rattle.std.specs.Prelude.{◌≡◌, ◌+◌, ◌-◌, ◌*◌, ◌/◌};
 ghost use Rattle.run_picture.specs.Page.{px};
 
-use std::fmt;
 use std::ops::{Add, Mul, Sub};
 
 /// A length, or a place from the left or the top, in units of the page. What is computed of lengths
@@ -51,12 +50,5 @@ impl Px {
         ensures { result.0 ≡ self.0 / 2 }
     {
         Px(self.0 / 2)
-    }
-}
-
-impl fmt::Display for Px {
-    fn fmt<W: fmt::Write>(&self, f: &mut fmt::Formatter<W>) -> fmt::Result {
-        let Px(units) = *self;
-        write!(f, "{units}")
     }
 }

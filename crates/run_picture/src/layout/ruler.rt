@@ -1,7 +1,12 @@
 //! What stands above the lanes: damage, sweeps, and from where on the guarantee holds.
-ghost use Rattle.std.specs.Prelude.{◌≡◌, ◌++◌, OnOk, IfOk, string_bytes, length};
+ghost use Rattle.std.specs.Prelude.{◌≡◌, if◌then◌else◌, [], ◌∷◌, ◌++◌, OnOk, IfOk};
+ghost use Rattle.std.specs.Prelude.{string_bytes, length, map};
+ghost use Rattle.run_picture.specs.Added.{Adds};
+ghost use Rattle.run_picture.specs.Drawn.{drawn};
 ghost use Rattle.run_picture.specs.Ruler.{damage_over, tick_over, over_each, AreNumbers};
-ghost use Rattle.run_picture.specs.Ruler.{has_room, with_number};
+ghost use Rattle.run_picture.specs.Ruler.{has_room, with_number, damage_shown, ticks_shown};
+ghost use Rattle.run_picture.specs.Ruler.{guarantee_shown, guarantees_over, lines_named};
+ghost use Rattle.run_picture.specs.Ruler.{sweeps_shown, IsRuler};
 
 use super::canvas::{Anchor, Canvas, Point, Stroke};
 use super::colours::Colour;
@@ -63,19 +68,40 @@ pub fn draw_ruler(
     page: Page,
     columns: &[Column],
     before: u64,
-) -> Result<(), AllocError> {
-    let names = page.left - Px(8);
-    for (y, name) in [(DAMAGE + Px(11), "damage"), (SWEEPS + Px(8), "sweeps")] {
-        canvas.words(Point { x: names, y }, Anchor::End, Colour::Ink, name)?;
-    }
+) -> Result<(), AllocError>
+    ensures { OnOk result
+        (Adds (IsRuler page before columns.now) (drawn canvas.old) (drawn canvas.new)) }
+{
+    name_lines(canvas, page)?;
     draw_damage(canvas, page, columns)?;
     draw_sweeps(canvas, page, columns)?;
-    number_sweeps(canvas, page, columns, before)?;
+    let numbers = sweep_numbers(canvas.alloc(), page, columns, before)?;
+    number_sweeps(canvas, page, numbers.as_slice())?;
     draw_guarantees(canvas, page, columns)
 }
 
+/// Says what the lines of damage and of sweeps are.
+fn name_lines(canvas: &mut Canvas, page: Page) -> Result<(), AllocError>
+    ensures { OnOk result (drawn canvas.new ≡ drawn canvas.old ++ lines_named page) }
+{
+    let x = page.left - Px(8);
+    let damage = Point {
+        x,
+        y: DAMAGE + Px(11),
+    };
+    canvas.words(damage, Anchor::End, Colour::Ink, "damage")?;
+    let sweeps = Point {
+        x,
+        y: SWEEPS + Px(8),
+    };
+    canvas.words(sweeps, Anchor::End, Colour::Ink, "sweeps")
+}
+
 /// Draws a mark over each column in which damage was accepted.
-fn draw_damage(canvas: &mut Canvas, page: Page, columns: &[Column]) -> Result<(), AllocError> {
+fn draw_damage(canvas: &mut Canvas, page: Page, columns: &[Column]) -> Result<(), AllocError>
+    ensures { OnOk result (drawn canvas.new
+        ≡ drawn canvas.old ++ damage_shown page columns.now ∷ []) }
+{
     let steps = damage_steps(canvas.alloc(), page, columns)?;
     canvas.form(steps.as_str(), Colour::Red)
 }
@@ -111,7 +137,10 @@ fn push_damage(
 }
 
 /// Draws a tick over each column in which a sweep ends.
-fn draw_sweeps(canvas: &mut Canvas, page: Page, columns: &[Column]) -> Result<(), AllocError> {
+fn draw_sweeps(canvas: &mut Canvas, page: Page, columns: &[Column]) -> Result<(), AllocError>
+    ensures { OnOk result (drawn canvas.new
+        ≡ drawn canvas.old ++ ticks_shown page columns.now ∷ []) }
+{
     let steps = tick_steps(canvas.alloc(), page, columns)?;
     canvas.path(steps.as_str(), Stroke::whole(Colour::Ink, 1))
 }
@@ -146,22 +175,28 @@ fn push_tick(
     write!(steps, "M{x} {y}v10")
 }
 
-/// Writes how many sweeps have ended, over the ticks that have room for it.
-fn number_sweeps(
-    canvas: &mut Canvas,
-    page: Page,
-    columns: &[Column],
-    before: u64,
-) -> Result<(), AllocError> {
-    for number in sweep_numbers(canvas.alloc(), page, columns, before)?.as_slice() {
-        let text = numeral(canvas.alloc(), number.ended)?;
-        let at = Point {
-            x: page.middle(number.place),
-            y: SWEEPS - Px(2),
-        };
-        canvas.words(at, Anchor::Middle, Colour::Ink, text.as_str())?;
+/// Writes the numbers over the ticks.
+fn number_sweeps(canvas: &mut Canvas, page: Page, numbers: &[SweepNumber]) -> Result<(), AllocError>
+    ensures { OnOk result (drawn canvas.new
+        ≡ drawn canvas.old ++ map (sweeps_shown page) numbers.now) }
+{
+    for number in numbers {
+        number_sweep(canvas, page, *number)?;
     }
     Ok(())
+}
+
+/// Writes how many sweeps have ended, over a tick.
+fn number_sweep(canvas: &mut Canvas, page: Page, number: SweepNumber) -> Result<(), AllocError>
+    ensures { OnOk result (drawn canvas.new
+        ≡ drawn canvas.old ++ sweeps_shown page number ∷ []) }
+{
+    let text = numeral(canvas.alloc(), number.ended)?;
+    let at = Point {
+        x: page.middle(number.place),
+        y: SWEEPS - Px(2),
+    };
+    canvas.words(at, Anchor::Middle, Colour::Ink, text.as_str())
 }
 
 /// The numbers over the ticks, where as many sweeps have ended before the first column.
@@ -211,16 +246,45 @@ fn has_room(page: Page, numbers: &[SweepNumber], place: usize) -> bool
 }
 
 /// Draws a line where the sweeps since the last damage become as many as a bound says.
-fn draw_guarantees(canvas: &mut Canvas, page: Page, columns: &[Column]) -> Result<(), AllocError> {
-    for (place, column) in columns.iter().enumerate() {
-        if column.sharp {
-            draw_guarantee(canvas, page, place, SHARP)?;
-        }
-        if column.bound {
-            draw_guarantee(canvas, page, place, BOUND)?;
-        }
+fn draw_guarantees(canvas: &mut Canvas, page: Page, columns: &[Column]) -> Result<(), AllocError>
+    ensures { OnOk result (drawn canvas.new
+        ≡ drawn canvas.old ++ over_each (guarantees_over page) 0 columns.now) }
+{
+    for place in 0..columns.len() {
+        draw_guarantees_over(canvas, page, place, &columns[place])?;
     }
     Ok(())
+}
+
+/// Draws the lines of the bounds that are reached in a column.
+fn draw_guarantees_over(
+    canvas: &mut Canvas,
+    page: Page,
+    place: usize,
+    column: &Column,
+) -> Result<(), AllocError>
+    ensures { OnOk result (drawn canvas.new
+        ≡ drawn canvas.old ++ guarantees_over page place column.now) }
+{
+    draw_if_reached(canvas, page, place, column.sharp, SHARP)?;
+    draw_if_reached(canvas, page, place, column.bound, BOUND)
+}
+
+/// Draws the line of a bound in a column, if it is reached there.
+fn draw_if_reached(
+    canvas: &mut Canvas,
+    page: Page,
+    place: usize,
+    is_reached: bool,
+    line: Guarantee,
+) -> Result<(), AllocError>
+    ensures { OnOk result (drawn canvas.new ≡ drawn canvas.old ++ (if is_reached
+        then guarantee_shown page place line.name_at.0 line.dashes.now line.name.now else [])) }
+{
+    if !is_reached {
+        return Ok(());
+    }
+    draw_guarantee(canvas, page, place, line)
 }
 
 /// Draws the line of a bound through the middle of a column, with its name.
@@ -229,7 +293,10 @@ fn draw_guarantee(
     page: Page,
     place: usize,
     line: Guarantee,
-) -> Result<(), AllocError> {
+) -> Result<(), AllocError>
+    ensures { OnOk result (drawn canvas.new ≡ drawn canvas.old
+        ++ guarantee_shown page place line.name_at.0 line.dashes.now line.name.now) }
+{
     let x = page.middle(place);
     let top = Point { x, y: line.name_at };
     let ground = Point {

@@ -8,6 +8,8 @@ ghost use Rattle.run_picture.specs.Recordings.{IsRecorded};
 ghost use Rattle.run_picture.specs.Words.{title_words, size_words, limit_words, bound_words};
 ghost use Rattle.run_picture.specs.Words.{headline_words, event_words, node_words, sweep_words};
 ghost use Rattle.run_picture.specs.Words.{description_words, TellsOf};
+ghost use Rattle.run_picture.specs.Drawn.{drawn};
+ghost use Rattle.run_picture.specs.Head.{head_shown, told_words};
 
 use super::canvas::{Anchor, Canvas, Point};
 use super::colours::Colour;
@@ -26,7 +28,10 @@ pub fn draw_head(
     page: Page,
     net: &Net,
     recording: &Recording,
-) -> Result<(), AllocError> {
+) -> Result<(), AllocError>
+    ensures { OnOk result (drawn canvas.new
+        ≡ drawn canvas.old ++ head_shown page net.now (told_words recording.now)) }
+{
     let title = title(canvas.alloc(), net)?;
     canvas.note("title", title.as_str())?;
     let told = description(canvas.alloc(), recording)?;

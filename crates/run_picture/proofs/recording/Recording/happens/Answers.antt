@@ -1,4 +1,4 @@
-use Rattle.std.proofs.Common.{◌∙◌, ap, sym, refl, [], ◌∷◌, ◌++◌}
+use Rattle.std.proofs.Common.{◌∙◌, ◌==◌, ap, sym, refl, length, [], ◌∷◌, ◌++◌}
 use Rattle.run_model.specs.Run.{run, is_damage}
 use Rattle.configuration.specs.ConfigurationView.{world_of}
 use Rattle.run_picture.specs.Recordings.{moment_of}
@@ -20,6 +20,7 @@ returns-clause-records g c =
     ∙ ap (λ k. moment_of (world_of k) c.is_damage.result before after) c.configuration.ensures
     ∙ ap (λ w. moment_of w c.is_damage.result before after) seen.judging.now_is
     ∙ ap (λ d. moment_of (run start (es ++ e ∷ [])) d before after) damaged in
-    recorded_more start es e _ _ before after c.moment_of-moment.result now seen (c.sweeps-before.ensures.sweeps start es now.seen)
+    let empty = c.is_empty.ensures ∙ ap (λ xs. length xs == 0) c.columns.ensures in
+    recorded_more start es e _ _ before after c.moment_of-moment.result _ now seen (c.sweeps-before.ensures.sweeps start es now.seen)
     (c.sweeps.ensures.sweeps start (es ++ e ∷ []) seen) moment_is refl c.saturating_add-self-inside.ensures
-    (c.keep.ensures.shows now.moments now.shown) refl
+    (c.keep.ensures.shows now.moments now.shown) refl empty c.now_where-self-inside.ensures

@@ -8,7 +8,7 @@ pub returns-clause-recorded : goal.returns-clause-recorded
 returns-clause-recorded g c =
     let moment_is =
     c.moment_of-start.ensures ∙ ap (λ k. moment_of (world_of k) false 0 0) (c.configuration.ensures ∙ c.new-judge.ensures.configuration) in
-    begun (world_of c.args.world) _ c.moment_of-start.result c.new-judge.ensures.judging refl refl moment_is (c.keep.ensures.shows [] c.requires)
+    begun (world_of c.args.world) _ c.moment_of-start.result c.new-judge.ensures.judging refl refl refl refl moment_is (c.keep.ensures.shows [] c.requires)
 
 pub returns-clause-reading : goal.returns-clause-reading
 returns-clause-reading g c =
@@ -16,5 +16,5 @@ returns-clause-reading g c =
     c.moment_of-start.ensures ∙ ap (λ k. moment_of (world_of k) false 0 0) (c.configuration.ensures ∙ c.new-judge.ensures.configuration) in
     record {
       stands = c.new.ensures;
-      recorded = begun (world_of c.args.world) _ c.moment_of-start.result c.new-judge.ensures.judging refl refl moment_is (c.keep.ensures.shows [] c.requires);
+      recorded = begun (world_of c.args.world) _ c.moment_of-start.result c.new-judge.ensures.judging refl refl refl refl moment_is (c.keep.ensures.shows [] c.requires);
     }

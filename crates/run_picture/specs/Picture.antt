@@ -1,0 +1,51 @@
+-- The picture of a run.
+use Rattle.std.specs.Prelude.{◌≡◌, ℕ, List, [], ◌∷◌, ◌++◌, length, map, codes, decimal}
+use Rattle.topology.specs.Network.{Network}
+use Rattle.run_picture.specs.declared.column.Column.{Column}
+use Rattle.run_picture.specs.declared.element.Attribute.{Attribute}
+use Rattle.run_picture.specs.declared.element.Element.{Element}
+use Rattle.run_picture.specs.declared.element.Drawing.{Drawing}
+use Rattle.run_picture.specs.declared.layout.page.Page.{Page}
+use Rattle.run_picture.specs.Axis.{IsAxis}
+use Rattle.run_picture.specs.Curves.{curves_shown, levels_shown}
+use Rattle.run_picture.specs.Drawn.{Given, Shown, given_of, shown_of, numbered}
+use Rattle.run_picture.specs.Head.{head_shown, told_words}
+use Rattle.run_picture.specs.Lanes.{AreLanes}
+use Rattle.run_picture.specs.Legend.{legend_shown}
+use Rattle.run_picture.specs.Page.{page_of, page_width, page_height}
+use Rattle.run_picture.specs.Recordings.{RecordingView}
+use Rattle.run_picture.specs.Ruler.{IsRuler}
+use Rattle.run_picture.specs.Tree.{tree_shown}
+use Rattle.run_picture.specs.Visits.{first_visits}
+
+-- what the element that holds a page says: that it is SVG 1.1, how large the page is, and in which
+-- letters it is written
+abbrev pub page_attributes : Page → List Given
+page_attributes page =
+    record { name = codes "xmlns"; value = codes "http://www.w3.org/2000/svg" } ∷ record { name = codes "version"; value = codes "1.1" }
+    ∷ numbered (codes "width") (page_width page) ∷ numbered (codes "height") (page_height page)
+    ∷ record { name = codes "viewBox"; value = codes "0 0 " ++ (decimal (page_width page) ++ (codes " " ++ decimal (page_height page))) }
+    ∷ record { name = codes "font-family"; value = codes "sans-serif" } ∷ record { name = codes "font-size"; value = codes "11" } ∷ []
+
+-- These elements show a recording on the page of a network, each part over those before it: head,
+-- legend, tree, lanes, the curves' levels, the curves, the axis of events, and what stands above the
+-- lanes. The lanes are those of the nodes in the order in which the tour of the tree comes to them
+-- first.
+pub record ShowsRun (page : Page) (net : Network) (r : RecordingView) (shown : List Shown) : Type 0 where
+  pub lanes : List Shown
+  pub are_lanes : AreLanes page r.strip.columns 0 (first_visits net) lanes
+  pub axis : List Shown
+  pub is_axis : IsAxis page r.before.events r.strip.width axis
+  pub ruler : List Shown
+  pub is_ruler : IsRuler page r.before.sweeps r.strip.columns ruler
+  pub are : shown
+      ≡ head_shown page net (told_words r)
+      ++ (legend_shown r.strip.width
+      ++ (tree_shown page net (first_visits net)
+      ++ (lanes ++ (levels_shown page r.strip.columns ++ (curves_shown page r.strip.columns ++ (axis ++ ruler))))))
+
+-- The drawing is the picture of a recorded run on a network: its page is as wide as the recording's
+-- columns ask for, and it shows the recording, and nothing else.
+pub record IsPicture (net : Network) (r : RecordingView) (drawing : Drawing) : Type 0 where
+  pub attributes : map given_of drawing.attributes.items ≡ page_attributes (page_of net (length r.strip.columns))
+  pub elements : ShowsRun (page_of net (length r.strip.columns)) net r (map shown_of drawing.elements.items)
