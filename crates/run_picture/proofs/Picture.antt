@@ -1,5 +1,5 @@
 -- The parts of a picture, one over the other.
-use Rattle.std.proofs.Common.{◌≡◌, ◌∙◌, ap, sym, subst, ℕ, List, [], ◌∷◌, ◌++◌, length, append_assoc}
+use Rattle.std.proofs.Common.{◌≡◌, ◌∙◌, ap, subst, ℕ, List, [], ◌++◌, length, append_assoc}
 use Rattle.topology.specs.Network.{Network}
 use Rattle.run_picture.specs.declared.column.Column.{Column}
 use Rattle.run_picture.specs.declared.layout.page.Page.{Page}

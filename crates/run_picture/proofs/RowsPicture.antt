@@ -1,16 +1,15 @@
 -- Small examples of what is drawn, by computation: some that hold, and some that do not.
-use Rattle.std.proofs.Common.{◌≡◌, ℕ, List, [], ◌∷◌, codes, refl, true, false, Some, None, arith}
-use Rattle.std.proofs.lemmas.Grind.{common_steps}
+use Rattle.std.proofs.Common.{◌≡◌, [], ◌∷◌, codes, refl, true, false, Some, None, arith}
 use Rattle.topology.specs.Network.{Network}
 use Rattle.run_picture.specs.declared.layout.colours.Colour.TheVariants.{Pale, Ink}
 use Rattle.run_picture.specs.declared.layout.legend.Sign.TheVariants.{Bar}
 use Rattle.run_picture.specs.declared.layout.page.Page.{Page}
-use Rattle.run_picture.specs.Drawn.{rect_shown, line_shown, path_shown, whole}
+use Rattle.run_picture.specs.Drawn.{rect_shown, path_shown, whole}
 use Rattle.run_picture.specs.Legend.{sign_shown, behind}
 use Rattle.run_picture.specs.Page.{page_of, page_width}
 use Rattle.run_picture.specs.Picture.{ShowsRun}
 use Rattle.run_picture.specs.Recordings.{RecordingView}
-use Rattle.run_picture.specs.Tree.{lane_of, is_on_tree, bow_width, edge_shown}
+use Rattle.run_picture.specs.Tree.{lane_of, is_on_tree, corner_steps, bow_width, edge_shown}
 
 abbrev two : Network
 two = record { nodes = 2; root = 0; capacity = 1; lease = 0; edges = (0, 1) ∷ [] }
@@ -50,11 +49,11 @@ high_bow : bow_width 300 ≡ 40
 high_bow = refl
 
 -- the edge of two nodes goes down from the root's lane, and then to the right
-edge_of_two : edge_shown (page_of two 9) two (0 ∷ 1 ∷ []) (0, 1) ≡ path_shown (codes "M24 192V224H46") (whole Ink 3) ∷ []
+edge_of_two : edge_shown (page_of two 9) two (0 ∷ 1 ∷ []) (0, 1) ≡ path_shown (corner_steps 24 192 46 224) (whole Ink 3) ∷ []
 edge_of_two = refl
 
 -- also where its ends are told the other way round
-edge_turned : edge_shown (page_of two 9) two (0 ∷ 1 ∷ []) (1, 0) ≡ path_shown (codes "M24 192V224H46") (whole Ink 3) ∷ []
+edge_turned : edge_shown (page_of two 9) two (0 ∷ 1 ∷ []) (1, 0) ≡ path_shown (corner_steps 24 192 46 224) (whole Ink 3) ∷ []
 edge_turned = refl
 
 -- ---- the legend
@@ -67,9 +66,6 @@ second_sign : behind 38 (codes "distance and parent true") ≡ 198
 second_sign = refl
 
 -- ---- the picture
-
-straight_down : line_shown 5 10 5 20 (whole Ink 1) ≡ path_shown (codes "M5 10L5 20") (whole Ink 1)
-straight_down = refl
 
 -- an empty drawing shows no run
 nothing_shows_no_run : (page : Page) (net : Network) (r : RecordingView) → ¬ ShowsRun page net r []

@@ -1,5 +1,5 @@
 -- The runs of marks, mark by mark.
-use Rattle.std.proofs.Common.{◌≡◌, ◌≢◌, ◌∙◌, ap, sym, subst, refl, ℕ, zero, suc, ◌+◌, ◌-◌, ◌^◌, ◌<◌, ◌≤◌, ◌↔◌, min, Bool, false, IsTrue, List, [], ◌∷◌, ◌++◌, length, replicate, take, drop, map, slice_index_or, slice_set, append_assoc, arith}
+use Rattle.std.proofs.Common.{◌≡◌, ◌∙◌, ap, sym, subst, refl, ℕ, zero, suc, ◌+◌, ◌-◌, ◌^◌, ◌<◌, ◌↔◌, min, Bool, false, IsTrue, List, [], ◌∷◌, ◌++◌, length, replicate, take, drop, map, slice_index_or, slice_set, append_assoc, arith}
 use Rattle.std.specs.List.{flat_map}
 use Rattle.std.proofs.lemmas.Grind.{common_steps, flat_map-append}
 use Rattle.std.proofs.lemmas.List.{append-nil, length-append, length-map, length-replicate, length-take-le}

@@ -1,12 +1,12 @@
 -- The tour, stop by stop, and the nodes that it comes to first.
-use Rattle.std.proofs.Common.{◌≡◌, ◌∙◌, ap, sym, subst, refl, ℕ, zero, suc, ◌+◌, ◌<◌, ◌⊎◌, inl, inr, IsTrue, List, [], ◌∷◌, Option, Some, Contains, IsSome, length, drop, map, fold, arith}
+use Rattle.std.proofs.Common.{◌≡◌, ap, sym, subst, refl, ℕ, zero, suc, ◌<◌, inl, inr, IsTrue, List, [], ◌∷◌, Option, Some, Contains, IsSome, length, drop, map, fold, arith}
 use Rattle.std.proofs.lemmas.Grind.{common_steps}
 use Rattle.topology.specs.Network.{Network, neighbours_of, IsAcceptedNetwork}
 use Rattle.topology.specs.Laws.{NeighboursAreJoined}
 use Rattle.euler_ring.specs.Cycle.{is_on, lowest}
 use Rattle.euler_ring.specs.Tour.{Stop, tour}
 use Rattle.euler_ring.specs.Laws.{true_neighbours, stop_after, GoesTo, IsRound, IsTreeEdge, TrueNeighboursAre}
-use Rattle.run_picture.specs.Visits.{with_new, first_of_each, LeadsAlong}
+use Rattle.run_picture.specs.Visits.{with_new, LeadsAlong}
 
 -- a stretch of the tour is gone along from its first stop
 pub goes_along : (net : Network) (end stop : Stop) (stops : List Stop) → GoesTo net end (stop ∷ stops) → LeadsAlong net stop (stop ∷ stops)

@@ -1,9 +1,6 @@
 -- The picture of a run.
-use Rattle.std.specs.Prelude.{◌≡◌, ℕ, List, [], ◌∷◌, ◌++◌, length, map, codes, decimal}
+use Rattle.std.specs.Prelude.{◌≡◌, List, [], ◌∷◌, ◌++◌, length, map, codes, decimal}
 use Rattle.topology.specs.Network.{Network}
-use Rattle.run_picture.specs.declared.column.Column.{Column}
-use Rattle.run_picture.specs.declared.element.Attribute.{Attribute}
-use Rattle.run_picture.specs.declared.element.Element.{Element}
 use Rattle.run_picture.specs.declared.element.Drawing.{Drawing}
 use Rattle.run_picture.specs.declared.layout.page.Page.{Page}
 use Rattle.run_picture.specs.Axis.{IsAxis}

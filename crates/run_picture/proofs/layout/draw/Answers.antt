@@ -1,4 +1,4 @@
-use Rattle.std.proofs.Common.{◌≡◌, ◌∙◌, ◌++◌, ap, subst, sym, length}
+use Rattle.std.proofs.Common.{◌≡◌, ◌∙◌, ◌++◌, ap, subst, length}
 use Rattle.run_picture.specs.Added.{Adds}
 use Rattle.run_picture.specs.Drawn.{drawn}
 use Rattle.run_picture.specs.Lanes.{AreLanes}

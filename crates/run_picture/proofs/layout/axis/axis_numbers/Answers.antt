@@ -1,6 +1,5 @@
-use Rattle.std.proofs.Common.{◌≡◌, ◌+◌, ◌-◌, ◌⊎◌, inl, inr, None, arith}
+use Rattle.std.proofs.Common.{◌≡◌, ◌+◌, ◌-◌, inr, arith}
 use Rattle.std.specs.Int.{next_multiple_of}
-use Rattle.std.proofs.lemmas.Grind.{common_steps}
 use Rattle.run_picture.proofs.Axis.{IsNext, multiple_next, next-held, row_begins, row_done, row_more, row_over, sum_next}
 use Rattle.run_picture.proofs.layout.axis.axis_numbers.Goals as goal
 

@@ -1,5 +1,4 @@
-use Rattle.std.proofs.Common.{◌≡◌, ◌∙◌, ◌*◌, ◌+◌, ◌<◌, ◌≤◌, ◌^◌, ap, sym, suc, subst, arith}
-use Rattle.std.proofs.lemmas.Grind.{common_steps}
+use Rattle.std.proofs.Common.{◌≡◌, ◌∙◌, ◌*◌, ◌+◌, ◌≤◌, ◌^◌, ap, sym, suc, subst, arith}
 use Rattle.std.proofs.Math.Nat.{pow-succ'}
 use Rattle.run_picture.proofs.Axis.{found, not_found, none_of_three, ten_below, thrice, NoneFar}
 use Rattle.run_picture.proofs.layout.axis.round_step.Goals as goal

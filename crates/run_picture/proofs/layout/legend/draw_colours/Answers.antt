@@ -1,4 +1,4 @@
-use Rattle.std.proofs.Common.{◌≡◌, sym, ◌∷◌, ◌++◌, [], codes, drop}
+use Rattle.std.proofs.Common.{sym, [], codes, drop}
 use Rattle.std.proofs.lemmas.List.{append-nil}
 use Rattle.run_picture.specs.declared.layout.colours.Colour.TheVariants.{Pale, Grey, Gold, Red}
 use Rattle.run_picture.specs.declared.layout.legend.Sign.TheVariants.{Bar}

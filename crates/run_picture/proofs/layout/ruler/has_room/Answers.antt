@@ -1,4 +1,4 @@
-use Rattle.std.proofs.Common.{◌≡◌, ◌∙◌, ◌+◌, ◌-◌, ap, sym, length, nat_le, slice_index_or}
+use Rattle.std.proofs.Common.{◌∙◌, ◌+◌, ◌-◌, ap, sym, length, nat_le, slice_index_or}
 use Rattle.run_picture.specs.declared.layout.ruler.SweepNumber.{SweepNumber}
 use Rattle.run_picture.specs.Page.{px}
 use Rattle.run_picture.specs.Ruler.{room_behind}

@@ -1,5 +1,4 @@
-use Rattle.std.proofs.Common.{◌≡◌, ◌-◌, ◌↔◌, IsTrue, length, slice_index_or, rules, arith}
-use Rattle.std.proofs.lemmas.Grind.{common_steps}
+use Rattle.std.proofs.Common.{◌≡◌, ◌-◌, ◌↔◌, IsTrue, length, slice_index_or, rules}
 use Rattle.run_picture.specs.declared.layout.runs.Run.{Run}
 use Rattle.run_picture.specs.declared.mark.Mark.TheVariants.{Settled}
 use Rattle.run_picture.proofs.Runs.{last_ends}

@@ -1,6 +1,6 @@
-use Rattle.std.proofs.Common.{◌≡◌, ◌∙◌, ◌+◌, ◌<◌, ap, length, subst, take, map, arith}
+use Rattle.std.proofs.Common.{◌≡◌, ◌<◌, length, arith}
 use Rattle.std.proofs.lemmas.Grind.{common_steps}
-use Rattle.run_picture.specs.Runs.{mark_in, AreRuns}
+use Rattle.run_picture.specs.Runs.{mark_in}
 use Rattle.run_picture.proofs.Runs.{marks_next, all_marks}
 use Rattle.run_picture.proofs.layout.runs.runs_of.Goals as goal
 

@@ -1,4 +1,4 @@
-use Rattle.std.proofs.Common.{◌≡◌, ◌∙◌, ◌+◌, ap, string_bytes}
+use Rattle.std.proofs.Common.{◌∙◌, ◌+◌, ap}
 use Rattle.topology.specs.Network.{bound_of}
 use Rattle.judge.specs.Judging.{counted_up_to}
 use Rattle.configuration.specs.ConfigurationView.{world_of}

@@ -1,4 +1,4 @@
-use Rattle.std.proofs.Common.{◌≡◌, ◌∙◌, ◌∷◌, ◌++◌, [], OnOk, ap, codes, string_bytes}
+use Rattle.std.proofs.Common.{◌≡◌, ◌∙◌, ◌∷◌, ◌++◌, [], ap, codes}
 use Rattle.run_picture.specs.declared.layout.canvas.Anchor.TheVariants.{Start}
 use Rattle.run_picture.specs.declared.layout.colours.Colour.TheVariants.{Ink, Paper}
 use Rattle.run_picture.specs.Drawn.{drawn, note_shown, rect_shown, heading_shown, words_shown}

@@ -1,4 +1,4 @@
-use Rattle.std.proofs.Common.{◌∙◌, ◌++◌, ap, string_bytes}
+use Rattle.std.proofs.Common.{◌∙◌, ◌++◌, ap}
 use Rattle.topology.specs.Network.{bound_of}
 use Rattle.run_picture.specs.Words.{size_words, limit_words, bound_words}
 use Rattle.run_picture.proofs.Words.{three_parts}
