@@ -4,5 +4,6 @@ pub mod Parts
 pub mod Plain
 pub mod Rounds
 pub mod RowsRounds
+pub mod RowsTaking
 pub mod Taking
 pub mod Ticks

@@ -1,4 +1,4 @@
--- What holds of the schedule by rounds.
+-- What holds of the schedule by rounds, and of the networks that links are drawn from.
 use Rattle.std.specs.Prelude.{◌≡◌, ℕ, ◌<◌, true, zero, suc, [], None, length}
 use Rattle.topology.specs.Network.{Network, IsAcceptedNetwork}
 use Rattle.run_model.specs.World.{World, IsWorldInRange}
