@@ -76,8 +76,9 @@ judge() {
     elif [[ " $statuses " != *" $status "* ]]; then
         wrong "$name: status $status: $(head -c 200 "$folder/err")"
     else
-        # Where it is the very line that cannot be written, there is none.
-        tells_one_line || { [ "$kind" = write ] && [ ! -s "$folder/err" ]; } || wrong "$name: status $status tells $(head -c 200 "$folder/err")"
+        # Where it is the very line that cannot be written, there is none; of a node that gave no answer, it is on standard output.
+        tells_one_line || { [ "$kind" = write ] && [ ! -s "$folder/err" ]; } || grep -q ' no answer$' "$folder/out" ||
+            wrong "$name: status $status tells $(head -c 200 "$folder/err")"
         [ -n "$loose" ] || cmp -s -n "$(wc -c <"$folder/out")" "$folder/out" "$folder/usual" || wrong "$name: no beginning of the usual output"
     fi
 }

@@ -1,7 +1,7 @@
 //! Experiments: how fast a network recovers in fact, beside what the theorem allows.
 //!
 //! A [`Watch`] lets events happen, one by one, and keeps behind how many sweeps the network has
-//! served ever since. [`recovery`] watches one run: a world that is scrambled by a seed, and a
+//! served ever since. [`measure_run`] watches one run: a world that is scrambled by a seed, and a
 //! schedule up to the sharper bound. [`summary_of`] tells the least, the median and the most of many.
 //!
 //! ```

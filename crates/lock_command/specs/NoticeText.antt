@@ -8,7 +8,7 @@ use Rattle.lock_command.specs.declared.notice.Notice.{Notice}
 use Rattle.lock_command.specs.declared.notice.Notice.TheVariants.{NoFolder, Forbidden, NoSockets}
 use Rattle.lock_command.specs.declared.notice.Notice.TheVariants.{NoNode, TooLong, WentAway}
 use Rattle.lock_command.specs.declared.notice.Notice.TheVariants.{NoService, NotInTime, Lost}
-use Rattle.lock_command.specs.declared.notice.Notice.TheVariants.{InDoubt, NoCommand, CannotRun}
+use Rattle.lock_command.specs.declared.notice.Notice.TheVariants.{InDoubt, NoCommand, CannotRun, UnknownEnd}
 use Rattle.lock_command.specs.declared.notice.Notice.TheVariants.{System, Memory, Output}
 
 abbrev pub cause_text : Cause → List ℕ
@@ -47,6 +47,7 @@ notice_text (InDoubt node) =
     ++ (decimal node ++ codes " did not say that it was held to the end")
 notice_text (NoCommand name) = codes "there is no command " ++ name.now
 notice_text (CannotRun name) = name.now ++ codes " cannot be run"
+notice_text UnknownEnd = codes "the system does not say how the command ended"
 notice_text System = codes "the system has no descriptor, poll or clock to give; try again"
 notice_text Memory = codes "memory Refused"
 notice_text Output = codes "output Refused"

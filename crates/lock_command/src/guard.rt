@@ -37,7 +37,7 @@ fn run_copy<R: Env + Files + Processes + AllocGlobal>(rt: &R, request: &Request)
     Ok(match copy.wait() {
         Ok(status) => Outcome::Done(command_end(status)).status(),
         // Whoever started us may have said that the ends of children are not kept. The copy has
-        // run, so that nothing is to be done again.
+        // run, so that nothing is to be done again; it met the same of its command, and told it.
         Err(_) => Outcome::NoService.status(),
     })
 }

@@ -62,6 +62,8 @@ pub enum Notice<'a> {
     NoCommand(&'a str),
     /// The command cannot be run.
     CannotRun(&'a str),
+    /// The system does not say how the command ended.
+    UnknownEnd,
     /// The system gives no descriptor, no poll or no clock.
     System,
     /// Memory ran out.
@@ -160,6 +162,7 @@ impl fmt::Display for Notice<'_> {
             ),
             Notice::NoCommand(name) => write!(f, "there is no command {name}"),
             Notice::CannotRun(name) => write!(f, "{name} cannot be run"),
+            Notice::UnknownEnd => f.write_str("the system does not say how the command ended"),
             Notice::System => {
                 f.write_str("the system has no descriptor, poll or clock to give; try again")
             }

@@ -137,9 +137,14 @@ impl<'a, P: OpenProcess + Drop> Session<'a, P> {
         }
     }
 
-    /// Whether the process that started this one is gone, the first time that this is seen.
+    /// Whether the process that started this one is gone, the first time that this is seen. Where the
+    /// system does not tell which process that is, it counts as there.
     fn lost_its_parent<R: Files + AllocGlobal>(&mut self, rt: &R) -> bool {
-        if self.parent.is_none() || parent_line(rt) == self.parent {
+        if self.parent.is_none() {
+            return false;
+        }
+        let line = parent_line(rt);
+        if line.is_none() || line == self.parent {
             return false;
         }
         self.parent = None;
@@ -153,7 +158,7 @@ impl<'a, P: OpenProcess + Drop> Session<'a, P> {
     }
 
     /// What happened, if anything did: the node's word goes first.
-    fn next_event<R: Input>(&mut self, rt: &R) -> Option<Event> {
+    fn next_event<R: Input + Eprint>(&mut self, rt: &R) -> Option<Event> {
         match self.hear() {
             Heard::Line(answer) => return Some(Event::Line(answer)),
             Heard::Gone => {

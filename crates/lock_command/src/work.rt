@@ -3,6 +3,7 @@ ghost use Rattle.std.specs.Prelude.{◌≡◌, ◌≢◌};
 ghost use Rattle.lock_client.specs.declared.outcome.CommandEnd.TheVariants.{NotThere, CannotRun};
 ghost use Rattle.lock_command.specs.Ends.{command_end};
 
+use crate::notice::{Notice, NoticeLine};
 use lock_client::CommandEnd;
 use std::alloc::Global;
 use std::io;
@@ -72,10 +73,10 @@ impl<P: OpenProcess + Drop> Work<P> {
 
     /// How it ended, the first time that this is known. Standard input is read where it has
     /// something to read, and what it holds is dropped.
-    pub fn ended<R: Input>(&mut self, rt: &R, has_input: bool) -> Option<CommandEnd> {
+    pub fn ended<R: Input + Eprint>(&mut self, rt: &R, has_input: bool) -> Option<CommandEnd> {
         let end = match self {
             Work::None => None,
-            Work::Running(child) => look(child),
+            Work::Running(child) => look(rt, child),
             Work::Input if has_input => read_input(rt),
             Work::Input => None,
             Work::Done(end) => Some(*end),
@@ -108,13 +109,16 @@ impl<P: OpenProcess + Drop> Work<P> {
     }
 }
 
-/// How a command ended, if it did.
-fn look<P: OpenProcess>(child: &mut Child<P>) -> Option<CommandEnd> {
+/// How a command ended, if it did; it is told where the system does not say how.
+fn look<R: Eprint, P: OpenProcess>(rt: &R, child: &mut Child<P>) -> Option<CommandEnd> {
     match child.try_wait() {
         Ok(Some(status)) => Some(command_end(status)),
         Ok(None) => None,
         // Whoever started us may have said that the ends of children are not kept.
-        Err(_) => Some(CommandEnd::Exited(UNKNOWN)),
+        Err(_) => {
+            let _ = rt.eprintln(NoticeLine(Notice::UnknownEnd));
+            Some(CommandEnd::Exited(UNKNOWN))
+        }
     }
 }
 

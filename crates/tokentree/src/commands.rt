@@ -75,7 +75,7 @@ where
     match done {
         Ok(status) => status,
         Err(Refusal::Line) => ExitCode::from(LINE_REFUSED),
-        Err(Refusal::Fault(fault)) => fails(rt, fault),
+        Err(Refusal::Fault(fault)) => fails(rt, fault, fault_status(ask_for_lock(words))),
     }
 }
 
@@ -84,13 +84,29 @@ fn matches_of<'a, R: Print + Eprint + AllocGlobal, S: AsStr>(
     rt: &R,
     words: &'a [S],
 ) -> Result<ArgMatches<'a>, ExitCode> {
+    let is_lock = ask_for_lock(words);
     let Ok(command) = command(rt.alloc()) else {
-        return Err(fails(rt, Fault::Memory));
+        return Err(fails(rt, Fault::Memory, fault_status(is_lock)));
     };
     match command.try_get_matches_from(words) {
         Ok(matches) => Ok(matches),
-        Err(error) => Err(shows(rt, &error)),
+        Err(error) => Err(shows(rt, &error, is_lock)),
     }
+}
+
+/// Whether the word behind the program's name is `lock`.
+fn ask_for_lock<S: AsStr>(words: &[S]) -> bool {
+    match words {
+        [_, name, ..] => name.as_str() == "lock",
+        _ => false,
+    }
+}
+
+/// The status of a fault: `lock` has one of its own, since 1 may be that of its command.
+pub fn fault_status(is_lock: bool) -> u8
+    ensures { result ≡ (if is_lock then 125 else 1) }
+{
+    if is_lock { 125 } else { 1 }
 }
 
 /// Does `bound`, and says with which status it is done.
@@ -111,14 +127,15 @@ fn run_simulate<R: Files + Input + Print + AllocGlobal>(
 
 /// Shows the help that was asked for, or why the command line was refused, or that memory ran out
 /// before it was read.
-fn shows<R: Print + Eprint>(rt: &R, error: &clap::Error) -> ExitCode
+fn shows<R: Print + Eprint>(rt: &R, error: &clap::Error, is_lock: bool) -> ExitCode
     ensures mistake { kind_of error.now ≢ DisplayHelp → kind_of error.now ≢ DisplayVersion
         → kind_of error.now ≢ OutOfMemory → exit_status result ≡ 2 }
-    ensures memory { kind_of error.now ≡ OutOfMemory → exit_status result ≡ 1 }
+    ensures memory { kind_of error.now ≡ OutOfMemory
+        → exit_status result ≡ (if is_lock then 125 else 1) }
     ensures help { kind_of error.now ≡ DisplayHelp → exit_status result ≤ 1 }
 {
     match error.kind() {
-        ErrorKind::OutOfMemory => fails(rt, Fault::Memory),
+        ErrorKind::OutOfMemory => fails(rt, Fault::Memory, fault_status(is_lock)),
         ErrorKind::DisplayHelp | ErrorKind::DisplayVersion => help_status(rt, error.print(rt)),
         _ => {
             let _ = error.print(rt);
@@ -134,16 +151,16 @@ fn help_status<R: Eprint, E: Drop>(rt: &R, printed: Result<(), E>) -> ExitCode
 {
     match printed {
         Ok(()) => ExitCode::SUCCESS,
-        Err(_) => fails(rt, Fault::Output),
+        Err(_) => fails(rt, Fault::Output, fault_status(false)),
     }
 }
 
-/// Shows a fault, and ends with status 1.
-pub fn fails<R: Eprint>(rt: &R, fault: Fault) -> ExitCode
-    ensures { exit_status result ≡ 1 }
+/// Shows a fault, and ends with a status.
+pub fn fails<R: Eprint>(rt: &R, fault: Fault, status: u8) -> ExitCode
+    ensures { exit_status result ≡ status }
 {
     let _ = rt.eprintln(FaultLine(fault));
-    ExitCode::FAILURE
+    ExitCode::from(status)
 }
 
 /// What the program takes.

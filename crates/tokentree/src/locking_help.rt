@@ -19,8 +19,8 @@ the command is asked to end (SIGTERM) and killed 3 seconds later, and the status
 status counts. A command whose status is that of the command held the lock from its start to its end.
 
 Statuses: the command's own, or 128 and the number of the signal that ended it; 122 the lock was lost, or may have
-been; 124 it was not lent in time; 125 there is no lock service at DIR, or it failed before; 126 the command cannot be
-run; 127 there is no such command; 2 the command line was refused.";
+been; 124 it was not lent in time; 125 there is no lock service at DIR, or it or the system failed; 126 the command
+cannot be run; 127 there is no such command; 2 the command line was refused.";
 
 /// What follows the help of `status`.
 pub const STATUS: &str = "\
