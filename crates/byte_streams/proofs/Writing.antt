@@ -1,22 +1,18 @@
 -- Texts that are written part by part.
-use Rattle.std.proofs.Common.{sym, ℕ, ◌+◌, ◌-◌, ◌≤◌, List, ◌++◌, Option, Some, None, Result, Ok, Err, IsErr, length, take, drop, arith}
+use Rattle.std.proofs.Common.{sym, ℕ, ◌+◌, ◌-◌, ◌≤◌, List, Option, Some, None, Result, Ok, Err, IsErr, length, take, drop, arith}
 use Rattle.std.proofs.lemmas.Grind.{common_steps}
 use Rattle.std.proofs.lemmas.List.{take-append-drop, take_rest}
 use Rattle.std.proofs.Math.Seq.{take-add}
 use Rattle.byte_streams.specs.Streams.{Takes, TakesABeginning, WritesAll, Rose}
 
--- what was taken in two parts was taken in one
-pub takes_both : (xs ys : List ℕ) (before between after : Option (List ℕ)) → Takes xs before between → Takes ys between after → Takes (xs ++ ys) before after
-takes_both xs ys None between after first second = grind (arith, common_steps)
-takes_both xs ys (Some taken) between after first second = grind (arith, common_steps)
-
 -- a beginning was taken, and then more
 pub takes_more : (bytes : List ℕ) (n count : ℕ) (before between after : Option (List ℕ)) → n ≤ length bytes
     → Takes (take n bytes) before between → Takes (take count (take (length bytes - n) (drop n bytes))) between after
     → Takes (take (n + count) bytes) before after
-takes_more bytes n count before between after within first second =
+takes_more bytes n count None between after within first second = grind (arith, common_steps)
+takes_more bytes n count (Some taken) between after within first second =
     let more : Takes (take count (drop n bytes)) between after = rw (take_rest bytes n) at second in
-    rw (take-add n count bytes) (takes_both (take n bytes) (take count (drop n bytes)) before between after first more)
+    rw (take-add n count bytes) (grind (arith, common_steps))
 
 -- the first bytes were taken
 pub first_taken : (bytes : List ℕ) (n : ℕ) (before after : Option (List ℕ)) → Takes (take n bytes) before after → TakesABeginning bytes before after

@@ -19,6 +19,10 @@ abbrev pub Gives : ℕ → Option (List ℕ) → Option (List ℕ) → List ℕ 
 Gives count None after buffer = after ≡ None
 Gives count (Some rest) after buffer = GivesNext count rest after buffer
 
+-- the first `count` bytes of a text were read, of which a source has the others still to give
+abbrev pub HasRead : ℕ → List ℕ → Option (List ℕ) → Type 0
+HasRead count bytes rest = (count ≤ length bytes) × (rest ≡ Some (drop count bytes))
+
 -- a read gives at most as many bytes as there is room for, or fails; a failed one gives none, and
 -- is counted
 abbrev pub Reads : Result ℕ Failed → Option (List ℕ) → Option (List ℕ) → List ℕ → ℕ → ℕ → Type 0

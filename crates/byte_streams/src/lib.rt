@@ -19,6 +19,7 @@
 
 mod fuse;
 mod fused;
+pub mod laws;
 mod memory;
 mod streams;
 

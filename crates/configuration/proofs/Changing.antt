@@ -1,27 +1,24 @@
 -- An edge joins, or goes: what becomes of the links.
-use Rattle.std.proofs.Common.{◌≡◌, ◌≢◌, ◌*◌, ◌/◌, take, ◌∙◌, sym, ap, subst, ℕ, suc, ◌+◌, ◌-◌, ◌<◌, ◌≤◌, ◌⊎◌, inl, inr, ◌&&◌, not, Bool, true, false, arith, refl, IsTrue, IfErr, OnOk, Option, Some, None, Result, Ok, Err, List, [], ◌∷◌, ◌++◌, All, length, slice_index_or, slice_set}
+use Rattle.std.proofs.Common.{◌≡◌, ◌≢◌, ◌*◌, ◌/◌, take, ◌∙◌, sym, ap, subst, ℕ, ◌+◌, ◌-◌, ◌<◌, ◌≤◌, ◌⊎◌, inl, inr, ◌&&◌, not, Bool, true, false, arith, refl, IsTrue, IfErr, OnOk, Option, Some, None, Result, Ok, Err, List, [], ◌∷◌, ◌++◌, All, length, slice_index_or, slice_set}
 use Rattle.std.proofs.Math.Path.{fun_ext}
-use Rattle.std.proofs.lemmas.Bool.{cases_Bool, false≢true}
 use Rattle.std.proofs.lemmas.Grind.{common_steps}
 use Rattle.std.proofs.lemmas.Nat.{div-add-mod'}
 use Rattle.std.proofs.Math.Nat.{add-div_right, add-mul-div_left}
 use Rattle.std.proofs.lemmas.List.{length-append}
 use Rattle.std.proofs.lemmas.List.Elements.{All-from_get_or, All-nil}
-use Rattle.std.specs.List.{list_any}
-use Rattle.topology.specs.Network.{Edge, Network, IsAcceptedNetwork, are_joined, has_double_edge, is_between, is_same_edge, edges_without, joined_net, parted_net}
+use Rattle.topology.specs.Network.{Edge, Network, IsAcceptedNetwork, are_joined, is_between, edges_without, joined_net, parted_net}
 use Rattle.topology.specs.Change.{join_fault}
-use Rattle.topology.specs.Laws.{WhoIsParted}
+use Rattle.topology.specs.Laws.{OneEdgeLess, WhoIsParted}
 use Rattle.topology.specs.Ranges.{ranges_of}
-use Rattle.topology.proofs.Changed.{between_same, or_both, without_none}
 use Rattle.link_model.specs.Link.{LinkView, link}
 use Rattle.link_model.specs.declared.item.Item.{Item}
 use Rattle.run_model.specs.World.{at_pair, item_fits}
 use Rattle.configuration.specs.PairTable.{PairTableView, value_at}
-use Rattle.configuration.specs.Placed.{ArePlaced, AreStocked}
+use Rattle.configuration.specs.Placed.{ArePlaced, AreStocked, joined_too}
 use Rattle.configuration.specs.LinksView.{LinksView, IsLinks, spare_pairs, under_way}
 use Rattle.configuration.proofs.LinkMoves.{IsAt, clear-links, clear-under}
 use Rattle.configuration.proofs.LinkPlaces.{first-empty}
-use Rattle.configuration.proofs.JoinedPairs.{joined_but, joined_too}
+use Rattle.configuration.proofs.JoinedPairs.{joined_but}
 use Rattle.configuration.proofs.Placing.{given-one, laid-one, placed-edge, two-less}
 
 -- an answer that is no refusal keeps what it promises
@@ -179,18 +176,6 @@ module _ (l : LinksView) (u v : ℕ) (second third : PairTableView) (one two : L
 
 -- ---- an edge goes
 
--- an edge that stands once and goes is one less
-pub length-without : (es : List Edge) (u v : ℕ) → has_double_edge es ≡ false → are_joined es u v ≡ true → length es ≡ suc (length (edges_without es u v))
-length-without [] u v once joined = absurd (false≢true joined)
-length-without (e ∷ es) u v once joined =
-    let (first, rest) = or_both (list_any (is_same_edge e) es) (has_double_edge es) once in
-    elim (cases_Bool (is_between u v e)) [
-      | inl here ↦
-          (let none : are_joined es u v ≡ false = ap (λ test. list_any test es) (fun_ext (λ f. sym (between_same u v e f here))) ∙ first in
-          rw (here, without_none es u v none) refl)
-      | inr other ↦ (let later : are_joined es u v ≡ true = rw other at joined in rw other (ap suc (length-without es u v rest later)))
-    ]
-
 -- what is written where it stands changes nothing
 same-one : (f : ℕ → ℕ → List Item) (a b i j : ℕ) → f a b ≡ [] → at_pair f a b [] i j ≡ f i j
 same-one f a b i j empty = grind (arith, common_steps, empty)
@@ -203,7 +188,8 @@ but-both J u v i j = grind (arith, common_steps)
 
 module _ (l : LinksView) (u v : ℕ) (second third : PairTableView) (one two : List ℕ) (ok : IsLinks l) (un : u < l.net.nodes) (vn : v < l.net.nodes)
     (joined : IsTrue (are_joined l.net.edges u v)) (joined-back : IsTrue (are_joined l.net.edges v u)) (no-loop : u ≢ v)
-    (empty : under_way l u v ≡ []) (empty-back : under_way l v u ≡ []) (who : WhoIsParted) (accepted : IsAcceptedNetwork (parted_net l.net u v))
+    (empty : under_way l u v ≡ []) (empty-back : under_way l v u ≡ []) (who : WhoIsParted) (one-less : OneEdgeLess)
+    (accepted : IsAcceptedNetwork (parted_net l.net u v))
     (same : second.nodes ≡ l.places.nodes) (also : third.nodes ≡ second.nodes)
     (out : (i j : ℕ) → j < l.places.nodes → value_at second i j ≡ at_pair (value_at l.places) u v 0 i j)
     (one-is : one ≡ l.spares ++ value_at l.places u v ∷ [])
@@ -244,7 +230,7 @@ module _ (l : LinksView) (u v : ℕ) (second third : PairTableView) (one two : L
     network = accepted;
     placed = placed-anew l.net (edges_without l.net.edges u v) (are_joined (edges_without l.net.edges u v)) third l.links two
         (subst (λ j. ArePlaced l.net j third l.links two) (fun_ext (λ i. fun_ext (λ j. but-both (are_joined l.net.edges) u v i j ∙ sym (who l.net u v i j)))) whole);
-    count = (let c = ok.count in let m = more in let e = length-without l.net.edges u v ok.network.limits.no_double joined in omega (arith, c, m, e));
+    count = (let c = ok.count in let m = more in let e = one-less l.net u v ok.network joined in omega (arith, c, m, e));
     within = ok.within;
     fits = ok.fits;
   }

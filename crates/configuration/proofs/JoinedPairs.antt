@@ -3,11 +3,9 @@ use Rattle.std.proofs.Common.{◌≡◌, ℕ, ◌==◌, ◌&&◌, ◌||◌, not,
 use Rattle.std.proofs.lemmas.Grind.{common_steps}
 use Rattle.std.proofs.lemmas.List.Folds.{list_any-append}
 use Rattle.topology.specs.Network.{Edge, are_joined, is_between}
+use Rattle.configuration.specs.Placed.{joined_too}
 
--- one more pair is joined, or one less
-abbrev pub joined_too : (ℕ → ℕ → Bool) → ℕ → ℕ → ℕ → ℕ → Bool
-joined_too is_joined a b u v = is_joined u v || ((u == a) && (v == b))
-
+-- one pair less is joined
 abbrev pub joined_but : (ℕ → ℕ → Bool) → ℕ → ℕ → ℕ → ℕ → Bool
 joined_but is_joined a b u v = is_joined u v && not ((u == a) && (v == b))
 

@@ -4,7 +4,6 @@ use Rattle.std.proofs.Math.Path.{fun_ext}
 use Rattle.std.proofs.lemmas.Grind.{common_steps}
 use Rattle.std.proofs.lemmas.List.{length-append}
 use Rattle.std.proofs.lemmas.List.Elements.{All-append, All-drop, All-get_or, All-nil, All-tail, All-take}
-use Rattle.data_link.proofs.UnderWay.{length-remove}
 use Rattle.topology.specs.Network.{are_joined}
 use Rattle.topology.specs.Ranges.{ranges_of}
 use Rattle.link_model.specs.Link.{LinkView, link}
@@ -17,6 +16,9 @@ use Rattle.configuration.proofs.LinkPlaces.{under_way-with_link, links-with_link
 -- what holds of each item of a list holds of those that are left when one is lost
 all-remove : {X : Type 0} (P : X → Type 0) (xs : List X) (i : ℕ) → All P xs → All P (remove xs i)
 all-remove P xs i h = All-append P (take i xs) (drop (suc i) xs) (All-take P i xs h) (All-drop P (suc i) xs h)
+
+fewer-items : (items : List Item) (i : ℕ) → length (remove items i) ≤ length items
+fewer-items items i = grind (arith, common_steps)
 
 -- the link from u to v stands at place p, and is `old`
 pub record IsAt (l : LinksView) (u v p : ℕ) (old : LinkView) : Type 0 where
@@ -183,7 +185,7 @@ module _ (l : LinksView) (u v p : ℕ) (old : LinkView) (h : IsAt l u v p old) w
         → IsLinks (record l { links = slice_set l.links p new })
     lose-links (Ok x) i ok err =
         let within : length old.items ≤ old.capacity = within-is in
-        rw ok (now-links (link old.capacity (remove old.items i)) refl (omega (arith, within, length-remove old.items i)) (all-remove (λ item. IsTrue (item_fits (ranges_of l.net) item)) old.items i fits-is))
+        rw ok (now-links (link old.capacity (remove old.items i)) refl (omega (arith, within, fewer-items old.items i)) (all-remove (λ item. IsTrue (item_fits (ranges_of l.net) item)) old.items i fits-is))
     lose-links (Err x) i ok err = rw err (now-links old refl within-is fits-is)
 
     pub lose-under : {T E : Type 0} (r : Result T E) (i : ℕ) → OnOk r (new ≡ link old.capacity (remove old.items i))
@@ -192,7 +194,7 @@ module _ (l : LinksView) (u v p : ℕ) (old : LinkView) (h : IsAt l u v p old) w
         let w = under-is in
         let same : new.capacity ≡ old.capacity = ap (λ k. k.capacity) is in
         let before = within-is in
-        let within : length new.items ≤ new.capacity = rw is (omega (arith, before, length-remove old.items i)) in
+        let within : length new.items ≤ new.capacity = rw is (omega (arith, before, fewer-items old.items i)) in
         now-under new same within ∙ ap (λ k. at_pair (under_way l) u v k.items) is ∙ ap (λ xs. at_pair (under_way l) u v (remove xs i)) (sym w)
     lose-under (Err x) i is = search rules
 

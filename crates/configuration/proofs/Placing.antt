@@ -8,8 +8,8 @@ use Rattle.topology.specs.Network.{Edge, Network, are_joined}
 use Rattle.link_model.specs.Link.{LinkView, link}
 use Rattle.run_model.specs.World.{at_pair}
 use Rattle.configuration.specs.PairTable.{PairTableView, value_at}
-use Rattle.configuration.specs.Placed.{ArePlaced, AreStocked, IsSpare}
-use Rattle.configuration.proofs.JoinedPairs.{joined_but, joined_too, two-ways}
+use Rattle.configuration.specs.Placed.{ArePlaced, AreStocked, IsSpare, joined_too}
+use Rattle.configuration.proofs.JoinedPairs.{joined_but, two-ways}
 
 -- ---- the number of one pair is written
 

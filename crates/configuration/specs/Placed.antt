@@ -1,9 +1,13 @@
 -- Where the links of a network stand: two nodes that are joined have places of their own, and the
 -- places that are left are spare.
-use Rattle.std.specs.Prelude.{◌≡◌, ◌≢◌, ℕ, ◌+◌, ◌<◌, ◌⊎◌, Bool, if◌then◌else◌, List, [], length, slice_index_or}
+use Rattle.std.specs.Prelude.{◌≡◌, ◌≢◌, ℕ, ◌+◌, ◌<◌, ◌⊎◌, ◌==◌, ◌||◌, ◌&&◌, Bool, if◌then◌else◌, List, [], length, slice_index_or}
 use Rattle.topology.specs.Network.{Network}
 use Rattle.link_model.specs.Link.{LinkView, link}
 use Rattle.configuration.specs.PairTable.{PairTableView, value_at}
+
+-- two nodes more are joined, in one direction: the links of an edge are laid one after the other
+abbrev pub joined_too : (ℕ → ℕ → Bool) → ℕ → ℕ → ℕ → ℕ → Bool
+joined_too is_joined a b u v = is_joined u v || ((u == a) && (v == b))
 
 -- at the place there is an empty link with as many places as the capacity says
 pub record IsSpare (net : Network) (links : List LinkView) (place : ℕ) : Type 0 where

@@ -3,6 +3,7 @@
 use Rattle.std.proofs.Common.{◌≡◌, ℕ, ◌<◌, inl, inr, true, false, ◌==◌, ◌&&◌, List, [], ◌∷◌, Option, Some, None, refl, sym, ◌∙◌, ap, subst}
 use Rattle.std.specs.Prelude.{is_some, is_none, if◌then◌else◌}
 use Rattle.std.specs.List.{list_any}
+use Rattle.std.proofs.Math.Path.{fun_ext}
 use Rattle.std.proofs.lemmas.Bool.{and_parts, false≢true}
 use Rattle.k_state.specs.Machine as machine
 use Rattle.lock_desk.specs.Laws.{LoansNeedPrivilege}
@@ -21,7 +22,6 @@ use Rattle.run_model.specs.declared.event.Event.{Event}
 use Rattle.run_model.proofs.Along as along
 use Rattle.run_model.proofs.Along.{Course, undamaged-front, undamaged-one, kept}
 use Rattle.run_model.specs.declared.event.Event.TheVariants.{Send, Take, Lose, Tick, Ask, Leave, Damage}
-use Rattle.token_ring.proofs.TreeLists.{passes-somewhere, somewhere-passes}
 use Rattle.convergence.specs.Below.{Below}
 use Rattle.convergence.specs.Laws.{LoansStayPrivileged}
 
@@ -44,9 +44,9 @@ pub tick-keeps_privilege : LoansNeedPrivilege → (site : Site) (s : LocalState)
 tick-keeps_privilege loans site s h =
     let old = recomputed site s in
     let p : is_node_privileged site old ≡ true = loans site.lease (is_node_privileged site old) s.desk h in
-    let m = passes-somewhere (may_move site old) (tree_of site old) p in
-    let t = m.0 in
-    somewhere-passes (may_move site (ticked site s)) t (tree_of site old) (ap (λ x. machine.is_privileged (is_special site old t) x (before s t)) (loan_stops_machines site s t (some-not_none (ticked site s).desk.lent h)) ∙ m.1) m.2
+    let kept : may_move site (ticked site s) ≡ may_move site old =
+    fun_ext (λ t. ap (λ x. machine.is_privileged (is_special site old t) x (before s t)) (loan_stops_machines site s t (some-not_none (ticked site s).desk.lent h))) in
+    ap (λ test. list_any test (tree_of site old)) kept ∙ p
 
 module _ (b : Below) where
   -- a loan of the node is with privilege

@@ -3,7 +3,8 @@
 use Rattle.std.proofs.Common.{◌≡◌, ◌≢◌, ℕ, inl, inr, true, false, ◌==◌, ◌&&◌, sym, ◌∙◌, ap}
 use Rattle.std.specs.Prelude.{is_none, is_some, if◌then◌else◌}
 use Rattle.std.specs.List.{list_any}
-use Rattle.std.proofs.lemmas.Bool.{and_parts, cases_Bool}
+use Rattle.std.proofs.lemmas.Bool.{and_parts, cases_Bool, eqb-true}
+use Rattle.std.proofs.lemmas.List.Folds.{Any-from_list_any, list_any-from_Any}
 use Rattle.lock_desk.specs.Desk.{DeskState, desk_ticked}
 use Rattle.lock_desk.specs.Act.{desk_act}
 use Rattle.node_core.specs.Site.{Site}
@@ -15,7 +16,6 @@ use Rattle.run_model.specs.Step.{step}
 use Rattle.run_model.specs.Run.{is_damage}
 use Rattle.run_model.specs.Ticks.{IsTicking}
 use Rattle.run_model.specs.declared.event.Event.{Event}
-use Rattle.token_ring.proofs.TreeLists.{somewhere-passes}
 use Rattle.convergence.specs.Service.{MovesPassServed, MovesClearDesks}
 use Rattle.convergence.specs.Below.{Below}
 use Rattle.convergence.proofs.Desks.{none-not_some}
@@ -33,7 +33,9 @@ moves-with_privilege site s t ne =
     elim (cases_Bool (is_none done.desk.lent && here)) [
       | inl y ↦ (let p = and_parts (is_none done.desk.lent) here y in
           let q = and_parts (list_any (λ u. u == t) (tree_of site done)) (may_move site done t) p.1 in
-          let privileged : is_node_privileged site old ≡ true = somewhere-passes (may_move site old) t (tree_of site old) q.1 q.0 in
+          let (k, u, below, at, is) = Any-from_list_any (λ u. u == t) (tree_of site old) q.0 in
+          let privileged : is_node_privileged site old ≡ true =
+          list_any-from_Any (may_move site old) (tree_of site old) (k, u, below, at, ap (may_move site old) (eqb-true u t is) ∙ q.1) in
           let desk : (ticked site s).desk ≡ desk_ticked site.lease true s.desk = ap (λ c. desk_ticked site.lease c s.desk) privileged in
           record { desk = desk; full = ap (λ (d : DeskState). is_some d.lent) (sym desk) ∙ none-not_some done.desk.lent p.0 })
       | inr n ↦ absurd (ne (ap (λ c. if c then moved_value site done t else s.value t) n))

@@ -1,6 +1,10 @@
 -- On stable links, after three sweeps, what is staged and copied was said within them.
-use Rattle.std.proofs.Common.{◌≡◌, ℕ, Bool, true, false, ◌==◌, ◌&&◌, List, [], ◌∷◌, refl, ◌∙◌, ap}
+use Rattle.std.proofs.Common.{◌≡◌, ℕ, Bool, true, false, ◌==◌, ◌&&◌, nat_eq, List, [], ◌∷◌, Option, refl, ◌∙◌, ap, arith}
 use Rattle.std.specs.List.{list_any}
+use Rattle.std.specs.Option.{option_eq}
+use Rattle.std.specs.Cmp.Lexicographic.{options_equiv}
+use Rattle.std.proofs.lemmas.Cmp.{nat_eq_equiv}
+use Rattle.std.proofs.lemmas.Grind.{common_steps}
 use Rattle.std.proofs.lemmas.Bool.{and_parts, and_from, or_left, or_right, eq-eqb, eqb-true}
 use Rattle.std.proofs.lemmas.Map.Views.{Contains-from_any}
 use Rattle.topology.specs.Network.{are_joined}
@@ -12,11 +16,16 @@ use Rattle.run_model.specs.Project.{present}
 use Rattle.run_model.specs.declared.event.Event.{Event}
 use Rattle.tree_convergence.specs.Present.{AlwaysPresent}
 use Rattle.convergence.specs.Said.{said_in}
-use Rattle.tree_convergence.proofs.SameParent.{same_parent, same-is, same-self}
 use Rattle.convergence.specs.Below.{Below}
 use Rattle.convergence.specs.Laws.{PayloadsConverge}
 
 -- ---- two payloads are the same
+
+abbrev same_parent : Option ℕ → Option ℕ → Bool
+same_parent = option_eq nat_eq
+
+parents-are : (a b : Option ℕ) → same_parent a b ≡ true → a ≡ b
+parents-are a b e = grind (arith, common_steps)
 
 abbrev same : Payload → Payload → Bool
 same p q = (p.distance == q.distance) && (same_parent p.parent q.parent && (p.ring == q.ring))
@@ -24,14 +33,14 @@ same p q = (p.distance == q.distance) && (same_parent p.parent q.parent && (p.ri
 same-itself : (p : Payload) → same p p ≡ true
 same-itself p =
     and_from (p.distance == p.distance) (same_parent p.parent p.parent && (p.ring == p.ring)) (eq-eqb p.distance p.distance refl)
-    (and_from (same_parent p.parent p.parent) (p.ring == p.ring) (same-self p.parent p.parent refl) (eq-eqb p.ring p.ring refl))
+    (and_from (same_parent p.parent p.parent) (p.ring == p.ring) ((options_equiv nat_eq_equiv).refl p.parent) (eq-eqb p.ring p.ring refl))
 
 same-are : (p q : Payload) → same p q ≡ true → p ≡ q
 same-are p q h =
     let x = and_parts (p.distance == q.distance) (same_parent p.parent q.parent && (p.ring == q.ring)) h in
     let y = and_parts (same_parent p.parent q.parent) (p.ring == q.ring) x.1 in
     ap (λ d. record p { distance = d }) (eqb-true p.distance q.distance x.0)
-    ∙ ap (λ o. record p { distance = q.distance; parent = o }) (same-is p.parent q.parent y.0)
+    ∙ ap (λ o. record p { distance = q.distance; parent = o }) (parents-are p.parent q.parent y.0)
     ∙ ap (λ r. record q { ring = r }) (eqb-true p.ring q.ring y.1)
 
 -- ---- what was said

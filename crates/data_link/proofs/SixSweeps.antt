@@ -5,7 +5,7 @@ use Rattle.std.proofs.lemmas.Bool.{cases_lt}
 use Rattle.std.proofs.lemmas.Grind.{common_steps}
 use Rattle.k_state.specs.Ring.{IsFresh, tail_of}
 use Rattle.k_state.specs.Ages.{age}
-use Rattle.k_state.specs.Laws.{AgeGoesOn, AgeOfStart, FreshHasFront, FrontStaysOrTurnsGood, GoodHasFront, GoodStays, SomeValueIsFresh}
+use Rattle.k_state.specs.Laws.{AgeGoesOn, AgeOfStart, FreshHasFront, FrontStaysOrTurnsGood, GoodHasFront, GoodStays, MovesFromFirst, SomeValueIsFresh}
 use Rattle.data_link.specs.Edge.{EdgeState, EdgeEvent, IsEdgeInRange, IsStable, modulus_of, edge_step, edge_run, moves, moves_in, link_ring}
 use Rattle.data_link.specs.SixSweeps.{StableAfterSixSweeps}
 use Rattle.data_link.proofs.UnderWay.{All-weaker, near-stays}
@@ -53,7 +53,8 @@ module _ (of_start : AgeOfStart) (next : AgeGoesOn) where
 
   -- ---- two moves of near's number
 
-  module _ (stays : GoodStays) (good_front : GoodHasFront) (fresh_front : FreshHasFront) (front : FrontStaysOrTurnsGood) (some_fresh : SomeValueIsFresh) where
+  module _ (stays : GoodStays) (good_front : GoodHasFront) (fresh_front : FreshHasFront) (front : FrontStaysOrTurnsGood) (some_fresh : SomeValueIsFresh)
+      (first_move : MovesFromFirst) where
     -- where no number is further from `start` than near's: once near's has moved it is fresh, and
     -- once it has moved again the link is stable
     two-moves : (capacity start m : ℕ) (s : EdgeState) (es : List EdgeEvent) → IsEdgeInRange capacity s → near_age capacity start s ≡ m
@@ -76,7 +77,7 @@ module _ (of_start : AgeOfStart) (next : AgeGoesOn) where
 
     pub six-sweeps : StableAfterSixSweeps
     six-sweeps capacity s es r (first, rest, e, a, (second, later, e', b, four)) = elim (cases_lt (moves_in capacity s es) (2 * capacity + 2)) [
-      | inr many ↦ stable-after_moves stays good_front fresh_front front some_fresh capacity s es r (omega (arith, many))
+      | inr many ↦ stable-after_moves stays good_front fresh_front front some_fresh first_move capacity s es r (omega (arith, many))
       | inl few ↦ (let start = s.near.seq in
           let m = moves_in capacity s (first ++ second) in
           let half = edge_run capacity s first in

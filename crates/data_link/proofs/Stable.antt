@@ -1,13 +1,13 @@
 -- A stable link stays stable, and a link whose number moved often enough is stable
-use Rattle.std.proofs.Common.{◌≡◌, ◌≢◌, ℕ, ◌+◌, ◌*◌, ◌<◌, ◌≤◌, ◌⊎◌, inl, inr, zero, suc, List, [], ◌∷◌, length, take, drop, refl, sym, ◌∙◌, ap, subst, arith, add-one}
+use Rattle.std.proofs.Common.{◌≡◌, ◌≢◌, ℕ, ◌+◌, ◌*◌, ◌%◌, ◌<◌, ◌≤◌, ◌⊎◌, inl, inr, zero, suc, List, [], ◌∷◌, length, take, drop, refl, sym, ◌∙◌, ap, subst, arith, add-one}
+use Rattle.std.proofs.Math.Nat.{mod-eq_of_lt, mod_self}
+use Rattle.std.proofs.lemmas.Bool.{cases_lt}
 use Rattle.std.proofs.lemmas.Grind.{common_steps}
 use Rattle.topology.specs.declared.frame.Payload.{Payload}
 use Rattle.k_state.specs.Machine.{root_moved}
 use Rattle.k_state.specs.Ring.{HasFront, IsFresh, Step, moves_until}
-use Rattle.k_state.specs.Laws.{FreshHasFront, FrontStaysOrTurnsGood, GoodHasFront, GoodStays, SomeValueIsFresh}
+use Rattle.k_state.specs.Laws.{FreshHasFront, FrontStaysOrTurnsGood, GoodHasFront, GoodStays, MovesFromFirst, SomeValueIsFresh}
 use Rattle.data_link.specs.Laws.{StableStays, StableOutlastsRuns}
-use Rattle.k_state.proofs.Histories.{until-first}
-use Rattle.k_state.proofs.Steps.{step-apart}
 use Rattle.data_link.specs.Port.{PortState}
 use Rattle.data_link.specs.Edge.{EdgeState, EdgeEvent, IsEdgeInRange, IsStable, modulus_of, edge_step, edge_run, moves, moves_in, link_ring, payload_under}
 use Rattle.data_link.proofs.LinkSteps.{event-step}
@@ -41,6 +41,13 @@ carries-old p other n x ne e = grind (arith, common_steps)
 pub seq-moves : (capacity : ℕ) (s : EdgeState) (e : EdgeEvent) → moves s e ≡ 1 → (edge_step capacity s e).near.seq ≡ root_moved s.near.seq (modulus_of capacity)
 seq-moves capacity s e i = grind (arith, common_steps)
 
+-- where there are two numbers or more, the next one is another
+next-differs : (q x : ℕ) → 1 < q → x < q → root_moved x q ≢ x
+next-differs q x two below same = elim (cases_lt (x + 1) q) [
+  | inl within ↦ omega (arith, same, mod-eq_of_lt within)
+  | inr past ↦ (let last : x + 1 ≡ q = omega arith in let zero : (x + 1) % q ≡ 0 = ap (λ n. n % q) last ∙ mod_self q in omega (arith, same, zero, last))
+]
+
 -- ---- sums along a run
 
 -- whether the number moves at event k
@@ -53,15 +60,17 @@ none_left : (capacity : ℕ) (s : EdgeState) (k : ℕ) → moves_until (moved_at
 none_left capacity s zero = refl
 none_left capacity s (suc k) = omega (arith, none_left capacity s k)
 
-moved-until : (capacity : ℕ) (s : EdgeState) (es : List EdgeEvent) → moves_until (moved_at capacity s es) (length es) ≡ moves_in capacity s es
-moved-until capacity s [] = refl
-moved-until capacity s (e ∷ es) = until-first (moved_at capacity s (e ∷ es)) (length es) ∙ ap (λ n. moves s e + n) (moved-until capacity (edge_step capacity s e) es)
+moved-until : MovesFromFirst → (capacity : ℕ) (s : EdgeState) (es : List EdgeEvent) → moves_until (moved_at capacity s es) (length es) ≡ moves_in capacity s es
+moved-until first_move capacity s [] = refl
+moved-until first_move capacity s (e ∷ es) =
+    first_move (moved_at capacity s (e ∷ es)) (length es) ∙ ap (λ n. moves s e + n) (moved-until first_move capacity (edge_step capacity s e) es)
 
-moved-split : (capacity : ℕ) (s : EdgeState) (es : List EdgeEvent) (k : ℕ) →
+moved-split : MovesFromFirst → (capacity : ℕ) (s : EdgeState) (es : List EdgeEvent) (k : ℕ) →
     moves_until (moved_at capacity s es) k + moves_in capacity (edge_run capacity s (take k es)) (drop k es) ≡ moves_in capacity s es
-moved-split capacity s es zero = omega arith
-moved-split capacity s [] (suc k) = omega (arith, none_left capacity s k)
-moved-split capacity s (e ∷ es) (suc k) = omega (arith, until-first (moved_at capacity s (e ∷ es)) k, moved-split capacity (edge_step capacity s e) es k)
+moved-split first_move capacity s es zero = omega arith
+moved-split first_move capacity s [] (suc k) = omega (arith, none_left capacity s k)
+moved-split first_move capacity s (e ∷ es) (suc k) =
+    omega (arith, first_move (moved_at capacity s (e ∷ es)) k, moved-split first_move capacity (edge_step capacity s e) es k)
 
 run-split : (capacity : ℕ) (s : EdgeState) (es : List EdgeEvent) (k : ℕ) → edge_run capacity (edge_run capacity s (take k es)) (drop k es) ≡ edge_run capacity s es
 run-split capacity s es zero = refl
@@ -92,7 +101,7 @@ module _ (stays : GoodStays) (good_front : GoodHasFront) (fresh_front : FreshHas
             inl (v.0, (subst (λ a. HasFront a (link_ring after)) (sym n.0) v.1, all-weaker (UnderNumber s.near) (UnderNumber after.near) (under-same s.near after.near n.0 n.1) after carried)))
         | inr v ↦ (let all : OfAll (Carries after.near s.near.staged) after = all-weaker (λ n x. UnderNumber s.near n x × (n ≡ s.near.seq)) (Carries after.near s.near.staged)
             (λ n x k. carries-old after.near s.near.staged n x
-            (λ j. step-apart (modulus_of capacity) s.near.seq (omega arith) r.near.0 (sym (seq-moves capacity s e v.0) ∙ (sym j ∙ k.1)))
+            (λ j. next-differs (modulus_of capacity) s.near.seq (omega arith) r.near.0 (sym (seq-moves capacity s e v.0) ∙ (sym j ∙ k.1)))
             (k.0 k.1))
             after (all-both (UnderNumber s.near) (λ n x. n ≡ s.near.seq) after carried (all-ring (λ n. n ≡ s.near.seq) after v.2)) in
             inr (v.0, record { good = v.1; other = s.near.staged; out = all.out; copied = all.accepted }))
@@ -129,10 +138,10 @@ module _ (stays : GoodStays) (good_front : GoodHasFront) (fresh_front : FreshHas
       → 0 < moves_in capacity mid rest → IsStable capacity (edge_run capacity s es)
   from_fresh capacity s mid es rest e r f l = subst (IsStable capacity) e (ready-run capacity mid rest r (fresh-ready mid f) l)
 
-  pub stable-after_moves : (capacity : ℕ) (s : EdgeState) (es : List EdgeEvent) → IsEdgeInRange capacity s → 2 * capacity + 2 ≤ moves_in capacity s es → IsStable capacity (edge_run capacity s es)
-  stable-after_moves capacity s es r l =
+  pub stable-after_moves : MovesFromFirst → (capacity : ℕ) (s : EdgeState) (es : List EdgeEvent) → IsEdgeInRange capacity s → 2 * capacity + 2 ≤ moves_in capacity s es → IsStable capacity (edge_run capacity s es)
+  stable-after_moves first_move capacity s es r l =
       let short = ring-length capacity s r in
       let f = some_fresh (modulus_of capacity) (length es) (λ k. link_ring (edge_run capacity s (take k es))) (moved_at capacity s es)
-      (λ k i. rw add-one (run-steps capacity s es k i)) (ring-of_edge capacity s r) (omega (arith, short)) (omega (arith, short, l, moved-until capacity s es)) in
+      (λ k i. rw add-one (run-steps capacity s es k i)) (ring-of_edge capacity s r) (omega (arith, short)) (omega (arith, short, l, moved-until first_move capacity s es)) in
       from_fresh capacity s (edge_run capacity s (take f.0 es)) es (drop f.0 es) (run-split capacity s es f.0) (range-run capacity s (take f.0 es) r) f.2.fresh
-      (omega (arith, short, l, f.2.early, moved-split capacity s es f.0))
+      (omega (arith, short, l, f.2.early, moved-split first_move capacity s es f.0))

@@ -1,16 +1,11 @@
 -- Events that happen, and are taken, one after the other.
-use Rattle.std.proofs.Common.{◌≡◌, ℕ, ◌+◌, ◌<◌, ◌≤◌, List, ◌∷◌, ◌++◌, length, drop, Result, Ok, Err, OnOk, arith, inl, inr}
-use Rattle.std.proofs.lemmas.Grind.{common_steps}
-use Rattle.std.specs.List.{slice_index_or}
+use Rattle.std.proofs.Common.{ℕ, ◌+◌, ◌≤◌, List, ◌++◌, Result, Ok, Err, OnOk, arith, inl, inr}
 use Rattle.byte_streams.specs.Streams.{Rose}
 use Rattle.run_model.specs.declared.event.Event.{Event}
 use Rattle.schedules.specs.Taking.{TakesBoth}
 use Rattle.experiments.specs.Plan.{CountsSinkFailures}
 use Rattle.experiments.specs.declared.plan.PlanFault.{PlanFault}
 use Rattle.experiments.specs.declared.plan.PlanFault.TheVariants.{Memory, Sink}
-
-pub drop-front : (es : List Event) (i : ℕ) (d : Event) → i < length es → drop i es ≡ slice_index_or es i d ∷ drop (i + 1) es
-drop-front es i d there = grind (arith, common_steps)
 
 -- the first were taken, and then the others, or there was a fault
 pub then-taken : {S T E : Type 0} (takes : S → List Event → S → Type 0) → TakesBoth takes → (a b c : S) (xs ys : List Event) (r : Result T E)

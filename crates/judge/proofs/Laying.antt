@@ -3,10 +3,11 @@ use Rattle.std.proofs.Common.{◌≡◌, ◌*◌, take, ◌∙◌, sym, ap, subs
 use Rattle.std.proofs.Math.Path.{fun_ext}
 use Rattle.std.proofs.lemmas.Grind.{common_steps}
 use Rattle.std.proofs.lemmas.List.{length-replicate, take_more}
-use Rattle.topology.specs.Network.{Edge, Network, IsAcceptedNetwork, are_joined}
+use Rattle.std.proofs.lemmas.List.Folds.{list_any-append}
+use Rattle.topology.specs.Network.{Edge, Network, IsAcceptedNetwork, are_joined, is_between}
 use Rattle.run_model.specs.World.{at_pair}
 use Rattle.configuration.specs.PairTable.{PairTableView, value_at}
-use Rattle.configuration.proofs.JoinedPairs.{joined_too, two-ways}
+use Rattle.configuration.specs.Placed.{joined_too}
 use Rattle.judge.specs.declared.tallies.Tally.{Tally}
 use Rattle.judge.specs.Tallies.{IsTallied, most_tallies, no_tally, unrenewed_in}
 use Rattle.judge.specs.Laid.{IsLaid}
@@ -55,6 +56,10 @@ module _ (nodes : ℕ) (is_joined : ℕ → ℕ → Bool) (old new : PairTableVi
         grind (arith, common_steps, is, before, some, joined);
   }
 
+-- an edge joins its two ends both ways
+both-ways : (edges : List Edge) (e : Edge) (u v : ℕ) → joined_too (joined_too (are_joined edges) e.0 e.1) e.1 e.0 u v ≡ are_joined (edges ++ e ∷ []) u v
+both-ways edges e u v = let one = list_any-append (is_between u v) edges (e ∷ []) in grind (arith, common_steps, one)
+
 -- both links of an edge have a place
 pub laid-edge : (nodes : ℕ) (all es : List Edge) (k : ℕ) (d : Edge) (first second third : PairTableView) (next : ℕ)
     → es ≡ all → IsLaid nodes (are_joined (take k all)) first next → next ≡ 2 * k + 1 → k < length es
@@ -70,7 +75,7 @@ laid-edge nodes all es k d first second third next read laid count less same als
     let both : IsLaid nodes (joined_too (joined_too (are_joined (take k es)) e.0 e.1) e.1 e.0) third (next + 1 + 1) =
     laid-one nodes (joined_too (are_joined (take k es)) e.0 e.1) second third (next + 1) e.1 e.0 (omega (arith, count)) forth also back in
     let ways : joined_too (joined_too (are_joined (take k es)) e.0 e.1) e.1 e.0 ≡ are_joined (take k es ++ e ∷ []) =
-    fun_ext (λ u. fun_ext (λ v. two-ways (take k es) e u v)) in
+    fun_ext (λ u. fun_ext (λ v. both-ways (take k es) e u v)) in
     let edges : take k es ++ e ∷ [] ≡ take (k + 1) all = sym (take_more es k d less) ∙ ap (take (k + 1)) read in
     let two : next + 1 + 1 ≡ next + 2 = omega arith in
     subst (λ n. IsLaid nodes (are_joined (take (k + 1) all)) third n) two

@@ -1,5 +1,5 @@
 -- The laws of the copying ring, for every modulus q.
-use Rattle.std.specs.Prelude.{◌≡◌, ℕ, ◌+◌, ◌<◌, ◌≤◌, ◌⊎◌, IsTrue, List, ◌∷◌, length}
+use Rattle.std.specs.Prelude.{◌≡◌, ℕ, suc, ◌+◌, ◌<◌, ◌≤◌, ◌⊎◌, IsTrue, List, ◌∷◌, length}
 use Rattle.std.specs.List.{AllByRecursion}
 use Rattle.k_state.specs.Machine.{root_moved}
 use Rattle.k_state.specs.Ring.{HasFront, IsFresh, IsFreshMoment, IsGood, IsHistory, IsParallel, IsRing, Run, Step, Turn, head_of, is_privileged_at, moves_until, tail_of}
@@ -46,6 +46,12 @@ SomeValueIsFresh =
     (q n : ℕ) (ring : ℕ → List ℕ) (moves : ℕ → ℕ) → IsHistory q n ring moves → IsRing q (ring 0)
     → length (ring 0) ≤ q
     → length (ring 0) ≤ moves_until moves n → (k : ℕ) × (k ≤ n) × IsFreshMoment ring moves k
+
+-- the moves before a moment are the first and those that follow it
+abbrev pub MovesFromFirst : Type 0
+MovesFromFirst =
+    (moves : ℕ → ℕ) (n : ℕ)
+    → moves_until moves (suc n) ≡ moves 0 + moves_until (λ k. moves (suc k)) n
 
 -- ---- convergence
 

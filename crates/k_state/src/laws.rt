@@ -2,7 +2,7 @@
 //! needs one calls it and cites its clauses.
 ghost use Rattle.k_state.specs.Laws.{AgeGoesOn, AgeOfStart, AgesDiffer, AgesStay, AgesTurnGood};
 ghost use Rattle.k_state.specs.Laws.{FallingHasFront, FreshHasFront, FrontStaysOrTurnsGood};
-ghost use Rattle.k_state.specs.Laws.{GoodHasFront, GoodOutlastsRuns, GoodStays};
+ghost use Rattle.k_state.specs.Laws.{GoodHasFront, GoodOutlastsRuns, GoodStays, MovesFromFirst};
 ghost use Rattle.k_state.specs.Laws.{OneItemIsPrivileged, ParallelIsRun, PrivilegePasses};
 ghost use Rattle.k_state.specs.Laws.{RingStays, RunTurnsGood, RunsJoin, SomeItemIsPrivileged};
 ghost use Rattle.k_state.specs.Laws.{SomeValueIsFresh, StepIsRun, TurnsGood};
@@ -18,12 +18,14 @@ pub fn stays_good()
 /// A head value that stands nowhere else: it is in front, stays in front until the head moves, and
 /// then the ring is good. Among the values that the head holds up to the last of as many moves as
 /// there were items, one is such a value. A link needs the moment itself: no frame carries that
-/// number.
+/// number. And it counts moves along its events from the first one on, so that it needs them so
+/// here too.
 pub fn fresh_value()
     ensures below { RingStays }
     ensures front { FreshHasFront }
     ensures front_stays_or_turns_good { FrontStaysOrTurnsGood }
     ensures some_value { SomeValueIsFresh }
+    ensures first_move { MovesFromFirst }
 {}
 
 /// A ring of at most as many items as there are values is good after as many head moves as it had

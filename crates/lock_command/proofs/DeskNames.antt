@@ -6,7 +6,7 @@ use Rattle.std.specs.Fmt.{decimal}
 use Rattle.std.proofs.lemmas.List.{take-append-drop, append_cancel_right}
 use Rattle.std.proofs.lemmas.Slice.Eq.{bytes_eq-Decides}
 use Rattle.events_text.specs.EventLine.{number}
-use Rattle.events_text.proofs.SpellingLemmas.{numbers-read, numbers-spelled}
+use Rattle.events_text.specs.EventLaws.{NumbersAreRead, NumbersHaveOneSpelling}
 use Rattle.lock_command.specs.DeskFile.{desk_name}
 
 are-bytes : (w v : List ℕ) → bytes_eq w v ≡ true → w ≡ v
@@ -28,24 +28,24 @@ parts name rest middle first rest_is last middle_is =
     sym (take-append-drop 5 name) ∙ ap (λ bytes. bytes ++ drop 5 name) front
     ∙ ap (λ bytes. codes "desk-" ++ bytes) (sym (whole ∙ rest_is))
 
-pub of-name : (name rest middle : List ℕ) (r : Option ℕ)
+pub of-name : NumbersAreRead → NumbersHaveOneSpelling → (name rest middle : List ℕ) (r : Option ℕ)
     → bytes_eq (take 5 name) (codes "desk-") ≡ true → rest ≡ drop 5 name
     → bytes_eq (drop (length rest - 5) rest) (codes ".sock") ≡ true
     → middle ≡ take (length rest - 5) rest → r ≡ number middle
     → (node : ℕ) → (r ≡ Some node) ↔ ((node < 65536) × (name ≡ desk_name node))
-of-name name rest middle r first rest_is last middle_is r_is node = (forth, back)
+of-name read spelled name rest middle r first rest_is last middle_is r_is node = (forth, back)
   where
     is : name ≡ codes "desk-" ++ (middle ++ codes ".sock")
     is = parts name rest middle first rest_is last middle_is
 
     forth : r ≡ Some node → (node < 65536) × (name ≡ desk_name node)
     forth e =
-        let (small, spelled) = numbers-spelled middle node (sym r_is ∙ e) in
-        (small, is ∙ ap (λ word. codes "desk-" ++ (word ++ codes ".sock")) spelled)
+        let (small, word_is) = spelled middle node (sym r_is ∙ e) in
+        (small, is ∙ ap (λ word. codes "desk-" ++ (word ++ codes ".sock")) word_is)
 
     back : (node < 65536) × (name ≡ desk_name node) → r ≡ Some node
     back (small, named) =
         let same : middle ++ codes ".sock" ≡ decimal node ++ codes ".sock" = ap (drop 5) (sym is
         ∙ named) in
         r_is ∙ ap number (append_cancel_right middle (decimal node) (codes ".sock") same)
-        ∙ numbers-read node small
+        ∙ read node small

@@ -2,12 +2,13 @@
 use Rattle.std.proofs.Common.{◌≡◌, ℕ, ◌<◌, Bool, true, false, not, ◌&&◌, List, [], ◌∷◌, ◌++◌}
 use Rattle.std.proofs.Common.{Option, Some, None, refl, ap, ◌∙◌, sym, arith, codes}
 use Rattle.std.specs.List.{list_any, list_all, join_with_byte}
-use Rattle.std.specs.Str.{bytes_eq}
+use Rattle.std.specs.Str.{all_ascii_digits, bytes_eq}
 use Rattle.std.specs.Fmt.{decimal}
 use Rattle.std.proofs.lemmas.Bool.Decides.{nat_tests}
 use Rattle.std.proofs.lemmas.Fmt.{digits_decimal}
+use Rattle.std.proofs.lemmas.Str.Parse.{tells_all_ascii_digits, numerals_by_value}
 use Rattle.events_text.specs.EventLine.{Word, is_space, words, number_or_none, yes_or_no}
-use Rattle.events_text.proofs.SpellingLemmas.{AreDigits, own, numbers-read}
+use Rattle.events_text.specs.EventLaws.{NumbersAreRead}
 use Rattle.lock_command.specs.declared.status_line.StatusLine.{StatusLine}
 use Rattle.lock_command.specs.StatusText.{or_none_text, yes_or_no_text, status_text, status_of}
 use Rattle.lock_command.specs.StatusText.{line_status}
@@ -37,6 +38,13 @@ words-joined w (v ∷ ws) n =
     let (first, others) = both (has_no_space w) (list_all has_no_space (v ∷ ws)) n in
     words-front w (join_with_byte 32 (v ∷ ws)) first ∙ ap (λ vs. w ∷ vs) (words-joined v ws others)
 
+-- what decimal spells are digits
+abbrev AreDigits : List ℕ → Type 0
+AreDigits ds = all_ascii_digits ds ≡ true
+
+digits-in : (n : ℕ) → n < 65536 → AreDigits (decimal n)
+digits-in n h = digits_decimal (numerals_by_value AreDigits tells_all_ascii_digits) n (omega arith)
+
 digits-no_space : (ds : List ℕ) → AreDigits ds → has_no_space ds ≡ true
 digits-no_space [] d = refl
 digits-no_space (x ∷ ds) d = grind (arith, nat_tests, digits-no_space ds)
@@ -46,19 +54,16 @@ digits-not_none [] d = refl
 digits-not_none (x ∷ ds) d = grind (arith, nat_tests)
 
 number-no_space : (n : ℕ) → n < 65536 → has_no_space (decimal n) ≡ true
-number-no_space n h = digits-no_space (decimal n) (digits_decimal own n (omega arith))
+number-no_space n h = digits-no_space (decimal n) (digits-in n h)
 
 or_none-no_space : (o : Option ℕ) → IsSmallOrNone o → has_no_space (or_none_text o) ≡ true
 or_none-no_space None h = refl
 or_none-no_space (Some n) h = number-no_space n h
 
-or_none-read : (o : Option ℕ) → IsSmallOrNone o → number_or_none (or_none_text o) ≡ Some o
-or_none-read None h = refl
-or_none-read (Some n) h = rw (
-  digits-not_none (decimal n) (digits_decimal own n
-      (omega arith)),
-  numbers-read n h,
-) refl
+or_none-read : NumbersAreRead → (o : Option ℕ) → IsSmallOrNone o
+    → number_or_none (or_none_text o) ≡ Some o
+or_none-read read None h = refl
+or_none-read read (Some n) h = rw (digits-not_none (decimal n) (digits-in n h), read n h) refl
 
 yes_or_no-no_space : (b : Bool) → has_no_space (yes_or_no_text b) ≡ true
 yes_or_no-no_space true = refl
@@ -81,20 +86,20 @@ no-spaces s h =
           h.waiting,
     ) refl
 
-words-read : (s : StatusLine) → IsSmall s → status_of (status_words s) ≡ Some s
-words-read s h =
+words-read : NumbersAreRead → (s : StatusLine) → IsSmall s → status_of (status_words s) ≡ Some s
+words-read read s h =
     rw (
-      numbers-read s.node h.node,
-      numbers-read s.distance h.distance,
-      or_none-read s.parent
-          h.parent,
+      read s.node h.node,
+      read s.distance h.distance,
+      or_none-read read s.parent h.parent,
       yes_or_no-read s.token,
-      or_none-read s.lent h.lent,
-      numbers-read s.waiting h.waiting,
+      or_none-read read s.lent h.lent,
+      read s.waiting h.waiting,
     ) refl
 
 all-words : (s : StatusLine) → IsSmall s → words (status_text s) ≡ status_words s
 all-words s h = ap words (sym (text-is s)) ∙ words-joined (codes "node") _ (no-spaces s h)
 
-pub lines-read : (s : StatusLine) → IsSmall s → line_status (status_text s) ≡ Some s
-lines-read s h = ap status_of (all-words s h) ∙ words-read s h
+pub lines-read : NumbersAreRead → (s : StatusLine) → IsSmall s
+    → line_status (status_text s) ≡ Some s
+lines-read read s h = ap status_of (all-words s h) ∙ words-read read s h

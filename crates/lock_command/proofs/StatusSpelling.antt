@@ -8,7 +8,7 @@ use Rattle.std.specs.Fmt.{decimal}
 use Rattle.std.specs.List.{join_with_byte}
 use Rattle.std.proofs.lemmas.Slice.Eq.{bytes_eq-Decides}
 use Rattle.events_text.specs.EventLine.{Word, words, number, number_or_none, yes_or_no, reads, ends}
-use Rattle.events_text.proofs.SpellingLemmas.{numbers-spelled, join-words}
+use Rattle.events_text.specs.EventLaws.{NumbersHaveOneSpelling, WordsMakeTheLine}
 use Rattle.lock_command.specs.declared.status_line.StatusLine.{StatusLine}
 use Rattle.lock_command.specs.StatusText.{or_none_text, yes_or_no_text, status_text, field}
 use Rattle.lock_command.specs.StatusText.{status_of, line_status}
@@ -64,11 +64,12 @@ finish : {Y : Type 0} → (P : List Word → Type 0) (ws : List Word) (y z : Y) 
 finish P [] y z goes e = goes (cc)
 finish P (w ∷ ws) y z goes e = absurd (cc)
 
-number-one : (w : Word) (n : ℕ) → number w ≡ Some n → w ≡ decimal n
-number-one w n e = (numbers-spelled w n e).1
+number-one : NumbersHaveOneSpelling → (w : Word) (n : ℕ) → number w ≡ Some n → w ≡ decimal n
+number-one spelled w n e = (spelled w n e).1
 
-or_none-one : (w : Word) (o : Option ℕ) → number_or_none w ≡ Some o → w ≡ or_none_text o
-or_none-one w o e = by (bytes_eq w (codes "none")) refl (number w) refl e
+or_none-one : NumbersHaveOneSpelling → (w : Word) (o : Option ℕ) → number_or_none w ≡ Some o
+    → w ≡ or_none_text o
+or_none-one spelled w o e = by (bytes_eq w (codes "none")) refl (number w) refl e
   where
     by : (b : Bool) → bytes_eq w (codes "none") ≡ b → (r : Option ℕ) → number w ≡ r
         → ◌≡◌ {A = Option (Option ℕ)} (if b then Some None else option_map
@@ -76,7 +77,7 @@ or_none-one w o e = by (bytes_eq w (codes "none")) refl (number w) refl e
     by true is r read e = let none : None ≡ o = cc in rw (← none) (is-word w (codes "none") is)
     by false is None read e = absurd (cc)
     by false is (Some n) read e = let some : ◌≡◌ {A = Option ℕ} (Some n) o = cc in rw (← some)
-        (number-one w n read)
+        (number-one spelled w n read)
 
 yes_or_no-one : (w : Word) (b : Bool) → yes_or_no w ≡ Some b → w ≡ yes_or_no_text b
 yes_or_no-one w b e = by (bytes_eq w (codes "yes")) refl (bytes_eq w (codes "no")) refl e
@@ -117,20 +118,21 @@ behind_distance v d = field (codes "parent") number_or_none (behind_parent v d)
 abbrev behind_node : ℕ → List Word → Option StatusLine
 behind_node v = field (codes "distance") number (behind_distance v)
 
-words-of : (ws : List Word) (s : StatusLine) → status_of ws ≡ Some s → ws ≡ status_words s
-words-of ws s = named number decimal number-one (codes "node") behind_node
+words-of : NumbersHaveOneSpelling → (ws : List Word) (s : StatusLine) → status_of ws ≡ Some s
+    → ws ≡ status_words s
+words-of spelled ws s = named number decimal (number-one spelled) (codes "node") behind_node
     (λ ws. ws ≡ status_words s) ws s
-    (λ v rest. named number decimal number-one (codes "distance") (behind_distance v)
+    (λ v rest. named number decimal (number-one spelled) (codes "distance") (behind_distance v)
     (λ ws. codes "node" ∷ decimal v ∷ ws ≡ status_words s) rest s
-    (λ d rest. named number_or_none or_none_text or_none-one (codes "parent") (behind_parent v d)
+    (λ d rest. named number_or_none or_none_text (or_none-one spelled) (codes "parent") (behind_parent v d)
     (λ ws. codes "node" ∷ decimal v ∷ codes "distance" ∷ decimal d ∷ ws ≡ status_words s) rest s
     (λ p rest. named yes_or_no yes_or_no_text yes_or_no-one (codes "token") (behind_token v d p)
     (λ ws. codes "node" ∷ decimal v ∷ codes "distance" ∷ decimal d ∷ codes "parent"
     ∷ or_none_text p ∷ ws ≡ status_words s) rest s
-    (λ t rest. named number_or_none or_none_text or_none-one (codes "lent") (behind_lent v d p t)
+    (λ t rest. named number_or_none or_none_text (or_none-one spelled) (codes "lent") (behind_lent v d p t)
     (λ ws. codes "node" ∷ decimal v ∷ codes "distance" ∷ decimal d ∷ codes "parent"
     ∷ or_none_text p ∷ codes "token" ∷ yes_or_no_text t ∷ ws ≡ status_words s) rest s
-    (λ l rest. named number decimal number-one (codes "waiting") (λ w. ends (line_of v d p t l w))
+    (λ l rest. named number decimal (number-one spelled) (codes "waiting") (λ w. ends (line_of v d p t l w))
     (λ ws. codes "node" ∷ decimal v ∷ codes "distance" ∷ decimal d ∷ codes "parent"
     ∷ or_none_text p ∷ codes "token" ∷ yes_or_no_text t
     ∷ codes "lent" ∷ or_none_text l ∷ ws ≡ status_words s) rest s
@@ -139,7 +141,7 @@ words-of ws s = named number decimal number-one (codes "node") behind_node
     ∷ codes "lent" ∷ or_none_text l ∷ codes "waiting" ∷ decimal w
     ∷ ws ≡ status_words s) rest (line_of v d p t l w) s (λ same. rw (← same) refl)))))))
 
-pub lines-spelled : (line : List ℕ) (s : StatusLine) → line_status line ≡ Some s
-    → line ≡ status_text s
-lines-spelled line s h = sym (join-words line)
-    ∙ ap (join_with_byte 32) (words-of (words line) s h) ∙ text-is s
+pub lines-spelled : NumbersHaveOneSpelling → WordsMakeTheLine → (line : List ℕ) (s : StatusLine)
+    → line_status line ≡ Some s → line ≡ status_text s
+lines-spelled spelled joined line s h = sym (joined line)
+    ∙ ap (join_with_byte 32) (words-of spelled (words line) s h) ∙ text-is s

@@ -19,5 +19,6 @@ pub fn desk_path(alloc: Global, folder: &str, node: u16) -> Result<String, Alloc
 pub fn node_of(name: &[u8]) -> Option<u16>
     ensures { (node : ℕ) → (result ≡ Some node) ↔ ((node < 65536) × (name.now ≡ desk_name node)) }
 {
+    events_text::laws::one_spelling();
     number(name.strip_prefix(b"desk-")?.strip_suffix(b".sock")?)
 }

@@ -7,7 +7,9 @@ ghost use Rattle.lock_command.specs.NodeStatus.{NodesWriteTheirLines};
 pub fn one_spelling()
     ensures read { LinesAreRead }
     ensures spelled { LinesHaveOneSpelling }
-{}
+{
+    events_text::laws::one_spelling();
+}
 
 /// What a node writes of itself is the text of a status line, so that `status` shows what it wrote.
 pub fn nodes_write_their_lines()

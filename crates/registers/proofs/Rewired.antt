@@ -1,6 +1,7 @@
 -- Registers whose neighbours have changed.
-use Rattle.std.proofs.Common.{◌≡◌, ◌∙◌, ap, sym, refl, Bool, true, false, not, ◌&&◌, ◌==◌, ℕ, ◌<◌, ◌≤◌, arith, IsTrue, List, length, Contains, get_or, All, nat_lt, slice_index, slice_index_or, inl, inr, if◌then◌else◌}
+use Rattle.std.proofs.Common.{◌≡◌, ◌∙◌, ap, sym, refl, Bool, true, false, not, ◌&&◌, ◌==◌, ℕ, ◌<◌, ◌≤◌, arith, IsTrue, List, length, take, drop, ◌++◌, Contains, get_or, All, nat_lt, slice_index, slice_index_or, inl, inr, if◌then◌else◌}
 use Rattle.std.proofs.Math.Path.{fun_ext}
+use Rattle.std.proofs.Math.Seq.{take-append_seam}
 use Rattle.std.specs.List.{range_with_len}
 use Rattle.std.specs.List.Sorted.{IsStrictlyIncreasing}
 use Rattle.std.proofs.lemmas.Bool.{cases_Bool, cases_lt, eq-eqb, eqb-true, false≢true}
@@ -36,6 +37,10 @@ off_the_list ns w far = elim (cases_Bool (is_among ns w)) [
 -- a node has at most as many neighbours as there are nodes
 pub neighbours_few : (net : Network) (v : ℕ) → length (neighbours_of net v) ≤ net.nodes
 neighbours_few net v = omega (arith, length-filter (are_joined net.edges v) (range_with_len 0 net.nodes), count_by-le-length (are_joined net.edges v) (range_with_len 0 net.nodes), length-range_with_len 0 net.nodes)
+
+-- what writing through the slice of a vector leaves
+pub written_back : {X : Type 0} (n : ℕ) (new old : List X) → length new ≡ n → take n (new ++ drop (length new) old) ≡ new
+written_back n new old long = rw (← long) (take-append_seam new (drop (length new) old))
 
 -- the ports and values that are no neighbour's are as at the start, and the others are as they were
 pub record IsRewritten (r : RegistersView) (ns : List ℕ) (ports : List PortView) (values : List ℕ) : Type 0 where

@@ -7,8 +7,8 @@ use Rattle.std.proofs.lemmas.List.{length-replicate, get_or-replicate, get_or_pa
 use Rattle.std.proofs.lemmas.List.Elements.{All-replicate, All-filter}
 use Rattle.std.proofs.lemmas.List.FromFn.{length-range_with_len, get_or-range_with_len}
 use Rattle.topology.specs.Network.{Network, IsAcceptedNetwork, are_joined, neighbours_of, ring_of}
+use Rattle.topology.specs.Laws.{NeighboursAscend}
 use Rattle.topology.specs.Ranges.{ranges_of}
-use Rattle.topology.proofs.Joined.{neighbours_ascend}
 use Rattle.data_link.specs.Port.{PortView, default_port}
 use Rattle.registers.specs.Registers.{RegistersView, IsPortOf, IsRegisters, port_of, value_of}
 
@@ -40,8 +40,8 @@ value_of-start net v = fun_ext (λ w. same_read net.nodes w 0)
 pub default_fits : (net : Network) → IsAcceptedNetwork net → IsPortOf (ranges_of net) (default_view net)
 default_fits net ok = record { same = refl; fits = search (rules, arith) }
 
-pub registers-start : (net : Network) (v : ℕ) → IsAcceptedNetwork net → IsRegisters (start_of net v)
-registers-start net v ok = record {
+pub registers-start : NeighboursAscend → (net : Network) (v : ℕ) → IsAcceptedNetwork net → IsRegisters (start_of net v)
+registers-start ascend net v ok = record {
   most = ok.limits.most;
   some_values = omega arith;
   ports = length-replicate net.nodes (default_view net);
@@ -51,10 +51,10 @@ registers-start net v ok = record {
   neighbours_in = All-filter (are_joined net.edges v) (λ w. w < net.nodes) (range_with_len 0 net.nodes) (λ k d h.
       let long = length-range_with_len 0 net.nodes in
       omega (arith, get_or-range_with_len 0 net.nodes k d (omega arith)));
-  ascending = neighbours_ascend net v;
+  ascending = ascend net v;
   other_ports = λ w far. ap (λ f. f w) (port_of-start net v);
   other_values = λ w far. ap (λ f. f w) (value_of-start net v);
 }
 
-pub registers-made : (net : Network) (v : ℕ) (r : RegistersView) → IsAcceptedNetwork net → r ≡ start_of net v → IsRegisters r
-registers-made net v r ok is = rw is (registers-start net v ok)
+pub registers-made : NeighboursAscend → (net : Network) (v : ℕ) (r : RegistersView) → IsAcceptedNetwork net → r ≡ start_of net v → IsRegisters r
+registers-made ascend net v r ok is = rw is (registers-start ascend net v ok)

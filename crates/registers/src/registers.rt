@@ -66,6 +66,7 @@ impl<A: Allocator + Copy> Registers<A> {
         ensures ports { IfOk result (λ r. port_of r ≡ (λ w. default_port (ranges_of net.now))) }
         ensures values { IfOk result (λ r. value_of r ≡ (λ w. 0)) }
     {
+        topology::laws::neighbours();
         let neighbours = with_room(alloc, net.nodes(), net.neighbours(id))?;
         let ports = default_ports(alloc, net)?;
         let values = vec![in alloc; 0u16; usize::from(net.nodes())]?;
@@ -266,6 +267,7 @@ impl<A: Allocator> Registers<A> {
         ensures values { value_of self.new
             ≡ rewired_values self.old.neighbours (neighbours_of net.now id) (value_of self.old) }
     {
+        topology::laws::neighbours();
         let neighbours = net.neighbours(id);
         let nodes = net.nodes();
         write_ids(&mut self.neighbours, neighbours);

@@ -22,7 +22,6 @@ use Rattle.run_model.specs.World.{World, IsWorldInRange, item_fits, site, with_n
 use Rattle.run_model.specs.Start.{world_with_spares}
 use Rattle.run_model.specs.Step.{first_fault, unless, link_fault, has_room, sent, handed_over, with_port, with_desk}
 use Rattle.run_model.specs.declared.event.EventFault.{EventFault}
-use Rattle.link_model.proofs.Lists.{length-remove}
 use Rattle.run_model.proofs.NodeRanges.{KeepRanges, IsSiteSound, at-fits, taken-range}
 
 pub site-sound : NeighboursAreJoined → (net : Network) (v : ℕ) → IsAcceptedNetwork net → IsSiteSound (site_of net v)
@@ -159,11 +158,14 @@ handed-range keep w u v (item ∷ rest) range few fit =
     (node-range w v s range (λ l. taken-range keep (site w v) (w.node v) u item (site-sound keep.near w.net v range.network) (range.nodes v l)))
     (omega arith) (All-tail P item rest fit)
 
+fewer-items : (items : List Item) (i : ℕ) → length (remove items i) ≤ length items
+fewer-items items i = grind (arith, common_steps)
+
 pub lost-range : (w : World) (u v i : ℕ) → IsWorldInRange w → IsLinked w u v → IsWorldInRange (with_link w u v (remove (w.link u v) i))
 lost-range w u v i range l =
     let P = λ (item : Item). IsTrue (item_fits (ranges_of w.net) item) in
     let fit = range.items u v l.joined in
     let few = range.capacity u v l.joined in
-    let fewer = length-remove (w.link u v) i in
+    let fewer = fewer-items (w.link u v) i in
     link-range w u v (remove (w.link u v) i) range (omega arith)
     (All-append P (take i (w.link u v)) (drop (suc i) (w.link u v)) (All-take P i (w.link u v) fit) (All-drop P (suc i) (w.link u v) fit))

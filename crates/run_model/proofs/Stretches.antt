@@ -1,6 +1,6 @@
 -- Stretches event by event: the old items of a link are the oldest, and a take meets a new one
 -- exactly where none of them is left.
-use Rattle.std.proofs.Common.{◌≡◌, ℕ, ◌+◌, ◌-◌, ◌≤◌, zero, suc, List, [], ◌∷◌, ◌++◌, false, ◌||◌, length, map, drop, refl, sym, ◌∙◌, ap, subst, arith}
+use Rattle.std.proofs.Common.{◌≡◌, ℕ, ◌+◌, ◌-◌, ◌≤◌, zero, suc, List, [], ◌∷◌, ◌++◌, false, ◌||◌, length, map, take, drop, refl, sym, ◌∙◌, ap, subst, arith}
 use Rattle.std.specs.Prelude.{nat_lt}
 use Rattle.std.specs.List.{AllByRecursion, remove}
 use Rattle.std.proofs.Math.Bool.{or_assoc, or_comm}
@@ -8,11 +8,11 @@ use Rattle.std.proofs.lemmas.Grind.{common_steps}
 use Rattle.std.proofs.lemmas.Bool.{or_parts, cond_both}
 use Rattle.std.proofs.lemmas.Bool.Decides.{nat_tests}
 use Rattle.std.proofs.lemmas.List.{map-append}
+use Rattle.std.proofs.lemmas.List.Elements.{All-append, All-push, All-take, All-drop, All-from_recursion, recursion_from_All}
 use Rattle.link_model.specs.declared.item.Item.{Item}
 use Rattle.link_model.specs.declared.item.Item.TheVariants.{Frame}
 use Rattle.data_link.specs.Port.{frame_of}
 use Rattle.link_model.specs.Acts.{Origin, Before, Sent, LinkAct, Puts, Takes, Loses, Rests, takes_sent, list_after, hands_over_sent, put_last}
-use Rattle.link_model.proofs.Lists.{All-push, All-remove}
 use Rattle.link_model.proofs.Marks.{marked-start, marked-length, marked-after}
 use Rattle.run_model.specs.World.{World}
 use Rattle.run_model.specs.Step.{step}
@@ -50,10 +50,18 @@ sent-first [] all = tt
 sent-first (Before ∷ os) all = absurd (let h = all.0 in cc)
 sent-first (Sent i ∷ os) all = all.1
 
+sent-push : (os : List Origin) (i : ℕ) → AllByRecursion IsSent os → AllByRecursion IsSent (os ++ Sent i ∷ [])
+sent-push os i all = recursion_from_All IsSent (os ++ Sent i ∷ []) (All-push IsSent os (Sent i) (All-from_recursion IsSent os all) refl)
+
+sent-remove : (os : List Origin) (i : ℕ) → AllByRecursion IsSent os → AllByRecursion IsSent (remove os i)
+sent-remove os i all =
+    let each = All-from_recursion IsSent os all in
+    recursion_from_All IsSent (remove os i) (All-append IsSent (take i os) (drop (suc i) os) (All-take IsSent i os each) (All-drop IsSent (suc i) os each))
+
 first-push : (os : List Origin) (i : ℕ) → IsOldFirst os → IsOldFirst (os ++ Sent i ∷ []) × (old_count (os ++ Sent i ∷ []) ≡ old_count os)
 first-push [] i f = (tt, refl)
 first-push (Before ∷ os) i f = let h = first-push os i f in (h.0, omega (arith, h.1))
-first-push (Sent j ∷ os) i f = (All-push IsSent os (Sent i) f refl, none-old (os ++ Sent i ∷ []) (All-push IsSent os (Sent i) f refl) ∙ sym (none-old os f))
+first-push (Sent j ∷ os) i f = (let all = sent-push os i f in (all, none-old (os ++ Sent i ∷ []) all ∙ sym (none-old os f)))
 
 first-put : (capacity : ℕ) (os : List Origin) (i : ℕ) → IsOldFirst os → IsOldFirst (put_last capacity os (Sent i)) × (old_count (put_last capacity os (Sent i)) ≡ old_count os)
 first-put capacity os i f =
@@ -71,7 +79,7 @@ first-remove (Before ∷ os) zero f = (f, grind (arith, common_steps, nat_tests)
 first-remove (Before ∷ os) (suc i) f = let h = first-remove os i f in (h.0, let e = h.1 in grind (arith, common_steps, nat_tests))
 first-remove (Sent j ∷ os) zero f = (sent-first os f, let e = none-old os f in grind (arith, common_steps, nat_tests))
 first-remove (Sent j ∷ os) (suc i) f =
-    let all = All-remove IsSent os i f in (all, let d = none-old (remove os i) all in let e = none-old os f in grind (arith, common_steps, nat_tests))
+    let all = sent-remove os i f in (all, let d = none-old (remove os i) all in let e = none-old os f in grind (arith, common_steps, nat_tests))
 
 first-after : (capacity i : ℕ) (act : LinkAct) (os : List Origin) → IsOldFirst os
     → IsOldFirst (list_after capacity (Sent i) act os) × (old_count (list_after capacity (Sent i) act os) ≡ old_after act (old_count os))

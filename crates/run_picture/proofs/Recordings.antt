@@ -1,6 +1,6 @@
 -- A recording goes on with each event, each line and each piece.
 use Rattle.std.proofs.Common.{◌≡◌, ◌∙◌, ap, sym, refl, subst, ℕ, ◌+◌, ◌≤◌, ◌==◌, if◌then◌else◌, false, Bool, List, [], ◌∷◌, ◌++◌, length, append_assoc, Option, None, Some, Result, Ok, Err, OnOk, IfErr, is_ok, is_none, arith}
-use Rattle.std.proofs.lemmas.Grind.{common_steps}
+use Rattle.std.proofs.lemmas.Grind.{common_steps, flat_map-append}
 use Rattle.std.proofs.lemmas.List.{append-nil}
 use Rattle.byte_lines.specs.Kept.{Kept, StandsAfter}
 use Rattle.run_model.specs.World.{World}
@@ -12,8 +12,7 @@ use Rattle.events_text.specs.declared.text_line.TextLine.{TextLine}
 use Rattle.events_text.specs.EventsText.{ended_lines}
 use Rattle.judge.specs.JudgeView.{HasSeen}
 use Rattle.judge.specs.Judging.{counted_up_to}
-use Rattle.world.specs.SimulatedText.{told_events}
-use Rattle.world.proofs.SimulatedLines.{told_both}
+use Rattle.world.specs.SimulatedText.{told_event, told_events}
 use Rattle.run_picture.specs.declared.column.Column.{Column}
 use Rattle.run_picture.specs.declared.recording.Before.{Before}
 use Rattle.run_picture.specs.declared.window.Window.{Window}
@@ -136,7 +135,7 @@ pub line_ends : (start : World) (bytes more : List ℕ) (line : TextLine) (old n
     → new.reader ≡ reader → IsReading start (bytes ++ more) new
 line_ends start bytes more line old new reader h stands ends records same = record {
   stands = rw same stands;
-  recorded = rw (ends, told_both (ended_lines bytes) (line ∷ [])) (records (reader_moves start (told_events (ended_lines bytes)) old reader h.recorded));
+  recorded = rw (ends, flat_map-append told_event (ended_lines bytes) (line ∷ [])) (records (reader_moves start (told_events (ended_lines bytes)) old reader h.recorded));
 }
 
 -- no line more is ended, and more is kept of the one under way

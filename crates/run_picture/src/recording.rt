@@ -173,6 +173,7 @@ impl<A: Allocator + Copy> Recording<A> {
         ensures limit { self.new.strip.limit ≡ self.old.strip.limit }
         ensures events { self.new.events < 2 ^ 61 }
     {
+        byte_streams::laws::reading_in_pieces();
         let mut piece = [0; PIECE];
         let mut left = LONGEST_TEXT;
         loop {

@@ -1,7 +1,7 @@
 -- The lists of a schedule, each as its next part and what is left behind that.
 use Rattle.std.proofs.Common.{◌≡◌, ◌∙◌, ap, sym, ℕ, ◌+◌, ◌-◌, ◌<◌, suc, List, [], ◌∷◌, ◌++◌, length, drop, get_or, map, arith}
 use Rattle.std.specs.List.{flat_map, range_with_len}
-use Rattle.std.proofs.lemmas.Grind.{common_steps}
+use Rattle.std.proofs.lemmas.List.{drop_more}
 use Rattle.rand_pcg.specs.Lcg.{Lcg}
 use Rattle.topology.specs.Network.{Network}
 use Rattle.run_model.specs.World.{World}
@@ -21,9 +21,6 @@ one-more i n h = omega arith
 range-front : (i n : ℕ) → i < n → range_with_len i (n - i) ≡ i ∷ range_with_len (i + 1) (n - (i + 1))
 range-front i n h = ap (range_with_len i) (one-more i n h)
 
-drop-front : (xs : List ℕ) (i : ℕ) → i < length xs → drop i xs ≡ get_or xs i 0 ∷ drop (i + 1) xs
-drop-front xs i there = grind (arith, common_steps)
-
 module _ {S : Type 0} (P : S → List Event → S → Type 0) (both : TakesBoth P) where
   pub exchange-goes_on : (a b between c : S) (u v i n : ℕ) (whole : List Event) → i < n → IsUnderWay P a whole (exchanges u v (n - i)) b
       → P b (Send u v ∷ []) between → P between (Take u v ∷ []) c → IsUnderWay P a whole (exchanges u v (n - (i + 1))) c
@@ -35,7 +32,7 @@ module _ {S : Type 0} (P : S → List Event → S → Type 0) (both : TakesBoth 
   pub each-goes_on : (a b c : S) (f : ℕ → List Event) (xs : List ℕ) (i : ℕ) (whole : List Event) → i < length xs
       → IsUnderWay P a whole (flat_map f (drop i xs)) b → P b (f (get_or xs i 0)) c → IsUnderWay P a whole (flat_map f (drop (i + 1) xs)) c
   each-goes_on a b c f xs i whole there done more =
-      goes-on P both a b c whole (flat_map f (drop i xs)) (f (get_or xs i 0)) (flat_map f (drop (i + 1) xs)) done (ap (flat_map f) (drop-front xs i there)) more
+      goes-on P both a b c whole (flat_map f (drop i xs)) (f (get_or xs i 0)) (flat_map f (drop (i + 1) xs)) done (ap (flat_map f) (drop_more xs i 0 there)) more
 
   pub range-goes_on : (a b c : S) (f : ℕ → List Event) (i n : ℕ) (whole : List Event) → i < n
       → IsUnderWay P a whole (flat_map f (range_with_len i (n - i))) b → P b (f i) c

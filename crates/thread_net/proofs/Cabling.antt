@@ -1,12 +1,12 @@
 -- One more pair of nodes is joined by rings.
 use Rattle.std.proofs.Common.{◌≡◌, ◌≢◌, ◌⊎◌, inl, inr, ℕ, zero, suc, ◌+◌, ◌<◌, ◌≤◌, Bool, true, false, if◌then◌else◌, List, [], ◌∷◌, ◌++◌, length, filter, ap, refl, sym, subst, ◌∙◌, arith, append-nil, slice_index_or, slice_set, All}
 use Rattle.std.specs.List.{range_with_len}
+use Rattle.std.proofs.lemmas.Bool.{cases_eq}
 use Rattle.std.proofs.lemmas.Grind.{common_steps}
 use Rattle.std.proofs.lemmas.List.{get_or-map, map_push, get_or-set_same, get_or-set_other, length-set}
 use Rattle.std.proofs.lemmas.List.Elements.{All-push, All-nil, filter-append}
 use Rattle.topology.specs.Network.{Network, are_joined}
 use Rattle.run_model.specs.World.{World}
-use Rattle.weaving.proofs.Changed.{same-or-not}
 use Rattle.thread_net.specs.declared.runner.Port.{Port}
 use Rattle.thread_net.specs.Runner.{IsPortTold}
 use Rattle.thread_net.specs.Cables.{IsCable, AreCabled, AreLaid, AreFurnished, ids_in, row, reach, rows_reach, neighbours_below}
@@ -75,11 +75,11 @@ all-reach n x xn = grind (arith, common_steps, xn)
 
 pub skip-reach : (net : Network) (u v x : ℕ) → u < v → are_joined net.edges u v ≡ false → are_joined net.edges v u ≡ false
     → neighbours_below net x (reach net.nodes u v x) ≡ neighbours_below net x (reach net.nodes u (v + 1) x)
-skip-reach net u v x order isnt isnt-back = elim (same-or-not x u) [
+skip-reach net u v x order isnt isnt-back = elim (cases_eq x u) [
   | inl is-u ↦
       subst (λ z. neighbours_below net z (reach net.nodes u v z) ≡ neighbours_below net z (reach net.nodes u (v + 1) z)) (sym is-u)
       (ap (neighbours_below net u) (reach-u net.nodes u v order) ∙ (sym (below-no net u v isnt) ∙ ap (neighbours_below net u) (sym (next-u net.nodes u v order))))
-  | inr no-u ↦ elim (same-or-not x v) [
+  | inr no-u ↦ elim (cases_eq x v) [
     | inl is-v ↦
         subst (λ z. neighbours_below net z (reach net.nodes u v z) ≡ neighbours_below net z (reach net.nodes u (v + 1) z)) (sym is-v)
         (ap (neighbours_below net v) (reach-v net.nodes u v order) ∙ (sym (below-no net v u isnt-back) ∙ ap (neighbours_below net v) (sym (next-v net.nodes u v order))))
@@ -88,7 +88,7 @@ skip-reach net u v x order isnt isnt-back = elim (same-or-not x u) [
 ]
 
 pub row-reach : (net : Network) (u x : ℕ) → are_joined net.edges u u ≡ false → neighbours_below net x (rows_reach net.nodes u x) ≡ neighbours_below net x (reach net.nodes u (u + 1) x)
-row-reach net u x isnt = elim (same-or-not x u) [
+row-reach net u x isnt = elim (cases_eq x u) [
   | inl is-u ↦
       subst (λ z. neighbours_below net z (rows_reach net.nodes u z) ≡ neighbours_below net z (reach net.nodes u (u + 1) z)) (sym is-u)
       (ap (neighbours_below net u) (row-was net.nodes u) ∙ (sym (below-no net u u isnt) ∙ ap (neighbours_below net u) (sym (row-at net.nodes u))))
@@ -168,14 +168,14 @@ module _ {A : Type 0} where
     which : (x k : ℕ) (d : Port A) → k < length (row more x)
         → ((k < length (row rows x)) × (slice_index_or (row more x) k d ≡ slice_index_or (row rows x) k d))
         ⊎ (((x ≡ u) × (slice_index_or (row more x) k d ≡ a)) ⊎ ((x ≡ v) × (slice_index_or (row more x) k d ≡ b)))
-    which x k d there = elim (same-or-not x u) [
+    which x k d there = elim (cases_eq x u) [
       | inl is-u ↦
           let e : row more x ≡ row rows x ++ a ∷ [] = ap (row more) is-u ∙ (here-u ∙ ap (λ y. row rows y ++ a ∷ []) (sym is-u)) in
           elim (pushed (row rows x) a k d (subst (λ ps. k < length ps) e there)) [
             | inl old ↦ inl (old.0, ap (λ ps. slice_index_or ps k d) e ∙ old.1)
             | inr new ↦ inr (inl (is-u, ap (λ ps. slice_index_or ps k d) e ∙ new))
           ]
-      | inr no-u ↦ elim (same-or-not x v) [
+      | inr no-u ↦ elim (cases_eq x v) [
         | inl is-v ↦
             let e : row more x ≡ row rows x ++ b ∷ [] = ap (row more) is-v ∙ (here-v ∙ ap (λ y. row rows y ++ b ∷ []) (sym is-v)) in
             elim (pushed (row rows x) b k d (subst (λ ps. k < length ps) e there)) [
@@ -237,14 +237,14 @@ module _ {A : Type 0} where
       laid-more joined joined-back told-a told-b =
           let un : u < w.net.nodes = omega (arith, order, within) in
           record {
-            ids = λ x xn. elim (same-or-not x u) [
+            ids = λ x xn. elim (cases_eq x u) [
               | inl is-u ↦ subst (λ z. ids_in (row more z) ≡ neighbours_below w.net z (reach w.net.nodes u (v + 1) z)) (sym is-u)
                   (ap ids_in here-u
                   ∙ (map_push (λ p. p.neighbour) (row rows u) a
                   ∙ (ap (λ xs. xs ++ a.neighbour ∷ []) (laid.ids u un ∙ ap (neighbours_below w.net u) (reach-u w.net.nodes u v order))
                   ∙ (ap (λ z. neighbours_below w.net u v ++ z ∷ []) to-v
                   ∙ (sym (below-yes w.net u v joined) ∙ ap (neighbours_below w.net u) (sym (next-u w.net.nodes u v order)))))))
-              | inr no-u ↦ elim (same-or-not x v) [
+              | inr no-u ↦ elim (cases_eq x v) [
                 | inl is-v ↦ subst (λ z. ids_in (row more z) ≡ neighbours_below w.net z (reach w.net.nodes u (v + 1) z)) (sym is-v)
                     (ap ids_in here-v
                     ∙ (map_push (λ p. p.neighbour) (row rows v) b
@@ -254,10 +254,10 @@ module _ {A : Type 0} where
                 | inr no-v ↦ ap ids_in (here-x x no-u no-v) ∙ (laid.ids x xn ∙ ap (neighbours_below w.net x) (sym (next-x w.net.nodes u v order x no-u no-v)))
               ]
             ];
-            told = λ x xn. elim (same-or-not x u) [
+            told = λ x xn. elim (cases_eq x u) [
               | inl is-u ↦ subst (λ z. All (IsPortTold w z []) (row more z)) (sym is-u)
                   (subst (All (IsPortTold w u [])) (sym here-u) (All-push (IsPortTold w u []) (row rows u) a (laid.told u un) told-a))
-              | inr no-u ↦ elim (same-or-not x v) [
+              | inr no-u ↦ elim (cases_eq x v) [
                 | inl is-v ↦ subst (λ z. All (IsPortTold w z []) (row more z)) (sym is-v)
                     (subst (All (IsPortTold w v [])) (sym here-v) (All-push (IsPortTold w v []) (row rows v) b (laid.told v within) told-b))
                 | inr no-v ↦ subst (All (IsPortTold w x [])) (sym (here-x x no-u no-v)) (laid.told x xn)

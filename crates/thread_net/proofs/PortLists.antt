@@ -1,12 +1,12 @@
 -- The ports of a node, of which one changes.
 use Rattle.std.proofs.Common.{◌≡◌, ◌≢◌, ◌⊎◌, inl, inr, ℕ, zero, suc, ◌<◌, List, [], ◌∷◌, ◌++◌, map, length, ap, refl, sym, subst, ◌∙◌, rules, arith, append-nil, slice_index_or, All, Contains, set}
+use Rattle.std.proofs.lemmas.Bool.{cases_eq}
 use Rattle.std.proofs.lemmas.Grind.{common_steps}
 use Rattle.std.specs.List.Sorted.{IsStrictlyIncreasing}
 use Rattle.std.proofs.lemmas.List.{length-set, get_or-set_same, get_or-set_other, get_or-map}
 use Rattle.std.proofs.lemmas.List.Kept.{AllPairs-from_increasing}
 use Rattle.run_model.specs.World.{World}
 use Rattle.weaving.specs.Account.{Deed, sent_to, taken_from}
-use Rattle.weaving.proofs.Changed.{same-or-not}
 use Rattle.thread_net.specs.declared.runner.Port.{Port}
 use Rattle.thread_net.specs.Ports.{IsSender, IsReceiver}
 use Rattle.thread_net.specs.Runner.{IsPortTold, IsSamePort, AreSamePorts}
@@ -49,7 +49,7 @@ module _ {A : Type 0} where
   pub ports-same : (ps : List (Port A)) (k : ℕ) (x : Port A) → k < length ps → IsSamePort (slice_index_or ps k x) x → AreSamePorts ps (set ps k x)
   ports-same ps k x within same = (
     length-set ps k x,
-    λ j d below. elim (same-or-not j k) [
+    λ j d below. elim (cases_eq j k) [
       | inl e ↦
           let here : slice_index_or (set ps k x) j d ≡ x = ap (λ i. slice_index_or (set ps k x) i d) e ∙ get_or-set_same ps k x d within in
           let there : slice_index_or ps k x ≡ slice_index_or ps j d = default-free ps k x d within ∙ ap (λ i. slice_index_or ps i d) (sym e) in
@@ -80,7 +80,7 @@ module _ {A : Type 0} where
     pub ports-told : (ps : List (Port A)) (k : ℕ) (x : Port A) → k < length ps → IsStrictlyIncreasing (map neighbour ps) → x.neighbour ≡ (slice_index_or ps k x).neighbour
         → ((u : ℕ) → u ≢ x.neighbour → (sent_to u es ≡ []) × (taken_from u es ≡ [])) → All (IsPortTold w v past) ps → IsPortTold w v (past ++ es) x
         → All (IsPortTold w v (past ++ es)) (set ps k x)
-    ports-told ps k x within ascend same others was one = λ j d below. elim (same-or-not j k) [
+    ports-told ps k x within ascend same others was one = λ j d below. elim (cases_eq j k) [
       | inl e ↦
           let here : slice_index_or (set ps k x) j d ≡ x = ap (λ i. slice_index_or (set ps k x) i d) e ∙ get_or-set_same ps k x d within in
           subst (IsPortTold w v (past ++ es)) (sym here) one

@@ -1,5 +1,6 @@
 -- One more pair of links is settled.
 use Rattle.std.proofs.Common.{◌≡◌, ◌≢◌, ◌⊎◌, inl, inr, ℕ, ◌+◌, ◌<◌, ◌==◌, ◌&&◌, Bool, true, false, if◌then◌else◌, IsTrue, Option, Some, None, List, [], ◌∷◌, ◌++◌, length, ap, refl, sym, subst, ◌∙◌, arith, slice_index_or, slice_set, All}
+use Rattle.std.proofs.lemmas.Bool.{cases_eq}
 use Rattle.std.proofs.lemmas.Grind.{common_steps}
 use Rattle.std.proofs.Math.Path.{fun_ext}
 use Rattle.std.specs.List.{AllByRecursion}
@@ -11,7 +12,6 @@ use Rattle.topology.specs.Laws.{JoinedAreNodes, NotToItself}
 use Rattle.topology.specs.Network.{IsAcceptedNetwork}
 use Rattle.link_model.specs.declared.item.Item.{Item}
 use Rattle.run_model.specs.World.{at_pair}
-use Rattle.weaving.proofs.Changed.{same-or-not}
 use Rattle.thread_net.specs.declared.runner.Port.{Port}
 use Rattle.thread_net.specs.Cables.{IsCable, AreCabled, ids_in, row, reach, rows_reach, neighbours_below, port_to, left_on, left_on_ports, left_between, settled, IsFlushed, IsFlushedOn, IsFlushedBetween, IsRoomFor, AreSettleable}
 use Rattle.thread_net.specs.Settling.{is_settled, are_from, IsSettling, IsSettlingFrom, AreRowsSettled}
@@ -21,19 +21,19 @@ use Rattle.thread_net.proofs.Draining.{same-pair}
 
 -- a pair is that of u and v, the other way round, or another
 pub pair-cases : (i j u v : ℕ) → ((i ≡ u) × (j ≡ v)) ⊎ (((i ≡ v) × (j ≡ u)) ⊎ (((i ≡ u) → (j ≡ v) → ⊥) × ((i ≡ v) → (j ≡ u) → ⊥)))
-pair-cases i j u v = elim (same-or-not i u) [
-  | inl iu ↦ elim (same-or-not j v) [
+pair-cases i j u v = elim (cases_eq i u) [
+  | inl iu ↦ elim (cases_eq j v) [
     | inl jv ↦ inl (iu, jv)
-    | inr jv ↦ elim (same-or-not i v) [
-      | inl iv ↦ elim (same-or-not j u) [
+    | inr jv ↦ elim (cases_eq i v) [
+      | inl iv ↦ elim (cases_eq j u) [
         | inl ju ↦ inr (inl (iv, ju))
         | inr ju ↦ inr (inr ((λ a b. jv b), (λ a b. ju b)))
       ]
       | inr iv ↦ inr (inr ((λ a b. jv b), (λ a b. iv a)))
     ]
   ]
-  | inr iu ↦ elim (same-or-not i v) [
-    | inl iv ↦ elim (same-or-not j u) [
+  | inr iu ↦ elim (cases_eq i v) [
+    | inl iv ↦ elim (cases_eq j u) [
       | inl ju ↦ inr (inl (iv, ju))
       | inr ju ↦ inr (inr ((λ a b. iu a), (λ a b. ju b)))
     ]
@@ -43,8 +43,8 @@ pair-cases i j u v = elim (same-or-not i u) [
 
 -- another pair than the one that is written
 pair-else : {X : Type 0} (f g : ℕ → ℕ → X) (x : X) (u v i j : ℕ) → ((i ≡ u) → (j ≡ v) → ⊥) → f i j ≡ g i j → at_pair f u v x i j ≡ g i j
-pair-else f g x u v i j differ same = elim (same-or-not i u) [
-  | inl iu ↦ elim (same-or-not j v) [
+pair-else f g x u v i j differ same = elim (cases_eq i u) [
+  | inl iu ↦ elim (cases_eq j v) [
     | inl jv ↦ absurd (differ iu jv)
     | inr jv ↦ (let test : ((i == u) && (j == v)) ≡ false = grind (arith, common_steps, jv) in ap (λ b. if b then x else f i j) test) ∙ same
   ]
@@ -108,9 +108,9 @@ module _ {A : Type 0} where
         ∙ (ap ids_in (sym row-v) ∙ (ids v within ∙ (ap (neighbours_below net v) (next-v net.nodes u v order) ∙ below-yes net v u joined-back))))
 
     pub rest-ids : (x : ℕ) → x < net.nodes → ids_in (row rest x) ≡ neighbours_below net x (reach net.nodes u v x)
-    rest-ids x xn = elim (same-or-not x u) [
+    rest-ids x xn = elim (cases_eq x u) [
       | inl is-u ↦ subst (λ z. ids_in (row rest z) ≡ neighbours_below net z (reach net.nodes u v z)) (sym is-u) (ends-u.0 ∙ ap (neighbours_below net u) (sym (reach-u net.nodes u v order)))
-      | inr no-u ↦ elim (same-or-not x v) [
+      | inr no-u ↦ elim (cases_eq x v) [
         | inl is-v ↦ subst (λ z. ids_in (row rest z) ≡ neighbours_below net z (reach net.nodes u v z)) (sym is-v) (ends-v.0 ∙ ap (neighbours_below net v) (sym (reach-v net.nodes u v order)))
         | inr no-v ↦ ap ids_in (row-x x no-u no-v) ∙ (ids x xn ∙ ap (neighbours_below net x) (next-x net.nodes u v order x no-u no-v))
       ]
@@ -118,13 +118,13 @@ module _ {A : Type 0} where
 
     -- a port that is left was there
     kept : (x k : ℕ) (d : Port A) → k < length (row rest x) → (k < length (row rows x)) × (slice_index_or (row rows x) k d ≡ slice_index_or (row rest x) k d)
-    kept x k d there = elim (same-or-not x u) [
+    kept x k d there = elim (cases_eq x u) [
       | inl is-u ↦
           let e : row rows x ≡ row rest x ++ p ∷ [] = subst (λ z. row rows z ≡ row rest z ++ p ∷ []) (sym is-u) row-u in
           let long = length-append (row rest x) (p ∷ []) in
           let many = ap length e in
           (omega (arith, there, long, many), ap (λ ps. slice_index_or ps k d) e ∙ get_or_append_left (row rest x) (p ∷ []) d k there)
-      | inr no-u ↦ elim (same-or-not x v) [
+      | inr no-u ↦ elim (cases_eq x v) [
         | inl is-v ↦
             let e : row rows x ≡ row rest x ++ q ∷ [] = subst (λ z. row rows z ≡ row rest z ++ q ∷ []) (sym is-v) row-v in
             let long = length-append (row rest x) (q ∷ []) in
@@ -173,11 +173,11 @@ module _ {A : Type 0} where
     left-home = ap (λ o. left_on_ports o (port_to (row rows u) v)) find-v ∙ ap (λ o. left_on_ports (Some q) o) find-u
 
     find-other : (i j : ℕ) → ((i ≡ u) → (j ≡ v) → ⊥) → ((i ≡ v) → (j ≡ u) → ⊥) → port_to (row rest i) j ≡ port_to (row rows i) j
-    find-other i j one two = elim (same-or-not i u) [
+    find-other i j one two = elim (cases_eq i u) [
       | inl is-u ↦
           let apart : p.neighbour ≢ j = λ e. one is-u (sym e ∙ ends-u.1) in
           sym (ap (λ ps. port_to ps j) (subst (λ z. row rows z ≡ row rest z ++ p ∷ []) (sym is-u) row-u) ∙ lookup-without (row rest i) p j apart)
-      | inr no-u ↦ elim (same-or-not i v) [
+      | inr no-u ↦ elim (cases_eq i v) [
         | inl is-v ↦
             let apart : q.neighbour ≢ j = λ e. two is-v (sym e ∙ ends-v.1) in
             sym (ap (λ ps. port_to ps j) (subst (λ z. row rows z ≡ row rest z ++ q ∷ []) (sym is-v) row-v) ∙ lookup-without (row rest i) q j apart)

@@ -3,8 +3,7 @@ use Rattle.std.proofs.Common.{◌≡◌, ◌≢◌, ℕ, zero, suc, ◌⊎◌, i
 use Rattle.std.specs.List.{AllByRecursion}
 use Rattle.topology.specs.Network.{Network}
 use Rattle.k_state.specs.Machine.{root_moved}
-use Rattle.k_state.specs.Ring.{Change, Written, Further, HeadMove, Moved, IsGood}
-use Rattle.k_state.proofs.Front.{Front-each}
+use Rattle.k_state.specs.Ring.{Change, Written, Further, HeadMove, Moved, IsFrontThen, IsGood}
 use Rattle.run_model.specs.Start.{default_world}
 use Rattle.run_model.specs.declared.event.Event.{Event}
 use Rattle.run_model.specs.declared.event.Event.TheVariants.{Send, Take, Tick}
@@ -19,15 +18,20 @@ data NeverGood (q : ℕ) : ℕ → List ℕ → List ℕ → Type 0 where
   Copies : {n : ℕ} {xs ys zs : List ℕ} → Change xs ys → ¬ IsGood q ys → NeverGood q n ys zs → NeverGood q n xs zs
   Moves : {n : ℕ} {xs ys zs : List ℕ} → HeadMove q xs ys → ¬ IsGood q ys → NeverGood q n ys zs → NeverGood q (suc n) xs zs
 
-one_of_two : (P : ℕ → Type 0) (c : ℕ) (front back : List ℕ) → AllByRecursion P (front ++ c ∷ back) → P c
-one_of_two P c [] back all = all.0
-one_of_two P c (x ∷ front) back all = one_of_two P c front back all.1
+one_of_all : (P : ℕ → Type 0) (c : ℕ) (front back : List ℕ) → AllByRecursion P (front ++ c ∷ back) → P c
+one_of_all P c [] back all = all.0
+one_of_all P c (x ∷ front) back all = one_of_all P c front back all.1
+
+one_of_two : (P Q : ℕ → Type 0) (c : ℕ) (front back : List ℕ) → IsFrontThen P Q (front ++ c ∷ back) → P c ⊎ Q c
+one_of_two P Q c [] back (inl (p, f)) = inl p
+one_of_two P Q c [] back (inr (q, qs)) = inr q
+one_of_two P Q c (x ∷ front) back (inl (p, f)) = one_of_two P Q c front back f
+one_of_two P Q c (x ∷ front) back (inr (q, qs)) = inr (one_of_all Q c front back qs)
 
 -- a ring that holds a value which neither is the head's nor one below it is not good
 third-value : (q a c : ℕ) (front back : List ℕ) → c ≢ a → root_moved c q ≢ a → ¬ IsGood q (a ∷ (front ++ c ∷ back))
 third-value q a c front back ne low g =
-    let each = Front-each (λ x. x ≡ a) (λ x. root_moved x q ≡ a) (a ∷ (front ++ c ∷ back)) g in
-    elim (one_of_two (λ x. (x ≡ a) ⊎ (root_moved x q ≡ a)) c front back each.1) [ inl e ↦ ne e | inr e ↦ low e ]
+    elim (one_of_two (λ x. x ≡ a) (λ x. root_moved x q ≡ a) c (a ∷ front) back g) [ inl e ↦ ne e | inr e ↦ low e ]
 
 -- With a, b, c, d one above the other, modulo 4: each place takes what stands at its left, from the
 -- right to the left, and the head moves from a to b. Of the six places these are the machine of

@@ -2,7 +2,7 @@
 use Rattle.std.proofs.Common.{◌≡◌, ◌≢◌, ◌∙◌, ℕ, zero, suc, ◌+◌, ◌<◌, Bool, true, false, not, List, [], ◌∷◌, ◌++◌, length, get_or, refl, sym, ap, arith, nat_lt, IsTrue, length-append, inl, inr}
 use Rattle.std.specs.Prelude.{◌↔◌, Some, None}
 use Rattle.std.specs.List.{All, list_any, filter, range_with_len}
-use Rattle.std.proofs.lemmas.Bool.{cases_Bool}
+use Rattle.std.proofs.lemmas.Bool.{cases_Bool, or_parts}
 use Rattle.std.proofs.lemmas.Bool.Decides.{nat_tests}
 use Rattle.std.proofs.lemmas.List.Sums.{length-filter, count_by-le-length, AllPass-from_list_all, list_all-from_AllPass}
 use Rattle.std.proofs.lemmas.List.Elements.{All-append, All-filter}
@@ -11,7 +11,7 @@ use Rattle.topology.specs.Network.{Network, Edge, are_joined, is_between, is_sam
 use Rattle.topology.specs.Tree.{distance_of, reaches, least_below, is_connected}
 use Rattle.topology.specs.Change.{join_fault, part_fault, is_same_frame}
 use Rattle.topology.specs.declared.fault.NetFault.TheVariants.{NoEdge, Apart}
-use Rattle.topology.proofs.Changed.{or_both, joined_after_join}
+use Rattle.topology.proofs.Changed.{joined_after_join}
 use Rattle.topology.proofs.Reached.{walk_of}
 use Rattle.topology.proofs.Parents.{is_tree}
 
@@ -39,13 +39,13 @@ same_between e u v = grind (arith, nat_tests)
 
 none_more : (p : Edge → Bool) (es : List Edge) (e : Edge) → list_any p es ≡ false → p e ≡ false → list_any p (es ++ e ∷ []) ≡ false
 none_more p [] e none last = rw last refl
-none_more p (f ∷ es) e none last = let (first, rest) = or_both (p f) (list_any p es) none in rw (first, none_more p es e rest last) refl
+none_more p (f ∷ es) e none last = let (first, rest) = or_parts (p f) (list_any p es) none in rw (first, none_more p es e rest last) refl
 
 no_double_more : (es : List Edge) (u v : ℕ) → has_double_edge es ≡ false → are_joined es u v ≡ false → has_double_edge (es ++ (u, v) ∷ []) ≡ false
 no_double_more [] u v once none = refl
 no_double_more (e ∷ es) u v once none =
-    let (alone, others) = or_both (list_any (is_same_edge e) es) (has_double_edge es) once in
-    let (first, rest) = or_both (is_between u v e) (are_joined es u v) none in
+    let (alone, others) = or_parts (list_any (is_same_edge e) es) (has_double_edge es) once in
+    let (first, rest) = or_parts (is_between u v e) (are_joined es u v) none in
     rw (none_more (is_same_edge e) es (u, v) alone (same_between e u v ∙ first), no_double_more es u v others rest) refl
 
 joined_still : (es : List Edge) (u v a b : ℕ) → IsTrue (are_joined es a b) → IsTrue (are_joined (es ++ (u, v) ∷ []) a b)
@@ -81,7 +81,7 @@ joined_accepted net u v ok none =
 none_fewer : (p q : Edge → Bool) (es : List Edge) → list_any p es ≡ false → list_any p (filter q es) ≡ false
 none_fewer p q [] none = refl
 none_fewer p q (e ∷ es) none =
-    let (first, rest) = or_both (p e) (list_any p es) none in
+    let (first, rest) = or_parts (p e) (list_any p es) none in
     elim (cases_Bool (q e)) [
       | inl stays ↦ rw (stays, first, none_fewer p q es rest) refl
       | inr goes ↦ rw (goes, none_fewer p q es rest) refl
@@ -90,7 +90,7 @@ none_fewer p q (e ∷ es) none =
 no_double_fewer : (q : Edge → Bool) (es : List Edge) → has_double_edge es ≡ false → has_double_edge (filter q es) ≡ false
 no_double_fewer q [] once = refl
 no_double_fewer q (e ∷ es) once =
-    let (alone, others) = or_both (list_any (is_same_edge e) es) (has_double_edge es) once in
+    let (alone, others) = or_parts (list_any (is_same_edge e) es) (has_double_edge es) once in
     elim (cases_Bool (q e)) [
       | inl stays ↦ rw (stays, none_fewer (is_same_edge e) q es alone, no_double_fewer q es others) refl
       | inr goes ↦ rw (goes, no_double_fewer q es others) refl

@@ -3,7 +3,7 @@ use Rattle.std.proofs.Common.{◌≡◌, ◌≢◌, ◌∙◌, ℕ, zero, suc, �
 use Rattle.std.specs.Prelude.{Some, None}
 use Rattle.std.specs.List.{list_any, filter, insert, remove, position, position_or_len, range_with_len}
 use Rattle.std.proofs.Math.Path.{fun_ext}
-use Rattle.std.proofs.lemmas.Bool.{cases_Bool, false≢true}
+use Rattle.std.proofs.lemmas.Bool.{cases_Bool, false≢true, or_parts}
 use Rattle.std.proofs.lemmas.Bool.Decides.{nat_tests}
 use Rattle.std.proofs.lemmas.List.Folds.{list_any-append}
 use Rattle.std.proofs.lemmas.List.Quantifiers.{position-Some}
@@ -12,7 +12,7 @@ use Rattle.topology.proofs.Joined.{or_comm}
 use Rattle.topology.proofs.SearchByLevels.{between_cases}
 
 -- an edge between two nodes is the same one as any other edge between them
-pub between_same : (u v : ℕ) (e f : Edge) → is_between u v e ≡ true → is_same_edge e f ≡ is_between u v f
+between_same : (u v : ℕ) (e f : Edge) → is_between u v e ≡ true → is_same_edge e f ≡ is_between u v f
 between_same u v e f h = elim (between_cases u v e h) [
   | inl q ↦ rw (q.0, q.1) refl
   | inr q ↦ rw (q.0, q.1) (or_comm (f.0 == v && f.1 == u) (f.0 == u && f.1 == v))
@@ -22,14 +22,10 @@ any_same : (u v : ℕ) (e : Edge) (es : List Edge) → is_between u v e ≡ true
 any_same u v e [] h = refl
 any_same u v e (f ∷ es) h = rw (between_same u v e f h, any_same u v e es h) refl
 
-pub or_both : (a b : Bool) → (a || b) ≡ false → (a ≡ false) × (b ≡ false)
-or_both false b h = (refl, h)
-or_both true b h = absurd (false≢true (sym h))
-
 -- where no edge joins the two, all edges stay
-pub without_none : (es : List Edge) (u v : ℕ) → are_joined es u v ≡ false → edges_without es u v ≡ es
+without_none : (es : List Edge) (u v : ℕ) → are_joined es u v ≡ false → edges_without es u v ≡ es
 without_none [] u v h = refl
-without_none (e ∷ es) u v h = let (first, rest) = or_both (is_between u v e) (are_joined es u v) h in rw (first, without_none es u v rest) refl
+without_none (e ∷ es) u v h = let (first, rest) = or_parts (is_between u v e) (are_joined es u v) h in rw (first, without_none es u v rest) refl
 
 joined_at : (es : List Edge) (u v i : ℕ) (d : Edge) → i < length es → is_between u v (get_or es i d) ≡ true → are_joined es u v ≡ true
 joined_at [] u v i d within h = absurd (omega arith)
@@ -43,14 +39,26 @@ joined_at (e ∷ es) u v (suc i) d within h = elim (cases_Bool (is_between u v e
 pub without_at : (es : List Edge) (u v i : ℕ) (d : Edge) → has_double_edge es ≡ false → i < length es → is_between u v (get_or es i d) ≡ true → edges_without es u v ≡ remove es i
 without_at [] u v i d once within h = absurd (omega arith)
 without_at (e ∷ es) u v zero d once within h =
-    let (first, rest) = or_both (list_any (is_same_edge e) es) (has_double_edge es) once in
+    let (first, rest) = or_parts (list_any (is_same_edge e) es) (has_double_edge es) once in
     let none : are_joined es u v ≡ false = sym (any_same u v e es h) ∙ first in
     rw (h, without_none es u v none) refl
 without_at (e ∷ es) u v (suc i) d once within h =
-    let (first, rest) = or_both (list_any (is_same_edge e) es) (has_double_edge es) once in
+    let (first, rest) = or_parts (list_any (is_same_edge e) es) (has_double_edge es) once in
     elim (cases_Bool (is_between u v e)) [
       | inl here ↦ absurd (false≢true (sym first ∙ any_same u v e es here ∙ joined_at es u v i d (omega arith) h))
       | inr other ↦ rw (other, without_at es u v i d rest (omega arith) h) refl
+    ]
+
+-- an edge that stands once and goes is one less
+pub length_without : (es : List Edge) (u v : ℕ) → has_double_edge es ≡ false → are_joined es u v ≡ true → length es ≡ suc (length (edges_without es u v))
+length_without [] u v once joined = absurd (false≢true joined)
+length_without (e ∷ es) u v once joined =
+    let (first, rest) = or_parts (list_any (is_same_edge e) es) (has_double_edge es) once in
+    elim (cases_Bool (is_between u v e)) [
+      | inl here ↦
+          (let none : are_joined es u v ≡ false = sym (any_same u v e es here) ∙ first in
+          rw (here, without_none es u v none) refl)
+      | inr other ↦ (let later : are_joined es u v ≡ true = rw other at joined in rw other (ap suc (length_without es u v rest later)))
     ]
 
 -- the place that was found

@@ -1,6 +1,6 @@
 -- Functions of ids that are changed at one place.
-use Rattle.std.proofs.Common.{◌≡◌, ◌≢◌, ◌⊎◌, ℕ, inl, inr, sym, subst, arith}
-use Rattle.std.proofs.lemmas.Bool.Decides.{eqb_tells}
+use Rattle.std.proofs.Common.{◌≡◌, ◌≢◌, ℕ, inl, inr, sym, subst, arith}
+use Rattle.std.proofs.lemmas.Bool.{cases_eq}
 use Rattle.std.proofs.lemmas.Grind.{common_steps}
 use Rattle.topology.specs.At.{at}
 use Rattle.run_model.specs.World.{at_pair}
@@ -11,15 +11,9 @@ at-here f k x = grind (arith, common_steps)
 pub at-other : {X : Type 0} (f : ℕ → X) (k : ℕ) (x : X) (i : ℕ) → i ≢ k → at f k x i ≡ f i
 at-other f k x i apart = grind (arith, common_steps)
 
-pub same-or-not : (i k : ℕ) → (i ≡ k) ⊎ (i ≢ k)
-same-or-not i k = elim (eqb_tells i k) [
-  | inl same ↦ inl same.1
-  | inr other ↦ inr other.1
-]
-
 -- what holds at the place and elsewhere holds everywhere
 pub at-each : {X : Type 0} (P : ℕ → X → Type 0) (f : ℕ → X) (k : ℕ) (x : X) → P k x → ((i : ℕ) → i ≢ k → P i (f i)) → (i : ℕ) → P i (at f k x i)
-at-each P f k x here there i = elim (same-or-not i k) [
+at-each P f k x here there i = elim (cases_eq i k) [
   | inl same ↦ subst (λ j. P j (at f k x j)) (sym same) (subst (λ y. P k y) (sym (at-here f k x)) here)
   | inr apart ↦ subst (λ y. P i y) (sym (at-other f k x i apart)) (there i apart)
 ]
@@ -35,8 +29,8 @@ pub at_pair-here : {X : Type 0} (f : ℕ → ℕ → X) (u v : ℕ) (x : X) → 
 at_pair-here f u v x = grind (arith, common_steps)
 
 pub at_pair-other : {X : Type 0} (f : ℕ → ℕ → X) (u v : ℕ) (x : X) (i j : ℕ) → ((i ≡ u) × (j ≡ v) → ⊥) → at_pair f u v x i j ≡ f i j
-at_pair-other f u v x i j apart = elim (same-or-not i u) [
-  | inl e ↦ elim (same-or-not j v) [
+at_pair-other f u v x i j apart = elim (cases_eq i u) [
+  | inl e ↦ elim (cases_eq j v) [
     | inl g ↦ absurd (apart (e, g))
     | inr other ↦ grind (arith, common_steps)
   ]
@@ -45,8 +39,8 @@ at_pair-other f u v x i j apart = elim (same-or-not i u) [
 
 pub at_pair-each : {X : Type 0} (P : ℕ → ℕ → X → Type 0) (f : ℕ → ℕ → X) (u v : ℕ) (x : X) → P u v x → ((i j : ℕ) → ((i ≡ u) × (j ≡ v) → ⊥) → P i j (f i j))
     → (i j : ℕ) → P i j (at_pair f u v x i j)
-at_pair-each P f u v x here there i j = elim (same-or-not i u) [
-  | inl e ↦ elim (same-or-not j v) [
+at_pair-each P f u v x here there i j = elim (cases_eq i u) [
+  | inl e ↦ elim (cases_eq j v) [
     | inl g ↦
         let at-both : P u v (at_pair f u v x u v) = subst (λ y. P u v y) (sym (at_pair-here f u v x)) here in
         let at-first : P u j (at_pair f u v x u j) = subst (λ k. P u k (at_pair f u v x u k)) (sym g) at-both in

@@ -1,12 +1,13 @@
 -- The woven list begins with the entry that comes first.
 use Rattle.std.proofs.Common.{◌≡◌, ◌==◌, Bool, true, false, ℕ, ◌<◌, List, [], ◌∷◌, inl, inr, refl, ap, ◌∙◌, sym, subst, if◌then◌else◌, arith}
+use Rattle.std.proofs.lemmas.Bool.{cases_eq}
 use Rattle.std.proofs.lemmas.Grind.{common_steps}
 use Rattle.std.specs.List.{AllByRecursion}
 use Rattle.topology.specs.At.{at}
 use Rattle.run_model.specs.declared.event.Event.{Event}
 use Rattle.weaving.specs.declared.journal.Entry.{Entry}
 use Rattle.weaving.specs.Woven.{AreRising, Placed, IsNoLater, entries_of, IsWoven}
-use Rattle.weaving.proofs.Changed.{at-each, at-here, at-other, same-or-not}
+use Rattle.weaving.proofs.Changed.{at-each, at-here, at-other}
 
 -- what holds of the entries of a node holds of those behind the first
 behind : (P : Placed → Type 0) (v : ℕ) (p : Placed) (ps : List Placed) → AllByRecursion (λ e. P (record { node = v; entry = e })) (entries_of v (p ∷ ps))
@@ -42,7 +43,7 @@ from-first p v (e ∷ es) rise first =
 
 complete-one : (journal : ℕ → List Entry) (v : ℕ) (e : Entry) (later : List Entry) (ps : List Placed) → journal v ≡ e ∷ later
     → ((u : ℕ) → entries_of u ps ≡ at journal v later u) → (u : ℕ) → entries_of u (record { node = v; entry = e } ∷ ps) ≡ journal u
-complete-one journal v e later ps is all u = elim (same-or-not u v) [
+complete-one journal v e later ps is all u = elim (cases_eq u v) [
   | inl same ↦
       let here : entries_of v (record { node = v; entry = e } ∷ ps) ≡ e ∷ entries_of v ps = grind (arith, common_steps) in
       subst (λ i. entries_of i (record { node = v; entry = e } ∷ ps) ≡ journal i) (sym same)

@@ -1,13 +1,12 @@
 -- Looking for the entry that comes first, journal by journal.
 use Rattle.std.proofs.Common.{◌≡◌, ◌≢◌, ℕ, zero, suc, ◌<◌, ◌≤◌, ◌+◌, List, [], ◌∷◌, Option, Some, None, drop, length, slice_index_or, slice_get, inl, inr, refl, ap, ◌∙◌, sym, subst, arith}
-use Rattle.std.proofs.lemmas.Bool.{cases_Bool}
+use Rattle.std.proofs.lemmas.Bool.{cases_Bool, cases_eq}
 use Rattle.std.proofs.lemmas.Grind.{common_steps}
 use Rattle.std.specs.Prelude.{if◌then◌else◌, nat_le}
 use Rattle.weaving.specs.declared.journal.Entry.{Entry}
 use Rattle.weaving.specs.declared.journal.Journal.{Journal}
 use Rattle.weaving.specs.Woven.{IsNoLater}
 use Rattle.weaving.specs.Journals.{entries_in, journal_of, IsFirst, earlier, with_next}
-use Rattle.weaving.proofs.Changed.{same-or-not}
 
 -- the entry of a node would be the first
 abbrev pub IsEarlier : Entry → Option (ℕ × Entry) → Type 0
@@ -19,7 +18,7 @@ below-next u n l apart = grind (arith, apart)
 
 -- a journal of which all is read
 pub first-passes : (xs : List (List Entry)) (n : ℕ) (first : Option (ℕ × Entry)) → journal_of xs n ≡ [] → IsFirst xs n first → IsFirst xs (n + 1) first
-first-passes xs n None none h = λ u l. elim (same-or-not u n) [
+first-passes xs n None none h = λ u l. elim (cases_eq u n) [
   | inl same ↦ subst (λ i. journal_of xs i ≡ []) (sym same) none
   | inr apart ↦ h u (below-next u n l apart)
 ]
@@ -27,7 +26,7 @@ first-passes xs n (Some first) none h = (
   h.0,
   h.1,
   omega (arith, h.2),
-  λ u e es l is. elim (same-or-not u n) [
+  λ u e es l is. elim (cases_eq u n) [
     | inl same ↦ let no-entry : ◌≡◌ {A = List Entry} [] (e ∷ es) = sym none ∙ (ap (journal_of xs) (sym same) ∙ is) in absurd cc
     | inr apart ↦ h.3 u e es (below-next u n l apart) is
   ],
@@ -40,7 +39,7 @@ first-stays xs n v e x later is no-less h = (
   h.0,
   h.1,
   omega (arith, h.2),
-  λ u y ys l is-y. elim (same-or-not u n) [
+  λ u y ys l is-y. elim (cases_eq u n) [
     | inl same ↦
         let both : ◌≡◌ {A = List Entry} (x ∷ later) (y ∷ ys) = sym is ∙ (ap (journal_of xs) (sym same) ∙ is-y) in
         let one : x ≡ y = cc in
@@ -60,7 +59,7 @@ first-changes xs n first x later is earlier h = (
   later,
   is,
   omega arith,
-  λ u y ys l is-y. elim (same-or-not u n) [
+  λ u y ys l is-y. elim (cases_eq u n) [
     | inl same ↦
         let both : ◌≡◌ {A = List Entry} (x ∷ later) (y ∷ ys) = sym is ∙ (ap (journal_of xs) (sym same) ∙ is-y) in
         let one : x ≡ y = cc in

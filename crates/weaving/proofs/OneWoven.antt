@@ -1,12 +1,12 @@
 -- Journals have one woven list.
 use Rattle.std.proofs.Common.{◌≡◌, ◌≢◌, ℕ, List, [], ◌∷◌, map, inl, inr, refl, ap, ◌∙◌, sym, subst, arith}
+use Rattle.std.proofs.lemmas.Bool.{cases_eq}
 use Rattle.std.proofs.lemmas.Grind.{common_steps}
 use Rattle.std.specs.List.{AllByRecursion}
 use Rattle.run_model.specs.declared.event.Event.{Event}
 use Rattle.weaving.specs.declared.journal.Entry.{Entry}
 use Rattle.weaving.specs.Woven.{Placed, IsNoLater, AreOrdered, entries_of}
 use Rattle.weaving.specs.Laws.{OneWovenList}
-use Rattle.weaving.proofs.Changed.{same-or-not}
 
 entries-here : (p : Placed) (ps : List Placed) → entries_of p.node (p ∷ ps) ≡ p.entry ∷ entries_of p.node ps
 entries-here p ps = grind (arith, common_steps)
@@ -18,7 +18,7 @@ entries-there p ps v apart = grind (arith, common_steps)
 first-no-earlier : (q : Placed) (qs : List Placed) (v : ℕ) (e : Entry) (es : List Entry) → AllByRecursion (IsNoLater q) qs → entries_of v qs ≡ e ∷ es
     → IsNoLater q (record { node = v; entry = e })
 first-no-earlier q [] v e es all is = absurd cc
-first-no-earlier q (r ∷ qs) v e es all is = elim (same-or-not v r.node) [
+first-no-earlier q (r ∷ qs) v e es all is = elim (cases_eq v r.node) [
   | inl same ↦
       let first : ◌≡◌ {A = List Entry} (r.entry ∷ entries_of r.node qs) (e ∷ es)
       = sym (entries-here r qs) ∙ subst (λ k. entries_of k (r ∷ qs) ≡ e ∷ es) same is in
@@ -37,7 +37,7 @@ both-ways p q apart (inr a) (inr b) = let m = a.1 in let n = b.1 in apart (omega
 
 heads : (p : Placed) (ps : List Placed) (q : Placed) (qs : List Placed) → AreOrdered (p ∷ ps) → AreOrdered (q ∷ qs)
     → ((v : ℕ) → entries_of v (p ∷ ps) ≡ entries_of v (q ∷ qs)) → p.node ≡ q.node
-heads p ps q qs a b same = elim (same-or-not p.node q.node) [
+heads p ps q qs a b same = elim (cases_eq p.node q.node) [
   | inl e ↦ e
   | inr apart ↦
       let of-q : entries_of p.node qs ≡ p.entry ∷ entries_of p.node ps
@@ -62,7 +62,7 @@ one-list (p ∷ ps) (q ∷ qs) a b same =
     let first : p.entry ≡ q.entry = cc in
     let others : entries_of p.node ps ≡ entries_of q.node qs = cc in
     let rest : (v : ℕ) → entries_of v ps ≡ entries_of v qs
-    = λ v. elim (same-or-not v p.node) [
+    = λ v. elim (cases_eq v p.node) [
       | inl e ↦ subst (λ k. entries_of k ps ≡ entries_of k qs) (sym e) (others ∙ ap (λ k. entries_of k qs) (sym node-same))
       | inr apart ↦
           sym (entries-there p ps v apart) ∙ (same v ∙ entries-there q qs v (λ e. apart (e ∙ sym node-same)))

@@ -1,10 +1,11 @@
 -- A simulation goes on with each piece of its text.
-use Rattle.std.proofs.Common.{◌≡◌, ◌∙◌, ap, ℕ, ◌+◌, List, [], ◌∷◌, ◌++◌, Option, Result, Ok, Err, IsErr, length, map, arith}
+use Rattle.std.proofs.Common.{◌≡◌, ◌∙◌, ap, sym, ℕ, ◌+◌, ◌-◌, List, [], ◌∷◌, ◌++◌, Option, Result, Ok, Err, IsErr, length, map, take, drop, arith}
 use Rattle.std.proofs.lemmas.Grind.{common_steps}
-use Rattle.std.proofs.lemmas.List.{map-append}
+use Rattle.std.proofs.lemmas.List.{map-append, take_rest}
+use Rattle.std.proofs.Math.Seq.{take-add}
 use Rattle.byte_lines.specs.Lines.{lines_after, half_line, whole_lines}
 use Rattle.byte_lines.specs.Kept.{Kept, StandsAfter}
-use Rattle.byte_lines.proofs.Cutting.{lines_cut}
+use Rattle.byte_lines.specs.Laws.{LinesAreCut}
 use Rattle.run_model.specs.World.{World}
 use Rattle.run_model.specs.Run.{run}
 use Rattle.events_text.specs.declared.text_line.TextLine.{TextLine}
@@ -15,13 +16,17 @@ use Rattle.world.specs.UnderWay.{SimulationView, HasRun, IsUnderWay, GoesOn}
 use Rattle.world.proofs.SimulatedLines.{refusals_both}
 use Rattle.world.proofs.Writing.{beginning_of_more}
 
+-- the first bytes of a piece, and more of them
+pub piece_more : (piece : List ℕ) (at used : ℕ) → take (at + used) piece ≡ take at piece ++ take used (take (length piece - at) (drop at piece))
+piece_more piece at used = take-add at used piece ∙ ap (λ xs. take at piece ++ take used xs) (sym (take_rest piece at))
+
 -- the refusal lines of the whole lines of bytes are the first ones of more bytes
-pub beginning_of_bytes : (start : World) (bytes more : List ℕ) (before after : Option (List ℕ))
+pub beginning_of_bytes : LinesAreCut → (start : World) (bytes more : List ℕ) (before after : Option (List ℕ))
     → TakesABeginning (refusals_of start (ended_lines bytes)) before after → TakesABeginning (refusals_of start (ended_lines (bytes ++ more))) before after
-beginning_of_bytes start bytes more before after b =
+beginning_of_bytes cut start bytes more before after b =
     let rest = lines_after (half_line bytes) more in
     let behind = refusal_lines (run start (told_events (ended_lines bytes))) (1 + length (ended_lines bytes)) (map text_line rest) in
-    let both : ended_lines (bytes ++ more) ≡ ended_lines bytes ++ map text_line rest = ap (map text_line) (lines_cut [] bytes more) ∙ map-append text_line (whole_lines bytes) rest in
+    let both : ended_lines (bytes ++ more) ≡ ended_lines bytes ++ map text_line rest = ap (map text_line) (cut.lines [] bytes more) ∙ map-append text_line (whole_lines bytes) rest in
     let parts : refusals_of start (ended_lines (bytes ++ more)) ≡ refusals_of start (ended_lines bytes) ++ behind =
     ap (refusals_of start) both ∙ refusals_both start 1 (ended_lines bytes) (map text_line rest) in
     rw parts (beginning_of_more (refusals_of start (ended_lines bytes)) behind before after b)
@@ -46,12 +51,12 @@ half_line_grows start bytes more before now s reader u stands ends = record {
 }
 
 -- a line more is ended, and the sink failed
-pub line_fails : (start : World) (bytes more behind : List ℕ) (line : TextLine) (before between after : Option (List ℕ)) (s : SimulationView) (reader : Kept)
+pub line_fails : LinesAreCut → (start : World) (bytes more behind : List ℕ) (line : TextLine) (before between after : Option (List ℕ)) (s : SimulationView) (reader : Kept)
     → IsUnderWay start bytes before between s → ended_lines (bytes ++ more) ≡ ended_lines bytes ++ line ∷ []
     → (HasRun start (ended_lines bytes) before between (record s { reader = reader }) → TakesABeginning (refusals_of start (ended_lines bytes ++ line ∷ [])) before after)
     → TakesABeginning (refusals_of start (ended_lines (bytes ++ more ++ behind))) before after
-line_fails start bytes more behind line before between after s reader u ends fails =
-    beginning_of_bytes start (bytes ++ more) behind before after
+line_fails cut start bytes more behind line before between after s reader u ends fails =
+    beginning_of_bytes cut start (bytes ++ more) behind before after
     (rw ends (fails (record { seen = u.has_run.seen; lines_are = u.has_run.lines_are; refused_are = u.has_run.refused_are; written = u.has_run.written })))
 
 -- the sink failed

@@ -17,8 +17,7 @@ use Rattle.world.specs.StateText.{state_text}
 use Rattle.byte_streams.specs.Streams.{Takes, TakesABeginning, Rose, CountsFailures}
 use Rattle.world.specs.UnderWay.{SimulationView, HasRun, Reads, Finishes}
 use Rattle.configuration.specs.ConfigurationView.{world_of}
-use Rattle.byte_streams.proofs.Writing.{takes_both}
-use Rattle.world.proofs.Writing.{then_beginning}
+use Rattle.world.proofs.Writing.{takes_both, then_beginning}
 
 module _ (start : World) (bytes : List ℕ) (before between after : Option (List ℕ)) (s : SimulationView) (sweeps : ℕ) (seen : AreSweepsSeen s.judge sweeps)
     (h : HasRun start (text_lines bytes) before between s) where

@@ -1,6 +1,6 @@
 -- The refusal lines of a text's lines, line by line.
-use Rattle.std.proofs.Common.{◌≡◌, ◌∙◌, ap, sym, ℕ, ◌+◌, ◌-◌, ◌^◌, min, is_some, if◌then◌else◌, List, [], ◌∷◌, ◌++◌, Option, Some, None, Result, Ok, Err, length, append_assoc, arith, refl}
-use Rattle.std.proofs.lemmas.Grind.{common_steps}
+use Rattle.std.proofs.Common.{◌≡◌, ◌∙◌, ap, sym, ℕ, ◌+◌, ◌-◌, ◌^◌, min, is_some, if◌then◌else◌, List, [], ◌∷◌, ◌++◌, Option, Some, None, Result, Ok, Err, length, append_assoc, arith}
+use Rattle.std.proofs.lemmas.Grind.{common_steps, flat_map-append}
 use Rattle.std.proofs.lemmas.List.{append-nil}
 use Rattle.run_model.specs.World.{World}
 use Rattle.run_model.specs.Step.{step}
@@ -9,19 +9,11 @@ use Rattle.events_text.specs.declared.text_line.TextLine.{TextLine}
 use Rattle.events_text.specs.declared.text_line.TextLine.TheVariants.{Passed, Unread, Told}
 use Rattle.judge.specs.JudgeView.{HasSeen}
 use Rattle.judge.specs.Judging.{counted_up_to}
-use Rattle.world.specs.SimulatedText.{line_refusal, refusal_line, refusal_lines, refused_lines, told_events, refusals_of}
+use Rattle.world.specs.SimulatedText.{line_refusal, refusal_line, refusal_lines, refused_lines, told_event, told_events, refusals_of}
 use Rattle.byte_streams.specs.Streams.{Takes, TakesABeginning, WritesAll}
 use Rattle.world.specs.UnderWay.{SimulationView, HasRun, HasSeenLine, Runs}
 use Rattle.configuration.specs.ConfigurationView.{world_of}
-use Rattle.byte_streams.proofs.Writing.{takes_both}
-use Rattle.world.proofs.Writing.{takes_nothing, then_beginning}
-
--- the events of lines and then more lines
-pub told_both : (lines more : List TextLine) → told_events (lines ++ more) ≡ told_events lines ++ told_events more
-told_both [] more = refl
-told_both (Passed ∷ lines) more = told_both lines more
-told_both (Unread ∷ lines) more = told_both lines more
-told_both (Told e ∷ lines) more = ap (λ es. e ∷ es) (told_both lines more)
+use Rattle.world.proofs.Writing.{takes_nothing, takes_both, then_beginning}
 
 -- the refusal lines of lines and then more lines
 pub refusals_both : (w : World) (n : ℕ) (lines more : List TextLine)
@@ -83,7 +75,7 @@ pub has_run_more : (start : World) (lines : List TextLine) (line : TextLine) (be
     → Takes (refusal_line (s.lines + 1) (line_refusal (run start (told_events lines)) line)) between after
     → HasRun start (lines ++ line ∷ []) before after t
 has_run_more start lines line before between after s t h seen number refused written = record {
-  seen = rw (told_both lines (line ∷ [])) seen;
+  seen = rw (flat_map-append told_event lines (line ∷ [])) seen;
   lines_are = grind (arith, common_steps);
   refused_are =
       refused ∙ ap (λ n. one_more n (line_refusal (run start (told_events lines)) line)) h.refused_are

@@ -1,40 +1,25 @@
 -- What becomes of a text that is read in pieces.
-use Rattle.std.proofs.Common.{◌≡◌, ◌∙◌, ap, sym, ℕ, ◌+◌, ◌-◌, ◌≤◌, List, [], ◌++◌, Option, Some, length, take, drop, map, arith}
-use Rattle.std.proofs.lemmas.Grind.{common_steps}
+use Rattle.std.proofs.Common.{◌≡◌, ◌∙◌, ap, ℕ, ◌+◌, ◌-◌, ◌≤◌, List, ◌++◌, Option, length, take, drop, map, arith}
 use Rattle.std.proofs.Math.Seq.{take-add}
-use Rattle.std.proofs.lemmas.List.{take-append-drop, length-drop, append-nil}
 use Rattle.byte_lines.specs.Lines.{half_line}
+use Rattle.byte_lines.specs.Laws.{LinesAreCut}
 use Rattle.run_model.specs.World.{World}
 use Rattle.run_model.specs.Run.{run}
 use Rattle.events_text.specs.EventsText.{text_line, ended_lines, last_line, text_lines}
 use Rattle.world.specs.SimulatedText.{told_events, refusals_of, refusal_lines}
-use Rattle.world.specs.Simulating.{HasRead}
 use Rattle.byte_streams.specs.Streams.{TakesABeginning}
 use Rattle.world.proofs.SimulatedBytes.{beginning_of_bytes}
 use Rattle.world.proofs.SimulatedLines.{refusals_both}
 use Rattle.world.proofs.Writing.{beginning_of_more}
 
--- n bytes have been read, and then `count` more
-pub read_more : (bytes : List ℕ) (after : Option (List ℕ)) (n count : ℕ) → n ≤ length bytes → count ≤ length (drop n bytes) → after ≡ Some (drop count (drop n bytes))
-    → HasRead (n + count) bytes after
-read_more bytes after n count within more is = grind (arith, common_steps)
-
--- nothing is left
-pub all_read : (bytes : List ℕ) (after : Option (List ℕ)) (n : ℕ) → n ≤ length bytes → drop n bytes ≡ [] → after ≡ Some (drop 0 (drop n bytes))
-    → (after ≡ Some []) × (length bytes ≡ n) × (take n bytes ≡ bytes)
-all_read bytes after n within none is =
-    let left : length bytes - n ≡ 0 = sym (length-drop n bytes) ∙ ap length none in
-    let all : take n bytes ≡ bytes = sym (append-nil (take n bytes)) ∙ ap (λ xs. take n bytes ++ xs) (sym none) ∙ take-append-drop n bytes in
-    (is ∙ ap Some none, omega (arith, left, within), all)
-
 -- the refusal lines of the whole lines of bytes are the first ones of a text that begins with them
-pub beginning_of_text : (start : World) (bytes : List ℕ) (n k : ℕ) (before after : Option (List ℕ)) → n ≤ k
+pub beginning_of_text : LinesAreCut → (start : World) (bytes : List ℕ) (n k : ℕ) (before after : Option (List ℕ)) → n ≤ k
     → TakesABeginning (refusals_of start (ended_lines (take n bytes))) before after → TakesABeginning (refusals_of start (text_lines (take k bytes))) before after
-beginning_of_text start bytes n k before after few b =
+beginning_of_text cut start bytes n k before after few b =
     let more = take (k - n) (drop n bytes) in
     let all : take k bytes ≡ take n bytes ++ more =
     (let further : k ≡ n + (k - n) = omega (arith, few) in ap (λ m. take m bytes) further ∙ take-add n (k - n) bytes) in
     let last = map text_line (last_line (half_line (take k bytes))) in
     let behind = refusal_lines (run start (told_events (ended_lines (take k bytes)))) (1 + length (ended_lines (take k bytes))) last in
-    let ended : TakesABeginning (refusals_of start (ended_lines (take k bytes))) before after = rw all (beginning_of_bytes start (take n bytes) more before after b) in
+    let ended : TakesABeginning (refusals_of start (ended_lines (take k bytes))) before after = rw all (beginning_of_bytes cut start (take n bytes) more before after b) in
     rw (refusals_both start 1 (ended_lines (take k bytes)) last) (beginning_of_more (refusals_of start (ended_lines (take k bytes))) behind before after ended)

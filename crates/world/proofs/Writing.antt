@@ -1,17 +1,21 @@
 -- Texts that are written part by part, and the one of a sink that fails on the way.
-use Rattle.std.proofs.Common.{◌≡◌, ◌∙◌, ap, sym, ℕ, ◌+◌, ◌<◌, ◌≤◌, List, [], ◌∷◌, ◌++◌, Option, Some, None, Result, Ok, Err, length, take, drop, get_or, append_assoc, arith}
+use Rattle.std.proofs.Common.{◌≡◌, ◌∙◌, ap, sym, ℕ, ◌+◌, ◌<◌, ◌≤◌, List, [], ◌∷◌, ◌++◌, Option, Some, None, Result, Ok, Err, IsErr, length, take, drop, get_or, append_assoc, arith}
 use Rattle.std.specs.List.{flat_map, range_with_len}
 use Rattle.std.proofs.lemmas.Grind.{common_steps, flat_map-append}
 use Rattle.std.proofs.lemmas.List.{append-nil}
 use Rattle.std.proofs.lemmas.List.FromFn.{get_or-range_with_len, length-range_with_len}
 use Rattle.std.proofs.Math.Seq.{take-length}
-use Rattle.byte_streams.specs.Streams.{Takes, TakesABeginning, WritesAll}
-use Rattle.byte_streams.proofs.Writing.{takes_both}
+use Rattle.byte_streams.specs.Streams.{Takes, TakesABeginning, WritesAll, Rose}
 
 -- nothing is taken
 pub takes_nothing : (before : Option (List ℕ)) → Takes [] before before
 takes_nothing None = grind (arith, common_steps)
 takes_nothing (Some taken) = grind (arith, common_steps)
+
+-- what was taken in two parts was taken in one
+pub takes_both : (xs ys : List ℕ) (before between after : Option (List ℕ)) → Takes xs before between → Takes ys between after → Takes (xs ++ ys) before after
+takes_both xs ys None between after first second = grind (arith, common_steps)
+takes_both xs ys (Some taken) between after first second = grind (arith, common_steps)
 
 -- a beginning of the bytes is one of more bytes
 pub beginning_of_more : (xs ys : List ℕ) (before after : Option (List ℕ)) → TakesABeginning xs before after → TakesABeginning (xs ++ ys) before after
@@ -36,6 +40,12 @@ writes_then (Ok value) xs ys before between after failures more most first highe
     (takes_both xs ys before between after first second.0, grind (arith, common_steps))
 writes_then (Err e) xs ys before between after failures more most first higher second =
     (then_beginning xs ys before between after first second.0, grind (arith, common_steps), grind (arith, common_steps))
+
+-- the sink failed after a beginning
+pub fails_on_the_way : {E : Type 0} (result : Result (Unit {0}) E) (bytes : List ℕ) (before after : Option (List ℕ)) (failures more : ℕ)
+    → IsErr result → TakesABeginning bytes before after → failures ≤ more → Rose failures more → WritesAll result bytes before after failures more
+fails_on_the_way (Ok value) bytes before after failures more failed b higher rose = grind (arith, common_steps)
+fails_on_the_way (Err e) bytes before after failures more failed b higher rose = (b, higher, rose)
 
 -- a list is what stands in front of an item, the item, and what stands behind it
 pub item_parts : (xs : List ℕ) (i : ℕ) → i < length xs → xs ≡ take i xs ++ (get_or xs i 0 ∷ drop (i + 1) xs)

@@ -1,6 +1,6 @@
 -- The text that a simulation writes: a line for each refused line of the events text, and then the
 -- text of the world that it leads to.
-use Rattle.std.specs.Prelude.{ℕ, ◌+◌, List, [], ◌∷◌, ◌++◌, is_some, if◌then◌else◌, Option, Some, None, option_map, codes, decimal}
+use Rattle.std.specs.Prelude.{ℕ, ◌+◌, List, [], ◌∷◌, ◌++◌, is_some, if◌then◌else◌, Option, Some, None, option_map, codes, decimal, flat_map}
 use Rattle.topology.specs.Network.{Network}
 use Rattle.run_model.specs.World.{World}
 use Rattle.run_model.specs.Start.{world_with_spares}
@@ -57,11 +57,14 @@ abbrev pub refused_lines : World → List TextLine → ℕ
 refused_lines w [] = 0
 refused_lines w (line ∷ lines) = (if is_some (line_refusal w line) then 1 else 0) + refused_lines (line_step w line) lines
 
+-- the event that a line tells, if it tells one
+abbrev pub told_event : TextLine → List Event
+told_event (Told event) = event ∷ []
+told_event _ = []
+
 -- the events that lines tell, in order
 abbrev pub told_events : List TextLine → List Event
-told_events [] = []
-told_events (Told event ∷ lines) = event ∷ told_events lines
-told_events (_ ∷ lines) = told_events lines
+told_events lines = flat_map told_event lines
 
 -- the events of a text
 abbrev pub events_of : List ℕ → List Event

@@ -1,5 +1,5 @@
 -- What the answers of a simulation say of what was read and written.
-use Rattle.std.specs.Prelude.{◌≡◌, ℕ, ◌<◌, ◌≤◌, List, [], Option, Some, Result, Ok, Err, drop, take, length, ◌⊎◌}
+use Rattle.std.specs.Prelude.{◌≡◌, ℕ, ◌<◌, ◌≤◌, List, [], Option, Some, Result, Ok, Err, take, length, ◌⊎◌}
 use Rattle.run_model.specs.World.{World}
 use Rattle.run_model.specs.Count.{IsSweepCount}
 use Rattle.world.specs.declared.simulation.Summary.{Summary}
@@ -8,7 +8,7 @@ use Rattle.world.specs.declared.simulation.SimFault.TheVariants.{Memory, Read, L
 use Rattle.events_text.specs.EventsText.{ended_lines, text_lines}
 use Rattle.judge.specs.Judging.{counted_up_to}
 use Rattle.world.specs.SimulatedText.{refused_lines, events_of, refusals_of, simulated_text}
-use Rattle.byte_streams.specs.Streams.{Takes, TakesABeginning, Rose}
+use Rattle.byte_streams.specs.Streams.{HasRead, Takes, TakesABeginning, Rose}
 
 -- the most bytes of an events text
 abbrev pub longest_text : ℕ
@@ -27,10 +27,6 @@ pub record IsHalfShown (start : World) (bytes : List ℕ) (before after : Option
   pub count : ℕ
   pub counted : IsSweepCount start (events_of bytes) count
   pub written : TakesABeginning (simulated_text start bytes count) before after
-
--- the first `count` bytes were read
-abbrev pub HasRead : ℕ → List ℕ → Option (List ℕ) → Type 0
-HasRead count bytes rest = (count ≤ length bytes) × (rest ≡ Some (drop count bytes))
 
 -- The first bytes were read, no more than a text may have, and the refusal lines of the whole lines
 -- in them were written.

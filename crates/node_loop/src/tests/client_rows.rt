@@ -1,5 +1,5 @@
 //! What clients write, and what becomes of them.
-use crate::tests::stage::{doors, idle, in_a_row, run_of, whole, with_token};
+use crate::tests::stage::{doors, idle, in_a_row, run_of, turn_once, whole, with_token};
 use crate::tests::wires::{Pair, Queue, Trip};
 use node_core::Node;
 use std::test::Fail;
@@ -21,14 +21,14 @@ fn a_client_that_closes_gives_the_lock_back(rt: HostRuntime) -> Result<(), Fail>
     let mut run = with_token(rt.alloc(), doors(&links, &clients, &trip))?;
     clients.knock();
     pairs[0].up.write(b"lock\n");
-    run.turn_by(&whole(), 0);
+    turn_once(&mut run, &whole());
     assert!(rt; pairs[0].says(b"granted\n"));
     pairs[0].up.close();
-    run.turn_by(&whole(), 0);
+    turn_once(&mut run, &whole());
     assert!(rt; pairs[0].down.is_closed());
     clients.knock();
     pairs[1].up.write(b"status\n");
-    run.turn_by(&whole(), 0);
+    turn_once(&mut run, &whole());
     assert!(rt; pairs[1].says(b"node 0 distance 0 parent none token no lent none waiting 0\n"));
     Ok(())
 }
@@ -41,13 +41,13 @@ fn a_client_that_cannot_be_told_has_left(rt: HostRuntime) -> Result<(), Fail> {
     clients.knock();
     pairs[0].up.write(b"lock\n");
     pairs[0].down.cut();
-    run.turn_by(&whole(), 0);
+    turn_once(&mut run, &whole());
     assert!(rt; pairs[0].says(b"") && pairs[0].down.is_closed());
     assert_eq!(rt; run.node().lent(), None);
-    run.turn_by(&whole(), 0);
+    turn_once(&mut run, &whole());
     clients.knock();
     pairs[1].up.write(b"status\n");
-    run.turn_by(&whole(), 0);
+    turn_once(&mut run, &whole());
     assert!(rt; pairs[1].says(b"node 0 distance 0 parent none token no lent none waiting 0\n"));
     Ok(())
 }
@@ -75,7 +75,7 @@ fn each_line_has_its_answer(rt: HostRuntime) -> Result<(), Fail> {
         let mut run = with_token(rt.alloc(), doors(&links, &clients, &trip))?;
         clients.knock();
         pairs[0].up.write(line);
-        run.turn_by(&whole(), 0);
+        turn_once(&mut run, &whole());
         assert!(rt; pairs[0].says(want));
         assert!(rt; !pairs[0].down.is_closed());
     }
@@ -89,14 +89,14 @@ fn a_line_comes_in_parts_and_the_sending_half_may_close(rt: HostRuntime) -> Resu
     let mut run = with_token(rt.alloc(), doors(&links, &clients, &trip))?;
     clients.knock();
     pairs[0].up.write(b"stran");
-    run.turn_by(&idle(), 0);
+    turn_once(&mut run, &idle());
     assert!(rt; pairs[0].says(b""));
     pairs[0].up.write(b"ge\nunlock\n");
     pairs[0].up.close();
-    run.turn_by(&idle(), 0);
+    turn_once(&mut run, &idle());
     assert!(rt; pairs[0].says(b"unknown\nstranger\n"));
     assert!(rt; !pairs[0].down.is_closed());
-    run.turn_by(&idle(), 0);
+    turn_once(&mut run, &idle());
     assert!(rt; pairs[0].down.is_closed());
     Ok(())
 }
@@ -108,13 +108,13 @@ fn a_client_without_room_for_its_answers_has_left(rt: HostRuntime) -> Result<(),
     let mut run = in_a_row(rt.alloc(), 2, 0, doors(&links, &clients, &trip))?;
     clients.knock();
     pairs[0].up.write(b"lock\nstatus\nstatus\nstatus\nstatus\n");
-    run.turn_by(&idle(), 0);
+    turn_once(&mut run, &idle());
     assert_eq!(rt; run.node().waiting(), 1);
     assert!(rt; !pairs[0].down.is_closed());
     pairs[0]
         .up
         .write(b"status\nstatus\nstatus\nstatus\nstatus\n");
-    run.turn_by(&idle(), 0);
+    turn_once(&mut run, &idle());
     assert_eq!(rt; run.node().waiting(), 0);
     assert!(rt; pairs[0].down.is_closed());
     Ok(())
@@ -133,7 +133,7 @@ fn the_hundred_and_twenty_ninth_client_is_closed(rt: HostRuntime) -> Result<(), 
         pair.up.write(b"lock\n");
     }
     for _ in 0..3 {
-        run.turn_by(&whole(), 0);
+        turn_once(&mut run, &whole());
     }
     assert_eq!(rt; run.node().waiting(), 64);
     for (place, pair) in pairs.iter().enumerate() {
@@ -159,7 +159,7 @@ fn tickets_that_no_client_has_leave(rt: HostRuntime) -> Result<(), Fail> {
     assert_eq!(rt; node.set_desk(Some(300), 0, false), Ok(()));
     let mut run = run_of(rt.alloc(), net, node, doors(&links, &clients, &trip))?;
     clients.knock();
-    run.turn_by(&idle(), 0);
+    turn_once(&mut run, &idle());
     assert_eq!(rt; run.node().lent(), None);
     assert_eq!(rt; run.node().tickets(), [0u16].as_slice());
     Ok(())

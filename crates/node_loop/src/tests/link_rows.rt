@@ -1,5 +1,5 @@
 //! Connections of neighbours, and the first lines on them.
-use crate::tests::stage::{doors, doors_to, idle, in_a_row, whole};
+use crate::tests::stage::{doors, doors_to, idle, in_a_row, turn_once, whole};
 use crate::tests::wires::{Pair, Queue, Trip};
 use std::alloc::AllocError;
 use std::test::Fail;
@@ -34,7 +34,7 @@ fn a_hello_of_a_higher_neighbour_alone_is_welcome(rt: HostRuntime) -> Result<(),
         links.knock();
         let mut run = in_a_row(rt.alloc(), 3, 1, doors(&links, &clients, &trip))?;
         pairs[0].up.write(hello);
-        run.turn_by(&whole(), 0);
+        turn_once(&mut run, &whole());
         assert_eq!(rt; pairs[0].down.is_closed(), !is_welcome);
         let want = if is_welcome { FIRST_FRAME } else { b"" };
         assert!(rt; pairs[0].says(want));
@@ -49,10 +49,10 @@ fn a_hello_comes_in_parts_and_frames_behind_it(rt: HostRuntime) -> Result<(), Fa
     let mut run = in_a_row(rt.alloc(), 3, 0, doors(&links, &clients, &trip))?;
     links.knock();
     pairs[0].up.write(b"H00");
-    run.turn_by(&idle(), 0);
+    turn_once(&mut run, &idle());
     assert!(rt; !pairs[0].down.is_closed());
     pairs[0].up.write(b"01\nF000000000003ffff0000\n");
-    run.turn_by(&idle(), 0);
+    turn_once(&mut run, &idle());
     assert!(rt; run.node().ranges().nodes > 1 && run.node().seq(1) == 1);
     Ok(())
 }
@@ -65,7 +65,7 @@ fn a_newer_hello_replaces_the_older_connection(rt: HostRuntime) -> Result<(), Fa
     for pair in &pairs {
         links.knock();
         pair.up.write(b"H0001\n");
-        run.turn_by(&whole(), 0);
+        turn_once(&mut run, &whole());
         assert!(rt; pair.says(FIRST_FRAME) && !pair.down.is_closed());
     }
     assert!(rt; pairs[0].down.is_closed());
@@ -88,7 +88,7 @@ fn silent_connections_are_few_and_go(rt: HostRuntime) -> Result<(), Fail> {
             let is_closed = place == 64 && turn > 2;
             assert_eq!(rt; pair.down.is_closed(), is_closed, "{place} in turn {turn}");
         }
-        run.turn_by(&idle(), 0);
+        turn_once(&mut run, &idle());
     }
     assert_eq!(rt;
         pairs.iter().filter(|pair| pair.down.is_closed()).count(),
@@ -98,7 +98,7 @@ fn silent_connections_are_few_and_go(rt: HostRuntime) -> Result<(), Fail> {
         return Err(Fail::from(AllocError));
     };
     last.up.write(b"H0001\n");
-    run.turn_by(&whole(), 0);
+    turn_once(&mut run, &whole());
     assert!(rt; last.says(FIRST_FRAME));
     Ok(())
 }
@@ -108,16 +108,16 @@ fn a_node_connects_to_a_lower_neighbour_and_says_who_it_is(rt: HostRuntime) -> R
     let pairs = [Pair::new(), Pair::new()];
     let (links, clients, trip) = stage(&pairs);
     let mut run = in_a_row(rt.alloc(), 3, 2, doors_to(&links, &clients, &trip))?;
-    run.turn_by(&idle(), 0);
-    run.turn_by(&idle(), 0);
+    turn_once(&mut run, &idle());
+    turn_once(&mut run, &idle());
     let mut bytes = [0; 16];
     let count = pairs[0].up.read(&mut bytes);
     assert_eq!(rt; &bytes[..count], b"H0002\n".as_slice());
     assert_eq!(rt; pairs[1].up.read(&mut bytes), 0);
     pairs[0].down.close();
-    run.turn_by(&idle(), 0);
+    turn_once(&mut run, &idle());
     assert!(rt; pairs[0].up.is_closed());
-    run.turn_by(&whole(), 0);
+    turn_once(&mut run, &whole());
     let mut bytes = [0; 64];
     let count = pairs[1].up.read(&mut bytes);
     assert_eq!(rt;
@@ -145,7 +145,7 @@ fn a_network_with_other_edges_is_taken_up(rt: HostRuntime) -> Result<(), Fail> {
         };
         pair.up.write(b"H0002\n");
         assert_eq!(rt; run.rewire(net), is_taken);
-        run.turn_by(&whole(), 0);
+        turn_once(&mut run, &whole());
         assert_eq!(rt; pair.says(FIRST_FRAME), is_welcome);
         assert_eq!(rt; pair.down.is_closed(), !is_welcome);
     }

@@ -35,6 +35,11 @@ pub fn idle() -> Plan {
     }
 }
 
+/// One turn by this plan, without the contract of a turn, which would else stand in each test.
+pub fn turn_once(run: &mut Run<'_>, plan: &Plan) {
+    run.turn_by(plan, 0);
+}
+
 /// Doors at which higher neighbours and clients come, of a node that has no lower neighbour.
 pub fn doors<'a>(links: &'a Queue<'a>, clients: &'a Queue<'a>, trip: &'a Trip) -> MemoryDoors<'a> {
     MemoryDoors {

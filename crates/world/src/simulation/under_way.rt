@@ -76,6 +76,8 @@ impl<A: Allocator + Copy> Simulation<A> {
         ensures source { R.failures source.old ≤ R.failures source.new }
         ensures sink { W.failures sink.old ≤ W.failures sink.new }
     {
+        byte_lines::laws::any_cutting();
+        byte_streams::laws::reading_in_pieces();
         let mut piece = [0; PIECE];
         let mut left = LONGEST_TEXT;
         loop {
@@ -137,6 +139,7 @@ impl<A: Allocator + Copy> Simulation<A> {
             (W.taken sink.new) }
         ensures failures { CountsFailures result (W.failures sink.old) (W.failures sink.new) }
     {
+        byte_lines::laws::any_cutting();
         let mut at = 0;
         while at < piece.len() {
             if let Some((event, used)) = self.reader.take_usual(&piece[at..]) {

@@ -48,13 +48,13 @@ module _ (g : given.Over) (c : goal.After-give_back-2 g) where
   still-links : IsLinks (without-edge (parted_net old.net c.args.u c.args.v))
   still-links =
       parted-links both c.args.u c.args.v c.give_back.new.places c.give_back-2.new.places c.give_back.new.spares.items c.give_back-2.new.spares.items
-      empty.links here.from_in here.to_in joined back no-loop empty.out empty.back c.changes.ensures.who_is_parted accepted
+      empty.links here.from_in here.to_in joined back no-loop empty.out empty.back c.changes.ensures.who_is_parted c.changes.ensures.one_less accepted
       c.give_back.ensures.nodes c.give_back-2.ensures.nodes c.give_back.ensures.values c.give_back.ensures.spares c.give_back-2.ensures.values c.give_back-2.ensures.spares
 
   still-under : under_way (without-edge (parted_net old.net c.args.u c.args.v)) ≡ under_way both
   still-under =
       parted-under both c.args.u c.args.v c.give_back.new.places c.give_back-2.new.places c.give_back.new.spares.items c.give_back-2.new.spares.items
-      empty.links here.from_in here.to_in joined back no-loop empty.out empty.back c.changes.ensures.who_is_parted accepted
+      empty.links here.from_in here.to_in joined back no-loop empty.out empty.back c.changes.ensures.who_is_parted c.changes.ensures.one_less accepted
       c.give_back.ensures.nodes c.give_back-2.ensures.nodes c.give_back.ensures.values c.give_back.ensures.spares c.give_back-2.ensures.values c.give_back-2.ensures.spares
 
 pub invariant_of-self-2 : goal.invariant_of-self-2

@@ -1,11 +1,10 @@
 use Rattle.std.proofs.Common.{◌≡◌, ◌∙◌, ◌<◌, All, ap, arith, length, IsTrue}
 use Rattle.topology.specs.Network.{neighbours_of}
 use Rattle.topology.specs.Ranges.{ranges_of}
-use Rattle.topology.proofs.LaidOut.{written_back}
 use Rattle.data_link.specs.Port.{port_fits, default_port}
 use Rattle.registers.specs.Registers.{RegistersView}
 use Rattle.registers.proofs.Start.{registers-start, default_fits}
-use Rattle.registers.proofs.Rewired.{IsRewritten, is_rewritten, neighbours_few, ports_rewired, values_rewired, registers-rewritten}
+use Rattle.registers.proofs.Rewired.{IsRewritten, is_rewritten, neighbours_few, ports_rewired, values_rewired, registers-rewritten, written_back}
 use Rattle.registers.proofs.registers.Registers.rewire.Goals as goal
 
 pub write_ids-requires : goal.write_ids-requires
@@ -27,7 +26,7 @@ invariant_of-self g c =
     c.reset_others.ensures.length c.reset_others.ensures.each c.clear_others.ensures.length c.clear_others.ensures.each in
     let wrote_ports = written_back c.self.inside.ports.len c.reset_others.new.ports c.self.inside.ports.items (omega (arith, h.long_ports, c.self.inside.ports.ok.0)) in
     let wrote_values = written_back c.self.inside.values.len c.clear_others.new.values c.self.inside.values.items (omega (arith, h.long_values, c.self.inside.values.ok.0)) in
-    let begin = registers-start net c.args.id c.nodes-nodes.ensures.network in
+    let begin = registers-start c.neighbours.ensures.ascend net c.args.id c.nodes-nodes.ensures.network in
     let start_fits : IsTrue (port_fits c.self.inside.ranges (default_port c.self.inside.ranges)) = rw (← same_ranges) (default_fits net c.nodes-nodes.ensures.network).fits in
     let inside : All (λ w. w < c.self.inside.ranges.nodes) ns = rw (← same) begin.neighbours_in in
     (omega (arith, c.write_ids.ensures.room, c.self.invariant.0), rw (c.write_ids.ensures.ids, c.neighbours-neighbours.ensures, wrote_ports, wrote_values) (registers-rewritten r ns c.reset_others.new.ports c.clear_others.new.values ok h start_fits inside begin.ascending))

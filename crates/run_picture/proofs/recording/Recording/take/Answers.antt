@@ -1,10 +1,10 @@
 use Rattle.std.proofs.Common.{◌≡◌, ◌∙◌, ap, sym, ◌+◌, ◌-◌, [], ◌∷◌, ◌++◌, length, take, drop, append_assoc, arith}
 use Rattle.std.proofs.lemmas.Grind.{common_steps}
-use Rattle.std.proofs.lemmas.List.{append-nil}
+use Rattle.std.proofs.lemmas.List.{append-nil, take_rest}
+use Rattle.std.proofs.Math.Seq.{take-add}
 use Rattle.std.specs.Option.{option_to_list}
 use Rattle.events_text.specs.EventsText.{ended_lines}
 use Rattle.world.specs.SimulatedText.{told_events}
-use Rattle.byte_streams.proofs.Reading.{piece_more}
 use Rattle.run_picture.proofs.Recordings.{line_ends, half_line_grows}
 use Rattle.run_picture.proofs.recording.Recording.take.Goals as goal
 
@@ -24,8 +24,10 @@ loop-at-preserved g c =
           let now = rw (← c.self.view_is) at c.loop-at.invariant.4 start bytes h in
           let ends : ended_lines (so_far ++ more) ≡ ended_lines so_far ++ c.in-Some.line ∷ [] =
           c.take-taken.ensures.line so_far now.stands ∙ ap (λ line. ended_lines so_far ++ option_to_list line) c.in-Some.is in
+          let longer : take (at + used) piece ≡ take at piece ++ more =
+          take-add at used piece ∙ ap (λ xs. take at piece ++ take used xs) (sym (take_rest piece at)) in
           let further : bytes ++ take (at + used) piece ≡ so_far ++ more =
-          ap (λ xs. bytes ++ xs) (piece_more piece at used) ∙ sym (append_assoc bytes (take at piece) more) in
+          ap (λ xs. bytes ++ xs) longer ∙ sym (append_assoc bytes (take at piece) more) in
           rw further (line_ends start so_far more c.in-Some.line _ c.line.new.self c.take-taken.new.self now
           (c.take-taken.ensures.stands so_far now.stands) ends (c.line.ensures.records start (told_events (ended_lines so_far))) c.line.ensures.reader),
     )

@@ -5,8 +5,7 @@ use Rattle.std.proofs.lemmas.List.FromFn.{length-range_with_len}
 use Rattle.world.specs.StateText.{links_from}
 use Rattle.byte_streams.specs.Streams.{Takes, TakesABeginning}
 use Rattle.configuration.specs.ConfigurationView.{world_of}
-use Rattle.byte_streams.proofs.Writing.{fails_within}
-use Rattle.world.proofs.Writing.{texts_fail, texts_go_on, number_at, all_numbers}
+use Rattle.world.proofs.Writing.{fails_on_the_way, texts_fail, texts_go_on, number_at, all_numbers}
 use Rattle.world.proofs.simulation.state.write_links.Goals as goal
 
 pub returns-in_err-write_links_from : goal.returns-in_err-write_links_from
@@ -18,7 +17,7 @@ returns-in_err-write_links_from g c =
     let failed = c.in_err-write_links_from.ensures in
     let b : TakesABeginning (links_from w (get_or nodes c.loop-from.from 0)) (g.W.Sink.taken c.loop-from.sink) (g.W.Sink.taken c.write_links_from.new.sink) =
     rw (number_at w.net.nodes c.loop-from.from below) failed.0 in
-    fails_within c.from_residual.result (flat_map (links_from w) nodes) _ _ _ _ c.from_residual.ensures.0
+    fails_on_the_way c.from_residual.result (flat_map (links_from w) nodes) _ _ _ _ c.from_residual.ensures.0
     (texts_fail (links_from w) nodes c.loop-from.from _ _ _ there c.loop-from.invariant.0 b) (grind (arith, common_steps)) (grind (arith, common_steps))
 
 pub loop-from-preserved : goal.loop-from-preserved

@@ -6,8 +6,7 @@ use Rattle.topology.specs.Network.{neighbours_of}
 use Rattle.world.specs.StateText.{link_line}
 use Rattle.byte_streams.specs.Streams.{Takes, TakesABeginning}
 use Rattle.configuration.specs.ConfigurationView.{world_of}
-use Rattle.byte_streams.proofs.Writing.{fails_within}
-use Rattle.world.proofs.Writing.{texts_fail, texts_go_on}
+use Rattle.world.proofs.Writing.{fails_on_the_way, texts_fail, texts_go_on}
 use Rattle.world.proofs.simulation.state.write_links_from.Goals as goal
 
 pub write_link-requires-clause-to_in : goal.write_link-requires-clause-to_in
@@ -29,7 +28,7 @@ returns-in_err-write_link g c =
     let failed = c.in_err-write_link.ensures in
     let b : TakesABeginning (link_line w c.args.from (get_or near c.loop-to.to-index 0)) (g.W.Sink.taken c.loop-to.sink) (g.W.Sink.taken c.write_link.new.sink) =
     rw same at failed.0 in
-    fails_within c.from_residual.result (flat_map (link_line w c.args.from) near) _ _ _ _ c.from_residual.ensures.0
+    fails_on_the_way c.from_residual.result (flat_map (link_line w c.args.from) near) _ _ _ _ c.from_residual.ensures.0
     (texts_fail (link_line w c.args.from) near c.loop-to.to-index _ _ _ there c.loop-to.invariant.0 b) (grind (arith, common_steps)) (grind (arith, common_steps))
 
 pub loop-to-preserved : goal.loop-to-preserved

@@ -8,8 +8,7 @@ use Rattle.run_model.specs.World.{site}
 use Rattle.world.specs.StateText.{node_line}
 use Rattle.byte_streams.specs.Streams.{Takes, TakesABeginning}
 use Rattle.configuration.specs.ConfigurationView.{world_of}
-use Rattle.byte_streams.proofs.Writing.{fails_within}
-use Rattle.world.proofs.Writing.{texts_fail, texts_go_on, number_at, all_numbers}
+use Rattle.world.proofs.Writing.{fails_on_the_way, texts_fail, texts_go_on, number_at, all_numbers}
 use Rattle.world.proofs.simulation.state.write_nodes.Goals as goal
 
 pub returns-in_err-write_all : goal.returns-in_err-write_all
@@ -25,7 +24,7 @@ returns-in_err-write_all g c =
     ∙ ap (node_line w) (sym (number_at w.net.nodes c.loop-v.v below)) in
     let failed = c.in_err-write_all.ensures in
     let b : TakesABeginning (node_line w (get_or nodes c.loop-v.v 0)) (g.W.Sink.taken c.loop-v.sink) (g.W.Sink.taken c.write_all.new.sink) = rw line at failed.0 in
-    fails_within c.from_residual.result (flat_map (node_line w) nodes) _ _ _ _ c.from_residual.ensures.0
+    fails_on_the_way c.from_residual.result (flat_map (node_line w) nodes) _ _ _ _ c.from_residual.ensures.0
     (texts_fail (node_line w) nodes c.loop-v.v _ _ _ there c.loop-v.invariant.0 b) (grind (arith, common_steps)) (grind (arith, common_steps))
 
 pub loop-v-preserved : goal.loop-v-preserved

@@ -2,8 +2,7 @@ use Rattle.std.proofs.Common.{◌++◌, arith}
 use Rattle.std.proofs.lemmas.Grind.{common_steps}
 use Rattle.world.specs.StateText.{node_lines, link_lines, counts_line, sweeps_line}
 use Rattle.configuration.specs.ConfigurationView.{world_of}
-use Rattle.byte_streams.proofs.Writing.{fails_within}
-use Rattle.world.proofs.Writing.{then_beginning, beginning_of_more, writes_then}
+use Rattle.world.proofs.Writing.{fails_on_the_way, then_beginning, beginning_of_more, writes_then}
 use Rattle.world.proofs.simulation.state.write_state.Goals as goal
 
 pub returns-in_err-write_links : goal.returns-in_err-write_links
@@ -12,7 +11,7 @@ returns-in_err-write_links g c =
     let behind = counts_line w ++ sweeps_line w c.args.sweeps in
     let nodes = c.in_ok-write_nodes.ensures in
     let failed = c.in_err-write_links.ensures in
-    fails_within c.from_residual-in_err-write_links.result (node_lines w ++ (link_lines w ++ behind)) _ _ _ _ c.from_residual-in_err-write_links.ensures.0
+    fails_on_the_way c.from_residual-in_err-write_links.result (node_lines w ++ (link_lines w ++ behind)) _ _ _ _ c.from_residual-in_err-write_links.ensures.0
     (then_beginning (node_lines w) (link_lines w ++ behind) _ _ _ nodes.0 (beginning_of_more (link_lines w) behind _ _ failed.0))
     (grind (arith, common_steps)) (grind (arith, common_steps))
 
@@ -23,7 +22,7 @@ returns-in_err-write_counts g c =
     let nodes = c.in_ok-write_nodes.ensures in
     let links = c.in_ok-write_links.ensures in
     let failed = c.in_err-write_counts.ensures in
-    fails_within c.from_residual-in_err-write_counts.result (node_lines w ++ (link_lines w ++ (counts_line w ++ behind))) _ _ _ _
+    fails_on_the_way c.from_residual-in_err-write_counts.result (node_lines w ++ (link_lines w ++ (counts_line w ++ behind))) _ _ _ _
     c.from_residual-in_err-write_counts.ensures.0
     (then_beginning (node_lines w) (link_lines w ++ (counts_line w ++ behind)) _ _ _ nodes.0
     (then_beginning (link_lines w) (counts_line w ++ behind) _ _ _ links.0 (beginning_of_more (counts_line w) behind _ _ failed.0)))

@@ -1,8 +1,8 @@
-use Rattle.std.proofs.Common.{◌≡◌, ◌∙◌, ap, ◌+◌, ◌-◌, ◌≤◌, ◌<◌, length, take, drop, arith}
+use Rattle.std.proofs.Common.{◌≡◌, ◌∙◌, ap, ◌+◌, ◌-◌, ◌≤◌, ◌<◌, length, take, arith}
 use Rattle.std.proofs.lemmas.Grind.{common_steps}
+use Rattle.std.proofs.Math.Seq.{take-length}
 use Rattle.world.specs.Simulating.{longest_text}
-use Rattle.byte_streams.proofs.Reading.{given, piece_read}
-use Rattle.world.proofs.SimulatedPieces.{read_more, all_read, beginning_of_text}
+use Rattle.world.proofs.SimulatedPieces.{beginning_of_text}
 use Rattle.world.proofs.simulation.under_way.Simulation.read_all.Goals as goal
 
 pub returns-in_default-clause-text : goal.returns-in_default-clause-text
@@ -23,10 +23,11 @@ returns-then-count-eq0-clause-text g c =
     let so_far = c.loop-count.invariant.5 start bytes before told h in
     let n = longest_text - c.loop-count.left in
     let room : 0 < length c.read.new.buffer = grind (arith, common_steps) in
-    let gives = given c.in-Ok.count _ _ c.read.new.buffer (drop n bytes) so_far.1 c.in-Ok.ensures.reads.1 in
-    let ended = all_read bytes _ n so_far.0 (gives.3 c.if-count-eq0.true room) (rw c.if-count-eq0.true at gives.2) in
+    let gives = rw c.if-count-eq0.true at c.in-Ok.ensures.reads.1 in
+    let ended = c.reading_in_pieces.ensures.end bytes n _ _ c.read.new.buffer (so_far.0, so_far.1) gives room in
     let short : length bytes ≤ longest_text = omega (arith, ended.1) in
-    (ended.0, short, rw ended.2 at so_far.2)
+    let all : take n bytes ≡ bytes = ap (λ k. take k bytes) ended.1 ∙ take-length bytes in
+    (ended.0, short, rw all at so_far.2)
 
 pub returns-in_default-take-clause-text : goal.returns-in_default-take-clause-text
 returns-in_default-take-clause-text g c =
@@ -34,14 +35,14 @@ returns-in_default-take-clause-text g c =
     let so_far = c.loop-count.invariant.5 start bytes before told h in
     let n = longest_text - c.loop-count.left in
     let count = c.in-Ok.count in
-    let gives = given count _ _ c.read.new.buffer (drop n bytes) so_far.1 c.in-Ok.ensures.reads.1 in
+    let gives = c.in-Ok.ensures.reads.1 in
     let few : c.min.result ≤ count = grind (arith, common_steps) in
     let fewer : n + c.min.result ≤ n + count = omega (arith, few) in
-    let bytes_are = piece_read bytes c.read.new.buffer n count c.min.result gives.1 few in
+    let bytes_are = c.reading_in_pieces.ensures.next bytes n count c.min.result _ _ c.read.new.buffer (so_far.0, so_far.1) gives few in
     record {
       count = n + count;
-      read = read_more bytes _ n count so_far.0 gives.0 gives.2;
-      written = beginning_of_text start bytes (n + c.min.result) (n + count) before _ fewer
+      read = c.reading_in_pieces.ensures.more bytes n count _ _ c.read.new.buffer (so_far.0, so_far.1) gives;
+      written = beginning_of_text c.any_cutting.ensures start bytes (n + c.min.result) (n + count) before _ fewer
           (rw bytes_are at (c.in_default-take.ensures.text start (take n bytes) before so_far.2));
     }
 
@@ -51,13 +52,13 @@ returns-then-count-left-clause-text g c =
     let so_far = c.loop-count.invariant.5 start bytes before told h in
     let n = longest_text - c.loop-count.left in
     let count = c.in-Ok.count in
-    let gives = given count _ _ c.read.new.buffer (drop n bytes) so_far.1 c.in-Ok.ensures.reads.1 in
+    let gives = c.in-Ok.ensures.reads.1 in
     let few : c.min.result ≤ count = grind (arith, common_steps) in
     let all : n + c.min.result ≡ longest_text = grind (arith, common_steps) in
-    let bytes_are = piece_read bytes c.read.new.buffer n count c.min.result gives.1 few ∙ ap (λ k. take k bytes) all in
+    let bytes_are = c.reading_in_pieces.ensures.next bytes n count c.min.result _ _ c.read.new.buffer (so_far.0, so_far.1) gives few ∙ ap (λ k. take k bytes) all in
     record {
       count = n + count;
-      read = read_more bytes _ n count so_far.0 gives.0 gives.2;
+      read = c.reading_in_pieces.ensures.more bytes n count _ _ c.read.new.buffer (so_far.0, so_far.1) gives;
       long = grind (arith, common_steps);
       written = rw bytes_are at (c.in-Ok-take.ensures.text start (take n bytes) before so_far.2).has_run.written;
     }
@@ -76,8 +77,8 @@ loop-count-preserved g c =
       grind (arith, common_steps),
       λ start bytes before told h.
           let so_far = c.loop-count.invariant.5 start bytes before told h in
-          let gives = given count _ _ c.read.new.buffer (drop n bytes) so_far.1 c.in-Ok.ensures.reads.1 in
-          let read = rw next at (read_more bytes _ n count so_far.0 gives.0 gives.2) in
-          let bytes_are = piece_read bytes c.read.new.buffer n count c.min.result gives.1 few ∙ ap (λ k. take k bytes) all in
+          let gives = c.in-Ok.ensures.reads.1 in
+          let read = rw next at (c.reading_in_pieces.ensures.more bytes n count _ _ c.read.new.buffer (so_far.0, so_far.1) gives) in
+          let bytes_are = c.reading_in_pieces.ensures.next bytes n count c.min.result _ _ c.read.new.buffer (so_far.0, so_far.1) gives few ∙ ap (λ k. take k bytes) all in
           (read.0, read.1, rw bytes_are at (c.in-Ok-take.ensures.text start (take n bytes) before so_far.2)),
     )

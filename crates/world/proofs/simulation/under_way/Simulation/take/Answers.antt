@@ -4,8 +4,7 @@ use Rattle.std.proofs.lemmas.List.{append-nil, take-append-drop}
 use Rattle.std.specs.Option.{option_to_list}
 use Rattle.events_text.specs.EventsText.{ended_lines}
 use Rattle.events_text.specs.declared.text_line.TextLine.TheVariants.{Told}
-use Rattle.byte_streams.proofs.Reading.{piece_more}
-use Rattle.world.proofs.SimulatedBytes.{half_line_grows, line_ends, line_fails, fails_on}
+use Rattle.world.proofs.SimulatedBytes.{piece_more, half_line_grows, line_ends, line_fails, fails_on}
 use Rattle.world.proofs.simulation.under_way.Simulation.take.Goals as goal
 
 -- a usual line
@@ -46,7 +45,7 @@ returns-in_err-line-clause-text g c =
     ∙ sym (append_assoc bytes (take at piece ++ more) behind) ∙ ap (λ xs. xs ++ behind) (sym (append_assoc bytes (take at piece) more)) in
     let runs = rw (← c.self.view_is) at c.in_err-line.ensures.runs start (ended_lines so_far) before in
     fails_on c.from_residual.result start (bytes ++ piece) before _ _ c.from_residual.ensures.0
-    (rw all (line_fails start so_far more behind (Told c.in-Some.event) before _ _ _ c.self.inside.reader now (c.in-Some.ensures.line so_far now.stands)
+    (rw all (line_fails c.any_cutting.ensures start so_far more behind (Told c.in-Some.event) before _ _ _ c.self.inside.reader now (c.in-Some.ensures.line so_far now.stands)
     runs))
 
 -- any other line
@@ -87,7 +86,7 @@ returns-in_err-rare_line-clause-text g c =
     ap (λ xs. bytes ++ xs) (sym (take-append-drop (at + used) piece) ∙ ap (λ xs. xs ++ behind) (piece_more piece at used))
     ∙ sym (append_assoc bytes (take at piece ++ more) behind) ∙ ap (λ xs. xs ++ behind) (sym (append_assoc bytes (take at piece) more)) in
     fails_on c.from_residual-in_err-rare_line.result start (bytes ++ piece) before _ _ c.from_residual-in_err-rare_line.ensures.0
-    (rw all (line_fails start so_far more behind c.in-Some-line.line before _ _ _ c.take-taken.new.self now ends
+    (rw all (line_fails c.any_cutting.ensures start so_far more behind c.in-Some-line.line before _ _ _ c.take-taken.new.self now ends
     (c.in_err-rare_line.ensures.runs start (ended_lines so_far) before)))
 
 pub returns-in_default-line-clause-text : goal.returns-in_default-line-clause-text
