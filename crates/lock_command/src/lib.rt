@@ -35,6 +35,3 @@ mod work;
 pub use lock::Request;
 pub use notice::{Cause, Fate, Notice, NoticeLine};
 pub use status_line::StatusLine;
-
-#[cfg(test)]
-mod tests;

@@ -36,10 +36,8 @@ pub mod up;
 pub use clock::Stopwatch;
 pub use doors::UnixDoors;
 pub use fault::{NodeFault, Refusal};
+pub use lines::{CapacityLine, End, EndLine};
 pub use node::NodeWords;
 pub use paths::NodePaths;
 pub use pipe::UnixPipe;
 pub use up::{NodeProgram, OwnProgram};
-
-#[cfg(test)]
-mod tests;

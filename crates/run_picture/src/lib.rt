@@ -38,6 +38,3 @@ pub use spelling::spelled;
 pub use strip::Strip;
 pub use tour::first_visits;
 pub use window::Window;
-
-#[cfg(test)]
-mod tests;

@@ -57,25 +57,47 @@ where
         Err(status) => return status,
     };
     let done = match matches.subcommand() {
-        Some(("bound", given)) => run_bound(rt, given),
-        Some(("simulate", given)) => run_simulate(rt, given),
-        Some(("lock", given)) => locking::lock(rt, given),
-        Some(("status", given)) => locking::status(rt, given),
-        Some(("scramble", given)) => damage::scramble(rt, given),
-        Some(("cut", given)) => damage::cut(rt, given),
-        Some(("junk", given)) => damage::junk(rt, given),
-        Some(("node", given)) => run_node(rt, given),
-        Some(("up", given)) => run_up(rt, given),
-        Some(("schedule", given)) => run_schedule(rt, given),
-        Some(("measure", given)) => run_measure(rt, given, on_terminal),
-        Some(("draw", given)) => run_draw(rt, given),
-        Some(("threads", given)) => run_threads(rt, given, on_terminal),
-        _ => Err(Refusal::Line),
+        Some((name, given)) => act(rt, name, given, on_terminal),
+        None => Err(Refusal::Line),
     };
     match done {
         Ok(status) => status,
         Err(Refusal::Line) => ExitCode::from(LINE_REFUSED),
         Err(Refusal::Fault(fault)) => fails(rt, fault, fault_status(ask_for_lock(words))),
+    }
+}
+
+/// Does what the words of a command say, and says with which status it is done.
+fn act<R>(rt: &R, name: &str, given: &ArgMatches, on_terminal: bool) -> Result<ExitCode, Refusal>
+where
+    R: Files<File = File>
+        + Net
+        + Clock
+        + Env
+        + Input
+        + Print
+        + Eprint
+        + Processes
+        + Threads
+        + Wait
+        + AllocGlobal
+        + Sync,
+{
+    match name {
+        "bound" => run_bound(rt, given),
+        "simulate" => run_simulate(rt, given),
+        "lock" => locking::lock(rt, given),
+        "status" => locking::status(rt, given),
+        "scramble" => damage::scramble(rt, given),
+        "cut" => damage::cut(rt, given),
+        "junk" => damage::junk(rt, given),
+        "node" => run_node(rt, given),
+        "up" => run_up(rt, given),
+        "schedule" => run_schedule(rt, given),
+        "measure" => run_measure(rt, given, on_terminal),
+        "draw" => run_draw(rt, given),
+        "threads" => run_threads(rt, given, on_terminal),
+        _ => Err(Refusal::Line),
     }
 }
 
@@ -165,26 +187,34 @@ pub fn fails<R: Eprint>(rt: &R, fault: Fault, status: u8) -> ExitCode
 
 /// What the program takes.
 fn command<'a>(alloc: Global) -> Result<Command<'a>, AllocError> {
-    Command::new(alloc, "tokentree")
+    let program = Command::new(alloc, "tokentree")
         .about(
             "A self-stabilising lock service: one token for a network of nodes, whatever state they start from",
         )
         .after_help(help::PROGRAM)
         .version(VERSION)
-        .subcommand_required(true)
-        .subcommand(bound_command(alloc)?)?
-        .subcommand(simulate_command(alloc)?)?
-        .subcommand(locking::lock_command(alloc)?)?
-        .subcommand(locking::status_command(alloc)?)?
-        .subcommand(damage::scramble_command(alloc)?)?
-        .subcommand(damage::cut_command(alloc)?)?
-        .subcommand(damage::junk_command(alloc)?)?
-        .subcommand(node_command(alloc)?)?
-        .subcommand(up_command(alloc)?)?
-        .subcommand(schedule_command(alloc)?)?
-        .subcommand(measure_command(alloc)?)?
-        .subcommand(draw_command(alloc)?)?
-        .subcommand(threads_command(alloc)?)
+        .subcommand_required(true);
+    let program = add(program, bound_command(alloc))?;
+    let program = add(program, simulate_command(alloc))?;
+    let program = add(program, locking::lock_command(alloc))?;
+    let program = add(program, locking::status_command(alloc))?;
+    let program = add(program, damage::scramble_command(alloc))?;
+    let program = add(program, damage::cut_command(alloc))?;
+    let program = add(program, damage::junk_command(alloc))?;
+    let program = add(program, node_command(alloc))?;
+    let program = add(program, up_command(alloc))?;
+    let program = add(program, schedule_command(alloc))?;
+    let program = add(program, measure_command(alloc))?;
+    let program = add(program, draw_command(alloc))?;
+    add(program, threads_command(alloc))
+}
+
+/// Adds a command, so that no program is held where one cannot be made.
+fn add<'a>(
+    program: Command<'a>,
+    command: Result<Command<'a>, AllocError>,
+) -> Result<Command<'a>, AllocError> {
+    program.subcommand(command?)
 }
 
 /// What `bound` takes.

@@ -114,17 +114,30 @@ pub fn run_measure<R: Files + Print + Eprint + Clock + AllocGlobal + Threads + S
 
 /// What `schedule` takes.
 pub fn schedule_command<'a>(alloc: Global) -> Result<Command<'a>, AllocError> {
-    Command::new(alloc, "schedule")
+    let command = Command::new(alloc, "schedule")
         .about("Prints a schedule for a network as an events text, which simulate reads")
         .after_help(help::SCHEDULE)
         .arg(file(alloc, "FILE", NETWORK_FILE))?
         .arg(option(alloc, SCRAMBLE, "SEED", SCRAMBLE_HELP))?
-        .arg(option(alloc, ROUNDS, "N", ROUNDS_HELP))?
-        .arg(option(alloc, RANDOM, "EVENTS", RANDOM_HELP).requires_arg("seed")?)?
-        .arg(of_random(option(alloc, SEED, "SEED", SEED_HELP))?)?
-        .arg(of_random(option(alloc, LOSS, "PERCENT", LOSS_HELP))?)?
-        .arg(of_random(flag(alloc, "clients", CLIENTS_HELP))?)?
-        .group(rounds_or_random(alloc)?)
+        .arg(option(alloc, ROUNDS, "N", ROUNDS_HELP))?;
+    let random = option(alloc, RANDOM, "EVENTS", RANDOM_HELP).requires_arg("seed");
+    let command = add(command, random)?;
+    let command = add(command, of_random(option(alloc, SEED, "SEED", SEED_HELP)))?;
+    let command = add(
+        command,
+        of_random(option(alloc, LOSS, "PERCENT", LOSS_HELP)),
+    )?;
+    let command = add(command, of_random(flag(alloc, "clients", CLIENTS_HELP)))?;
+    let turns = rounds_or_random(alloc)?;
+    command.group(turns)
+}
+
+/// Adds an argument, so that no command is held where one cannot be made.
+fn add<'a>(
+    command: Command<'a>,
+    arg: Result<Arg<'a>, AllocError>,
+) -> Result<Command<'a>, AllocError> {
+    command.arg(arg?)
 }
 
 /// An option that is given with `--random` alone. It conflicts with `--rounds`, beside which clap

@@ -1,9 +1,7 @@
 //! Nodes as processes: copies of this test program, which talk over sockets.
-use crate::fault::{NodeFault, Refusal};
-use crate::lines::{CapacityLine, End, EndLine};
-use crate::node::{self, NodeWords};
-use crate::paths::NodePaths;
-use crate::up::{self, NodeProgram};
+use node_process::{
+    CapacityLine, End, EndLine, NodeFault, NodePaths, NodeProgram, NodeWords, Refusal, node, up,
+};
 use pace::Manner;
 use std::alloc::Global;
 use std::io::{Read, Write};
@@ -68,7 +66,7 @@ fn command_of(alloc: Global, program: &PathBuf, dir: &str, id: u16) -> io::Resul
     let number = format!(in alloc; "{id}")?;
     let mut command = Command::new(alloc, program.as_path())?;
     command
-        .arg("tests::acts_as_a_node")?
+        .arg("nodes::acts_as_a_node")?
         .env("TOKENTREE_ID", number.as_str())?
         .env("TOKENTREE_DIR", dir)?;
     Ok(command)
@@ -370,7 +368,7 @@ fn keeper(rt: &HostRuntime, dir: &str) -> Result<Child, Fail> {
     let program = env::current_exe(rt)?;
     let mut command = Command::new(rt.alloc(), program.as_path())?;
     command
-        .arg("tests::acts_as_up")?
+        .arg("nodes::acts_as_up")?
         .env("TOKENTREE_UP", dir)?
         .stdin(Stdio::piped())
         .stdout(Stdio::piped());

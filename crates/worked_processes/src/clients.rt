@@ -1,5 +1,5 @@
 //! Copies of the test program as clients, against desks that follow a script.
-use crate::{Request, lock, status};
+use lock_command::{Request, lock, status};
 use std::io::{Read, Write};
 use std::os::unix::net::{UnixListener, UnixStream};
 use std::process::{Abort, Child, Command, Processes, Stdio};
@@ -87,7 +87,7 @@ fn client<R: Env + Files + Processes + AllocGlobal>(
     let program = env::current_exe(rt)?;
     let mut command = Command::new(rt.alloc(), program.as_path())?;
     command
-        .arg("tests::acts_as_a_client")?
+        .arg("clients::acts_as_a_client")?
         .env("LOCK_FOLDER", folder)?
         .env("LOCK_SECONDS", asked.seconds)?
         .env("LOCK_KEEPS", asked.keeps)?
@@ -345,7 +345,7 @@ fn outlives_who_started_it(rt: HostRuntime) -> Result<(), Fail> {
     let mut command = Command::new(rt.alloc(), "/bin/sh")?;
     command
         .arg("-c")?
-        .arg("\"$0\" tests::acts_as_a_client; exit 1")?
+        .arg("\"$0\" clients::acts_as_a_client; exit 1")?
         .arg(program.as_path())?
         .env("LOCK_FOLDER", folder)?
         .env("LOCK_SECONDS", "")?
@@ -388,7 +388,7 @@ fn tells_who_gave_no_answer(rt: HostRuntime) -> Result<(), Fail> {
     let program = env::current_exe(&rt)?;
     let mut command = Command::new(rt.alloc(), program.as_path())?;
     command
-        .arg("tests::acts_as_an_onlooker")?
+        .arg("clients::acts_as_an_onlooker")?
         .env("STATUS_FOLDER", folder)?
         .stdout(Stdio::piped());
     let onlooker = command.spawn(&rt)?;

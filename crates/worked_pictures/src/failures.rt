@@ -1,8 +1,11 @@
 //! Recordings whose source fails, and recordings where memory is refused.
-use super::*;
-use byte_streams::{Fused, Source};
+use crate::rows::FORGED;
+use byte_streams::{Fused, MemorySource, Source};
 use linked_list_allocator::LocalHeap;
-use std::alloc::Allocator;
+use run_picture::{Window, record};
+use std::alloc::{Allocator, Global};
+use std::test::Fail;
+use topology::Net;
 use world::simulation::SimFault;
 
 /// Two nodes, over links of one place.

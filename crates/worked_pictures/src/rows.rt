@@ -1,18 +1,16 @@
 //! Rows by hand on two nodes and on the square.
 ghost use Rattle.std.specs.Prelude.{◌<◌};
 
-use crate::{
+use byte_streams::MemorySource;
+use run_picture::{
     Before, Column, Drawing, Element, Mark, Recording, Window, draw, first_visits, record, spelled,
 };
-use byte_streams::MemorySource;
 use std::alloc::Global;
 use std::test::Fail;
 use topology::Net;
 
-mod failures;
-
 /// What a fault may leave of two nodes: a token at each, and each lends it.
-const FORGED: &str = "\
+pub const FORGED: &str = "\
 # a token at each
 harm own 0 0 none
 harm own 1 1 0

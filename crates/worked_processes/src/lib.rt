@@ -1,0 +1,9 @@
+//! Nodes and clients as processes: copies of the test program, which talk over sockets.
+//!
+//! Nothing but tests stands here, since a crate's tests prove all of that crate once more.
+#![tactic(auto)]
+
+#[cfg(test)]
+mod clients;
+#[cfg(test)]
+mod nodes;
