@@ -3,7 +3,7 @@ ghost use Rattle.std.specs.Prelude.{◌<◌};
 
 use byte_streams::MemorySource;
 use run_picture::{
-    Before, Column, Drawing, Element, Mark, Recording, Window, draw, first_visits, record, spelled,
+    Before, Drawing, Element, Mark, Recording, Window, draw, first_visits, record, spelled,
 };
 use std::alloc::Global;
 use std::test::Fail;
@@ -31,55 +31,94 @@ fn forged(alloc: Global, columns: usize, window: Window) -> Result<Recording, Fa
     Ok(record(alloc, &net, &mut source, columns, window)?)
 }
 
-/// The marks of the two nodes in a column.
-fn marks(column: Option<&Column>) -> Option<(Mark, Mark)> {
-    let column = column?;
-    Some((column.marks[0], column.marks[1]))
+/// What the recording of the forged tokens shows of its two nodes in a column; none where it has no
+/// such column.
+fn marks(alloc: Global, columns: usize, place: usize) -> Result<Option<(Mark, Mark)>, Fail>
+    requires { 0 < columns }
+{
+    let recording = forged(alloc, columns, Window::ALL)?;
+    let column = recording.strip().columns().get(place);
+    Ok(column.map(|column| (column.marks[0], column.marks[1])))
+}
+
+/// How many nodes are privileged and how many lend in a column, and whether damage came with it.
+fn counts(alloc: Global, columns: usize, place: usize) -> Result<Option<(usize, usize, bool)>, Fail>
+    requires { 0 < columns }
+{
+    let recording = forged(alloc, columns, Window::ALL)?;
+    let column = recording.strip().columns().get(place);
+    Ok(column.map(|column| (column.privileged, column.lending, column.damaged)))
+}
+
+/// How many columns a recording of the forged tokens has, of how many moments each, and how many
+/// events and refused lines there were.
+fn size(alloc: Global, columns: usize, window: Window) -> Result<(usize, u64, u64, u64), Fail>
+    requires { 0 < columns }
+{
+    let recording = forged(alloc, columns, window)?;
+    let strip = recording.strip();
+    Ok((
+        strip.columns().len(),
+        strip.width(),
+        recording.events(),
+        recording.refused(),
+    ))
 }
 
 #[test]
 fn a_column_is_a_moment(rt: HostRuntime) -> Result<(), Fail> {
-    let recording = forged(rt.alloc(), 9, Window::ALL)?;
-    let columns = recording.strip().columns();
-    assert_eq!(rt; columns.len(), 9);
-    assert_eq!(rt; recording.strip().width(), 1);
+    assert_eq!(rt; size(rt.alloc(), 9, Window::ALL)?, (9, 1, 8, 0));
     let lends = |ticket| Mark::Lending { ticket };
-    // At the start each distance is 2; then the root is as it should be, and then its child.
-    assert_eq!(rt; marks(columns.get(0)), Some((Mark::Wrong, Mark::Wrong)));
-    assert_eq!(rt; marks(columns.get(1)), Some((Mark::Settled, Mark::Wrong)));
-    assert_eq!(rt; marks(columns.get(2)), Some((Mark::Settled, Mark::Settled)));
-    assert_eq!(rt;
-        marks(columns.get(6)),
-        Some((Mark::Privileged, Mark::Privileged))
-    );
-    assert_eq!(rt; marks(columns.get(7)), Some((lends(5), Mark::Privileged)));
-    assert_eq!(rt; marks(columns.get(8)), Some((lends(5), lends(6))));
-    let counts = columns
-        .get(7)
-        .map(|column| (column.privileged, column.lending));
-    assert_eq!(rt; counts, Some((2, 1)));
-    let damaged = columns.get(0).map(|column| column.damaged);
-    assert_eq!(rt; damaged, Some(false));
-    let damaged = columns.get(8).map(|column| column.damaged);
-    assert_eq!(rt; damaged, Some(true));
+    let rows = [
+        // At the start each distance is 2; then the root is as it should be, and then its child.
+        (0, (Mark::Wrong, Mark::Wrong)),
+        (1, (Mark::Settled, Mark::Wrong)),
+        (2, (Mark::Settled, Mark::Settled)),
+        (6, (Mark::Privileged, Mark::Privileged)),
+        (7, (lends(5), Mark::Privileged)),
+        (8, (lends(5), lends(6))),
+    ];
+    for (place, want) in rows {
+        assert_eq!(rt;
+            marks(rt.alloc(), 9, place)?,
+            Some(want),
+            "in column {place}"
+        );
+    }
+    Ok(())
+}
+
+#[test]
+fn a_column_counts_tokens_and_loans(rt: HostRuntime) -> Result<(), Fail> {
+    for (place, want) in [(0, (0, 0, false)), (7, (2, 1, true)), (8, (2, 2, true))] {
+        assert_eq!(rt;
+            counts(rt.alloc(), 9, place)?,
+            Some(want),
+            "in column {place}"
+        );
+    }
     Ok(())
 }
 
 #[test]
 fn a_column_shows_the_worst_of_its_moments(rt: HostRuntime) -> Result<(), Fail> {
     // Nine moments in at most four columns: four, four and one.
-    let recording = forged(rt.alloc(), 4, Window::ALL)?;
-    let columns = recording.strip().columns();
-    assert_eq!(rt; columns.len(), 3);
-    assert_eq!(rt; recording.strip().width(), 4);
-    assert_eq!(rt; marks(columns.get(0)), Some((Mark::Wrong, Mark::Wrong)));
+    assert_eq!(rt; size(rt.alloc(), 4, Window::ALL)?, (3, 4, 8, 0));
     let five = Mark::Lending { ticket: 5 };
-    assert_eq!(rt; marks(columns.get(1)), Some((five, Mark::Privileged)));
+    let rows = [
+        (0, (Mark::Wrong, Mark::Wrong)),
+        (1, (five, Mark::Privileged)),
+    ];
+    for (place, want) in rows {
+        assert_eq!(rt;
+            marks(rt.alloc(), 4, place)?,
+            Some(want),
+            "in column {place}"
+        );
+    }
     // Nothing is shown of a run that has no sweep.
-    let empty = forged(rt.alloc(), 4, Window { from: 1, to: 9 })?;
-    assert_eq!(rt; empty.strip().columns().len(), 0);
-    assert_eq!(rt; empty.events(), 8);
-    assert_eq!(rt; empty.refused(), 0);
+    let (shown, _, events, refused) = size(rt.alloc(), 4, Window { from: 1, to: 9 })?;
+    assert_eq!(rt; (shown, events, refused), (0, 8, 0));
     Ok(())
 }
 
@@ -94,6 +133,12 @@ fn swept(alloc: Global, window: Window) -> Result<Recording, Fail> {
     Ok(record(alloc, &net, &mut source, 20, window)?)
 }
 
+/// What was before the first moment that a recording of two sweeps shows, and how many it shows.
+fn before(alloc: Global, window: Window) -> Result<(Before, usize), Fail> {
+    let recording = swept(alloc, window)?;
+    Ok((recording.before(), recording.strip().columns().len()))
+}
+
 #[test]
 fn what_was_before_the_first_moment_shown(rt: HostRuntime) -> Result<(), Fail> {
     // Sweeps end behind the events 6 and 12, and the run has 13.
@@ -103,11 +148,11 @@ fn what_was_before_the_first_moment_shown(rt: HostRuntime) -> Result<(), Fail> {
         (1, 1, 6, 0, 6),
         (2, 9, 12, 1, 2),
     ] {
-        let recording = swept(rt.alloc(), Window { from, to })?;
-        let before = Before { events, sweeps };
-        assert_eq!(rt; recording.before(), before, "from {from} to {to}");
-        let columns = recording.strip().columns();
-        assert_eq!(rt; columns.len(), moments, "from {from} to {to}");
+        assert_eq!(rt;
+            before(rt.alloc(), Window { from, to })?,
+            (Before { events, sweeps }, moments),
+            "from {from} to {to}"
+        );
     }
     Ok(())
 }
@@ -138,14 +183,18 @@ fn a_text_is_escaped(rt: HostRuntime) -> Result<(), Fail> {
     Ok(())
 }
 
-#[test]
-fn the_lanes_are_drawn(rt: HostRuntime) -> Result<(), Fail> {
-    let alloc = rt.alloc();
+/// The picture of the forged tokens.
+fn drawn(alloc: Global) -> Result<String, Fail> {
     let net = Net::make(alloc, 2, 0, 1, 0, &[(0, 1)])?;
     let recording = forged(alloc, 1200, Window::ALL)?;
     let drawing = draw(alloc, &net, &recording)?;
     let bytes = spelled(alloc, &drawing)?;
-    let text = std::str::from_utf8(bytes.as_slice())?;
+    Ok(String::from_str(alloc, std::str::from_utf8(bytes.as_slice())?)?)
+}
+
+#[test]
+fn the_lanes_are_drawn(rt: HostRuntime) -> Result<(), Fail> {
+    let text = drawn(rt.alloc())?;
     // Columns are 24 wide from 142 on, and lanes 32 high from 176 on: node 0 lends from event 7 on,
     // node 1 from event 8 on. The curves have their 0 at 328, and a node is 24 high: node 0 is
     // privileged from event 4 on, node 1 from event 6 on.

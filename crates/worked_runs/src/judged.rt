@@ -169,16 +169,23 @@ fn each_refusal_has_its_name(rt: HostRuntime) -> Result<(), Fail> {
     all_answer(&rt, &rows)
 }
 
+/// At how many tallies a judge of two nodes looks when it is made, at each event of a round, and at
+/// damage behind it; none where an event is refused.
+fn looks(alloc: Global) -> Result<Vec<Option<u32>>, Fail> {
+    let net = net_of(alloc, 2, 0, &[(0, 1)])?;
+    let mut judge = Judge::new(start(alloc, &net)?);
+    let mut events = events_of(alloc, ROUND)?;
+    events.push(JUNK)?;
+    let mut looks = vec![in alloc; Some(judge.looked())]?;
+    for event in &events {
+        looks.push(looked(&mut judge, event))?;
+    }
+    Ok(looks)
+}
+
 #[test]
 fn a_step_looks_at_two_tallies_except_where_a_sweep_ends(rt: HostRuntime) -> Result<(), Fail> {
-    let net = net_of(rt.alloc(), 2, 0, &[(0, 1)])?;
-    let mut judge = Judge::new(start(rt.alloc(), &net)?);
-    assert_eq!(rt; judge.looked(), 0);
-    let looks = [0, 0, 0, 2, 0, 2, 0, 4, 0, 2];
-    let round = events_of(rt.alloc(), ROUND)?;
-    for (event, looks) in round.iter().zip(&looks) {
-        assert_eq!(rt; looked(&mut judge, event), Some(*looks));
-    }
-    assert_eq!(rt; looked(&mut judge, &JUNK), Some(2));
+    let want = [0, 0, 0, 0, 2, 0, 2, 0, 4, 0, 2, 2].map(Some);
+    assert_eq!(rt; looks(rt.alloc())?.as_slice(), want.as_slice());
     Ok(())
 }

@@ -44,16 +44,23 @@ fn a_world_is_shown_as_far_as_there_is_room(rt: HostRuntime) -> Result<(), Fail>
     Ok(())
 }
 
+/// What is shown of a world behind the event of each line; nothing where one of them is refused.
+fn shown_behind(alloc: Global, net: &Net, lines: &[&str]) -> Result<MemorySink, Fail> {
+    let mut world = start(alloc, net)?;
+    let mut sink = MemorySink::new(alloc, ROOM)?;
+    if all_happen(&mut world, lines) {
+        show(&world, 0, &mut sink)?;
+    }
+    Ok(sink)
+}
+
 #[test]
 fn links_stand_by_source_and_then_destination(rt: HostRuntime) -> Result<(), Fail> {
     let net = Net::make(rt.alloc(), 3, 2, 4, 0, &[(2, 1), (0, 2)])?;
-    let mut world = start(rt.alloc(), &net)?;
     let lines = [
         "send 2 0", "send 2 1", "send 2 1", "send 1 2", "send 1 2", "send 1 2",
     ];
-    assert!(rt; all_happen(&mut world, &lines));
-    let mut sink = MemorySink::new(rt.alloc(), ROOM)?;
-    show(&world, 0, &mut sink)?;
+    let sink = shown_behind(rt.alloc(), &net, &lines)?;
     // 4(4+1) + 4(3+1) + 48 * 2 * 2 + 1
     let want = "\
 node 0 distance 3 parent none token no lent none waiting 0
