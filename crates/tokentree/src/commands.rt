@@ -8,12 +8,13 @@ ghost use Rattle.clap.specs.declared.error.kind.ErrorKind.TheVariants.{OutOfMemo
 use crate::draw_words::{draw_command, run_draw};
 use crate::experiment_words::{measure_command, run_measure, run_schedule, schedule_command};
 use crate::fault_line::FaultLine;
+use crate::grammar::{command_of, flag, place};
 use crate::node_commands::{node_command, run_node, run_up, up_command};
 use crate::threads_words::{run_threads, threads_command};
 use crate::words::{Refusal, word};
 use crate::{damage, help, locking};
 use clap::error::ErrorKind;
-use clap::{Arg, ArgAction, ArgMatches, Command};
+use clap::{ArgMatches, Command};
 use std::alloc::{AllocError, Global};
 use std::convert::AsStr;
 use std::fs::File;
@@ -219,38 +220,31 @@ fn add<'a>(
 
 /// What `bound` takes.
 fn bound_command<'a>(alloc: Global) -> Result<Command<'a>, AllocError> {
-    Command::new(alloc, "bound")
-        .about(
-            "Shows a network's numbers, distances and parents, and after how many sweeps its lock works from any state",
-        )
-        .after_help(help::BOUND)
-        .arg(file(alloc, "FILE", NETWORK_FILE))?
-        .arg(sharp(alloc))
-}
-
-/// The flag by which `bound` shows one more line.
-fn sharp<'a>(alloc: Global) -> Arg<'a> {
-    Arg::new(alloc, "sharp")
-        .long("sharp")
-        .action(ArgAction::SetTrue)
-        .help("Show the bound in which the capacity has no part, too")
+    command_of(
+        alloc,
+        "bound",
+        "Shows a network's numbers, distances and parents, and after how many sweeps its lock works from any state",
+        help::BOUND,
+        &[
+            place("FILE", NETWORK_FILE),
+            flag(
+                "sharp",
+                "Show the bound in which the capacity has no part, too",
+            ),
+        ],
+    )
 }
 
 /// What `simulate` takes.
 fn simulate_command<'a>(alloc: Global) -> Result<Command<'a>, AllocError> {
-    Command::new(alloc, "simulate")
-        .about(
-            "Lets a list of events happen on a network, tells which are refused, and shows the state they lead to",
-        )
-        .after_help(help::SIMULATE)
-        .arg(file(alloc, "FILE", NETWORK_FILE))?
-        .arg(file(alloc, "EVENTS", "The events text, or - for standard input"))
-}
-
-/// A file, or another word, as an argument that must be given.
-pub fn file<'a>(alloc: Global, name: &'a str, help: &'a str) -> Arg<'a> {
-    Arg::new(alloc, name)
-        .required(true)
-        .action(ArgAction::Set)
-        .help(help)
+    command_of(
+        alloc,
+        "simulate",
+        "Lets a list of events happen on a network, tells which are refused, and shows the state they lead to",
+        help::SIMULATE,
+        &[
+            place("FILE", NETWORK_FILE),
+            place("EVENTS", "The events text, or - for standard input"),
+        ],
+    )
 }

@@ -2,8 +2,9 @@
 ghost use Rattle.std.specs.Prelude.{◌≡◌, IfOk, IfErr};
 ghost use Rattle.std.specs.Process.{exit_status};
 
-use crate::commands::{NETWORK_FILE, file};
+use crate::commands::NETWORK_FILE;
 use crate::damage_help;
+use crate::grammar::{command_of, place};
 use crate::path_fault_line::PathFaultLine;
 use crate::words::{Number, Refusal, given_number, word};
 use clap::{ArgMatches, Command};
@@ -89,29 +90,44 @@ fn status<R: Eprint>(rt: &R, done: Result<ExitCode, PathFault>) -> ExitCode
 
 /// What `scramble` takes.
 pub fn scramble_command<'a>(alloc: Global) -> Result<Command<'a>, AllocError> {
-    Command::new(alloc, "scramble")
-        .about("Writes a node's state file as a fault may leave it: with any values in range")
-        .after_help(damage_help::SCRAMBLE)
-        .arg(file(alloc, "FILE", NETWORK_FILE))?
-        .arg(file(alloc, "ID", "The node, by its id"))?
-        .arg(file(alloc, "PATH", "The state file, which is written in place"))?
-        .arg(file(alloc, "SEED", "What is drawn from: 0 to 4294967295"))
+    command_of(
+        alloc,
+        "scramble",
+        "Writes a node's state file as a fault may leave it: with any values in range",
+        damage_help::SCRAMBLE,
+        &[
+            place("FILE", NETWORK_FILE),
+            place("ID", "The node, by its id"),
+            place("PATH", "The state file, which is written in place"),
+            place("SEED", "What is drawn from: 0 to 4294967295"),
+        ],
+    )
 }
 
 /// What `cut` takes.
 pub fn cut_command<'a>(alloc: Global) -> Result<Command<'a>, AllocError> {
-    Command::new(alloc, "cut")
-        .about("Shortens a file to its first bytes, as a write that broke off leaves it")
-        .after_help(damage_help::CUT)
-        .arg(file(alloc, "PATH", "The file"))?
-        .arg(file(alloc, "LENGTH", "How many bytes it keeps: 0 to 1000000"))
+    command_of(
+        alloc,
+        "cut",
+        "Shortens a file to its first bytes, as a write that broke off leaves it",
+        damage_help::CUT,
+        &[
+            place("PATH", "The file"),
+            place("LENGTH", "How many bytes it keeps: 0 to 1000000"),
+        ],
+    )
 }
 
 /// What `junk` takes.
 pub fn junk_command<'a>(alloc: Global) -> Result<Command<'a>, AllocError> {
-    Command::new(alloc, "junk")
-        .about("Prints lines that mean nothing, for whatever reads lines")
-        .after_help(damage_help::JUNK)
-        .arg(file(alloc, "SEED", "What is drawn from: 0 to 4294967295"))?
-        .arg(file(alloc, "LINES", "How many lines: 0 to 1000000"))
+    command_of(
+        alloc,
+        "junk",
+        "Prints lines that mean nothing, for whatever reads lines",
+        damage_help::JUNK,
+        &[
+            place("SEED", "What is drawn from: 0 to 4294967295"),
+            place("LINES", "How many lines: 0 to 1000000"),
+        ],
+    )
 }

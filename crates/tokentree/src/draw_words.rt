@@ -1,8 +1,9 @@
 //! The words of `draw`.
 
-use crate::commands::{NETWORK_FILE, file};
+use crate::commands::NETWORK_FILE;
+use crate::grammar::{command_of, option, place};
 use crate::words::{Number, Refusal, number_if_given, word};
-use clap::{Arg, ArgAction, ArgMatches, Command};
+use clap::{ArgMatches, Command};
 use run_picture::Window;
 use std::alloc::{AllocError, Global};
 use std::io::Input;
@@ -54,19 +55,19 @@ was refused; 3 done, and some lines were refused.";
 
 /// What `draw` takes.
 pub fn draw_command<'a>(alloc: Global) -> Result<Command<'a>, AllocError> {
-    Command::new(alloc, "draw")
-        .about("Draws a picture of a run: when which nodes were wrong, privileged or lending")
-        .after_help(HELP)
-        .arg(file(alloc, "FILE", NETWORK_FILE))?
-        .arg(file(alloc, "EVENTS", "The events text, or - for standard input"))?
-        .arg(option(alloc, "columns", "N", "The most columns, 1 to 1200"))?
-        .arg(option(
-            alloc,
-            "from",
-            "SWEEP",
-            "Begin where as many sweeps have ended",
-        ))?
-        .arg(option(alloc, "to", "SWEEP", "End where more sweeps have ended"))
+    command_of(
+        alloc,
+        "draw",
+        "Draws a picture of a run: when which nodes were wrong, privileged or lending",
+        HELP,
+        &[
+            place("FILE", NETWORK_FILE),
+            place("EVENTS", "The events text, or - for standard input"),
+            option("columns", "N", "The most columns, 1 to 1200"),
+            option("from", "SWEEP", "Begin where as many sweeps have ended"),
+            option("to", "SWEEP", "End where more sweeps have ended"),
+        ],
+    )
 }
 
 /// Draws, as the words say.
@@ -89,13 +90,4 @@ pub fn run_draw<R: Files + Input + Print + Eprint + AllocGlobal>(
         Some(columns) => columns as u16,
     };
     Ok(run(rt, network, events, Wanted { columns, window })?)
-}
-
-/// A number, as an option.
-fn option<'a>(alloc: Global, name: &'a str, value: &'a str, help: &'a str) -> Arg<'a> {
-    Arg::new(alloc, name)
-        .long(name)
-        .value_name(value)
-        .action(ArgAction::Set)
-        .help(help)
 }

@@ -1,8 +1,9 @@
 //! The words of `schedule` and `measure`.
-use crate::commands::{NETWORK_FILE, file};
+use crate::commands::NETWORK_FILE;
+use crate::grammar::{Parameter, command_of, flag, option, option_or, place};
 use crate::help;
 use crate::words::{Number, Refusal, given_number, number_if_given, word};
-use clap::{Arg, ArgAction, ArgGroup, ArgMatches, Command};
+use clap::{ArgGroup, ArgMatches, Command};
 use experiments::Scheduler;
 use schedules::Chances;
 use std::alloc::{AllocError, Global};
@@ -114,36 +115,29 @@ pub fn run_measure<R: Files + Print + Eprint + Clock + AllocGlobal + Threads + S
 
 /// What `schedule` takes.
 pub fn schedule_command<'a>(alloc: Global) -> Result<Command<'a>, AllocError> {
-    let command = Command::new(alloc, "schedule")
-        .about("Prints a schedule for a network as an events text, which simulate reads")
-        .after_help(help::SCHEDULE)
-        .arg(file(alloc, "FILE", NETWORK_FILE))?
-        .arg(option(alloc, SCRAMBLE, "SEED", SCRAMBLE_HELP))?
-        .arg(option(alloc, ROUNDS, "N", ROUNDS_HELP))?;
-    let random = option(alloc, RANDOM, "EVENTS", RANDOM_HELP).requires_arg("seed");
-    let command = add(command, random)?;
-    let command = add(command, of_random(option(alloc, SEED, "SEED", SEED_HELP)))?;
-    let command = add(
-        command,
-        of_random(option(alloc, LOSS, "PERCENT", LOSS_HELP)),
+    let command = command_of(
+        alloc,
+        "schedule",
+        "Prints a schedule for a network as an events text, which simulate reads",
+        help::SCHEDULE,
+        &[
+            place("FILE", NETWORK_FILE),
+            option(SCRAMBLE.id, "SEED", SCRAMBLE_HELP),
+            option(ROUNDS.id, "N", ROUNDS_HELP),
+            option(RANDOM.id, "EVENTS", RANDOM_HELP).with("seed"),
+            of_random(option(SEED.id, "SEED", SEED_HELP)),
+            of_random(option(LOSS.id, "PERCENT", LOSS_HELP)),
+            of_random(flag("clients", CLIENTS_HELP)),
+        ],
     )?;
-    let command = add(command, of_random(flag(alloc, "clients", CLIENTS_HELP)))?;
     let turns = rounds_or_random(alloc)?;
     command.group(turns)
 }
 
-/// Adds an argument, so that no command is held where one cannot be made.
-fn add<'a>(
-    command: Command<'a>,
-    arg: Result<Arg<'a>, AllocError>,
-) -> Result<Command<'a>, AllocError> {
-    command.arg(arg?)
-}
-
 /// An option that is given with `--random` alone. It conflicts with `--rounds`, beside which clap
 /// asks for no `--random`.
-fn of_random(arg: Arg<'_>) -> Result<Arg<'_>, AllocError> {
-    arg.requires_arg("random")?.conflicts_with("rounds")
+fn of_random(parameter: Parameter<'_>) -> Parameter<'_> {
+    parameter.with("random").without("rounds")
 }
 
 /// Either `--rounds` or `--random` is to be given.
@@ -172,33 +166,21 @@ const CLIENTS_HELP: &str = "Random steps of a fourth kind, too: a client asks, o
 
 /// What `measure` takes.
 pub fn measure_command<'a>(alloc: Global) -> Result<Command<'a>, AllocError> {
-    Command::new(alloc, "measure")
-        .about("Scrambles a network again and again, and shows after how many sweeps it worked")
-        .after_help(help::MEASURE)
-        .arg(file(alloc, "FILE", NETWORK_FILE))?
-        .arg(option(alloc, RUNS, "N", "How many runs, 1 to 1000000").default_value("1000"))?
-        .arg(option(alloc, SEED, "SEED", FIRST_SEED).default_value("0"))?
-        .arg(flag(alloc, "rounds", "Run by rounds, as where nothing is said"))?
-        .arg(flag(alloc, "random", "Run by steps that are drawn").conflicts_with("rounds")?)?
-        .arg(flag(alloc, "table", "Show a line for each run, too"))
+    command_of(
+        alloc,
+        "measure",
+        "Scrambles a network again and again, and shows after how many sweeps it worked",
+        help::MEASURE,
+        &[
+            place("FILE", NETWORK_FILE),
+            option_or(RUNS.id, "N", "1000", "How many runs, 1 to 1000000"),
+            option_or(SEED.id, "SEED", "0", FIRST_SEED),
+            flag("rounds", "Run by rounds, as where nothing is said"),
+            flag("random", "Run by steps that are drawn").without("rounds"),
+            flag("table", "Show a line for each run, too"),
+        ],
+    )
 }
 
 /// The help of the seed of `measure`.
 const FIRST_SEED: &str = "The first run's seed; each other run has the next one";
-
-/// An option with a number.
-fn option<'a>(alloc: Global, number: Number<'a>, value: &'a str, help: &'a str) -> Arg<'a> {
-    Arg::new(alloc, number.id)
-        .long(number.id)
-        .value_name(value)
-        .action(ArgAction::Set)
-        .help(help)
-}
-
-/// A flag.
-fn flag<'a>(alloc: Global, name: &'a str, help: &'a str) -> Arg<'a> {
-    Arg::new(alloc, name)
-        .long(name)
-        .action(ArgAction::SetTrue)
-        .help(help)
-}

@@ -1,8 +1,8 @@
 //! The words of the commands for those who use the lock.
-use crate::commands::file;
+use crate::grammar::{command_of, flag, hidden, option, place, places, rest};
 use crate::locking_help;
 use crate::words::{Number, Refusal, given_number, number_if_given, spelled, word};
-use clap::{Arg, ArgAction, ArgMatches, Command};
+use clap::{ArgMatches, Command};
 use lock_command::{Request, guard, lock, status};
 use std::alloc::{AllocError, Global};
 use std::io::Input;
@@ -74,52 +74,44 @@ pub fn status<R: Net + Files + Clock + Print + Eprint + AllocGlobal>(
 
 /// What `lock` takes.
 pub fn lock_command<'a>(alloc: Global) -> Result<Command<'a>, AllocError> {
-    Command::new(alloc, "lock")
-        .about("Runs a command while it holds the lock")
-        .after_help(locking_help::LOCK)
-        .arg(
-            Arg::new(alloc, "timeout")
-                .long("timeout")
-                .value_name("SECONDS")
-                .action(ArgAction::Set)
-                .help("Give up where the lock is not lent within this time: 0 to 65535 seconds"),
-        )?
-        .arg(
-            Arg::new(alloc, "keep")
-                .long("keep")
-                .action(ArgAction::SetTrue)
-                .help("Let the command run on where the lock is lost"),
-        )?
-        .arg(
+    command_of(
+        alloc,
+        "lock",
+        "Runs a command while it holds the lock",
+        locking_help::LOCK,
+        &[
+            option(TIMEOUT.id, "SECONDS", TIMEOUT_HELP),
+            flag("keep", "Let the command run on where the lock is lost"),
             // The program gives it to a copy of itself.
-            Arg::new(alloc, "guarded")
-                .long("guarded")
-                .action(ArgAction::SetTrue)
-                .hide(true),
-        )?
-        .arg(file(alloc, "DIR", FOLDER))?
-        .arg(file(alloc, "ID", "The node that is asked, by its id"))?
-        .arg(
-            Arg::new(alloc, "COMMAND")
-                .action(ArgAction::Append)
-                .num_args(0..)
-                .trailing_var_arg(true)
-                .help(
-                    "The command and its arguments; none to hold the lock until standard input ends",
-                ),
-        )
+            hidden("guarded"),
+            place("DIR", FOLDER),
+            place("ID", "The node that is asked, by its id"),
+            rest("COMMAND", COMMAND_HELP),
+        ],
+    )
 }
+
+/// The help of the time that `lock` waits.
+const TIMEOUT_HELP: &str =
+    "Give up where the lock is not lent within this time: 0 to 65535 seconds";
+
+/// The help of the command that `lock` runs.
+const COMMAND_HELP: &str =
+    "The command and its arguments; none to hold the lock until standard input ends";
 
 /// What `status` takes.
 pub fn status_command<'a>(alloc: Global) -> Result<Command<'a>, AllocError> {
-    Command::new(alloc, "status")
-        .about("Shows how nodes stand, and how many are privileged and lend")
-        .after_help(locking_help::STATUS)
-        .arg(file(alloc, "DIR", FOLDER))?
-        .arg(
-            Arg::new(alloc, "ID")
-                .action(ArgAction::Append)
-                .num_args(0..)
-                .help("The nodes, by their ids; none for each that has a socket in the folder"),
-        )
+    command_of(
+        alloc,
+        "status",
+        "Shows how nodes stand, and how many are privileged and lend",
+        locking_help::STATUS,
+        &[
+            place("DIR", FOLDER),
+            places(
+                "ID",
+                "The nodes, by their ids; none for each that has a socket in the folder",
+            ),
+        ],
+    )
 }

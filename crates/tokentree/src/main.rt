@@ -30,6 +30,7 @@ mod damage_help;
 mod draw_words;
 mod experiment_words;
 mod fault_line;
+mod grammar;
 mod help;
 mod locking;
 mod locking_help;

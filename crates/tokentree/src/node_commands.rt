@@ -2,10 +2,11 @@
 ghost use Rattle.std.specs.Prelude.{◌≡◌, ◌≤◌, IfOk, if◌then◌else◌, is_ok};
 ghost use Rattle.std.specs.Process.{exit_status};
 
-use crate::commands::{NETWORK_FILE, file};
+use crate::commands::NETWORK_FILE;
+use crate::grammar::{command_of, flag, option, place};
 use crate::help;
 use crate::words::{Number, Refusal, given_number, number_if_given, word};
-use clap::{Arg, ArgAction, ArgMatches, Command};
+use clap::{ArgMatches, Command};
 use node_process::{NodeFault, NodeWords, OwnProgram, Refusal as NodeRefusal, node, up};
 use pace::Manner;
 use std::alloc::{AllocError, Global};
@@ -41,67 +42,49 @@ const REPEAT: Number<'static> = Number {
 
 /// What `node` takes.
 pub fn node_command<'a>(alloc: Global) -> Result<Command<'a>, AllocError> {
-    Command::new(alloc, "node")
-        .about("Runs one node of a network as a process, until its stop file is there")
-        .after_help(help::NODE)
-        .arg(file(alloc, "FILE", NETWORK_FILE))?
-        .arg(file(alloc, "ID", "The node, 0 to nodes-1"))?
-        .arg(file(
-            alloc,
-            "DIR",
-            "The folder of the network's files and sockets",
-        ))?
-        .arg(hold(alloc))?
-        .arg(repeat(alloc))?
-        .arg(
-            Arg::new(alloc, "child")
-                .long("child")
-                .action(ArgAction::SetTrue)
-                .help("Name the node in each line, and end as standard input does, for `up`"),
-        )
+    command_of(
+        alloc,
+        "node",
+        "Runs one node of a network as a process, until its stop file is there",
+        help::NODE,
+        &[
+            place("FILE", NETWORK_FILE),
+            place("ID", "The node, 0 to nodes-1"),
+            place("DIR", FOLDER),
+            option(HOLD.id, "MICROSECONDS", HOLD_HELP),
+            option(REPEAT.id, "MICROSECONDS", REPEAT_HELP),
+            flag(
+                "child",
+                "Name the node in each line, and end as standard input does, for `up`",
+            ),
+        ],
+    )
 }
 
 /// What `up` takes.
 pub fn up_command<'a>(alloc: Global) -> Result<Command<'a>, AllocError> {
-    Command::new(alloc, "up")
-        .about("Runs all nodes of a network, and starts again what ends, until standard input ends")
-        .after_help(help::UP)
-        .arg(file(alloc, "FILE", NETWORK_FILE))?
-        .arg(file(
-            alloc,
-            "DIR",
-            "The folder of the network's files and sockets",
-        ))?
-        .arg(hold(alloc))?
-        .arg(repeat(alloc))
+    command_of(
+        alloc,
+        "up",
+        "Runs all nodes of a network, and starts again what ends, until standard input ends",
+        help::UP,
+        &[
+            place("FILE", NETWORK_FILE),
+            place("DIR", FOLDER),
+            option(HOLD.id, "MICROSECONDS", HOLD_HELP),
+            option(REPEAT.id, "MICROSECONDS", REPEAT_HELP),
+        ],
+    )
 }
+
+/// What the folder of a network is.
+const FOLDER: &str = "The folder of the network's files and sockets";
 
 /// How long a node keeps quiet news to itself.
-fn hold<'a>(alloc: Global) -> Arg<'a> {
-    option(
-        alloc,
-        "hold",
-        "How long quiet news waits, 0 to 2000 [default: 2000]",
-    )
-}
+const HOLD_HELP: &str = "How long quiet news waits, 0 to 2000 [default: 2000]";
 
 /// After what time a node sends a frame again.
-fn repeat<'a>(alloc: Global) -> Arg<'a> {
-    option(
-        alloc,
-        "repeat",
-        "When a frame is sent again, at most 100000 [default: 8000]",
-    )
-}
-
-/// A number of microseconds that may be given.
-fn option<'a>(alloc: Global, name: &'a str, help: &'a str) -> Arg<'a> {
-    Arg::new(alloc, name)
-        .long(name)
-        .value_name("MICROSECONDS")
-        .action(ArgAction::Set)
-        .help(help)
-}
+const REPEAT_HELP: &str = "When a frame is sent again, at most 100000 [default: 8000]";
 
 /// Does what `node` was given.
 pub fn run_node<R>(rt: &R, given: &ArgMatches) -> Result<ExitCode, Refusal>

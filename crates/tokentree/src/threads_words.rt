@@ -1,7 +1,8 @@
 //! The words of `threads`.
-use crate::commands::{NETWORK_FILE, file};
+use crate::commands::NETWORK_FILE;
+use crate::grammar::{command_of, option, place};
 use crate::words::{Number, Refusal, given_number, word};
-use clap::{Arg, ArgAction, ArgMatches, Command};
+use clap::{ArgMatches, Command};
 use std::alloc::{AllocError, Global};
 use std::process::ExitCode;
 use std::rt::Files;
@@ -45,28 +46,21 @@ command line was refused.";
 
 /// What `threads` takes.
 pub fn threads_command<'a>(alloc: Global) -> Result<Command<'a>, AllocError> {
-    Command::new(alloc, "threads")
-        .about(
-            "Runs each node of a network on a thread of its own, and shows the state they lead to",
-        )
-        .after_help(HELP)
-        .arg(file(alloc, "FILE", NETWORK_FILE))?
-        .arg(file(
-            alloc,
-            "TURNS",
-            "How many turns each node does, 1 to 1000000",
-        ))?
-        .arg(events(alloc))
+    command_of(
+        alloc,
+        "threads",
+        "Runs each node of a network on a thread of its own, and shows the state they lead to",
+        HELP,
+        &[
+            place("FILE", NETWORK_FILE),
+            place("TURNS", "How many turns each node does, 1 to 1000000"),
+            option("events", "PATH", EVENTS_HELP),
+        ],
+    )
 }
 
-/// The option by which `threads` writes what the nodes did to a file.
-fn events<'a>(alloc: Global) -> Arg<'a> {
-    Arg::new(alloc, "events")
-        .long("events")
-        .value_name("PATH")
-        .action(ArgAction::Set)
-        .help("Write what the nodes did to this file, as an events text")
-}
+/// The help of the option by which `threads` writes what the nodes did to a file.
+const EVENTS_HELP: &str = "Write what the nodes did to this file, as an events text";
 
 /// Does what the words say, and tells its progress where that is wanted.
 pub fn run_threads<R: Files + Clock + Print + Eprint + Threads + Wait + Sync + AllocGlobal>(
