@@ -3,6 +3,23 @@ use super::*;
 use std::process::Command;
 use std::test::Fail;
 
+/// Whether the file, cut to a length, is what is wanted.
+fn leaves(rt: &HostRuntime, length: u32, want: &str) -> Result<bool, Fail> {
+    let is_cut = run(rt, "cut.state", length) == Ok(ExitCode::SUCCESS);
+    Ok(is_cut && fs::read(rt, "cut.state")?.as_slice() == want.as_bytes())
+}
+
+/// Whether a path names nothing that can be cut.
+fn is_refused(rt: &HostRuntime, path: &str) -> bool {
+    run(rt, path, 0).err() == Some(PathFault::Unwritable(path))
+}
+
+/// Makes a named pipe.
+fn make_pipe(rt: &HostRuntime, path: &str) -> Result<bool, Fail> {
+    let made = Command::new(rt.alloc(), "mkfifo")?.arg(path)?.status(rt)?;
+    Ok(made.success())
+}
+
 #[test]
 fn cuts_a_longer_file_alone(rt: HostRuntime) -> Result<(), Fail> {
     fs::write(&rt, "cut.state", "abcdef")?;
@@ -16,11 +33,9 @@ fn cuts_a_longer_file_alone(rt: HostRuntime) -> Result<(), Fail> {
         (0, ""),
         (0, ""),
     ] {
-        assert_eq!(rt; run(&rt, "cut.state", length), Ok(ExitCode::SUCCESS));
-        assert_eq!(rt;
-            fs::read(&rt, "cut.state")?.as_slice(),
-            want.as_bytes(),
-            "to {length}"
+        assert!(rt;
+            leaves(&rt, length, want)?,
+            "{want:?} where it is cut to {length}"
         );
     }
     fs::remove_file(&rt, "cut.state")?;
@@ -30,10 +45,7 @@ fn cuts_a_longer_file_alone(rt: HostRuntime) -> Result<(), Fail> {
 /// None of these is waited for, and an absent file is not made.
 #[test]
 fn other_things_are_not_cut(rt: HostRuntime) -> Result<(), Fail> {
-    let made = Command::new(rt.alloc(), "mkfifo")?
-        .arg("pipe.cut")?
-        .status(&rt)?;
-    assert!(rt; made.success());
+    assert!(rt; make_pipe(&rt, "pipe.cut")?);
     for path in [
         ".",
         "absent.cut",
@@ -42,11 +54,7 @@ fn other_things_are_not_cut(rt: HostRuntime) -> Result<(), Fail> {
         "pipe.cut",
         "/dev/null",
     ] {
-        assert_eq!(rt;
-            run(&rt, path, 0).err(),
-            Some(PathFault::Unwritable(path)),
-            "{path:?}"
-        );
+        assert!(rt; is_refused(&rt, path), "{path:?}");
     }
     assert!(rt; !fs::exists(&rt, "absent.cut")?);
     fs::remove_file(&rt, "pipe.cut")?;

@@ -62,6 +62,14 @@ fn draws_nothing_of_events_that_cannot_be_read(rt: HostRuntime) -> Result<(), Fa
     Ok(())
 }
 
+/// The fault of a picture that has too little room, where its front fills that.
+fn fault_with_room(alloc: Global, whole: &str, room: usize) -> Result<Option<Fault>, Fail> {
+    let source = MemorySource::new(b"tick 0\n", 5);
+    let (answer, text) = drawn(alloc, source, room)?;
+    let is_front = text.len() == room && whole.as_bytes().starts_with(text.as_bytes());
+    Ok(if is_front { answer.err() } else { None })
+}
+
 #[test]
 fn a_picture_without_room_is_a_fault(rt: HostRuntime) -> Result<(), Fail> {
     let source = MemorySource::new(b"tick 0\n", 5);
@@ -69,11 +77,8 @@ fn a_picture_without_room_is_a_fault(rt: HostRuntime) -> Result<(), Fail> {
     assert_eq!(rt; answer, Ok(ExitCode::SUCCESS));
     let all_but_one = whole.len().saturating_sub(1);
     for room in [0, 1, 300, 4000, all_but_one] {
-        let source = MemorySource::new(b"tick 0\n", 5);
-        let (answer, text) = drawn(rt.alloc(), source, room)?;
-        assert_eq!(rt; answer, Err(Fault::Output), "with room for {room} bytes");
-        assert_eq!(rt; text.len(), room);
-        assert!(rt; whole.as_bytes().starts_with(text.as_bytes()));
+        let fault = fault_with_room(rt.alloc(), whole.as_str(), room)?;
+        assert_eq!(rt; fault, Some(Fault::Output), "with room for {room} bytes");
     }
     Ok(())
 }

@@ -25,6 +25,11 @@ fn writes_the_scrambled_state(rt: HostRuntime) -> Result<(), Fail> {
     Ok(())
 }
 
+/// The fault of a scramble, if it has one.
+fn fault_of<'a>(rt: &HostRuntime, network: &str, id: u16, path: &'a str) -> Option<PathFault<'a>> {
+    run(rt, network, id, path, 7).err()
+}
+
 #[test]
 fn looks_at_the_network_then_the_node_then_the_file(rt: HostRuntime) -> Result<(), Fail> {
     fs::write(&rt, "net.toml", TWO_NODES)?;
@@ -50,7 +55,7 @@ fn looks_at_the_network_then_the_node_then_the_file(rt: HostRuntime) -> Result<(
         ),
         ("net.toml", 1, "no/one", PathFault::Unwritable("no/one")),
     ] {
-        let fault = run(&rt, network, id, path, 7).err();
+        let fault = fault_of(&rt, network, id, path);
         assert_eq!(rt; fault, Some(want), "node {id} of {network:?} in {path:?}");
     }
     assert_eq!(rt; fs::read(&rt, "net.toml")?.as_slice(), TWO_NODES.as_bytes());
