@@ -184,11 +184,20 @@ fn a_text_is_escaped(rt: HostRuntime) -> Result<(), Fail> {
 }
 
 /// The picture of the forged tokens.
-fn drawn(alloc: Global) -> Result<String, Fail> {
+fn picture(alloc: Global) -> Result<Drawing, Fail> {
     let net = Net::make(alloc, 2, 0, 1, 0, &[(0, 1)])?;
     let recording = forged(alloc, 1200, Window::ALL)?;
-    let drawing = draw(alloc, &net, &recording)?;
-    let bytes = spelled(alloc, &drawing)?;
+    Ok(draw(alloc, &net, &recording)?)
+}
+
+/// The text of a picture.
+fn bytes_of(alloc: Global, drawing: &Drawing) -> Result<Vec<u8>, Fail> {
+    Ok(spelled(alloc, drawing)?)
+}
+
+/// The text of the picture of the forged tokens.
+fn drawn(alloc: Global) -> Result<String, Fail> {
+    let bytes = bytes_of(alloc, &picture(alloc)?)?;
     Ok(String::from_str(alloc, std::str::from_utf8(bytes.as_slice())?)?)
 }
 

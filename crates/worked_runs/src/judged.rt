@@ -2,8 +2,7 @@
 //! text, a line each.
 use crate::texts::{FORGED, ROUND, round_of};
 use crate::worlds::{event_of, net_of, start, step, told};
-use link_model::Item;
-use run_model::{Event, EventFault, Harm};
+use run_model::{Event, EventFault};
 use std::alloc::{AllocFailed, Allocator, Global};
 use std::process::Abort;
 use std::test::Fail;
@@ -15,13 +14,6 @@ mod memory;
 mod parts;
 mod replay;
 mod three_rounds;
-
-/// An item that no node sent.
-const JUNK: Event = Event::Damage(Harm::Item {
-    from: 0,
-    to: 1,
-    item: Item::Noise,
-});
 
 /// Distance, parent, and whether it is privileged, of the far one of two nodes.
 fn far<A: Allocator + Copy>(world: &World<A>) -> Option<(u16, Option<u16>, bool)> {
@@ -169,23 +161,32 @@ fn each_refusal_has_its_name(rt: HostRuntime) -> Result<(), Fail> {
     all_answer(&rt, &rows)
 }
 
-/// At how many tallies a judge of two nodes looks when it is made, at each event of a round, and at
-/// damage behind it; none where an event is refused.
-fn looks(alloc: Global) -> Result<Vec<Option<u32>>, Fail> {
+/// A judge of two nodes.
+fn judge_of_two(alloc: Global) -> Result<Judge, Fail> {
     let net = net_of(alloc, 2, 0, &[(0, 1)])?;
-    let mut judge = Judge::new(start(alloc, &net)?);
-    let mut events = events_of(alloc, ROUND)?;
-    events.push(JUNK)?;
-    let mut looks = vec![in alloc; Some(judge.looked())]?;
-    for event in &events {
-        looks.push(looked(&mut judge, event))?;
+    Ok(Judge::new(start(alloc, &net)?))
+}
+
+/// At how many tallies a judge of two nodes looks at each of the first eleven events of a text; none
+/// where it is refused or not there.
+fn looks(alloc: Global, text: &str) -> Result<[Option<u32>; 11], Fail> {
+    let events = events_of(alloc, text)?;
+    let mut judge = judge_of_two(alloc)?;
+    let mut looks = [None; 11];
+    for (look, event) in looks.iter_mut().zip(&events) {
+        *look = looked(&mut judge, event);
     }
     Ok(looks)
 }
 
 #[test]
 fn a_step_looks_at_two_tallies_except_where_a_sweep_ends(rt: HostRuntime) -> Result<(), Fail> {
-    let want = [0, 0, 0, 0, 2, 0, 2, 0, 4, 0, 2, 2].map(Some);
-    assert_eq!(rt; looks(rt.alloc())?.as_slice(), want.as_slice());
+    assert_eq!(rt; judge_of_two(rt.alloc())?.looked(), 0);
+    let text = format!(in rt.alloc(); "{ROUND}harm junk 0 1\n")?;
+    let want = [0, 0, 0, 2, 0, 2, 0, 4, 0, 2, 2].map(Some);
+    assert_eq!(rt;
+        looks(rt.alloc(), text.as_str())?.as_slice(),
+        want.as_slice()
+    );
     Ok(())
 }

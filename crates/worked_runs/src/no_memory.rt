@@ -88,6 +88,14 @@ fn show<A: Allocator + Copy>(world: &World<A>, sink: &mut MemorySink<A>) -> Resu
     state_text(world, 5, sink)
 }
 
+/// Whether a world answers each change as it is told, and is shown as it is then.
+fn is_shown_behind_changes<A: Allocator + Copy>(
+    world: &mut World<A>,
+    sink: &mut MemorySink<A>,
+) -> bool {
+    all_answered(world) && show(world, sink) == Ok(()) && sink.taken() == SHOWN.as_bytes()
+}
+
 #[test]
 fn a_world_changes_its_edges_and_is_shown_without_memory(rt: HostRuntime) -> Result<(), Fail> {
     let net = square(rt.alloc())?;
@@ -95,11 +103,10 @@ fn a_world_changes_its_edges_and_is_shown_without_memory(rt: HostRuntime) -> Res
     let mut world = with_a_spare(&heap, &net)?;
     let mut sink = MemorySink::new(&heap, SHOWN.len())?;
     let full = fill(rt.alloc(), &heap)?;
-    assert_eq!(rt; heap.free(), 0);
-    assert!(rt; all_answered(&mut world));
-    assert_eq!(rt; show(&world, &mut sink), Ok(()));
-    assert_eq!(rt; sink.taken(), SHOWN.as_bytes());
+    let free = heap.free();
+    let is_shown = is_shown_behind_changes(&mut world, &mut sink);
     drop(full);
+    assert_eq!(rt; (free, is_shown), (0, true));
     Ok(())
 }
 
@@ -109,9 +116,9 @@ fn a_judge_sees_edges_change_without_memory(rt: HostRuntime) -> Result<(), Fail>
     let heap = LocalHeap::new(rt.alloc(), 65536)?;
     let world = with_a_spare(&heap, &net)?;
     let full = fill(rt.alloc(), &heap)?;
-    assert_eq!(rt; heap.free(), 0);
-    assert!(rt; all_judged(world));
+    let free = heap.free();
+    let is_judged = all_judged(world);
     drop(full);
-    assert_eq!(rt; heap.used(), 0);
+    assert_eq!(rt; (free, is_judged, heap.used()), (0, true, 0));
     Ok(())
 }

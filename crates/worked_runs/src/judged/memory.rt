@@ -44,6 +44,26 @@ fn a_world_takes_no_memory(rt: HostRuntime) -> Result<(), Fail> {
     Ok(())
 }
 
+/// Judges a round and some events of a world that has filled its heap with what else fits: how much
+/// is free, the sweeps and the refusals of the round, whether all events happen, and how many lend.
+fn judged_without_memory(
+    alloc: Global,
+    heap: &LocalHeap,
+    world: World<&LocalHeap>,
+    round: &[Event],
+    events: &[Event],
+) -> Result<(usize, u64, u64, bool, usize), Fail> {
+    let taken = fill(alloc, heap)?;
+    let free = heap.free();
+    let report = judged(world, round);
+    let (sweeps, refused) = (report.sweeps, report.refused);
+    let mut judge = Judge::new(report.world);
+    let happened = all_happen(&mut judge, events);
+    let lending = judge.into_world().lending();
+    drop(taken);
+    Ok((free, sweeps, refused, happened, lending))
+}
+
 #[test]
 fn each_growth_of_a_world_may_be_refused_and_judging_takes_none(
     rt: HostRuntime,
@@ -55,16 +75,9 @@ fn each_growth_of_a_world_may_be_refused_and_judging_takes_none(
         let heap = LocalHeap::new(rt.alloc(), units * 16)?;
         let made = start(&heap, &net);
         if let Ok(world) = made {
-            assert!(rt; units > 40);
-            let taken = fill(rt.alloc(), &heap)?;
-            assert_eq!(rt; heap.free(), 0);
-            let report = judged(world, &round);
-            assert_eq!(rt; (report.sweeps, report.refused), (1, 0));
-            let mut judge = Judge::new(report.world);
-            assert!(rt; all_happen(&mut judge, &events));
-            assert_eq!(rt; judge.into_world().lending(), 1);
-            drop(taken);
-            assert_eq!(rt; heap.used(), 0);
+            let found = judged_without_memory(rt.alloc(), &heap, world, &round, &events)?;
+            assert_eq!(rt; found, (0, 1, 0, true, 1));
+            assert_eq!(rt; (units > 40, heap.used()), (true, 0));
             return Ok(());
         }
         assert_eq!(rt; heap.used(), 0);

@@ -45,12 +45,12 @@ fn a_world_is_taken_apart_and_put_together_without_memory(rt: HostRuntime) -> Re
     let heap = LocalHeap::new(rt.alloc(), 16384)?;
     let world = start(&heap, &net)?;
     let full = fill(rt.alloc(), &heap)?;
-    assert_eq!(rt; heap.free(), 0);
+    let free = heap.free();
     let (world, well) = three_rounds(world, &round);
-    assert!(rt; well);
-    assert_eq!(rt; far(&world), Some((1, Some(0), true)));
+    let far = far(&world);
     drop(world);
     drop(full);
-    assert_eq!(rt; heap.used(), 0);
+    assert_eq!(rt; (free, well, heap.used()), (0, true, 0));
+    assert_eq!(rt; far, Some((1, Some(0), true)));
     Ok(())
 }
