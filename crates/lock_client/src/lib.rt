@@ -21,11 +21,13 @@
 
 mod answer;
 mod client;
+mod ends;
 pub mod laws;
 mod lines;
 mod outcome;
 
 pub use answer::Answer;
 pub use client::{Deed, Event, LockClient, Stage};
+pub use ends::{UNKNOWN_STATUS, command_end, spawn_end};
 pub use lines::{AnswerReader, spelled};
 pub use outcome::{CommandEnd, Outcome};

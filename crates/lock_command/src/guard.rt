@@ -1,8 +1,7 @@
 //! `lock` as its users start it: guarded against being killed.
 use crate::lock;
 use crate::lock::Request;
-use crate::work::command_end;
-use lock_client::Outcome;
+use lock_client::{Outcome, command_end};
 use std::alloc::Global;
 use std::io::Input;
 use std::net::Net;

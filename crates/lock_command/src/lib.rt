@@ -4,8 +4,8 @@
 //! [`lock::run`] connects to a node's desk, asks for the lock, runs a command while the node lends
 //! it, and gives it back. What it does next, whatever happens, is decided by a
 //! [`LockClient`](lock_client::LockClient); here are the socket, the command, the clock and the
-//! lines on standard error. [`status::run`] asks nodes for their status lines, and reads them with
-//! [`StatusLine::read`].
+//! lines on standard error. [`status::run`] asks nodes for their status lines, which
+//! [`StatusLine::read`](node_texts::StatusLine::read) reads.
 //!
 //! ```
 //! let request = Request { folder: "/run/lock", node: 1, seconds: Some(5), command, .. };
@@ -18,20 +18,15 @@
 #![tactic(auto)]
 
 mod desk;
-pub mod desk_file;
 pub mod guard;
-pub mod laws;
 pub mod lock;
 mod notice;
 mod reach;
-pub mod report;
 mod rest;
 mod session;
 pub mod status;
-mod status_line;
 mod waiter;
 mod work;
 
 pub use lock::Request;
 pub use notice::{Cause, Fate, Notice, NoticeLine};
-pub use status_line::StatusLine;

@@ -1,9 +1,9 @@
 //! `lock`: a command is run under the lock.
-use crate::desk_file::desk_path;
 use crate::notice::{Notice, NoticeLine};
 use crate::reach::reach;
 use crate::session::Session;
 use lock_client::Outcome;
+use node_texts::desk_file::desk_path;
 use std::io::Input;
 use std::net::Net;
 use std::process::Processes;

@@ -1,12 +1,12 @@
 //! `status`: how nodes stand.
-use crate::desk_file::{desk_path, node_of};
 use crate::notice::{Notice, NoticeLine};
-use crate::report::{NodeAnswer, all_answered, report};
-use crate::status_line::{MOST_BYTES, StatusLine, StatusReading};
 use byte_lines::HalfLine;
 use lock_client::spelled;
 use lock_desk::ClientLine;
 use mio::net::UnixStream;
+use node_texts::desk_file::{desk_path, node_of};
+use node_texts::{MOST_STATUS_BYTES, NodeAnswer, StatusLine, StatusReading};
+use node_texts::{all_answered, report};
 use std::alloc::Global;
 use std::io::{ErrorKind, Read, Write};
 use std::net::Net;
@@ -29,7 +29,7 @@ struct Asked {
     node: u16,
     /// The connection; none where there is none, or the line has come.
     stream: Option<UnixStream>,
-    half: HalfLine<MOST_BYTES>,
+    half: HalfLine<MOST_STATUS_BYTES>,
     line: Option<StatusLine>,
 }
 
@@ -39,7 +39,7 @@ struct Asked {
 /// node gave none, or there is none.
 ///
 /// What the nodes answer no contract can say; how their lines are read, and what is printed of
-/// them, [`StatusLine::read`] and `report` say.
+/// them, [`StatusLine::read`] and [`report`] say.
 pub fn run<R: Net + Files + Clock + Print + Eprint + AllocGlobal>(
     rt: &R,
     folder: &str,
@@ -172,13 +172,13 @@ fn ask<R: Net>(rt: &R, alloc: Global, folder: &str, node: u16) -> io::Result<Ask
 impl Asked {
     /// Reads what came; whether the line is still waited for.
     fn look(&mut self) -> bool {
-        let mut piece = [0u8; MOST_BYTES];
+        let mut piece = [0u8; MOST_STATUS_BYTES];
         let Some(stream) = &mut self.stream else {
             return false;
         };
         match stream.read(&mut piece) {
             Ok(0) => self.stream = None,
-            Ok(count) => self.take(&piece[..count.min(MOST_BYTES)]),
+            Ok(count) => self.take(&piece[..count.min(MOST_STATUS_BYTES)]),
             Err(error) => match error.kind() {
                 ErrorKind::WouldBlock | ErrorKind::Interrupted => {}
                 _ => self.stream = None,

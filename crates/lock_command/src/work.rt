@@ -1,18 +1,10 @@
 //! What is done under the lock: a command, or waiting for the end of standard input.
-ghost use Rattle.std.specs.Prelude.{◌≡◌, ◌≢◌};
-ghost use Rattle.lock_client.specs.declared.outcome.CommandEnd.TheVariants.{NotThere, CannotRun};
-ghost use Rattle.lock_command.specs.Ends.{command_end};
-
 use crate::notice::{Notice, NoticeLine};
-use lock_client::CommandEnd;
+use lock_client::{CommandEnd, UNKNOWN_STATUS, command_end};
 use std::alloc::Global;
 use std::io;
 use std::io::{ErrorKind, Input, Read};
-use std::os::unix::process::ExitStatusExt;
-use std::process::{Child, Command, ExitStatus, OpenProcess, Processes, Stdio};
-
-/// The status of a command whose own status cannot be known, as `env` has it for its failures.
-const UNKNOWN: u8 = 125;
+use std::process::{Child, Command, OpenProcess, Processes, Stdio};
 
 /// What is done under the lock.
 #[derive(Drop)]
@@ -41,28 +33,6 @@ pub fn start<R: Processes>(rt: &R, alloc: Global, words: &[&str]) -> io::Result<
         command.arg(*argument)?;
     }
     command.spawn(rt)
-}
-
-/// How it ended where it could not be started for this reason.
-pub fn spawn_end(kind: ErrorKind) -> CommandEnd
-    ensures not_there { kind ≡ ErrorKind.NotFound → result ≡ NotThere }
-    ensures cannot_run { kind ≢ ErrorKind.NotFound → result ≡ CannotRun }
-{
-    match kind {
-        ErrorKind::NotFound => CommandEnd::NotThere,
-        _ => CommandEnd::CannotRun,
-    }
-}
-
-/// How a command ended that the system says ended so.
-pub fn command_end(status: ExitStatus) -> CommandEnd
-    ensures { result ≡ command_end status }
-{
-    match (status.code(), status.signal()) {
-        (Some(code), _) => CommandEnd::Exited(code as u8),
-        (None, Some(signal)) => CommandEnd::Killed(signal as u8),
-        (None, None) => CommandEnd::Exited(UNKNOWN),
-    }
 }
 
 impl<P: OpenProcess + Drop> Work<P> {
@@ -117,7 +87,7 @@ fn look<R: Eprint, P: OpenProcess>(rt: &R, child: &mut Child<P>) -> Option<Comma
         // Whoever started us may have said that the ends of children are not kept.
         Err(_) => {
             let _ = rt.eprintln(NoticeLine(Notice::UnknownEnd));
-            Some(CommandEnd::Exited(UNKNOWN))
+            Some(CommandEnd::Exited(UNKNOWN_STATUS))
         }
     }
 }

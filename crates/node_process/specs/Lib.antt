@@ -1,3 +1,2 @@
 pub mod Children
-pub mod Names
 pub mod Texts

@@ -3,10 +3,10 @@ ghost use Rattle.std.specs.Prelude.{◌≡◌, ◌≢◌};
 ghost use Rattle.std.specs.declared.io.ErrorKind.TheVariants.{OutOfMemory};
 ghost use Rattle.node_process.specs.declared.fault.NodeFault.TheVariants.{Memory, System};
 
+use command_parts::Fault;
 use std::alloc::AllocError;
 use std::fmt;
 use std::io::ErrorKind;
-use subcommands::Fault;
 
 /// Why a node does not run. Printed within a [`Refusal`].
 #[derive(Clone, Copy, Debug, PartialEq, Eq, Drop)]

@@ -1,12 +1,11 @@
 //! The folder of a network: it is made where it is missing, and a node takes its place in it.
 ghost use Rattle.std.specs.Prelude.{◌≡◌, ◌<◌, ◌≤◌, ◌⊎◌, IfOk, IfErr, length};
-ghost use Rattle.node_process.specs.Names.{longest_socket_name};
+ghost use Rattle.node_texts.specs.Names.{longest_socket_name};
 ghost use Rattle.node_process.specs.declared.fault.NodeFault.TheVariants.{LongName, Memory};
 
-use crate::doors::UnixDoors;
 use crate::fault::NodeFault;
-use crate::paths::{LONGEST_SOCKET_NAME, NodePaths, links_name, longest_socket_name};
 use mio::net::UnixListener;
+use node_texts::{LONGEST_SOCKET_NAME, NodePaths, links_name, longest_socket_name};
 use std::alloc::Global;
 use std::fs::{DirBuilder, File, OpenOptions};
 use std::io::ErrorKind;

@@ -13,31 +13,21 @@
 //! `stop-U` (whoever makes it ends the node) and `lock-U` (held while it runs, so that no second
 //! process is node U there).
 //!
-//! What a turn of a node does stands in the crate `node_loop`, over doors; here are the doors over
-//! Unix sockets, and the files. What the system answers is not known to contracts, so the functions
-//! that call it say little; which name a file has, which line is printed, and when a network file
-//! means new edges are exact.
+//! What a turn of a node does stands in the crate `node_loop`, over doors; those over Unix sockets
+//! stand in `unix_doors`, the names of files and the lines that are printed in `node_texts`. What
+//! the system answers is not known to contracts, so the functions that call it say little; which
+//! refusal is told, which words a child is given, and when a network file means new edges are
+//! exact.
 //!
 //! The trap: whoever can open the sockets can take the lock. The folder is made so that only its
 //! owner can enter it.
 #![tactic(auto)]
 
-mod clock;
-mod doors;
 mod fault;
 mod folder;
-mod input;
-mod lines;
 pub mod node;
-mod paths;
-mod pipe;
 pub mod up;
 
-pub use clock::Stopwatch;
-pub use doors::UnixDoors;
 pub use fault::{NodeFault, Refusal};
-pub use lines::{CapacityLine, End, EndLine};
 pub use node::NodeWords;
-pub use paths::NodePaths;
-pub use pipe::UnixPipe;
 pub use up::{NodeProgram, OwnProgram};

@@ -2,14 +2,12 @@
 ghost use Rattle.std.specs.Prelude.{◌≡◌, ◌<◌, ◌≤◌, IfOk, IfErr};
 ghost use Rattle.node_process.specs.declared.fault.NodeFault.TheVariants.{NoNode};
 
-use crate::clock::Stopwatch;
-use crate::doors::UnixDoors;
 use crate::fault::{NodeFault, fault_of};
 use crate::folder::{addresses_of, check_names, hold_place, make_folder, make_sockets, remove};
-use crate::lines::{CapacityLine, Note, NoteLine, SOCKET_FRAMES};
-use crate::paths::NodePaths;
+use command_parts::read_network;
 use node_loop::NodeRun;
 use node_state_file::{FileStore, start};
+use node_texts::{CapacityLine, NodePaths, Note, NoteLine, SOCKET_FRAMES};
 use pace::Manner;
 use std::alloc::Global;
 use std::fs;
@@ -17,8 +15,8 @@ use std::fs::File;
 use std::io::Input;
 use std::net::Net as Sockets;
 use std::rt::{Clock, Files};
-use subcommands::read_network;
 use topology::Net;
+use unix_doors::{Stopwatch, UnixDoors};
 
 /// What the command line says.
 #[derive(Clone, Copy)]

@@ -7,10 +7,10 @@ ghost use Rattle.node_process.specs.declared.fault.NodeFault.TheVariants.{UpLock
 
 use crate::fault::NodeFault;
 use crate::folder::{check_names, hold_place, make_folder};
-use crate::input::{has_input_ended, watch_input};
-use crate::lines::{End, EndLine};
 use crate::node::warn_of_capacity;
+use command_parts::read_network;
 use mio::{Events, Poll, Token};
+use node_texts::{End, EndLine};
 use pace::Manner;
 use std::alloc::{AllocError, Global};
 use std::fs::File;
@@ -22,8 +22,8 @@ use std::process::{Child, Command, ExitStatus, OpenProcess, Processes, Stdio};
 use std::rt::{Clock, Env, Files};
 use std::time::Duration;
 use std::{env, io, thread};
-use subcommands::read_network;
 use topology::Net;
+use unix_doors::{has_input_ended, watch_input};
 
 /// How long one look at the processes takes at most, in milliseconds.
 const LOOK: u64 = 50;

@@ -1,4 +1,3 @@
 pub mod JunkLines
-pub mod EventLines
 pub mod FourParts
 pub mod Spaced

@@ -1,12 +1,6 @@
-pub mod NetworkFile
 pub mod Bound
-pub mod SimulationFault
-pub mod FaultText
 pub mod Simulated
 pub mod Damaged
 pub mod Cut
-pub mod PathFaultText
-pub mod EventText
 pub mod PlanFault
 pub mod Measured
-pub mod Threads

@@ -1,8 +1,8 @@
 -- As which fault of the program a schedule's fault is told.
 use Rattle.experiments.specs.declared.plan.PlanFault.{PlanFault}
 use Rattle.experiments.specs.declared.plan.PlanFault.TheVariants.{Memory as MemoryRefused, Sink}
-use Rattle.subcommands.specs.declared.fault.Fault.{Fault}
-use Rattle.subcommands.specs.declared.fault.Fault.TheVariants.{Memory, Output}
+use Rattle.command_parts.specs.declared.fault.Fault.{Fault}
+use Rattle.command_parts.specs.declared.fault.Fault.TheVariants.{Memory, Output}
 
 -- memory, or output that was refused
 abbrev pub fault_of : PlanFault → Fault

@@ -5,9 +5,9 @@ use Rattle.world.specs.declared.simulation.Summary.{Summary}
 use Rattle.world.specs.declared.simulation.SimFault.{SimFault}
 use Rattle.world.specs.Simulating.{IsSimulated}
 use Rattle.byte_streams.specs.Streams.{Rose}
-use Rattle.subcommands.specs.declared.fault.Fault.{Fault}
-use Rattle.subcommands.specs.declared.fault.Fault.TheVariants.{EventsUnreadable, Output}
-use Rattle.subcommands.specs.SimulationFault.{fault_of}
+use Rattle.command_parts.specs.declared.fault.Fault.{Fault}
+use Rattle.command_parts.specs.declared.fault.Fault.TheVariants.{EventsUnreadable, Output}
+use Rattle.command_parts.specs.SimulationFault.{fault_of}
 
 -- a simulation's fault is told as its own fault of the program; one that is done, as output that
 -- was refused

@@ -4,11 +4,10 @@ ghost use Rattle.std.specs.Prelude.{codes, decimal};
 ghost use Rattle.std.specs.Process.{exit_status};
 ghost use Rattle.subcommands.specs.Bound.{number_line, nodes_line, parent_word, bound_text};
 ghost use Rattle.subcommands.specs.Bound.{shown_text};
-ghost use Rattle.subcommands.specs.declared.fault.Fault.TheVariants.{Output};
+ghost use Rattle.command_parts.specs.declared.fault.Fault.TheVariants.{Output};
 ghost use Rattle.topology.specs.Tree.{distance_of, parent_of};
 
-use crate::fault::Fault;
-use crate::network_file::read_network;
+use command_parts::{Fault, read_network};
 use std::alloc::{AllocError, Global};
 use std::fmt::Write;
 use std::process::ExitCode;

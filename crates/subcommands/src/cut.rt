@@ -2,7 +2,7 @@
 ghost use Rattle.std.specs.Prelude.{◌≡◌, ℕ, List, length, take};
 ghost use Rattle.subcommands.specs.Cut.{IsCutTo};
 
-use crate::path_fault::PathFault;
+use command_parts::PathFault;
 use std::fs::{OpenFile, OpenOptions};
 use std::io::ErrorKind;
 use std::process::ExitCode;
@@ -40,6 +40,3 @@ fn cut_length(len: u64, most: u64) -> Option<u64>
 {
     if len > most { Some(most) } else { None }
 }
-
-#[cfg(test)]
-mod tests;

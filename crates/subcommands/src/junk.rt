@@ -3,10 +3,9 @@ ghost use Rattle.std.specs.Prelude.{◌≡◌, ◌+◌, ◌≤◌, IfErr, OnOk, 
 ghost use Rattle.byte_streams.specs.Streams.{Rose, Takes};
 ghost use Rattle.damage_tool.specs.Draws.{draw_junk};
 ghost use Rattle.subcommands.specs.Damaged.{junk_text, seeded};
-ghost use Rattle.subcommands.specs.declared.fault.Fault.TheVariants.{Output};
+ghost use Rattle.command_parts.specs.declared.fault.Fault.TheVariants.{Output};
 
-use crate::fault::Fault;
-use crate::streams::{Flush, WriteSink};
+use command_parts::{Fault, Flush, WriteSink};
 use damage_tool::junk_line;
 use rand_core::SeedableRng;
 use rand_pcg::Lcg64Xsh32;
@@ -29,7 +28,10 @@ pub fn run<R: Print + AllocGlobal>(rt: &R, seed: u32, lines: u32) -> Result<Exit
 /// Writes that many lines of junk, all of them.
 ///
 /// What is unproved: that the text stands in standard output, which tells no bytes.
-fn write_junk<W: Flush>(seed: u32, lines: u32, sink: &mut W) -> Result<(), Fault>
+///
+/// # Errors
+/// Where the sink fails.
+pub fn write_junk<W: Flush>(seed: u32, lines: u32, sink: &mut W) -> Result<(), Fault>
     ensures text { OnOk result
         (Takes (junk_text lines (seeded seed)) (W.taken sink.old) (W.taken sink.new)) }
     ensures written { OnOk result (W.unwritten sink.new ≡ []) }
@@ -56,6 +58,3 @@ fn write_line<W: Sink>(generator: &mut Lcg64Xsh32, sink: &mut W) -> Result<(), F
     line[count] = b'\n';
     write_all(sink, &line[..count + 1])
 }
-
-#[cfg(test)]
-mod tests;

@@ -2,7 +2,8 @@
 //!
 //! A command is a module here, and its `run` takes the words that it was given. What it works out
 //! stands in the crates below; here it is read from files and printed, and every way to fail is one
-//! [`Fault`], or a [`PathFault`] where a command changes a file.
+//! [`Fault`](command_parts::Fault), or a [`PathFault`](command_parts::PathFault) where a command
+//! changes a file. Two commands that show a run stand in `live_commands`.
 //!
 //! ```
 //! let status = bound::run(rt, "two-nodes.toml", false)?;               // prints eight lines
@@ -16,7 +17,6 @@
 //! let status = schedule::run(rt, "two-nodes.toml", Some(7), Turns::Rounds(100))?;
 //! // prints behind how many sweeps 1000 scrambled worlds served
 //! let status = measure::run(rt, "two-nodes.toml", &plan)?;
-//! let status = threads::run(rt, "two-nodes.toml", 100, None, false)?;  // 100 turns of each node
 //! ```
 //!
 //! The trap: what was printed before a fault stays printed; `simulate` tells the refused lines of
@@ -25,27 +25,8 @@
 
 pub mod bound;
 pub mod cut;
-pub mod draw;
-mod event_text;
-mod fault;
 pub mod junk;
 pub mod measure;
-mod network_file;
-mod number;
-mod path_fault;
-mod progress;
 pub mod schedule;
 pub mod scramble;
 pub mod simulate;
-mod streams;
-pub mod threads;
-
-pub use fault::Fault;
-pub use network_file::read_network;
-pub use number::decimal_number;
-pub use path_fault::PathFault;
-
-#[cfg(test)]
-mod shelf;
-#[cfg(test)]
-mod tests;

@@ -4,13 +4,11 @@ ghost use Rattle.std.specs.Prelude.{string_bytes, if◌then◌else◌};
 ghost use Rattle.std.specs.Process.{exit_status};
 ghost use Rattle.subcommands.specs.Measured.{has_served, run_line, served_sweeps, summary_line};
 ghost use Rattle.subcommands.specs.Measured.{shown_line, run_lines, totals, IsMeasured};
-ghost use Rattle.subcommands.specs.declared.fault.Fault.TheVariants.{Output};
+ghost use Rattle.command_parts.specs.declared.fault.Fault.TheVariants.{Output};
 ghost use Rattle.experiments.specs.Shown.{IsRunOf};
 
 use crate::bound::push_number;
-use crate::fault::Fault;
-use crate::network_file::read_network;
-use crate::progress::Progress;
+use command_parts::{Fault, Progress, read_network};
 use experiments::{Recovery, Scheduler, Summary, measure_run, summary_of};
 use rayon::prelude::*;
 use std::alloc::{AllocError, Global};
@@ -57,7 +55,10 @@ pub fn run<R: Files + Print + Eprint + Clock + AllocGlobal + Threads + Sync>(
 }
 
 /// How the command ends where all runs were made, by what printing their text answered.
-fn ending<E: Drop>(printed: Result<(), E>, all_served: bool) -> Result<ExitCode, Fault>
+///
+/// # Errors
+/// Where the text was not printed.
+pub fn ending<E: Drop>(printed: Result<(), E>, all_served: bool) -> Result<ExitCode, Fault>
     ensures printed { IsOk printed ↔ IsOk result }
     ensures ok { IfOk result (λ status. exit_status status ≡ (if all_served then 0 else 1)) }
     ensures err { IfErr result (λ fault. fault ≡ Output) }
@@ -108,7 +109,7 @@ fn measured<R: Eprint + Clock + Threads + Sync>(
 }
 
 /// Whether a run had as many sweeps as the sharper bound says, and served behind that many of them.
-fn has_served(run: &Recovery, bound: u32) -> bool
+pub fn has_served(run: &Recovery, bound: u32) -> bool
     ensures { result ≡ has_served run.now bound }
 {
     run.seen >= u64::from(bound) && run.sweeps <= u64::from(bound)
@@ -218,6 +219,3 @@ fn push_summary(text: &mut String, summary: Option<Summary>) -> Result<(), Alloc
         None => text.push_str("sweeps least none median none most none\n"),
     }
 }
-
-#[cfg(test)]
-mod tests;

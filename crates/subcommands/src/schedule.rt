@@ -3,12 +3,11 @@ ghost use Rattle.std.specs.Prelude.{◌≡◌, [], Err, OnOk};
 ghost use Rattle.std.specs.Io.Buffered.{writer_buffer, writer_contents};
 ghost use Rattle.byte_streams.specs.Streams.{Rose};
 ghost use Rattle.experiments.specs.Plan.{planned};
-ghost use Rattle.subcommands.specs.EventText.{GrowsByText};
-ghost use Rattle.subcommands.specs.declared.fault.Fault.TheVariants.{Output};
+ghost use Rattle.subcommands.specs.PlanFault.{fault_of};
+ghost use Rattle.command_parts.specs.EventText.{GrowsByText};
+ghost use Rattle.command_parts.specs.declared.fault.Fault.TheVariants.{Output};
 
-use crate::event_text::EventText;
-use crate::fault::Fault;
-use crate::network_file::read_network;
+use command_parts::{EventText, Fault, read_network};
 use experiments::{Order, PlanFault, give_plan};
 use rand_core::SeedableRng;
 use rand_pcg::Lcg64Xsh32;
@@ -37,7 +36,7 @@ pub enum Turns {
 
 impl Turns {
     /// The order, with the generator of its seed.
-    fn order(self) -> Order {
+    pub fn order(self) -> Order {
         match self {
             Turns::Rounds(count) => Order::Rounds {
                 count: u64::from(count),
@@ -56,21 +55,17 @@ impl Turns {
 }
 
 /// The generator of a seed.
-fn seeded(seed: u32) -> Lcg64Xsh32 {
+pub fn seeded(seed: u32) -> Lcg64Xsh32 {
     Lcg64Xsh32::seed_from_u64(u64::from(seed))
 }
 
-impl From<PlanFault> for Fault {
-    ghost use Rattle.std.specs.Prelude.{◌≡◌};
-    ghost use Rattle.subcommands.specs.PlanFault.{fault_of};
-
-    ghost from_gives = { λ p fault. fault ≡ fault_of p };
-
-    fn from(fault: PlanFault) -> Fault {
-        match fault {
-            PlanFault::Memory => Fault::Memory,
-            PlanFault::Sink => Fault::Output,
-        }
+/// The fault of a command whose schedule could not be given.
+fn fault_of(fault: PlanFault) -> Fault
+    ensures { result ≡ fault_of fault }
+{
+    match fault {
+        PlanFault::Memory => Fault::Memory,
+        PlanFault::Sink => Fault::Output,
     }
 }
 
@@ -105,7 +100,10 @@ pub fn run<R: Files + Print + AllocGlobal>(
 
 /// Writes the lines of a schedule's events, and sees to it that all of them are written: after a
 /// fault too, as far as it had come.
-fn write_plan<W: Write + Drop>(
+///
+/// # Errors
+/// Where memory runs out, or the writer fails.
+pub fn write_plan<W: Write + Drop>(
     alloc: Global,
     net: &Net,
     scramble: Option<Lcg64Xsh32>,
@@ -121,12 +119,9 @@ fn write_plan<W: Write + Drop>(
 {
     let given = give_plan(alloc, net, scramble, order, text);
     let flushed = text.flush();
-    given?;
-    match flushed {
-        Ok(()) => Ok(()),
-        Err(_) => Err(Fault::Output),
+    match (given, flushed) {
+        (Err(fault), _) => Err(fault_of(fault)),
+        (Ok(()), Err(_)) => Err(Fault::Output),
+        (Ok(()), Ok(())) => Ok(()),
     }
 }
-
-#[cfg(test)]
-mod tests;

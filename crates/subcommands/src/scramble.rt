@@ -2,11 +2,9 @@
 ghost use Rattle.std.specs.Prelude.{◌≡◌, ◌<◌, ◌≤◌, IfOk, IfErr, nat_lt, if◌then◌else◌, take};
 ghost use Rattle.node_state_file.specs.Stores.{Saves};
 ghost use Rattle.subcommands.specs.Damaged.{scrambled_file};
-ghost use Rattle.subcommands.specs.declared.fault.Fault.TheVariants.{NoNode, Memory};
+ghost use Rattle.command_parts.specs.declared.fault.Fault.TheVariants.{NoNode, Memory};
 
-use crate::fault::Fault;
-use crate::network_file::read_network;
-use crate::path_fault::PathFault;
+use command_parts::{Fault, PathFault, read_network};
 use damage_tool::scramble_node;
 use node_core::NodeState;
 use node_state_file::{FileStore, Store, StoreFault, encode};
@@ -39,7 +37,10 @@ pub fn run<'a, R: Files + AllocGlobal>(
 }
 
 /// Saves the state file of a scrambled node, and says what the store answers.
-fn save_scrambled<S: Store>(
+///
+/// # Errors
+/// Where the network has no such node, or memory runs out; then the store is not asked.
+pub fn save_scrambled<S: Store>(
     alloc: Global,
     net: &Net,
     id: u16,
@@ -81,6 +82,3 @@ fn write_scrambled(
     scramble_node(&mut node, net, &mut generator);
     Ok(encode(&node, net, bytes))
 }
-
-#[cfg(test)]
-mod tests;

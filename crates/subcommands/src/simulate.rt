@@ -4,9 +4,7 @@ ghost use Rattle.std.specs.Process.{exit_status};
 ghost use Rattle.world.specs.SimulatedText.{simulated_start};
 ghost use Rattle.subcommands.specs.Simulated.{IsCaused, IsDone};
 
-use crate::fault::Fault;
-use crate::network_file::read_network;
-use crate::streams::{Flush, ReadSource, WriteSink};
+use command_parts::{Fault, Flush, ReadSource, WriteSink, read_network};
 use std::alloc::Global;
 use std::fs;
 use std::io::{BufWriter, Input, Read, Write, writer};
@@ -64,7 +62,10 @@ fn print_simulation<R: Print + AllocGlobal, E: Read + Drop>(
 /// simulated, and that the text stands in standard output. Neither end tells its bytes, so of them
 /// the contract says when a fault comes; of ends that tell theirs it says all that [`simulate`]
 /// says.
-fn simulate_between<S: Source, W: Flush>(
+///
+/// # Errors
+/// Where memory runs out, the source fails or gives too many bytes, or the sink fails.
+pub fn simulate_between<S: Source, W: Flush>(
     alloc: Global,
     net: &Net,
     source: &mut S,
@@ -98,6 +99,3 @@ fn status(summary: &Summary) -> ExitCode
         ExitCode::from(LINES_REFUSED)
     }
 }
-
-#[cfg(test)]
-mod tests;

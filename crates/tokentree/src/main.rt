@@ -1,5 +1,5 @@
 //! `tokentree`, the program of a self-stabilising lock over a spanning tree. Each command is a
-//! subcommand, and a module of the crate `subcommands`.
+//! subcommand.
 //!
 //! ```text
 //! $ tokentree bound two-nodes.toml
@@ -16,7 +16,7 @@
 //! ```
 //!
 //! It keeps no state of its own and no lock by itself: what a command does stands in the crates
-//! below, this one reads its words and tells its faults.
+//! below, and what its words are in `command_line`.
 //!
 //! Statuses: 0 done, help too; 1 a file, memory or the output refused, with one line `tokentree:
 //! ..` on standard error; 2 the command line refused; 3 `simulate` is done, and refused some lines.
@@ -24,39 +24,14 @@
 //! own files.
 #![tactic(auto)]
 
-mod commands;
-mod damage;
-mod damage_help;
-mod draw_words;
-mod experiment_words;
-mod fault_line;
-mod grammar;
-mod help;
-mod locking;
-mod locking_help;
-mod node_commands;
-mod own_words;
-mod path_fault_line;
-mod threads_words;
-mod words;
-
+use command_line::run_words;
+use program_ends::own_words;
 use std::io::IsTerminal;
 use std::process::ExitCode;
 
 fn main(rt: HostRuntime) -> ExitCode {
-    match own_words::own_words(&rt) {
-        Ok(words) => commands::run_words(&rt, words.as_slice(), rt.stderr().is_terminal()),
+    match own_words(&rt) {
+        Ok(words) => run_words(&rt, words.as_slice(), rt.stderr().is_terminal()),
         Err(status) => status,
     }
 }
-
-#[cfg(test)]
-mod damage_tests;
-#[cfg(test)]
-mod draw_tests;
-#[cfg(test)]
-mod network_tests;
-#[cfg(test)]
-mod number_tests;
-#[cfg(test)]
-mod tests;

@@ -1,0 +1,16 @@
+-- The text of an event, and bytes that are kept.
+use Rattle.std.proofs.Common.{◌≡◌, ◌∙◌, sym, subst, ℕ, List, [], ◌∷◌, Option, Some, None}
+use Rattle.std.specs.Io.KnownBytes.{Appends, Keeps}
+use Rattle.std.proofs.lemmas.List.{append-nil}
+use Rattle.run_model.specs.declared.event.Event.{Event}
+use Rattle.command_parts.specs.EventText.{event_line, GrowsByText}
+
+pub line-appended : (a b : Option (List ℕ)) (e : Event) → Appends a b (event_line e) → GrowsByText a (e ∷ []) b
+line-appended a b e more = subst (Appends a b) (sym (append-nil (event_line e))) more
+
+-- bytes that are kept behind the text leave it there
+pub kept-behind : (a b c : Option (List ℕ)) (es : List Event) → GrowsByText a es b → Keeps b c → GrowsByText a es c
+kept-behind None b c es grown kept = tt
+kept-behind (Some bytes) None c es grown kept = absurd grown
+kept-behind (Some bytes) (Some more) None es grown kept = absurd kept
+kept-behind (Some bytes) (Some more) (Some same) es grown kept = kept ∙ grown

@@ -1,0 +1,5 @@
+pub mod NetworkFile
+pub mod SimulationFault
+pub mod FaultText
+pub mod PathFaultText
+pub mod EventText

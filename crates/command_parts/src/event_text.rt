@@ -1,0 +1,71 @@
+//! The events text as a sink of events.
+ghost use Rattle.std.specs.Prelude.{◌≡◌, OnOk, []};
+ghost use Rattle.std.specs.Io.Buffered.{writer_buffer, writer_contents};
+ghost use Rattle.std.specs.Io.KnownBytes.{Keeps};
+ghost use Rattle.byte_streams.specs.Streams.{CountsFailures};
+
+use crate::streams::count_failure;
+use events_text::EventLine;
+use run_model::Event;
+use schedules::EventSink;
+use std::io::{BufWriter, Write};
+use world::streams::Failed;
+
+/// Writes the line of each event that it takes.
+#[derive(Drop)]
+pub struct EventText<W: Write + Drop> {
+    writer: BufWriter<W>,
+    failures: u64,
+}
+
+impl<W: Write + Drop> EventText<W> {
+    /// A text that goes to the writer.
+    pub fn new(writer: BufWriter<W>) -> EventText<W>
+        ensures writer { result.writer ≡ writer }
+        ensures failures { result.failures ≡ 0 }
+    {
+        EventText {
+            writer,
+            failures: 0,
+        }
+    }
+
+    /// Sees to it that all that was taken is written.
+    ///
+    /// # Errors
+    /// [`Failed`] where it failed in this call; then some of it may be unwritten.
+    pub fn flush(&mut self) -> Result<(), Failed>
+        ensures written { OnOk result (writer_buffer self.new.writer ≡ []) }
+        ensures bytes { Keeps (writer_contents W.contents self.old.writer)
+            (writer_contents W.contents self.new.writer) }
+        ensures cause { CountsFailures result self.old.failures self.new.failures }
+    {
+        match self.writer.flush() {
+            Ok(()) => Ok(()),
+            Err(_) => Err(count_failure(&mut self.failures)),
+        }
+    }
+}
+
+impl<W: Write + Drop> EventSink for EventText<W> {
+    ghost use Rattle.std.specs.Io.Buffered.{writer_contents};
+    ghost use Rattle.command_parts.specs.EventText.{GrowsByText, grows-nowhere, grows-both};
+
+    // The writer and its buffer get the text of the events, where the writer tells its bytes.
+    ghost takes = { λ a events b. GrowsByText (writer_contents W.contents a.writer) events
+        (writer_contents W.contents b.writer) };
+
+    ghost failures = { λ t. t.failures };
+
+    fn take(&mut self, event: &Event) -> Result<(), Failed> {
+        match writeln!(self.writer, "{}", EventLine(*event)) {
+            Ok(()) => Ok(()),
+            Err(_) => Err(count_failure(&mut self.failures)),
+        }
+    }
+
+    ghost takes_none = { λ s. grows-nowhere (writer_contents W.contents s.writer) };
+
+    ghost takes_both = { λ a b c. grows-both (writer_contents W.contents a.writer)
+        (writer_contents W.contents b.writer) (writer_contents W.contents c.writer) };
+}

@@ -1,0 +1,69 @@
+//! Why a command ends without its work.
+use std::fmt;
+use topology::NetFault;
+use world::simulation::SimFault;
+
+/// Why a command ends with status 1. Printed, it is what a fault line has after `tokentree: `.
+#[derive(Clone, Copy, Debug, PartialEq, Eq, Drop)]
+pub enum Fault {
+    /// The network file cannot be read, or has too many bytes.
+    NetworkUnreadable,
+    /// The network file was read, and is refused.
+    Network(NetFault),
+    /// The network has no node of the id that was given.
+    NoNode,
+    /// The events file cannot be opened, or a read of the events failed.
+    EventsUnreadable,
+    /// The events text has more bytes than it may have.
+    EventsLong,
+    /// Memory ran out in the command's own work.
+    Memory,
+    /// Standard output did not take the text.
+    Output,
+    /// The file for the events cannot be written.
+    EventsUnwritable,
+    /// A thread could not be started.
+    Threads,
+}
+
+impl fmt::Display for Fault {
+    ghost use Rattle.std.specs.Prelude.{Some};
+    ghost use Rattle.command_parts.specs.FaultText.{fault_text};
+
+    ghost output = { λ fault. Some (fault_text fault) };
+
+    fn fmt<W: fmt::Write>(&self, f: &mut fmt::Formatter<W>) -> fmt::Result {
+        match *self {
+            Fault::NetworkUnreadable => f.write_str("network Unreadable"),
+            Fault::Network(fault) => {
+                f.write_str("network ")?;
+                f.write_str(fault.name())
+            }
+            Fault::NoNode => f.write_str("id NoNode"),
+            Fault::EventsUnreadable => f.write_str("events Unreadable"),
+            Fault::EventsLong => f.write_str("events Long"),
+            Fault::Memory => f.write_str("memory Refused"),
+            Fault::Output => f.write_str("output Refused"),
+            Fault::EventsUnwritable => f.write_str("events Unwritable"),
+            Fault::Threads => f.write_str("threads Refused"),
+        }
+    }
+}
+
+impl std::error::Error for Fault {}
+
+impl From<SimFault> for Fault {
+    ghost use Rattle.std.specs.Prelude.{◌≡◌};
+    ghost use Rattle.command_parts.specs.SimulationFault.{fault_of};
+
+    ghost from_gives = { λ s fault. fault ≡ fault_of s };
+
+    fn from(fault: SimFault) -> Fault {
+        match fault {
+            SimFault::Memory => Fault::Memory,
+            SimFault::Read => Fault::EventsUnreadable,
+            SimFault::Long => Fault::EventsLong,
+            SimFault::Write => Fault::Output,
+        }
+    }
+}

@@ -1,0 +1,29 @@
+//! What the commands of `tokentree` have in common: why they end without their work, the files that
+//! they read, the ends of what they read and write, and a line that tells how far they are.
+//!
+//! ```
+//! let net = read_network(rt, "two-nodes.toml")?;       // or a `Fault`
+//! let id = decimal_number("1", 65535);                 // Some(1); none of "01" or "+1"
+//! let mut source = ReadSource::new(reader(rt));        // what a simulation reads
+//! let mut sink = WriteSink::new(BufWriter::new(alloc, writer(rt))?);
+//! ```
+//!
+//! The trap: a [`WriteSink`] and an [`EventText`] have written all that they took only once they
+//! were flushed.
+#![tactic(auto)]
+
+mod event_text;
+mod fault;
+mod network_file;
+mod number;
+mod path_fault;
+mod progress;
+mod streams;
+
+pub use event_text::EventText;
+pub use fault::Fault;
+pub use network_file::{network_of, read_network};
+pub use number::decimal_number;
+pub use path_fault::PathFault;
+pub use progress::Progress;
+pub use streams::{Flush, ReadSource, WriteSink};

@@ -1,0 +1,43 @@
+//! Why a command that changes a file ends without its work.
+use crate::fault::Fault;
+use std::fmt;
+
+/// Why a command that changes a file of its own ends with status 1. Printed, it is what a fault
+/// line has after `tokentree: `.
+#[derive(Clone, Copy, Debug, PartialEq, Eq, Drop)]
+pub enum PathFault<'a> {
+    /// What may happen to any command.
+    Fault(Fault),
+    /// The file of this path cannot be written, or is no plain file.
+    Unwritable(&'a str),
+}
+
+impl fmt::Display for PathFault<'_> {
+    ghost use Rattle.std.specs.Prelude.{Some};
+    ghost use Rattle.command_parts.specs.PathFaultText.{path_fault_text};
+
+    ghost output = { λ fault. Some (path_fault_text fault) };
+
+    fn fmt<W: fmt::Write>(&self, f: &mut fmt::Formatter<W>) -> fmt::Result {
+        match *self {
+            PathFault::Fault(fault) => f.write(fault),
+            PathFault::Unwritable(path) => {
+                f.write_str("cannot write ")?;
+                f.write_str(path)
+            }
+        }
+    }
+}
+
+impl std::error::Error for PathFault<'_> {}
+
+impl From<Fault> for PathFault<'_> {
+    ghost use Rattle.std.specs.Prelude.{◌≡◌};
+    ghost use Rattle.command_parts.specs.declared.path_fault.PathFault.TheVariants.{Fault as Told};
+
+    ghost from_gives = { λ fault told. told ≡ Told fault };
+
+    fn from(fault: Fault) -> Self {
+        PathFault::Fault(fault)
+    }
+}

@@ -1,0 +1,61 @@
+//! A line on standard error that tells how far a long command has come.
+use std::sync::atomic::{AtomicU64, Ordering};
+use std::time::{Clock, Instant};
+
+/// How many milliseconds a tenth of a second has.
+const MILLISECONDS_A_TENTH: u128 = 100;
+
+/// Tells how many of some things are done, on one line that is written over again and again: at
+/// most once in each tenth of a second, and not in the first. Threads may share it.
+#[derive(Drop)]
+struct Progress {
+    started: Instant,
+    /// What is counted, in the plural.
+    things: &'static str,
+    /// How many there are.
+    most: u32,
+    /// How many are done, where they are counted here.
+    done: AtomicU64,
+    /// The last tenth of a second in which it told anything; 0 where it has told nothing.
+    told: AtomicU64,
+}
+
+impl Progress {
+    /// None of the `most` things is done; nothing where the clock cannot be read.
+    fn begin<R: Clock>(rt: &R, things: &'static str, most: u32) -> Option<Progress> {
+        let started = Instant::now(rt).ok()?;
+        Some(Progress {
+            started,
+            things,
+            most,
+            done: AtomicU64::new(0),
+            told: AtomicU64::new(0),
+        })
+    }
+
+    /// One more is done.
+    fn advance<R: Clock + Eprint>(&self, rt: &R) {
+        let done = self.done.fetch_add(1, Ordering::SeqCst).wrapping_add(1);
+        self.tell(rt, done);
+    }
+
+    /// `done` of them are done, by a count of the caller's. What standard error does not take is left out.
+    fn tell<R: Clock + Eprint>(&self, rt: &R, done: u64) {
+        let Ok(elapsed) = self.started.elapsed(rt) else {
+            return;
+        };
+        let Ok(tenth) = u64::try_from(elapsed.as_millis() / MILLISECONDS_A_TENTH) else {
+            return;
+        };
+        if self.told.fetch_max(tenth, Ordering::SeqCst) < tenth {
+            let _ = eprint!(rt; "\r{done} of {} {}", self.most, self.things);
+        }
+    }
+
+    /// All is done: the line is taken away.
+    fn end<R: Eprint>(&self, rt: &R) {
+        if self.told.load(Ordering::SeqCst) > 0 {
+            let _ = eprint!(rt; "\r\x1b[K");
+        }
+    }
+}

@@ -1,0 +1,102 @@
+//! `draw FILE EVENTS`: a picture of the run that a list of events makes on a network.
+ghost use Rattle.std.specs.Prelude.{◌≡◌, if◌then◌else◌, ◌==◌};
+ghost use Rattle.std.specs.Process.{exit_status};
+
+use command_parts::{Fault, ReadSource, read_network};
+use run_picture::{Recording, Window, draw, record, spelled};
+use std::alloc::{AllocError, Global};
+use std::fs;
+use std::io::{Input, Write, writer};
+use std::process::ExitCode;
+use std::rt::Files;
+use topology::Net;
+use world::streams::Source;
+
+/// The most columns of a picture.
+pub const MOST_COLUMNS: u16 = 1200;
+
+/// The name of standard input.
+const STANDARD_INPUT: &str = "-";
+
+/// The status where a line was refused.
+const LINES_REFUSED: u8 = 3;
+
+/// What is to be drawn of a run.
+#[derive(Clone, Copy)]
+pub struct Wanted {
+    /// The most columns, 1 to [`MOST_COLUMNS`]; 0 counts as 1.
+    pub columns: u16,
+    /// The moments that are shown.
+    pub window: Window,
+}
+
+/// Prints the picture of what the events of a file, or of standard input for `-`, lead to on the
+/// network of a file, as SVG 1.1.
+///
+/// What is unproved: that the events of a file are the bytes that were read, and that the picture
+/// stands in standard output; neither tells its bytes.
+///
+/// # Errors
+/// Where no network is read of the file, the events cannot be read or are too long, memory runs
+/// out, or standard output does not take the picture: the first of these that is met. Nothing is
+/// printed but the whole picture, as far as standard output takes it.
+pub fn run<R: Files + Input + Print + AllocGlobal>(
+    rt: &R,
+    network: &str,
+    events: &str,
+    wanted: Wanted,
+) -> Result<ExitCode, Fault> {
+    let net = read_network(rt, network)?;
+    if events == STANDARD_INPUT {
+        let mut source = ReadSource::new(rt.reader());
+        write_picture(rt.alloc(), &net, &mut source, &mut writer(rt), wanted)
+    } else {
+        let file = fs::open(rt, events).map_err(|_| Fault::EventsUnreadable)?;
+        let mut source = ReadSource::new(file);
+        write_picture(rt.alloc(), &net, &mut source, &mut writer(rt), wanted)
+    }
+}
+
+/// Writes the picture of what the events that a source gives lead to.
+///
+/// # Errors
+/// Where memory runs out, the source fails or gives too many bytes, or the writer fails.
+pub fn write_picture<S: Source, W: Write>(
+    alloc: Global,
+    net: &Net,
+    source: &mut S,
+    output: &mut W,
+    wanted: Wanted,
+) -> Result<ExitCode, Fault> {
+    let columns = usize::from(wanted.columns.max(1));
+    let recording = record(alloc, net, source, columns, wanted.window)?;
+    match picture(alloc, net, &recording) {
+        Ok(text) => put(output, text.as_slice(), status(recording.refused())),
+        Err(_) => Err(Fault::Memory),
+    }
+}
+
+/// The picture of a recording, as a text.
+fn picture(alloc: Global, net: &Net, recording: &Recording) -> Result<Vec<u8>, AllocError> {
+    let drawing = draw(alloc, net, recording)?;
+    spelled(alloc, &drawing)
+}
+
+/// Writes a text whole, and answers this status then.
+fn put<W: Write>(output: &mut W, text: &[u8], status: ExitCode) -> Result<ExitCode, Fault> {
+    match output.write_all(text) {
+        Ok(()) => Ok(status),
+        Err(_) => Err(Fault::Output),
+    }
+}
+
+/// The status of a picture that was printed, where as many lines were refused.
+fn status(refused: u64) -> ExitCode
+    ensures { exit_status result ≡ (if refused == 0 then 0 else 3) }
+{
+    if refused == 0 {
+        ExitCode::SUCCESS
+    } else {
+        ExitCode::from(LINES_REFUSED)
+    }
+}

@@ -1,0 +1,172 @@
+//! `threads FILE TURNS`: each node of a network on a thread of its own, and the state that this
+//! leads to.
+ghost use Rattle.std.specs.Prelude.{◌≡◌, [], IfOk, IfErr, OnOk};
+ghost use Rattle.std.specs.Io.Buffered.{writer_buffer, writer_contents};
+ghost use Rattle.byte_streams.specs.Streams.{CountsFailures, Rose};
+ghost use Rattle.run_model.specs.Start.{default_world};
+ghost use Rattle.configuration.specs.ConfigurationView.{world_of};
+ghost use Rattle.command_parts.specs.EventText.{GrowsByText};
+ghost use Rattle.live_commands.specs.Threads.{AllRan};
+ghost use Rattle.command_parts.specs.declared.fault.Fault.TheVariants.{EventsUnwritable, Memory};
+
+mod progress;
+
+use command_parts::{EventText, Fault, Flush, WriteSink, read_network};
+use progress::Watch;
+use schedules::EventSink;
+use std::alloc::Global;
+use std::fs;
+use std::io::{BufWriter, Write, writer};
+use std::process::ExitCode;
+use std::rt::Files;
+use std::sync::Wait;
+use std::thread::Threads;
+use std::time::Clock;
+use thread_net::{Gate, RunFault, Woven, run_threads};
+use topology::Net;
+use world::report::judge;
+use world::simulation::state_text;
+use world::streams::Failed;
+use world::{Event, World};
+
+/// Lets each node of the network of a file do its turns on a thread of its own, from nodes as they
+/// start and empty links on, and prints the state that they lead to, with the sweeps of what they
+/// did. What they did is written to the file `events`, where one is named, as an events text. Where
+/// `tells` says so, a line of standard error tells meanwhile how far they are.
+///
+/// # Errors
+/// Where no network is read of the file, memory runs out, a thread is refused, the events cannot be
+/// written, or standard output does not take the text: the first of these that is met.
+pub fn run<R: Files + Clock + Print + Eprint + Threads + Wait + Sync + AllocGlobal>(
+    rt: &R,
+    network: &str,
+    turns: u32,
+    events: Option<&str>,
+    tells: bool,
+) -> Result<ExitCode, Fault> {
+    let net = read_network(rt, network)?;
+    let start = new_world(rt.alloc(), &net)?;
+    let woven = run_watched(rt, &net, turns, tells)?;
+    let report = judge(start, woven.events.as_slice());
+    show(rt, &woven, report.sweeps, events)
+}
+
+/// What the nodes of a network do on threads, with a line that tells how far they are if wanted.
+fn run_watched<R: Clock + Eprint + Threads + Wait + Sync + AllocGlobal>(
+    rt: &R,
+    net: &Net,
+    turns: u32,
+    tells: bool,
+) -> Result<Woven, Fault> {
+    let watch = Watch::start(rt, turns, tells);
+    let ran = run_nodes(rt, rt.alloc(), net, turns, &watch);
+    watch.end();
+    ran
+}
+
+/// Writes what the nodes did to the file `events`, where one is named, and prints the state that it
+/// led to, with its sweeps.
+fn show<R: Files + Print + AllocGlobal>(
+    rt: &R,
+    woven: &Woven,
+    sweeps: u64,
+    events: Option<&str>,
+) -> Result<ExitCode, Fault> {
+    if let Some(path) = events {
+        write_file(rt, path, woven.events.as_slice())?;
+    }
+    print_state(rt, &woven.world, sweeps)?;
+    Ok(ExitCode::SUCCESS)
+}
+
+/// The world in which every node is as it starts and nothing is under way.
+fn new_world(alloc: Global, net: &Net) -> Result<World, Fault>
+    ensures ok { IfOk result (λ world. world_of world ≡ default_world net.now) }
+    ensures err { IfErr result (λ fault. fault ≡ Memory) }
+{
+    match World::new(alloc, net) {
+        Ok(world) => Ok(world),
+        Err(_) => Err(Fault::Memory),
+    }
+}
+
+/// What the nodes of a network do on threads, from that world on.
+fn run_nodes<R: Threads + Wait + Sync, G: Gate>(
+    rt: &R,
+    alloc: Global,
+    net: &Net,
+    turns: u32,
+    gate: &G,
+) -> Result<Woven, Fault>
+    ensures { IfOk result (AllRan turns net.now) }
+{
+    let start = new_world(alloc, net)?;
+    match run_threads(rt, alloc, start, turns, gate) {
+        Ok(woven) => Ok(woven),
+        Err(fault) => Err(refused(&fault)),
+    }
+}
+
+/// What was refused.
+fn refused(fault: &RunFault) -> Fault {
+    match fault {
+        RunFault::Memory(_) => Fault::Memory,
+        RunFault::Spawn(_) => Fault::Threads,
+    }
+}
+
+/// Writes the events text of what nodes did to a file, line by line.
+///
+/// What is unproved: that the text stands in the file, which tells nothing of its bytes.
+fn write_file<R: Files + AllocGlobal>(rt: &R, path: &str, events: &[Event]) -> Result<(), Fault> {
+    let file = fs::create(rt, path).map_err(|_| Fault::EventsUnwritable)?;
+    let Ok(writer) = BufWriter::new(rt.alloc(), file) else {
+        return Err(Fault::Memory);
+    };
+    write_events(events, &mut EventText::new(writer))
+}
+
+/// Writes the line of each event, and sees to it that all of them are written.
+fn write_events<W: Write + Drop>(events: &[Event], text: &mut EventText<W>) -> Result<(), Fault>
+    // Where the writer tells its bytes, they are the text.
+    ensures text { OnOk result (GrowsByText (writer_contents W.contents text.old.writer) events.now
+        (writer_contents W.contents text.new.writer)) }
+    ensures written { OnOk result (writer_buffer text.new.writer ≡ []) }
+    // A fault only where the writer failed.
+    ensures cause { IfErr result (λ fault. (fault ≡ EventsUnwritable)
+        × Rose text.old.failures text.new.failures) }
+{
+    let given = give_events(events, text);
+    let flushed = text.flush();
+    if given.is_err() {
+        return Err(Fault::EventsUnwritable);
+    }
+    match flushed {
+        Ok(()) => Ok(()),
+        Err(_) => Err(Fault::EventsUnwritable),
+    }
+}
+
+/// Gives events to a sink, one after the other.
+fn give_events<S: EventSink>(events: &[Event], sink: &mut S) -> Result<(), Failed>
+    ensures taken { OnOk result (S.takes sink.old events.now sink.new) }
+    ensures cause { CountsFailures result (S.failures sink.old) (S.failures sink.new) }
+{
+    schedules::laws::taking::<S>();
+    for event in events {
+        sink.take(event)?;
+    }
+    Ok(())
+}
+
+/// Prints the text that shows a world. Of standard output nothing is known but its failures.
+fn print_state<R: Print + AllocGlobal>(rt: &R, world: &World, sweeps: u64) -> Result<(), Fault> {
+    let Ok(output) = BufWriter::new(rt.alloc(), writer(rt)) else {
+        return Err(Fault::Memory);
+    };
+    let mut sink = WriteSink::new(output);
+    if state_text(world, sweeps, &mut sink).is_err() || sink.flush().is_err() {
+        return Err(Fault::Output);
+    }
+    Ok(())
+}

@@ -1,0 +1,47 @@
+//! How far nodes on threads are, told on a terminal.
+use command_parts::Progress;
+use std::time::Clock;
+use thread_net::Gate;
+
+/// Node 0 looks at the clock before each 64th of its turns.
+const TURNS_A_LOOK: u32 = 64;
+
+/// A gate that holds nobody back, and tells how many turns node 0 has done, where that is wanted.
+#[derive(Drop)]
+pub struct Watch<'a, R> {
+    rt: &'a R,
+    /// None where nothing is told.
+    progress: Option<Progress>,
+}
+
+impl<'a, R: Eprint + Clock> Watch<'a, R> {
+    /// The watch of a run that starts now, in which each node does `turns` turns.
+    pub fn start(rt: &'a R, turns: u32, tells: bool) -> Watch<'a, R> {
+        let progress = if tells {
+            Progress::begin(rt, "turns of node 0", turns)
+        } else {
+            None
+        };
+        Watch { rt, progress }
+    }
+
+    /// Takes the line away, where it was written.
+    pub fn end(&self) {
+        if let Some(progress) = &self.progress {
+            progress.end(self.rt);
+        }
+    }
+}
+
+/// Only node 0 tells, so that no two threads write.
+impl<R: Eprint + Clock + Sync> Gate for Watch<'_, R> {
+    fn before(&self, node: u16, turn: u32) {
+        if node == 0 && turn % TURNS_A_LOOK == 0 {
+            if let Some(progress) = &self.progress {
+                progress.tell(self.rt, u64::from(turn));
+            }
+        }
+    }
+
+    fn after(&self, _node: u16, _turn: u32) {}
+}

@@ -1,0 +1,34 @@
+//! How a command ended, by what the system says of it.
+ghost use Rattle.std.specs.Prelude.{◌≡◌, ◌≢◌};
+ghost use Rattle.lock_client.specs.Ends.{command_end};
+ghost use Rattle.lock_client.specs.declared.outcome.CommandEnd.TheVariants.{NotThere, CannotRun};
+
+use crate::outcome::CommandEnd;
+use std::io::ErrorKind;
+use std::os::unix::process::ExitStatusExt;
+use std::process::ExitStatus;
+
+/// The status of a command whose own status cannot be known, as `env` has it for its failures.
+pub const UNKNOWN_STATUS: u8 = 125;
+
+/// How it ended where it could not be started for this reason.
+pub fn spawn_end(kind: ErrorKind) -> CommandEnd
+    ensures not_there { kind ≡ ErrorKind.NotFound → result ≡ NotThere }
+    ensures cannot_run { kind ≢ ErrorKind.NotFound → result ≡ CannotRun }
+{
+    match kind {
+        ErrorKind::NotFound => CommandEnd::NotThere,
+        _ => CommandEnd::CannotRun,
+    }
+}
+
+/// How a command ended that the system says ended so.
+pub fn command_end(status: ExitStatus) -> CommandEnd
+    ensures { result ≡ command_end status }
+{
+    match (status.code(), status.signal()) {
+        (Some(code), _) => CommandEnd::Exited(code as u8),
+        (None, Some(signal)) => CommandEnd::Killed(signal as u8),
+        (None, None) => CommandEnd::Exited(UNKNOWN_STATUS),
+    }
+}

@@ -1,4 +1,0 @@
-pub mod DeskNames
-pub mod StatusSpelling
-pub mod StatusReading
-pub mod NodeLines

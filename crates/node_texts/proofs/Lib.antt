@@ -1,0 +1,4 @@
+pub mod DeskNames
+pub mod StatusSpelling
+pub mod NumbersRead
+pub mod NodeLines

@@ -1,0 +1,20 @@
+-- The names of a node's files.
+use Rattle.std.specs.Prelude.{◌≡◌, ℕ, List, ◌++◌, ◌-◌, codes, decimal, string_bytes}
+use Rattle.node_texts.specs.declared.paths.NodePaths.{NodePaths}
+
+-- the folder, a slash, and the node's id with what stands before and behind it
+abbrev pub file_name : List ℕ → List ℕ → ℕ → List ℕ → List ℕ
+file_name dir before id behind = dir ++ (codes "/" ++ (before ++ (decimal id ++ behind)))
+
+-- the names of node `id`'s files
+abbrev pub AreNamed : List ℕ → ℕ → NodePaths → Type 0
+AreNamed dir id paths =
+    (string_bytes paths.state ≡ file_name dir (codes "state-") id (codes ".tkt"))
+    × (string_bytes paths.links ≡ file_name dir (codes "node-") id (codes ".sock"))
+    × (string_bytes paths.clients ≡ file_name dir (codes "desk-") id (codes ".sock"))
+    × (string_bytes paths.stop ≡ file_name dir (codes "stop-") id (codes ""))
+    × (string_bytes paths.lock ≡ file_name dir (codes "lock-") id (codes ""))
+
+-- a socket's name that no other of the network is longer than: that of the node of the greatest id
+abbrev pub longest_socket_name : List ℕ → ℕ → List ℕ
+longest_socket_name dir nodes = file_name dir (codes "node-") (nodes - 1) (codes ".sock")

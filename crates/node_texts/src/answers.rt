@@ -1,0 +1,100 @@
+//! What `status` prints.
+ghost use Rattle.std.specs.Prelude.{◌≡◌, ◌++◌, length, filter, IfOk, OnOk, string_bytes};
+ghost use Rattle.std.specs.List.{list_all};
+ghost use Rattle.node_texts.specs.Report.{answer_text, answer_lines, counts_line, report_text};
+ghost use Rattle.node_texts.specs.Report.{is_privileged, lends, has_answered};
+
+use crate::StatusLine;
+use std::alloc::{AllocError, Global};
+use std::fmt::Write;
+
+/// What a node answered.
+#[derive(Clone, Copy, Debug, PartialEq, Eq, Drop)]
+pub struct NodeAnswer {
+    /// The node that was asked.
+    pub node: u16,
+    /// Its status line; none where it gave none in time.
+    pub line: Option<StatusLine>,
+}
+
+/// What is printed of the nodes' answers: the status line of each, or that it gave none; and how
+/// many of them are privileged, and lend.
+///
+/// # Errors
+/// Where memory runs out.
+pub fn report(alloc: Global, answers: &[NodeAnswer]) -> Result<String, AllocError>
+    ensures { IfOk result (λ text. string_bytes text ≡ report_text answers.now) }
+{
+    let mut text = String::new(alloc);
+    push_lines(&mut text, answers)?;
+    push_counts(&mut text, privileged(answers), lending(answers))?;
+    Ok(text)
+}
+
+/// Adds the line that says how many are privileged, and lend.
+fn push_counts(text: &mut String, privileged: usize, lending: usize) -> Result<(), AllocError>
+    ensures { OnOk result (string_bytes text.new
+        ≡ string_bytes text.old ++ counts_line privileged lending) }
+{
+    writeln!(text, "privileged {privileged} lending {lending}")
+}
+
+/// Whether each node gave its status line.
+pub fn all_answered(answers: &[NodeAnswer]) -> bool
+    ensures { result ≡ list_all has_answered answers.now }
+{
+    answers.iter().all(|answer| answer.line.is_some())
+}
+
+/// Adds the line of each.
+fn push_lines(text: &mut String, answers: &[NodeAnswer]) -> Result<(), AllocError>
+    ensures { OnOk result (string_bytes text.new
+        ≡ string_bytes text.old ++ answer_lines answers.now) }
+{
+    for answer in answers {
+        push_line(text, answer)?;
+    }
+    Ok(())
+}
+
+/// Adds the line of a node, or that it gave none.
+fn push_line(text: &mut String, answer: &NodeAnswer) -> Result<(), AllocError>
+    ensures { OnOk result (string_bytes text.new
+        ≡ string_bytes text.old ++ answer_text answer.now.node answer.now.line) }
+{
+    match answer.line {
+        Some(line) => writeln!(text, "{line}"),
+        None => writeln!(text, "node {} no answer", answer.node),
+    }
+}
+
+/// How many are privileged.
+fn privileged(answers: &[NodeAnswer]) -> usize
+    ensures { result ≡ length (filter is_privileged answers.now) }
+{
+    answers
+        .iter()
+        .filter(|answer| is_privileged(answer))
+        .count()
+}
+
+/// How many lend.
+fn lending(answers: &[NodeAnswer]) -> usize
+    ensures { result ≡ length (filter lends answers.now) }
+{
+    answers.iter().filter(|answer| lends(answer)).count()
+}
+
+/// Whether a node says that it is privileged.
+fn is_privileged(answer: &NodeAnswer) -> bool
+    ensures { result ≡ is_privileged answer.now }
+{
+    matches!(answer.line, Some(line) if line.token)
+}
+
+/// Whether a node says that it lends.
+fn lends(answer: &NodeAnswer) -> bool
+    ensures { result ≡ lends answer.now }
+{
+    matches!(answer.line, Some(line) if line.lent.is_some())
+}

@@ -1,0 +1,26 @@
+//! Texts of nodes that run: the names of their files, the lines that their processes print, and
+//! the status lines by which they say how they stand.
+//!
+//! ```
+//! let paths = NodePaths::new(alloc, "run", 1)?;        // run/state-1.tkt, run/desk-1.sock, ..
+//! let line = StatusLine::read(b"node 1 distance 1 parent 0 token no lent none waiting 0");
+//! let text = report(alloc, &answers)?;                 // what `status` prints
+//! ```
+//!
+//! Nothing here reads a file or a socket.
+//!
+//! The trap: statuses of nodes are asked one after the other while the lock goes round, so that two
+//! of them, or none, may be seen with the token.
+#![tactic(auto)]
+
+mod answers;
+pub mod desk_file;
+pub mod laws;
+mod lines;
+mod paths;
+mod status_line;
+
+pub use lines::{CapacityLine, End, EndLine, Note, NoteLine, SOCKET_FRAMES};
+pub use paths::{LONGEST_SOCKET_NAME, NodePaths, links_name, longest_socket_name};
+pub use answers::{NodeAnswer, all_answered, report};
+pub use status_line::{MOST_STATUS_BYTES, StatusLine, StatusReading};

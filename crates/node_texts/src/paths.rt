@@ -1,0 +1,68 @@
+//! The names of a node's files.
+ghost use Rattle.std.specs.Prelude.{◌≡◌, IfOk, string_bytes, codes, length};
+ghost use Rattle.node_texts.specs.Names.{AreNamed, file_name, longest_socket_name};
+
+use std::alloc::{AllocError, Global};
+
+/// The most bytes that the name of a Unix socket has, with its folder.
+pub const LONGEST_SOCKET_NAME: usize = 107;
+
+/// The names of the files of one node, each with its folder.
+#[derive(Drop)]
+pub struct NodePaths {
+    /// The node's state.
+    pub state: String,
+    /// The socket at which the neighbours of greater ids connect.
+    pub links: String,
+    /// The socket at which clients connect.
+    pub clients: String,
+    /// The file that ends the node.
+    pub stop: String,
+    /// The file that the node holds locked while it runs.
+    pub lock: String,
+}
+
+impl NodePaths {
+    /// The names of the files of node `id` in a folder.
+    pub fn new(alloc: Global, dir: &str, id: u16) -> Result<NodePaths, AllocError>
+        ensures { IfOk result (AreNamed dir.now id) }
+    {
+        Ok(NodePaths {
+            state: file_name(alloc, dir, "state-", id, ".tkt")?,
+            links: links_name(alloc, dir, id)?,
+            clients: file_name(alloc, dir, "desk-", id, ".sock")?,
+            stop: file_name(alloc, dir, "stop-", id, "")?,
+            lock: file_name(alloc, dir, "lock-", id, "")?,
+        })
+    }
+}
+
+/// The name of the socket at which node `id` is connected to.
+pub fn links_name(alloc: Global, dir: &str, id: u16) -> Result<String, AllocError>
+    ensures { IfOk result
+        (λ name. string_bytes name ≡ file_name dir.now (codes "node-") id (codes ".sock")) }
+{
+    file_name(alloc, dir, "node-", id, ".sock")
+}
+
+/// The name of a node's file, with its folder.
+fn file_name(
+    alloc: Global,
+    dir: &str,
+    before: &str,
+    id: u16,
+    behind: &str,
+) -> Result<String, AllocError>
+    ensures { IfOk result
+        (λ name. string_bytes name ≡ file_name dir.now before.now id behind.now) }
+{
+    format!(in alloc; "{dir}/{before}{id}{behind}")
+}
+
+/// How many bytes the longest name of a socket in a folder has, for a network of this many nodes.
+pub fn longest_socket_name(alloc: Global, dir: &str, nodes: u16) -> Result<usize, AllocError>
+    ensures { IfOk result (λ bytes. bytes ≡ length (longest_socket_name dir.now nodes)) }
+{
+    let name = links_name(alloc, dir, nodes.saturating_sub(1))?;
+    Ok(name.len())
+}

@@ -1,0 +1,126 @@
+//! The line by which a node says how it stands.
+ghost use Rattle.std.specs.Prelude.{◌≡◌, is_some, OnSome};
+ghost use Rattle.events_text.specs.EventLine.{other_words};
+ghost use Rattle.node_texts.specs.StatusText.{line_status, first_is, short_line_status};
+
+use byte_lines::LineReading;
+use events_text::words::Words;
+use std::fmt;
+
+/// The most bytes of a line that is read as a status line. No status line has more than 73.
+pub const MOST_STATUS_BYTES: usize = 96;
+
+/// How a node stands, as its status line says. Printed, it is that line, without its newline.
+#[derive(Clone, Copy, Debug, PartialEq, Eq, Drop)]
+pub struct StatusLine {
+    /// The node's id.
+    pub node: u16,
+    /// Its distance to the root, as it has it.
+    pub distance: u16,
+    /// Its parent in the tree, as it has it.
+    pub parent: Option<u16>,
+    /// Whether it is privileged.
+    pub token: bool,
+    /// The ticket that its desk lends the lock to.
+    pub lent: Option<u16>,
+    /// How many tickets wait at its desk.
+    pub waiting: u16,
+}
+
+impl StatusLine {
+    /// What a line says, if it is a status line: `node V distance D parent P token T lent L waiting
+    /// W`, with one space between words and each number in decimal, at most 65535, without leading
+    /// zeros. The line is without its newline.
+    pub fn read(line: &[u8]) -> Option<StatusLine>
+        ensures { result ≡ line_status line.now }
+    {
+        let mut words = Words::of(line);
+        expect(&mut words, b"node")?;
+        let node = words.number()?;
+        expect(&mut words, b"distance")?;
+        let distance = words.number()?;
+        expect(&mut words, b"parent")?;
+        let parent = words.number_or_none()?;
+        expect(&mut words, b"token")?;
+        let token = words.yes_or_no()?;
+        expect(&mut words, b"lent")?;
+        let lent = words.number_or_none()?;
+        expect(&mut words, b"waiting")?;
+        let waiting = words.number()?;
+        words.end(StatusLine {
+            node,
+            distance,
+            parent,
+            token,
+            lent,
+            waiting,
+        })
+    }
+}
+
+/// Takes the next word where it is this one; none where it is another one, or there is none.
+fn expect(words: &mut Words, name: &[u8]) -> Option<()>
+    ensures is { is_some result ≡ first_is name.now words.old }
+    ensures rest { words.new ≡ other_words words.old }
+{
+    if words.next()? == name {
+        Some(())
+    } else {
+        None
+    }
+}
+
+/// Reads lines as status lines, in whatever pieces they come.
+pub struct StatusReading;
+
+impl LineReading<MOST_STATUS_BYTES> for StatusReading {
+    type Read = Option<StatusLine>;
+
+    ghost reading = { λ _. short_line_status };
+
+    fn read(&self, line: &[u8]) -> Option<StatusLine> {
+        StatusLine::read(line)
+    }
+
+    fn read_long(&self, _: &[u8]) -> Option<StatusLine> {
+        None
+    }
+}
+
+/// A number, or `none`.
+#[derive(Drop)]
+struct OrNone(Option<u16>);
+
+impl fmt::Display for OrNone {
+    ghost use Rattle.std.specs.Prelude.{Some};
+    ghost use Rattle.node_texts.specs.StatusText.{or_none_text};
+
+    ghost output = { λ number. Some (or_none_text number.0) };
+
+    fn fmt<W: fmt::Write>(&self, f: &mut fmt::Formatter<W>) -> fmt::Result {
+        match self.0 {
+            Some(number) => write!(f, "{number}"),
+            None => f.write_str("none"),
+        }
+    }
+}
+
+impl fmt::Display for StatusLine {
+    ghost use Rattle.std.specs.Prelude.{Some};
+    ghost use Rattle.node_texts.specs.StatusText.{status_text};
+
+    ghost output = { λ line. Some (status_text line) };
+
+    fn fmt<W: fmt::Write>(&self, f: &mut fmt::Formatter<W>) -> fmt::Result {
+        let token = if self.token { "yes" } else { "no" };
+        write!(
+            f,
+            "node {} distance {} parent {} token {token} lent {} waiting {}",
+            self.node,
+            self.distance,
+            OrNone(self.parent),
+            OrNone(self.lent),
+            self.waiting
+        )
+    }
+}

@@ -1,0 +1,20 @@
+//! The line that tells a fault.
+use command_parts::Fault;
+use std::fmt;
+
+/// A fault, which prints as its line on standard error: the program's name, what was refused, and
+/// by which name.
+#[derive(Drop)]
+pub struct FaultLine(pub Fault);
+
+impl fmt::Display for FaultLine {
+    ghost use Rattle.std.specs.Prelude.{Some};
+    ghost use Rattle.program_ends.specs.FaultLine.{fault_line};
+
+    ghost output = { λ line. Some (fault_line line.0) };
+
+    fn fmt<W: fmt::Write>(&self, f: &mut fmt::Formatter<W>) -> fmt::Result {
+        f.write_str("tokentree: ")?;
+        f.write(self.0)
+    }
+}

@@ -1,0 +1,20 @@
+//! How the program `tokentree` ends: with which status, and with which line on standard error.
+//!
+//! ```
+//! let status = fails(rt, Fault::NetworkUnreadable, 1); // prints `tokentree: network Unreadable`
+//! let status = fault_status(true);                     // 125: `lock` keeps 1 for its command
+//! let status = shows(rt, &error, false);               // 0 for help, 2 for a refused line
+//! ```
+//!
+//! The trap: what standard error does not take is left out; the status is the same.
+#![tactic(auto)]
+
+mod ends;
+mod fault_line;
+mod own_words;
+mod path_fault_line;
+
+pub use ends::{LINE_REFUSED, fails, fault_status, shows};
+pub use fault_line::FaultLine;
+pub use own_words::own_words;
+pub use path_fault_line::PathFaultLine;

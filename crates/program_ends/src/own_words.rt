@@ -1,0 +1,42 @@
+//! The words that the program was started with.
+ghost use Rattle.std.specs.Prelude.{◌≡◌, ◌≢◌, if◌then◌else◌};
+ghost use Rattle.std.specs.Process.{exit_status};
+ghost use Rattle.std.specs.declared.io.ErrorKind.TheVariants.{OutOfMemory};
+
+use crate::ends::{LINE_REFUSED, fails, fault_status};
+use command_parts::Fault;
+use std::alloc::AllocError;
+use std::io::ErrorKind;
+use std::process::ExitCode;
+use std::rt::Env;
+
+/// The program's own words, or the status of a program that cannot read them.
+pub fn own_words<R: Env + Eprint + AllocGlobal>(rt: &R) -> Result<Vec<String>, ExitCode> {
+    match std::env::args(rt) {
+        Ok(arguments) => {
+            let collected: Result<Vec<String>, AllocError> = arguments.collect(rt.alloc());
+            collected.map_err(|_| fails(rt, Fault::Memory, fault_status(asks_for_lock(rt))))
+        }
+        Err(error) => Err(unread(rt, error.kind(), asks_for_lock(rt))),
+    }
+}
+
+/// Whether the first word is `lock`. It takes no memory.
+fn asks_for_lock<R: Env>(rt: &R) -> bool {
+    let mut name = [0; 4];
+    matches!(rt.arg(1, &mut name), Ok(4)) && name == *b"lock"
+}
+
+/// Tells why the words cannot be read, and says with which status that ends: that of a fault for
+/// want of memory; else one of them is no text, and the command line is refused.
+fn unread<R: Eprint>(rt: &R, kind: ErrorKind, is_lock: bool) -> ExitCode
+    ensures memory { kind ≡ OutOfMemory → exit_status result ≡ (if is_lock then 125 else 1) }
+    ensures no_text { kind ≢ OutOfMemory → exit_status result ≡ 2 }
+{
+    if kind == ErrorKind::OutOfMemory {
+        fails(rt, Fault::Memory, fault_status(is_lock))
+    } else {
+        let _ = eprintln!(rt; "tokentree: arguments Unreadable");
+        ExitCode::from(LINE_REFUSED)
+    }
+}

@@ -1,7 +1,0 @@
-use Rattle.std.proofs.Common.{◌≡◌}
-use Rattle.std.specs.Io.KnownBytes.{Keeps}
-use Rattle.subcommands.proofs.streams.ReadSourceSource.read.Given as goal
-
--- nothing was read, and no failure counted
-abbrev pub invariant-loop : goal.invariant-loop
-invariant-loop g l = (l.self.failures ≡ l.fn.self.failures) × Keeps (g.R.Read.remaining l.fn.self.reader) (g.R.Read.remaining l.self.reader)

@@ -1,0 +1,25 @@
+//! The doors of a node over Unix sockets, and its clock.
+//!
+//! ```
+//! let mut doors = UnixDoors::new(rt, alloc, links, clients, addresses)?;
+//! let mut watch = Stopwatch::start(rt)?;
+//! let mut run = NodeRun::new(alloc, net, state, doors, store, manner)?;
+//! run.wait(watch.now());                               // until something comes, or is due
+//! ```
+//!
+//! What a turn of a node does stands in the crate `node_loop`, over doors. What the system answers
+//! is not known to contracts, so the functions that call it say little: that failures are counted,
+//! that an end is no `later`, and that the clock never goes back.
+//!
+//! The trap: a poll tells of a socket once, when something new comes.
+#![tactic(auto)]
+
+mod clock;
+mod doors;
+mod input;
+mod pipe;
+
+pub use clock::Stopwatch;
+pub use doors::UnixDoors;
+pub use input::{has_input_ended, watch_input};
+pub use pipe::UnixPipe;

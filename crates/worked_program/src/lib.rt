@@ -1,0 +1,15 @@
+//! Command lines of `tokentree`: the statuses that they end with, and what they print.
+//!
+//! Nothing but tests stands here, since a crate's tests prove all of that crate once more.
+#![tactic(auto)]
+
+#[cfg(test)]
+mod damage;
+#[cfg(test)]
+mod draw;
+#[cfg(test)]
+mod network;
+#[cfg(test)]
+mod number;
+#[cfg(test)]
+mod statuses;

@@ -1,0 +1,384 @@
+//! Copies of this test program on networks of three processes: the lock as its users take it.
+use command_line::run_words;
+use std::alloc::Global;
+use std::io::{Read, Write};
+use std::os::unix::net::UnixStream;
+use std::process::{Child, Command, ExitCode, Stdio};
+use std::test::Fail;
+use std::time::Duration;
+use std::{env, fs, str, thread};
+
+/// Three nodes in a ring, whose loans have no end.
+const RING: &str =
+    "nodes = 3\nroot = 0\ncapacity = 64\nlease = 0\nedges = [[0, 1], [1, 2], [0, 2]]\n";
+
+/// The same with loans of 100 ticks, some 200 milliseconds, and links that hold one frame less than
+/// is asked for.
+const LEASED: &str =
+    "nodes = 3\nroot = 0\ncapacity = 63\nlease = 100\nedges = [[0, 1], [1, 2], [0, 2]]\n";
+
+/// How often a node is asked how it stands, at most.
+const ASKS: u32 = 100_000;
+
+/// A command that has the lock to itself where it makes a folder that is not there yet; it ends with
+/// status 9 where somebody else has made it.
+const WITNESS: &str =
+    "mkdir \"$0/witness\" || exit 9; echo taken >>\"$0/log\"; sleep 0.01; rmdir \"$0/witness\"";
+
+/// What a copy of this program does that is started with words: what the program does with them, and
+/// it tells the status.
+#[test]
+fn acts_as_the_program(rt: HostRuntime) -> Result<(), Fail> {
+    let Ok(text) = env::var(&rt, "TOKENTREE_WORDS") else {
+        return Ok(());
+    };
+    let times = env::var(&rt, "TOKENTREE_TIMES")?.parse::<u32>()?;
+    let words: Vec<&str> = text.as_str().lines().collect(rt.alloc())?;
+    for _ in 0..times {
+        let ended = run_words(&rt, words.as_slice(), false);
+        let status = (0..=255u8).find(|status| ExitCode::from(*status) == ended);
+        println!(rt; "status {}", status.unwrap_or(0))?;
+    }
+    Ok(())
+}
+
+/// Starts a copy on these words, one a line, which it does as often as told.
+fn copy(rt: &HostRuntime, words: &str, times: &str) -> Result<Child, Fail> {
+    let program = env::current_exe(rt)?;
+    let mut command = Command::new(rt.alloc(), program.as_path())?;
+    command
+        .arg("network::acts_as_the_program")?
+        .env("TOKENTREE_WORDS", words)?
+        .env("TOKENTREE_TIMES", times)?
+        .stdin(Stdio::null())
+        .stdout(Stdio::piped())
+        .stderr(Stdio::piped());
+    Ok(command.spawn(rt)?)
+}
+
+/// Starts `lock` at a node, as a user's own process does, on a script whose first word is the folder.
+fn locker(rt: &HostRuntime, dir: &str, id: u16, script: &str, times: &str) -> Result<Child, Fail> {
+    let words = format!(in rt.alloc();
+        "tokentree\nlock\n--guarded\n{dir}\n{id}\n--\n/bin/sh\n-c\n{script}\n{dir}"
+    )?;
+    copy(rt, words.as_str(), times)
+}
+
+/// How many lines of a text are this one.
+fn count_of(text: &[u8], line: &str) -> Result<usize, Fail> {
+    Ok(
+        str::from_utf8(text)?
+            .lines()
+            .filter(|found| *found == line)
+            .count(),
+    )
+}
+
+/// Waits until a copy has ended. Whether it told this status once, and this is all that stands on
+/// standard error.
+fn ends(rt: &HostRuntime, child: Child, status: &str, told: &str) -> Result<bool, Fail> {
+    let output = child.wait_with_output(rt.alloc())?;
+    let count = count_of(output.stdout.as_slice(), status)?;
+    Ok(count == 1 && str::from_utf8(output.stderr.as_slice())? == told)
+}
+
+/// Waits until a copy has ended. Whether it told both lines, once each.
+fn tells(rt: &HostRuntime, child: Child, lines: [&str; 2]) -> Result<bool, Fail> {
+    let output = child.wait_with_output(rt.alloc())?;
+    let first = count_of(output.stdout.as_slice(), lines[0])?;
+    let second = count_of(output.stdout.as_slice(), lines[1])?;
+    Ok(first == 1 && second == 1)
+}
+
+/// A folder that is not there yet, beside a network file.
+fn fresh_folder(rt: &HostRuntime, name: &str, network: &str) -> Result<String, Fail> {
+    let tmp = env::temp_dir(rt)?;
+    let place = tmp.as_path().display();
+    let dir = format!(in rt.alloc(); "{place}/tokentree-{name}")?;
+    if fs::exists(rt, dir.as_str())? {
+        fs::remove_dir_all(rt, dir.as_str())?;
+    }
+    let file = format!(in rt.alloc(); "{dir}.toml")?;
+    fs::write(rt, file.as_str(), network)?;
+    Ok(dir)
+}
+
+/// Removes what a test has made.
+fn clean(rt: &HostRuntime, dir: &str) -> Result<(), Fail> {
+    let file = format!(in rt.alloc(); "{dir}.toml")?;
+    fs::remove_file(rt, file.as_str())?;
+    fs::remove_dir_all(rt, dir)?;
+    Ok(())
+}
+
+/// Starts node `id` of the network beside a folder, and waits until it is ready.
+fn node(rt: &HostRuntime, dir: &str, id: u16) -> Result<Child, Fail> {
+    let words = format!(in rt.alloc(); "tokentree\nnode\n{dir}.toml\n{id}\n{dir}")?;
+    let mut child = copy(rt, words.as_str(), "1")?;
+    if let Some(output) = &mut child.stdout {
+        for _ in 0..2u32 {
+            read_line(rt.alloc(), output)?;
+        }
+    }
+    Ok(child)
+}
+
+/// Three nodes that run in a folder of their own.
+#[derive(Drop)]
+struct Nodes {
+    folder: String,
+    zero: Child,
+    one: Child,
+    two: Child,
+}
+
+/// Starts the three nodes of a network in a fresh folder.
+fn start_nodes(rt: &HostRuntime, name: &str, network: &str) -> Result<Nodes, Fail> {
+    let folder = fresh_folder(rt, name, network)?;
+    let zero = node(rt, folder.as_str(), 0)?;
+    let one = node(rt, folder.as_str(), 1)?;
+    let two = node(rt, folder.as_str(), 2)?;
+    Ok(Nodes {
+        folder,
+        zero,
+        one,
+        two,
+    })
+}
+
+/// Ends a node by its stop file. Whether this is all that it told on standard error.
+fn stops(rt: &HostRuntime, dir: &str, id: u16, child: Child, told: &str) -> Result<bool, Fail> {
+    let path = format!(in rt.alloc(); "{dir}/stop-{id}")?;
+    fs::write(rt, path.as_str(), "")?;
+    ends(rt, child, "status 0", told)
+}
+
+/// Ends all three nodes, and removes their folder. Whether each told this alone.
+fn all_stop(rt: &HostRuntime, nodes: Nodes, told: &str) -> Result<bool, Fail> {
+    let Nodes {
+        folder,
+        zero,
+        one,
+        two,
+    } = nodes;
+    let dir = folder.as_str();
+    let first = stops(rt, dir, 0, zero, told)?;
+    let second = stops(rt, dir, 1, one, told)?;
+    let third = stops(rt, dir, 2, two, told)?;
+    clean(rt, dir)?;
+    Ok(first && second && third)
+}
+
+/// The next line, without its newline.
+fn read_line<R: Read>(alloc: Global, reader: &mut R) -> Result<String, Fail> {
+    let mut line = String::new(alloc);
+    for _ in 0..200u32 {
+        let mut byte = [0u8; 1];
+        reader.read_exact(&mut byte)?;
+        if byte[0] == b'\n' {
+            break;
+        }
+        line.push(char::from(byte[0]))?;
+    }
+    Ok(line)
+}
+
+/// A client of node `id`.
+fn client(rt: &HostRuntime, dir: &str, id: u16) -> Result<UnixStream, Fail> {
+    let path = format!(in rt.alloc(); "{dir}/desk-{id}.sock")?;
+    Ok(UnixStream::connect(rt, path.as_str())?)
+}
+
+/// What a node answers to a line.
+fn ask(rt: &HostRuntime, client: &mut UnixStream, line: &str) -> Result<String, Fail> {
+    client.write_all(line.as_bytes())?;
+    read_line(rt.alloc(), client)
+}
+
+/// Asks a node how it stands, until it says that it is this far from the root, and then for the lock
+/// once, so that its network has come up.
+fn serves(rt: &HostRuntime, dir: &str, id: u16, distance: u16) -> Result<bool, Fail> {
+    let mut client = client(rt, dir, id)?;
+    let begin = format!(in rt.alloc(); "node {id} distance {distance} ")?;
+    for _ in 0..ASKS {
+        let line = ask(rt, &mut client, "status\n")?;
+        if line.as_str().starts_with(begin.as_str()) {
+            return Ok(ask(rt, &mut client, "lock\n")?.as_str() == "granted");
+        }
+    }
+    Ok(false)
+}
+
+/// Whether each of the three nodes serves at last.
+fn all_serve(rt: &HostRuntime, dir: &str) -> Result<bool, Fail> {
+    Ok(serves(rt, dir, 0, 0)? && serves(rt, dir, 1, 1)? && serves(rt, dir, 2, 1)?)
+}
+
+/// Waits for a file, for a minute at most.
+fn appears(rt: &HostRuntime, path: &str) -> Result<bool, Fail> {
+    for _ in 0..6_000u32 {
+        if fs::exists(rt, path)? {
+            return Ok(true);
+        }
+        thread::sleep(rt, Duration::from_millis(10));
+    }
+    Ok(false)
+}
+
+/// How often a copy told that it ended well.
+fn good_ends(rt: &HostRuntime, child: Child) -> Result<usize, Fail> {
+    let output = child.wait_with_output(rt.alloc())?;
+    count_of(output.stdout.as_slice(), "status 0")
+}
+
+/// How often the witness has seen the lock taken.
+fn taken(rt: &HostRuntime, dir: &str) -> Result<usize, Fail> {
+    let log = format!(in rt.alloc(); "{dir}/log")?;
+    let bytes = fs::read(rt, log.as_str())?;
+    count_of(bytes.as_slice(), "taken")
+}
+
+/// Two nodes' lockers take the lock 20 times each: how often each ended well.
+fn compete(rt: &HostRuntime, dir: &str) -> Result<(usize, usize), Fail> {
+    let first = locker(rt, dir, 1, WITNESS, "20")?;
+    let second = locker(rt, dir, 2, WITNESS, "20")?;
+    let one = good_ends(rt, first)?;
+    let two = good_ends(rt, second)?;
+    Ok((one, two))
+}
+
+/// Without a command the lock is held until standard input ends, which is at once here.
+fn holds_until_its_input_ends(rt: &HostRuntime, dir: &str) -> Result<bool, Fail> {
+    let words = format!(in rt.alloc(); "tokentree\nlock\n{dir}\n1")?;
+    let child = copy(rt, words.as_str(), "1")?;
+    tells(rt, child, ["granted", "status 0"])
+}
+
+#[test]
+fn two_lockers_never_hold_it_at_once(rt: HostRuntime) -> Result<(), Fail> {
+    let nodes = start_nodes(&rt, "witness", RING)?;
+    let dir = nodes.folder.as_str();
+    assert!(rt; all_serve(&rt, dir)?);
+    assert_eq!(rt; compete(&rt, dir)?, (20, 20));
+    assert_eq!(rt; taken(&rt, dir)?, 40);
+    assert!(rt; ends(&rt, locker(&rt, dir, 0, "exit 7", "1")?, "status 7", "")?);
+    assert!(rt; holds_until_its_input_ends(&rt, dir)?);
+    assert!(rt; all_stop(&rt, nodes, "")?);
+    Ok(())
+}
+
+/// No second process is node 0 there.
+fn is_there_once(rt: &HostRuntime, dir: &str) -> Result<bool, Fail> {
+    let words = format!(in rt.alloc(); "tokentree\nnode\n{dir}.toml\n0\n{dir}")?;
+    let told = format!(in rt.alloc();
+        "tokentree: {dir}/lock-0: node 0 runs there already; stop it, or choose another DIR\n"
+    )?;
+    ends(
+        rt,
+        copy(rt, words.as_str(), "1")?,
+        "status 1",
+        told.as_str(),
+    )
+}
+
+/// While a client holds it at node 0, nobody is lent it at node 2.
+fn is_waited_for_in_vain(rt: &HostRuntime, dir: &str) -> Result<bool, Fail> {
+    let mut holder = client(rt, dir, 0)?;
+    let is_held = ask(rt, &mut holder, "lock\n")?.as_str() == "granted";
+    let words = format!(in rt.alloc(); "tokentree\nlock\n--guarded\n--timeout\n1\n{dir}\n2\ntrue")?;
+    let told = "tokentree: node 2 did not lend the lock within 1 s\n";
+    Ok(ends(rt, copy(rt, words.as_str(), "1")?, "status 124", told)? && is_held)
+}
+
+/// Kills a node.
+fn kill(child: &mut Child) -> Result<(), Fail> {
+    child.kill()?;
+    child.wait()?;
+    Ok(())
+}
+
+/// Node 1 is killed while a command runs that has the lock from it.
+fn is_lost_with_its_node(rt: &HostRuntime, dir: &str, one: &mut Child) -> Result<bool, Fail> {
+    let held = locker(rt, dir, 1, ">\"$0/held\"; exec sleep 50", "1")?;
+    let path = format!(in rt.alloc(); "{dir}/held")?;
+    let is_held = appears(rt, path.as_str())?;
+    kill(one)?;
+    let told = "tokentree: the lock is lost, since node 1 went away: the command is ended\n";
+    Ok(ends(rt, held, "status 122", told)? && is_held)
+}
+
+/// Who asks for node 1 misses it.
+fn is_missed(rt: &HostRuntime, dir: &str) -> Result<bool, Fail> {
+    let words = format!(in rt.alloc(); "tokentree\nstatus\n{dir}")?;
+    let child = copy(rt, words.as_str(), "1")?;
+    tells(rt, child, ["node 1 no answer", "status 1"])
+}
+
+/// Nobody lends the lock at node 1.
+fn is_not_there(rt: &HostRuntime, dir: &str) -> Result<bool, Fail> {
+    let nobody = format!(in rt.alloc();
+        "tokentree: nobody listens at {dir}/desk-1.sock: start node 1\n"
+    )?;
+    ends(
+        rt,
+        locker(rt, dir, 1, "exit 0", "1")?,
+        "status 125",
+        nobody.as_str(),
+    )
+}
+
+#[test]
+fn a_lock_waits_is_lost_and_is_not_there(rt: HostRuntime) -> Result<(), Fail> {
+    let mut nodes = start_nodes(&rt, "lost", RING)?;
+    assert!(rt; all_serve(&rt, nodes.folder.as_str())?);
+    assert!(rt; is_there_once(&rt, nodes.folder.as_str())?);
+    assert!(rt; is_waited_for_in_vain(&rt, nodes.folder.as_str())?);
+    assert!(rt; is_lost_with_its_node(&rt, nodes.folder.as_str(), &mut nodes.one)?);
+    assert!(rt; is_missed(&rt, nodes.folder.as_str())?);
+    assert!(rt; is_not_there(&rt, nodes.folder.as_str())?);
+    nodes.one = node(&rt, nodes.folder.as_str(), 1)?;
+    assert!(rt; all_stop(&rt, nodes, "")?);
+    Ok(())
+}
+
+/// A loan of node 2 ends while a command runs.
+fn is_lost_by_its_lease(rt: &HostRuntime, dir: &str) -> Result<bool, Fail> {
+    let held = locker(rt, dir, 2, "exec sleep 50", "1")?;
+    let told = "tokentree: the lock is lost, since node 2 ended the loan: the command is ended\n";
+    ends(rt, held, "status 122", told)
+}
+
+#[test]
+fn a_lease_ends_and_a_small_capacity_is_told(rt: HostRuntime) -> Result<(), Fail> {
+    let nodes = start_nodes(&rt, "lease", LEASED)?;
+    assert!(rt; is_lost_by_its_lease(&rt, nodes.folder.as_str())?);
+    let told = "tokentree: capacity 63 is less than the 64 frames that may be under way on a link; \
+        give the network capacity 64 or more\n";
+    assert!(rt; all_stop(&rt, nodes, told)?);
+    Ok(())
+}
+
+/// Makes a pipe.
+fn make_pipe(rt: &HostRuntime, path: &str) -> Result<bool, Fail> {
+    let made = Command::new(rt.alloc(), "mkfifo")?.arg(path)?.status(rt)?;
+    Ok(made.success())
+}
+
+/// Where a pipe were waited for, nobody would ever write to it.
+#[test]
+fn a_pipe_is_no_network_file(rt: HostRuntime) -> Result<(), Fail> {
+    let place = env::temp_dir(&rt)?;
+    let pipe = format!(in rt.alloc(); "{}/tokentree-pipe", place.as_path().display())?;
+    assert!(rt; make_pipe(&rt, pipe.as_str())?);
+    let words = [
+        "tokentree",
+        "node",
+        pipe.as_str(),
+        "0",
+        "tokentree-pipe-nodes",
+    ];
+    assert_eq!(rt; run_words(&rt, &words, false), ExitCode::FAILURE);
+    assert!(rt; !fs::exists(&rt, "tokentree-pipe-nodes")?);
+    fs::remove_file(&rt, pipe.as_str())?;
+    Ok(())
+}
