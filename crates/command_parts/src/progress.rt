@@ -8,7 +8,7 @@ const MILLISECONDS_A_TENTH: u128 = 100;
 /// Tells how many of some things are done, on one line that is written over again and again: at
 /// most once in each tenth of a second, and not in the first. Threads may share it.
 #[derive(Drop)]
-struct Progress {
+pub struct Progress {
     started: Instant,
     /// What is counted, in the plural.
     things: &'static str,
@@ -22,7 +22,7 @@ struct Progress {
 
 impl Progress {
     /// None of the `most` things is done; nothing where the clock cannot be read.
-    fn begin<R: Clock>(rt: &R, things: &'static str, most: u32) -> Option<Progress> {
+    pub fn begin<R: Clock>(rt: &R, things: &'static str, most: u32) -> Option<Progress> {
         let started = Instant::now(rt).ok()?;
         Some(Progress {
             started,
@@ -34,13 +34,13 @@ impl Progress {
     }
 
     /// One more is done.
-    fn advance<R: Clock + Eprint>(&self, rt: &R) {
+    pub fn advance<R: Clock + Eprint>(&self, rt: &R) {
         let done = self.done.fetch_add(1, Ordering::SeqCst).wrapping_add(1);
         self.tell(rt, done);
     }
 
     /// `done` of them are done, by a count of the caller's. What standard error does not take is left out.
-    fn tell<R: Clock + Eprint>(&self, rt: &R, done: u64) {
+    pub fn tell<R: Clock + Eprint>(&self, rt: &R, done: u64) {
         let Ok(elapsed) = self.started.elapsed(rt) else {
             return;
         };
@@ -53,7 +53,7 @@ impl Progress {
     }
 
     /// All is done: the line is taken away.
-    fn end<R: Eprint>(&self, rt: &R) {
+    pub fn end<R: Eprint>(&self, rt: &R) {
         if self.told.load(Ordering::SeqCst) > 0 {
             let _ = eprint!(rt; "\r\x1b[K");
         }

@@ -34,6 +34,3 @@ mod turned;
 pub use doors::{Door, Doors};
 pub use run::{NodeRun, Unmade};
 pub use turned::Turned;
-
-#[cfg(test)]
-mod tests;

@@ -9,12 +9,12 @@
 //! The trap: what standard error does not take is left out; the status is the same.
 #![tactic(auto)]
 
+mod arguments;
 mod ends;
 mod fault_line;
-mod own_words;
 mod path_fault_line;
 
+pub use arguments::own_words;
 pub use ends::{LINE_REFUSED, fails, fault_status, shows};
 pub use fault_line::FaultLine;
-pub use own_words::own_words;
 pub use path_fault_line::PathFaultLine;

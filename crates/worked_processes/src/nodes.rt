@@ -1,7 +1,6 @@
 //! Nodes as processes: copies of this test program, which talk over sockets.
-use node_process::{
-    CapacityLine, End, EndLine, NodeFault, NodePaths, NodeProgram, NodeWords, Refusal, node, up,
-};
+use node_process::{NodeFault, NodeProgram, NodeWords, Refusal, node, up};
+use node_texts::{CapacityLine, End, EndLine, NodePaths};
 use pace::Manner;
 use std::alloc::Global;
 use std::io::{Read, Write};

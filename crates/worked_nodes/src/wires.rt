@@ -1,7 +1,7 @@
 //! Connections over memory that two ends share, and doors over them.
 ghost use Rattle.std.specs.Prelude.{◌≡◌, ◌≤◌, length};
 
-use crate::{Door, Doors};
+use node_loop::{Door, Doors};
 use socket_links::{Pipe, ReadAnswer, WriteAnswer};
 use std::cell::Cell;
 

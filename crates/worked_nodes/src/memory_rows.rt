@@ -1,9 +1,9 @@
 //! A node's loop takes all memory at its start, and none in its turns.
-use crate::NodeRun;
-use crate::tests::stage::{doors, whole};
-use crate::tests::wires::{MemoryDoors, Pair, Queue, Trip};
+use crate::stage::{doors, whole};
+use crate::wires::{MemoryDoors, Pair, Queue, Trip};
 use linked_list_allocator::LocalHeap;
 use node_core::Node;
+use node_loop::NodeRun;
 use node_state_file::MemoryStore;
 use pace::Manner;
 use std::alloc::{AllocError, Global};

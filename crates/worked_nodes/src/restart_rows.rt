@@ -1,8 +1,8 @@
 //! A node that starts again from a state that means nothing, among nodes that run.
 ghost use Rattle.std.specs.Prelude.{◌≡◌, ◌<◌, ◌+◌, length};
 
-use crate::tests::stage::{Run, doors, doors_between, doors_to, run_of, whole};
-use crate::tests::wires::{MemoryDoors, Pair, Queue, Trip};
+use crate::stage::{Run, doors, doors_between, doors_to, run_of, whole};
+use crate::wires::{MemoryDoors, Pair, Queue, Trip};
 use node_state_file::{FileFault, MemoryStore, StartFault, Store, start};
 use std::alloc::{AllocError, Global};
 use std::process::Abort;

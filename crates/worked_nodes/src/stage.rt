@@ -3,9 +3,9 @@ ghost use Rattle.std.specs.Prelude.{◌≡◌};
 ghost use Rattle.node_core.specs.Site.{site_of};
 ghost use Rattle.node_core.specs.View.{site_in};
 
-use crate::NodeRun;
-use crate::tests::wires::{MemoryDoors, Queue, Trip};
+use crate::wires::{MemoryDoors, Queue, Trip};
 use node_core::Node;
+use node_loop::NodeRun;
 use node_state_file::{MemoryStore, decode};
 use pace::{Manner, Plan};
 use std::alloc::{AllocError, Global};

@@ -1,5 +1,5 @@
 //! Frames between two links whose pipes fail.
-use crate::tests::wires::{End, Pair, Trip};
+use crate::wires::{End, Pair, Trip};
 use socket_links::{Flow, Offer, Pull, SocketLink};
 use std::alloc::{AllocError, Global};
 use std::process::Abort;

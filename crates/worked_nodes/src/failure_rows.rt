@@ -1,8 +1,8 @@
 //! Doors, connections and stores that fail.
-use crate::NodeRun;
-use crate::tests::stage::{doors, doors_to, idle, in_a_row, whole, with_token};
-use crate::tests::wires::{Pair, Queue, Trip};
+use crate::stage::{doors, doors_to, idle, in_a_row, whole, with_token};
+use crate::wires::{Pair, Queue, Trip};
 use node_core::Node;
+use node_loop::NodeRun;
 use node_state_file::{FusedStore, MemoryStore, StoreFault};
 use pace::Manner;
 use std::alloc::AllocError;

@@ -1,6 +1,6 @@
 //! What clients write, and what becomes of them.
-use crate::tests::stage::{doors, idle, in_a_row, run_of, turn_once, whole, with_token};
-use crate::tests::wires::{Pair, Queue, Trip};
+use crate::stage::{doors, idle, in_a_row, run_of, turn_once, whole, with_token};
+use crate::wires::{Pair, Queue, Trip};
 use node_core::Node;
 use std::test::Fail;
 use topology::Net;

@@ -1,6 +1,6 @@
 //! Nodes under load whose pace is damaged again and again.
-use crate::tests::stage::{Run, doors, doors_to, in_a_row, with_token};
-use crate::tests::wires::{Pair, Queue, Trip};
+use crate::stage::{Run, doors, doors_to, in_a_row, with_token};
+use crate::wires::{Pair, Queue, Trip};
 use pace::{Manner, NodePace, PORTS, Pace, PortPace};
 use std::test::Fail;
 use topology::{Frame, Payload};

@@ -1,6 +1,6 @@
 //! Connections of neighbours, and the first lines on them.
-use crate::tests::stage::{doors, doors_to, idle, in_a_row, turn_once, whole};
-use crate::tests::wires::{Pair, Queue, Trip};
+use crate::stage::{doors, doors_to, idle, in_a_row, turn_once, whole};
+use crate::wires::{Pair, Queue, Trip};
 use std::alloc::AllocError;
 use std::test::Fail;
 use topology::Net;
