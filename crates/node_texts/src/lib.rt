@@ -20,7 +20,7 @@ mod lines;
 mod paths;
 mod status_line;
 
+pub use answers::{NodeAnswer, all_answered, report};
 pub use lines::{CapacityLine, End, EndLine, Note, NoteLine, SOCKET_FRAMES};
 pub use paths::{LONGEST_SOCKET_NAME, NodePaths, links_name, longest_socket_name};
-pub use answers::{NodeAnswer, all_answered, report};
 pub use status_line::{MOST_STATUS_BYTES, StatusLine, StatusReading};
