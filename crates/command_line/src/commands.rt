@@ -141,15 +141,40 @@ fn command<'a>(alloc: Global) -> Result<Command<'a>, AllocError> {
         .after_help(help::PROGRAM)
         .version(VERSION)
         .subcommand_required(true);
+    let program = with_runs(program, alloc)?;
+    let program = with_locks(program, alloc)?;
+    let program = with_damage(program, alloc)?;
+    let program = with_nodes(program, alloc)?;
+    with_experiments(program, alloc)
+}
+
+/// Adds what reads a network, and what a list of events makes of it.
+fn with_runs<'a>(program: Command<'a>, alloc: Global) -> Result<Command<'a>, AllocError> {
     let program = add(program, bound_command(alloc))?;
-    let program = add(program, simulate_command(alloc))?;
+    add(program, simulate_command(alloc))
+}
+
+/// Adds what takes the lock, and what tells of it.
+fn with_locks<'a>(program: Command<'a>, alloc: Global) -> Result<Command<'a>, AllocError> {
     let program = add(program, locking::lock_command(alloc))?;
-    let program = add(program, locking::status_command(alloc))?;
+    add(program, locking::status_command(alloc))
+}
+
+/// Adds what damages files and pipes.
+fn with_damage<'a>(program: Command<'a>, alloc: Global) -> Result<Command<'a>, AllocError> {
     let program = add(program, damage::scramble_command(alloc))?;
     let program = add(program, damage::cut_command(alloc))?;
-    let program = add(program, damage::junk_command(alloc))?;
+    add(program, damage::junk_command(alloc))
+}
+
+/// Adds what runs nodes as processes.
+fn with_nodes<'a>(program: Command<'a>, alloc: Global) -> Result<Command<'a>, AllocError> {
     let program = add(program, node_command(alloc))?;
-    let program = add(program, up_command(alloc))?;
+    add(program, up_command(alloc))
+}
+
+/// Adds schedules, measured runs, pictures and threads.
+fn with_experiments<'a>(program: Command<'a>, alloc: Global) -> Result<Command<'a>, AllocError> {
     let program = add(program, schedule_command(alloc))?;
     let program = add(program, measure_command(alloc))?;
     let program = add(program, draw_command(alloc))?;
