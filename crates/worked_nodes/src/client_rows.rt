@@ -1,7 +1,8 @@
 //! What clients write, and what becomes of them.
-use crate::stage::{doors, idle, in_a_row, run_of, turn_once, whole, with_token};
-use crate::wires::{Pair, Queue, Trip};
+use crate::stage::{Run, doors, idle, in_a_row, run_of, turn_once, whole, with_token};
+use crate::wires::{MemoryDoors, Pair, Queue, Trip};
 use node_core::Node;
+use std::alloc::{AllocError, Global};
 use std::test::Fail;
 use topology::Net;
 
@@ -148,16 +149,26 @@ fn the_hundred_and_twenty_ninth_client_is_closed(rt: HostRuntime) -> Result<(), 
     Ok(())
 }
 
+/// The root of two nodes, at whose desk three tickets wait and a fourth is lent to.
+fn with_strangers<'a>(alloc: Global, doors: MemoryDoors<'a>) -> Result<Run<'a>, Fail> {
+    let net = Net::make(alloc, 2, 0, 1, 0, &[(0, 1)])?;
+    if net.nodes() == 0 {
+        return Err(Fail::from(AllocError));
+    }
+    let mut node = Node::new(alloc, &net, 0)?;
+    let is_set = node.set_waiting(&[7, 0, 65535]).is_ok()
+        && node.set_desk(Some(300), 0, false).is_ok();
+    if !is_set {
+        return Err(Fail::from(AllocError));
+    }
+    run_of(alloc, net, node, doors)
+}
+
 #[test]
 fn tickets_that_no_client_has_leave(rt: HostRuntime) -> Result<(), Fail> {
     let pairs = [Pair::new()];
     let (links, clients, trip) = stage(&pairs);
-    let net = Net::make(rt.alloc(), 2, 0, 1, 0, &[(0, 1)])?;
-    assert!(rt; net.nodes() == 2);
-    let mut node = Node::new(rt.alloc(), &net, 0)?;
-    assert_eq!(rt; node.set_waiting(&[7, 0, 65535]), Ok(()));
-    assert_eq!(rt; node.set_desk(Some(300), 0, false), Ok(()));
-    let mut run = run_of(rt.alloc(), net, node, doors(&links, &clients, &trip))?;
+    let mut run = with_strangers(rt.alloc(), doors(&links, &clients, &trip))?;
     clients.knock();
     turn_once(&mut run, &idle());
     assert_eq!(rt; run.node().lent(), None);

@@ -1,11 +1,11 @@
 //! Doors, connections and stores that fail.
-use crate::stage::{doors, doors_to, idle, in_a_row, whole, with_token};
-use crate::wires::{Pair, Queue, Trip};
+use crate::stage::{Run, doors, doors_to, idle, in_a_row, turn_once, whole, with_token};
+use crate::wires::{MemoryDoors, Pair, Queue, Trip};
 use node_core::Node;
 use node_loop::NodeRun;
 use node_state_file::{FusedStore, MemoryStore, StoreFault};
 use pace::Manner;
-use std::alloc::AllocError;
+use std::alloc::{AllocError, Global};
 use std::test::Fail;
 use topology::Net;
 
@@ -14,10 +14,43 @@ fn is_settled(node: &Node) -> bool {
     node.distance() == node.id() && node.waiting() == 0 && node.lent().is_none()
 }
 
+/// A client comes, asks for the lock and gives it back.
+fn ask(clients: &Queue<'_>) {
+    if let Some(client) = clients.knock() {
+        client.up.write(b"lock\nunlock\n");
+    }
+}
+
+/// Sixteen turns of each.
+fn turn_both(near: &mut Run<'_>, far: &mut Run<'_>) {
+    for _ in 0..16 {
+        turn_once(near, &whole());
+        turn_once(far, &whole());
+    }
+}
+
+/// Runs two nodes over these connections, of which the first two are the clients', and lets the call
+/// behind that number of others fail. Whether both settle, node 1 below node 0, and whether that
+/// call was made.
+fn settle(alloc: Global, calls: u64, pairs: &[Pair]) -> Result<(bool, bool), Fail> {
+    let (near_clients, far_clients) = (Queue::new(pairs, 0, 1), Queue::new(pairs, 1, 2));
+    let links = Queue::new(pairs, 2, 5);
+    let trip = Trip::after(calls);
+    let mut near = with_token(alloc, doors(&links, &near_clients, &trip))?;
+    let mut far = in_a_row(alloc, 2, 1, doors_to(&links, &far_clients, &trip))?;
+    ask(&near_clients);
+    ask(&far_clients);
+    turn_both(&mut near, &mut far);
+    let are_settled = is_settled(near.node()) && is_settled(far.node());
+    Ok((
+        are_settled && far.node().parent() == Some(0),
+        trip.is_over(),
+    ))
+}
+
 #[test]
 fn two_nodes_settle_whichever_call_fails(rt: HostRuntime) -> Result<(), Fail> {
     for calls in 0..10_000 {
-        // The first two are the clients'.
         let pairs = [
             Pair::new(),
             Pair::new(),
@@ -25,27 +58,9 @@ fn two_nodes_settle_whichever_call_fails(rt: HostRuntime) -> Result<(), Fail> {
             Pair::new(),
             Pair::new(),
         ];
-        let all = &pairs[..];
-        let (near_clients, far_clients) = (Queue::new(all, 0, 1), Queue::new(all, 1, 2));
-        let links = Queue::new(all, 2, 5);
-        let trip = Trip::after(calls);
-        let mut near = with_token(rt.alloc(), doors(&links, &near_clients, &trip))?;
-        let mut far = in_a_row(rt.alloc(), 2, 1, doors_to(&links, &far_clients, &trip))?;
-        near_clients.knock();
-        far_clients.knock();
-        for client in &all[..2] {
-            client.up.write(b"lock\nunlock\n");
-        }
-        for _ in 0..16 {
-            near.turn_by(&whole(), 0);
-            far.turn_by(&whole(), 0);
-        }
-        assert!(rt;
-            is_settled(near.node()) && is_settled(far.node()),
-            "call {calls}"
-        );
-        assert_eq!(rt; far.node().parent(), Some(0), "call {calls}");
-        if !trip.is_over() {
+        let (are_settled, has_failed) = settle(rt.alloc(), calls, &pairs)?;
+        assert!(rt; are_settled, "call {calls}");
+        if !has_failed {
             assert!(rt; calls > 100);
             return Ok(());
         }
@@ -53,25 +68,26 @@ fn two_nodes_settle_whichever_call_fails(rt: HostRuntime) -> Result<(), Fail> {
     Err(Fail::from(AllocError))
 }
 
-#[test]
-fn each_256th_turn_saves_and_goes_on_where_that_fails(rt: HostRuntime) -> Result<(), Fail> {
-    let pairs = [Pair::new()];
-    let all = &pairs[..];
-    let (links, clients, trip) = (Queue::new(all, 0, 0), Queue::new(all, 0, 0), Trip::never());
-    let net = Net::make(rt.alloc(), 2, 0, 1, 0, &[(0, 1)])?;
-    assert!(rt; net.nodes() == 2);
-    let node = Node::new(rt.alloc(), &net, 1)?;
-    let store = FusedStore::new(MemoryStore::new(rt.alloc(), 1276)?, 0);
-    let Ok(mut run) = NodeRun::new(
-        rt.alloc(),
-        net,
-        node,
-        doors(&links, &clients, &trip),
-        store,
-        Manner::usual(),
-    ) else {
+/// A node whose store fails once.
+type Fused<'a> = NodeRun<MemoryDoors<'a>, FusedStore<MemoryStore>>;
+
+/// Node 1 of two, of whose saves the first one fails.
+fn with_fused_store<'a>(alloc: Global, doors: MemoryDoors<'a>) -> Result<Fused<'a>, Fail> {
+    let net = Net::make(alloc, 2, 0, 1, 0, &[(0, 1)])?;
+    if net.nodes() < 2 {
         return Err(Fail::from(AllocError));
-    };
+    }
+    let node = Node::new(alloc, &net, 1)?;
+    let store = FusedStore::new(MemoryStore::new(alloc, 1276)?, 0);
+    match NodeRun::new(alloc, net, node, doors, store, Manner::usual()) {
+        Ok(run) => Ok(run),
+        Err(_unmade) => Err(Fail::from(AllocError)),
+    }
+}
+
+/// Turns a node 512 times, and lets it tick in the last turn. The first turn that did not save, or
+/// saved, as it should: the 256th fails to, the 512th does.
+fn first_wrong_turn(run: &mut Fused<'_>) -> Option<u32> {
     for turn in 1..=512 {
         let want = match turn {
             256 => Some(Err(StoreFault::Device)),
@@ -79,8 +95,20 @@ fn each_256th_turn_saves_and_goes_on_where_that_fails(rt: HostRuntime) -> Result
             _ => None,
         };
         let plan = if turn == 512 { whole() } else { idle() };
-        assert_eq!(rt; run.turn_by(&plan, 0).saved, want, "turn {turn}");
+        if run.turn_by(&plan, 0).saved != want {
+            return Some(turn);
+        }
     }
+    None
+}
+
+#[test]
+fn each_256th_turn_saves_and_goes_on_where_that_fails(rt: HostRuntime) -> Result<(), Fail> {
+    let pairs = [Pair::new()];
+    let all = &pairs[..];
+    let (links, clients, trip) = (Queue::new(all, 0, 0), Queue::new(all, 0, 0), Trip::never());
+    let mut run = with_fused_store(rt.alloc(), doors(&links, &clients, &trip))?;
+    assert_eq!(rt; first_wrong_turn(&mut run), None);
     // The tick of that very turn made node 0 the parent.
     let want = b"TKT2\x00\x02\x00\x01\x00\x01\x00\x01\x00\x02\x00\x00\
 \x00\x00\x00\x00\x00\x00\x00\x02\xff\xff\x00\x00\x00\x02\xff\xff\x00\x00\x00\x00";

@@ -1,7 +1,7 @@
 //! Connections of neighbours, and the first lines on them.
-use crate::stage::{doors, doors_to, idle, in_a_row, turn_once, whole};
+use crate::stage::{Run, doors, doors_to, idle, in_a_row, turn_once, whole};
 use crate::wires::{Pair, Queue, Trip};
-use std::alloc::AllocError;
+use std::alloc::{AllocError, Global};
 use std::test::Fail;
 use topology::Net;
 
@@ -72,6 +72,20 @@ fn a_newer_hello_replaces_the_older_connection(rt: HostRuntime) -> Result<(), Fa
     Ok(())
 }
 
+/// Turns a node 256 times. The first turn before which another connection than the 65th was closed
+/// by it, or that one was not closed behind the second turn, and that connection.
+fn first_wrong(run: &mut Run<'_>, pairs: &[Pair]) -> Option<(u32, usize)> {
+    for turn in 1..=256 {
+        for (place, pair) in pairs.iter().enumerate() {
+            if pair.down.is_closed() != (place == 64 && turn > 2) {
+                return Some((turn, place));
+            }
+        }
+        turn_once(run, &idle());
+    }
+    None
+}
+
 #[test]
 fn silent_connections_are_few_and_go(rt: HostRuntime) -> Result<(), Fail> {
     let mut pairs = Vec::with_capacity(rt.alloc(), 66)?;
@@ -83,13 +97,7 @@ fn silent_connections_are_few_and_go(rt: HostRuntime) -> Result<(), Fail> {
     for _ in 0..65 {
         links.knock();
     }
-    for turn in 1..=256 {
-        for (place, pair) in pairs.iter().enumerate() {
-            let is_closed = place == 64 && turn > 2;
-            assert_eq!(rt; pair.down.is_closed(), is_closed, "{place} in turn {turn}");
-        }
-        turn_once(&mut run, &idle());
-    }
+    assert_eq!(rt; first_wrong(&mut run, pairs.as_slice()), None);
     assert_eq!(rt;
         pairs.iter().filter(|pair| pair.down.is_closed()).count(),
         65
@@ -127,29 +135,55 @@ fn a_node_connects_to_a_lower_neighbour_and_says_who_it_is(rt: HostRuntime) -> R
     Ok(())
 }
 
+/// What came of a network that was handed to a node: whether it was taken up, whether node 2 was
+/// told a frame then, and whether its connection was closed.
+type Rewired = Option<(bool, bool, bool)>;
+
+/// Takes up a network and turns; node 2 knocks before that.
+fn rewired(run: &mut Run<'_>, net: &Net, links: &Queue<'_>) -> Rewired {
+    let pair = links.knock()?;
+    pair.up.write(b"H0002\n");
+    let is_taken = run.rewire(net);
+    turn_once(run, &whole());
+    Some((is_taken, pair.says(FIRST_FRAME), pair.down.is_closed()))
+}
+
+/// Hands the root of a row of three nodes that row, a ring with other links, the ring, and without a
+/// knock the row again.
+fn rewired_often(
+    alloc: Global,
+    run: &mut Run<'_>,
+    links: &Queue<'_>,
+) -> Result<([Rewired; 3], bool), Fail> {
+    let row = Net::make(alloc, 3, 0, 1, 0, &[(0, 1), (1, 2)])?;
+    let other = Net::make(alloc, 3, 0, 2, 0, &[(0, 1), (1, 2), (0, 2)])?;
+    let ring = Net::make(alloc, 3, 0, 1, 0, &[(0, 1), (1, 2), (0, 2)])?;
+    let told = [
+        rewired(run, &row, links),
+        rewired(run, &other, links),
+        rewired(run, &ring, links),
+    ];
+    Ok((told, run.rewire(&row)))
+}
+
 #[test]
 fn a_network_with_other_edges_is_taken_up(rt: HostRuntime) -> Result<(), Fail> {
     let pairs = [Pair::new(), Pair::new(), Pair::new()];
     let (links, clients, trip) = stage(&pairs);
     let mut run = in_a_row(rt.alloc(), 3, 0, doors(&links, &clients, &trip))?;
-    let row = Net::make(rt.alloc(), 3, 0, 1, 0, &[(0, 1), (1, 2)])?;
-    let ring = Net::make(rt.alloc(), 3, 0, 1, 0, &[(0, 1), (1, 2), (0, 2)])?;
-    let other = Net::make(rt.alloc(), 3, 0, 2, 0, &[(0, 1), (1, 2), (0, 2)])?;
-    for (net, is_taken, is_welcome) in [
-        (&row, true, false),
-        (&other, false, false),
-        (&ring, true, true),
-    ] {
-        let Some(pair) = links.knock() else {
-            break;
-        };
-        pair.up.write(b"H0002\n");
-        assert_eq!(rt; run.rewire(net), is_taken);
-        turn_once(&mut run, &whole());
-        assert_eq!(rt; pair.says(FIRST_FRAME), is_welcome);
-        assert_eq!(rt; pair.down.is_closed(), !is_welcome);
-    }
-    assert!(rt; run.rewire(&row));
-    assert!(rt; pairs[2].down.is_closed());
+    let told = rewired_often(rt.alloc(), &mut run, &links)?;
+    // The connection of node 2 went with its edge.
+    let has_gone = pairs[2].down.is_closed();
+    let unwelcome = |is_taken| Some((is_taken, false, true));
+    assert_eq!(rt;
+        (told, has_gone),
+        (
+            (
+                [unwelcome(true), unwelcome(false), Some((true, true, false))],
+                true
+            ),
+            true
+        )
+    );
     Ok(())
 }

@@ -23,56 +23,113 @@ fn fill<'h>(alloc: Global, heap: &'h LocalHeap) -> Result<Vec<Vec<u8, &'h LocalH
     Ok(taken)
 }
 
+/// A node that runs on a heap.
+type RunOn<'a, 'h> = NodeRun<MemoryDoors<'a>, MemoryStore, &'h LocalHeap>;
+
+/// What came of a node on a heap.
+#[derive(Drop)]
+enum Begun<'a, 'h> {
+    /// The heap has no room for the node itself.
+    NoNode,
+    /// The loop was refused: whether node and network came back, and nothing else stayed taken.
+    Refused(bool),
+    /// It may run.
+    Whole(RunOn<'a, 'h>),
+}
+
+/// What a node on a heap of some size did.
+#[derive(Clone, Copy)]
+enum Outcome {
+    NoNode,
+    Refused(bool),
+    /// It ran: whether no turn took memory.
+    Ran(bool),
+}
+
+/// Begins the root of two nodes on a heap.
+fn root_of_two<'a, 'h>(
+    alloc: Global,
+    heap: &'h LocalHeap,
+    doors: MemoryDoors<'a>,
+) -> Result<Begun<'a, 'h>, Fail> {
+    let net = Net::make(alloc, 2, 0, 1, 0, &[(0, 1)])?;
+    if net.nodes() == 0 {
+        return Err(Fail::from(AllocError));
+    }
+    let store = MemoryStore::new(alloc, 1276)?;
+    let Ok(node) = Node::new(heap, &net, 0) else {
+        return Ok(Begun::NoNode);
+    };
+    let used = heap.used();
+    match NodeRun::new(heap, net, node, doors, store, Manner::usual()) {
+        Ok(run) => Ok(Begun::Whole(run)),
+        Err(unmade) => {
+            let is_whole = unmade.node.id() == 0 && unmade.net.nodes() == 2;
+            Ok(Begun::Refused(is_whole && heap.used() == used))
+        }
+    }
+}
+
+/// The next one knocks, and writes this.
+fn comes(queue: &Queue<'_>, bytes: &[u8]) {
+    if let Some(pair) = queue.knock() {
+        pair.up.write(bytes);
+    }
+}
+
+/// So many turns by a whole plan, and then so many at the node's own pace.
+fn turn_often(run: &mut RunOn<'_, '_>, turns: u64) {
+    for _ in 0..turns {
+        run.turn_by(&whole(), 0);
+    }
+    for now in 0..turns {
+        run.wait(now);
+        run.turn(now);
+    }
+}
+
+/// Turns a node on a heap that has nothing left. Whether it takes nothing.
+fn takes_nothing(alloc: Global, heap: &LocalHeap, run: &mut RunOn<'_, '_>) -> Result<bool, Fail> {
+    let _full = fill(alloc, heap)?;
+    let used = heap.used();
+    turn_often(run, 256);
+    Ok(heap.used() == used)
+}
+
+/// What the root of two nodes does on a heap of that size, if a neighbour and a client come.
+fn tried(alloc: Global, size: usize, pairs: &[Pair]) -> Result<Outcome, Fail> {
+    let (links, clients) = (Queue::new(pairs, 0, 1), Queue::new(pairs, 1, 2));
+    let trip = Trip::never();
+    let heap = LocalHeap::new(alloc, size)?;
+    match root_of_two(alloc, &heap, doors(&links, &clients, &trip))? {
+        Begun::NoNode => Ok(Outcome::NoNode),
+        Begun::Refused(is_whole) => Ok(Outcome::Refused(is_whole)),
+        Begun::Whole(mut run) => {
+            comes(&links, b"H0001\nF000000000002ffff0000\n");
+            comes(&clients, b"lock\nunlock\nstatus\n");
+            Ok(Outcome::Ran(takes_nothing(alloc, &heap, &mut run)?))
+        }
+    }
+}
+
 #[test]
 fn only_new_asks_for_memory(rt: HostRuntime) -> Result<(), Fail> {
     let mut refused = 0u32;
     for units in 1..4000usize {
         let pairs = [Pair::new(), Pair::new()];
-        let all = &pairs[..];
-        let (links, clients) = (Queue::new(all, 0, 1), Queue::new(all, 1, 2));
-        let trip = Trip::never();
-        let heap = LocalHeap::new(rt.alloc(), units * 128)?;
-        let net = Net::make(rt.alloc(), 2, 0, 1, 0, &[(0, 1)])?;
-        assert!(rt; net.nodes() == 2);
-        let Ok(node) = Node::new(&heap, &net, 0) else {
-            continue;
-        };
-        let used = heap.used();
-        let store = MemoryStore::new(rt.alloc(), 1276)?;
-        match NodeRun::new(
-            &heap,
-            net,
-            node,
-            doors(&links, &clients, &trip),
-            store,
-            Manner::usual(),
-        ) {
-            Err(unmade) => {
+        match tried(rt.alloc(), units * 128, &pairs)? {
+            Outcome::NoNode => {}
+            Outcome::Refused(is_whole) => {
                 refused = refused.saturating_add(1);
-                assert!(rt; unmade.node.id() == 0 && unmade.net.nodes() == 2);
-                assert_eq!(rt; heap.used(), used);
+                assert!(rt; is_whole);
             }
-            Ok(mut run) => {
-                let _full = fill(rt.alloc(), &heap)?;
-                let used = heap.used();
-                links.knock();
-                clients.knock();
-                pairs[0].up.write(b"H0001\nF000000000002ffff0000\n");
-                pairs[1].up.write(b"lock\nunlock\nstatus\n");
-                for _ in 0..256 {
-                    run.turn_by(&whole(), 0);
-                }
-                for now in 0..256 {
-                    run.wait(now);
-                    run.turn(now);
-                }
-                assert_eq!(rt; heap.used(), used);
+            Outcome::Ran(took_nothing) => {
+                assert!(rt; took_nothing && refused > 100);
                 assert!(rt;
                     pairs[1].says(
                         b"released\nnode 0 distance 2 parent none token no lent none waiting 0\n"
                     )
                 );
-                assert!(rt; refused > 100);
                 return Ok(());
             }
         }
@@ -80,9 +137,6 @@ fn only_new_asks_for_memory(rt: HostRuntime) -> Result<(), Fail> {
     assert!(rt; false, "a larger heap is wanted");
     Ok(())
 }
-
-/// A node that runs on a heap.
-type RunOn<'a, 'h> = NodeRun<MemoryDoors<'a>, MemoryStore, &'h LocalHeap>;
 
 /// Three nodes, the root first, with these edges.
 fn three(alloc: Global, capacity: i64, edges: &[(i64, i64)]) -> Result<Net, Fail> {
@@ -107,14 +161,47 @@ fn root_on<'a, 'h>(
     }
 }
 
-/// Takes up a network and turns; node 2 knocks before that. Whether the network was taken up, and
-/// whether node 2 was welcome.
-fn rewired(run: &mut RunOn<'_, '_>, net: &Net, links: &Queue<'_>) -> Option<(bool, bool)> {
+/// What came of a network that was handed to a node: whether it was taken up, whether node 2 was
+/// welcome then, and how much memory was free.
+type Rewired = Option<(bool, bool, usize)>;
+
+/// Takes up a network and turns; node 2 knocks before that.
+fn rewired(run: &mut RunOn<'_, '_>, net: &Net, links: &Queue<'_>, heap: &LocalHeap) -> Rewired {
     let pair = links.knock()?;
     pair.up.write(b"H0002\n");
     let is_taken = run.rewire(net);
     run.turn_by(&whole(), 0);
-    Some((is_taken, !pair.down.is_closed()))
+    Some((is_taken, !pair.down.is_closed(), heap.free()))
+}
+
+/// Hands four networks to the root of a row, one after the other: the row, a ring with other links,
+/// the ring, and the row.
+fn rewired_often(
+    alloc: Global,
+    run: &mut RunOn<'_, '_>,
+    links: &Queue<'_>,
+    heap: &LocalHeap,
+) -> Result<[Rewired; 4], Fail> {
+    let row = three(alloc, 1, &[(0, 1), (1, 2)])?;
+    let other = three(alloc, 2, &[(0, 1), (1, 2), (0, 2)])?;
+    let ring = three(alloc, 1, &[(0, 1), (1, 2), (0, 2)])?;
+    Ok([
+        rewired(run, &row, links, heap),
+        rewired(run, &other, links, heap),
+        rewired(run, &ring, links, heap),
+        rewired(run, &row, links, heap),
+    ])
+}
+
+/// The same on a heap that has nothing left.
+fn rewired_on_a_full_heap(
+    alloc: Global,
+    run: &mut RunOn<'_, '_>,
+    links: &Queue<'_>,
+    heap: &LocalHeap,
+) -> Result<[Rewired; 4], Fail> {
+    let _full = fill(alloc, heap)?;
+    rewired_often(alloc, run, links, heap)
 }
 
 #[test]
@@ -122,27 +209,22 @@ fn a_network_is_taken_up_without_memory(rt: HostRuntime) -> Result<(), Fail> {
     let pairs = [Pair::new(), Pair::new(), Pair::new(), Pair::new()];
     let (links, clients) = (Queue::new(&pairs, 0, 4), Queue::new(&pairs, 4, 4));
     let trip = Trip::never();
-    let row = three(rt.alloc(), 1, &[(0, 1), (1, 2)])?;
-    let ring = three(rt.alloc(), 1, &[(0, 1), (1, 2), (0, 2)])?;
-    let other = three(rt.alloc(), 2, &[(0, 1), (1, 2), (0, 2)])?;
     let heap = LocalHeap::new(rt.alloc(), 524_288)?;
     let mut run = root_on(rt.alloc(), &heap, doors(&links, &clients, &trip))?;
-    let full = fill(rt.alloc(), &heap)?;
-    assert_eq!(rt; heap.free(), 0);
-    for (net, is_taken, is_welcome) in [
-        (&row, true, false),
-        (&other, false, false),
-        (&ring, true, true),
-        (&row, true, false),
-    ] {
-        assert_eq!(rt;
-            rewired(&mut run, net, &links),
-            Some((is_taken, is_welcome))
-        );
-        assert_eq!(rt; heap.free(), 0);
-    }
+    let told = rewired_on_a_full_heap(rt.alloc(), &mut run, &links, &heap)?;
     // The connection of node 2 went with its edge.
-    assert!(rt; pairs[2].down.is_closed());
-    drop(full);
+    let has_gone = pairs[2].down.is_closed();
+    assert_eq!(rt;
+        (told, has_gone),
+        (
+            [
+                Some((true, false, 0)),
+                Some((false, false, 0)),
+                Some((true, true, 0)),
+                Some((true, false, 0)),
+            ],
+            true
+        )
+    );
     Ok(())
 }

@@ -104,6 +104,28 @@ fn is_granted(client: &Pair) -> bool {
     is_granted
 }
 
+/// How often each client is granted the lock in one stretch of turns, which begins then.
+fn grants_of(
+    near: &mut Run<'_>,
+    far: &mut Run<'_>,
+    draws: &mut Draws,
+    clients: [&Pair; 2],
+    begin: u64,
+) -> [u32; 2] {
+    let mut grants = [0u32; 2];
+    for place in 0..TURNS {
+        let now = begin.saturating_add(place * 100);
+        turn(near, draws, now);
+        turn(far, draws, now);
+        for side in 0..2 {
+            if is_granted(clients[side]) {
+                grants[side] = grants[side].saturating_add(1);
+            }
+        }
+    }
+    grants
+}
+
 #[test]
 fn a_damaged_pace_costs_time_alone(rt: HostRuntime) -> Result<(), Fail> {
     let pairs = [Pair::new(), Pair::new(), Pair::new()];
@@ -119,17 +141,9 @@ fn a_damaged_pace_costs_time_alone(rt: HostRuntime) -> Result<(), Fail> {
     }
     let mut draws = Draws(7);
     for stretch in 0..8 {
-        let mut grants = [0u32; 2];
-        for place in 0..TURNS {
-            let now = (stretch * TURNS + place) * 100;
-            turn(&mut near, &mut draws, now);
-            turn(&mut far, &mut draws, now);
-            for side in 0..2 {
-                if is_granted(&all[side]) {
-                    grants[side] = grants[side].saturating_add(1);
-                }
-            }
-        }
+        let clients = [&pairs[0], &pairs[1]];
+        let begin = stretch * TURNS * 100;
+        let grants = grants_of(&mut near, &mut far, &mut draws, clients, begin);
         assert!(rt;
             grants[0] > 0 && grants[1] > 0,
             "{grants:?} in stretch {stretch}"

@@ -1,11 +1,10 @@
 //! A node that starts again from a state that means nothing, among nodes that run.
 ghost use Rattle.std.specs.Prelude.{◌≡◌, ◌<◌, ◌+◌, length};
 
-use crate::stage::{Run, doors, doors_between, doors_to, run_of, whole};
+use crate::stage::{Run, doors, doors_between, doors_to, run_of, turn_once, whole};
 use crate::wires::{MemoryDoors, Pair, Queue, Trip};
 use node_state_file::{FileFault, MemoryStore, StartFault, Store, start};
 use std::alloc::{AllocError, Global};
-use std::process::Abort;
 use std::test::Fail;
 use topology::Net;
 
@@ -13,6 +12,16 @@ use topology::Net;
 /// that node 1 never sent.
 const SCRAMBLED: [u8; 36] = *b"TKT2\x00\x03\x00\x02\x00\x40\x00\x01\x00\x00\x00\x01\
 \x00\x01\x00\x07\x00\x09\x00\x00\xff\xff\x00\x05\x00\x03\x00\x02\x00\x0c\x00\x0b";
+
+/// How the status of each node begins where it stands as it should.
+const PLACES: [&[u8]; 3] = [
+    b"node 0 distance 0 parent none ",
+    b"node 1 distance 1 parent 0 ",
+    b"node 2 distance 2 parent 1 ",
+];
+
+/// What stood in a node's way as it started, and what it missed then.
+type Life = (Option<StartFault>, Option<Missed>);
 
 /// The most turns in which distances are waited for.
 const TURNS: u32 = 1_000;
@@ -44,9 +53,9 @@ fn started<'a>(
 
 /// One turn of each node.
 fn turn_all(first: &mut Run<'_>, second: &mut Run<'_>, third: &mut Run<'_>) {
-    first.turn_by(&whole(), 0);
-    second.turn_by(&whole(), 0);
-    third.turn_by(&whole(), 0);
+    turn_once(first, &whole());
+    turn_once(second, &whole());
+    turn_once(third, &whole());
 }
 
 /// Asks a node by this client how it stands, again and again. Whether the answer begins so at last.
@@ -69,93 +78,105 @@ fn comes_to(
     false
 }
 
-/// Starts node 2 beside two nodes that run, with these bytes in its store, and ends it. What stood
-/// in its way. The clients are one of node 0, one of node 1, and from place `own` on two of its own.
-fn lives<R: Abort + AllocGlobal>(
-    rt: &R,
+/// What a started node did not do, where it did not do all.
+#[derive(Clone, Copy, PartialEq, Eq, Debug)]
+enum Missed {
+    /// This node of the row does not come to its distance and parent.
+    Place(u16),
+    /// A line that is none is not answered as one.
+    Answer,
+    /// A client that left keeps its connection.
+    Closing,
+}
+
+/// Lets node 2 run beside two nodes until all stand where they should, and its first client leave
+/// for a second one. The first thing missed. The clients are one of node 0, one of node 1, and from
+/// place `own` on two of node 2.
+fn missed(
     first: &mut Run<'_>,
     second: &mut Run<'_>,
+    third: &mut Run<'_>,
+    door: &Queue<'_>,
+    clients: &[Pair],
+    own: usize,
+) -> Option<Missed>
+    requires { (1 < own) × (own + 1 < length clients.now) }
+{
+    let (client, next) = (&clients[own], &clients[own + 1]);
+    door.knock();
+    if !comes_to(first, second, third, client, PLACES[2]) {
+        return Some(Missed::Place(2));
+    }
+    for node in 0..2 {
+        if !comes_to(first, second, third, &clients[node], PLACES[node]) {
+            return Some(Missed::Place(node as u16));
+        }
+    }
+    client.up.write(b"loc\n");
+    turn_all(first, second, third);
+    if !client.says(b"unknown\n") {
+        return Some(Missed::Answer);
+    }
+    client.up.close();
+    door.knock();
+    if !comes_to(first, second, third, next, PLACES[2]) {
+        return Some(Missed::Place(2));
+    }
+    if client.down.is_closed() {
+        None
+    } else {
+        Some(Missed::Closing)
+    }
+}
+
+/// Starts node 2 beside two nodes that run, with these bytes in its store, and ends it. What stood
+/// in its way, and what it missed.
+fn lives(
+    alloc: Global,
+    (first, second): (&mut Run<'_>, &mut Run<'_>),
     doors: MemoryDoors<'_>,
     bytes: Option<&[u8]>,
     clients: &[Pair],
     own: usize,
-) -> Result<Option<StartFault>, Fail>
+) -> Result<Life, Fail>
     requires { (1 < own) × (own + 1 < length clients.now) }
 {
     let door = doors.clients;
-    let (mut third, fault) = started(rt.alloc(), 2, bytes, doors)?;
-    door.knock();
-    let client = &clients[own];
-    assert!(rt;
-        comes_to(
-            first,
-            second,
-            &mut third,
-            client,
-            b"node 2 distance 2 parent 1 "
-        )
-    );
-    assert!(rt;
-        comes_to(
-            first,
-            second,
-            &mut third,
-            &clients[1],
-            b"node 1 distance 1 parent 0 "
-        )
-    );
-    assert!(rt;
-        comes_to(
-            first,
-            second,
-            &mut third,
-            &clients[0],
-            b"node 0 distance 0 parent none "
-        )
-    );
-    client.up.write(b"loc\n");
-    turn_all(first, second, &mut third);
-    assert!(rt; client.says(b"unknown\n"));
-    client.up.close();
-    door.knock();
-    let client = &clients[own + 1];
-    assert!(rt;
-        comes_to(
-            first,
-            second,
-            &mut third,
-            client,
-            b"node 2 distance 2 parent 1 "
-        )
-    );
-    assert!(rt; clients[own].down.is_closed());
-    Ok(fault)
+    let (mut third, fault) = started(alloc, 2, bytes, doors)?;
+    Ok((fault, missed(first, second, &mut third, door, clients, own)))
 }
 
 /// Runs three nodes in a row, ends node 2, and starts it again with these bytes in its store. What
-/// stood in its way.
-fn starts_again<R: Abort + AllocGlobal>(
-    rt: &R,
+/// both starts came to.
+fn starts_again(
+    alloc: Global,
     links: &[Pair],
     clients: &[Pair],
     bytes: &[u8],
-) -> Result<Option<StartFault>, Fail>
+) -> Result<[Life; 2], Fail>
     requires { length clients.now ≡ 6 }
 {
     let (lower, upper) = (Queue::new(links, 0, 1), Queue::new(links, 1, 3));
     let (of_first, of_second) = (Queue::new(clients, 0, 1), Queue::new(clients, 1, 2));
     let of_third = Queue::new(clients, 2, 6);
     let trip = Trip::never();
-    let (mut first, _) = started(rt.alloc(), 0, None, doors(&lower, &of_first, &trip))?;
+    let (mut first, _) = started(alloc, 0, None, doors(&lower, &of_first, &trip))?;
     let between = doors_between(&upper, &lower, &of_second, &trip);
-    let (mut second, _) = started(rt.alloc(), 1, None, between)?;
+    let (mut second, _) = started(alloc, 1, None, between)?;
     of_first.knock();
     of_second.knock();
-    let door = doors_to(&upper, &of_third, &trip);
-    let fault = lives(rt, &mut first, &mut second, door, None, clients, 2)?;
-    assert_eq!(rt; fault, Some(StartFault::Absent));
-    let door = doors_to(&upper, &of_third, &trip);
-    lives(rt, &mut first, &mut second, door, Some(bytes), clients, 4)
+    let door = || doors_to(&upper, &of_third, &trip);
+    Ok([
+        lives(alloc, (&mut first, &mut second), door(), None, clients, 2)?,
+        lives(
+            alloc,
+            (&mut first, &mut second),
+            door(),
+            Some(bytes),
+            clients,
+            4,
+        )?,
+    ])
 }
 
 #[test]
@@ -173,8 +194,8 @@ fn a_node_starts_again_whatever_its_file_holds(rt: HostRuntime) -> Result<(), Fa
             Pair::new(),
             Pair::new(),
         ];
-        let fault = starts_again(&rt, &links[..], &clients[..], bytes)?;
-        assert_eq!(rt; fault, want);
+        let told = starts_again(rt.alloc(), &links[..], &clients[..], bytes)?;
+        assert_eq!(rt; told, [(Some(StartFault::Absent), None), (want, None)]);
     }
     Ok(())
 }

@@ -1,8 +1,9 @@
 //! Two ports over two links, and writes that do not fit.
 use data_link::{OutOfRange, Port};
 use link_model::{Item, Link};
+use std::alloc::Global;
 use std::test::Fail;
-use topology::{Frame, Net, Payload};
+use topology::{Frame, Net, NetFault, Payload};
 
 /// Puts the frame of a port on a link.
 fn send(from: &Port, link: &mut Link) {
@@ -19,41 +20,58 @@ fn take(link: &mut Link, to: &mut Port, present: Payload) {
     }
 }
 
-#[test]
-fn numbers_go_round(rt: HostRuntime) -> Result<(), Fail> {
-    let net = Net::make(rt.alloc(), 2, 0, 1, 0, &[(0, 1)])?;
-    let mut near = Port::new(&net);
-    let mut far = Port::new(&net);
-    let mut out = Link::new(rt.alloc(), 1)?;
-    let mut back = Link::new(rt.alloc(), 1)?;
-    let root = Payload {
-        distance: 0,
-        parent: None,
-        ring: 0,
-    };
-    let child = Payload {
-        distance: 1,
-        parent: Some(0),
-        ring: 0,
-    };
-    for round in 1..8 {
+/// What a root says that has its true distance.
+const ROOT: Payload = Payload {
+    distance: 0,
+    parent: None,
+    ring: 0,
+};
+
+/// What its child says.
+const CHILD: Payload = Payload {
+    distance: 1,
+    parent: Some(0),
+    ring: 0,
+};
+
+/// A new port of one of two nodes whose links hold one item.
+fn new_port(alloc: Global) -> Result<Port, NetFault> {
+    let net = Net::make(alloc, 2, 0, 1, 0, &[(0, 1)])?;
+    Ok(Port::new(&net))
+}
+
+/// In each round the root sends twice over `out`, and then the child over `back`; each frame is
+/// taken at once.
+fn go_round(near: &mut Port, far: &mut Port, out: &mut Link, back: &mut Link, rounds: u32) {
+    for _ in 0..rounds {
         for _ in 0..2 {
-            send(&near, &mut out);
-            take(&mut out, &mut far, child);
+            send(near, out);
+            take(out, far, CHILD);
         }
         for _ in 0..2 {
-            send(&far, &mut back);
-            take(&mut back, &mut near, root);
-        }
-        if round == 4 {
-            assert_eq!(rt; (near.seq(), near.last()), (4, 4));
-            assert_eq!(rt; (far.seq(), far.last()), (4, 3));
+            send(far, back);
+            take(back, near, ROOT);
         }
     }
-    assert_eq!(rt; (near.seq(), near.last()), (2, 2));
-    assert_eq!(rt; (far.seq(), far.last()), (2, 1));
-    assert_eq!(rt; far.copy(), root);
-    assert_eq!(rt; near.copy(), child);
+}
+
+/// A port's own number, the last one that it took, and its copy.
+fn numbers(port: &Port) -> (u16, u16, Payload) {
+    (port.seq(), port.last(), port.copy())
+}
+
+#[test]
+fn numbers_go_round(rt: HostRuntime) -> Result<(), Fail> {
+    let mut near = new_port(rt.alloc())?;
+    let mut far = new_port(rt.alloc())?;
+    let mut out = Link::new(rt.alloc(), 1)?;
+    let mut back = Link::new(rt.alloc(), 1)?;
+    go_round(&mut near, &mut far, &mut out, &mut back, 4);
+    let first = (numbers(&near), numbers(&far));
+    go_round(&mut near, &mut far, &mut out, &mut back, 3);
+    let second = (numbers(&near), numbers(&far));
+    assert_eq!(rt; first, ((4, 4, CHILD), (4, 3, ROOT)));
+    assert_eq!(rt; second, ((2, 2, CHILD), (2, 1, ROOT)));
     Ok(())
 }
 
@@ -84,8 +102,8 @@ fn refuses_what_does_not_fit(port: &mut Port, payload: Payload) -> bool {
 
 #[test]
 fn writes_outside_their_range_change_nothing(rt: HostRuntime) -> Result<(), Fail> {
-    let net = Net::make(rt.alloc(), 2, 0, 1, 0, &[(0, 1)])?;
-    let mut port = Port::new(&net);
+    let mut port = new_port(rt.alloc())?;
+    let first = port.frame();
     let payload = Payload {
         distance: 2,
         parent: Some(1),
@@ -100,6 +118,6 @@ fn writes_outside_their_range_change_nothing(rt: HostRuntime) -> Result<(), Fail
     };
     assert_eq!(rt; (port.frame(), port.copy()), (sent, payload));
     port.reset();
-    assert_eq!(rt; port.frame(), Port::new(&net).frame());
+    assert_eq!(rt; port.frame(), first);
     Ok(())
 }

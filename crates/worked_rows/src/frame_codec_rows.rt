@@ -37,13 +37,16 @@ const STREAM: &[u8; 47] = b"xyzF0000000000010000000c\nF0000000000010000000c\n";
 
 #[test]
 fn lines_of_three_nodes(rt: HostRuntime) -> Result<(), Fail> {
-    let net = line_of_three(rt.alloc())?;
     let first = frame(0, 0, 1, Some(0), 12);
-    assert_eq!(rt; &encode(&first), b"F0000000000010000000c\n");
-    assert_eq!(rt; decode(b"F0000000000010000000c", &net), Some(first));
     let second = frame(4, 3, 0, None, 0);
+    assert_eq!(rt; &encode(&first), b"F0000000000010000000c\n");
     assert_eq!(rt; &encode(&second), b"F000400030000ffff0000\n");
-    assert_eq!(rt; decode(b"F000400030000ffff0000", &net), Some(second));
+    let net = line_of_three(rt.alloc())?;
+    let read = [
+        decode(b"F0000000000010000000c", &net),
+        decode(b"F000400030000ffff0000", &net),
+    ];
+    assert_eq!(rt; read, [Some(first), Some(second)]);
     Ok(())
 }
 
@@ -80,13 +83,16 @@ fn each_field_at_its_greatest(rt: HostRuntime) -> Result<(), Fail> {
 
 #[test]
 fn hellos(rt: HostRuntime) -> Result<(), Fail> {
-    let net = line_of_three(rt.alloc())?;
     assert_eq!(rt; &encode_hello(2), b"H0002\n");
-    assert_eq!(rt; decode_hello(b"H0002", &net), Some(2));
-    let others: [&[u8]; 4] = [b"H0003", b"H002", b"h0002", b""];
-    for (at, line) in others.iter().enumerate() {
-        assert_eq!(rt; decode_hello(line, &net), None, "line {at}");
-    }
+    let net = line_of_three(rt.alloc())?;
+    let read = [
+        decode_hello(b"H0002", &net),
+        decode_hello(b"H0003", &net),
+        decode_hello(b"H002", &net),
+        decode_hello(b"h0002", &net),
+        decode_hello(b"", &net),
+    ];
+    assert_eq!(rt; read, [Some(2), None, None, None, None]);
     Ok(())
 }
 
@@ -147,42 +153,57 @@ fn feed<A: Allocator>(
     reader.feed(piece, net, frames)
 }
 
+/// What a reader did whose frames go to a heap.
+#[derive(Clone, Copy)]
+enum Outcome {
+    /// The first piece was refused, and whether nothing was read of it.
+    FirstRefused(bool),
+    /// The second piece was refused, and whether nothing was read of it: the half line before it is
+    /// still there.
+    SecondRefused(bool),
+    /// Both were read, and whether as what they are.
+    Read(bool),
+}
+
+/// Whether a half line that a reader holds is still there: with this end it is the first frame.
+fn goes_on(alloc: Global, reader: &mut LineReader, net: &Net) -> Result<bool, AllocError> {
+    let mut ample = Vec::new(alloc);
+    feed(reader, b"00010000000c\n", net, &mut ample)?;
+    Ok(ample.as_slice() == [frame(0, 0, 1, Some(0), 12)].as_slice())
+}
+
+/// Feeds a reader a line and a half, and then `REST`.
+fn read_over(alloc: Global, heap: &LocalHeap, net: &Net) -> Result<Outcome, AllocError> {
+    let (first, last) = (frame(0, 0, 1, Some(0), 12), frame(4, 3, 0, None, 0));
+    let mut frames = Vec::new(heap);
+    let mut reader = LineReader::new();
+    let line_and_half = b"F0000000000010000000c\nF00000000";
+    if feed(&mut reader, line_and_half, net, &mut frames).is_err() {
+        return Ok(Outcome::FirstRefused(frames.is_empty()));
+    }
+    if feed(&mut reader, REST, net, &mut frames).is_err() {
+        let is_first = frames.as_slice() == [first].as_slice();
+        return Ok(Outcome::SecondRefused(goes_on(alloc, &mut reader, net)? && is_first));
+    }
+    let want = [first, first, last, last, last, last];
+    Ok(Outcome::Read(frames.as_slice() == want.as_slice()))
+}
+
 #[test]
 fn a_refused_growth_reads_nothing(rt: HostRuntime) -> Result<(), Fail> {
     let net = line_of_three(rt.alloc())?;
-    let first = frame(0, 0, 1, Some(0), 12);
     let mut refused = 0u32;
     for units in 1..100usize {
         let heap = LocalHeap::new(rt.alloc(), units * 16)?;
-        let mut frames = Vec::new(&heap);
-        let mut reader = LineReader::new();
-        if feed(
-            &mut reader,
-            b"F0000000000010000000c\nF00000000",
-            &net,
-            &mut frames,
-        )
-        .is_err()
-        {
-            assert!(rt; frames.is_empty());
-            continue;
-        }
-        match feed(&mut reader, REST, &net, &mut frames) {
-            Ok(()) => {
-                let last = frame(4, 3, 0, None, 0);
-                assert_eq!(rt;
-                    frames.as_slice(),
-                    [first, first, last, last, last, last].as_slice()
-                );
-                assert!(rt; refused > 0);
-                return Ok(());
-            }
-            Err(AllocError) => {
+        match read_over(rt.alloc(), &heap, &net)? {
+            Outcome::FirstRefused(is_empty) => assert!(rt; is_empty),
+            Outcome::SecondRefused(is_kept) => {
                 refused = refused.wrapping_add(1);
-                assert_eq!(rt; frames.as_slice(), [first].as_slice());
-                let mut ample = Vec::new(rt.alloc());
-                feed(&mut reader, b"00010000000c\n", &net, &mut ample)?;
-                assert_eq!(rt; ample.as_slice(), [first].as_slice());
+                assert!(rt; is_kept);
+            }
+            Outcome::Read(is_right) => {
+                assert!(rt; is_right && refused > 0);
+                return Ok(());
             }
         }
     }

@@ -47,29 +47,35 @@ fn answer_so<A: Allocator + Copy>(near: &mut Node<A>, far: &mut Node<A>, deed: &
     }
 }
 
+/// Two new nodes, the root first, over this allocator.
+fn both<A: Allocator + Copy>(alloc: Global, lease: i64, on: A) -> Result<(Node<A>, Node<A>), Fail> {
+    let net = two(alloc, lease)?;
+    Ok((Node::new(on, &net, 0)?, Node::new(on, &net, 1)?))
+}
+
 /// Holds that two new nodes with this lease answer each deed so.
 fn all_hold(
     rt: &(impl Eprint + AllocGlobal + Abort),
     lease: i64,
     deeds: &[Deed<'_>],
 ) -> Result<(), Fail> {
-    let net = two(rt.alloc(), lease)?;
-    let mut near = Node::new(rt.alloc(), &net, 0)?;
-    let mut far = Node::new(rt.alloc(), &net, 1)?;
-    all_hold_of(rt, &mut near, &mut far, deeds);
+    let (mut near, mut far) = both(rt.alloc(), lease, rt.alloc())?;
+    assert_eq!(rt; first_wrong(&mut near, &mut far, deeds), None);
     Ok(())
 }
 
-/// Holds that two nodes answer each deed so.
-fn all_hold_of<A: Allocator + Copy>(
-    rt: &(impl Eprint + Abort),
+/// The place of the first deed that two nodes do not answer so.
+fn first_wrong<A: Allocator + Copy>(
     near: &mut Node<A>,
     far: &mut Node<A>,
     deeds: &[Deed<'_>],
-) {
+) -> Option<usize> {
     for (at, deed) in deeds.iter().enumerate() {
-        assert!(rt; answer_so(near, far, deed), "deed {at}");
+        if !answer_so(near, far, deed) {
+            return Some(at);
+        }
     }
+    None
 }
 
 /// Both tick, and then each frame goes over twice.
@@ -278,17 +284,26 @@ fn each_growth_of_new_may_be_refused(rt: HostRuntime) -> Result<(), Fail> {
     panic!(rt; "always refused")
 }
 
+/// Two nodes on a heap of which nothing is free: how much is free, whether the near one takes 64
+/// tickets, and the place of the first deed that they do not answer so then.
+fn without_memory(
+    alloc: Global,
+    heap: &LocalHeap,
+    deeds: &[Deed<'_>],
+) -> Result<(usize, bool, Option<usize>), Fail> {
+    let (mut near, mut far) = both(alloc, 0, heap)?;
+    let _full = fill(alloc, heap)?;
+    let are_asked = (10..74).all(|ticket| near.ask(ticket).is_ok());
+    Ok((
+        heap.free(),
+        are_asked,
+        first_wrong(&mut near, &mut far, deeds),
+    ))
+}
+
 #[test]
 fn nodes_take_no_memory(rt: HostRuntime) -> Result<(), Fail> {
-    let net = two(rt.alloc(), 0)?;
     let heap = LocalHeap::new(rt.alloc(), 8192)?;
-    let mut near = Node::new(&heap, &net, 0)?;
-    let mut far = Node::new(&heap, &net, 1)?;
-    let taken = fill(rt.alloc(), &heap)?;
-    assert_eq!(rt; heap.free(), 0);
-    for ticket in 10..74 {
-        all_hold_of(&rt, &mut near, &mut far, &[NearIsAsked(ticket, Ok(()))]);
-    }
     let deeds = [
         NearIsAsked(74, Err(AskFault::Full)),
         Forgery,
@@ -303,7 +318,7 @@ fn nodes_take_no_memory(rt: HostRuntime) -> Result<(), Fail> {
         NearTicks(DeskAct::Quiet, true),
         NearShows("node 0 distance 0 parent none token no lent none waiting 63\n"),
     ];
-    all_hold_of(&rt, &mut near, &mut far, &deeds);
-    drop(taken);
+    let told = without_memory(rt.alloc(), &heap, &deeds)?;
+    assert_eq!(rt; told, (0, true, None));
     Ok(())
 }

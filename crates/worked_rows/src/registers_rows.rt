@@ -2,7 +2,7 @@
 use crate::full_heap::fill;
 use linked_list_allocator::LocalHeap;
 use registers::{Heard, OutOfRange, Registers};
-use std::alloc::{AllocError, Allocator};
+use std::alloc::{AllocError, Allocator, Global};
 use std::test::Fail;
 use topology::{Frame, Net, Payload};
 
@@ -82,19 +82,27 @@ fn numbers(registers: &Registers, id: u16) -> Option<(u16, u16, u16)> {
     Some((registers.seq(id), registers.last(id), registers.value(id)))
 }
 
+/// The registers of the root of a square, whose neighbours are 1 and 2.
+fn of_a_square<A: Allocator + Copy>(alloc: Global, on: A) -> Result<Registers<A>, Fail> {
+    let net = Net::make(alloc, 4, 0, 1, 0, &[(0, 1), (0, 2), (1, 3), (2, 3)])?;
+    Ok(Registers::new(on, &net, net.root())?)
+}
+
 #[test]
 fn one_port_alone_is_written(rt: HostRuntime) -> Result<(), Fail> {
-    let net = Net::make(rt.alloc(), 4, 0, 1, 0, &[(0, 1), (0, 2), (1, 3), (2, 3)])?;
-    let mut registers = Registers::new(rt.alloc(), &net, net.root())?;
+    let mut registers = of_a_square(rt.alloc(), rt.alloc())?;
     assert!(rt; registers.neighbours() == [1, 2].as_slice());
-    assert_eq!(rt; write(&mut registers, 1, (4, 3)), Ok(()));
-    assert_eq!(rt; write(&mut registers, 1, (5, 3)), Err(OutOfRange));
-    assert_eq!(rt; write_value(&mut registers, 1, 18), Ok(()));
-    assert_eq!(rt; write_value(&mut registers, 1, 19), Err(OutOfRange));
-    for id in 1..registers.ranges().nodes {
-        let want = if id == 1 { (4, 3, 18) } else { (0, 0, 0) };
-        assert_eq!(rt; numbers(&registers, id), Some(want));
-    }
+    let written = [
+        write(&mut registers, 1, (4, 3)),
+        write(&mut registers, 1, (5, 3)),
+        write_value(&mut registers, 1, 18),
+        write_value(&mut registers, 1, 19),
+    ];
+    let want = [Ok(()), Err(OutOfRange), Ok(()), Err(OutOfRange)];
+    assert_eq!(rt; written, want);
+    let told = [1, 2, 3, 4].map(|id| numbers(&registers, id));
+    let (first, rest) = (Some((4, 3, 18)), Some((0, 0, 0)));
+    assert_eq!(rt; told, [first, rest, rest, None]);
     Ok(())
 }
 
@@ -116,12 +124,9 @@ fn each_growth_of_new_may_be_refused(rt: HostRuntime) -> Result<(), Fail> {
 
 #[test]
 fn registers_take_no_memory(rt: HostRuntime) -> Result<(), Fail> {
-    let net = Net::make(rt.alloc(), 4, 0, 1, 0, &[(0, 1), (0, 2), (1, 3), (2, 3)])?;
     let heap = LocalHeap::new(rt.alloc(), 4096)?;
-    let mut registers = Registers::new(&heap, &net, net.root())?;
-    let taken = fill(rt.alloc(), &heap)?;
-    assert_eq!(rt; heap.free(), 0);
-    assert!(rt; are_written(&mut registers));
-    drop(taken);
+    let mut registers = of_a_square(rt.alloc(), &heap)?;
+    let _full = fill(rt.alloc(), &heap)?;
+    assert!(rt; heap.free() == 0 && are_written(&mut registers));
     Ok(())
 }

@@ -31,6 +31,16 @@ fn lines(alloc: Global, text: &[u8], size: usize) -> Result<Vec<TextLine>, Alloc
     Ok(lines)
 }
 
+/// Whether these are the lines of a text that comes in pieces of this many bytes.
+fn are_lines(
+    alloc: Global,
+    text: &[u8],
+    size: usize,
+    want: &[TextLine],
+) -> Result<bool, AllocFailed<TextLine>> {
+    Ok(lines(alloc, text, size)?.as_slice() == want)
+}
+
 #[test]
 fn a_text_is_the_same_in_any_pieces(rt: HostRuntime) -> Result<(), Fail> {
     let text =
@@ -56,11 +66,8 @@ fn a_text_is_the_same_in_any_pieces(rt: HostRuntime) -> Result<(), Fail> {
         TextLine::Told(Event::Ask { node: 1, ticket: 7 }),
     ];
     for size in [1, 7, 64, 65, 4096] {
-        assert_eq!(rt;
-            lines(rt.alloc(), text.as_slice(), size)?.as_slice(),
-            want.as_slice(),
-            "in pieces of {size}"
-        );
+        let is_same = are_lines(rt.alloc(), text.as_slice(), size, want.as_slice())?;
+        assert!(rt; is_same, "in pieces of {size}");
     }
     Ok(())
 }
@@ -69,13 +76,10 @@ fn a_text_is_the_same_in_any_pieces(rt: HostRuntime) -> Result<(), Fail> {
 fn a_text_that_ends_with_a_newline_has_no_line_behind_it(rt: HostRuntime) -> Result<(), Fail> {
     let want = [TextLine::Told(Event::Tick { node: 0 }), TextLine::Passed];
     for size in [1, 7, 4096] {
-        assert_eq!(rt;
-            lines(rt.alloc(), b"tick 0\n\n".as_slice(), size)?.as_slice(),
-            want.as_slice(),
-            "in pieces of {size}"
-        );
+        let is_same = are_lines(rt.alloc(), b"tick 0\n\n", size, want.as_slice())?;
+        assert!(rt; is_same, "in pieces of {size}");
     }
-    assert_eq!(rt; lines(rt.alloc(), b"".as_slice(), 1)?.len(), 0);
+    assert!(rt; are_lines(rt.alloc(), b"", 1, &[])?);
     Ok(())
 }
 

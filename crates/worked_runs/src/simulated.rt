@@ -90,21 +90,45 @@ fn simulated(
     Ok((output, summary))
 }
 
-/// Holds that each text leads to its output, with as many refused lines as are told.
+/// The network, the text and the output of a row.
+fn parts_of(alloc: Global, row: &Row<'_>) -> Result<(Net, String, String), Fail> {
+    Ok((
+        two_nodes(alloc, row.lease)?,
+        joined(alloc, row.text)?,
+        format!(in alloc; "{}{}", row.refusals, row.state)?,
+    ))
+}
+
+/// What the text, in pieces of at most `piece` bytes, is told as, and whether its output is this.
+fn simulated_as(
+    alloc: Global,
+    net: &Net,
+    text: &str,
+    piece: usize,
+    want: &str,
+) -> Result<(Summary, bool), Fail> {
+    let (output, summary) = simulated(alloc, net, text, piece)?;
+    Ok((summary, output.as_str() == want))
+}
+
+/// Holds that a text leads to its output, with as many refused lines as are told.
+fn row_holds(rt: &(impl Eprint + AllocGlobal + Abort), row: &Row<'_>) -> Result<(), Fail> {
+    let (net, text, output) = parts_of(rt.alloc(), row)?;
+    let summary = Summary {
+        refused: row.refusals.lines().count() as u64,
+        sweeps: row.sweeps,
+    };
+    for piece in PIECES {
+        let found = simulated_as(rt.alloc(), &net, &text, piece, &output)?;
+        assert_eq!(rt; found, (summary, true), "of {text:?} in pieces of {piece}");
+    }
+    Ok(())
+}
+
+/// Holds that each text leads to its output.
 fn all_hold(rt: &(impl Eprint + AllocGlobal + Abort), rows: &[Row<'_>]) -> Result<(), Fail> {
     for row in rows {
-        let net = two_nodes(rt.alloc(), row.lease)?;
-        let text = joined(rt.alloc(), row.text)?;
-        let output = format!(in rt.alloc(); "{}{}", row.refusals, row.state)?;
-        let summary = Summary {
-            refused: row.refusals.lines().count() as u64,
-            sweeps: row.sweeps,
-        };
-        for piece in PIECES {
-            let found = simulated(rt.alloc(), &net, &text, piece)?;
-            assert_eq!(rt; found.0, output, "of {text:?} in pieces of {piece}");
-            assert_eq!(rt; found.1, summary, "of {text:?} in pieces of {piece}");
-        }
+        row_holds(rt, row)?;
     }
     Ok(())
 }

@@ -1,5 +1,6 @@
 //! Runs of as many sweeps as a network's lock needs to work from any state.
 use super::*;
+use topology::Net;
 
 /// Rounds of a network, and what they lead to.
 #[derive(Clone, Copy)]
@@ -32,18 +33,35 @@ fn is_settled(world: &World, tree: &[(u16, Option<u16>)]) -> bool {
 /// Holds that it ends so.
 fn holds(rt: &(impl Eprint + AllocGlobal + Abort), run: &LongRun<'_>) -> Result<(), Fail> {
     let net = net_of(rt.alloc(), run.nodes, run.lease, run.edges)?;
-    let mut events = events_of(rt.alloc(), run.start)?;
-    let forged = judged(start(rt.alloc(), &net)?, &events).world;
-    assert_eq!(rt; (forged.privileged(), forged.lending()), run.at_start);
-    let round = round_of(rt.alloc(), &net)?;
+    assert_eq!(rt; counted_at_start(rt.alloc(), &net, run)?, run.at_start);
+    let told = ends(rt.alloc(), &net, run)?;
+    assert_eq!(rt; told, (run.events, u64::from(run.rounds), 0, true));
+    Ok(())
+}
+
+/// How many are privileged and how many lend after the start of a run.
+fn counted_at_start(alloc: Global, net: &Net, run: &LongRun<'_>) -> Result<(usize, usize), Fail> {
+    let events = events_of(alloc, run.start)?;
+    let forged = judged(start(alloc, net)?, &events).world;
+    Ok((forged.privileged(), forged.lending()))
+}
+
+/// The events of a run, its rounds with them.
+fn all_events(alloc: Global, net: &Net, run: &LongRun<'_>) -> Result<Vec<Event>, Fail> {
+    let mut events = events_of(alloc, run.start)?;
+    let round = round_of(alloc, net)?;
     for _ in 0..run.rounds {
         push_events(&mut events, &round)?;
     }
-    assert_eq!(rt; events.len(), run.events);
-    let report = judged(start(rt.alloc(), &net)?, &events);
-    assert_eq!(rt; (report.sweeps, report.refused), (u64::from(run.rounds), 0));
-    assert!(rt; is_settled(&report.world, run.tree));
-    Ok(())
+    Ok(events)
+}
+
+/// How many events, sweeps and refusals a run has, and whether its nodes are settled then.
+fn ends(alloc: Global, net: &Net, run: &LongRun<'_>) -> Result<(usize, u64, u64, bool), Fail> {
+    let events = all_events(alloc, net, run)?;
+    let report = judged(start(alloc, net)?, &events);
+    let is_settled = is_settled(&report.world, run.tree);
+    Ok((events.len(), report.sweeps, report.refused, is_settled))
 }
 
 #[test]

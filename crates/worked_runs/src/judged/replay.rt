@@ -1,6 +1,7 @@
 //! A long run that is judged twice: by a judge, and plainly, as the definition of a sweep says. After
 //! each event the sweeps, the nodes without a full tick and the tallies of all links are the same.
 use super::*;
+use topology::Net;
 use world::Tally;
 
 /// The nodes of the square.
@@ -195,16 +196,22 @@ fn first_difference(
     (None, plain.sweeps)
 }
 
+/// What the judge and the plain count of a network come to behind so many events of its rounds: how
+/// many there were, the first event behind which they differ, and the sweeps.
+fn compared(alloc: Global, net: &Net, count: usize) -> Result<(usize, Option<usize>, u64), Fail> {
+    let round = round_of(alloc, net)?;
+    let events = rounds_with_gaps(alloc, &round, count)?;
+    let mut judge = Judge::new(start(alloc, net)?);
+    let mut plain = Plain::new(net.edges());
+    let (difference, sweeps) = first_difference(&mut judge, &mut plain, &events);
+    Ok((events.len(), difference, sweeps))
+}
+
 #[test]
 fn ten_thousand_events_with_every_third_take_left_out(rt: HostRuntime) -> Result<(), Fail> {
     let net = net_of(rt.alloc(), 4, 0, &[(0, 1), (0, 2), (1, 3), (2, 3)])?;
-    let round = round_of(rt.alloc(), &net)?;
-    let events = rounds_with_gaps(rt.alloc(), &round, 10_000)?;
-    assert_eq!(rt; events.len(), 10_000);
-    let mut judge = Judge::new(start(rt.alloc(), &net)?);
-    let mut plain = Plain::new(net.edges());
-    let (difference, sweeps) = first_difference(&mut judge, &mut plain, &events);
-    assert_eq!(rt; difference, None);
+    let (count, difference, sweeps) = compared(rt.alloc(), &net, 10_000)?;
+    assert_eq!(rt; (count, difference), (10_000, None));
     // Each link takes at least once a round, right behind a send, and at most one of its items is
     // old: so of two whole rounds each renews it. A stretch has at most one round more, in parts,
     // and no round has more than 36 events.

@@ -46,30 +46,86 @@ fn refusals_within(alloc: Global, bytes: usize) -> Result<String, AllocError> {
     Ok(text)
 }
 
+/// What all lines are told as.
+const ALL: Summary = Summary {
+    refused: 7,
+    sweeps: 0,
+};
+
+/// What came of a simulation, a call of which may fail.
+#[derive(Clone, Copy)]
+struct Outcome {
+    /// Whether that call was made.
+    has_failed: bool,
+    answer: Result<Summary, SimFault>,
+    /// Whether what was written then is what is to be.
+    is_written: bool,
+}
+
+/// Whether these are the refusal lines of the lines that end within the first `bytes` bytes.
+fn are_refusals(alloc: Global, taken: &[u8], bytes: usize) -> Result<bool, AllocError> {
+    Ok(taken == refusals_within(alloc, bytes)?.as_bytes())
+}
+
+/// Simulates with a read that fails behind so many others: then the refusals of whole lines stand
+/// there, and else all.
+fn with_a_failing_read(
+    alloc: Global,
+    net: &Net,
+    piece: usize,
+    calls: u64,
+) -> Result<Outcome, AllocError> {
+    let mut source = Fused::new(MemorySource::new(LINES.as_bytes(), piece), calls);
+    let mut sink = MemorySink::new(alloc, ROOM)?;
+    let answer = run(alloc, net, &mut source, &mut sink);
+    let has_failed = source.has_failed();
+    let is_written = if has_failed {
+        are_refusals(alloc, sink.taken(), (calls as usize).saturating_mul(piece))?
+    } else {
+        sink.taken() == OUTPUT.as_bytes()
+    };
+    Ok(Outcome {
+        has_failed,
+        answer,
+        is_written,
+    })
+}
+
+/// Simulates with a write that fails behind so many others: then a beginning of the output stands
+/// there, and else all.
+fn with_a_failing_write(
+    alloc: Global,
+    net: &Net,
+    piece: usize,
+    calls: u64,
+) -> Result<Outcome, AllocError> {
+    let mut source = MemorySource::new(LINES.as_bytes(), piece);
+    let mut sink = Fused::new(MemorySink::new(alloc, ROOM)?, calls);
+    let answer = run(alloc, net, &mut source, &mut sink);
+    let has_failed = sink.has_failed();
+    let taken = sink.inner().taken();
+    let is_whole = taken.len() == OUTPUT.len();
+    Ok(Outcome {
+        has_failed,
+        answer,
+        is_written: OUTPUT.as_bytes().starts_with(taken) && is_whole != has_failed,
+    })
+}
+
 #[test]
 fn a_read_that_fails_leaves_the_refusals_of_whole_lines(rt: HostRuntime) -> Result<(), Fail> {
     let net = two_nodes(rt.alloc(), 0)?;
     for piece in PIECES {
         let mut failed = 0u64;
         for calls in 0..100u64 {
-            let mut source = Fused::new(MemorySource::new(LINES.as_bytes(), piece), calls);
-            let mut sink = MemorySink::new(rt.alloc(), ROOM)?;
-            let answer = run(rt.alloc(), &net, &mut source, &mut sink);
-            if !source.has_failed() {
-                assert_eq!(rt;
-                    answer,
-                    Ok(Summary {
-                        refused: 7,
-                        sweeps: 0
-                    })
-                );
-                assert_eq!(rt; sink.taken(), OUTPUT.as_bytes());
+            let outcome = with_a_failing_read(rt.alloc(), &net, piece, calls)?;
+            assert!(rt; outcome.is_written, "call {calls}, pieces of {piece}");
+            if !outcome.has_failed {
+                assert_eq!(rt; outcome.answer, Ok(ALL));
                 break;
             }
             failed = failed.saturating_add(1);
-            let read = (calls as usize).saturating_mul(piece);
-            assert_eq!(rt; answer, Err(SimFault::Read));
-            assert_eq!(rt; sink.taken(), refusals_within(rt.alloc(), read)?.as_bytes());
+            assert_eq!(rt; outcome.answer, Err(SimFault::Read));
         }
         // As many reads as there are pieces, and one that finds the end.
         assert_eq!(rt; failed, LINES.len().div_ceil(piece) as u64 + 1);
@@ -83,49 +139,59 @@ fn a_write_that_fails_leaves_a_beginning(rt: HostRuntime) -> Result<(), Fail> {
     for piece in PIECES {
         let mut failed = 0u64;
         for calls in 0..1000u64 {
-            let mut source = MemorySource::new(LINES.as_bytes(), piece);
-            let mut sink = Fused::new(MemorySink::new(rt.alloc(), ROOM)?, calls);
-            let answer = run(rt.alloc(), &net, &mut source, &mut sink);
-            if !sink.has_failed() {
-                assert_eq!(rt;
-                    answer,
-                    Ok(Summary {
-                        refused: 7,
-                        sweeps: 0
-                    })
-                );
-                assert_eq!(rt; sink.inner().taken(), OUTPUT.as_bytes());
+            let outcome = with_a_failing_write(rt.alloc(), &net, piece, calls)?;
+            assert!(rt; outcome.is_written, "call {calls}, pieces of {piece}");
+            if !outcome.has_failed {
+                assert_eq!(rt; outcome.answer, Ok(ALL));
                 break;
             }
             failed = failed.saturating_add(1);
-            assert_eq!(rt; answer, Err(SimFault::Write));
-            assert!(rt; OUTPUT.as_bytes().starts_with(sink.inner().taken()));
-            assert!(rt; sink.inner().taken().len() < OUTPUT.len());
+            assert_eq!(rt; outcome.answer, Err(SimFault::Write));
         }
         assert!(rt; failed > 0);
     }
     Ok(())
 }
 
+/// Simulates into a sink with so much room. What is answered, and whether the room is filled.
+fn with_room(
+    alloc: Global,
+    net: &Net,
+    room: usize,
+) -> Result<(Result<Summary, SimFault>, bool), AllocError> {
+    let mut source = MemorySource::new(LINES.as_bytes(), 7);
+    let mut sink = MemorySink::new(alloc, room)?;
+    let answer = run(alloc, net, &mut source, &mut sink);
+    let is_filled = sink.taken().len() == room && OUTPUT.as_bytes().starts_with(sink.taken());
+    Ok((answer, is_filled))
+}
+
 #[test]
 fn a_sink_with_too_little_room_is_filled(rt: HostRuntime) -> Result<(), Fail> {
     let net = two_nodes(rt.alloc(), 0)?;
     for room in 0..=OUTPUT.len() {
-        let mut source = MemorySource::new(LINES.as_bytes(), 7);
-        let mut sink = MemorySink::new(rt.alloc(), room)?;
-        let answer = run(rt.alloc(), &net, &mut source, &mut sink);
         let want = if room < OUTPUT.len() {
             Err(SimFault::Write)
         } else {
-            Ok(Summary {
-                refused: 7,
-                sweeps: 0,
-            })
+            Ok(ALL)
         };
-        assert_eq!(rt; answer, want, "with room for {room} bytes");
-        assert_eq!(rt; sink.taken(), &OUTPUT.as_bytes()[..room]);
+        let found = with_room(rt.alloc(), &net, room)?;
+        assert_eq!(rt; found, (want, true), "with room for {room} bytes");
     }
     Ok(())
+}
+
+/// Simulates on a heap of so many bytes. What is answered, and how much of the heap stays taken.
+fn on_a_heap(
+    alloc: Global,
+    net: &Net,
+    bytes: usize,
+    source: &mut MemorySource<'_>,
+    sink: &mut MemorySink,
+) -> Result<(Result<Summary, SimFault>, usize), AllocError> {
+    let heap = LocalHeap::new(alloc, bytes)?;
+    let answer = run(&heap, net, source, sink);
+    Ok((answer, heap.used()))
 }
 
 #[test]
@@ -134,24 +200,15 @@ fn refused_memory_leaves_all_unread_and_unwritten(rt: HostRuntime) -> Result<(),
     let mut source = MemorySource::new(LINES.as_bytes(), 7);
     let mut sink = MemorySink::new(rt.alloc(), ROOM)?;
     for units in 1..1000usize {
-        let heap = LocalHeap::new(rt.alloc(), units * 16)?;
-        let answer = run(&heap, &net, &mut source, &mut sink);
-        assert_eq!(rt; heap.used(), 0);
+        let (answer, used) = on_a_heap(rt.alloc(), &net, units * 16, &mut source, &mut sink)?;
+        assert_eq!(rt; used, 0);
         if answer != Err(SimFault::Memory) {
             // The same as with all memory there is; the source still had all its bytes, and the
             // sink all its room.
-            assert_eq!(rt;
-                answer,
-                Ok(Summary {
-                    refused: 7,
-                    sweeps: 0
-                })
-            );
-            assert_eq!(rt; sink.taken(), OUTPUT.as_bytes());
-            assert!(rt; units > 10);
+            assert!(rt; answer == Ok(ALL) && sink.taken() == OUTPUT.as_bytes() && units > 10);
             return Ok(());
         }
-        assert_eq!(rt; sink.taken().len(), 0);
+        assert!(rt; sink.taken().is_empty());
     }
     panic!(rt; "always refused")
 }
@@ -183,6 +240,23 @@ impl Source for LongText {
     }
 }
 
+/// Simulates a text with a line that is refused, of so many bytes. What is answered, and whether this
+/// is written.
+fn with_long_text(
+    alloc: Global,
+    net: &Net,
+    bytes: usize,
+    want: &str,
+) -> Result<(Result<Summary, SimFault>, bool), AllocError> {
+    let mut source = LongText {
+        left: bytes,
+        has_begun: false,
+    };
+    let mut sink = MemorySink::new(alloc, ROOM)?;
+    let answer = run(alloc, net, &mut source, &mut sink);
+    Ok((answer, sink.taken() == want.as_bytes()))
+}
+
 #[test]
 fn a_text_may_have_a_gibibyte_and_no_more(rt: HostRuntime) -> Result<(), Fail> {
     let net = two_nodes(rt.alloc(), 0)?;
@@ -205,14 +279,8 @@ sweeps 0 of 69
         ),
         (1, Err(SimFault::Long), "line 1: Unread\n"),
     ] {
-        let mut source = LongText {
-            left: 1_073_741_824 + more,
-            has_begun: false,
-        };
-        let mut sink = MemorySink::new(rt.alloc(), ROOM)?;
-        let answer = run(rt.alloc(), &net, &mut source, &mut sink);
-        assert_eq!(rt; answer, want);
-        assert_eq!(rt; sink.taken(), output.as_bytes());
+        let found = with_long_text(rt.alloc(), &net, 1_073_741_824 + more, output)?;
+        assert_eq!(rt; found, (want, true));
     }
     Ok(())
 }

@@ -29,27 +29,48 @@ pub fn lines_begin(text: &str, beginnings: &[&str]) -> bool {
     true
 }
 
-/// Holds that it ends so: at most one node is privileged and none lends, after as many sweeps as
-/// there are rounds.
+/// Holds that it ends so.
 fn holds(rt: &(impl Eprint + AllocGlobal + Abort), run: &LongRun<'_>) -> Result<(), Fail> {
-    let alloc = rt.alloc();
+    let (net, text) = parts_of(rt.alloc(), run)?;
+    assert_eq!(rt; text.lines().count(), run.lines);
+    let summary = Summary {
+        refused: 0,
+        sweeps: run.rounds as u64,
+    };
+    for piece in PIECES {
+        let found = settled(rt.alloc(), &net, &text, piece, run)?;
+        assert_eq!(rt; found, (summary, true), "in pieces of {piece}");
+    }
+    Ok(())
+}
+
+/// The network and the text of a run.
+fn parts_of(alloc: Global, run: &LongRun<'_>) -> Result<(Net, String), Fail> {
     let net = net_of(alloc, run.nodes, run.lease, run.edges)?;
     let round = round_of(alloc, &net)?;
     let text = joined(alloc, &[(run.start, 1), (&round, run.rounds)])?;
-    assert_eq!(rt; text.lines().count(), run.lines);
-    let sweeps = run.rounds as u64;
+    Ok((net, text))
+}
+
+/// Whether a text ends as a run does: at most one node is privileged and none lends, after as many
+/// sweeps as there are rounds.
+fn ends_so(alloc: Global, output: &str, sweeps: usize) -> Result<bool, AllocError> {
     let one = format!(in alloc; "privileged 1 lending 0\nsweeps {sweeps} of {sweeps}\n")?;
     let none = format!(in alloc; "privileged 0 lending 0\nsweeps {sweeps} of {sweeps}\n")?;
-    for piece in PIECES {
-        let (output, summary) = simulated(alloc, &net, &text, piece)?;
-        assert!(rt; lines_begin(&output, run.beginnings), "{output}");
-        assert!(rt;
-            output.ends_with(one.as_str()) || output.ends_with(none.as_str()),
-            "{output}"
-        );
-        assert_eq!(rt; summary, Summary { refused: 0, sweeps });
-    }
-    Ok(())
+    Ok(output.ends_with(one.as_str()) || output.ends_with(none.as_str()))
+}
+
+/// What a text is told as, and whether it begins and ends as the run does.
+fn settled(
+    alloc: Global,
+    net: &Net,
+    text: &str,
+    piece: usize,
+    run: &LongRun<'_>,
+) -> Result<(Summary, bool), Fail> {
+    let (output, summary) = simulated(alloc, net, text, piece)?;
+    let has_ended = ends_so(alloc, &output, run.rounds)?;
+    Ok((summary, has_ended && lines_begin(&output, run.beginnings)))
 }
 
 #[test]
