@@ -92,7 +92,7 @@ enum Missed {
 /// Lets node 2 run beside two nodes until all stand where they should, and its first client leave
 /// for a second one. The first thing missed. The clients are one of node 0, one of node 1, and from
 /// place `own` on two of node 2.
-fn missed(
+fn first_missed(
     first: &mut Run<'_>,
     second: &mut Run<'_>,
     third: &mut Run<'_>,
@@ -133,7 +133,8 @@ fn missed(
 /// in its way, and what it missed.
 fn lives(
     alloc: Global,
-    (first, second): (&mut Run<'_>, &mut Run<'_>),
+    first: &mut Run<'_>,
+    second: &mut Run<'_>,
     doors: MemoryDoors<'_>,
     bytes: Option<&[u8]>,
     clients: &[Pair],
@@ -143,7 +144,10 @@ fn lives(
 {
     let door = doors.clients;
     let (mut third, fault) = started(alloc, 2, bytes, doors)?;
-    Ok((fault, missed(first, second, &mut third, door, clients, own)))
+    Ok((
+        fault,
+        first_missed(first, second, &mut third, door, clients, own),
+    ))
 }
 
 /// Runs three nodes in a row, ends node 2, and starts it again with these bytes in its store. What
@@ -165,18 +169,19 @@ fn starts_again(
     let (mut second, _) = started(alloc, 1, None, between)?;
     of_first.knock();
     of_second.knock();
-    let door = || doors_to(&upper, &of_third, &trip);
-    Ok([
-        lives(alloc, (&mut first, &mut second), door(), None, clients, 2)?,
-        lives(
-            alloc,
-            (&mut first, &mut second),
-            door(),
-            Some(bytes),
-            clients,
-            4,
-        )?,
-    ])
+    let door = doors_to(&upper, &of_third, &trip);
+    let began = lives(alloc, &mut first, &mut second, door, None, clients, 2)?;
+    let door = doors_to(&upper, &of_third, &trip);
+    let again = lives(
+        alloc,
+        &mut first,
+        &mut second,
+        door,
+        Some(bytes),
+        clients,
+        4,
+    )?;
+    Ok([began, again])
 }
 
 #[test]
