@@ -1,4 +1,7 @@
 //! What clients write, and what becomes of them.
+use crate::acts::Act::{At, Comes, Has, Idles, Turns};
+use crate::acts::Deed::{Closes, Cuts, Hears, IsClosed, Writes};
+use crate::acts::{Act, first_wrong};
 use crate::stage::{Run, doors, idle, in_a_row, run_of, turn_once, whole, with_token};
 use crate::wires::{MemoryDoors, Pair, Queue, Trip};
 use node_core::Node;
@@ -15,42 +18,84 @@ fn stage<'a>(pairs: &'a [Pair]) -> (Queue<'a>, Queue<'a>, Trip) {
     )
 }
 
+/// The place of the first act that is not as told, between clients and the root of two nodes, which
+/// has the token.
+fn wrong_at_the_root(
+    alloc: Global,
+    pairs: &[Pair],
+    acts: &[Act<'_>],
+) -> Result<Option<usize>, Fail> {
+    let (links, clients, trip) = stage(pairs);
+    let mut run = with_token(alloc, doors(&links, &clients, &trip))?;
+    Ok(first_wrong(&mut run, &clients, pairs, acts))
+}
+
+/// The same of a root that has just begun.
+fn wrong_at_a_new_root(
+    alloc: Global,
+    pairs: &[Pair],
+    acts: &[Act<'_>],
+) -> Result<Option<usize>, Fail> {
+    let (links, clients, trip) = stage(pairs);
+    let mut run = in_a_row(alloc, 2, 0, doors(&links, &clients, &trip))?;
+    Ok(first_wrong(&mut run, &clients, pairs, acts))
+}
+
+/// The status of a root that had the token, was asked for the lock, and has passed the token on.
+const PASSED_ON: &[u8] = b"node 0 distance 0 parent none token no lent none waiting 0\n";
+
 #[test]
 fn a_client_that_closes_gives_the_lock_back(rt: HostRuntime) -> Result<(), Fail> {
     let pairs = [Pair::new(), Pair::new()];
-    let (links, clients, trip) = stage(&pairs);
-    let mut run = with_token(rt.alloc(), doors(&links, &clients, &trip))?;
-    clients.knock();
-    pairs[0].up.write(b"lock\n");
-    turn_once(&mut run, &whole());
-    assert!(rt; pairs[0].says(b"granted\n"));
-    pairs[0].up.close();
-    turn_once(&mut run, &whole());
-    assert!(rt; pairs[0].down.is_closed());
-    clients.knock();
-    pairs[1].up.write(b"status\n");
-    turn_once(&mut run, &whole());
-    assert!(rt; pairs[1].says(b"node 0 distance 0 parent none token no lent none waiting 0\n"));
+    let acts = [
+        Comes,
+        At(0, Writes(b"lock\n")),
+        Turns,
+        At(0, Hears(b"granted\n")),
+        At(0, Closes),
+        Turns,
+        At(0, IsClosed(true)),
+        Comes,
+        At(1, Writes(b"status\n")),
+        Turns,
+        At(1, Hears(PASSED_ON)),
+    ];
+    assert_eq!(rt; wrong_at_the_root(rt.alloc(), &pairs, &acts)?, None);
     Ok(())
 }
 
 #[test]
 fn a_client_that_cannot_be_told_has_left(rt: HostRuntime) -> Result<(), Fail> {
     let pairs = [Pair::new(), Pair::new()];
-    let (links, clients, trip) = stage(&pairs);
-    let mut run = with_token(rt.alloc(), doors(&links, &clients, &trip))?;
-    clients.knock();
-    pairs[0].up.write(b"lock\n");
-    pairs[0].down.cut();
-    turn_once(&mut run, &whole());
-    assert!(rt; pairs[0].says(b"") && pairs[0].down.is_closed());
-    assert_eq!(rt; run.node().lent(), None);
-    turn_once(&mut run, &whole());
-    clients.knock();
-    pairs[1].up.write(b"status\n");
-    turn_once(&mut run, &whole());
-    assert!(rt; pairs[1].says(b"node 0 distance 0 parent none token no lent none waiting 0\n"));
+    let acts = [
+        Comes,
+        At(0, Writes(b"lock\n")),
+        At(0, Cuts),
+        Turns,
+        At(0, Hears(b"")),
+        At(0, IsClosed(true)),
+        Has(0, None),
+        Turns,
+        Comes,
+        At(1, Writes(b"status\n")),
+        Turns,
+        At(1, Hears(PASSED_ON)),
+    ];
+    assert_eq!(rt; wrong_at_the_root(rt.alloc(), &pairs, &acts)?, None);
     Ok(())
+}
+
+/// The place of the first act that is not as told where a client writes this and is to hear that.
+fn wrong_answer<'a>(alloc: Global, line: &'a [u8], want: &'a [u8]) -> Result<Option<usize>, Fail> {
+    let pairs = [Pair::new()];
+    let acts = [
+        Comes,
+        At(0, Writes(line)),
+        Turns,
+        At(0, Hears(want)),
+        At(0, IsClosed(false)),
+    ];
+    wrong_at_the_root(alloc, &pairs, &acts)
 }
 
 #[test]
@@ -71,14 +116,7 @@ fn each_line_has_its_answer(rt: HostRuntime) -> Result<(), Fail> {
             b"node 0 distance 0 parent none token yes lent none waiting 0\n",
         ),
     ] {
-        let pairs = [Pair::new()];
-        let (links, clients, trip) = stage(&pairs);
-        let mut run = with_token(rt.alloc(), doors(&links, &clients, &trip))?;
-        clients.knock();
-        pairs[0].up.write(line);
-        turn_once(&mut run, &whole());
-        assert!(rt; pairs[0].says(want));
-        assert!(rt; !pairs[0].down.is_closed());
+        assert_eq!(rt; wrong_answer(rt.alloc(), line, want)?, None, "{line:?}");
     }
     Ok(())
 }
@@ -86,39 +124,75 @@ fn each_line_has_its_answer(rt: HostRuntime) -> Result<(), Fail> {
 #[test]
 fn a_line_comes_in_parts_and_the_sending_half_may_close(rt: HostRuntime) -> Result<(), Fail> {
     let pairs = [Pair::new()];
-    let (links, clients, trip) = stage(&pairs);
-    let mut run = with_token(rt.alloc(), doors(&links, &clients, &trip))?;
-    clients.knock();
-    pairs[0].up.write(b"stran");
-    turn_once(&mut run, &idle());
-    assert!(rt; pairs[0].says(b""));
-    pairs[0].up.write(b"ge\nunlock\n");
-    pairs[0].up.close();
-    turn_once(&mut run, &idle());
-    assert!(rt; pairs[0].says(b"unknown\nstranger\n"));
-    assert!(rt; !pairs[0].down.is_closed());
-    turn_once(&mut run, &idle());
-    assert!(rt; pairs[0].down.is_closed());
+    let acts = [
+        Comes,
+        At(0, Writes(b"stran")),
+        Idles,
+        At(0, Hears(b"")),
+        At(0, Writes(b"ge\nunlock\n")),
+        At(0, Closes),
+        Idles,
+        At(0, Hears(b"unknown\nstranger\n")),
+        At(0, IsClosed(false)),
+        Idles,
+        At(0, IsClosed(true)),
+    ];
+    assert_eq!(rt; wrong_at_the_root(rt.alloc(), &pairs, &acts)?, None);
     Ok(())
 }
 
 #[test]
 fn a_client_without_room_for_its_answers_has_left(rt: HostRuntime) -> Result<(), Fail> {
     let pairs = [Pair::new()];
-    let (links, clients, trip) = stage(&pairs);
-    let mut run = in_a_row(rt.alloc(), 2, 0, doors(&links, &clients, &trip))?;
-    clients.knock();
-    pairs[0].up.write(b"lock\nstatus\nstatus\nstatus\nstatus\n");
-    turn_once(&mut run, &idle());
-    assert_eq!(rt; run.node().waiting(), 1);
-    assert!(rt; !pairs[0].down.is_closed());
-    pairs[0]
-        .up
-        .write(b"status\nstatus\nstatus\nstatus\nstatus\n");
-    turn_once(&mut run, &idle());
-    assert_eq!(rt; run.node().waiting(), 0);
-    assert!(rt; pairs[0].down.is_closed());
+    let acts = [
+        Comes,
+        At(0, Writes(b"lock\nstatus\nstatus\nstatus\nstatus\n")),
+        Idles,
+        Has(1, None),
+        At(0, IsClosed(false)),
+        At(0, Writes(b"status\nstatus\nstatus\nstatus\nstatus\n")),
+        Idles,
+        Has(0, None),
+        At(0, IsClosed(true)),
+    ];
+    assert_eq!(rt; wrong_at_a_new_root(rt.alloc(), &pairs, &acts)?, None);
     Ok(())
+}
+
+/// All of these clients come and ask for the lock.
+fn crowd(run: &mut Run<'_>, clients: &Queue<'_>, pairs: &[Pair]) {
+    for pair in pairs {
+        clients.knock();
+        pair.up.write(b"lock\n");
+    }
+    for _ in 0..3 {
+        turn_once(run, &whole());
+    }
+}
+
+/// The first of these clients that is not answered as it should be: 64 wait, 64 find no room, and the
+/// connection of the last one is closed.
+fn first_wrong_answer(pairs: &[Pair]) -> Option<usize> {
+    for (place, pair) in pairs.iter().enumerate() {
+        let want = if (64..128).contains(&place) {
+            b"full\n".as_slice()
+        } else {
+            b""
+        };
+        if !pair.says(want) || pair.down.is_closed() != (place == 128) {
+            return Some(place);
+        }
+    }
+    None
+}
+
+/// How many tickets wait at a new root once all of these clients have come, and the first of them that
+/// is not answered as it should be.
+fn crowded(alloc: Global, pairs: &[Pair]) -> Result<(usize, Option<usize>), Fail> {
+    let (links, clients, trip) = stage(pairs);
+    let mut run = in_a_row(alloc, 2, 0, doors(&links, &clients, &trip))?;
+    crowd(&mut run, &clients, pairs);
+    Ok((run.node().waiting(), first_wrong_answer(pairs)))
 }
 
 #[test]
@@ -127,25 +201,7 @@ fn the_hundred_and_twenty_ninth_client_is_closed(rt: HostRuntime) -> Result<(), 
     for _ in 0..129 {
         pairs.push(Pair::new())?;
     }
-    let (links, clients, trip) = stage(&pairs);
-    let mut run = in_a_row(rt.alloc(), 2, 0, doors(&links, &clients, &trip))?;
-    for pair in &pairs {
-        clients.knock();
-        pair.up.write(b"lock\n");
-    }
-    for _ in 0..3 {
-        turn_once(&mut run, &whole());
-    }
-    assert_eq!(rt; run.node().waiting(), 64);
-    for (place, pair) in pairs.iter().enumerate() {
-        let want = if (64..128).contains(&place) {
-            b"full\n".as_slice()
-        } else {
-            b""
-        };
-        assert!(rt; pair.says(want), "client {place}");
-        assert_eq!(rt; pair.down.is_closed(), place == 128);
-    }
+    assert_eq!(rt; crowded(rt.alloc(), pairs.as_slice())?, (64, None));
     Ok(())
 }
 
@@ -164,14 +220,18 @@ fn with_strangers<'a>(alloc: Global, doors: MemoryDoors<'a>) -> Result<Run<'a>, 
     run_of(alloc, net, node, doors)
 }
 
+/// What a node keeps of the tickets of strangers: the loan, and those that wait.
+fn left_of_strangers(alloc: Global, pairs: &[Pair]) -> Result<(Option<u16>, bool), Fail> {
+    let (links, clients, trip) = stage(pairs);
+    let mut run = with_strangers(alloc, doors(&links, &clients, &trip))?;
+    clients.knock();
+    turn_once(&mut run, &idle());
+    Ok((run.node().lent(), run.node().tickets() == [0u16].as_slice()))
+}
+
 #[test]
 fn tickets_that_no_client_has_leave(rt: HostRuntime) -> Result<(), Fail> {
     let pairs = [Pair::new()];
-    let (links, clients, trip) = stage(&pairs);
-    let mut run = with_strangers(rt.alloc(), doors(&links, &clients, &trip))?;
-    clients.knock();
-    turn_once(&mut run, &idle());
-    assert_eq!(rt; run.node().lent(), None);
-    assert_eq!(rt; run.node().tickets(), [0u16].as_slice());
+    assert_eq!(rt; left_of_strangers(rt.alloc(), &pairs)?, (None, true));
     Ok(())
 }

@@ -37,15 +37,22 @@ fn settle(alloc: Global, calls: u64, pairs: &[Pair]) -> Result<(bool, bool), Fai
     let links = Queue::new(pairs, 2, 5);
     let trip = Trip::after(calls);
     let mut near = with_token(alloc, doors(&links, &near_clients, &trip))?;
-    let mut far = in_a_row(alloc, 2, 1, doors_to(&links, &far_clients, &trip))?;
     ask(&near_clients);
-    ask(&far_clients);
-    turn_both(&mut near, &mut far);
-    let are_settled = is_settled(near.node()) && is_settled(far.node());
-    Ok((
-        are_settled && far.node().parent() == Some(0),
-        trip.is_over(),
-    ))
+    let is_settled = settle_with(alloc, &mut near, doors_to(&links, &far_clients, &trip))?;
+    Ok((is_settled, trip.is_over()))
+}
+
+/// Runs the far one of two nodes beside the near one. Whether both settle, the far one below the other.
+fn settle_with<'a>(
+    alloc: Global,
+    near: &mut Run<'_>,
+    doors: MemoryDoors<'a>,
+) -> Result<bool, Fail> {
+    let clients = doors.clients;
+    let mut far = in_a_row(alloc, 2, 1, doors)?;
+    ask(clients);
+    turn_both(near, &mut far);
+    Ok(is_settled(near.node()) && is_settled(far.node()) && far.node().parent() == Some(0))
 }
 
 #[test]

@@ -5,6 +5,8 @@
 #![tactic(auto)]
 
 #[cfg(test)]
+mod acts;
+#[cfg(test)]
 mod client_rows;
 #[cfg(test)]
 mod failure_rows;

@@ -1,7 +1,10 @@
 //! Connections of neighbours, and the first lines on them.
+use crate::acts::Act::{At, Comes, Idles, IsNumbered, Turns};
+use crate::acts::Deed::{Hears, IsClosed, IsLeft, IsSent, Shuts, Writes};
+use crate::acts::{Act, first_wrong};
 use crate::stage::{Run, doors, doors_to, idle, in_a_row, turn_once, whole};
 use crate::wires::{Pair, Queue, Trip};
-use std::alloc::{AllocError, Global};
+use std::alloc::Global;
 use std::test::Fail;
 use topology::Net;
 
@@ -17,6 +20,39 @@ fn stage<'a>(pairs: &'a [Pair]) -> (Queue<'a>, Queue<'a>, Trip) {
 /// What a new node of three says first.
 const FIRST_FRAME: &[u8] = b"F000000000003ffff0000\n";
 
+/// The place of the first act that is not as told, between neighbours and node `id` of three in a row,
+/// to which all of them come.
+fn wrong_above(
+    alloc: Global,
+    id: u16,
+    pairs: &[Pair],
+    acts: &[Act<'_>],
+) -> Result<Option<usize>, Fail> {
+    let (links, clients, trip) = stage(pairs);
+    let mut run = in_a_row(alloc, 3, id, doors(&links, &clients, &trip))?;
+    Ok(first_wrong(&mut run, &links, pairs, acts))
+}
+
+/// The same of node 2, which comes to its neighbour.
+fn wrong_below(alloc: Global, pairs: &[Pair], acts: &[Act<'_>]) -> Result<Option<usize>, Fail> {
+    let (links, clients, trip) = stage(pairs);
+    let mut run = in_a_row(alloc, 3, 2, doors_to(&links, &clients, &trip))?;
+    Ok(first_wrong(&mut run, &links, pairs, acts))
+}
+
+/// The place of the first act that is not as told where this is said as a hello to node 1.
+fn wrong_hello(alloc: Global, hello: &[u8], is_welcome: bool) -> Result<Option<usize>, Fail> {
+    let pairs = [Pair::new()];
+    let acts = [
+        Comes,
+        At(0, Writes(hello)),
+        Turns,
+        At(0, IsClosed(!is_welcome)),
+        At(0, Hears(if is_welcome { FIRST_FRAME } else { b"" })),
+    ];
+    wrong_above(alloc, 1, &pairs, &acts)
+}
+
 #[test]
 fn a_hello_of_a_higher_neighbour_alone_is_welcome(rt: HostRuntime) -> Result<(), Fail> {
     for (hello, is_welcome) in [
@@ -29,15 +65,11 @@ fn a_hello_of_a_higher_neighbour_alone_is_welcome(rt: HostRuntime) -> Result<(),
         (b"H00022", false),
         (b"\n", false),
     ] {
-        let pairs = [Pair::new()];
-        let (links, clients, trip) = stage(&pairs);
-        links.knock();
-        let mut run = in_a_row(rt.alloc(), 3, 1, doors(&links, &clients, &trip))?;
-        pairs[0].up.write(hello);
-        turn_once(&mut run, &whole());
-        assert_eq!(rt; pairs[0].down.is_closed(), !is_welcome);
-        let want = if is_welcome { FIRST_FRAME } else { b"" };
-        assert!(rt; pairs[0].says(want));
+        assert_eq!(rt;
+            wrong_hello(rt.alloc(), hello, is_welcome)?,
+            None,
+            "{hello:?}"
+        );
     }
     Ok(())
 }
@@ -45,36 +77,42 @@ fn a_hello_of_a_higher_neighbour_alone_is_welcome(rt: HostRuntime) -> Result<(),
 #[test]
 fn a_hello_comes_in_parts_and_frames_behind_it(rt: HostRuntime) -> Result<(), Fail> {
     let pairs = [Pair::new()];
-    let (links, clients, trip) = stage(&pairs);
-    let mut run = in_a_row(rt.alloc(), 3, 0, doors(&links, &clients, &trip))?;
-    links.knock();
-    pairs[0].up.write(b"H00");
-    turn_once(&mut run, &idle());
-    assert!(rt; !pairs[0].down.is_closed());
-    pairs[0].up.write(b"01\nF000000000003ffff0000\n");
-    turn_once(&mut run, &idle());
-    assert!(rt; run.node().ranges().nodes > 1 && run.node().seq(1) == 1);
+    let acts = [
+        Comes,
+        At(0, Writes(b"H00")),
+        Idles,
+        At(0, IsClosed(false)),
+        At(0, Writes(b"01\nF000000000003ffff0000\n")),
+        Idles,
+        IsNumbered(1),
+    ];
+    assert_eq!(rt; wrong_above(rt.alloc(), 0, &pairs, &acts)?, None);
     Ok(())
 }
 
 #[test]
 fn a_newer_hello_replaces_the_older_connection(rt: HostRuntime) -> Result<(), Fail> {
     let pairs = [Pair::new(), Pair::new()];
-    let (links, clients, trip) = stage(&pairs);
-    let mut run = in_a_row(rt.alloc(), 3, 0, doors(&links, &clients, &trip))?;
-    for pair in &pairs {
-        links.knock();
-        pair.up.write(b"H0001\n");
-        turn_once(&mut run, &whole());
-        assert!(rt; pair.says(FIRST_FRAME) && !pair.down.is_closed());
-    }
-    assert!(rt; pairs[0].down.is_closed());
+    let acts = [
+        Comes,
+        At(0, Writes(b"H0001\n")),
+        Turns,
+        At(0, Hears(FIRST_FRAME)),
+        At(0, IsClosed(false)),
+        Comes,
+        At(1, Writes(b"H0001\n")),
+        Turns,
+        At(1, Hears(FIRST_FRAME)),
+        At(1, IsClosed(false)),
+        At(0, IsClosed(true)),
+    ];
+    assert_eq!(rt; wrong_above(rt.alloc(), 0, &pairs, &acts)?, None);
     Ok(())
 }
 
 /// Turns a node 256 times. The first turn before which another connection than the 65th was closed
 /// by it, or that one was not closed behind the second turn, and that connection.
-fn first_wrong(run: &mut Run<'_>, pairs: &[Pair]) -> Option<(u32, usize)> {
+fn first_wrong_turn(run: &mut Run<'_>, pairs: &[Pair]) -> Option<(u32, usize)> {
     for turn in 1..=256 {
         for (place, pair) in pairs.iter().enumerate() {
             if pair.down.is_closed() != (place == 64 && turn > 2) {
@@ -86,52 +124,58 @@ fn first_wrong(run: &mut Run<'_>, pairs: &[Pair]) -> Option<(u32, usize)> {
     None
 }
 
+/// How many connections are closed.
+fn closed(pairs: &[Pair]) -> usize {
+    pairs.iter().filter(|pair| pair.down.is_closed()).count()
+}
+
+/// The next neighbour comes and says that it is node 1. Whether it is welcome.
+fn is_welcome(run: &mut Run<'_>, links: &Queue<'_>) -> bool {
+    let Some(last) = links.knock() else {
+        return false;
+    };
+    last.up.write(b"H0001\n");
+    turn_once(run, &whole());
+    last.says(FIRST_FRAME)
+}
+
+/// What was wrong while all but the last of these said nothing for 256 turns, how many were closed
+/// then, and whether the last one was welcome.
+fn silent(alloc: Global, pairs: &[Pair]) -> Result<(Option<(u32, usize)>, usize, bool), Fail> {
+    let (links, clients, trip) = stage(pairs);
+    let mut run = in_a_row(alloc, 3, 0, doors(&links, &clients, &trip))?;
+    for _ in 1..pairs.len() {
+        links.knock();
+    }
+    let wrong = first_wrong_turn(&mut run, pairs);
+    Ok((wrong, closed(pairs), is_welcome(&mut run, &links)))
+}
+
 #[test]
 fn silent_connections_are_few_and_go(rt: HostRuntime) -> Result<(), Fail> {
     let mut pairs = Vec::with_capacity(rt.alloc(), 66)?;
     for _ in 0..66 {
         pairs.push(Pair::new())?;
     }
-    let (links, clients, trip) = stage(&pairs);
-    let mut run = in_a_row(rt.alloc(), 3, 0, doors(&links, &clients, &trip))?;
-    for _ in 0..65 {
-        links.knock();
-    }
-    assert_eq!(rt; first_wrong(&mut run, pairs.as_slice()), None);
-    assert_eq!(rt;
-        pairs.iter().filter(|pair| pair.down.is_closed()).count(),
-        65
-    );
-    let Some(last) = links.knock() else {
-        return Err(Fail::from(AllocError));
-    };
-    last.up.write(b"H0001\n");
-    turn_once(&mut run, &whole());
-    assert!(rt; last.says(FIRST_FRAME));
+    assert_eq!(rt; silent(rt.alloc(), pairs.as_slice())?, (None, 65, true));
     Ok(())
 }
 
 #[test]
 fn a_node_connects_to_a_lower_neighbour_and_says_who_it_is(rt: HostRuntime) -> Result<(), Fail> {
     let pairs = [Pair::new(), Pair::new()];
-    let (links, clients, trip) = stage(&pairs);
-    let mut run = in_a_row(rt.alloc(), 3, 2, doors_to(&links, &clients, &trip))?;
-    turn_once(&mut run, &idle());
-    turn_once(&mut run, &idle());
-    let mut bytes = [0; 16];
-    let count = pairs[0].up.read(&mut bytes);
-    assert_eq!(rt; &bytes[..count], b"H0002\n".as_slice());
-    assert_eq!(rt; pairs[1].up.read(&mut bytes), 0);
-    pairs[0].down.close();
-    turn_once(&mut run, &idle());
-    assert!(rt; pairs[0].up.is_closed());
-    turn_once(&mut run, &whole());
-    let mut bytes = [0; 64];
-    let count = pairs[1].up.read(&mut bytes);
-    assert_eq!(rt;
-        &bytes[..count],
-        b"H0002\nF000000000003ffff0000\n".as_slice()
-    );
+    let acts = [
+        Idles,
+        Idles,
+        At(0, IsSent(b"H0002\n")),
+        At(1, IsSent(b"")),
+        At(0, Shuts),
+        Idles,
+        At(0, IsLeft),
+        Turns,
+        At(1, IsSent(b"H0002\nF000000000003ffff0000\n")),
+    ];
+    assert_eq!(rt; wrong_below(rt.alloc(), &pairs, &acts)?, None);
     Ok(())
 }
 
@@ -166,24 +210,32 @@ fn rewired_often(
     Ok((told, run.rewire(&row)))
 }
 
+/// What the root of a row told of those networks, and whether the last of these connections was closed
+/// then.
+fn rewired_over(alloc: Global, pairs: &[Pair]) -> Result<([Rewired; 3], bool, bool), Fail> {
+    let (links, clients, trip) = stage(pairs);
+    let mut run = in_a_row(alloc, 3, 0, doors(&links, &clients, &trip))?;
+    let (told, is_taken) = rewired_often(alloc, &mut run, &links)?;
+    Ok((
+        told,
+        is_taken,
+        pairs.last().is_some_and(|pair| pair.down.is_closed()),
+    ))
+}
+
 #[test]
 fn a_network_with_other_edges_is_taken_up(rt: HostRuntime) -> Result<(), Fail> {
     let pairs = [Pair::new(), Pair::new(), Pair::new()];
-    let (links, clients, trip) = stage(&pairs);
-    let mut run = in_a_row(rt.alloc(), 3, 0, doors(&links, &clients, &trip))?;
-    let told = rewired_often(rt.alloc(), &mut run, &links)?;
-    // The connection of node 2 went with its edge.
-    let has_gone = pairs[2].down.is_closed();
-    let unwelcome = |is_taken| Some((is_taken, false, true));
+    let (told, is_taken, has_gone) = rewired_over(rt.alloc(), &pairs)?;
     assert_eq!(rt;
-        (told, has_gone),
-        (
-            (
-                [unwelcome(true), unwelcome(false), Some((true, true, false))],
-                true
-            ),
-            true
-        )
+        told,
+        [
+            Some((true, false, true)),
+            Some((false, false, true)),
+            Some((true, true, false)),
+        ]
     );
+    // The connection of node 2 went with its edge.
+    assert!(rt; is_taken && has_gone);
     Ok(())
 }

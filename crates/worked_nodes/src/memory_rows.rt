@@ -204,27 +204,31 @@ fn rewired_on_a_full_heap(
     rewired_often(alloc, run, links, heap)
 }
 
+/// What the root of a row tells of those networks, and whether the third of these connections was closed
+/// then.
+fn rewired_over(alloc: Global, pairs: &[Pair]) -> Result<([Rewired; 4], bool), Fail> {
+    let (links, clients) = (Queue::new(pairs, 0, 4), Queue::new(pairs, 4, 4));
+    let trip = Trip::never();
+    let heap = LocalHeap::new(alloc, 524_288)?;
+    let mut run = root_on(alloc, &heap, doors(&links, &clients, &trip))?;
+    let told = rewired_on_a_full_heap(alloc, &mut run, &links, &heap)?;
+    Ok((told, pairs.get(2).is_some_and(|pair| pair.down.is_closed())))
+}
+
 #[test]
 fn a_network_is_taken_up_without_memory(rt: HostRuntime) -> Result<(), Fail> {
     let pairs = [Pair::new(), Pair::new(), Pair::new(), Pair::new()];
-    let (links, clients) = (Queue::new(&pairs, 0, 4), Queue::new(&pairs, 4, 4));
-    let trip = Trip::never();
-    let heap = LocalHeap::new(rt.alloc(), 524_288)?;
-    let mut run = root_on(rt.alloc(), &heap, doors(&links, &clients, &trip))?;
-    let told = rewired_on_a_full_heap(rt.alloc(), &mut run, &links, &heap)?;
-    // The connection of node 2 went with its edge.
-    let has_gone = pairs[2].down.is_closed();
+    let (told, has_gone) = rewired_over(rt.alloc(), &pairs)?;
     assert_eq!(rt;
-        (told, has_gone),
-        (
-            [
-                Some((true, false, 0)),
-                Some((false, false, 0)),
-                Some((true, true, 0)),
-                Some((true, false, 0)),
-            ],
-            true
-        )
+        told,
+        [
+            Some((true, false, 0)),
+            Some((false, false, 0)),
+            Some((true, true, 0)),
+            Some((true, false, 0)),
+        ]
     );
+    // The connection of node 2 went with its edge.
+    assert!(rt; has_gone);
     Ok(())
 }

@@ -1,7 +1,8 @@
 //! Nodes under load whose pace is damaged again and again.
 use crate::stage::{Run, doors, doors_to, in_a_row, with_token};
-use crate::wires::{Pair, Queue, Trip};
+use crate::wires::{MemoryDoors, Pair, Queue, Trip};
 use pace::{Manner, NodePace, PORTS, Pace, PortPace};
+use std::alloc::Global;
 use std::test::Fail;
 use topology::{Frame, Payload};
 
@@ -126,28 +127,59 @@ fn grants_of(
     grants
 }
 
+/// The first stretch in which a client is not granted the lock.
+fn first_starved(near: &mut Run<'_>, far: &mut Run<'_>, clients: [&Pair; 2]) -> Option<u64> {
+    let mut draws = Draws(7);
+    for stretch in 0..8 {
+        let begin = stretch * TURNS * 100;
+        let grants = grants_of(near, far, &mut draws, clients, begin);
+        if grants[0] == 0 || grants[1] == 0 {
+            return Some(stretch);
+        }
+    }
+    None
+}
+
+/// The next client comes, and asks for the lock.
+fn ask<'a>(clients: &Queue<'a>) -> Option<&'a Pair> {
+    let client = clients.knock()?;
+    client.up.write(b"lock\n");
+    Some(client)
+}
+
+/// Runs the far one of two nodes beside the near one, each with a client that asks for the lock again
+/// and again. Whether no client starves.
+fn none_starves<'a>(
+    alloc: Global,
+    near: &mut Run<'_>,
+    near_clients: &Queue<'_>,
+    doors: MemoryDoors<'a>,
+) -> Result<bool, Fail> {
+    let (first, second) = (ask(near_clients), ask(doors.clients));
+    let mut far = in_a_row(alloc, 2, 1, doors)?;
+    let (Some(first), Some(second)) = (first, second) else {
+        return Ok(false);
+    };
+    Ok(first_starved(near, &mut far, [first, second]).is_none())
+}
+
+/// Runs two nodes over these connections, of which the first two are the clients'. Whether no client
+/// starves.
+fn none_starves_over(alloc: Global, pairs: &[Pair]) -> Result<bool, Fail> {
+    let (near_clients, far_clients) = (Queue::new(pairs, 0, 1), Queue::new(pairs, 1, 2));
+    let (links, trip) = (Queue::new(pairs, 2, 3), Trip::never());
+    let mut near = with_token(alloc, doors(&links, &near_clients, &trip))?;
+    none_starves(
+        alloc,
+        &mut near,
+        &near_clients,
+        doors_to(&links, &far_clients, &trip),
+    )
+}
+
 #[test]
 fn a_damaged_pace_costs_time_alone(rt: HostRuntime) -> Result<(), Fail> {
     let pairs = [Pair::new(), Pair::new(), Pair::new()];
-    let all = &pairs[..];
-    let (near_clients, far_clients) = (Queue::new(all, 0, 1), Queue::new(all, 1, 2));
-    let (links, trip) = (Queue::new(all, 2, 3), Trip::never());
-    let mut near = with_token(rt.alloc(), doors(&links, &near_clients, &trip))?;
-    let mut far = in_a_row(rt.alloc(), 2, 1, doors_to(&links, &far_clients, &trip))?;
-    near_clients.knock();
-    far_clients.knock();
-    for client in &all[..2] {
-        client.up.write(b"lock\n");
-    }
-    let mut draws = Draws(7);
-    for stretch in 0..8 {
-        let clients = [&pairs[0], &pairs[1]];
-        let begin = stretch * TURNS * 100;
-        let grants = grants_of(&mut near, &mut far, &mut draws, clients, begin);
-        assert!(rt;
-            grants[0] > 0 && grants[1] > 0,
-            "{grants:?} in stretch {stretch}"
-        );
-    }
+    assert!(rt; none_starves_over(rt.alloc(), &pairs)?);
     Ok(())
 }

@@ -137,6 +137,13 @@ impl Pair {
         }
     }
 
+    /// Whether what went up is this.
+    pub fn was_told(&self, text: &[u8]) -> bool {
+        let mut bytes = [0; ROOM];
+        let count = self.up.read(&mut bytes);
+        &bytes[..count] == text
+    }
+
     /// Whether what came down is this.
     pub fn says(&self, text: &[u8]) -> bool {
         let mut bytes = [0; ROOM];

@@ -1,10 +1,15 @@
 //! Copies of the test program as clients, against desks that follow a script.
+use crate::hold::hold;
 use lock_command::{Request, lock, status};
-use std::io::{Read, Write};
+use std::alloc::{AllocError, Global};
+use std::io::{Input, Read, Write};
+use std::net::Net;
 use std::os::unix::net::{UnixListener, UnixStream};
 use std::process::{Abort, Child, Command, Processes, Stdio};
 use std::rt::{Env, Files};
+use std::sync::Wait;
 use std::test::Fail;
+use std::time::Clock;
 use std::{env, fs};
 
 /// What a desk of the tests does, one step after the other. Behind the last one it closes the
@@ -38,32 +43,38 @@ struct Row {
     told: &'static str,
 }
 
-/// A copy that is started with a folder takes the lock there, and prints its status.
+/// A copy that is started with lines takes the lock as they say, and prints its status.
 #[test]
 fn acts_as_a_client(rt: HostRuntime) -> Result<(), Fail> {
-    let Ok(folder) = env::var(&rt, "LOCK_FOLDER") else {
+    let Ok(lines) = env::var(&rt, "LOCK_LINES") else {
         return Ok(());
     };
-    let seconds = env::var(&rt, "LOCK_SECONDS")?;
-    let keeps = env::var(&rt, "LOCK_KEEPS")?;
-    let program = env::var(&rt, "LOCK_PROGRAM")?;
-    let flag = env::var(&rt, "LOCK_FLAG")?;
-    let script = env::var(&rt, "LOCK_SCRIPT")?;
-    let words = [program.as_str(), flag.as_str(), script.as_str()];
-    let count = words.iter().take_while(|word| !word.is_empty()).count();
-    let status = lock::run(
-        &rt,
-        &Request {
-            folder: folder.as_str(),
-            node: 0,
-            seconds: seconds.as_str().parse().ok(),
-            keeps_running: !keeps.is_empty(),
-            guarded: env::var(&rt, "LOCK_GUARDED").is_ok(),
-            command: &words[..count.min(3)],
-        },
-    );
+    let status = take_lock(&rt, lines.as_str());
     println!(rt; "status {status}")?;
     Ok(())
+}
+
+/// Takes the lock as lines say, and answers the status: the folder, the seconds, whether the command
+/// runs on, whether somebody looks after the client, and up to three words.
+fn take_lock<
+    R: Env + Net + Files + Processes + Clock + Input + Print + Eprint + AllocGlobal + Wait,
+>(rt: &R, lines: &str) -> u8 {
+    let mut lines = lines.split('\n');
+    let mut next = || lines.next().unwrap_or("");
+    let (folder, seconds, keeps, guarded) = (next(), next(), next(), next());
+    let words = [next(), next(), next()];
+    let count = words.iter().take_while(|word| !word.is_empty()).count();
+    lock::run(
+        rt,
+        &Request {
+            folder,
+            node: 0,
+            seconds: seconds.parse().ok(),
+            keeps_running: !keeps.is_empty(),
+            guarded: !guarded.is_empty(),
+            command: &words[..count.min(3)],
+        },
+    )
 }
 
 /// A copy that is started with a folder of nodes prints how they stand, and its status.
@@ -77,6 +88,31 @@ fn acts_as_an_onlooker(rt: HostRuntime) -> Result<(), Fail> {
     Ok(())
 }
 
+/// A copy that does one of these tests, with a variable of its environment.
+fn copy_of<R: Env + Files + AllocGlobal>(
+    rt: &R,
+    test: &str,
+    name: &str,
+    value: &str,
+) -> Result<Command, Fail> {
+    let program = env::current_exe(rt)?;
+    let mut command = Command::new(rt.alloc(), program.as_path())?;
+    command.arg(test)?.env(name, value)?;
+    Ok(command)
+}
+
+/// The lines that say what a client is asked to do.
+fn lines_of(alloc: Global, folder: &str, asked: Asked) -> Result<String, AllocError> {
+    let Asked {
+        seconds,
+        keeps,
+        program,
+        script,
+    } = asked;
+    let flag = if script.is_empty() { "" } else { "-c" };
+    format!(in alloc; "{folder}\n{seconds}\n{keeps}\n\n{program}\n{flag}\n{script}")
+}
+
 /// Starts a copy as a client.
 fn client<R: Env + Files + Processes + AllocGlobal>(
     rt: &R,
@@ -84,16 +120,14 @@ fn client<R: Env + Files + Processes + AllocGlobal>(
     asked: Asked,
     input: Stdio,
 ) -> Result<Child<R::Started>, Fail> {
-    let program = env::current_exe(rt)?;
-    let mut command = Command::new(rt.alloc(), program.as_path())?;
+    let lines = lines_of(rt.alloc(), folder, asked)?;
+    let mut command = copy_of(
+        rt,
+        "clients::acts_as_a_client",
+        "LOCK_LINES",
+        lines.as_str(),
+    )?;
     command
-        .arg("clients::acts_as_a_client")?
-        .env("LOCK_FOLDER", folder)?
-        .env("LOCK_SECONDS", asked.seconds)?
-        .env("LOCK_KEEPS", asked.keeps)?
-        .env("LOCK_PROGRAM", asked.program)?
-        .env("LOCK_FLAG", if asked.script.is_empty() { "" } else { "-c" })?
-        .env("LOCK_SCRIPT", asked.script)?
         .stdin(input)
         .stdout(Stdio::piped())
         .stderr(Stdio::piped());
@@ -101,20 +135,23 @@ fn client<R: Env + Files + Processes + AllocGlobal>(
 }
 
 /// Serves one client by a script.
-fn serve<R: Abort>(rt: &R, stream: &mut UnixStream, steps: &[Step]) -> Result<(), Fail> {
-    let mut room = [0u8; 16];
+fn serve(stream: &mut UnixStream, steps: &[Step]) -> Result<(), Fail> {
     for step in steps {
         match *step {
-            Step::Hears(want) => {
-                assert!(rt; want.len() < room.len());
-                stream.read_exact(&mut room[..want.len()])?;
-                assert_eq!(rt; &room[..want.len()], want);
-            }
+            Step::Hears(want) => hears(stream, want)?,
             Step::Says(bytes) => stream.write_all(bytes)?,
-            Step::SeesOff => assert_eq!(rt; stream.read(&mut room)?, 0),
+            Step::SeesOff => hold(stream.read(&mut [0; 16])? == 0, "a client writes more")?,
         }
     }
     Ok(())
+}
+
+/// Reads these very bytes, of which there are fewer than 16.
+fn hears(stream: &mut UnixStream, want: &[u8]) -> Result<(), Fail> {
+    let mut room = [0u8; 16];
+    let count = want.len().min(room.len());
+    stream.read_exact(&mut room[..count])?;
+    hold(&room[..count] == want, "a client writes something else")
 }
 
 /// Does what a row says, and holds what the client prints against what is wanted.
@@ -125,16 +162,18 @@ fn try_row<R: Abort + Env + Files + Processes + AllocGlobal>(
     row: &Row,
 ) -> Result<(), Fail> {
     let client = client(rt, folder, row.asked, Stdio::null())?;
-    let (mut stream, _) = desk.accept()?;
-    serve(rt, &mut stream, row.steps)?;
-    drop(stream);
+    serve_one(desk, row.steps)?;
     let output = client.wait_with_output(rt.alloc())?;
-    assert!(rt;
-        output.stdout.as_slice().starts_with(row.status.as_bytes()),
-        "{row:?}: {output:?}"
-    );
-    assert_eq!(rt; output.stderr.as_slice(), row.told.as_bytes(), "{row:?}");
+    let is_ended = output.stdout.as_slice().starts_with(row.status.as_bytes());
+    let is_told = output.stderr.as_slice() == row.told.as_bytes();
+    assert!(rt; is_ended && is_told, "{row:?}: {output:?}");
     Ok(())
+}
+
+/// Serves the next client by a script, and closes the connection.
+fn serve_one(desk: &UnixListener, steps: &[Step]) -> Result<(), Fail> {
+    let (mut stream, _) = desk.accept()?;
+    serve(&mut stream, steps)
 }
 
 const LOCK: Step = Step::Hears(b"lock\n");
@@ -283,13 +322,20 @@ fn tells_why_the_lock_is_not_held(rt: HostRuntime) -> Result<(), Fail> {
         try_row(&rt, folder, &desk, &row)?;
     }
     drop(desk);
-    // The file of the socket is still there, and nobody listens; then it goes too; then the folder.
+    serves_nobody(&rt, folder)
+}
+
+/// The file of the socket is still there, and nobody listens; then it goes too; then the folder.
+fn serves_nobody<R: Abort + Env + Files + Processes + AllocGlobal>(
+    rt: &R,
+    folder: &str,
+) -> Result<(), Fail> {
     let nobody = "tokentree: nobody listens at lock-not-held/desk-0.sock: start node 0\n";
-    no_service(&rt, folder, nobody)?;
-    fs::remove_file(&rt, "lock-not-held/desk-0.sock")?;
-    no_service(&rt, folder, nobody)?;
-    fs::remove_dir_all(&rt, folder)?;
-    no_service(&rt, folder, "tokentree: there is no folder lock-not-held\n")
+    no_service(rt, folder, nobody)?;
+    fs::remove_file(rt, "lock-not-held/desk-0.sock")?;
+    no_service(rt, folder, nobody)?;
+    fs::remove_dir_all(rt, folder)?;
+    no_service(rt, folder, "tokentree: there is no folder lock-not-held\n")
 }
 
 /// A client of a folder in which nobody serves ends with status 125, and tells this.
@@ -300,9 +346,41 @@ fn no_service<R: Abort + Env + Files + Processes + AllocGlobal>(
 ) -> Result<(), Fail> {
     let client = client(rt, folder, by_shell("exit 0"), Stdio::null())?;
     let output = client.wait_with_output(rt.alloc())?;
-    assert!(rt; output.stdout.as_slice().starts_with(b"status 125\n"));
-    assert_eq!(rt; output.stderr.as_slice(), told.as_bytes());
+    let is_ended = output.stdout.as_slice().starts_with(b"status 125\n");
+    assert!(rt;
+        is_ended && output.stderr.as_slice() == told.as_bytes(),
+        "{output:?}"
+    );
     Ok(())
+}
+
+/// The next eight bytes that a client prints.
+fn printed(client: &mut Child) -> Result<Option<[u8; 8]>, Fail> {
+    let Some(output) = &mut client.stdout else {
+        return Ok(None);
+    };
+    let mut said = [0u8; 8];
+    output.read_exact(&mut said)?;
+    Ok(Some(said))
+}
+
+/// Writes to the input of a client, and ends it.
+fn end_input(client: &mut Child) -> Result<(), Fail> {
+    if let Some(input) = &mut client.stdin {
+        input.write_all(b"anything\n")?;
+    }
+    drop(client.stdin.take());
+    Ok(())
+}
+
+/// Lends the lock to a client until its input ends.
+fn lend(desk: &UnixListener, client: &mut Child) -> Result<(), Fail> {
+    let (mut stream, _) = desk.accept()?;
+    serve(&mut stream, &[LOCK, GRANTED])?;
+    hold(printed(client)? == Some(*b"granted\n"), "no `granted`")?;
+    // What stands in its input is passed over, and it holds the lock on.
+    end_input(client)?;
+    serve(&mut stream, &[UNLOCK, RELEASED, Step::SeesOff])
 }
 
 #[test]
@@ -311,21 +389,7 @@ fn holds_the_lock_until_its_input_ends(rt: HostRuntime) -> Result<(), Fail> {
     fs::create_dir_all(&rt, folder)?;
     let desk = UnixListener::bind(&rt, "lock-input/desk-0.sock")?;
     let mut client = client(&rt, folder, plainly(""), Stdio::piped())?;
-    let (mut stream, _) = desk.accept()?;
-    serve(&rt, &mut stream, &[LOCK, GRANTED])?;
-    let mut said = [0u8; 8];
-    match &mut client.stdout {
-        Some(output) => output.read_exact(&mut said)?,
-        None => panic!(rt; "no pipe"),
-    }
-    assert_eq!(rt; said.as_slice(), b"granted\n".as_slice());
-    // What stands in its input is passed over, and it holds the lock on.
-    match &mut client.stdin {
-        Some(input) => input.write_all(b"anything\n")?,
-        None => panic!(rt; "no pipe"),
-    }
-    drop(client.stdin.take());
-    serve(&rt, &mut stream, &[UNLOCK, RELEASED, Step::SeesOff])?;
+    lend(&desk, &mut client)?;
     let output = client.wait_with_output(rt.alloc())?;
     assert!(rt;
         output.stdout.as_slice().starts_with(b"status 0\n"),
@@ -335,80 +399,99 @@ fn holds_the_lock_until_its_input_ends(rt: HostRuntime) -> Result<(), Fail> {
     Ok(())
 }
 
-#[test]
-fn outlives_who_started_it(rt: HostRuntime) -> Result<(), Fail> {
-    let folder = "lock-guarded";
-    fs::create_dir_all(&rt, folder)?;
-    let desk = UnixListener::bind(&rt, "lock-guarded/desk-0.sock")?;
-    let program = env::current_exe(&rt)?;
-    // A shell starts the client, and does not become it, since it has more to do.
+/// The lines of a client that a copy of its program looks after, of a command that runs for long.
+const GUARDED: &str = "lock-guarded\n\n\nyes\n/bin/sleep\n50\n";
+
+/// A shell that starts such a client, and does not become it, since it has more to do.
+fn shell(rt: &HostRuntime) -> Result<Child, Fail> {
+    let program = env::current_exe(rt)?;
     let mut command = Command::new(rt.alloc(), "/bin/sh")?;
     command
         .arg("-c")?
         .arg("\"$0\" clients::acts_as_a_client; exit 1")?
         .arg(program.as_path())?
-        .env("LOCK_FOLDER", folder)?
-        .env("LOCK_SECONDS", "")?
-        .env("LOCK_KEEPS", "")?
-        .env("LOCK_GUARDED", "yes")?
-        .env("LOCK_PROGRAM", "/bin/sleep")?
-        .env("LOCK_FLAG", "50")?
-        .env("LOCK_SCRIPT", "")?
+        .env("LOCK_LINES", GUARDED)?
         .stdin(Stdio::null())
         .stdout(Stdio::null());
-    let mut shell = command.spawn(&rt)?;
+    Ok(command.spawn(rt)?)
+}
+
+/// Lends the lock to the client of a shell, and kills the shell.
+fn lend_and_kill(desk: &UnixListener, shell: &mut Child) -> Result<(), Fail> {
     let (mut stream, _) = desk.accept()?;
-    serve(&rt, &mut stream, &[LOCK, GRANTED])?;
+    serve(&mut stream, &[LOCK, GRANTED])?;
     shell.kill()?;
     // Its command would run on for long: it is ended, and then the lock is given back.
-    serve(&rt, &mut stream, &[UNLOCK, RELEASED, Step::SeesOff])?;
+    serve(&mut stream, &[UNLOCK, RELEASED, Step::SeesOff])
+}
+
+#[test]
+fn outlives_who_started_it(rt: HostRuntime) -> Result<(), Fail> {
+    let folder = "lock-guarded";
+    fs::create_dir_all(&rt, folder)?;
+    let desk = UnixListener::bind(&rt, "lock-guarded/desk-0.sock")?;
+    let mut shell = shell(&rt)?;
+    lend_and_kill(&desk, &mut shell)?;
     shell.wait()?;
     fs::remove_dir_all(&rt, folder)?;
     Ok(())
 }
 
 /// A desk that says how its node stands; none where it never does.
-fn tells<R: Abort>(rt: &R, desk: &UnixListener, pieces: &[&[u8]]) -> Result<UnixStream, Fail> {
+fn tells(desk: &UnixListener, pieces: &[&[u8]]) -> Result<UnixStream, Fail> {
     let (mut stream, _) = desk.accept()?;
-    serve(rt, &mut stream, &[Step::Hears(b"status\n")])?;
+    hears(&mut stream, b"status\n")?;
     for piece in pieces {
         stream.write_all(piece)?;
     }
     Ok(stream)
 }
 
-#[test]
-fn tells_who_gave_no_answer(rt: HostRuntime) -> Result<(), Fail> {
-    let folder = "lock-status";
-    fs::create_dir_all(&rt, folder)?;
-    let answers = UnixListener::bind(&rt, "lock-status/desk-0.sock")?;
-    let silent = UnixListener::bind(&rt, "lock-status/desk-2.sock")?;
-    let another = UnixListener::bind(&rt, "lock-status/desk-10.sock")?;
-    fs::write(&rt, "lock-status/node-1.sock", "")?;
-    let program = env::current_exe(&rt)?;
-    let mut command = Command::new(rt.alloc(), program.as_path())?;
-    command
-        .arg("clients::acts_as_an_onlooker")?
-        .env("STATUS_FOLDER", folder)?
-        .stdout(Stdio::piped());
-    let onlooker = command.spawn(&rt)?;
+/// The desks of three nodes: the first answers in two pieces, the second is silent, and the third
+/// answers for another node.
+fn tell_all(desks: &[UnixListener; 3]) -> Result<[UnixStream; 3], Fail> {
     let lent: &[u8] = b"parent none token yes lent 5 waiting 64\nmore";
-    let _first = tells(&rt, &answers, &[b"node 0 distance 0 ", lent])?;
-    let _second = tells(&rt, &silent, &[])?;
     let wrong: &[u8] = b"node 1 distance 1 parent 0 token no lent none waiting 0\n";
-    let _third = tells(&rt, &another, &[wrong])?;
-    let output = onlooker.wait_with_output(rt.alloc())?;
-    let want = "\
+    Ok([
+        tells(&desks[0], &[b"node 0 distance 0 ", lent])?,
+        tells(&desks[1], &[])?,
+        tells(&desks[2], &[wrong])?,
+    ])
+}
+
+/// What an onlooker prints.
+const SEEN: &[u8] = b"\
 node 0 distance 0 parent none token yes lent 5 waiting 64
 node 2 no answer
 node 10 no answer
 privileged 1 lending 1
 status 1
 ";
-    assert!(rt;
-        output.stdout.as_slice().starts_with(want.as_bytes()),
-        "{output:?}"
-    );
+
+/// Has an onlooker ask all desks, and holds what it prints against what is wanted.
+fn look_on(rt: &HostRuntime, desks: &[UnixListener; 3]) -> Result<(), Fail> {
+    let test = "clients::acts_as_an_onlooker";
+    let mut command = copy_of(rt, test, "STATUS_FOLDER", "lock-status")?;
+    let onlooker = command.stdout(Stdio::piped()).spawn(rt)?;
+    let _streams = tell_all(desks)?;
+    let output = onlooker.wait_with_output(rt.alloc())?;
+    hold(
+        output.stdout.as_slice().starts_with(SEEN),
+        "the onlooker sees something else",
+    )
+}
+
+#[test]
+fn tells_who_gave_no_answer(rt: HostRuntime) -> Result<(), Fail> {
+    let folder = "lock-status";
+    fs::create_dir_all(&rt, folder)?;
+    fs::write(&rt, "lock-status/node-1.sock", "")?;
+    let desks = [
+        UnixListener::bind(&rt, "lock-status/desk-0.sock")?,
+        UnixListener::bind(&rt, "lock-status/desk-2.sock")?,
+        UnixListener::bind(&rt, "lock-status/desk-10.sock")?,
+    ];
+    look_on(&rt, &desks)?;
     fs::remove_dir_all(&rt, folder)?;
     Ok(())
 }

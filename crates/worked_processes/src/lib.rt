@@ -6,4 +6,6 @@
 #[cfg(test)]
 mod clients;
 #[cfg(test)]
+mod hold;
+#[cfg(test)]
 mod nodes;

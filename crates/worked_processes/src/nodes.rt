@@ -1,8 +1,9 @@
 //! Nodes as processes: copies of this test program, which talk over sockets.
+use crate::hold::hold;
 use node_process::{NodeFault, NodeProgram, NodeWords, Refusal, node, up};
 use node_texts::{CapacityLine, End, EndLine, NodePaths};
 use pace::Manner;
-use std::alloc::Global;
+use std::alloc::{AllocError, Global};
 use std::io::{Read, Write};
 use std::os::unix::fs::PermissionsExt;
 use std::os::unix::net::UnixStream;
@@ -42,16 +43,18 @@ fn acts_as_a_node(rt: HostRuntime) -> Result<(), Fail> {
         is_child: env::var(&rt, "TOKENTREE_CHILD").is_ok(),
     };
     if words.is_child {
-        let process = process::id(rt.process());
-        let told = format!(in rt.alloc(); "{process}")?;
-        fs::write(
-            &rt,
-            pid_file(rt.alloc(), words.dir, words.id)?.as_str(),
-            told.as_str(),
-        )?;
+        tell_process(&rt, words.dir, words.id)?;
     }
-    let ended = node::run(&rt, &words);
-    assert_eq!(rt; ended, Ok(()));
+    assert_eq!(rt; node::run(&rt, &words), Ok(()));
+    Ok(())
+}
+
+/// Writes which process a node is.
+fn tell_process(rt: &HostRuntime, dir: &str, id: u16) -> Result<(), Fail> {
+    let process = process::id(rt.process());
+    let told = format!(in rt.alloc(); "{process}")?;
+    let path = pid_file(rt.alloc(), dir, id)?;
+    fs::write(rt, path.as_str(), told.as_str())?;
     Ok(())
 }
 
@@ -71,20 +74,37 @@ fn command_of(alloc: Global, program: &PathBuf, dir: &str, id: u16) -> io::Resul
     Ok(command)
 }
 
-/// A node's process, and the first two lines that it prints.
-fn start(rt: &HostRuntime, dir: &str, id: u16) -> Result<(Child, String), Fail> {
+/// What a node prints first where it has no state file.
+const ABSENT: [&str; 2] = ["start default Absent", "ready"];
+
+/// What it prints first where its state was loaded.
+const LOADED: [&str; 2] = ["start loaded", "ready"];
+
+/// Starts a node's process.
+fn spawn(rt: &HostRuntime, dir: &str, id: u16) -> Result<Child, Fail> {
     let program = env::current_exe(rt)?;
     let mut command = command_of(rt.alloc(), &program, dir, id)?;
     command.stdout(Stdio::piped()).stderr(Stdio::piped());
-    let mut child = command.spawn(rt)?;
-    let mut lines = String::new(rt.alloc());
-    if let Some(output) = &mut child.stdout {
-        for _ in 0..2u32 {
-            lines.push_str(read_line(rt.alloc(), output)?.as_str())?;
-            lines.push_str("; ")?;
-        }
-    }
-    Ok((child, lines))
+    Ok(command.spawn(rt)?)
+}
+
+/// Whether these are the next lines that a process prints.
+fn prints(rt: &HostRuntime, child: &mut Child, lines: [&str; 2]) -> Result<bool, Fail> {
+    let Some(output) = &mut child.stdout else {
+        return Ok(false);
+    };
+    let is_first = read_line(rt.alloc(), output)?.as_str() == lines[0];
+    Ok(read_line(rt.alloc(), output)?.as_str() == lines[1] && is_first)
+}
+
+/// A node's process, which prints these lines first.
+fn start(rt: &HostRuntime, dir: &str, id: u16, lines: [&str; 2]) -> Result<Child, Fail> {
+    let mut child = spawn(rt, dir, id)?;
+    hold(
+        prints(rt, &mut child, lines)?,
+        "a node prints something else first",
+    )?;
+    Ok(child)
 }
 
 /// The next line, without its newline.
@@ -218,44 +238,89 @@ fn second_node(rt: &HostRuntime, dir: &str) -> Result<Result<(), NodeFault>, Fai
     Ok(node::run(rt, &words))
 }
 
+/// Whether a client is answered so.
+fn is_answered(
+    rt: &HostRuntime,
+    client: &mut UnixStream,
+    line: &str,
+    want: &str,
+) -> Result<bool, Fail> {
+    Ok(ask(rt, client, line)?.as_str() == want)
+}
+
+/// Whether node 2 tells a client that its line is none.
+fn knows_its_lines(rt: &HostRuntime, dir: &str) -> Result<bool, Fail> {
+    let mut asking = client(rt, dir, 2)?;
+    is_answered(rt, &mut asking, "loc\n", "unknown")
+}
+
+/// Whether node 2 lends the lock to a client, and takes it back.
+fn lends(rt: &HostRuntime, dir: &str) -> Result<bool, Fail> {
+    let mut asking = client(rt, dir, 2)?;
+    let is_lent = is_answered(rt, &mut asking, "lock\n", "granted")?;
+    Ok(is_answered(rt, &mut asking, "unlock\n", "released")? && is_lent)
+}
+
+/// Node 2 joins two nodes that run, ends, and its state is scrambled.
+fn scramble_third(rt: &HostRuntime, dir: &str) -> Result<(), Fail> {
+    let third = start(rt, dir, 2, ABSENT)?;
+    hold(
+        all_come_to(rt, dir, [0, 1, 2])?,
+        "not all come to their distances",
+    )?;
+    hold(stops(rt, dir, 2, third)?, "node 2 does not stop")?;
+    hold(scramble_state(rt, dir, 2)?, "no state is scrambled")
+}
+
+/// Three nodes that run serve, and the network file gets an edge meanwhile.
+fn serve_and_rewire(rt: &HostRuntime, dir: &str) -> Result<(), Fail> {
+    hold(
+        all_come_to(rt, dir, [0, 1, 2])?,
+        "not all come to their distances again",
+    )?;
+    hold(
+        knows_its_lines(rt, dir)?,
+        "a line that is none is not told so",
+    )?;
+    hold(lends(rt, dir)?, "the lock is not lent and taken back")?;
+    write_network(rt, dir, RING)?;
+    hold(comes_to(rt, dir, 2, 1)?, "the new edge is not taken up")?;
+    hold(
+        second_node(rt, dir)? == Err(NodeFault::Running),
+        "a second node 0 runs",
+    )
+}
+
+/// Runs three nodes, of which node 2 starts again from any state, while the others run.
+fn run_three(rt: &HostRuntime, dir: &str) -> Result<(), Fail> {
+    let first = start(rt, dir, 0, ABSENT)?;
+    let second = start(rt, dir, 1, ABSENT)?;
+    scramble_third(rt, dir)?;
+    let third = start(rt, dir, 2, LOADED)?;
+    serve_and_rewire(rt, dir)?;
+    hold(stops(rt, dir, 0, first)?, "node 0 does not stop")?;
+    hold(stops(rt, dir, 1, second)?, "node 1 does not stop")?;
+    hold(stops(rt, dir, 2, third)?, "node 2 does not stop again")
+}
+
+/// Starts node 2, which prints these lines first, and stops it.
+fn start_and_stop(rt: &HostRuntime, dir: &str, lines: [&str; 2]) -> Result<(), Fail> {
+    let third = start(rt, dir, 2, lines)?;
+    hold(
+        stops(rt, dir, 2, third)?,
+        "node 2 does not stop once started again",
+    )
+}
+
 #[test]
 fn three_nodes_serve_rewire_stop_and_start_again(rt: HostRuntime) -> Result<(), Fail> {
     let folder = fresh_folder(&rt, "three", LINE)?;
     let dir = folder.as_str();
-    let (first, of_first) = start(&rt, dir, 0)?;
-    let (second, of_second) = start(&rt, dir, 1)?;
-    let (third, of_third) = start(&rt, dir, 2)?;
-    for lines in [of_first, of_second, of_third] {
-        assert_eq!(rt; lines.as_str(), "start default Absent; ready; ");
-    }
-    assert!(rt; all_come_to(&rt, dir, [0, 1, 2])?);
-    // Node 2 starts again from any state, while the others run.
-    assert!(rt; stops(&rt, dir, 2, third)?);
-    assert!(rt; scramble_state(&rt, dir, 2)?);
-    let (third, lines) = start(&rt, dir, 2)?;
-    assert_eq!(rt; lines.as_str(), "start loaded; ready; ");
-    assert!(rt; all_come_to(&rt, dir, [0, 1, 2])?);
-    let mut asking = client(&rt, dir, 2)?;
-    assert_eq!(rt; ask(&rt, &mut asking, "loc\n")?.as_str(), "unknown");
-    drop(asking);
-    let mut asking = client(&rt, dir, 2)?;
-    assert_eq!(rt; ask(&rt, &mut asking, "lock\n")?.as_str(), "granted");
-    assert_eq!(rt; ask(&rt, &mut asking, "unlock\n")?.as_str(), "released");
-    // The network file gets an edge while all run.
-    write_network(&rt, dir, RING)?;
-    assert!(rt; comes_to(&rt, dir, 2, 1)?);
-    assert_eq!(rt; second_node(&rt, dir)?, Err(NodeFault::Running));
-    assert!(rt; stops(&rt, dir, 0, first)?);
-    assert!(rt; stops(&rt, dir, 1, second)?);
-    assert!(rt; stops(&rt, dir, 2, third)?);
+    run_three(&rt, dir)?;
     // Its state is as it was saved, and then it is cut.
-    let (again, lines) = start(&rt, dir, 2)?;
-    assert_eq!(rt; lines.as_str(), "start loaded; ready; ");
-    assert!(rt; stops(&rt, dir, 2, again)?);
+    start_and_stop(&rt, dir, LOADED)?;
     cut_state(&rt, dir, 2)?;
-    let (cut, lines) = start(&rt, dir, 2)?;
-    assert_eq!(rt; lines.as_str(), "start default Short; ready; ");
-    assert!(rt; stops(&rt, dir, 2, cut)?);
+    start_and_stop(&rt, dir, ["start default Short", "ready"])?;
     clean(&rt, dir)
 }
 
@@ -289,20 +354,29 @@ fn gathered(rt: &HostRuntime, mut stream: UnixStream) -> Result<usize, Fail> {
     Ok(bytes.len() / 22)
 }
 
+/// The folder that a node has made is its owner's alone, and its sockets come again. What answers is a
+/// neighbour that reads nothing.
+fn keeps_its_sockets(rt: &HostRuntime, dir: &str) -> Result<UnixStream, Fail> {
+    let mode = fs::metadata(rt, dir)?.permissions().mode();
+    hold(mode & 0o7777 == 0o700, "others may use the folder")?;
+    hold(makes_sockets_anew(rt, dir, 0)?, "no new sockets")?;
+    hold(comes_to(rt, dir, 0, 0)?, "the root is not at distance 0")?;
+    silent_neighbour(rt, dir)
+}
+
+/// What a node tells whose links hold 63 frames.
+const SMALL: &str =
+    "tokentree: capacity 63 is less than the 64 frames that may be under way on a link; \
+    give the network capacity 64 or more\n";
+
 #[test]
 fn a_node_keeps_its_folder_and_sockets(rt: HostRuntime) -> Result<(), Fail> {
     let folder = fresh_folder(&rt, "sockets", NARROW)?;
     let dir = folder.as_str();
-    let (node, _) = start(&rt, dir, 0)?;
-    // The folder was not there, and is its owner's alone.
-    let mode = fs::metadata(&rt, dir)?.permissions().mode();
-    assert_eq!(rt; mode & 0o7777, 0o700);
-    assert!(rt; makes_sockets_anew(&rt, dir, 0)?);
-    assert!(rt; comes_to(&rt, dir, 0, 0)?);
-    let neighbour = silent_neighbour(&rt, dir)?;
-    let told = "tokentree: capacity 63 is less than the 64 frames that may be under way on a link; \
-        give the network capacity 64 or more\n";
-    assert!(rt; stops_with(&rt, dir, 0, node, told)?);
+    // The folder is not there.
+    let node = start(&rt, dir, 0, ABSENT)?;
+    let neighbour = keeps_its_sockets(&rt, dir)?;
+    assert!(rt; stops_with(&rt, dir, 0, node, SMALL)?);
     // Few frames are under way where nobody reads.
     assert!(rt; (1..=6).contains(&gathered(&rt, neighbour)?));
     clean(&rt, dir)
@@ -402,36 +476,68 @@ fn falls_silent(rt: &HostRuntime, dir: &str, id: u16) -> Result<bool, Fail> {
     Ok(false)
 }
 
+/// Whether each of these lines comes, one behind the other.
+fn all_come(rt: &HostRuntime, child: &mut Child, lines: &[&str]) -> Result<bool, Fail> {
+    for line in lines {
+        if !says(rt, child, *line)? {
+            return Ok(false);
+        }
+    }
+    Ok(true)
+}
+
+/// Makes a node's stop file.
+fn stop(rt: &HostRuntime, dir: &str, id: u16) -> Result<(), Fail> {
+    let paths = NodePaths::new(rt.alloc(), dir, id)?;
+    fs::write(rt, paths.stop.as_str(), "")?;
+    Ok(())
+}
+
+/// Ends node 1 by its stop file, and by a signal. It is started again each time, by one `up` alone.
+fn starts_again(rt: &HostRuntime, dir: &str, up: &mut Child) -> Result<(), Fail> {
+    let first = ["node 1 start default Absent", "node 1 ready"];
+    hold(
+        all_come(rt, up, &first)?,
+        "up does not tell that node 1 begins",
+    )?;
+    stop(rt, dir, 1)?;
+    let second = [
+        "node 1 ended with status 0, and is started again",
+        "node 1 start loaded",
+        "node 1 ready",
+    ];
+    hold(
+        all_come(rt, up, &second)?,
+        "up does not start again what ended",
+    )?;
+    hold(kill_node(rt, dir, 1)?, "node 1 is not killed")?;
+    let third = [
+        "node 1 was ended by signal 9, and is started again",
+        "node 1 start loaded",
+    ];
+    hold(
+        all_come(rt, up, &third)?,
+        "up does not start again what was killed",
+    )?;
+    hold(
+        second_up(rt, dir)? == Err(NodeFault::UpRunning),
+        "a second up runs",
+    )
+}
+
+/// Whether a process ends with status 0 once its input ends.
+fn ends(rt: &HostRuntime, child: Child) -> Result<bool, Fail> {
+    let output = child.wait_with_output(rt.alloc())?;
+    Ok(output.status.code() == Some(0))
+}
+
 #[test]
 fn up_starts_again_what_ends_and_leaves_nothing(rt: HostRuntime) -> Result<(), Fail> {
     let folder = fresh_folder(&rt, "up", LINE)?;
     let dir = folder.as_str();
     let mut up = keeper(&rt, dir)?;
-    assert!(rt; says(&rt, &mut up, "node 1 start default Absent")?);
-    assert!(rt; says(&rt, &mut up, "node 1 ready")?);
-    let paths = NodePaths::new(rt.alloc(), dir, 1)?;
-    fs::write(&rt, paths.stop.as_str(), "")?;
-    assert!(rt;
-        says(
-            &rt,
-            &mut up,
-            "node 1 ended with status 0, and is started again"
-        )?
-    );
-    assert!(rt; says(&rt, &mut up, "node 1 start loaded")?);
-    assert!(rt; says(&rt, &mut up, "node 1 ready")?);
-    assert!(rt; kill_node(&rt, dir, 1)?);
-    assert!(rt;
-        says(
-            &rt,
-            &mut up,
-            "node 1 was ended by signal 9, and is started again"
-        )?
-    );
-    assert!(rt; says(&rt, &mut up, "node 1 start loaded")?);
-    assert_eq!(rt; second_up(&rt, dir)?, Err(NodeFault::UpRunning));
-    let output = up.wait_with_output(rt.alloc())?;
-    assert_eq!(rt; output.status.code(), Some(0));
+    starts_again(&rt, dir, &mut up)?;
+    assert!(rt; ends(&rt, up)?);
     for id in 0..3u16 {
         assert!(rt; !listens(&rt, dir, id)?, "node {id}");
     }
@@ -468,6 +574,17 @@ fn nodes_end_where_up_is_killed(rt: HostRuntime) -> Result<(), Fail> {
     clean(&rt, dir)
 }
 
+/// Whether why a node does not run is told so.
+fn is_told(alloc: Global, fault: NodeFault, want: &str) -> Result<bool, AllocError> {
+    let refusal = Refusal {
+        file: "a.toml",
+        dir: "run",
+        id: 7,
+        fault,
+    };
+    Ok(format!(in alloc; "{refusal}")?.as_str() == want)
+}
+
 #[test]
 fn lines_are_as_written(rt: HostRuntime) -> Result<(), Fail> {
     let alloc: Global = rt.alloc();
@@ -497,13 +614,7 @@ fn lines_are_as_written(rt: HostRuntime) -> Result<(), Fail> {
             "run/node-7.sock: cannot be made; choose another DIR",
         ),
     ] {
-        let refusal = Refusal {
-            file: "a.toml",
-            dir: "run",
-            id: 7,
-            fault,
-        };
-        assert_eq!(rt; format!(in alloc; "{refusal}")?.as_str(), want);
+        assert!(rt; is_told(alloc, fault, want)?, "{want}");
     }
     let line = CapacityLine(1);
     assert_eq!(rt;

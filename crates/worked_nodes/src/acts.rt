@@ -1,0 +1,100 @@
+//! What happens between a node and those at the other ends of its connections, as rows tell it.
+use crate::stage::{Run, idle, turn_once, whole};
+use crate::wires::{Pair, Queue};
+
+/// What the other end of a connection does, or what is to be seen there.
+#[derive(Clone, Copy)]
+pub enum Deed<'a> {
+    /// It writes this.
+    Writes(&'a [u8]),
+    /// It closes its sending half.
+    Closes,
+    /// From now on each write to it fails.
+    Cuts,
+    /// Nothing is done: just this was written to it.
+    Hears(&'a [u8]),
+    /// Nothing is done: whether the node has closed what it writes there.
+    IsClosed(bool),
+    /// Nothing is done: of a connection that the node made, just this was written by the node.
+    IsSent(&'a [u8]),
+    /// It closes a connection that the node made.
+    Shuts,
+    /// Nothing is done: the node has left a connection that it made.
+    IsLeft,
+}
+
+/// What happens to a node, or what is to be seen of it.
+#[derive(Clone, Copy)]
+pub enum Act<'a> {
+    /// The next connection comes.
+    Comes,
+    /// A turn by a whole plan.
+    Turns,
+    /// A turn by a plan of nothing.
+    Idles,
+    /// Nothing is done: so many tickets wait, and this one has the loan.
+    Has(usize, Option<u16>),
+    /// Nothing is done: this is the number of its port to node 1.
+    IsNumbered(u16),
+    /// At the connection with this place.
+    At(usize, Deed<'a>),
+}
+
+/// Does it at a connection, and says whether it is as told.
+fn is_done_at(pair: &Pair, deed: Deed<'_>) -> bool {
+    match deed {
+        Deed::Writes(bytes) => pair.up.write(bytes) == bytes.len(),
+        Deed::Closes => {
+            pair.up.close();
+            true
+        }
+        Deed::Cuts => {
+            pair.down.cut();
+            true
+        }
+        Deed::Hears(text) => pair.says(text),
+        Deed::IsClosed(want) => pair.down.is_closed() == want,
+        Deed::IsSent(text) => pair.was_told(text),
+        Deed::Shuts => {
+            pair.down.close();
+            true
+        }
+        Deed::IsLeft => pair.up.is_closed(),
+    }
+}
+
+/// Does it, and says whether it is as told.
+fn is_done(run: &mut Run<'_>, door: &Queue<'_>, pairs: &[Pair], act: Act<'_>) -> bool {
+    match act {
+        Act::Comes => door.knock().is_some(),
+        Act::Turns => {
+            turn_once(run, &whole());
+            true
+        }
+        Act::Idles => {
+            turn_once(run, &idle());
+            true
+        }
+        Act::Has(waiting, lent) => run.node().waiting() == waiting && run.node().lent() == lent,
+        Act::IsNumbered(want) => run.node().ranges().nodes > 1 && run.node().seq(1) == want,
+        Act::At(place, deed) => match pairs.get(place) {
+            Some(pair) => is_done_at(pair, deed),
+            None => false,
+        },
+    }
+}
+
+/// The place of the first act that is not as told.
+pub fn first_wrong(
+    run: &mut Run<'_>,
+    door: &Queue<'_>,
+    pairs: &[Pair],
+    acts: &[Act<'_>],
+) -> Option<usize> {
+    for (place, act) in acts.iter().enumerate() {
+        if !is_done(run, door, pairs, *act) {
+            return Some(place);
+        }
+    }
+    None
+}
