@@ -49,7 +49,7 @@ fn acts_as_a_client(rt: HostRuntime) -> Result<(), Fail> {
     let Ok(lines) = env::var(&rt, "LOCK_LINES") else {
         return Ok(());
     };
-    let status = take_lock(&rt, lines.as_str());
+    let status = take_lock(&rt, lines.as_str())?;
     println!(rt; "status {status}")?;
     Ok(())
 }
@@ -58,23 +58,21 @@ fn acts_as_a_client(rt: HostRuntime) -> Result<(), Fail> {
 /// runs on, whether somebody looks after the client, and up to three words.
 fn take_lock<
     R: Env + Net + Files + Processes + Clock + Input + Print + Eprint + AllocGlobal + Wait,
->(rt: &R, lines: &str) -> u8 {
-    let mut lines = lines.split('\n');
-    let mut next = || lines.next().unwrap_or("");
-    let (folder, seconds, keeps, guarded) = (next(), next(), next(), next());
-    let words = [next(), next(), next()];
-    let count = words.iter().take_while(|word| !word.is_empty()).count();
-    lock::run(
-        rt,
-        &Request {
-            folder,
-            node: 0,
-            seconds: seconds.parse().ok(),
-            keeps_running: !keeps.is_empty(),
-            guarded: !guarded.is_empty(),
-            command: &words[..count.min(3)],
-        },
-    )
+>(rt: &R, lines: &str) -> Result<u8, Fail> {
+    let words: Vec<&str> = lines.split('\n').collect(rt.alloc())?;
+    let [folder, seconds, keeps, guarded, command @ ..] = words.as_slice() else {
+        return Err(Fail::new("fewer than four lines"));
+    };
+    let count = command.iter().take_while(|word| !word.is_empty()).count();
+    let request = Request {
+        folder: *folder,
+        node: 0,
+        seconds: seconds.parse().ok(),
+        keeps_running: !keeps.is_empty(),
+        guarded: !guarded.is_empty(),
+        command: &command[..count.min(command.len())],
+    };
+    Ok(lock::run(rt, &request))
 }
 
 /// A copy that is started with a folder of nodes prints how they stand, and its status.

@@ -13,3 +13,5 @@ mod network;
 mod number;
 #[cfg(test)]
 mod statuses;
+#[cfg(test)]
+mod words;

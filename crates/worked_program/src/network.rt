@@ -42,14 +42,21 @@ fn acts_as_the_program(rt: HostRuntime) -> Result<(), Fail> {
     Ok(())
 }
 
-/// Starts a copy on these words, one a line, which it does as often as told.
-fn copy(rt: &HostRuntime, words: &str, times: &str) -> Result<Child, Fail> {
+/// A copy that does these words, one a line, as often as told.
+fn copy_of(rt: &HostRuntime, words: &str, times: &str) -> Result<Command, Fail> {
     let program = env::current_exe(rt)?;
     let mut command = Command::new(rt.alloc(), program.as_path())?;
     command
         .arg("network::acts_as_the_program")?
         .env("TOKENTREE_WORDS", words)?
-        .env("TOKENTREE_TIMES", times)?
+        .env("TOKENTREE_TIMES", times)?;
+    Ok(command)
+}
+
+/// Starts such a copy.
+fn copy(rt: &HostRuntime, words: &str, times: &str) -> Result<Child, Fail> {
+    let mut command = copy_of(rt, words, times)?;
+    command
         .stdin(Stdio::null())
         .stdout(Stdio::piped())
         .stderr(Stdio::piped());

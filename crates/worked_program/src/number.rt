@@ -1,8 +1,16 @@
 //! Numbers on the command line: each has one spelling, decimal with no sign and no zero in front,
 //! and a range.
-use command_line::run_words;
-use std::process::ExitCode;
+use crate::words::status_of;
+use std::alloc::AllocError;
+use std::fs::File;
+use std::io::Input;
+use std::net::Net;
+use std::process::{ExitCode, Processes};
+use std::rt::{Env, Files};
+use std::sync::Wait;
 use std::test::Fail;
+use std::thread::Threads;
+use std::time::Clock;
 
 /// What stands in front of a number and behind it; the most that the number may be, and one more;
 /// and the status of the line with the most. No file of these lines is there: so where the number is
@@ -89,6 +97,26 @@ const NUMBERS: [(&str, &str, &str, &str, u8); 19] = [
     ("threads absent.toml ", "", "1000000", "1000001", 1),
 ];
 
+/// The status of a command line with this number between its other words.
+fn status_with<R>(rt: &R, front: &str, number: &str, back: &str) -> Result<ExitCode, AllocError>
+where
+    R: Files<File = File>
+        + Net
+        + Clock
+        + Env
+        + Input
+        + Print
+        + Eprint
+        + Processes
+        + Threads
+        + Wait
+        + AllocGlobal
+        + Sync,
+{
+    let line = format!(in rt.alloc(); "tokentree {front}{number}{back}")?;
+    status_of(rt, line.as_str())
+}
+
 #[test]
 fn a_number_has_one_spelling_and_a_range(rt: HostRuntime) -> Result<(), Fail> {
     for (front, back, most, above, status) in NUMBERS {
@@ -100,10 +128,8 @@ fn a_number_has_one_spelling_and_a_range(rt: HostRuntime) -> Result<(), Fail> {
             (above, 2),
             (most, status),
         ] {
-            let line = format!(in rt.alloc(); "tokentree {front}{number}{back}")?;
-            let words: Vec<&str> = line.as_str().split(' ').collect(rt.alloc())?;
-            let status = run_words(&rt, words.as_slice(), false);
-            assert_eq!(rt; status, ExitCode::from(want), "at {line:?}");
+            let status = status_with(&rt, front, number, back)?;
+            assert_eq!(rt; status, ExitCode::from(want), "at {front}{number}{back}");
         }
     }
     for line in [
@@ -119,9 +145,7 @@ fn a_number_has_one_spelling_and_a_range(rt: HostRuntime) -> Result<(), Fail> {
         "tokentree threads absent.toml 0",
         "tokentree draw absent.toml - --columns 0",
     ] {
-        let words: Vec<&str> = line.split(' ').collect(rt.alloc())?;
-        let status = run_words(&rt, words.as_slice(), false);
-        assert_eq!(rt; status, ExitCode::from(2), "at {line:?}");
+        assert_eq!(rt; status_of(&rt, line)?, ExitCode::from(2), "at {line:?}");
     }
     Ok(())
 }

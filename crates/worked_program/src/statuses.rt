@@ -1,5 +1,5 @@
 //! Command lines, and the statuses that they end with.
-use command_line::run_words;
+use crate::words::status_of;
 use program_ends::FaultLine;
 use std::alloc::AllocError;
 use std::fs;
@@ -16,241 +16,80 @@ fn ends_with_the_status(rt: HostRuntime) -> Result<(), Fail> {
     fs::write(&rt, "bad.toml", "nodes =")?;
     fs::write(&rt, "good.events", "tick 0\n")?;
     fs::write(&rt, "refused.events", "tick 0\ntick 2\n")?;
-    for (words, want) in [
-        (["tokentree", "bound", "two.toml"].as_slice(), 0),
-        (["tokentree", "bound", "--", "two.toml"].as_slice(), 0),
-        (["tokentree", "bound", "--sharp", "two.toml"].as_slice(), 0),
-        (["tokentree", "bound", "two.toml", "--sharp"].as_slice(), 0),
-        (["tokentree", "--help"].as_slice(), 0),
-        (["tokentree", "help", "bound"].as_slice(), 0),
-        (["tokentree", "bound", "--help"].as_slice(), 0),
-        (["tokentree", "bound", "bad.toml"].as_slice(), 1),
-        (["tokentree", "bound", "absent.toml"].as_slice(), 1),
-        (["tokentree"].as_slice(), 2),
-        (["tokentree", "bound"].as_slice(), 2),
-        (["tokentree", "bound", "bad.toml", "more"].as_slice(), 2),
+    for (line, want) in [
+        ("tokentree bound two.toml", 0),
+        ("tokentree bound -- two.toml", 0),
+        ("tokentree bound --sharp two.toml", 0),
+        ("tokentree bound two.toml --sharp", 0),
+        ("tokentree --help", 0),
+        ("tokentree help bound", 0),
+        ("tokentree bound --help", 0),
+        ("tokentree bound bad.toml", 1),
+        ("tokentree bound absent.toml", 1),
+        ("tokentree", 2),
+        ("tokentree bound", 2),
+        ("tokentree bound bad.toml more", 2),
+        ("tokentree bound --more absent.toml", 2),
+        ("tokentree bound --sharp --sharp two.toml", 2),
+        ("tokentree bound --sharp", 2),
+        ("tokentree Bound two.toml", 2),
+        ("tokentree simulate two.toml good.events", 0),
+        ("tokentree simulate --help", 0),
+        ("tokentree help simulate", 0),
+        ("tokentree simulate two.toml refused.events", 3),
+        ("tokentree simulate two.toml absent", 1),
+        ("tokentree simulate bad.toml refused.events", 1),
+        ("tokentree simulate", 2),
+        ("tokentree simulate two.toml", 2),
+        ("tokentree simulate bad.toml absent more", 2),
+        ("tokentree threads two.toml 3", 0),
+        ("tokentree threads --help", 0),
+        ("tokentree threads two.toml 0", 2),
+        ("tokentree threads two.toml 1000001", 2),
+        ("tokentree threads two.toml", 2),
+        ("tokentree threads bad.toml 3", 1),
+        ("tokentree unknown", 2),
+        ("tokentree node --help", 0),
+        ("tokentree help up", 0),
+        ("tokentree node two.toml 2 run", 1),
+        ("tokentree node absent.toml 0 run", 1),
+        ("tokentree node absent.toml 65536 run", 2),
+        ("tokentree node absent.toml 01 run", 2),
+        ("tokentree node absent.toml +1 run", 2),
+        ("tokentree node --hold 2001 absent.toml 0 run", 2),
+        ("tokentree node --repeat 100001 absent.toml 0 run", 2),
+        ("tokentree node two.toml 0", 2),
+        ("tokentree up absent.toml run", 1),
+        ("tokentree up two.toml", 2),
+        ("tokentree schedule two.toml --rounds 1", 0),
         (
-            ["tokentree", "bound", "--more", "absent.toml"].as_slice(),
-            2,
-        ),
-        (
-            ["tokentree", "bound", "--sharp", "--sharp", "two.toml"].as_slice(),
-            2,
-        ),
-        (["tokentree", "bound", "--sharp"].as_slice(), 2),
-        (["tokentree", "Bound", "two.toml"].as_slice(), 2),
-        (
-            ["tokentree", "simulate", "two.toml", "good.events"].as_slice(),
-            0,
-        ),
-        (["tokentree", "simulate", "--help"].as_slice(), 0),
-        (["tokentree", "help", "simulate"].as_slice(), 0),
-        (
-            ["tokentree", "simulate", "two.toml", "refused.events"].as_slice(),
-            3,
-        ),
-        (
-            ["tokentree", "simulate", "two.toml", "absent"].as_slice(),
-            1,
-        ),
-        (
-            ["tokentree", "simulate", "bad.toml", "refused.events"].as_slice(),
-            1,
-        ),
-        (["tokentree", "simulate"].as_slice(), 2),
-        (["tokentree", "simulate", "two.toml"].as_slice(), 2),
-        (
-            ["tokentree", "simulate", "bad.toml", "absent", "more"].as_slice(),
-            2,
-        ),
-        (["tokentree", "threads", "two.toml", "3"].as_slice(), 0),
-        (["tokentree", "threads", "--help"].as_slice(), 0),
-        (["tokentree", "threads", "two.toml", "0"].as_slice(), 2),
-        (
-            ["tokentree", "threads", "two.toml", "1000001"].as_slice(),
-            2,
-        ),
-        (["tokentree", "threads", "two.toml"].as_slice(), 2),
-        (["tokentree", "threads", "bad.toml", "3"].as_slice(), 1),
-        (["tokentree", "unknown"].as_slice(), 2),
-        (["tokentree", "node", "--help"].as_slice(), 0),
-        (["tokentree", "help", "up"].as_slice(), 0),
-        (["tokentree", "node", "two.toml", "2", "run"].as_slice(), 1),
-        (
-            ["tokentree", "node", "absent.toml", "0", "run"].as_slice(),
-            1,
-        ),
-        (
-            ["tokentree", "node", "absent.toml", "65536", "run"].as_slice(),
-            2,
-        ),
-        (
-            ["tokentree", "node", "absent.toml", "01", "run"].as_slice(),
-            2,
-        ),
-        (
-            ["tokentree", "node", "absent.toml", "+1", "run"].as_slice(),
-            2,
-        ),
-        (
-            [
-                "tokentree",
-                "node",
-                "--hold",
-                "2001",
-                "absent.toml",
-                "0",
-                "run",
-            ]
-            .as_slice(),
-            2,
-        ),
-        (
-            [
-                "tokentree",
-                "node",
-                "--repeat",
-                "100001",
-                "absent.toml",
-                "0",
-                "run",
-            ]
-            .as_slice(),
-            2,
-        ),
-        (["tokentree", "node", "two.toml", "0"].as_slice(), 2),
-        (["tokentree", "up", "absent.toml", "run"].as_slice(), 1),
-        (["tokentree", "up", "two.toml"].as_slice(), 2),
-        (
-            ["tokentree", "schedule", "two.toml", "--rounds", "1"].as_slice(),
+            "tokentree schedule two.toml --rounds 0 --scramble 4294967295",
             0,
         ),
         (
-            [
-                "tokentree",
-                "schedule",
-                "two.toml",
-                "--rounds",
-                "0",
-                "--scramble",
-                "4294967295",
-            ]
-            .as_slice(),
+            "tokentree schedule two.toml --random 9 --seed 1 --loss 100 --clients",
             0,
         ),
+        ("tokentree schedule two.toml", 2),
+        ("tokentree schedule absent.toml --rounds 1", 1),
+        ("tokentree schedule two.toml --rounds 4294967296", 2),
+        ("tokentree schedule two.toml --random 9", 2),
         (
-            [
-                "tokentree",
-                "schedule",
-                "two.toml",
-                "--random",
-                "9",
-                "--seed",
-                "1",
-                "--loss",
-                "100",
-                "--clients",
-            ]
-            .as_slice(),
-            0,
-        ),
-        (["tokentree", "schedule", "two.toml"].as_slice(), 2),
-        (
-            ["tokentree", "schedule", "absent.toml", "--rounds", "1"].as_slice(),
-            1,
-        ),
-        (
-            [
-                "tokentree",
-                "schedule",
-                "two.toml",
-                "--rounds",
-                "4294967296",
-            ]
-            .as_slice(),
+            "tokentree schedule two.toml --rounds 1 --random 9 --seed 1",
             2,
         ),
+        ("tokentree schedule two.toml --rounds 1 --clients", 2),
         (
-            ["tokentree", "schedule", "two.toml", "--random", "9"].as_slice(),
+            "tokentree schedule two.toml --random 9 --seed 1 --loss 101",
             2,
         ),
-        (
-            [
-                "tokentree",
-                "schedule",
-                "two.toml",
-                "--rounds",
-                "1",
-                "--random",
-                "9",
-                "--seed",
-                "1",
-            ]
-            .as_slice(),
-            2,
-        ),
-        (
-            [
-                "tokentree",
-                "schedule",
-                "two.toml",
-                "--rounds",
-                "1",
-                "--clients",
-            ]
-            .as_slice(),
-            2,
-        ),
-        (
-            [
-                "tokentree",
-                "schedule",
-                "two.toml",
-                "--random",
-                "9",
-                "--seed",
-                "1",
-                "--loss",
-                "101",
-            ]
-            .as_slice(),
-            2,
-        ),
-        (
-            ["tokentree", "measure", "two.toml", "--runs", "3"].as_slice(),
-            0,
-        ),
-        (
-            [
-                "tokentree",
-                "measure",
-                "two.toml",
-                "--runs",
-                "1",
-                "--random",
-                "--table",
-            ]
-            .as_slice(),
-            0,
-        ),
-        (
-            ["tokentree", "measure", "bad.toml", "--runs", "1"].as_slice(),
-            1,
-        ),
-        (
-            ["tokentree", "measure", "two.toml", "--runs", "0"].as_slice(),
-            2,
-        ),
-        (
-            ["tokentree", "measure", "two.toml", "--rounds", "--random"].as_slice(),
-            2,
-        ),
+        ("tokentree measure two.toml --runs 3", 0),
+        ("tokentree measure two.toml --runs 1 --random --table", 0),
+        ("tokentree measure bad.toml --runs 1", 1),
+        ("tokentree measure two.toml --runs 0", 2),
+        ("tokentree measure two.toml --rounds --random", 2),
     ] {
-        assert_eq!(rt;
-            run_words(&rt, words, false),
-            ExitCode::from(want),
-            "at {words:?}"
-        );
+        assert_eq!(rt; status_of(&rt, line)?, ExitCode::from(want), "at {line:?}");
     }
     fs::remove_file(&rt, "two.toml")?;
     fs::remove_file(&rt, "bad.toml")?;
@@ -313,26 +152,28 @@ fn fault_line<R: Files + Print + AllocGlobal>(rt: &R, path: &str) -> Result<Stri
     }
 }
 
+/// Whether this is the fault line of `bound` on a file.
+fn is_told<R: Files + Print + AllocGlobal>(
+    rt: &R,
+    path: &str,
+    want: &str,
+) -> Result<bool, AllocError> {
+    Ok(fault_line(rt, path)?.as_str() == want)
+}
+
 /// No file makes `read` want more memory than there is, so `network Memory` is no row; its text is
 /// under a contract.
 #[test]
 fn tells_each_refusal_of_a_network_by_its_name(rt: HostRuntime) -> Result<(), Fail> {
     for (text, want) in REFUSED {
         fs::write(&rt, "refused.toml", text)?;
-        let words = ["tokentree", "bound", "refused.toml"];
-        assert_eq!(rt;
-            run_words(&rt, &words, false),
-            ExitCode::FAILURE,
-            "at {text:?}"
-        );
-        assert_eq!(rt; fault_line(&rt, "refused.toml")?.as_str(), want);
+        let status = status_of(&rt, "tokentree bound refused.toml")?;
+        assert_eq!(rt; status, ExitCode::FAILURE, "at {text:?}");
+        assert!(rt; is_told(&rt, "refused.toml", want)?, "{want}");
     }
     fs::remove_file(&rt, "refused.toml")?;
     for path in ["absent.toml", "."] {
-        assert_eq!(rt;
-            fault_line(&rt, path)?.as_str(),
-            "tokentree: network Unreadable"
-        );
+        assert!(rt; is_told(&rt, path, "tokentree: network Unreadable")?);
     }
     Ok(())
 }
