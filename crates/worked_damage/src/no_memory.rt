@@ -6,23 +6,32 @@ use linked_list_allocator::LocalHeap;
 use node_core::NodeState;
 use rand_core::SeedableRng;
 use rand_pcg::Lcg64Xsh32;
+use std::alloc::Global;
 use std::test::Fail;
+use topology::Net;
 
 /// What the seed 7 makes of the default state of node 1 of two nodes.
 const OF_SEVEN: [u16; 16] = [2, 1, 1, 1, 2, NONE, 0, 0, 4, 0, 0, 3, 1, NONE, 1, 2];
 
+/// Node 1 of two nodes on a heap, of which nothing is free then: how much is free at the end, and
+/// whether its default state is written as it should be, and its scrambled one.
+fn without_memory(alloc: Global, heap: &LocalHeap, net: &Net) -> Result<(usize, bool, bool), Fail> {
+    if net.nodes() != 2 {
+        return Err(Fail::new("two nodes are wanted"));
+    }
+    let mut node = NodeState::new(heap, net, 1)?;
+    let _full = fill(alloc, heap)?;
+    let is_default = written(&node, net, 1).as_slice() == NEWER.as_slice();
+    let mut generator = Lcg64Xsh32::seed_from_u64(7);
+    scramble_node(&mut node, net, &mut generator);
+    let is_scrambled = written(&node, net, 1) == file_of(b"TKT2", &OF_SEVEN);
+    Ok((heap.free(), is_default, is_scrambled))
+}
+
 #[test]
 fn a_state_is_written_and_scrambled_without_memory(rt: HostRuntime) -> Result<(), Fail> {
     let net = two(rt.alloc())?;
-    assert!(rt; net.nodes() == 2);
     let heap = LocalHeap::new(rt.alloc(), 4096)?;
-    let mut node = NodeState::new(&heap, &net, 1)?;
-    let full = fill(rt.alloc(), &heap)?;
-    assert_eq!(rt; heap.free(), 0);
-    assert_eq!(rt; written(&node, &net, 1).as_slice(), NEWER.as_slice());
-    let mut generator = Lcg64Xsh32::seed_from_u64(7);
-    scramble_node(&mut node, &net, &mut generator);
-    assert_eq!(rt; written(&node, &net, 1), file_of(b"TKT2", &OF_SEVEN));
-    drop(full);
+    assert_eq!(rt; without_memory(rt.alloc(), &heap, &net)?, (0, true, true));
     Ok(())
 }

@@ -9,8 +9,8 @@ use std::process::{Abort, Child, Command, Processes, Stdio};
 use std::rt::{Env, Files};
 use std::sync::Wait;
 use std::test::Fail;
-use std::time::Clock;
-use std::{env, fs};
+use std::time::{Clock, Duration};
+use std::{env, fs, thread};
 
 /// What a desk of the tests does, one step after the other. Behind the last one it closes the
 /// connection.
@@ -397,8 +397,9 @@ fn holds_the_lock_until_its_input_ends(rt: HostRuntime) -> Result<(), Fail> {
     Ok(())
 }
 
-/// The lines of a client that a copy of its program looks after, of a command that runs for long.
-const GUARDED: &str = "lock-guarded\n\n\nyes\n/bin/sleep\n50\n";
+/// The lines of a client that a copy of its program looks after, of a command that makes a file and
+/// runs for long.
+const GUARDED: &str = "lock-guarded\n\n\nyes\n/bin/sh\n-c\n>lock-guarded/held; exec sleep 50";
 
 /// A shell that starts such a client, and does not become it, since it has more to do.
 fn shell(rt: &HostRuntime) -> Result<Child, Fail> {
@@ -414,10 +415,26 @@ fn shell(rt: &HostRuntime) -> Result<Child, Fail> {
     Ok(command.spawn(rt)?)
 }
 
-/// Lends the lock to the client of a shell, and kills the shell.
-fn lend_and_kill(desk: &UnixListener, shell: &mut Child) -> Result<(), Fail> {
+/// Waits for a file, for a minute at most.
+fn appears(rt: &HostRuntime, path: &str) -> Result<bool, Fail> {
+    for _ in 0..6_000u32 {
+        if fs::exists(rt, path)? {
+            return Ok(true);
+        }
+        thread::sleep(rt, Duration::from_millis(10));
+    }
+    Ok(false)
+}
+
+/// Lends the lock to the client of a shell, and kills the shell once the command runs: a client that
+/// is alone before that leaves without the lock.
+fn lend_and_kill(rt: &HostRuntime, desk: &UnixListener, shell: &mut Child) -> Result<(), Fail> {
     let (mut stream, _) = desk.accept()?;
     serve(&mut stream, &[LOCK, GRANTED])?;
+    hold(
+        appears(rt, "lock-guarded/held")?,
+        "the command does not run",
+    )?;
     shell.kill()?;
     // Its command would run on for long: it is ended, and then the lock is given back.
     serve(&mut stream, &[UNLOCK, RELEASED, Step::SeesOff])
@@ -429,7 +446,7 @@ fn outlives_who_started_it(rt: HostRuntime) -> Result<(), Fail> {
     fs::create_dir_all(&rt, folder)?;
     let desk = UnixListener::bind(&rt, "lock-guarded/desk-0.sock")?;
     let mut shell = shell(&rt)?;
-    lend_and_kill(&desk, &mut shell)?;
+    lend_and_kill(&rt, &desk, &mut shell)?;
     shell.wait()?;
     fs::remove_dir_all(&rt, folder)?;
     Ok(())
