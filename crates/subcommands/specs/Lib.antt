@@ -4,3 +4,4 @@ pub mod Damaged
 pub mod Cut
 pub mod PlanFault
 pub mod Measured
+pub mod Turns

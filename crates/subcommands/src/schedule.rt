@@ -1,11 +1,13 @@
 //! `schedule FILE`: the events of a schedule for a network.
-ghost use Rattle.std.specs.Prelude.{◌≡◌, [], Err, OnOk};
+ghost use Rattle.std.specs.Prelude.{◌≡◌, ◌⊎◌, [], Err, IfErr, OnOk};
 ghost use Rattle.std.specs.Io.Buffered.{writer_buffer, writer_contents};
 ghost use Rattle.byte_streams.specs.Streams.{Rose};
 ghost use Rattle.experiments.specs.Plan.{planned};
 ghost use Rattle.subcommands.specs.PlanFault.{fault_of};
 ghost use Rattle.command_parts.specs.EventText.{GrowsByText};
-ghost use Rattle.command_parts.specs.declared.fault.Fault.TheVariants.{Output};
+ghost use Rattle.subcommands.specs.Damaged.{seeded};
+ghost use Rattle.subcommands.specs.Turns.{order_of};
+ghost use Rattle.command_parts.specs.declared.fault.Fault.TheVariants.{Memory, Output};
 
 use command_parts::{EventText, Fault, read_network};
 use experiments::{Order, PlanFault, give_plan};
@@ -36,7 +38,9 @@ pub enum Turns {
 
 impl Turns {
     /// The order, with the generator of its seed.
-    pub fn order(self) -> Order {
+    pub fn order(self) -> Order
+        ensures { result ≡ order_of self }
+    {
         match self {
             Turns::Rounds(count) => Order::Rounds {
                 count: u64::from(count),
@@ -55,7 +59,9 @@ impl Turns {
 }
 
 /// The generator of a seed.
-pub fn seeded(seed: u32) -> Lcg64Xsh32 {
+pub fn seeded(seed: u32) -> Lcg64Xsh32
+    ensures { result ≡ seeded seed }
+{
     Lcg64Xsh32::seed_from_u64(u64::from(seed))
 }
 
@@ -114,7 +120,8 @@ pub fn write_plan<W: Write + Drop>(
     ensures text { OnOk result (GrowsByText (writer_contents W.contents text.old.writer)
         (planned net.now scramble order) (writer_contents W.contents text.new.writer)) }
     ensures written { OnOk result (writer_buffer text.new.writer ≡ []) }
-    // A fault of the output only where the writer failed.
+    // A fault is one of memory or of the output, and of the output only where the writer failed.
+    ensures fault { IfErr result (λ fault. (fault ≡ Memory) ⊎ (fault ≡ Output)) }
     ensures cause { result ≡ Err Output → Rose text.old.failures text.new.failures }
 {
     let given = give_plan(alloc, net, scramble, order, text);

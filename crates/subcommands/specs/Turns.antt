@@ -1,0 +1,12 @@
+-- What follows a scramble, in the order of its events.
+use Rattle.std.specs.Prelude.{ℕ}
+use Rattle.experiments.specs.declared.plan.Order.{Order}
+use Rattle.experiments.specs.declared.plan.Order.TheVariants.{Rounds as InRounds, Random as AtRandom}
+use Rattle.subcommands.specs.declared.schedule.Turns.{Turns}
+use Rattle.subcommands.specs.declared.schedule.Turns.TheVariants.{Rounds, Random}
+use Rattle.subcommands.specs.Damaged.{seeded}
+
+-- as many rounds, or as many random steps, drawn from the generator of their seed
+abbrev pub order_of : Turns → Order
+order_of (Rounds count) = InRounds count
+order_of (Random steps seed chances) = AtRandom steps chances (seeded seed)
