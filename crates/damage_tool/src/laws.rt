@@ -11,8 +11,8 @@ pub fn scramble()
     topology::laws::limits();
 }
 
-/// What is drawn of so many numbers is one of them. Whoever draws a node or an edge by its place
-/// needs it.
+/// What is drawn of a count of numbers is one of them. Whoever draws a node or an edge by its
+/// place needs it.
 pub fn draws()
     ensures { DrawsAreBelow }
 {}

@@ -34,7 +34,7 @@ fn write_to(
     Ok(write_plan(alloc, &net, scramble.map(seeded), turns.order(), &mut text))
 }
 
-/// The answer, and the text of a schedule for two nodes where there is so much room.
+/// The answer, and the text of a schedule for two nodes that is written into `room` bytes.
 fn written(
     alloc: Global,
     scramble: Option<u32>,
@@ -50,7 +50,7 @@ fn written(
     Ok((answer, taken))
 }
 
-/// What is answered to one round in so much room, and whether this is written.
+/// What is answered to one round that is written into `room` bytes, and whether `want` is there.
 fn round_written_as(
     alloc: Global,
     room: usize,

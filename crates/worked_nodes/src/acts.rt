@@ -32,7 +32,7 @@ pub enum Act<'a> {
     Turns,
     /// A turn by a plan of nothing.
     Idles,
-    /// Nothing is done: so many tickets wait, and this one has the loan.
+    /// Nothing is done: this is the number of tickets that wait, and this one has the loan.
     Has(usize, Option<u16>),
     /// Nothing is done: this is the number of its port to node 1.
     IsNumbered(u16),

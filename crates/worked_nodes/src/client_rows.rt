@@ -2,7 +2,7 @@
 use crate::acts::Act::{At, Comes, Has, Idles, Turns};
 use crate::acts::Deed::{Closes, Cuts, Hears, IsClosed, Writes};
 use crate::acts::{Act, first_wrong};
-use crate::stage::{Run, doors, idle, in_a_row, run_of, turn_once, whole, with_token};
+use crate::stage::{Run, doors, idle, in_a_row, run_of, turn_once, whole, with_made, with_token};
 use crate::wires::{MemoryDoors, Pair, Queue, Trip};
 use node_core::Node;
 use std::alloc::{AllocError, Global};
@@ -26,8 +26,8 @@ fn wrong_at_the_root(
     acts: &[Act<'_>],
 ) -> Result<Option<usize>, Fail> {
     let (links, clients, trip) = stage(pairs);
-    let mut run = with_token(alloc, doors(&links, &clients, &trip))?;
-    Ok(first_wrong(&mut run, &clients, pairs, acts))
+    let made = with_token(alloc, doors(&links, &clients, &trip));
+    with_made(made, |run| first_wrong(run, &clients, pairs, acts))
 }
 
 /// The same of a root that has just begun.
@@ -37,8 +37,8 @@ fn wrong_at_a_new_root(
     acts: &[Act<'_>],
 ) -> Result<Option<usize>, Fail> {
     let (links, clients, trip) = stage(pairs);
-    let mut run = in_a_row(alloc, 2, 0, doors(&links, &clients, &trip))?;
-    Ok(first_wrong(&mut run, &clients, pairs, acts))
+    let made = in_a_row(alloc, 2, 0, doors(&links, &clients, &trip));
+    with_made(made, |run| first_wrong(run, &clients, pairs, acts))
 }
 
 /// The status of a root that had the token, was asked for the lock, and has passed the token on.
@@ -159,17 +159,6 @@ fn a_client_without_room_for_its_answers_has_left(rt: HostRuntime) -> Result<(),
     Ok(())
 }
 
-/// All of these clients come and ask for the lock.
-fn crowd(run: &mut Run<'_>, clients: &Queue<'_>, pairs: &[Pair]) {
-    for pair in pairs {
-        clients.knock();
-        pair.up.write(b"lock\n");
-    }
-    for _ in 0..3 {
-        turn_once(run, &whole());
-    }
-}
-
 /// The first of these clients that is not answered as it should be: 64 wait, 64 find no room, and the
 /// connection of the last one is closed.
 fn first_wrong_answer(pairs: &[Pair]) -> Option<usize> {
@@ -186,13 +175,24 @@ fn first_wrong_answer(pairs: &[Pair]) -> Option<usize> {
     None
 }
 
-/// How many tickets wait at a new root once all of these clients have come, and the first of them that
-/// is not answered as it should be.
+/// All of these clients come and ask for the lock. How many tickets wait then, and the first client
+/// that is not answered as it should be.
+fn crowd(run: &mut Run<'_>, clients: &Queue<'_>, pairs: &[Pair]) -> (usize, Option<usize>) {
+    for pair in pairs {
+        clients.knock();
+        pair.up.write(b"lock\n");
+    }
+    for _ in 0..3 {
+        turn_once(run, &whole());
+    }
+    (run.node().waiting(), first_wrong_answer(pairs))
+}
+
+/// The same at a new root.
 fn crowded(alloc: Global, pairs: &[Pair]) -> Result<(usize, Option<usize>), Fail> {
     let (links, clients, trip) = stage(pairs);
-    let mut run = in_a_row(alloc, 2, 0, doors(&links, &clients, &trip))?;
-    crowd(&mut run, &clients, pairs);
-    Ok((run.node().waiting(), first_wrong_answer(pairs)))
+    let made = in_a_row(alloc, 2, 0, doors(&links, &clients, &trip));
+    with_made(made, |run| crowd(run, &clients, pairs))
 }
 
 #[test]
@@ -220,13 +220,18 @@ fn with_strangers<'a>(alloc: Global, doors: MemoryDoors<'a>) -> Result<Run<'a>, 
     run_of(alloc, net, node, doors)
 }
 
-/// What a node keeps of the tickets of strangers: the loan, and those that wait.
+/// A client comes and a turn is made: who borrows then, and whether ticket 0 alone waits.
+fn loan_and_queue(run: &mut Run<'_>, clients: &Queue<'_>) -> (Option<u16>, bool) {
+    clients.knock();
+    turn_once(run, &idle());
+    (run.node().lent(), run.node().tickets() == [0u16].as_slice())
+}
+
+/// What a node keeps of the tickets of strangers.
 fn left_of_strangers(alloc: Global, pairs: &[Pair]) -> Result<(Option<u16>, bool), Fail> {
     let (links, clients, trip) = stage(pairs);
-    let mut run = with_strangers(alloc, doors(&links, &clients, &trip))?;
-    clients.knock();
-    turn_once(&mut run, &idle());
-    Ok((run.node().lent(), run.node().tickets() == [0u16].as_slice()))
+    let made = with_strangers(alloc, doors(&links, &clients, &trip));
+    with_made(made, |run| loan_and_queue(run, &clients))
 }
 
 #[test]

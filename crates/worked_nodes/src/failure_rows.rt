@@ -1,5 +1,5 @@
 //! Doors, connections and stores that fail.
-use crate::stage::{Run, doors, doors_to, idle, in_a_row, turn_once, whole, with_token};
+use crate::stage::{Run, doors, doors_to, idle, in_a_row, turn_once, whole, with_made, with_token};
 use crate::wires::{MemoryDoors, Pair, Queue, Trip};
 use node_core::Node;
 use node_loop::NodeRun;
@@ -36,23 +36,29 @@ fn settle(alloc: Global, calls: u64, pairs: &[Pair]) -> Result<(bool, bool), Fai
     let (near_clients, far_clients) = (Queue::new(pairs, 0, 1), Queue::new(pairs, 1, 2));
     let links = Queue::new(pairs, 2, 5);
     let trip = Trip::after(calls);
-    let mut near = with_token(alloc, doors(&links, &near_clients, &trip))?;
+    let near = with_token(alloc, doors(&links, &near_clients, &trip));
     ask(&near_clients);
-    let is_settled = settle_with(alloc, &mut near, doors_to(&links, &far_clients, &trip))?;
-    Ok((is_settled, trip.is_over()))
+    let door = doors_to(&links, &far_clients, &trip);
+    let are_settled = with_made(near, |near| settle_with(alloc, near, door))??;
+    Ok((are_settled, trip.is_over()))
 }
 
-/// Runs the far one of two nodes beside the near one. Whether both settle, the far one below the other.
+/// Makes the far one of two nodes, and runs it beside the near one. Whether both settle.
 fn settle_with<'a>(
     alloc: Global,
     near: &mut Run<'_>,
     doors: MemoryDoors<'a>,
 ) -> Result<bool, Fail> {
     let clients = doors.clients;
-    let mut far = in_a_row(alloc, 2, 1, doors)?;
+    let far = in_a_row(alloc, 2, 1, doors);
     ask(clients);
-    turn_both(near, &mut far);
-    Ok(is_settled(near.node()) && is_settled(far.node()) && far.node().parent() == Some(0))
+    with_made(far, |far| are_settled(near, far))
+}
+
+/// Runs two nodes side by side. Whether both settle, the far one below the other.
+fn are_settled(near: &mut Run<'_>, far: &mut Run<'_>) -> bool {
+    turn_both(near, far);
+    is_settled(near.node()) && is_settled(far.node()) && far.node().parent() == Some(0)
 }
 
 #[test]
@@ -109,16 +115,23 @@ fn first_wrong_turn(run: &mut Fused<'_>) -> Option<u32> {
     None
 }
 
+/// What node 1 is to have stored in the last turn: the tick of that very turn made node 0 the
+/// parent.
+const TICKED: [u8; 36] = *b"TKT2\x00\x02\x00\x01\x00\x01\x00\x01\x00\x02\x00\x00\
+\x00\x00\x00\x00\x00\x00\x00\x02\xff\xff\x00\x00\x00\x02\xff\xff\x00\x00\x00\x00";
+
+/// Whether a node has stored that.
+fn has_stored(run: &Fused<'_>) -> bool {
+    run.store().inner().stored() == Some(TICKED.as_slice())
+}
+
 #[test]
 fn each_256th_turn_saves_and_goes_on_where_that_fails(rt: HostRuntime) -> Result<(), Fail> {
     let pairs = [Pair::new()];
     let all = &pairs[..];
     let (links, clients, trip) = (Queue::new(all, 0, 0), Queue::new(all, 0, 0), Trip::never());
-    let mut run = with_fused_store(rt.alloc(), doors(&links, &clients, &trip))?;
-    assert_eq!(rt; first_wrong_turn(&mut run), None);
-    // The tick of that very turn made node 0 the parent.
-    let want = b"TKT2\x00\x02\x00\x01\x00\x01\x00\x01\x00\x02\x00\x00\
-\x00\x00\x00\x00\x00\x00\x00\x02\xff\xff\x00\x00\x00\x02\xff\xff\x00\x00\x00\x00";
-    assert!(rt; run.store().inner().stored() == Some(want.as_slice()));
+    let made = with_fused_store(rt.alloc(), doors(&links, &clients, &trip));
+    let told = with_made(made, |run| (first_wrong_turn(run), has_stored(run)))?;
+    assert_eq!(rt; told, (None, true));
     Ok(())
 }

@@ -2,7 +2,7 @@
 use crate::acts::Act::{At, Comes, Idles, IsNumbered, Turns};
 use crate::acts::Deed::{Hears, IsClosed, IsLeft, IsSent, Shuts, Writes};
 use crate::acts::{Act, first_wrong};
-use crate::stage::{Run, doors, doors_to, idle, in_a_row, turn_once, whole};
+use crate::stage::{Run, doors, doors_to, idle, in_a_row, turn_once, whole, with_made};
 use crate::wires::{Pair, Queue, Trip};
 use std::alloc::Global;
 use std::test::Fail;
@@ -29,15 +29,15 @@ fn wrong_above(
     acts: &[Act<'_>],
 ) -> Result<Option<usize>, Fail> {
     let (links, clients, trip) = stage(pairs);
-    let mut run = in_a_row(alloc, 3, id, doors(&links, &clients, &trip))?;
-    Ok(first_wrong(&mut run, &links, pairs, acts))
+    let made = in_a_row(alloc, 3, id, doors(&links, &clients, &trip));
+    with_made(made, |run| first_wrong(run, &links, pairs, acts))
 }
 
 /// The same of node 2, which comes to its neighbour.
 fn wrong_below(alloc: Global, pairs: &[Pair], acts: &[Act<'_>]) -> Result<Option<usize>, Fail> {
     let (links, clients, trip) = stage(pairs);
-    let mut run = in_a_row(alloc, 3, 2, doors_to(&links, &clients, &trip))?;
-    Ok(first_wrong(&mut run, &links, pairs, acts))
+    let made = in_a_row(alloc, 3, 2, doors_to(&links, &clients, &trip));
+    with_made(made, |run| first_wrong(run, &links, pairs, acts))
 }
 
 /// The place of the first act that is not as told where this is said as a hello to node 1.
@@ -139,16 +139,24 @@ fn is_welcome(run: &mut Run<'_>, links: &Queue<'_>) -> bool {
     last.says(FIRST_FRAME)
 }
 
-/// What was wrong while all but the last of these said nothing for 256 turns, how many were closed
-/// then, and whether the last one was welcome.
-fn silent(alloc: Global, pairs: &[Pair]) -> Result<(Option<(u32, usize)>, usize, bool), Fail> {
-    let (links, clients, trip) = stage(pairs);
-    let mut run = in_a_row(alloc, 3, 0, doors(&links, &clients, &trip))?;
+/// What was wrong while all but the last of some connections said nothing for 256 turns, how many
+/// were closed then, and whether the last one was welcome.
+type Silence = (Option<(u32, usize)>, usize, bool);
+
+/// All of these but the last come and say nothing.
+fn all_silent(run: &mut Run<'_>, links: &Queue<'_>, pairs: &[Pair]) -> Silence {
     for _ in 1..pairs.len() {
         links.knock();
     }
-    let wrong = first_wrong_turn(&mut run, pairs);
-    Ok((wrong, closed(pairs), is_welcome(&mut run, &links)))
+    let wrong = first_wrong_turn(run, pairs);
+    (wrong, closed(pairs), is_welcome(run, links))
+}
+
+/// The same at the root of a row.
+fn silent(alloc: Global, pairs: &[Pair]) -> Result<Silence, Fail> {
+    let (links, clients, trip) = stage(pairs);
+    let made = in_a_row(alloc, 3, 0, doors(&links, &clients, &trip));
+    with_made(made, |run| all_silent(run, &links, pairs))
 }
 
 #[test]
@@ -192,13 +200,18 @@ fn rewired(run: &mut Run<'_>, net: &Net, links: &Queue<'_>) -> Rewired {
     Some((is_taken, pair.says(FIRST_FRAME), pair.down.is_closed()))
 }
 
-/// Hands the root of a row of three nodes that row, a ring with other links, the ring, and without a
-/// knock the row again.
+/// What the root of a row of three nodes told of the networks that it was handed: that row, a ring
+/// with other links, the ring, and without a knock the row again; and whether the last connection
+/// was closed then.
+type Told = ([Rewired; 3], bool, bool);
+
+/// Hands the root of a row those networks, one after the other.
 fn rewired_often(
     alloc: Global,
     run: &mut Run<'_>,
     links: &Queue<'_>,
-) -> Result<([Rewired; 3], bool), Fail> {
+    pairs: &[Pair],
+) -> Result<Told, Fail> {
     let row = Net::make(alloc, 3, 0, 1, 0, &[(0, 1), (1, 2)])?;
     let other = Net::make(alloc, 3, 0, 2, 0, &[(0, 1), (1, 2), (0, 2)])?;
     let ring = Net::make(alloc, 3, 0, 1, 0, &[(0, 1), (1, 2), (0, 2)])?;
@@ -207,20 +220,16 @@ fn rewired_often(
         rewired(run, &other, links),
         rewired(run, &ring, links),
     ];
-    Ok((told, run.rewire(&row)))
+    let is_taken = run.rewire(&row);
+    let has_gone = pairs.last().is_some_and(|pair| pair.down.is_closed());
+    Ok((told, is_taken, has_gone))
 }
 
-/// What the root of a row told of those networks, and whether the last of these connections was closed
-/// then.
-fn rewired_over(alloc: Global, pairs: &[Pair]) -> Result<([Rewired; 3], bool, bool), Fail> {
+/// What the root of a row told of them over these connections.
+fn rewired_over(alloc: Global, pairs: &[Pair]) -> Result<Told, Fail> {
     let (links, clients, trip) = stage(pairs);
-    let mut run = in_a_row(alloc, 3, 0, doors(&links, &clients, &trip))?;
-    let (told, is_taken) = rewired_often(alloc, &mut run, &links)?;
-    Ok((
-        told,
-        is_taken,
-        pairs.last().is_some_and(|pair| pair.down.is_closed()),
-    ))
+    let made = in_a_row(alloc, 3, 0, doors(&links, &clients, &trip));
+    with_made(made, |run| rewired_often(alloc, run, &links, pairs))?
 }
 
 #[test]

@@ -1,5 +1,5 @@
 //! A node's loop takes all memory at its start, and none in its turns.
-use crate::stage::{doors, whole};
+use crate::stage::{doors, whole, with_made};
 use crate::wires::{MemoryDoors, Pair, Queue, Trip};
 use linked_list_allocator::LocalHeap;
 use node_core::Node;
@@ -77,7 +77,7 @@ fn comes(queue: &Queue<'_>, bytes: &[u8]) {
     }
 }
 
-/// So many turns by a whole plan, and then so many at the node's own pace.
+/// This number of `turns` by a whole plan, and then as many at the node's own pace.
 fn turn_often(run: &mut RunOn<'_, '_>, turns: u64) {
     for _ in 0..turns {
         run.turn_by(&whole(), 0);
@@ -96,20 +96,40 @@ fn takes_nothing(alloc: Global, heap: &LocalHeap, run: &mut RunOn<'_, '_>) -> Re
     Ok(heap.used() == used)
 }
 
-/// What the root of two nodes does on a heap of that size, if a neighbour and a client come.
-fn tried(alloc: Global, size: usize, pairs: &[Pair]) -> Result<Outcome, Fail> {
-    let (links, clients) = (Queue::new(pairs, 0, 1), Queue::new(pairs, 1, 2));
-    let trip = Trip::never();
-    let heap = LocalHeap::new(alloc, size)?;
-    match root_of_two(alloc, &heap, doors(&links, &clients, &trip))? {
+/// What comes of a node on a heap, once a neighbour and a client come.
+fn outcome_of(
+    alloc: Global,
+    heap: &LocalHeap,
+    begun: &mut Begun<'_, '_>,
+    links: &Queue<'_>,
+    clients: &Queue<'_>,
+) -> Result<Outcome, Fail> {
+    match begun {
         Begun::NoNode => Ok(Outcome::NoNode),
-        Begun::Refused(is_whole) => Ok(Outcome::Refused(is_whole)),
-        Begun::Whole(mut run) => {
-            comes(&links, b"H0001\nF000000000002ffff0000\n");
-            comes(&clients, b"lock\nunlock\nstatus\n");
-            Ok(Outcome::Ran(takes_nothing(alloc, &heap, &mut run)?))
+        Begun::Refused(is_whole) => Ok(Outcome::Refused(*is_whole)),
+        Begun::Whole(run) => {
+            comes(links, b"H0001\nF000000000002ffff0000\n");
+            comes(clients, b"lock\nunlock\nstatus\n");
+            Ok(Outcome::Ran(takes_nothing(alloc, heap, run)?))
         }
     }
+}
+
+/// What the root of two nodes does on this heap.
+fn tried_on(alloc: Global, heap: &LocalHeap, pairs: &[Pair]) -> Result<Outcome, Fail> {
+    let (links, clients) = (Queue::new(pairs, 0, 1), Queue::new(pairs, 1, 2));
+    let trip = Trip::never();
+    let made = root_of_two(alloc, heap, doors(&links, &clients, &trip));
+    with_made(
+        made,
+        |begun| outcome_of(alloc, heap, begun, &links, &clients),
+    )?
+}
+
+/// What the root of two nodes does on a heap of that size.
+fn tried(alloc: Global, size: usize, pairs: &[Pair]) -> Result<Outcome, Fail> {
+    let heap = LocalHeap::new(alloc, size)?;
+    tried_on(alloc, &heap, pairs)
 }
 
 #[test]
@@ -193,26 +213,38 @@ fn rewired_often(
     ])
 }
 
-/// The same on a heap that has nothing left.
+/// The same on a heap that has nothing left; and whether the third of these connections was closed
+/// then.
 fn rewired_on_a_full_heap(
     alloc: Global,
     run: &mut RunOn<'_, '_>,
     links: &Queue<'_>,
     heap: &LocalHeap,
-) -> Result<[Rewired; 4], Fail> {
+    pairs: &[Pair],
+) -> Result<([Rewired; 4], bool), Fail> {
     let _full = fill(alloc, heap)?;
-    rewired_often(alloc, run, links, heap)
+    let told = rewired_often(alloc, run, links, heap)?;
+    Ok((told, pairs.get(2).is_some_and(|pair| pair.down.is_closed())))
 }
 
-/// What the root of a row tells of those networks, and whether the third of these connections was closed
-/// then.
-fn rewired_over(alloc: Global, pairs: &[Pair]) -> Result<([Rewired; 4], bool), Fail> {
+/// What the root of a row tells of that, on this heap.
+fn rewired_on(
+    alloc: Global,
+    heap: &LocalHeap,
+    pairs: &[Pair],
+) -> Result<([Rewired; 4], bool), Fail> {
     let (links, clients) = (Queue::new(pairs, 0, 4), Queue::new(pairs, 4, 4));
     let trip = Trip::never();
+    let made = root_on(alloc, heap, doors(&links, &clients, &trip));
+    with_made(made, |run| {
+        rewired_on_a_full_heap(alloc, run, &links, heap, pairs)
+    })?
+}
+
+/// The same on a heap of its own.
+fn rewired_over(alloc: Global, pairs: &[Pair]) -> Result<([Rewired; 4], bool), Fail> {
     let heap = LocalHeap::new(alloc, 524_288)?;
-    let mut run = root_on(alloc, &heap, doors(&links, &clients, &trip))?;
-    let told = rewired_on_a_full_heap(alloc, &mut run, &links, &heap)?;
-    Ok((told, pairs.get(2).is_some_and(|pair| pair.down.is_closed())))
+    rewired_on(alloc, &heap, pairs)
 }
 
 #[test]

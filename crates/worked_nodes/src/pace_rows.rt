@@ -1,5 +1,5 @@
 //! Nodes under load whose pace is damaged again and again.
-use crate::stage::{Run, doors, doors_to, in_a_row, with_token};
+use crate::stage::{Run, doors, doors_to, in_a_row, with_made, with_token};
 use crate::wires::{MemoryDoors, Pair, Queue, Trip};
 use pace::{Manner, NodePace, PORTS, Pace, PortPace};
 use std::alloc::Global;
@@ -156,11 +156,14 @@ fn none_starves<'a>(
     doors: MemoryDoors<'a>,
 ) -> Result<bool, Fail> {
     let (first, second) = (ask(near_clients), ask(doors.clients));
-    let mut far = in_a_row(alloc, 2, 1, doors)?;
     let (Some(first), Some(second)) = (first, second) else {
         return Ok(false);
     };
-    Ok(first_starved(near, &mut far, [first, second]).is_none())
+    let far = in_a_row(alloc, 2, 1, doors);
+    with_made(
+        far,
+        |far| first_starved(near, far, [first, second]).is_none(),
+    )
 }
 
 /// Runs two nodes over these connections, of which the first two are the clients'. Whether no client
@@ -168,13 +171,9 @@ fn none_starves<'a>(
 fn none_starves_over(alloc: Global, pairs: &[Pair]) -> Result<bool, Fail> {
     let (near_clients, far_clients) = (Queue::new(pairs, 0, 1), Queue::new(pairs, 1, 2));
     let (links, trip) = (Queue::new(pairs, 2, 3), Trip::never());
-    let mut near = with_token(alloc, doors(&links, &near_clients, &trip))?;
-    none_starves(
-        alloc,
-        &mut near,
-        &near_clients,
-        doors_to(&links, &far_clients, &trip),
-    )
+    let near = with_token(alloc, doors(&links, &near_clients, &trip));
+    let door = doors_to(&links, &far_clients, &trip);
+    with_made(near, |near| none_starves(alloc, near, &near_clients, door))?
 }
 
 #[test]

@@ -1,7 +1,5 @@
 //! A node that starts again from a state that means nothing, among nodes that run.
-ghost use Rattle.std.specs.Prelude.{◌≡◌, ◌<◌, ◌+◌, length};
-
-use crate::stage::{Run, doors, doors_between, doors_to, run_of, turn_once, whole};
+use crate::stage::{Run, doors, doors_between, doors_to, run_of, turn_once, whole, with_made};
 use crate::wires::{MemoryDoors, Pair, Queue, Trip};
 use node_state_file::{FileFault, MemoryStore, StartFault, Store, start};
 use std::alloc::{AllocError, Global};
@@ -89,99 +87,147 @@ enum Missed {
     Closing,
 }
 
+/// The clients in one life of node 2: one of node 0, one of node 1, and two of node 2, of which the
+/// first leaves for the second.
+#[derive(Clone, Copy)]
+struct Clients<'a> {
+    of_first: &'a Pair,
+    of_second: &'a Pair,
+    leaving: &'a Pair,
+    next: &'a Pair,
+}
+
 /// Lets node 2 run beside two nodes until all stand where they should, and its first client leave
-/// for a second one. The first thing missed. The clients are one of node 0, one of node 1, and from
-/// place `own` on two of node 2.
+/// for a second one. The first thing missed.
 fn first_missed(
     first: &mut Run<'_>,
     second: &mut Run<'_>,
     third: &mut Run<'_>,
     door: &Queue<'_>,
-    clients: &[Pair],
-    own: usize,
-) -> Option<Missed>
-    requires { (1 < own) × (own + 1 < length clients.now) }
-{
-    let (client, next) = (&clients[own], &clients[own + 1]);
+    clients: Clients<'_>,
+) -> Option<Missed> {
     door.knock();
-    if !comes_to(first, second, third, client, PLACES[2]) {
-        return Some(Missed::Place(2));
-    }
-    for node in 0..2 {
-        if !comes_to(first, second, third, &clients[node], PLACES[node]) {
+    let askers = [clients.of_first, clients.of_second, clients.leaving];
+    for (node, client) in askers.iter().enumerate().rev() {
+        if !comes_to(first, second, third, client, PLACES[node]) {
             return Some(Missed::Place(node as u16));
         }
     }
-    client.up.write(b"loc\n");
+    clients.leaving.up.write(b"loc\n");
     turn_all(first, second, third);
-    if !client.says(b"unknown\n") {
+    if !clients.leaving.says(b"unknown\n") {
         return Some(Missed::Answer);
     }
-    client.up.close();
+    clients.leaving.up.close();
     door.knock();
-    if !comes_to(first, second, third, next, PLACES[2]) {
+    if !comes_to(first, second, third, clients.next, PLACES[2]) {
         return Some(Missed::Place(2));
     }
-    if client.down.is_closed() {
+    if clients.leaving.down.is_closed() {
         None
     } else {
         Some(Missed::Closing)
     }
 }
 
+/// The ways between three nodes in a row, and to the clients of nodes 1 and 2; no call fails there.
+#[derive(Clone, Copy)]
+struct Ways<'a> {
+    lower: &'a Queue<'a>,
+    upper: &'a Queue<'a>,
+    of_second: &'a Queue<'a>,
+    of_third: &'a Queue<'a>,
+    trip: &'a Trip,
+}
+
 /// Starts node 2 beside two nodes that run, with these bytes in its store, and ends it. What stood
 /// in its way, and what it missed.
-fn lives(
+fn life(
     alloc: Global,
     first: &mut Run<'_>,
     second: &mut Run<'_>,
-    doors: MemoryDoors<'_>,
+    ways: Ways<'_>,
+    clients: Clients<'_>,
     bytes: Option<&[u8]>,
-    clients: &[Pair],
-    own: usize,
-) -> Result<Life, Fail>
-    requires { (1 < own) × (own + 1 < length clients.now) }
-{
-    let door = doors.clients;
-    let (mut third, fault) = started(alloc, 2, bytes, doors)?;
-    Ok((
-        fault,
-        first_missed(first, second, &mut third, door, clients, own),
-    ))
+) -> Result<Life, Fail> {
+    let third = started(
+        alloc,
+        2,
+        bytes,
+        doors_to(ways.upper, ways.of_third, ways.trip),
+    );
+    with_made(third, |third| {
+        let missed = first_missed(first, second, &mut third.0, ways.of_third, clients);
+        (third.1, missed)
+    })
+}
+
+/// Starts node 2 beside two nodes that run, ends it, and starts it again with these bytes in its
+/// store. What both starts came to.
+fn both_lives(
+    alloc: Global,
+    first: &mut Run<'_>,
+    second: &mut Run<'_>,
+    ways: Ways<'_>,
+    clients: &[Pair; 6],
+    bytes: &[u8],
+) -> Result<[Life; 2], Fail> {
+    let of_both = Clients {
+        of_first: &clients[0],
+        of_second: &clients[1],
+        leaving: &clients[2],
+        next: &clients[3],
+    };
+    let of_the_other = Clients {
+        leaving: &clients[4],
+        next: &clients[5],
+        ..of_both
+    };
+    Ok([
+        life(alloc, first, second, ways, of_both, None)?,
+        life(alloc, first, second, ways, of_the_other, Some(bytes))?,
+    ])
+}
+
+/// Starts node 1 beside node 0, and then node 2 twice.
+fn beside_first(
+    alloc: Global,
+    first: &mut Run<'_>,
+    ways: Ways<'_>,
+    clients: &[Pair; 6],
+    bytes: &[u8],
+) -> Result<[Life; 2], Fail> {
+    let between = doors_between(ways.upper, ways.lower, ways.of_second, ways.trip);
+    let second = started(alloc, 1, None, between);
+    ways.of_second.knock();
+    with_made(second, |second| {
+        both_lives(alloc, first, &mut second.0, ways, clients, bytes)
+    })?
 }
 
 /// Runs three nodes in a row, ends node 2, and starts it again with these bytes in its store. What
 /// both starts came to.
 fn starts_again(
     alloc: Global,
-    links: &[Pair],
-    clients: &[Pair],
+    links: &[Pair; 3],
+    clients: &[Pair; 6],
     bytes: &[u8],
-) -> Result<[Life; 2], Fail>
-    requires { length clients.now ≡ 6 }
-{
+) -> Result<[Life; 2], Fail> {
     let (lower, upper) = (Queue::new(links, 0, 1), Queue::new(links, 1, 3));
     let (of_first, of_second) = (Queue::new(clients, 0, 1), Queue::new(clients, 1, 2));
-    let of_third = Queue::new(clients, 2, 6);
-    let trip = Trip::never();
-    let (mut first, _) = started(alloc, 0, None, doors(&lower, &of_first, &trip))?;
-    let between = doors_between(&upper, &lower, &of_second, &trip);
-    let (mut second, _) = started(alloc, 1, None, between)?;
+    let (of_third, trip) = (Queue::new(clients, 2, 6), Trip::never());
+    let ways = Ways {
+        lower: &lower,
+        upper: &upper,
+        of_second: &of_second,
+        of_third: &of_third,
+        trip: &trip,
+    };
+    let first = started(alloc, 0, None, doors(&lower, &of_first, &trip));
     of_first.knock();
-    of_second.knock();
-    let door = doors_to(&upper, &of_third, &trip);
-    let began = lives(alloc, &mut first, &mut second, door, None, clients, 2)?;
-    let door = doors_to(&upper, &of_third, &trip);
-    let again = lives(
-        alloc,
-        &mut first,
-        &mut second,
-        door,
-        Some(bytes),
-        clients,
-        4,
-    )?;
-    Ok([began, again])
+    with_made(first, |first| {
+        beside_first(alloc, &mut first.0, ways, clients, bytes)
+    })?
 }
 
 #[test]
@@ -199,7 +245,7 @@ fn a_node_starts_again_whatever_its_file_holds(rt: HostRuntime) -> Result<(), Fa
             Pair::new(),
             Pair::new(),
         ];
-        let told = starts_again(rt.alloc(), &links[..], &clients[..], bytes)?;
+        let told = starts_again(rt.alloc(), &links, &clients, bytes)?;
         assert_eq!(rt; told, [(Some(StartFault::Absent), None), (want, None)]);
     }
     Ok(())

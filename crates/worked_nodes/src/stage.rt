@@ -35,6 +35,20 @@ pub fn idle() -> Plan {
     }
 }
 
+/// Does something with what was made, a node that runs say, and drops it then. What came of it.
+///
+/// Whoever holds a node, and may give up while it does, is dear to prove; here it is held once for
+/// all.
+pub fn with_made<R: Drop, T, F: FnOnce(&mut R) -> T>(
+    made: Result<R, Fail>,
+    deed: F,
+) -> Result<T, Fail>
+    requires { F.IsAlwaysCallable deed }
+{
+    let mut held = made?;
+    Ok(deed(&mut held))
+}
+
 /// One turn by this plan, without the contract of a turn, which would else stand in each test.
 pub fn turn_once(run: &mut Run<'_>, plan: &Plan) {
     run.turn_by(plan, 0);

@@ -24,7 +24,7 @@ enum Deed {
     Puts(Item, Result<(), Full>),
     Takes(Option<Item>),
     Loses(usize, Result<(), NoItem>),
-    /// Nothing is done: so many items are on it.
+    /// Nothing is done: this is the number of items on it.
     Holds(usize),
 }
 
