@@ -1,5 +1,5 @@
 //! Copies of the test program as clients, against desks that follow a script.
-use crate::hold::hold;
+use crate::hold::{changed, hold};
 use lock_command::{Request, lock, status};
 use std::alloc::{AllocError, Global};
 use std::io::{Input, Read, Write};
@@ -86,6 +86,12 @@ fn acts_as_an_onlooker(rt: HostRuntime) -> Result<(), Fail> {
     Ok(())
 }
 
+/// A command that starts this program.
+fn own_program<R: Env + Files + AllocGlobal>(rt: &R) -> Result<Command, Fail> {
+    let program = env::current_exe(rt)?;
+    Ok(Command::new(rt.alloc(), program.as_path())?)
+}
+
 /// A copy that does one of these tests, with a variable of its environment.
 fn copy_of<R: Env + Files + AllocGlobal>(
     rt: &R,
@@ -93,10 +99,10 @@ fn copy_of<R: Env + Files + AllocGlobal>(
     name: &str,
     value: &str,
 ) -> Result<Command, Fail> {
-    let program = env::current_exe(rt)?;
-    let mut command = Command::new(rt.alloc(), program.as_path())?;
-    command.arg(test)?.env(name, value)?;
-    Ok(command)
+    changed(own_program(rt), |command| {
+        command.arg(test)?.env(name, value)?;
+        Ok(())
+    })
 }
 
 /// The lines that say what a client is asked to do.

@@ -1,6 +1,20 @@
 //! What is held in a function that a test calls.
 use std::test::Fail;
 
+/// What was made, a command say, behind a change that may fail.
+///
+/// Whoever holds such a value and may give up is dear to prove; here it is held once for all.
+pub fn changed<T: Drop, F: FnOnce(&mut T) -> Result<(), Fail>>(
+    made: Result<T, Fail>,
+    change: F,
+) -> Result<T, Fail>
+    requires { F.IsAlwaysCallable change }
+{
+    let mut held = made?;
+    change(&mut held)?;
+    Ok(held)
+}
+
 /// Fails with these words where it is not so.
 pub fn hold(is_so: bool, otherwise: &'static str) -> Result<(), Fail> {
     if is_so {
