@@ -15,3 +15,16 @@ pub fn fill<'h>(alloc: Global, heap: &'h LocalHeap) -> Result<Vec<Vec<u8, &'h Lo
     }
     Ok(taken)
 }
+
+/// Does something while a heap has nothing left. What it answers, and how much the heap had left.
+pub fn on_full<F: FnOnce() -> bool>(
+    alloc: Global,
+    heap: &LocalHeap,
+    deed: F,
+) -> Result<(bool, usize), Fail>
+    requires { F.IsAlwaysCallable deed }
+{
+    let _full = fill(alloc, heap)?;
+    let free = heap.free();
+    Ok((deed(), free))
+}

@@ -31,6 +31,12 @@ fn looked<A: Allocator + Copy>(judge: &mut Judge<A>, event: &Event) -> Option<u3
     Some(judge.looked())
 }
 
+/// The default world of two nodes over links of one place.
+fn two_nodes<A: Allocator + Copy>(alloc: Global, of: A) -> Result<World<A>, Fail> {
+    let net = net_of(alloc, 2, 0, &[(0, 1)])?;
+    Ok(start(of, &net)?)
+}
+
 /// Judges a run.
 fn judged<A: Allocator + Copy>(world: World<A>, events: &[Event]) -> Report<A> {
     judge(world, events)
@@ -126,17 +132,23 @@ fn what_serves_and_what_does_not(rt: HostRuntime) -> Result<(), Fail> {
     Ok(())
 }
 
-/// Holds that a line of three nodes answers each line of a text so.
-fn all_answer(
-    rt: &(impl Eprint + AllocGlobal + Abort),
-    rows: &[(&str, Result<(), EventFault>)],
-) -> Result<(), Fail> {
-    let net = net_of(rt.alloc(), 3, 0, &[(0, 1), (1, 2)])?;
-    let mut world = start(rt.alloc(), &net)?;
+/// The first line that a world does not answer so, if there is one.
+fn first_unlike<'r>(
+    world: &mut World,
+    rows: &[(&'r str, Result<(), EventFault>)],
+) -> Option<&'r str> {
     for (line, answer) in rows {
-        assert_eq!(rt; told(&mut world, line), Some(*answer), "of {line:?}");
+        if told(world, line) != Some(*answer) {
+            return Some(line);
+        }
     }
-    Ok(())
+    None
+}
+
+/// The default world of three nodes in a line.
+fn line_of_three(alloc: Global) -> Result<World, Fail> {
+    let net = net_of(alloc, 3, 0, &[(0, 1), (1, 2)])?;
+    Ok(start(alloc, &net)?)
 }
 
 #[test]
@@ -158,35 +170,33 @@ fn each_refusal_has_its_name(rt: HostRuntime) -> Result<(), Fail> {
         ("leave 0 6", Err(EventFault::Stranger)),
         ("leave 0 5", Ok(())),
     ];
-    all_answer(&rt, &rows)
+    let mut world = line_of_three(rt.alloc())?;
+    assert_eq!(rt; first_unlike(&mut world, &rows), None);
+    Ok(())
 }
 
-/// A judge of two nodes.
-fn judge_of_two(alloc: Global) -> Result<Judge, Fail> {
-    let net = net_of(alloc, 2, 0, &[(0, 1)])?;
-    Ok(Judge::new(start(alloc, &net)?))
-}
-
-/// At how many tallies a judge of two nodes looks at each of the first eleven events of a text; none
-/// where it is refused or not there.
-fn looks(alloc: Global, text: &str) -> Result<[Option<u32>; 11], Fail> {
-    let events = events_of(alloc, text)?;
-    let mut judge = judge_of_two(alloc)?;
+/// At how many tallies a judge has looked at first, and at each of the first eleven events; none
+/// where one is refused or not there.
+fn all_looked(judge: &mut Judge, events: &[Event]) -> (u32, [Option<u32>; 11]) {
+    let at_first = judge.looked();
     let mut looks = [None; 11];
-    for (look, event) in looks.iter_mut().zip(&events) {
-        *look = looked(&mut judge, event);
+    for (look, event) in looks.iter_mut().zip(events) {
+        *look = looked(judge, event);
     }
-    Ok(looks)
+    (at_first, looks)
+}
+
+/// At how many tallies a judge of two nodes looks in a round and at a harm behind it.
+fn looks(alloc: Global) -> Result<(u32, [Option<u32>; 11]), Fail> {
+    let mut events = events_of(alloc, ROUND)?;
+    push_events(&mut events, "harm junk 0 1")?;
+    let mut judge = Judge::new(two_nodes(alloc, alloc)?);
+    Ok(all_looked(&mut judge, &events))
 }
 
 #[test]
 fn a_step_looks_at_two_tallies_except_where_a_sweep_ends(rt: HostRuntime) -> Result<(), Fail> {
-    assert_eq!(rt; judge_of_two(rt.alloc())?.looked(), 0);
-    let text = format!(in rt.alloc(); "{ROUND}harm junk 0 1\n")?;
     let want = [0, 0, 0, 2, 0, 2, 0, 4, 0, 2, 2].map(Some);
-    assert_eq!(rt;
-        looks(rt.alloc(), text.as_str())?.as_slice(),
-        want.as_slice()
-    );
+    assert_eq!(rt; looks(rt.alloc())?, (0, want));
     Ok(())
 }

@@ -1,10 +1,10 @@
 //! What takes no memory: edges that join and go, and the text of a world, on a heap without a free
 //! byte.
-use crate::full_heap::fill;
+use crate::full_heap::on_full;
 use crate::worlds::{event_of, net_of, told};
 use linked_list_allocator::LocalHeap;
 use run_model::EventFault;
-use std::alloc::{AllocError, Allocator, Global};
+use std::alloc::{Allocator, Global};
 use std::test::Fail;
 use topology::{Net, NetFault};
 use world::simulation::{SimFault, state_text};
@@ -53,9 +53,10 @@ privileged 0 lending 0
 sweeps 5 of 461
 ";
 
-/// The default world of a network with one spare pair of links.
-fn with_a_spare<A: Allocator + Copy>(alloc: A, net: &Net) -> Result<World<A>, AllocError> {
-    World::with_spares(alloc, net, 1)
+/// The default world of the square with one spare pair of links.
+fn with_a_spare<A: Allocator + Copy>(alloc: Global, of: A) -> Result<World<A>, Fail> {
+    let net = square(alloc)?;
+    Ok(World::with_spares(of, &net, 1)?)
 }
 
 /// Whether a world answers each change as it is told.
@@ -73,14 +74,19 @@ fn judged<A: Allocator + Copy>(judge: &mut Judge<A>, line: &str) -> Option<Resul
     Some(judge.step(&event))
 }
 
-/// Whether a judge of a world answers each change as it is told, and counts those that are refused.
-fn all_judged<A: Allocator + Copy>(world: World<A>) -> bool {
-    let mut judge = Judge::new(world);
+/// Whether a judge answers each change as it is told, and counts those that are refused.
+fn all_judged_by<A: Allocator + Copy>(judge: &mut Judge<A>) -> bool {
     let mut well = true;
     for (line, answer) in CHANGES {
-        well &= judged(&mut judge, line) == Some(answer);
+        well &= judged(judge, line) == Some(answer);
     }
     well && judge.refused() == 7 && judge.sweeps() == 0
+}
+
+/// Whether a judge of a world does so.
+fn all_judged<A: Allocator + Copy>(world: World<A>) -> bool {
+    let mut judge = Judge::new(world);
+    all_judged_by(&mut judge)
 }
 
 /// Shows a world.
@@ -96,29 +102,34 @@ fn is_shown_behind_changes<A: Allocator + Copy>(
     all_answered(world) && show(world, sink) == Ok(()) && sink.taken() == SHOWN.as_bytes()
 }
 
+/// Whether a world on a heap is shown so, and how much the heap had left.
+fn shown_on_full(alloc: Global, heap: &LocalHeap) -> Result<(bool, usize), Fail> {
+    let mut world = with_a_spare(alloc, heap)?;
+    let mut sink = MemorySink::new(heap, SHOWN.len())?;
+    on_full(
+        alloc,
+        heap,
+        || is_shown_behind_changes(&mut world, &mut sink),
+    )
+}
+
 #[test]
 fn a_world_changes_its_edges_and_is_shown_without_memory(rt: HostRuntime) -> Result<(), Fail> {
-    let net = square(rt.alloc())?;
     let heap = LocalHeap::new(rt.alloc(), 65536)?;
-    let mut world = with_a_spare(&heap, &net)?;
-    let mut sink = MemorySink::new(&heap, SHOWN.len())?;
-    let full = fill(rt.alloc(), &heap)?;
-    let free = heap.free();
-    let is_shown = is_shown_behind_changes(&mut world, &mut sink);
-    drop(full);
-    assert_eq!(rt; (free, is_shown), (0, true));
+    assert_eq!(rt; shown_on_full(rt.alloc(), &heap)?, (true, 0));
     Ok(())
+}
+
+/// Whether a judge of a world on a heap answers so, and how much the heap had left.
+fn judged_on_full(alloc: Global, heap: &LocalHeap) -> Result<(bool, usize), Fail> {
+    let world = with_a_spare(alloc, heap)?;
+    on_full(alloc, heap, || all_judged(world))
 }
 
 #[test]
 fn a_judge_sees_edges_change_without_memory(rt: HostRuntime) -> Result<(), Fail> {
-    let net = square(rt.alloc())?;
     let heap = LocalHeap::new(rt.alloc(), 65536)?;
-    let world = with_a_spare(&heap, &net)?;
-    let full = fill(rt.alloc(), &heap)?;
-    let free = heap.free();
-    let is_judged = all_judged(world);
-    drop(full);
-    assert_eq!(rt; (free, is_judged, heap.used()), (0, true, 0));
+    let found = judged_on_full(rt.alloc(), &heap)?;
+    assert_eq!(rt; (found, heap.used()), ((true, 0), 0));
     Ok(())
 }

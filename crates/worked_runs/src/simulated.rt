@@ -111,24 +111,37 @@ fn simulated_as(
     Ok((summary, output.as_str() == want))
 }
 
-/// Holds that a text leads to its output, with as many refused lines as are told.
-fn row_holds(rt: &(impl Eprint + AllocGlobal + Abort), row: &Row<'_>) -> Result<(), Fail> {
-    let (net, text, output) = parts_of(rt.alloc(), row)?;
+/// The first size of pieces in which a text is not told as this, with this output.
+fn first_unlike(
+    alloc: Global,
+    net: &Net,
+    text: &str,
+    want: (Summary, &str),
+) -> Result<Option<usize>, Fail> {
+    let (summary, output) = want;
+    for piece in PIECES {
+        if simulated_as(alloc, net, text, piece, output)? != (summary, true) {
+            return Ok(Some(piece));
+        }
+    }
+    Ok(None)
+}
+
+/// The first size of pieces in which the text of a row does not lead to its output, with as many
+/// refused lines as are told.
+fn row_fails(alloc: Global, row: &Row<'_>) -> Result<Option<usize>, Fail> {
+    let (net, text, output) = parts_of(alloc, row)?;
     let summary = Summary {
         refused: row.refusals.lines().count() as u64,
         sweeps: row.sweeps,
     };
-    for piece in PIECES {
-        let found = simulated_as(rt.alloc(), &net, &text, piece, &output)?;
-        assert_eq!(rt; found, (summary, true), "of {text:?} in pieces of {piece}");
-    }
-    Ok(())
+    first_unlike(alloc, &net, &text, (summary, &output))
 }
 
 /// Holds that each text leads to its output.
 fn all_hold(rt: &(impl Eprint + AllocGlobal + Abort), rows: &[Row<'_>]) -> Result<(), Fail> {
-    for row in rows {
-        row_holds(rt, row)?;
+    for (at, row) in rows.iter().enumerate() {
+        assert_eq!(rt; row_fails(rt.alloc(), row)?, None, "row {at}");
     }
     Ok(())
 }

@@ -30,12 +30,20 @@ fn is_settled(world: &World, tree: &[(u16, Option<u16>)]) -> bool {
     settled
 }
 
+/// How many are privileged and how many lend after the start; then how many events, sweeps and
+/// refusals there are, and whether the nodes are settled.
+type Told = ((usize, usize), (usize, u64, u64, bool));
+
+/// What a run is told as.
+fn told_of(alloc: Global, run: &LongRun<'_>) -> Result<Told, Fail> {
+    let net = net_of(alloc, run.nodes, run.lease, run.edges)?;
+    Ok((counted_at_start(alloc, &net, run)?, ends(alloc, &net, run)?))
+}
+
 /// Holds that it ends so.
 fn holds(rt: &(impl Eprint + AllocGlobal + Abort), run: &LongRun<'_>) -> Result<(), Fail> {
-    let net = net_of(rt.alloc(), run.nodes, run.lease, run.edges)?;
-    assert_eq!(rt; counted_at_start(rt.alloc(), &net, run)?, run.at_start);
-    let told = ends(rt.alloc(), &net, run)?;
-    assert_eq!(rt; told, (run.events, u64::from(run.rounds), 0, true));
+    let want = (run.at_start, (run.events, u64::from(run.rounds), 0, true));
+    assert_eq!(rt; told_of(rt.alloc(), run)?, want);
     Ok(())
 }
 

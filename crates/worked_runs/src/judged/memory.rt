@@ -1,8 +1,9 @@
 //! What memory a judge takes: none.
 use super::*;
-use crate::full_heap::fill;
+use crate::full_heap::on_full;
 use crate::worlds::happen;
 use linked_list_allocator::LocalHeap;
+use topology::Net;
 
 /// An event of each kind that does not stand in a round.
 const OTHERS: &str = "\
@@ -40,60 +41,100 @@ fn counted_behind<A: Allocator + Copy>(
     }
 }
 
+/// Whether forged tokens lend at both nodes of a world, also behind a round, and each other kind of
+/// event happens then.
+fn takes_each_kind<A: Allocator + Copy>(
+    world: &mut World<A>,
+    forged: &[Event],
+    others: &[Event],
+) -> bool {
+    counted_behind(world, forged) == Some((2, 2)) && happen(world, others)
+}
+
+/// Whether that is so of a world on a heap, and how much the heap had left.
+fn takes_each_kind_on_full(alloc: Global, heap: &LocalHeap) -> Result<(bool, usize), Fail> {
+    let mut forged = events_of(alloc, FORGED)?;
+    push_events(&mut forged, ROUND)?;
+    let others = events_of(alloc, OTHERS)?;
+    let mut world = two_nodes(alloc, heap)?;
+    on_full(
+        alloc,
+        heap,
+        || takes_each_kind(&mut world, &forged, &others),
+    )
+}
+
 #[test]
 fn a_world_takes_no_memory(rt: HostRuntime) -> Result<(), Fail> {
-    let net = net_of(rt.alloc(), 2, 0, &[(0, 1)])?;
-    let mut forged = events_of(rt.alloc(), FORGED)?;
-    push_events(&mut forged, ROUND)?;
-    let others = events_of(rt.alloc(), OTHERS)?;
     let heap = LocalHeap::new(rt.alloc(), 16384)?;
-    let mut world = start(&heap, &net)?;
-    let taken = fill(rt.alloc(), &heap)?;
-    let free = heap.free();
-    let counted = counted_behind(&mut world, &forged);
-    let happened = happen(&mut world, &others);
-    drop(taken);
-    assert_eq!(rt; (free, counted, happened), (0, Some((2, 2)), true));
+    assert_eq!(rt; takes_each_kind_on_full(rt.alloc(), &heap)?, (true, 0));
     Ok(())
 }
 
-/// Judges a round and some events of a world that has filled its heap with what else fits: how much
-/// is free, the sweeps and the refusals of the round, whether all events happen, and how many lend.
-fn judged_without_memory(
-    alloc: Global,
-    heap: &LocalHeap,
-    world: World<&LocalHeap>,
+/// Whether a round of a world is judged to be one sweep, nothing of it is refused, and then these
+/// events happen, of which the last is followed by one loan.
+fn is_judged_right<A: Allocator + Copy>(
+    world: World<A>,
     round: &[Event],
     events: &[Event],
-) -> Result<(usize, u64, u64, bool, usize), Fail> {
-    let taken = fill(alloc, heap)?;
-    let free = heap.free();
+) -> bool {
     let report = judged(world, round);
-    let (sweeps, refused) = (report.sweeps, report.refused);
+    let counted = (report.sweeps, report.refused);
     let mut judge = Judge::new(report.world);
     let happened = all_happen(&mut judge, events);
-    let lending = judge.into_world().lending();
-    drop(taken);
-    Ok((free, sweeps, refused, happened, lending))
+    happened && counted == (1, 0) && judge.into_world().lending() == 1
+}
+
+/// Whether that is so of a world on a heap, and how much the heap had left; none where the heap
+/// refuses the world.
+fn judged_on_full(
+    alloc: Global,
+    heap: &LocalHeap,
+    net: &Net,
+    events: (&[Event], &[Event]),
+) -> Result<Option<(bool, usize)>, Fail> {
+    let Ok(world) = start(heap, net) else {
+        return Ok(None);
+    };
+    let (round, then) = events;
+    let found = on_full(alloc, heap, || is_judged_right(world, round, then))?;
+    Ok(Some(found))
+}
+
+/// What is found on a heap of this size in bytes, and how much of it stays taken.
+fn judged_within(
+    alloc: Global,
+    bytes: usize,
+    net: &Net,
+    events: (&[Event], &[Event]),
+) -> Result<(Option<(bool, usize)>, usize), Fail> {
+    let heap = LocalHeap::new(alloc, bytes)?;
+    let found = judged_on_full(alloc, &heap, net, events)?;
+    Ok((found, heap.used()))
+}
+
+/// In units of 16 bytes, the size of the least heap that does not refuse a world, and what is found
+/// there; none where each heap refuses it, or one that does keeps something.
+fn least_heap(alloc: Global) -> Result<Option<(usize, (bool, usize), usize)>, Fail> {
+    let net = net_of(alloc, 2, 0, &[(0, 1)])?;
+    let round = events_of(alloc, ROUND)?;
+    let events = events_of(alloc, "ask 0 5\ntick 0\nharm junk 0 1\n")?;
+    for units in 1..400usize {
+        match judged_within(alloc, units * 16, &net, (&round, &events))? {
+            (Some(found), used) => return Ok(Some((units, found, used))),
+            (None, 0) => {}
+            (None, _) => return Ok(None),
+        }
+    }
+    Ok(None)
 }
 
 #[test]
 fn each_growth_of_a_world_may_be_refused_and_judging_takes_none(
     rt: HostRuntime,
 ) -> Result<(), Fail> {
-    let net = net_of(rt.alloc(), 2, 0, &[(0, 1)])?;
-    let round = events_of(rt.alloc(), ROUND)?;
-    let events = events_of(rt.alloc(), "ask 0 5\ntick 0\nharm junk 0 1\n")?;
-    for units in 1..400usize {
-        let heap = LocalHeap::new(rt.alloc(), units * 16)?;
-        let made = start(&heap, &net);
-        if let Ok(world) = made {
-            let found = judged_without_memory(rt.alloc(), &heap, world, &round, &events)?;
-            assert_eq!(rt; found, (0, 1, 0, true, 1));
-            assert_eq!(rt; (units > 40, heap.used()), (true, 0));
-            return Ok(());
-        }
-        assert_eq!(rt; heap.used(), 0);
-    }
-    panic!(rt; "always refused")
+    let found = least_heap(rt.alloc())?;
+    let found = found.map(|(units, found, used)| (units > 40, found, used));
+    assert_eq!(rt; found, Some((true, (true, 0), 0)));
+    Ok(())
 }

@@ -1,6 +1,6 @@
 //! A world that is taken apart and put together goes on as it would have.
 use super::*;
-use crate::full_heap::fill;
+use crate::full_heap::on_full;
 use linked_list_allocator::LocalHeap;
 
 /// Takes a world apart and puts it together again, and says how many nodes and edges its parts had.
@@ -26,31 +26,34 @@ fn three_rounds<A: Allocator + Copy>(mut world: World<A>, round: &[Event]) -> (W
     (world, well)
 }
 
+/// Does three rounds of a world that is taken apart after each event; says whether each happened,
+/// the parts were those of two nodes, and the token is at the far one then.
+fn goes_over<A: Allocator + Copy>(world: World<A>, round: &[Event]) -> bool {
+    let (world, well) = three_rounds(world, round);
+    well && far(&world) == Some((1, Some(0), true))
+}
+
 #[test]
 fn the_token_goes_over_in_three_rounds_of_a_world_taken_apart_after_each_event(
     rt: HostRuntime,
 ) -> Result<(), Fail> {
-    let net = net_of(rt.alloc(), 2, 0, &[(0, 1)])?;
     let round = events_of(rt.alloc(), ROUND)?;
-    let (world, well) = three_rounds(start(rt.alloc(), &net)?, &round);
-    assert!(rt; well);
-    assert_eq!(rt; far(&world), Some((1, Some(0), true)));
+    let world = two_nodes(rt.alloc(), rt.alloc())?;
+    assert!(rt; goes_over(world, &round));
     Ok(())
+}
+
+/// Whether that is so of a world on a heap, and how much the heap had left.
+fn goes_over_on_full(alloc: Global, heap: &LocalHeap) -> Result<(bool, usize), Fail> {
+    let round = events_of(alloc, ROUND)?;
+    let world = two_nodes(alloc, heap)?;
+    on_full(alloc, heap, || goes_over(world, &round))
 }
 
 #[test]
 fn a_world_is_taken_apart_and_put_together_without_memory(rt: HostRuntime) -> Result<(), Fail> {
-    let net = net_of(rt.alloc(), 2, 0, &[(0, 1)])?;
-    let round = events_of(rt.alloc(), ROUND)?;
     let heap = LocalHeap::new(rt.alloc(), 16384)?;
-    let world = start(&heap, &net)?;
-    let full = fill(rt.alloc(), &heap)?;
-    let free = heap.free();
-    let (world, well) = three_rounds(world, &round);
-    let far = far(&world);
-    drop(world);
-    drop(full);
-    assert_eq!(rt; (free, well, heap.used()), (0, true, 0));
-    assert_eq!(rt; far, Some((1, Some(0), true)));
+    let found = goes_over_on_full(rt.alloc(), &heap)?;
+    assert_eq!(rt; (found, heap.used()), ((true, 0), 0));
     Ok(())
 }

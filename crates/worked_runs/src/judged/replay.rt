@@ -196,8 +196,8 @@ fn first_difference(
     (None, plain.sweeps)
 }
 
-/// What the judge and the plain count of a network come to behind so many events of its rounds: how
-/// many there were, the first event behind which they differ, and the sweeps.
+/// What the judge and the plain count of a network come to behind `count` events of its rounds: the
+/// number of events, the first one behind which they differ, and the sweeps.
 fn compared(alloc: Global, net: &Net, count: usize) -> Result<(usize, Option<usize>, u64), Fail> {
     let round = round_of(alloc, net)?;
     let events = rounds_with_gaps(alloc, &round, count)?;

@@ -32,18 +32,19 @@ fn led_to(alloc: Global, world: &mut World, events: &str) -> Result<Option<Outco
     })
 }
 
-/// Holds that two nodes come through each stage.
-fn all_hold(rt: &(impl Eprint + AllocGlobal + Abort), stages: &[Stage<'_>]) -> Result<(), Fail> {
-    let net = net_of(rt.alloc(), 2, 0, &[(0, 1)])?;
-    let mut world = start(rt.alloc(), &net)?;
+/// The place of the first stage through which a world does not come so, if there is one.
+fn first_unlike(
+    alloc: Global,
+    world: &mut World,
+    stages: &[Stage<'_>],
+) -> Result<Option<usize>, Fail> {
     for (at, stage) in stages.iter().enumerate() {
-        assert_eq!(rt;
-            led_to(rt.alloc(), &mut world, stage.events)?,
-            Some((stage.counted, Some(stage.far))),
-            "stage {at}"
-        );
+        let want = Some((stage.counted, Some(stage.far)));
+        if led_to(alloc, world, stage.events)? != want {
+            return Ok(Some(at));
+        }
     }
-    Ok(())
+    Ok(None)
 }
 
 #[test]
@@ -75,5 +76,7 @@ fn the_token_goes_to_the_other_node_in_three_rounds(rt: HostRuntime) -> Result<(
             far: (1, Some(0), true),
         },
     ];
-    all_hold(&rt, &stages)
+    let mut world = two_nodes(rt.alloc(), rt.alloc())?;
+    assert_eq!(rt; first_unlike(rt.alloc(), &mut world, &stages)?, None);
+    Ok(())
 }

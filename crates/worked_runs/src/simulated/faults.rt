@@ -67,7 +67,7 @@ fn are_refusals(alloc: Global, taken: &[u8], bytes: usize) -> Result<bool, Alloc
     Ok(taken == refusals_within(alloc, bytes)?.as_bytes())
 }
 
-/// Simulates with a read that fails behind so many others: then the refusals of whole lines stand
+/// Simulates with a read that fails behind `calls` others: then the refusals of whole lines stand
 /// there, and else all.
 fn with_a_failing_read(
     alloc: Global,
@@ -91,7 +91,7 @@ fn with_a_failing_read(
     })
 }
 
-/// Simulates with a write that fails behind so many others: then a beginning of the output stands
+/// Simulates with a write that fails behind `calls` others: then a beginning of the output stands
 /// there, and else all.
 fn with_a_failing_write(
     alloc: Global,
@@ -153,7 +153,7 @@ fn a_write_that_fails_leaves_a_beginning(rt: HostRuntime) -> Result<(), Fail> {
     Ok(())
 }
 
-/// Simulates into a sink with so much room. What is answered, and whether the room is filled.
+/// Simulates into a sink with `room` bytes. What is answered, and whether all of them are filled.
 fn with_room(
     alloc: Global,
     net: &Net,
@@ -181,7 +181,7 @@ fn a_sink_with_too_little_room_is_filled(rt: HostRuntime) -> Result<(), Fail> {
     Ok(())
 }
 
-/// Simulates on a heap of so many bytes. What is answered, and how much of the heap stays taken.
+/// Simulates on a heap of this size in `bytes`. What is answered, and how much of it stays taken.
 fn on_a_heap(
     alloc: Global,
     net: &Net,
@@ -240,8 +240,8 @@ impl Source for LongText {
     }
 }
 
-/// Simulates a text with a line that is refused, of so many bytes. What is answered, and whether this
-/// is written.
+/// Simulates a text of `bytes` bytes with a line that is refused. What is answered, and whether
+/// `want` is written.
 fn with_long_text(
     alloc: Global,
     net: &Net,

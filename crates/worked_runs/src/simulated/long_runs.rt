@@ -29,18 +29,35 @@ pub fn lines_begin(text: &str, beginnings: &[&str]) -> bool {
     true
 }
 
-/// Holds that it ends so.
-fn holds(rt: &(impl Eprint + AllocGlobal + Abort), run: &LongRun<'_>) -> Result<(), Fail> {
-    let (net, text) = parts_of(rt.alloc(), run)?;
-    assert_eq!(rt; text.lines().count(), run.lines);
+/// How many lines the text of a run has, and the first size of pieces in which it does not end so.
+fn told_of(alloc: Global, run: &LongRun<'_>) -> Result<(usize, Option<usize>), Fail> {
+    let (net, text) = parts_of(alloc, run)?;
+    let first = first_unsettled(alloc, &net, &text, run)?;
+    Ok((text.lines().count(), first))
+}
+
+/// The first size of pieces in which the text of a run does not end so, if there is one.
+fn first_unsettled(
+    alloc: Global,
+    net: &Net,
+    text: &str,
+    run: &LongRun<'_>,
+) -> Result<Option<usize>, Fail> {
     let summary = Summary {
         refused: 0,
         sweeps: run.rounds as u64,
     };
     for piece in PIECES {
-        let found = settled(rt.alloc(), &net, &text, piece, run)?;
-        assert_eq!(rt; found, (summary, true), "in pieces of {piece}");
+        if settled(alloc, net, text, piece, run)? != (summary, true) {
+            return Ok(Some(piece));
+        }
     }
+    Ok(None)
+}
+
+/// Holds that it ends so.
+fn holds(rt: &(impl Eprint + AllocGlobal + Abort), run: &LongRun<'_>) -> Result<(), Fail> {
+    assert_eq!(rt; told_of(rt.alloc(), run)?, (run.lines, None));
     Ok(())
 }
 

@@ -1,6 +1,7 @@
 //! The text that shows a world.
 use super::*;
 use crate::worlds::{start, told};
+use topology::NetFault;
 
 /// A world of two nodes with a frame under way, shown with 7 sweeps.
 const SHOWN: &str = "\
@@ -26,41 +27,66 @@ fn show(world: &World, sweeps: u64, sink: &mut MemorySink) -> Result<(), SimFaul
     state_text(world, sweeps, sink)
 }
 
-#[test]
-fn a_world_is_shown_as_far_as_there_is_room(rt: HostRuntime) -> Result<(), Fail> {
-    let mut world = start(rt.alloc(), &two_nodes(rt.alloc(), 0)?)?;
-    assert!(rt; all_happen(&mut world, &["send 0 1", "ask 1 9"]));
+/// What is answered where a world is shown into `room` bytes, and whether the front of its text
+/// fills them.
+fn shown_into(
+    alloc: Global,
+    world: &World,
+    room: usize,
+) -> Result<(Result<(), SimFault>, bool), AllocError> {
+    let mut sink = MemorySink::new(alloc, room)?;
+    let answer = show(world, 7, &mut sink);
+    let is_filled = sink.taken().len() == room && SHOWN.as_bytes().starts_with(sink.taken());
+    Ok((answer, is_filled))
+}
+
+/// The first number of bytes into which a world is not shown as far as there is room.
+fn first_wrong_room(alloc: Global, world: &World) -> Result<Option<usize>, AllocError> {
     for room in 0..=SHOWN.len() {
-        let mut sink = MemorySink::new(rt.alloc(), room)?;
-        let answer = show(&world, 7, &mut sink);
         let want = if room < SHOWN.len() {
             Err(SimFault::Write)
         } else {
             Ok(())
         };
-        assert_eq!(rt; answer, want, "with room for {room} bytes");
-        assert_eq!(rt; sink.taken(), &SHOWN.as_bytes()[..room]);
+        if shown_into(alloc, world, room)? != (want, true) {
+            return Ok(Some(room));
+        }
     }
+    Ok(None)
+}
+
+/// The default world of a network.
+fn world_of(alloc: Global, net: Result<Net, NetFault>) -> Result<World, Fail> {
+    let net = net?;
+    Ok(start(alloc, &net)?)
+}
+
+#[test]
+fn a_world_is_shown_as_far_as_there_is_room(rt: HostRuntime) -> Result<(), Fail> {
+    let mut world = world_of(rt.alloc(), net_of(rt.alloc(), 2, 0, &[(0, 1)]))?;
+    let are_accepted = all_happen(&mut world, &["send 0 1", "ask 1 9"]);
+    let found = (are_accepted, first_wrong_room(rt.alloc(), &world)?);
+    assert_eq!(rt; found, (true, None));
     Ok(())
 }
 
-/// What is shown of a world behind the event of each line; nothing where one of them is refused.
-fn shown_behind(alloc: Global, net: &Net, lines: &[&str]) -> Result<MemorySink, Fail> {
-    let mut world = start(alloc, net)?;
+/// Whether a world is shown so behind the event of each line, none of which is refused.
+fn is_shown_behind(
+    alloc: Global,
+    world: &mut World,
+    lines: &[&str],
+    want: &str,
+) -> Result<bool, AllocError> {
     let mut sink = MemorySink::new(alloc, ROOM)?;
-    if all_happen(&mut world, lines) {
-        show(&world, 0, &mut sink)?;
-    }
-    Ok(sink)
+    let is_whole = all_happen(world, lines) && show(world, 0, &mut sink) == Ok(());
+    Ok(is_whole && sink.taken() == want.as_bytes())
 }
 
 #[test]
 fn links_stand_by_source_and_then_destination(rt: HostRuntime) -> Result<(), Fail> {
-    let net = Net::make(rt.alloc(), 3, 2, 4, 0, &[(2, 1), (0, 2)])?;
     let lines = [
         "send 2 0", "send 2 1", "send 2 1", "send 1 2", "send 1 2", "send 1 2",
     ];
-    let sink = shown_behind(rt.alloc(), &net, &lines)?;
     // 4(4+1) + 4(3+1) + 48 * 2 * 2 + 1
     let want = "\
 node 0 distance 3 parent none token no lent none waiting 0
@@ -73,6 +99,8 @@ link 2 1 items 2
 privileged 0 lending 0
 sweeps 0 of 229
 ";
-    assert_eq!(rt; sink.taken(), want.as_bytes());
+    let net = Net::make(rt.alloc(), 3, 2, 4, 0, &[(2, 1), (0, 2)]);
+    let mut world = world_of(rt.alloc(), net)?;
+    assert!(rt; is_shown_behind(rt.alloc(), &mut world, &lines, want)?);
     Ok(())
 }
