@@ -1,7 +1,7 @@
 //! Runs of events, judged: what they lead to was worked out by hand. A row tells its events as a
 //! text, a line each.
 use crate::texts::{FORGED, ROUND, round_of};
-use crate::worlds::{event_of, net_of, start, step, told};
+use crate::worlds::{event_of, first_unlike, net_of, start, step};
 use run_model::{Event, EventFault};
 use std::alloc::{AllocFailed, Allocator, Global};
 use std::process::Abort;
@@ -32,7 +32,7 @@ fn looked<A: Allocator + Copy>(judge: &mut Judge<A>, event: &Event) -> Option<u3
 }
 
 /// The default world of two nodes over links of one place.
-fn two_nodes<A: Allocator + Copy>(alloc: Global, of: A) -> Result<World<A>, Fail> {
+fn world_of_two<A: Allocator + Copy>(alloc: Global, of: A) -> Result<World<A>, Fail> {
     let net = net_of(alloc, 2, 0, &[(0, 1)])?;
     Ok(start(of, &net)?)
 }
@@ -132,21 +132,8 @@ fn what_serves_and_what_does_not(rt: HostRuntime) -> Result<(), Fail> {
     Ok(())
 }
 
-/// The first line that a world does not answer so, if there is one.
-fn first_unlike<'r>(
-    world: &mut World,
-    rows: &[(&'r str, Result<(), EventFault>)],
-) -> Option<&'r str> {
-    for (line, answer) in rows {
-        if told(world, line) != Some(*answer) {
-            return Some(line);
-        }
-    }
-    None
-}
-
 /// The default world of three nodes in a line.
-fn line_of_three(alloc: Global) -> Result<World, Fail> {
+fn world_of_three(alloc: Global) -> Result<World, Fail> {
     let net = net_of(alloc, 3, 0, &[(0, 1), (1, 2)])?;
     Ok(start(alloc, &net)?)
 }
@@ -170,7 +157,7 @@ fn each_refusal_has_its_name(rt: HostRuntime) -> Result<(), Fail> {
         ("leave 0 6", Err(EventFault::Stranger)),
         ("leave 0 5", Ok(())),
     ];
-    let mut world = line_of_three(rt.alloc())?;
+    let mut world = world_of_three(rt.alloc())?;
     assert_eq!(rt; first_unlike(&mut world, &rows), None);
     Ok(())
 }
@@ -190,7 +177,7 @@ fn all_looked(judge: &mut Judge, events: &[Event]) -> (u32, [Option<u32>; 11]) {
 fn looks(alloc: Global) -> Result<(u32, [Option<u32>; 11]), Fail> {
     let mut events = events_of(alloc, ROUND)?;
     push_events(&mut events, "harm junk 0 1")?;
-    let mut judge = Judge::new(two_nodes(alloc, alloc)?);
+    let mut judge = Judge::new(world_of_two(alloc, alloc)?);
     Ok(all_looked(&mut judge, &events))
 }
 

@@ -1,7 +1,7 @@
 //! What takes no memory: edges that join and go, and the text of a world, on a heap without a free
 //! byte.
 use crate::full_heap::on_full;
-use crate::worlds::{event_of, net_of, told};
+use crate::worlds::{event_of, first_unlike, net_of};
 use linked_list_allocator::LocalHeap;
 use run_model::EventFault;
 use std::alloc::{Allocator, Global};
@@ -59,15 +59,6 @@ fn with_a_spare<A: Allocator + Copy>(alloc: Global, of: A) -> Result<World<A>, F
     Ok(World::with_spares(of, &net, 1)?)
 }
 
-/// Whether a world answers each change as it is told.
-fn all_answered<A: Allocator + Copy>(world: &mut World<A>) -> bool {
-    let mut well = true;
-    for (line, answer) in CHANGES {
-        well &= told(world, line) == Some(answer);
-    }
-    well
-}
-
 /// What a judge answers to the event of a line; none where the line spells none.
 fn judged<A: Allocator + Copy>(judge: &mut Judge<A>, line: &str) -> Option<Result<(), EventFault>> {
     let event = event_of(line)?;
@@ -99,7 +90,9 @@ fn is_shown_behind_changes<A: Allocator + Copy>(
     world: &mut World<A>,
     sink: &mut MemorySink<A>,
 ) -> bool {
-    all_answered(world) && show(world, sink) == Ok(()) && sink.taken() == SHOWN.as_bytes()
+    first_unlike(world, &CHANGES).is_none()
+        && show(world, sink) == Ok(())
+        && sink.taken() == SHOWN.as_bytes()
 }
 
 /// Whether a world on a heap is shown so, and how much the heap had left.

@@ -53,3 +53,16 @@ pub fn happen<A: Allocator + Copy>(world: &mut World<A>, events: &[Event]) -> bo
     }
     accepted
 }
+
+/// The place of the first line that a world does not answer so, if there is one.
+pub fn first_unlike<A: Allocator + Copy>(
+    world: &mut World<A>,
+    rows: &[(&str, Result<(), EventFault>)],
+) -> Option<usize> {
+    for (at, (line, answer)) in rows.iter().enumerate() {
+        if told(world, line) != Some(*answer) {
+            return Some(at);
+        }
+    }
+    None
+}

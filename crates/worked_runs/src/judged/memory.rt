@@ -56,7 +56,7 @@ fn takes_each_kind_on_full(alloc: Global, heap: &LocalHeap) -> Result<(bool, usi
     let mut forged = events_of(alloc, FORGED)?;
     push_events(&mut forged, ROUND)?;
     let others = events_of(alloc, OTHERS)?;
-    let mut world = two_nodes(alloc, heap)?;
+    let mut world = world_of_two(alloc, heap)?;
     on_full(
         alloc,
         heap,

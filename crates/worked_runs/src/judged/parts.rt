@@ -38,7 +38,7 @@ fn the_token_goes_over_in_three_rounds_of_a_world_taken_apart_after_each_event(
     rt: HostRuntime,
 ) -> Result<(), Fail> {
     let round = events_of(rt.alloc(), ROUND)?;
-    let world = two_nodes(rt.alloc(), rt.alloc())?;
+    let world = world_of_two(rt.alloc(), rt.alloc())?;
     assert!(rt; goes_over(world, &round));
     Ok(())
 }
@@ -46,7 +46,7 @@ fn the_token_goes_over_in_three_rounds_of_a_world_taken_apart_after_each_event(
 /// Whether that is so of a world on a heap, and how much the heap had left.
 fn goes_over_on_full(alloc: Global, heap: &LocalHeap) -> Result<(bool, usize), Fail> {
     let round = events_of(alloc, ROUND)?;
-    let world = two_nodes(alloc, heap)?;
+    let world = world_of_two(alloc, heap)?;
     on_full(alloc, heap, || goes_over(world, &round))
 }
 

@@ -76,7 +76,7 @@ fn the_token_goes_to_the_other_node_in_three_rounds(rt: HostRuntime) -> Result<(
             far: (1, Some(0), true),
         },
     ];
-    let mut world = two_nodes(rt.alloc(), rt.alloc())?;
+    let mut world = world_of_two(rt.alloc(), rt.alloc())?;
     assert_eq!(rt; first_unlike(rt.alloc(), &mut world, &stages)?, None);
     Ok(())
 }

@@ -2,7 +2,7 @@
 use super::long_runs::lines_begin;
 use super::*;
 use crate::texts::round_of;
-use crate::worlds::{simulated_start, told};
+use crate::worlds::{self, simulated_start};
 use run_model::EventFault;
 
 /// A square: node 3 lies opposite the root.
@@ -137,16 +137,6 @@ const ON_THE_STAR: [(&str, Result<(), EventFault>); 14] = [
     ("harm join 1 10", Err(EventFault::OutOfRange)),
 ];
 
-/// The place of the first line that a world does not answer so, if there is one.
-fn first_unlike(world: &mut World) -> Option<usize> {
-    for (at, (line, answer)) in ON_THE_STAR.iter().enumerate() {
-        if told(world, line) != Some(*answer) {
-            return Some(at);
-        }
-    }
-    None
-}
-
 /// The star as a simulation begins it.
 fn star_world(alloc: Global) -> Result<World, Fail> {
     let net = star(alloc)?;
@@ -156,7 +146,8 @@ fn star_world(alloc: Global) -> Result<World, Fail> {
 #[test]
 fn an_edge_that_goes_leaves_its_links_to_the_next(rt: HostRuntime) -> Result<(), Fail> {
     let mut world = star_world(rt.alloc())?;
-    let found = (first_unlike(&mut world), world.net().edges().len());
+    let unlike = worlds::first_unlike(&mut world, &ON_THE_STAR);
+    let found = (unlike, world.net().edges().len());
     assert_eq!(rt; found, (None, 71));
     Ok(())
 }
