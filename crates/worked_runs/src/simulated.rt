@@ -112,7 +112,7 @@ fn simulated_as(
 }
 
 /// The first size of pieces in which a text is not told as this, with this output.
-fn first_unlike(
+fn first_unlike_piece(
     alloc: Global,
     net: &Net,
     text: &str,
@@ -135,7 +135,7 @@ fn row_fails(alloc: Global, row: &Row<'_>) -> Result<Option<usize>, Fail> {
         refused: row.refusals.lines().count() as u64,
         sweeps: row.sweeps,
     };
-    first_unlike(alloc, &net, &text, (summary, &output))
+    first_unlike_piece(alloc, &net, &text, (summary, &output))
 }
 
 /// Holds that each text leads to its output.

@@ -33,7 +33,7 @@ fn led_to(alloc: Global, world: &mut World, events: &str) -> Result<Option<Outco
 }
 
 /// The place of the first stage through which a world does not come so, if there is one.
-fn first_unlike(
+fn first_unlike_stage(
     alloc: Global,
     world: &mut World,
     stages: &[Stage<'_>],
@@ -77,6 +77,6 @@ fn the_token_goes_to_the_other_node_in_three_rounds(rt: HostRuntime) -> Result<(
         },
     ];
     let mut world = world_of_two(rt.alloc(), rt.alloc())?;
-    assert_eq!(rt; first_unlike(rt.alloc(), &mut world, &stages)?, None);
+    assert_eq!(rt; first_unlike_stage(rt.alloc(), &mut world, &stages)?, None);
     Ok(())
 }
