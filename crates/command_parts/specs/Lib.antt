@@ -1,5 +1,6 @@
 pub mod NetworkFile
 pub mod SimulationFault
+pub mod Simulated
 pub mod FaultText
 pub mod PathFaultText
 pub mod EventText

@@ -1,5 +1,6 @@
 //! What the commands of `tokentree` have in common: why they end without their work, the files that
-//! they read, the ends of what they read and write, and a line that tells how far they are.
+//! they read, the ends of what they read and write, a simulation between such ends, and a line that
+//! tells how far they are.
 //!
 //! ```
 //! let net = read_network(rt, "two-nodes.toml")?;       // or a `Fault`
@@ -18,6 +19,7 @@ mod network_file;
 mod number;
 mod path_fault;
 mod progress;
+mod simulation;
 mod streams;
 
 pub use event_text::EventText;
@@ -26,4 +28,5 @@ pub use network_file::{network_of, read_network};
 pub use number::decimal_number;
 pub use path_fault::PathFault;
 pub use progress::Progress;
+pub use simulation::{STANDARD_INPUT, events_status, simulate_between};
 pub use streams::{Flush, ReadSource, WriteSink};

@@ -42,6 +42,10 @@ fn bytes_of<R: Files + AllocGlobal>(rt: &R, path: &str) -> io::Result<Vec<u8>> {
 }
 
 /// The network of the bytes of a file.
+///
+/// # Errors
+/// `NetworkUnreadable` where there are more than 1,048,576 bytes; else `Network`, with `NotToml`
+/// where they are no UTF-8, and with the fault of the text.
 pub fn network_of(alloc: Global, bytes: &[u8]) -> Result<Net, Fault>
     ensures ok { IfOk result (IsNetworkOf bytes.now) }
     ensures err { IfErr result (IsRefusedFor bytes.now) }

@@ -16,7 +16,7 @@ use Rattle.run_model.specs.declared.event.EventFault.{EventFault}
 use Rattle.run_model.specs.declared.event.EventFault.TheVariants.{OutOfRange, NoSpare, Apart}
 use Rattle.run_model.specs.declared.event.Harm.{Harm}
 use Rattle.run_model.specs.declared.event.Harm.TheVariants as harm
-use Rattle.configuration.specs.LinksView.{LinksView, spare_pairs, under_way}
+use Rattle.network_links.specs.LinksView.{LinksView, spare_pairs, under_way}
 use Rattle.configuration.specs.ConfigurationView.{ConfigurationView, states_of, world_of}
 use Rattle.configuration.specs.Answers.{Answers}
 use Rattle.configuration.proofs.WorldSteps.{first-none, refused, step-refused}

@@ -12,7 +12,7 @@ use Rattle.run_model.specs.declared.event.Harm.{Harm}
 use Rattle.run_model.specs.declared.event.Harm.TheVariants as harm
 use Rattle.link_model.specs.declared.item.Item.{Item}
 use Rattle.topology.specs.Ranges.{ranges_of}
-use Rattle.configuration.specs.LinksView.{LinksView, under_way}
+use Rattle.network_links.specs.LinksView.{LinksView, under_way}
 use Rattle.configuration.specs.ConfigurationView.{ConfigurationView, world_of}
 use Rattle.configuration.proofs.NodePlaces.{IsNodeAt}
 use Rattle.run_model.specs.declared.happened.Happened.{Happened}

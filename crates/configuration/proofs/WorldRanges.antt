@@ -9,8 +9,8 @@ use Rattle.run_model.specs.World.{IsWorldInRange, item_fits}
 use Rattle.node_core.specs.Site.{site_of}
 use Rattle.node_core.specs.State.{IsNodeInRange}
 use Rattle.node_core.specs.View.{NodeView, site_in, state_of}
-use Rattle.configuration.specs.LinksView.{IsLinks, link_between, under_way}
-use Rattle.configuration.specs.PairTable.{value_at}
+use Rattle.network_links.specs.LinksView.{IsLinks, link_between, under_way}
+use Rattle.network_links.specs.PairTable.{value_at}
 use Rattle.configuration.specs.ConfigurationView.{ConfigurationView, AreNodesOf, node_at, states_of, world_of}
 use Rattle.topology.specs.Laws.{JoinedAreNodes}
 

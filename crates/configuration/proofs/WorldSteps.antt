@@ -18,7 +18,7 @@ use Rattle.run_model.specs.declared.event.EventFault.{EventFault}
 use Rattle.run_model.specs.declared.event.EventFault.TheVariants.{NoItem, OutOfRange, Stranger}
 use Rattle.run_model.specs.declared.event.Event.{Event}
 use Rattle.run_model.specs.declared.event.Event.TheVariants.{Send, Take, Lose, Tick, Ask, Leave}
-use Rattle.configuration.specs.LinksView.{LinksView, spare_pairs, under_way}
+use Rattle.network_links.specs.LinksView.{LinksView, spare_pairs, under_way}
 use Rattle.configuration.specs.ConfigurationView.{ConfigurationView, states_of, world_of}
 use Rattle.run_model.specs.Happened.{happened, taken_of}
 use Rattle.run_model.specs.declared.happened.Happened.{Happened}

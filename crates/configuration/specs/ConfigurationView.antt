@@ -8,7 +8,7 @@ use Rattle.node_core.specs.State.{LocalState, default_node}
 use Rattle.node_core.specs.View.{NodeView, site_in, state_of}
 use Rattle.lock_desk.specs.Desk.{no_desk}
 use Rattle.run_model.specs.World.{World}
-use Rattle.configuration.specs.LinksView.{LinksView, spare_pairs, under_way}
+use Rattle.network_links.specs.LinksView.{LinksView, spare_pairs, under_way}
 
 -- the nodes by their ids, and the links between them, which know the network
 pub record ConfigurationView : Type 0 where

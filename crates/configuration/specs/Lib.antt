@@ -1,6 +1,6 @@
-pub mod PairTable
-pub mod Placed
-pub mod LinksView
 pub mod ConfigurationView
 pub mod Rewired
 pub mod Answers
+pub use Rattle.network_links.specs.PairTable
+pub use Rattle.network_links.specs.Placed
+pub use Rattle.network_links.specs.LinksView

@@ -17,9 +17,9 @@ ghost use Rattle.configuration.specs.Answers.{Answers};
 
 mod harms;
 
-use crate::links::Links;
 use link_model::{Item, NoItem};
 use lock_desk::{AskFault, Stranger};
+use network_links::Links;
 use node_core::Node;
 use run_model::{Event, EventFault, Happened};
 use std::alloc::{AllocError, Allocator, Global};

@@ -15,9 +15,6 @@
 #![tactic(auto)]
 
 mod configuration;
-mod links;
-mod pair_table;
 
 pub use configuration::Configuration;
-pub use links::Links;
-pub use pair_table::PairTable;
+pub use network_links::{Links, PairTable};

@@ -49,6 +49,9 @@ impl<A: Allocator + Copy> World<A> {
     }
 
     /// The same with spare pairs of links, each for one edge more than there are; at most 256.
+    ///
+    /// # Errors
+    /// Where memory runs out.
     pub fn with_spares<N: Allocator + Copy>(
         alloc: A,
         net: &Net<N>,

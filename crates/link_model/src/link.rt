@@ -104,6 +104,9 @@ impl<A: Allocator> Link<A> {
 
     /// Loses the item at an index, where 0 is the oldest; the others keep their order.
     /// Each item is taken from the front once, and all but the lost one are put at the back again.
+    ///
+    /// # Errors
+    /// `NoItem` where no item stands at the index; then nothing has changed.
     pub fn lose(&mut self, index: usize) -> Result<(), NoItem>
         // There is an item to lose exactly where the index is below their number.
         ensures variant { IsOk result ↔ (index < length self.old.items) }

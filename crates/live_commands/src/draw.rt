@@ -1,8 +1,5 @@
 //! `draw FILE EVENTS`: a picture of the run that a list of events makes on a network.
-ghost use Rattle.std.specs.Prelude.{◌≡◌, if◌then◌else◌, ◌==◌};
-ghost use Rattle.std.specs.Process.{exit_status};
-
-use command_parts::{Fault, ReadSource, read_network};
+use command_parts::{Fault, ReadSource, STANDARD_INPUT, events_status, read_network};
 use run_picture::{Recording, Window, draw, record, spelled};
 use std::alloc::{AllocError, Global};
 use std::fs;
@@ -14,12 +11,6 @@ use world::streams::Source;
 
 /// The most columns of a picture.
 pub const MOST_COLUMNS: u16 = 1200;
-
-/// The name of standard input.
-const STANDARD_INPUT: &str = "-";
-
-/// The status where a line was refused.
-const LINES_REFUSED: u8 = 3;
 
 /// What is to be drawn of a run.
 #[derive(Clone, Copy)]
@@ -71,7 +62,7 @@ pub fn write_picture<S: Source, W: Write>(
     let columns = usize::from(wanted.columns.max(1));
     let recording = record(alloc, net, source, columns, wanted.window)?;
     match picture(alloc, net, &recording) {
-        Ok(text) => put(output, text.as_slice(), status(recording.refused())),
+        Ok(text) => put(output, text.as_slice(), events_status(recording.refused())),
         Err(_) => Err(Fault::Memory),
     }
 }
@@ -87,16 +78,5 @@ fn put<W: Write>(output: &mut W, text: &[u8], status: ExitCode) -> Result<ExitCo
     match output.write_all(text) {
         Ok(()) => Ok(status),
         Err(_) => Err(Fault::Output),
-    }
-}
-
-/// The status of a picture that was printed, where as many lines were refused.
-fn status(refused: u64) -> ExitCode
-    ensures { exit_status result ≡ (if refused == 0 then 0 else 3) }
-{
-    if refused == 0 {
-        ExitCode::SUCCESS
-    } else {
-        ExitCode::from(LINES_REFUSED)
     }
 }

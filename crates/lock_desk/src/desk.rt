@@ -44,6 +44,9 @@ impl<A: Allocator> Model for Desk<A> {
 impl<A: Allocator> Desk<A> {
     /// A desk at which nobody asked, with loans of this many ticks; 0 is no limit. All places are
     /// reserved here.
+    ///
+    /// # Errors
+    /// Where memory runs out.
     pub fn new(alloc: A, lease: u16) -> Result<Desk<A>, AllocError>
         ensures { IfOk result (λ desk. desk ≡ record { lease = lease; state = no_desk }) }
     {

@@ -127,7 +127,8 @@ impl<D: Doors, S: Store + Drop, A: Allocator + Copy> NodeRun<D, S, A> {
     }
 
     /// One turn, by the plan that the pace makes in it: whether to tick once all that came was
-    /// taken, and where to offer frames once the node has ticked.
+    /// taken, and where to offer frames once the node has ticked. `now` is microseconds of a clock
+    /// that never goes back.
     pub fn turn(&mut self, now: u64) -> Turned
         // It is a turn by some plan.
         ensures node { Turns (is_some result.ticked) self.old.node self.new.node }
@@ -163,7 +164,8 @@ impl<D: Doors, S: Store + Drop, A: Allocator + Copy> NodeRun<D, S, A> {
         }
     }
 
-    /// One turn by a plan that was made before it. Its offers are by the neighbour's id.
+    /// One turn by a plan that was made before it. Its offers are by the neighbour's id; `now` is as
+    /// for [`NodeRun::turn`].
     pub fn turn_by(&mut self, plan: &Plan, now: u64) -> Turned
         ensures node { Turns plan.now.ticks self.old.node self.new.node }
         ensures ticked { is_some result.ticked ≡ plan.now.ticks }
@@ -253,7 +255,7 @@ impl<D: Doors, S: Store + Drop, A: Allocator + Copy> NodeRun<D, S, A> {
         ticked
     }
 
-    /// What the pace would do now.
+    /// What the pace would do now, in microseconds as for [`NodeRun::turn`].
     pub fn plan(&self, now: u64) -> Plan
         ensures { IsPlanOf now
             (record {

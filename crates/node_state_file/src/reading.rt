@@ -26,7 +26,7 @@ use topology::{Net, Ranges};
 /// empty.
 ///
 /// # Errors
-/// The first that holds, in the order of [`FileFault`]'s rule: `Short` under 4 bytes; `Magic`;
+/// The first that holds, looked for in this order: `Short` under 4 bytes; `Magic`;
 /// `Short` under the header's length; `Shape` where the header is of another network or node;
 /// `Short` under what the file's own degree asks for; `Shape` where the neighbours are no ascending
 /// other nodes; `Range`; `Long`. `Memory` comes at any point.

@@ -78,7 +78,7 @@ impl Pace {
         }
     }
 
-    /// A port has a new connection: what was given and heard there counts for nothing.
+    /// A port, 0 to 63, has a new connection: what was given and heard there counts for nothing.
     pub fn attached(&mut self, port: usize)
         requires { port < 64 }
         ensures port { port_of self.new.ports port ≡ fresh_port }
@@ -88,7 +88,7 @@ impl Pace {
         self.ports[port] = PortPace::new();
     }
 
-    /// A port was given a frame.
+    /// A port, 0 to 63, was given a frame, at `now` microseconds of a clock that never goes back.
     pub fn gave(&mut self, port: usize, frame: &Frame, now: u64)
         requires { port < 64 }
         ensures port { port_of self.new.ports port

@@ -11,6 +11,10 @@ use std::process::ExitCode;
 use std::rt::Env;
 
 /// The program's own words, or the status of a program that cannot read them.
+///
+/// # Errors
+/// Status 1 (of `lock` 125) where memory runs out, 2 where a word is no text; either is told on
+/// standard error.
 pub fn own_words<R: Env + Eprint + AllocGlobal>(rt: &R) -> Result<Vec<String>, ExitCode> {
     match std::env::args(rt) {
         Ok(arguments) => {

@@ -2,12 +2,13 @@
 use Rattle.std.proofs.Common.{◌≡◌, ◌∙◌, ap, sym, subst, refl, ℕ, zero, suc, ◌+◌, ◌<◌, ◌≤◌, List, [], ◌∷◌, ◌++◌, length, take, map, slice_index_or, append_assoc, codes, decimal, Result, Ok, Err, OnOk, arith}
 use Rattle.std.proofs.lemmas.Grind.{common_steps}
 use Rattle.std.proofs.lemmas.List.{append-nil, length-take-le}
-use Rattle.run_picture.specs.declared.column.Column.{Column}
+use Rattle.run_recording.specs.declared.column.Column.{Column}
 use Rattle.run_picture.specs.declared.layout.page.Page.{Page}
 use Rattle.std.specs.List.{flat_map}
 use Rattle.run_picture.specs.declared.layout.curves.Curve.TheVariants.{Privileged, Lending}
-use Rattle.run_picture.specs.Drawn.{Shown, path_shown}
-use Rattle.run_picture.specs.Page.{px, ground_of, level_of}
+use Rattle.svg_drawing.specs.Drawn.{Shown, path_shown}
+use Rattle.svg_drawing.specs.Lengths.{px}
+use Rattle.run_picture.specs.Page.{ground_of, level_of}
 use Rattle.run_picture.specs.Curves.{first_count, step_in, steps_from, curve_steps, most_nodes, count_in, node_height, privileged_pen, lending_pen, both_curves}
 use Rattle.run_picture.specs.Curves.{curves_shown, level_shown, names_shown, levels_shown}
 

@@ -1,15 +1,10 @@
--- What is drawn, element by element.
-use Rattle.std.proofs.Common.{◌≡◌, ◌∙◌, ap, sym, subst, ℕ, suc, ◌+◌, ◌<◌, List, [], ◌∷◌, ◌++◌, length, take, slice_index_or, Result, OnOk, append_assoc, arith}
+-- What is drawn, item by item.
+use Rattle.std.proofs.Common.{◌≡◌, ◌∙◌, ap, sym, ℕ, suc, ◌+◌, ◌<◌, List, [], ◌∷◌, ◌++◌, length, take, slice_index_or, append_assoc, arith}
 use Rattle.std.specs.List.{flat_map}
 use Rattle.std.proofs.lemmas.List.{append-nil}
 use Rattle.std.proofs.lemmas.Grind.{flat_map-append}
 use Rattle.std.proofs.Math.Seq.{take-suc}
-use Rattle.run_picture.specs.Drawn.{Shown}
-
--- what was added is what is shown
-pub shown_as : {T E : Type 0} (result : Result T E) (now before : List Shown) (added shown : Shown) → added ≡ shown
-    → OnOk result (now ≡ before ++ added ∷ []) → OnOk result (now ≡ before ++ shown ∷ [])
-shown_as result now before added shown is there = subst (λ s. OnOk result (now ≡ before ++ s ∷ [])) is there
+use Rattle.svg_drawing.specs.Drawn.{Shown}
 
 -- behind what the first items show, the next one is drawn
 pub shown_next : {X : Type 0} (show : X → List Shown) (items : List X) (place : ℕ) (d : X) (start before after : List Shown) → place < length items

@@ -1,6 +1,6 @@
 -- Elements one over the other.
 use Rattle.std.proofs.Common.{◌≡◌, ◌∙◌, ap, List, [], ◌∷◌, ◌++◌, Result, Ok, Err, OnOk, append_assoc}
-use Rattle.run_picture.specs.Drawn.{Shown}
+use Rattle.svg_drawing.specs.Drawn.{Shown}
 
 four : {X : Type 0} (x₀ x₁ x₂ x₃ x₄ a b c d : List X) → x₁ ≡ x₀ ++ a → x₂ ≡ x₁ ++ b → x₃ ≡ x₂ ++ c → x₄ ≡ x₃ ++ d
     → x₄ ≡ x₀ ++ (a ++ (b ++ (c ++ d)))

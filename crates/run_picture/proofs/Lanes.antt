@@ -2,14 +2,14 @@
 use Rattle.std.proofs.Common.{◌≡◌, ◌∙◌, ap, sym, subst, ℕ, suc, ◌+◌, ◌<◌, List, [], ◌∷◌, ◌++◌, length, take, map, slice_index_or, append_assoc, arith}
 use Rattle.std.proofs.lemmas.List.{append-nil, length-take-le}
 use Rattle.std.proofs.Math.Seq.{take-suc, take-length}
-use Rattle.run_picture.specs.declared.column.Column.{Column}
+use Rattle.run_recording.specs.declared.column.Column.{Column}
 use Rattle.run_picture.specs.declared.layout.page.Page.{Page}
-use Rattle.run_picture.specs.declared.layout.runs.Run.{Run}
+use Rattle.run_recording.specs.declared.runs.Run.{Run}
 use Rattle.run_picture.specs.Added.{Adds}
-use Rattle.run_picture.specs.Drawn.{Shown}
+use Rattle.svg_drawing.specs.Drawn.{Shown}
 use Rattle.run_picture.specs.Lanes.{lane_shown, AreLanes}
 use Rattle.run_picture.specs.Lanes.AreLanes.{NoLane, Lane}
-use Rattle.run_picture.specs.Runs.{mark_in, AreRuns}
+use Rattle.run_recording.specs.Runs.{mark_in, AreRuns}
 
 -- nothing is drawn yet
 pub no_lanes : (page : Page) (columns : List Column) (old : List Shown) → Adds (AreLanes page columns 0 []) old old

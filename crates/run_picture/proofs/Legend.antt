@@ -1,11 +1,11 @@
 -- The legend, sign by sign.
 use Rattle.std.proofs.Common.{◌≡◌, ◌∙◌, ap, ℕ, ◌+◌, List, [], ◌∷◌, ◌++◌, append_assoc}
-use Rattle.run_picture.specs.declared.layout.canvas.Anchor.TheVariants.{Start}
-use Rattle.run_picture.specs.declared.layout.colours.Colour.TheVariants.{Ink}
+use Rattle.svg_drawing.specs.declared.canvas.Anchor.TheVariants.{Start}
+use Rattle.svg_drawing.specs.declared.colours.Colour.TheVariants.{Ink}
 use Rattle.run_picture.specs.declared.layout.legend.Sign.{Sign}
-use Rattle.run_picture.specs.Drawn.{Shown, words_shown}
+use Rattle.svg_drawing.specs.Drawn.{Shown, words_shown}
 use Rattle.run_picture.specs.Legend.{Meaning, sign_shown, room_of, behind, meanings_shown}
-use Rattle.run_picture.specs.Page.{px}
+use Rattle.svg_drawing.specs.Lengths.{px}
 
 -- a sign with its meaning, and behind it others
 pub first_meaning : (x y next_x next_y : ℕ) (sign : Sign) (words : List ℕ) (meanings : List Meaning) (old now new : List Shown)

@@ -2,7 +2,7 @@
 use Rattle.std.proofs.Common.{◌≡◌, ◌∙◌, ap, sym, refl, ℕ, suc, ◌+◌, ◌<◌, List, [], ◌∷◌, ◌++◌, length, take, slice_index_or, append_assoc, arith}
 use Rattle.std.proofs.lemmas.List.{append-nil, length-take-le}
 use Rattle.std.proofs.Math.Seq.{take-suc, take-length}
-use Rattle.run_picture.specs.declared.column.Column.{Column}
+use Rattle.run_recording.specs.declared.column.Column.{Column}
 use Rattle.run_picture.specs.Ruler.{over_each}
 
 -- one column more

@@ -1,7 +1,7 @@
 -- Parts are added one over the other.
 use Rattle.std.proofs.Common.{◌≡◌, ◌∙◌, ap, List, [], ◌∷◌, ◌++◌, Result, Ok, Err, OnOk, append_assoc}
 use Rattle.run_picture.specs.Added.{Adds}
-use Rattle.run_picture.specs.Drawn.{Shown}
+use Rattle.svg_drawing.specs.Drawn.{Shown}
 
 -- what is added, where it is what is said
 pub added_as : {T E : Type 0} (Are : List Shown → Type 0) (result : Result T E) (old new more : List Shown) → Are more

@@ -1,22 +1,22 @@
 -- The parts of a picture, one over the other.
 use Rattle.std.proofs.Common.{◌≡◌, ◌∙◌, ap, subst, ℕ, List, [], ◌++◌, length, append_assoc}
 use Rattle.topology.specs.Network.{Network}
-use Rattle.run_picture.specs.declared.column.Column.{Column}
+use Rattle.run_recording.specs.declared.column.Column.{Column}
 use Rattle.run_picture.specs.declared.layout.page.Page.{Page}
-use Rattle.run_picture.specs.declared.recording.Before.{Before}
+use Rattle.run_recording.specs.declared.recording.Before.{Before}
 use Rattle.run_picture.specs.Added.{Adds}
 use Rattle.run_picture.specs.Axis.{IsAxis}
 use Rattle.run_picture.specs.Curves.{curves_shown, levels_shown}
-use Rattle.run_picture.specs.Drawn.{Shown}
+use Rattle.svg_drawing.specs.Drawn.{Shown}
 use Rattle.run_picture.specs.Head.{head_shown, told_words}
 use Rattle.run_picture.specs.Lanes.{AreLanes}
 use Rattle.run_picture.specs.Legend.{legend_shown}
 use Rattle.run_picture.specs.Page.{page_of}
 use Rattle.run_picture.specs.Picture.{ShowsRun}
-use Rattle.run_picture.specs.Recordings.{RecordingView}
+use Rattle.run_recording.specs.Recordings.{RecordingView}
 use Rattle.run_picture.specs.Ruler.{IsRuler}
 use Rattle.run_picture.specs.Tree.{tree_shown}
-use Rattle.run_picture.specs.Visits.{first_visits}
+use Rattle.run_recording.specs.Visits.{first_visits}
 
 -- what the parts show, by what they are given
 abbrev Parts : Page → Network → List ℕ → List Column → ℕ → Before → List ℕ → List Shown → Type 0

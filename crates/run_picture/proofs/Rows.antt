@@ -1,51 +1,23 @@
 -- Small examples, by computation: some that hold, and some that do not.
-use Rattle.std.proofs.Common.{◌≡◌, ℕ, List, [], ◌∷◌, Some, length, codes, decimal, refl, sym, true, false, arith}
+use Rattle.std.proofs.Common.{◌≡◌, ℕ, List, [], ◌∷◌, Some, length, codes, decimal, refl, true, false, arith}
 use Rattle.std.specs.List.{flat_map}
 use Rattle.std.proofs.lemmas.Grind.{common_steps}
-use Rattle.topology.specs.Network.{Network, bound_of}
+use Rattle.topology.specs.Network.{bound_of}
 use Rattle.topology.specs.Eccentricity.{sharp_of}
-use Rattle.run_model.specs.World.{World}
-use Rattle.run_model.specs.declared.event.Event.{Event}
-use Rattle.run_picture.specs.Recordings.{moment_of, AreMoments, IsFirstHeld, IsBefore}
-use Rattle.run_picture.specs.Recordings.AreMoments.{Start}
-use Rattle.run_picture.specs.Recordings.IsFirstHeld.{AtStart, Behind}
-use Rattle.run_picture.specs.Visits.{first_of_each, first_visits}
 use Rattle.run_picture.specs.Page.{column_width, lane_height}
 use Rattle.run_picture.specs.Curves.{node_height, level_pen}
 use Rattle.run_picture.specs.Words.{column_words}
-use Rattle.run_picture.specs.Runs.{AreRuns}
 use Rattle.run_picture.specs.Ruler.{ended_in, guarantee_shown, guarantees_over}
 use Rattle.run_picture.specs.Axis.{round_number, axis_numbers, number_shown}
-use Rattle.run_picture.specs.Drawn.{Shown, line_shown, words_shown, whole}
+use Rattle.svg_drawing.specs.Drawn.{Shown, line_shown, words_shown, whole}
 use Rattle.run_picture.specs.Lanes.{bar, bars_shown, ticket_in, ticket_shown, AreLanes}
 use Rattle.run_picture.specs.Lanes.AreLanes.{NoLane, Lane}
-use Rattle.run_picture.specs.declared.layout.canvas.Anchor.TheVariants.{Middle}
-use Rattle.run_picture.specs.declared.layout.colours.Colour.TheVariants.{Ink, Red, Faint, Paper}
+use Rattle.svg_drawing.specs.declared.canvas.Anchor.TheVariants.{Middle}
+use Rattle.svg_drawing.specs.declared.colours.Colour.TheVariants.{Ink, Red, Faint, Paper}
 use Rattle.run_picture.specs.declared.layout.page.Page.{Page}
-use Rattle.run_picture.specs.declared.column.Column.{Column}
-use Rattle.run_picture.specs.declared.recording.Before.{Before}
-use Rattle.run_picture.specs.declared.window.Window.{Window}
-use Rattle.run_picture.specs.declared.mark.Mark.{Mark}
-use Rattle.run_picture.specs.declared.mark.Mark.TheVariants.{Settled, Wrong, Privileged, Lending}
-use Rattle.run_picture.specs.declared.layout.runs.Run.{Run}
-
--- ---- the order of the lanes
-
--- each where it stands first
-first_ones : first_of_each (0 ∷ 2 ∷ 0 ∷ 1 ∷ 3 ∷ 1 ∷ []) ≡ 0 ∷ 2 ∷ 1 ∷ 3 ∷ []
-first_ones = refl
-
--- and not by their numbers
-not_by_number : ¬ (first_of_each (0 ∷ 2 ∷ 0 ∷ 1 ∷ []) ≡ 0 ∷ 1 ∷ 2 ∷ [])
-not_by_number e = grind arith
-
--- the square 0-1, 0-2, 1-3, 2-3, where 3 has the parent 1
-abbrev square : Network
-square = record { nodes = 4; root = 0; capacity = 1; lease = 0; edges = (0, 1) ∷ (0, 2) ∷ (1, 3) ∷ (2, 3) ∷ [] }
-
--- the root's smallest child comes last, with what is below it
-square_lanes : first_visits square ≡ 0 ∷ 2 ∷ 1 ∷ 3 ∷ []
-square_lanes = refl
+use Rattle.run_recording.specs.declared.column.Column.{Column}
+use Rattle.run_recording.specs.declared.mark.Mark.TheVariants.{Privileged, Lending}
+use Rattle.run_recording.proofs.Rows.{run_of, square}
 
 -- ---- where things stand
 
@@ -72,49 +44,6 @@ one_event = refl
 -- what the headline of the square says behind `sweeps to recover` and `sharp`
 square_bounds : (bound_of square ≡ 461) × (sharp_of square ≡ 71)
 square_bounds = (refl, refl)
-
--- ---- runs
-
-abbrev run_of : ℕ → ℕ → Mark → Run
-run_of first count mark = record { first = first; count = count; mark = mark }
-
--- two columns settled, then one wrong
-two_runs : AreRuns (Settled ∷ Settled ∷ Wrong ∷ []) (run_of 0 2 Settled ∷ run_of 2 1 Wrong ∷ [])
-two_runs = record { are = refl; stand = (refl, omega arith, (refl, omega arith, tt)); apart = ((λ e. grind arith), tt) }
-
--- neighbours of one mark are one run
-no_torn_run : ¬ AreRuns (Settled ∷ Settled ∷ []) (run_of 0 1 Settled ∷ run_of 1 1 Settled ∷ [])
-no_torn_run runs = runs.apart.0 refl
-
--- a run does not go on under another mark
-no_swallowed_mark : ¬ AreRuns (Settled ∷ Wrong ∷ []) (run_of 0 2 Settled ∷ [])
-no_swallowed_mark runs = grind (arith, runs.are)
-
--- ---- what was before the first moment shown
-
-abbrev window_of : ℕ → ℕ → Window
-window_of from to = record { from = from; to = to }
-
-abbrev before_of : ℕ → ℕ → Before
-before_of events sweeps = record { events = events; sweeps = sweeps }
-
--- where the start is shown, nothing was before it
-none_before : (start : World) → IsBefore (window_of 0 9) start [] (before_of 0 0)
-none_before start = record { front = []; back = []; are = refl; first = AtStart (moment_of start false 0 0) Start; events_are = refl }
-
--- and no sweep was
-none_at_start : (window : Window) (start : World) (es : List Event) (sweeps : ℕ) → IsFirstHeld window start es sweeps → length es ≡ 0 → sweeps ≡ 0
-none_at_start window start es sweeps (AtStart moment are) none = refl
-none_at_start window start es sweeps (Behind e moment before are) none = grind (arith, common_steps)
-
-no_sweep_before : (window : Window) (start : World) → ¬ IsBefore window start [] (before_of 0 1)
-no_sweep_before window start before =
-    let none : 1 ≡ 0 = none_at_start window start before.front 1 before.first (sym before.events_are) in
-    omega (arith, none)
-
--- of a run without events nothing is shown from the first sweep on
-none_shown : (start : World) → AreMoments (window_of 1 9) start [] 0 []
-none_shown start = Start
 
 -- ---- sweeps
 

@@ -1,21 +1,18 @@
 -- Small examples of what is drawn, by computation: some that hold, and some that do not.
-use Rattle.std.proofs.Common.{◌≡◌, [], ◌∷◌, codes, refl, true, false, Some, None, arith}
+use Rattle.std.proofs.Common.{◌≡◌, [], ◌∷◌, codes, refl, Some, None, arith}
 use Rattle.topology.specs.Network.{Network}
-use Rattle.run_picture.specs.declared.layout.colours.Colour.TheVariants.{Pale, Ink}
+use Rattle.svg_drawing.specs.declared.colours.Colour.TheVariants.{Pale, Ink}
 use Rattle.run_picture.specs.declared.layout.legend.Sign.TheVariants.{Bar}
 use Rattle.run_picture.specs.declared.layout.page.Page.{Page}
-use Rattle.run_picture.specs.Drawn.{rect_shown, path_shown, whole}
+use Rattle.svg_drawing.specs.Drawn.{rect_shown, path_shown, whole}
 use Rattle.run_picture.specs.Legend.{sign_shown, behind}
 use Rattle.run_picture.specs.Page.{page_of, page_width}
 use Rattle.run_picture.specs.Picture.{ShowsRun}
-use Rattle.run_picture.specs.Recordings.{RecordingView}
-use Rattle.run_picture.specs.Tree.{lane_of, is_on_tree, corner_steps, bow_width, edge_shown}
+use Rattle.run_recording.specs.Recordings.{RecordingView}
+use Rattle.run_picture.specs.Tree.{lane_of, corner_steps, bow_width, edge_shown}
 
 abbrev two : Network
 two = record { nodes = 2; root = 0; capacity = 1; lease = 0; edges = (0, 1) ∷ [] }
-
-abbrev square : Network
-square = record { nodes = 4; root = 0; capacity = 1; lease = 0; edges = (0, 1) ∷ (0, 2) ∷ (1, 3) ∷ (2, 3) ∷ [] }
 
 -- ---- the page
 
@@ -34,13 +31,6 @@ third_lane = refl
 
 no_lane : lane_of (0 ∷ 2 ∷ 1 ∷ 3 ∷ []) 4 ≡ None
 no_lane = refl
-
--- node 3 has two neighbours that are one nearer to the root: the edge to the smaller one is the tree's
-thick_edge : is_on_tree square 3 1 ≡ true
-thick_edge = refl
-
-thin_edge : is_on_tree square 2 3 ≡ false
-thin_edge = refl
 
 low_bow : bow_width 6 ≡ 8
 low_bow = refl

@@ -4,7 +4,7 @@ use Rattle.std.proofs.lemmas.List.{append-nil, length-take-le}
 use Rattle.std.proofs.Math.Seq.{take-suc, take-length}
 use Rattle.topology.specs.Network.{Network}
 use Rattle.run_picture.specs.declared.layout.page.Page.{Page}
-use Rattle.run_picture.specs.Drawn.{Shown}
+use Rattle.svg_drawing.specs.Drawn.{Shown}
 use Rattle.run_picture.specs.Tree.{node_shown, nodes_shown}
 
 -- one node more

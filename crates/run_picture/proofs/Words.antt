@@ -8,7 +8,7 @@ use Rattle.run_model.specs.Run.{run}
 use Rattle.judge.specs.Judging.{counted_up_to, refused_in}
 use Rattle.judge.specs.JudgeView.{AreSweepsSeen}
 use Rattle.configuration.specs.ConfigurationView.{world_of}
-use Rattle.run_picture.specs.Recordings.{RecordingView, IsRecorded}
+use Rattle.run_recording.specs.Recordings.{RecordingView, IsRecorded}
 use Rattle.run_picture.specs.Words.{event_words, node_words, sweep_words, description_words, TellsOf}
 
 refused_twice : (a b : ℕ) → counted_up_to (a + counted_up_to b) ≡ counted_up_to (a + b)

@@ -3,11 +3,12 @@ use Rattle.std.specs.Prelude.{◌≡◌, ℕ, zero, suc, ◌+◌, ◌-◌, ◌*�
 use Rattle.std.specs.Int.{next_multiple_of}
 use Rattle.std.specs.List.{flat_map, take_while}
 use Rattle.run_picture.specs.declared.layout.axis.AxisNumber.{AxisNumber}
-use Rattle.run_picture.specs.declared.layout.canvas.Anchor.TheVariants.{Middle}
-use Rattle.run_picture.specs.declared.layout.colours.Colour.TheVariants.{Ink}
+use Rattle.svg_drawing.specs.declared.canvas.Anchor.TheVariants.{Middle}
+use Rattle.svg_drawing.specs.declared.colours.Colour.TheVariants.{Ink}
 use Rattle.run_picture.specs.declared.layout.page.Page.{Page}
-use Rattle.run_picture.specs.Drawn.{Shown, line_shown, words_shown, whole}
-use Rattle.run_picture.specs.Page.{px, x_of, ground_of}
+use Rattle.svg_drawing.specs.Drawn.{Shown, line_shown, words_shown, whole}
+use Rattle.svg_drawing.specs.Lengths.{px}
+use Rattle.run_picture.specs.Page.{x_of, ground_of}
 
 -- the round numbers: 1, 2, 5, 10, 20, 50 and so on
 abbrev pub round_number : ℕ → ℕ

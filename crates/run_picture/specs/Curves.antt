@@ -1,14 +1,15 @@
 -- The two step curves below the lanes: how many nodes are privileged, and how many lend.
 use Rattle.std.specs.Prelude.{ℕ, suc, ◌+◌, ◌-◌, ◌/◌, ◌==◌, if◌then◌else◌, max, min, List, [], ◌∷◌, ◌++◌, codes, decimal, fold, map}
 use Rattle.std.specs.List.{flat_map}
-use Rattle.run_picture.specs.declared.column.Column.{Column}
-use Rattle.run_picture.specs.declared.layout.canvas.Anchor.TheVariants.{Start, End}
-use Rattle.run_picture.specs.declared.layout.colours.Colour.TheVariants.{Gold, Red, Ink, Faint}
+use Rattle.run_recording.specs.declared.column.Column.{Column}
+use Rattle.svg_drawing.specs.declared.canvas.Anchor.TheVariants.{Start, End}
+use Rattle.svg_drawing.specs.declared.colours.Colour.TheVariants.{Gold, Red, Ink, Faint}
 use Rattle.run_picture.specs.declared.layout.page.Page.{Page}
 use Rattle.run_picture.specs.declared.layout.curves.Curve.{Curve}
 use Rattle.run_picture.specs.declared.layout.curves.Curve.TheVariants.{Privileged, Lending}
-use Rattle.run_picture.specs.Drawn.{Shown, Pen, line_shown, path_shown, words_shown, whole}
-use Rattle.run_picture.specs.Page.{px, x_of, right_of, ground_of, level_of}
+use Rattle.svg_drawing.specs.Drawn.{Shown, Pen, line_shown, path_shown, words_shown, whole}
+use Rattle.svg_drawing.specs.Lengths.{px}
+use Rattle.run_picture.specs.Page.{x_of, right_of, ground_of, level_of}
 
 -- the most nodes that are privileged, or lend, in any column, at least 1
 abbrev pub most_nodes : List Column → ℕ

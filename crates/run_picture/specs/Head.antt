@@ -4,12 +4,12 @@ use Rattle.std.specs.Prelude.{ℕ, ◌+◌, List, [], ◌∷◌, codes}
 use Rattle.topology.specs.Network.{Network}
 use Rattle.judge.specs.Judging.{counted_up_to}
 use Rattle.configuration.specs.ConfigurationView.{world_of}
-use Rattle.run_picture.specs.declared.layout.canvas.Anchor.TheVariants.{Start}
-use Rattle.run_picture.specs.declared.layout.colours.Colour.TheVariants.{Ink, Paper}
+use Rattle.svg_drawing.specs.declared.canvas.Anchor.TheVariants.{Start}
+use Rattle.svg_drawing.specs.declared.colours.Colour.TheVariants.{Ink, Paper}
 use Rattle.run_picture.specs.declared.layout.page.Page.{Page}
-use Rattle.run_picture.specs.Drawn.{Shown, note_shown, rect_shown, heading_shown, words_shown}
+use Rattle.svg_drawing.specs.Drawn.{Shown, note_shown, rect_shown, heading_shown, words_shown}
 use Rattle.run_picture.specs.Page.{page_width, page_height}
-use Rattle.run_picture.specs.Recordings.{RecordingView}
+use Rattle.run_recording.specs.Recordings.{RecordingView}
 use Rattle.run_picture.specs.Words.{title_words, headline_words, description_words}
 
 -- what a recording tells of its run

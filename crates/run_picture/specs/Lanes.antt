@@ -1,16 +1,17 @@
 -- The lanes: of each node its marks from left to right.
 use Rattle.std.specs.Prelude.{ℕ, suc, ◌+◌, ◌-◌, ◌*◌, ◌/◌, ◌==◌, if◌then◌else◌, nat_lt, List, [], ◌∷◌, ◌++◌, Option, None, Some, length, map, codes, decimal}
 use Rattle.std.specs.List.{flat_map}
-use Rattle.run_picture.specs.declared.column.Column.{Column}
-use Rattle.run_picture.specs.declared.layout.canvas.Anchor.TheVariants.{Middle}
-use Rattle.run_picture.specs.declared.layout.colours.Colour.{Colour}
-use Rattle.run_picture.specs.declared.layout.colours.Colour.TheVariants.{Pale, Grey, Gold, Red, Paper}
+use Rattle.run_recording.specs.declared.column.Column.{Column}
+use Rattle.svg_drawing.specs.declared.canvas.Anchor.TheVariants.{Middle}
+use Rattle.svg_drawing.specs.declared.colours.Colour.{Colour}
+use Rattle.svg_drawing.specs.declared.colours.Colour.TheVariants.{Pale, Grey, Gold, Red, Paper}
 use Rattle.run_picture.specs.declared.layout.page.Page.{Page}
-use Rattle.run_picture.specs.declared.layout.runs.Run.{Run}
-use Rattle.run_picture.specs.Drawn.{Shown, path_shown, rect_shown, words_shown, whole}
-use Rattle.run_picture.specs.Marks.{rank}
-use Rattle.run_picture.specs.Page.{px, x_of, right_of, y_of}
-use Rattle.run_picture.specs.Runs.{mark_in, AreRuns}
+use Rattle.run_recording.specs.declared.runs.Run.{Run}
+use Rattle.svg_drawing.specs.Drawn.{Shown, path_shown, rect_shown, words_shown, whole}
+use Rattle.run_recording.specs.Marks.{rank}
+use Rattle.svg_drawing.specs.Lengths.{px}
+use Rattle.run_picture.specs.Page.{x_of, right_of, y_of}
+use Rattle.run_recording.specs.Runs.{mark_in, AreRuns}
 use Rattle.run_picture.specs.Words.{ticket_words}
 
 -- how wide a run is

@@ -1,11 +1,11 @@
 -- What the colours and signs of a picture mean, in three lines above the lanes.
 use Rattle.std.specs.Prelude.{ℕ, ◌+◌, ◌-◌, ◌*◌, ◌/◌, List, [], ◌∷◌, ◌++◌, length, codes, decimal}
-use Rattle.run_picture.specs.declared.layout.canvas.Anchor.TheVariants.{Start}
-use Rattle.run_picture.specs.declared.layout.colours.Colour.TheVariants.{Pale, Grey, Gold, Red, Ink, Blue, Faint}
+use Rattle.svg_drawing.specs.declared.canvas.Anchor.TheVariants.{Start}
+use Rattle.svg_drawing.specs.declared.colours.Colour.TheVariants.{Pale, Grey, Gold, Red, Ink, Blue, Faint}
 use Rattle.run_picture.specs.declared.layout.legend.Sign.{Sign}
 use Rattle.run_picture.specs.declared.layout.legend.Sign.TheVariants.{Bar, Bolt, Upright, Edge}
-use Rattle.run_picture.specs.Drawn.{Shown, rect_shown, form_shown, line_shown, words_shown, whole}
-use Rattle.run_picture.specs.Page.{px}
+use Rattle.svg_drawing.specs.Drawn.{Shown, rect_shown, form_shown, line_shown, words_shown, whole}
+use Rattle.svg_drawing.specs.Lengths.{px}
 use Rattle.run_picture.specs.Words.{column_words}
 
 -- a sign, from a place on its baseline: a bar of a lane, the mark of damage, a line as it stands over

@@ -5,10 +5,7 @@ use Rattle.std.specs.Prelude.{ℕ, ◌+◌, ◌-◌, ◌*◌, ◌/◌, max, min}
 use Rattle.topology.specs.Network.{Network}
 use Rattle.topology.specs.Eccentricity.{eccentricity_of}
 use Rattle.run_picture.specs.declared.layout.page.Page.{Page}
-
--- a length is at most what 32 bits hold
-abbrev pub px : ℕ → ℕ
-px length = min length 4294967295
+use Rattle.svg_drawing.specs.Lengths.{px}
 
 -- how wide a column is: of as many as are given, all are 1200 wide together, but each at least 1 and
 -- at most 24

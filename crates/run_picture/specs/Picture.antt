@@ -1,19 +1,19 @@
 -- The picture of a run.
 use Rattle.std.specs.Prelude.{◌≡◌, List, [], ◌∷◌, ◌++◌, length, map, codes, decimal}
 use Rattle.topology.specs.Network.{Network}
-use Rattle.run_picture.specs.declared.element.Drawing.{Drawing}
+use Rattle.svg_drawing.specs.declared.element.Drawing.{Drawing}
 use Rattle.run_picture.specs.declared.layout.page.Page.{Page}
 use Rattle.run_picture.specs.Axis.{IsAxis}
 use Rattle.run_picture.specs.Curves.{curves_shown, levels_shown}
-use Rattle.run_picture.specs.Drawn.{Given, Shown, given_of, shown_of, numbered}
+use Rattle.svg_drawing.specs.Drawn.{Given, Shown, given_of, shown_of, numbered}
 use Rattle.run_picture.specs.Head.{head_shown, told_words}
 use Rattle.run_picture.specs.Lanes.{AreLanes}
 use Rattle.run_picture.specs.Legend.{legend_shown}
 use Rattle.run_picture.specs.Page.{page_of, page_width, page_height}
-use Rattle.run_picture.specs.Recordings.{RecordingView}
+use Rattle.run_recording.specs.Recordings.{RecordingView}
 use Rattle.run_picture.specs.Ruler.{IsRuler}
 use Rattle.run_picture.specs.Tree.{tree_shown}
-use Rattle.run_picture.specs.Visits.{first_visits}
+use Rattle.run_recording.specs.Visits.{first_visits}
 
 -- what the element that holds a page says: that it is SVG 1.1, how large the page is, and in which
 -- letters it is written

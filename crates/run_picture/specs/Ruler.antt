@@ -2,13 +2,14 @@
 use Rattle.std.specs.Prelude.{◌≡◌, ℕ, suc, ◌+◌, ◌-◌, ◌<◌, ◌≤◌, ◌&&◌, ◌⊎◌, Bool, true, nat_lt, nat_le, if◌then◌else◌, List, [], ◌∷◌, ◌++◌, length, map, take, codes, decimal, sum_by, slice_get, IfSome}
 use Rattle.std.specs.List.{AllByRecursion}
 use Rattle.judge.specs.Judging.{counted_up_to}
-use Rattle.run_picture.specs.declared.column.Column.{Column}
-use Rattle.run_picture.specs.declared.layout.canvas.Anchor.TheVariants.{Middle, End}
-use Rattle.run_picture.specs.declared.layout.colours.Colour.TheVariants.{Red, Ink, Blue}
+use Rattle.run_recording.specs.declared.column.Column.{Column}
+use Rattle.svg_drawing.specs.declared.canvas.Anchor.TheVariants.{Middle, End}
+use Rattle.svg_drawing.specs.declared.colours.Colour.TheVariants.{Red, Ink, Blue}
 use Rattle.run_picture.specs.declared.layout.page.Page.{Page}
 use Rattle.run_picture.specs.declared.layout.ruler.SweepNumber.{SweepNumber}
-use Rattle.run_picture.specs.Drawn.{Shown, form_shown, line_shown, path_shown, words_shown, whole}
-use Rattle.run_picture.specs.Page.{px, middle_of, ground_of}
+use Rattle.svg_drawing.specs.Drawn.{Shown, form_shown, line_shown, path_shown, words_shown, whole}
+use Rattle.svg_drawing.specs.Lengths.{px}
+use Rattle.run_picture.specs.Page.{middle_of, ground_of}
 
 -- what stands over columns from left to right, of which the first stands at a place
 abbrev pub over_each : {X : Type 0} → (ℕ → Column → List X) → ℕ → List Column → List X

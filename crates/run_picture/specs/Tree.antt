@@ -1,14 +1,15 @@
 -- The network, beside the lanes: each node in its lane, as far to the right as it is from the root.
-use Rattle.std.specs.Prelude.{ℕ, suc, ◌+◌, ◌-◌, ◌/◌, ◌==◌, ◌&&◌, ◌||◌, Bool, if◌then◌else◌, nat_lt, max, min, List, [], ◌∷◌, ◌++◌, Option, Some, codes, decimal}
+use Rattle.std.specs.Prelude.{ℕ, suc, ◌+◌, ◌-◌, ◌/◌, ◌==◌, if◌then◌else◌, nat_lt, max, min, List, [], ◌∷◌, ◌++◌, Option, Some, codes, decimal}
 use Rattle.std.specs.List.{flat_map, position}
 use Rattle.topology.specs.Network.{Network, Edge}
-use Rattle.topology.specs.Tree.{distance_of, parent_of}
-use Rattle.euler_ring.specs.Cycle.{is_named}
-use Rattle.run_picture.specs.declared.layout.canvas.Anchor.TheVariants.{End}
-use Rattle.run_picture.specs.declared.layout.colours.Colour.TheVariants.{Ink, Faint}
+use Rattle.topology.specs.Tree.{distance_of}
+use Rattle.svg_drawing.specs.declared.canvas.Anchor.TheVariants.{End}
+use Rattle.svg_drawing.specs.declared.colours.Colour.TheVariants.{Ink, Faint}
 use Rattle.run_picture.specs.declared.layout.page.Page.{Page}
-use Rattle.run_picture.specs.Drawn.{Shown, circle_shown, path_shown, words_shown, whole}
-use Rattle.run_picture.specs.Page.{px, node_x, y_of}
+use Rattle.svg_drawing.specs.Drawn.{Shown, circle_shown, path_shown, words_shown, whole}
+use Rattle.svg_drawing.specs.Lengths.{px}
+use Rattle.run_recording.specs.TreeEdges.{is_on_tree}
+use Rattle.run_picture.specs.Page.{node_x, y_of}
 use Rattle.run_picture.specs.Words.{node_name}
 
 -- the lane of a node: its place in the order from above, if it has one
@@ -18,14 +19,6 @@ lane_of order v = position (λ u. u == v) order
 -- how far from the left a node stands: by its distance from the root
 abbrev pub tree_x : Page → Network → ℕ → ℕ
 tree_x page net v = node_x page (if nat_lt v net.nodes then distance_of net v else 0)
-
--- one of the network's nodes has the other for its parent
-abbrev pub has_parent : Network → ℕ → ℕ → Bool
-has_parent net v w = nat_lt v net.nodes && is_named (parent_of net v) w
-
--- an edge of the tree joins two nodes
-abbrev pub is_on_tree : Network → ℕ → ℕ → Bool
-is_on_tree net v w = has_parent net v w || has_parent net w v
 
 -- down from a place, and then across to another
 abbrev pub corner_steps : ℕ → ℕ → ℕ → ℕ → List ℕ

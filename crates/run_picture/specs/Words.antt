@@ -8,8 +8,8 @@ use Rattle.run_model.specs.Run.{run}
 use Rattle.run_model.specs.Count.{IsSweepCount}
 use Rattle.run_model.specs.declared.event.Event.{Event}
 use Rattle.judge.specs.Judging.{counted_up_to, refused_in}
-use Rattle.run_picture.specs.declared.mark.Mark.{Mark}
-use Rattle.run_picture.specs.declared.mark.Mark.TheVariants.{Lending}
+use Rattle.run_recording.specs.declared.mark.Mark.{Mark}
+use Rattle.run_recording.specs.declared.mark.Mark.TheVariants.{Lending}
 
 -- the title of a picture of a network
 abbrev pub title_words : Network → List ℕ

@@ -1,33 +1,26 @@
 //! A run laid out on a page.
 ghost use Rattle.std.specs.Prelude.{◌≡◌, ◌∷◌, ◌++◌, [], IfOk, OnOk, map, string_bytes};
-ghost use Rattle.run_picture.specs.Drawn.{given_of, numbered};
+ghost use Rattle.svg_drawing.specs.Drawn.{given_of, numbered};
 ghost use Rattle.run_picture.specs.Picture.{page_attributes, IsPicture};
 
 mod axis;
-mod canvas;
-mod colours;
 mod curves;
 mod lanes;
 mod legend;
 mod page;
-mod px;
 mod ruler;
-mod runs;
 mod tree;
 mod words;
 
-use crate::element::{Attribute, Drawing};
-use crate::recording::Recording;
-use crate::tour::first_visits;
 use axis::draw_axis;
-use canvas::Canvas;
 use curves::{draw_curves, draw_levels};
 use lanes::draw_lanes;
 use legend::draw_legend;
 use page::Page;
-pub(crate) use px::Px;
 use ruler::draw_ruler;
+use run_recording::{Recording, first_visits};
 use std::alloc::{AllocError, Global};
+use svg_drawing::{Attribute, Canvas, Drawing};
 use topology::Net;
 use tree::draw_tree;
 use words::draw_head;

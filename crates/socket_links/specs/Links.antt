@@ -104,22 +104,24 @@ module _ {P : Type 0} where
       MatchOption old.pipe ⊥ (λ before. (after : P) × HasEnded (counts before) (counts after))
       × (new.pipe ≡ None) × IsBare new
 
-  -- what the answers of a pull say; without a frame nothing more is to be looked at
+  -- What the answers of a pull say: with a frame the pipe stays; without one nothing more is to be
+  -- looked at.
   abbrev pub Pulled : Ranges → (P → Option (List ℕ)) → (P → Option (List ℕ)) → (P → Counts)
       → SocketLink P → SocketLink P → Pull → Type 0
   Pulled r gave took counts old new (pull.Frame f) =
-      PullsOn r gave (f ∷ []) old new × PushesOn took [] old new
+      PullsOn r gave (f ∷ []) old new × PushesOn took [] old new × (is_some new.pipe ≡ true)
   Pulled r gave took counts old new pull.Later =
       PullsOn r gave [] old new × PushesOn took [] old new × (waiting new ≡ [])
       × MatchOption old.pipe (new.pipe ≡ None)
       (λ _. SaidLater counts old new ⊎ GaveBytes gave old new)
   Pulled r gave took counts old new pull.Broken = HasBroken counts old new
 
-  -- what the answers of a push say
+  -- what the answers of a push say: the pipe is let go where it broke alone
   abbrev pub Pushed : (P → Option (List ℕ)) → (P → Option (List ℕ)) → (P → Counts) → SocketLink P
       → SocketLink P → Flow → Type 0
   Pushed gave took counts old new flow.Done =
       PushesOn took [] old new × ((r : Ranges) → PullsOn r gave [] old new) × (unsent new ≡ [])
+      × (is_some new.pipe ≡ is_some old.pipe)
   Pushed gave took counts old new flow.Later =
       PushesOn took [] old new × ((r : Ranges) → PullsOn r gave [] old new)
       × SaidLater counts old new

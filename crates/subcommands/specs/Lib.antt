@@ -1,5 +1,4 @@
 pub mod Bound
-pub mod Simulated
 pub mod Damaged
 pub mod Cut
 pub mod PlanFault

@@ -11,7 +11,7 @@
 //! Service. A proof that needs a law calls its function and cites its clause:
 //!
 //! ```
-//! token_ring::laws::ring();     // its clauses: stays, turns
+//! token_ring::laws::ring();     // its clauses: stays, turns, turns_soon
 //! ```
 //!
 //! The trap: the ring has three places for each step of the tour (a machine's value, the one

@@ -20,6 +20,7 @@
 //!
 //! Statuses: 0 done, help too; 1 a file, memory or the output refused, with one line `tokentree:
 //! ..` on standard error; 2 the command line refused; 3 `simulate` is done, and refused some lines.
+//! `lock` has its command's, and 122 to 127 (`help lock`).
 //! Faults are looked for in this order: the command line, the network, a node's id, the command's
 //! own files.
 #![tactic(auto)]

@@ -68,7 +68,7 @@ pub record IsEdgeBelow (n : ℕ) (e : Edge) : Type 0 where
 abbrev pub is_same_edge : Edge → Edge → Bool
 is_same_edge e f = is_between e.0 e.1 f
 
--- no edge stands twice, either way round
+-- some edge stands twice, either way round
 abbrev pub has_double_edge : List Edge → Bool
 has_double_edge [] = false
 has_double_edge (e ∷ es) = list_any (is_same_edge e) es || has_double_edge es

@@ -10,7 +10,7 @@
 //! cites its clause:
 //!
 //! ```
-//! tree_convergence::laws::tree();     // its clauses: reached, stay
+//! tree_convergence::laws::tree();     // its clauses: reached, reached_by_depth, stay
 //! ```
 //!
 //! Nothing is computed here, and nothing of a port or a desk is looked into: edges are known by the

@@ -1,42 +1,64 @@
 //! The numbers of networks, with the sharp bound and without it.
+use crate::nets::net_of;
 use std::alloc::{AllocError, Global};
 use std::test::Fail;
 use subcommands::bound::{bound_text, shown_text};
 use topology::Net;
+
+/// A network: its nodes, what its links hold, its edges; and what it is shown as.
+type Row<'a> = (i64, i64, &'a [(i64, i64)], &'a str);
+
+/// Networks, and their texts.
+static TEXTS: [Row<'static>; 3] = [
+    (
+        2,
+        1,
+        &[(0, 1)],
+        "nodes 2\nedges 1\ncapacity 1\ncounter 5\nring 7\ndistances 0 1\nparents none 0\nsweeps 69\n",
+    ),
+    (
+        3,
+        1,
+        &[(0, 1), (1, 2)],
+        "nodes 3\nedges 2\ncapacity 1\ncounter 5\nring 13\ndistances 0 1 2\nparents none 0 1\nsweeps 217\n",
+    ),
+    (
+        4,
+        1,
+        &[(0, 1), (0, 2), (1, 3), (2, 3)],
+        "nodes 4\nedges 4\ncapacity 1\ncounter 5\nring 19\ndistances 0 1 1 2\nparents none 0 0 1\nsweeps 461\n",
+    ),
+];
 
 /// Whether the text of a network is this.
 fn has_text(alloc: Global, net: &Net, want: &str) -> Result<bool, AllocError> {
     Ok(bound_text(alloc, net)?.as_str() == want)
 }
 
+/// Whether the text of a row's network is the row's.
+fn is_text(alloc: Global, row: &Row<'_>) -> Result<bool, Fail> {
+    let net = net_of(alloc, row.0, row.1, row.2)?;
+    Ok(has_text(alloc, &net, row.3)?)
+}
+
+/// The place of the first row whose network has another text.
+fn first_other_text(alloc: Global, rows: &[Row<'_>]) -> Result<Option<usize>, Fail> {
+    for (at, row) in rows.iter().enumerate() {
+        if !is_text(alloc, row)? {
+            return Ok(Some(at));
+        }
+    }
+    Ok(None)
+}
+
 #[test]
 fn prints_numbers_distances_and_parents(rt: HostRuntime) -> Result<(), Fail> {
-    let alloc = rt.alloc();
-    for (nodes, edges, want) in [
-        (
-            2,
-            [(0, 1)].as_slice(),
-            "nodes 2\nedges 1\ncapacity 1\ncounter 5\nring 7\ndistances 0 1\nparents none 0\nsweeps 69\n",
-        ),
-        (
-            3,
-            [(0, 1), (1, 2)].as_slice(),
-            "nodes 3\nedges 2\ncapacity 1\ncounter 5\nring 13\ndistances 0 1 2\nparents none 0 1\nsweeps 217\n",
-        ),
-        (
-            4,
-            [(0, 1), (0, 2), (1, 3), (2, 3)].as_slice(),
-            "nodes 4\nedges 4\ncapacity 1\ncounter 5\nring 19\ndistances 0 1 1 2\nparents none 0 0 1\nsweeps 461\n",
-        ),
-    ] {
-        let net = Net::make(alloc, nodes, 0, 1, 0, edges)?;
-        assert!(rt; has_text(alloc, &net, want)?, "{want}");
-    }
+    assert_eq!(rt; first_other_text(rt.alloc(), &TEXTS)?, None);
     Ok(())
 }
 
 /// The edges of a star of 64 nodes around the root.
-fn star_edges(alloc: Global) -> Result<Vec<(i64, i64)>, Fail> {
+fn star_edges(alloc: Global) -> Result<Vec<(i64, i64)>, AllocError> {
     let mut edges = Vec::new(alloc);
     for leaf in 1..64 {
         edges.push((0, leaf))?;
@@ -44,47 +66,44 @@ fn star_edges(alloc: Global) -> Result<Vec<(i64, i64)>, Fail> {
     Ok(edges)
 }
 
-/// The star, over links of 4096 items.
-fn star(alloc: Global) -> Result<Net, Fail> {
-    let edges = star_edges(alloc)?;
-    Ok(Net::make(alloc, 64, 0, 4096, 0, edges.as_slice())?)
-}
-
-/// What the star is shown as.
+/// What the star is shown as, over links of 4096 items.
 fn star_text(alloc: Global) -> Result<String, AllocError> {
     let mut text = String::new(alloc);
     text.push_str("nodes 64\nedges 63\ncapacity 4096\ncounter 8195\nring 379\ndistances 0")?;
-    for _leaf in 1..64 {
-        text.push_str(" 1")?;
-    }
+    push_often(&mut text, " 1")?;
     text.push_str("\nparents none")?;
-    for _leaf in 1..64 {
-        text.push_str(" 0")?;
-    }
+    push_often(&mut text, " 0")?;
     text.push_str("\nsweeps 207161\n")?;
     Ok(text)
 }
 
-#[test]
-fn prints_the_star_of_sixty_four(rt: HostRuntime) -> Result<(), Fail> {
-    let net = star(rt.alloc())?;
-    let want = star_text(rt.alloc())?;
-    assert!(rt; has_text(rt.alloc(), &net, &want)?);
+/// Pushes a word for each leaf of the star.
+fn push_often(text: &mut String, word: &str) -> Result<(), AllocError> {
+    for _leaf in 1..64 {
+        text.push_str(word)?;
+    }
     Ok(())
 }
 
-/// Whether a network is shown with its sharp bound as that line says, and without it.
-fn shows_sharp(
-    alloc: Global,
-    nodes: i64,
-    capacity: i64,
-    edges: &[(i64, i64)],
-    want: &str,
-) -> Result<bool, Fail> {
-    let net = Net::make(alloc, nodes, 0, capacity, 0, edges)?;
-    let eight = bound_text(alloc, &net)?;
-    Ok(shows(alloc, &net, true, &eight, want)? && shows(alloc, &net, false, &eight, "")?)
+/// Whether the star has its text.
+fn star_has_its_text(alloc: Global) -> Result<bool, Fail> {
+    let edges = star_edges(alloc)?;
+    let want = star_text(alloc)?;
+    is_text(alloc, &(64, 4096, edges.as_slice(), want.as_str()))
 }
+
+#[test]
+fn prints_the_star_of_sixty_four(rt: HostRuntime) -> Result<(), Fail> {
+    assert!(rt; star_has_its_text(rt.alloc())?);
+    Ok(())
+}
+
+/// Networks, and the lines of their sharp bounds.
+static SHARP: [Row<'static>; 3] = [
+    (2, 1, &[(0, 1)], "sharp 35\n"),
+    (3, 1, &[(0, 1), (1, 2)], "sharp 55\n"),
+    (4, 1, &[(0, 1), (0, 2), (1, 3), (2, 3)], "sharp 71\n"),
+];
 
 /// Whether a network is shown as these lines and those behind them.
 fn shows(
@@ -98,25 +117,42 @@ fn shows(
     Ok(text.as_str().strip_prefix(front) == Some(back))
 }
 
+/// Whether a network is shown with its sharp bound as that line says, and without it.
+fn shows_both(alloc: Global, net: &Net, want: &str) -> Result<bool, AllocError> {
+    let eight = bound_text(alloc, net)?;
+    Ok(shows(alloc, net, true, &eight, want)? && shows(alloc, net, false, &eight, "")?)
+}
+
+/// Whether a row's network is shown with its sharp bound as the row says, and without it.
+fn shows_sharp(alloc: Global, row: &Row<'_>) -> Result<bool, Fail> {
+    let net = net_of(alloc, row.0, row.1, row.2)?;
+    Ok(shows_both(alloc, &net, row.3)?)
+}
+
+/// The place of the first row whose network is shown otherwise.
+fn first_other_sharp(alloc: Global, rows: &[Row<'_>]) -> Result<Option<usize>, Fail> {
+    for (at, row) in rows.iter().enumerate() {
+        if !shows_sharp(alloc, row)? {
+            return Ok(Some(at));
+        }
+    }
+    Ok(None)
+}
+
 #[test]
 fn shows_the_sharp_bound_where_it_is_asked_for(rt: HostRuntime) -> Result<(), Fail> {
-    let alloc = rt.alloc();
-    let star = star_edges(alloc)?;
-    for (nodes, capacity, edges, want) in [
-        (2, 1, [(0, 1)].as_slice(), "sharp 35\n"),
-        (3, 1, [(0, 1), (1, 2)].as_slice(), "sharp 55\n"),
-        (
-            4,
-            1,
-            [(0, 1), (0, 2), (1, 3), (2, 3)].as_slice(),
-            "sharp 71\n",
-        ),
-        (64, 4096, star.as_slice(), "sharp 1027\n"),
-    ] {
-        assert!(rt;
-            shows_sharp(alloc, nodes, capacity, edges, want)?,
-            "{nodes} nodes: {want}"
-        );
-    }
+    assert_eq!(rt; first_other_sharp(rt.alloc(), &SHARP)?, None);
+    Ok(())
+}
+
+/// Whether the star is shown with its sharp bound, and without it.
+fn star_shows_sharp(alloc: Global) -> Result<bool, Fail> {
+    let edges = star_edges(alloc)?;
+    shows_sharp(alloc, &(64, 4096, edges.as_slice(), "sharp 1027\n"))
+}
+
+#[test]
+fn shows_the_sharp_bound_of_the_star(rt: HostRuntime) -> Result<(), Fail> {
+    assert!(rt; star_shows_sharp(rt.alloc())?);
     Ok(())
 }

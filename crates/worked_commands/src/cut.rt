@@ -1,14 +1,73 @@
 //! Files that are cut, and what is none that can be.
 use command_parts::PathFault;
-use std::fs;
+use std::alloc::Global;
 use std::process::{Command, ExitCode};
 use std::test::Fail;
+use std::{fs, io};
 use subcommands::cut::run;
 
+/// To how many bytes a file of six is cut, each time behind the one before, and what it holds then.
+const CUTS: [(u32, &str); 8] = [
+    (1_000_000, "abcdef"),
+    (7, "abcdef"),
+    (6, "abcdef"),
+    (5, "abcde"),
+    (2, "ab"),
+    (3, "ab"),
+    (0, ""),
+    (0, ""),
+];
+
 /// Whether the file, cut to a length, is what is wanted.
-fn leaves(rt: &HostRuntime, length: u32, want: &str) -> Result<bool, Fail> {
+fn leaves(rt: &HostRuntime, length: u32, want: &str) -> io::Result<bool> {
     let is_cut = run(rt, "cut.state", length) == Ok(ExitCode::SUCCESS);
     Ok(is_cut && fs::read(rt, "cut.state")?.as_slice() == want.as_bytes())
+}
+
+/// The place of the first row at which the file holds something else.
+fn first_other_cut(rt: &HostRuntime, rows: &[(u32, &str)]) -> io::Result<Option<usize>> {
+    for (at, (length, want)) in rows.iter().enumerate() {
+        if !leaves(rt, *length, want)? {
+            return Ok(Some(at));
+        }
+    }
+    Ok(None)
+}
+
+/// Cuts a file of six bytes by the rows, as long as it is there.
+fn cuts(rt: &HostRuntime) -> io::Result<Option<usize>> {
+    fs::write(rt, "cut.state", "abcdef")?;
+    let other = first_other_cut(rt, &CUTS)?;
+    fs::remove_file(rt, "cut.state")?;
+    Ok(other)
+}
+
+#[test]
+fn cuts_a_longer_file_alone(rt: HostRuntime) -> Result<(), Fail> {
+    assert_eq!(rt; cuts(&rt)?, None);
+    Ok(())
+}
+
+/// Paths that name nothing that can be cut.
+const OTHER_THINGS: [&str; 6] = [
+    ".",
+    "absent.cut",
+    "no/absent.cut",
+    "",
+    "pipe.cut",
+    "/dev/null",
+];
+
+/// What makes a named pipe.
+fn pipe_maker(alloc: Global, path: &str) -> io::Result<Command> {
+    let mut command = Command::new(alloc, "mkfifo")?;
+    command.arg(path)?;
+    Ok(command)
+}
+
+/// Makes a named pipe.
+fn make_pipe(rt: &HostRuntime, path: &str) -> io::Result<bool> {
+    Ok(pipe_maker(rt.alloc(), path)?.status(rt)?.success())
 }
 
 /// Whether a path names nothing that can be cut.
@@ -16,49 +75,29 @@ fn is_refused(rt: &HostRuntime, path: &str) -> bool {
     run(rt, path, 0).err() == Some(PathFault::Unwritable(path))
 }
 
-/// Makes a named pipe.
-fn make_pipe(rt: &HostRuntime, path: &str) -> Result<bool, Fail> {
-    let made = Command::new(rt.alloc(), "mkfifo")?.arg(path)?.status(rt)?;
-    Ok(made.success())
+/// The place of the first of these paths that is not refused.
+fn first_cut(rt: &HostRuntime, paths: &[&str]) -> Option<usize> {
+    for (at, path) in paths.iter().enumerate() {
+        if !is_refused(rt, path) {
+            return Some(at);
+        }
+    }
+    None
 }
 
-#[test]
-fn cuts_a_longer_file_alone(rt: HostRuntime) -> Result<(), Fail> {
-    fs::write(&rt, "cut.state", "abcdef")?;
-    for (length, want) in [
-        (1_000_000, "abcdef"),
-        (7, "abcdef"),
-        (6, "abcdef"),
-        (5, "abcde"),
-        (2, "ab"),
-        (3, "ab"),
-        (0, ""),
-        (0, ""),
-    ] {
-        assert!(rt;
-            leaves(&rt, length, want)?,
-            "{want:?} where it is cut to {length}"
-        );
-    }
-    fs::remove_file(&rt, "cut.state")?;
-    Ok(())
+/// Whether a pipe is made, the place of the first thing that is cut, and whether the absent file is
+/// there then.
+fn tries_other_things(rt: &HostRuntime) -> io::Result<(bool, Option<usize>, bool)> {
+    let is_made = make_pipe(rt, "pipe.cut")?;
+    let cut = first_cut(rt, &OTHER_THINGS);
+    let is_there = fs::exists(rt, "absent.cut")?;
+    fs::remove_file(rt, "pipe.cut")?;
+    Ok((is_made, cut, is_there))
 }
 
 /// None of these is waited for, and an absent file is not made.
 #[test]
 fn other_things_are_not_cut(rt: HostRuntime) -> Result<(), Fail> {
-    assert!(rt; make_pipe(&rt, "pipe.cut")?);
-    for path in [
-        ".",
-        "absent.cut",
-        "no/absent.cut",
-        "",
-        "pipe.cut",
-        "/dev/null",
-    ] {
-        assert!(rt; is_refused(&rt, path), "{path:?}");
-    }
-    assert!(rt; !fs::exists(&rt, "absent.cut")?);
-    fs::remove_file(&rt, "pipe.cut")?;
+    assert_eq!(rt; tries_other_things(&rt)?, (true, None, false));
     Ok(())
 }

@@ -1,4 +1,5 @@
 //! Pictures of two nodes, from texts that are refused in part, cannot be read, or have no room.
+use crate::nets::two_nodes;
 use crate::shelf::Shelf;
 use byte_streams::MemorySource;
 use command_parts::{Fault, ReadSource};
@@ -7,8 +8,9 @@ use run_picture::Window;
 use std::alloc::Global;
 use std::io::{Error, ErrorKind};
 use std::process::ExitCode;
+use std::str;
 use std::test::Fail;
-use topology::Net;
+use topology::NetFault;
 use world::streams::Source;
 
 /// Fails when it is read.
@@ -27,64 +29,134 @@ const WANTED: Wanted = Wanted {
     window: Window::ALL,
 };
 
-/// The picture that a source's events make on two nodes, where there is room for `room` bytes; and
-/// how it ended.
-fn drawn<S: Source + Drop>(
+/// How a drawing ended.
+type Ended = Result<ExitCode, Fault>;
+
+/// Draws what a source's events make on two nodes, on a shelf.
+fn draw_to<S: Source + Drop>(
     alloc: Global,
     mut source: S,
+    shelf: &mut Shelf<'_>,
+) -> Result<Ended, NetFault> {
+    let net = two_nodes(alloc)?;
+    Ok(write_picture(alloc, &net, &mut source, shelf, WANTED))
+}
+
+/// How the drawing of a source's events ended, and the picture, where there is room for `room`
+/// bytes.
+fn drawn<S: Source + Drop>(
+    alloc: Global,
+    source: S,
     room: usize,
-) -> Result<(Result<ExitCode, Fault>, String), Fail> {
-    let net = Net::make(alloc, 2, 0, 1, 0, &[(0, 1)])?;
+) -> Result<(Ended, Vec<u8>), NetFault> {
     let mut taken = Vec::new(alloc);
     let mut shelf = Shelf {
         taken: &mut taken,
         room,
     };
-    let answer = write_picture(alloc, &net, &mut source, &mut shelf, WANTED);
-    let text = String::from_str(alloc, std::str::from_utf8(taken.as_slice())?)?;
-    Ok((answer, text))
+    let ended = draw_to(alloc, source, &mut shelf)?;
+    Ok((ended, taken))
+}
+
+/// The same of a text of events.
+fn drawn_text(alloc: Global, events: &[u8], room: usize) -> Result<(Ended, Vec<u8>), NetFault> {
+    drawn(alloc, MemorySource::new(events, 5), room)
+}
+
+/// What the picture of two events says, of which one was refused, and of a line that spells none:
+/// three moments in a column.
+const PARTS: [&str; 2] = [
+    "<desc>2 events, 2 lines refused; at the end privileged 0, lending 0, sweeps since the last damage 0 of 69</desc>",
+    ">a column is 4 events, and shows the worst of them<",
+];
+
+/// The place of the first part that a picture does not have.
+fn first_absent(picture: &[u8], parts: &[&str]) -> Result<Option<usize>, str::Utf8Error> {
+    let text = str::from_utf8(picture)?;
+    for (at, part) in parts.iter().enumerate() {
+        if !text.contains(*part) {
+            return Ok(Some(at));
+        }
+    }
+    Ok(None)
+}
+
+/// How the drawing of those events ended, and the place of the first part that is not there.
+fn drawn_in_part(alloc: Global) -> Result<(Ended, Option<usize>), Fail> {
+    let (ended, picture) = drawn_text(alloc, b"tick 2\ntick 0\nTick 0", 100_000)?;
+    Ok((ended, first_absent(picture.as_slice(), &PARTS)?))
 }
 
 #[test]
 fn draws_what_is_accepted_and_counts_what_is_refused(rt: HostRuntime) -> Result<(), Fail> {
-    let source = MemorySource::new(b"tick 2\ntick 0\nTick 0", 5);
-    let (answer, text) = drawn(rt.alloc(), source, 100_000)?;
-    assert_eq!(rt; answer, Ok(ExitCode::from(3)));
-    // Two events, of which one was refused, and a line that spells none: three moments in a column.
-    for part in [
-        "<desc>2 events, 2 lines refused; at the end privileged 0, lending 0, sweeps since the last damage 0 of 69</desc>",
-        ">a column is 4 events, and shows the worst of them<",
-    ] {
-        assert!(rt; text.contains(part), "{part}");
-    }
+    assert_eq!(rt; drawn_in_part(rt.alloc())?, (Ok(ExitCode::from(3)), None));
     Ok(())
+}
+
+/// How the drawing of events ended that cannot be read, and how many bytes were drawn.
+fn drawn_of_broken(alloc: Global) -> Result<(Ended, usize), NetFault> {
+    let (ended, picture) = drawn(alloc, ReadSource::new(Broken), 100_000)?;
+    Ok((ended, picture.len()))
 }
 
 #[test]
 fn draws_nothing_of_events_that_cannot_be_read(rt: HostRuntime) -> Result<(), Fail> {
-    let (answer, text) = drawn(rt.alloc(), ReadSource::new(Broken), 100_000)?;
-    assert_eq!(rt; answer, Err(Fault::EventsUnreadable));
-    assert_eq!(rt; text.as_str(), "");
+    assert_eq!(rt;
+        drawn_of_broken(rt.alloc())?,
+        (Err(Fault::EventsUnreadable), 0)
+    );
     Ok(())
 }
 
-/// The fault of a picture that has too little room, where its front fills that.
-fn fault_with_room(alloc: Global, whole: &str, room: usize) -> Result<Option<Fault>, Fail> {
-    let source = MemorySource::new(b"tick 0\n", 5);
-    let (answer, text) = drawn(alloc, source, room)?;
-    let is_front = text.len() == room && whole.as_bytes().starts_with(text.as_bytes());
-    Ok(if is_front { answer.err() } else { None })
+/// Rooms that a picture does not fit into.
+const ROOMS: [usize; 4] = [0, 1, 300, 4000];
+
+/// The event that pictures without room tell.
+const TICK: &[u8] = b"tick 0\n";
+
+/// Whether a picture without room is a fault, where its front fills that room.
+fn is_cut_off(alloc: Global, whole: &[u8], room: usize) -> Result<bool, NetFault> {
+    let (ended, picture) = drawn_text(alloc, TICK, room)?;
+    Ok(
+        ended == Err(Fault::Output)
+            && picture.len() == room
+            && whole.starts_with(picture.as_slice()),
+    )
+}
+
+/// The place of the first of these rooms in which a picture is no fault, or not the front of the
+/// whole one.
+fn first_not_cut_off(
+    alloc: Global,
+    whole: &[u8],
+    rooms: &[usize],
+) -> Result<Option<usize>, NetFault> {
+    for (at, room) in rooms.iter().enumerate() {
+        if !is_cut_off(alloc, whole, *room)? {
+            return Ok(Some(at));
+        }
+    }
+    Ok(None)
+}
+
+/// How the drawing of the whole picture ended; the place of the first room in which it is not cut
+/// off; and whether it is where one byte more has no room.
+fn drawn_without_room(alloc: Global) -> Result<(Ended, Option<usize>, bool), NetFault> {
+    let (ended, whole) = drawn_text(alloc, TICK, 100_000)?;
+    let other = first_not_cut_off(alloc, whole.as_slice(), &ROOMS)?;
+    let all_but_one = whole.len().saturating_sub(1);
+    Ok((
+        ended,
+        other,
+        is_cut_off(alloc, whole.as_slice(), all_but_one)?,
+    ))
 }
 
 #[test]
 fn a_picture_without_room_is_a_fault(rt: HostRuntime) -> Result<(), Fail> {
-    let source = MemorySource::new(b"tick 0\n", 5);
-    let (answer, whole) = drawn(rt.alloc(), source, 100_000)?;
-    assert_eq!(rt; answer, Ok(ExitCode::SUCCESS));
-    let all_but_one = whole.len().saturating_sub(1);
-    for room in [0, 1, 300, 4000, all_but_one] {
-        let fault = fault_with_room(rt.alloc(), whole.as_str(), room)?;
-        assert_eq!(rt; fault, Some(Fault::Output), "with room for {room} bytes");
-    }
+    assert_eq!(rt;
+        drawn_without_room(rt.alloc())?,
+        (Ok(ExitCode::SUCCESS), None, true)
+    );
     Ok(())
 }

@@ -1,129 +1,232 @@
 //! What files are refused for, which fault is met first, and how numbers are spelled.
+use crate::nets::{TWO_NODES, remove_files, write_files};
 use command_parts::{Fault, decimal_number, network_of, read_network};
-use std::alloc::Global;
-use std::fs;
+use std::alloc::{AllocError, Global};
 use std::test::Fail;
+use std::{fs, io};
 use subcommands::simulate;
 use topology::NetFault;
 use world::simulation::SimFault;
 
-const TWO_NODES: &str = "nodes = 2\nroot = 0\ncapacity = 1\nlease = 0\nedges = [[0, 1]]\n";
+/// The bytes of a file, and its fault line without its first word and its end.
+const FAULTS: [(&[u8], &str); 4] = [
+    (
+        b"nodes = 2\nroot = 0\ncapacity = 1\nlease = 0\nedges = [[0, 1]]\n",
+        "accepted",
+    ),
+    (b"nodes =", "network NotToml"),
+    (&[0x66, 0xff], "network NotToml"),
+    (b"nodes = 2", "network Missing"),
+];
 
-/// The fault line without its first word and its end.
-fn fault_of(alloc: Global, bytes: &[u8]) -> Result<String, Fail> {
-    match network_of(alloc, bytes) {
-        Ok(_) => Ok(String::from_str(alloc, "accepted")?),
-        Err(fault) => Ok(format!(in alloc; "{fault}")?),
+/// Whether a fault has this name.
+fn is_named(alloc: Global, fault: Fault, want: &str) -> Result<bool, AllocError> {
+    Ok(format!(in alloc; "{fault}")?.as_str() == want)
+}
+
+/// The fault of a network file, if it has one.
+fn fault_of(alloc: Global, bytes: &[u8]) -> Option<Fault> {
+    network_of(alloc, bytes).err()
+}
+
+/// Whether a file has this fault line.
+fn has_fault(alloc: Global, bytes: &[u8], want: &str) -> Result<bool, AllocError> {
+    match fault_of(alloc, bytes) {
+        Some(fault) => is_named(alloc, fault, want),
+        None => Ok(want == "accepted"),
     }
+}
+
+/// The place of the first row whose file has another fault line.
+fn first_other_fault(alloc: Global, rows: &[(&[u8], &str)]) -> Result<Option<usize>, AllocError> {
+    for (at, (bytes, want)) in rows.iter().enumerate() {
+        if !has_fault(alloc, bytes, want)? {
+            return Ok(Some(at));
+        }
+    }
+    Ok(None)
 }
 
 #[test]
 fn names_the_fault_of_a_file(rt: HostRuntime) -> Result<(), Fail> {
-    let alloc = rt.alloc();
+    assert_eq!(rt; first_other_fault(rt.alloc(), &FAULTS)?, None);
+    Ok(())
+}
+
+/// Whether as many blanks as a file may have, and one more, have the fault lines that they should.
+fn blanks_have_faults(alloc: Global) -> Result<bool, AllocError> {
     let long = vec![in alloc; 32u8; 1_048_577]?;
-    for (bytes, want) in [
-        (TWO_NODES.as_bytes(), "accepted"),
-        (b"nodes =".as_slice(), "network NotToml"),
-        ([0x66, 0xff].as_slice(), "network NotToml"),
-        (b"nodes = 2".as_slice(), "network Missing"),
-        (&long.as_slice()[1..], "network Missing"),
-        (long.as_slice(), "network Unreadable"),
-    ] {
-        assert_eq!(rt; fault_of(alloc, bytes)?.as_str(), want);
-    }
-    assert_eq!(rt;
-        format!(in alloc; "{}", Fault::Network(NetFault::Memory))?.as_str(),
-        "network Memory"
+    Ok(
+        has_fault(alloc, &long.as_slice()[1..], "network Missing")?
+            && has_fault(alloc, long.as_slice(), "network Unreadable")?,
+    )
+}
+
+#[test]
+fn a_file_with_too_many_bytes_is_unreadable(rt: HostRuntime) -> Result<(), Fail> {
+    assert!(rt; blanks_have_faults(rt.alloc())?);
+    Ok(())
+}
+
+#[test]
+fn names_the_fault_of_memory(rt: HostRuntime) -> Result<(), Fail> {
+    assert!(rt;
+        is_named(
+            rt.alloc(),
+            Fault::Network(NetFault::Memory),
+            "network Memory"
+        )?
     );
     Ok(())
 }
 
+/// Paths, and the faults of what is read there.
+const PATHS: [(&str, Option<Fault>); 6] = [
+    ("read.toml", None),
+    ("long.toml", Some(Fault::NetworkUnreadable)),
+    ("absent.toml", Some(Fault::NetworkUnreadable)),
+    (".", Some(Fault::NetworkUnreadable)),
+    ("", Some(Fault::NetworkUnreadable)),
+    ("/dev/null", Some(Fault::NetworkUnreadable)),
+];
+
+/// The place of the first row whose path is read otherwise.
+fn first_read_otherwise(rt: &HostRuntime, rows: &[(&str, Option<Fault>)]) -> Option<usize> {
+    for (at, (path, want)) in rows.iter().enumerate() {
+        if read_network(rt, path).err() != *want {
+            return Some(at);
+        }
+    }
+    None
+}
+
+/// Writes a file of blanks, one more than may be.
+fn write_blanks(rt: &HostRuntime, path: &str) -> io::Result<()> {
+    let long = vec![in rt.alloc(); 32u8; 1_048_577]?;
+    fs::write(rt, path, long.as_slice())
+}
+
+/// Reads at those paths, while two of the files are there.
+fn reads(rt: &HostRuntime) -> io::Result<Option<usize>> {
+    fs::write(rt, "read.toml", TWO_NODES)?;
+    write_blanks(rt, "long.toml")?;
+    let other = first_read_otherwise(rt, &PATHS);
+    fs::remove_file(rt, "read.toml")?;
+    fs::remove_file(rt, "long.toml")?;
+    Ok(other)
+}
+
 #[test]
 fn reads_files(rt: HostRuntime) -> Result<(), Fail> {
-    let alloc = rt.alloc();
-    fs::write(&rt, "read.toml", TWO_NODES)?;
-    fs::write(
-        &rt,
-        "long.toml",
-        vec![in alloc; 32u8; 1_048_577]?.as_slice(),
-    )?;
-    for (path, want) in [
-        ("read.toml", None),
-        ("long.toml", Some(Fault::NetworkUnreadable)),
-        ("absent.toml", Some(Fault::NetworkUnreadable)),
-        (".", Some(Fault::NetworkUnreadable)),
-        ("", Some(Fault::NetworkUnreadable)),
-        ("/dev/null", Some(Fault::NetworkUnreadable)),
-    ] {
-        assert_eq!(rt; read_network(&rt, path).err(), want, "at {path:?}");
-    }
-    fs::remove_file(&rt, "read.toml")?;
-    fs::remove_file(&rt, "long.toml")?;
+    assert_eq!(rt; reads(&rt)?, None);
     Ok(())
+}
+
+/// The faults of simulations, and their names.
+const NAMES: [(SimFault, &str); 4] = [
+    (SimFault::Memory, "memory Refused"),
+    (SimFault::Read, "events Unreadable"),
+    (SimFault::Long, "events Long"),
+    (SimFault::Write, "output Refused"),
+];
+
+/// The place of the first row whose fault has another name.
+fn first_other_name(alloc: Global, rows: &[(SimFault, &str)]) -> Result<Option<usize>, AllocError> {
+    for (at, (fault, want)) in rows.iter().enumerate() {
+        if !is_named(alloc, Fault::from(*fault), want)? {
+            return Ok(Some(at));
+        }
+    }
+    Ok(None)
 }
 
 #[test]
 fn names_the_fault_of_a_simulation(rt: HostRuntime) -> Result<(), Fail> {
-    for (fault, want) in [
-        (SimFault::Memory, "memory Refused"),
-        (SimFault::Read, "events Unreadable"),
-        (SimFault::Long, "events Long"),
-        (SimFault::Write, "output Refused"),
-    ] {
-        let named = format!(in rt.alloc(); "{}", Fault::from(fault))?;
-        assert_eq!(rt; named.as_str(), want);
-    }
+    assert_eq!(rt; first_other_name(rt.alloc(), &NAMES)?, None);
     Ok(())
+}
+
+/// The files of simulations.
+const FILES: [(&str, &str); 3] = [
+    ("net.toml", TWO_NODES),
+    ("no-net.toml", "nodes ="),
+    ("one.events", "tick 0\n"),
+];
+
+/// A network, its events, and the fault of that simulation.
+const SIMULATIONS: [(&str, &str, Option<Fault>); 6] = [
+    ("net.toml", "one.events", None),
+    ("net.toml", "absent", Some(Fault::EventsUnreadable)),
+    ("net.toml", ".", Some(Fault::EventsUnreadable)),
+    ("net.toml", "", Some(Fault::EventsUnreadable)),
+    (
+        "no-net.toml",
+        "absent",
+        Some(Fault::Network(NetFault::NotToml)),
+    ),
+    ("absent", "absent", Some(Fault::NetworkUnreadable)),
+];
+
+/// The place of the first row whose simulation ends otherwise.
+fn first_simulated_otherwise(
+    rt: &HostRuntime,
+    rows: &[(&str, &str, Option<Fault>)],
+) -> Option<usize> {
+    for (at, (network, events, want)) in rows.iter().enumerate() {
+        if simulate::run(rt, network, events).err() != *want {
+            return Some(at);
+        }
+    }
+    None
+}
+
+/// Does those simulations, while the files are there.
+fn simulates(rt: &HostRuntime) -> io::Result<Option<usize>> {
+    write_files(rt, &FILES)?;
+    let other = first_simulated_otherwise(rt, &SIMULATIONS);
+    remove_files(rt, &FILES)?;
+    Ok(other)
 }
 
 #[test]
 fn looks_at_the_network_before_the_events(rt: HostRuntime) -> Result<(), Fail> {
-    fs::write(&rt, "net.toml", TWO_NODES)?;
-    fs::write(&rt, "no-net.toml", "nodes =")?;
-    fs::write(&rt, "one.events", "tick 0\n")?;
-    for (network, events, want) in [
-        ("net.toml", "one.events", None),
-        ("net.toml", "absent", Some(Fault::EventsUnreadable)),
-        ("net.toml", ".", Some(Fault::EventsUnreadable)),
-        ("net.toml", "", Some(Fault::EventsUnreadable)),
-        (
-            "no-net.toml",
-            "absent",
-            Some(Fault::Network(NetFault::NotToml)),
-        ),
-        ("absent", "absent", Some(Fault::NetworkUnreadable)),
-    ] {
-        let fault = simulate::run(&rt, network, events).err();
-        assert_eq!(rt; fault, want, "of {network:?} and {events:?}");
-    }
-    fs::remove_file(&rt, "net.toml")?;
-    fs::remove_file(&rt, "no-net.toml")?;
-    fs::remove_file(&rt, "one.events")?;
+    assert_eq!(rt; simulates(&rt)?, None);
     Ok(())
+}
+
+/// A word, the greatest number that is taken, and the number that it spells.
+const SPELLINGS: [(&str, u64, Option<u64>); 18] = [
+    ("0", 0, Some(0)),
+    ("1", 0, None),
+    ("7", 65535, Some(7)),
+    ("65535", 65535, Some(65535)),
+    ("65536", 65535, None),
+    ("18446744073709551615", u64::MAX, Some(u64::MAX)),
+    ("18446744073709551616", u64::MAX, None),
+    ("99999999999999999999", u64::MAX, None),
+    ("", 9, None),
+    ("+1", 9, None),
+    ("-1", 9, None),
+    ("-0", 9, None),
+    ("01", 9, None),
+    ("00", 9, None),
+    (" 1", 9, None),
+    ("1 ", 9, None),
+    ("0x1", 9, None),
+    ("1e0", 9, None),
+];
+
+/// The place of the first row whose word spells something else.
+fn first_spelled_otherwise(rows: &[(&str, u64, Option<u64>)]) -> Option<usize> {
+    for (at, (word, greatest, want)) in rows.iter().enumerate() {
+        if decimal_number(word, *greatest) != *want {
+            return Some(at);
+        }
+    }
+    None
 }
 
 #[test]
 fn a_number_has_one_spelling(rt: HostRuntime) {
-    for (word, greatest, want) in [
-        ("0", 0, Some(0)),
-        ("1", 0, None),
-        ("7", 65535, Some(7)),
-        ("65535", 65535, Some(65535)),
-        ("65536", 65535, None),
-        ("18446744073709551615", u64::MAX, Some(u64::MAX)),
-        ("18446744073709551616", u64::MAX, None),
-        ("99999999999999999999", u64::MAX, None),
-        ("", 9, None),
-        ("+1", 9, None),
-        ("-1", 9, None),
-        ("-0", 9, None),
-        ("01", 9, None),
-        ("00", 9, None),
-        (" 1", 9, None),
-        ("1 ", 9, None),
-        ("0x1", 9, None),
-        ("1e0", 9, None),
-    ] {
-        assert_eq!(rt; decimal_number(word, greatest), want, "at {word:?}");
-    }
+    assert_eq!(rt; first_spelled_otherwise(&SPELLINGS), None);
 }

@@ -3,7 +3,7 @@
 use crate::shelf::Shelf;
 use command_parts::{Fault, WriteSink};
 use std::alloc::Global;
-use std::io::BufWriter;
+use std::io::{BufWriter, Error};
 use std::test::Fail;
 use subcommands::junk::write_junk;
 
@@ -13,59 +13,80 @@ const LINES: &[u8] = b"+(==lkMfO]!#B{X}whq}R*SbyZPz$`#?5I3\n\
     \"m&tt}YgWO#W2LhWdJ,J;NK%1m;}}T|l@);\"x\n\
     R3BHS:y^\n";
 
-/// The answer, and the text of a seed, where there is room for `room` bytes.
-fn written(
+/// A seed, a count of lines, and their text.
+const TEXTS: [(u32, u32, &[u8]); 3] = [
+    (7, 0, b""),
+    (7, 4, LINES),
+    (u32::MAX, 1, b"[3c/~drGd/3U%9A/vul,:CgWN;Un8CP+U#e\n"),
+];
+
+/// Writes the lines of a seed to a shelf.
+fn write_to(
+    alloc: Global,
+    seed: u32,
+    lines: u32,
+    shelf: Shelf<'_>,
+) -> Result<Result<(), Fault>, Error> {
+    let mut sink = WriteSink::new(BufWriter::with_capacity(alloc, 16, shelf)?);
+    Ok(write_junk(seed, lines, &mut sink))
+}
+
+/// Whether the lines of a seed are answered so, and this is their text, where there is room for
+/// `room` bytes.
+fn is_written(
     alloc: Global,
     seed: u32,
     lines: u32,
     room: usize,
-) -> Result<(Result<(), Fault>, Vec<u8>), Fail> {
+    want: Result<(), Fault>,
+    text: &[u8],
+) -> Result<bool, Error> {
     let mut taken = Vec::new(alloc);
     let shelf = Shelf {
         taken: &mut taken,
         room,
     };
-    let mut sink = WriteSink::new(BufWriter::with_capacity(alloc, 16, shelf)?);
-    let answer = write_junk(seed, lines, &mut sink);
-    drop(sink);
-    Ok((answer, taken))
+    let answer = write_to(alloc, seed, lines, shelf)?;
+    Ok(answer == want && taken.as_slice() == text)
 }
 
-/// The answer, and whether this is the text.
-fn written_as(
-    alloc: Global,
-    seed: u32,
-    lines: u32,
-    room: usize,
-    want: &[u8],
-) -> Result<(Result<(), Fault>, bool), Fail> {
-    let (answer, text) = written(alloc, seed, lines, room)?;
-    Ok((answer, text.as_slice() == want))
+/// The place of the first row whose lines are not written so.
+fn first_other_text(alloc: Global, rows: &[(u32, u32, &[u8])]) -> Result<Option<usize>, Error> {
+    for (at, (seed, lines, want)) in rows.iter().enumerate() {
+        if !is_written(alloc, *seed, *lines, 1000, Ok(()), want)? {
+            return Ok(Some(at));
+        }
+    }
+    Ok(None)
 }
 
 #[test]
 fn writes_the_lines_of_a_seed(rt: HostRuntime) -> Result<(), Fail> {
-    for (seed, lines, want) in [
-        (7, 0, &b""[..]),
-        (7, 4, LINES),
-        (u32::MAX, 1, &b"[3c/~drGd/3U%9A/vul,:CgWN;Un8CP+U#e\n"[..]),
-    ] {
-        let found = written_as(rt.alloc(), seed, lines, 1000, want)?;
-        assert_eq!(rt; found, (Ok(()), true), "of seed {seed}");
-    }
+    assert_eq!(rt; first_other_text(rt.alloc(), &TEXTS)?, None);
     Ok(())
+}
+
+/// What is answered where there is room for `room` bytes of the four lines.
+fn answer_with_room(room: usize) -> Result<(), Fault> {
+    if room < LINES.len() {
+        Err(Fault::Output)
+    } else {
+        Ok(())
+    }
+}
+
+/// The first room that is not filled with the front of the four lines, or is answered otherwise.
+fn first_other_room(alloc: Global) -> Result<Option<usize>, Error> {
+    for room in 0..=LINES.len() {
+        if !is_written(alloc, 7, 4, room, answer_with_room(room), &LINES[..room])? {
+            return Ok(Some(room));
+        }
+    }
+    Ok(None)
 }
 
 #[test]
 fn lines_without_room_are_a_fault(rt: HostRuntime) -> Result<(), Fail> {
-    for room in 0..=LINES.len() {
-        let found = written_as(rt.alloc(), 7, 4, room, &LINES[..room])?;
-        let want = if room < LINES.len() {
-            Err(Fault::Output)
-        } else {
-            Ok(())
-        };
-        assert_eq!(rt; found, (want, true), "with room for {room} bytes");
-    }
+    assert_eq!(rt; first_other_room(rt.alloc())?, None);
     Ok(())
 }

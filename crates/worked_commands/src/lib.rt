@@ -17,6 +17,8 @@ mod junk;
 #[cfg(test)]
 mod measure;
 #[cfg(test)]
+mod nets;
+#[cfg(test)]
 mod schedule;
 #[cfg(test)]
 mod scramble;

@@ -1,68 +1,120 @@
 //! The state files of scrambled nodes, and files that cannot be written. The expected bytes are
 //! those of another program, written from the definitions of the draws and of the generator.
+use crate::nets::{TWO_NODES, remove_files, two_nodes, write_files};
 use command_parts::{Fault, PathFault};
 use node_state_file::{FusedStore, MemoryStore, Store, StoreFault};
-use std::fs;
+use std::alloc::{AllocError, Global};
 use std::process::ExitCode;
 use std::test::Fail;
+use std::{fs, io};
 use subcommands::scramble::{run, save_scrambled};
-use topology::{Net, NetFault};
-
-const TWO_NODES: &str = "nodes = 2\nroot = 0\ncapacity = 1\nlease = 0\nedges = [[0, 1]]\n";
+use topology::NetFault;
 
 /// Node 1 of two, of seed 7: distance 2, no parent; number 0, last heard 4; staged 0, parent 0,
 /// ring value 3; copied 1, none, 1; value 2.
-const OF_SEVEN: &[u8; 36] = b"TKT2\0\x02\0\x01\0\x01\0\x01\0\x02\xff\xff\
+const OF_SEVEN: &[u8] = b"TKT2\0\x02\0\x01\0\x01\0\x01\0\x02\xff\xff\
     \0\0\0\0\0\x04\0\0\0\0\0\x03\0\x01\xff\xff\0\x01\0\x02";
+
+/// The bytes of another file, which is longer.
+const OTHER: &[u8] = &[7; 50];
+
+/// The network's file.
+const NETWORK: [(&str, &str); 1] = [("two.toml", TWO_NODES)];
+
+/// Whether a file has these bytes.
+fn file_holds(rt: &HostRuntime, path: &str, bytes: &[u8]) -> io::Result<bool> {
+    Ok(fs::read(rt, path)?.as_slice() == bytes)
+}
+
+/// Whether a scramble of node 1 is done.
+fn is_done(rt: &HostRuntime) -> bool {
+    run(rt, "two.toml", 1, "one.state", 7) == Ok(ExitCode::SUCCESS)
+}
+
+/// Whether a scramble over another file is done, and leaves the state of node 1 there.
+fn scrambles_over(rt: &HostRuntime) -> io::Result<bool> {
+    fs::write(rt, "one.state", OTHER)?;
+    let is_done = is_done(rt);
+    let is_there = file_holds(rt, "one.state", OF_SEVEN)?;
+    fs::remove_file(rt, "one.state")?;
+    Ok(is_done && is_there)
+}
+
+/// The same, while the network's file is there.
+fn scrambles(rt: &HostRuntime) -> io::Result<bool> {
+    write_files(rt, &NETWORK)?;
+    let is_there = scrambles_over(rt)?;
+    remove_files(rt, &NETWORK)?;
+    Ok(is_there)
+}
 
 #[test]
 fn writes_the_scrambled_state(rt: HostRuntime) -> Result<(), Fail> {
-    fs::write(&rt, "two.toml", TWO_NODES)?;
-    fs::write(&rt, "one.state", [7; 50].as_slice())?;
-    let done = run(&rt, "two.toml", 1, "one.state", 7);
-    assert_eq!(rt; done, Ok(ExitCode::SUCCESS));
-    assert_eq!(rt; fs::read(&rt, "one.state")?.as_slice(), OF_SEVEN.as_slice());
-    fs::remove_file(&rt, "one.state")?;
-    fs::remove_file(&rt, "two.toml")?;
+    assert!(rt; scrambles(&rt)?);
     Ok(())
 }
+
+/// A network, a node, a file, and the fault of a scramble.
+type Row<'a> = (&'a str, u16, &'a str, PathFault<'a>);
+
+/// Scrambles of which each has a fault.
+static FAULTS: [Row<'static>; 8] = [
+    (
+        "absent.toml",
+        2,
+        ".",
+        PathFault::Fault(Fault::NetworkUnreadable),
+    ),
+    (
+        "no-net.toml",
+        2,
+        ".",
+        PathFault::Fault(Fault::Network(NetFault::NotToml)),
+    ),
+    ("net.toml", 2, ".", PathFault::Fault(Fault::NoNode)),
+    ("net.toml", 65535, ".", PathFault::Fault(Fault::NoNode)),
+    ("net.toml", 1, ".", PathFault::Unwritable(".")),
+    ("net.toml", 1, "", PathFault::Unwritable("")),
+    (
+        "net.toml",
+        1,
+        "net.toml/one",
+        PathFault::Unwritable("net.toml/one"),
+    ),
+    ("net.toml", 1, "no/one", PathFault::Unwritable("no/one")),
+];
+
+/// The files that they name.
+const FILES: [(&str, &str); 2] = [("net.toml", TWO_NODES), ("no-net.toml", "nodes =")];
 
 /// The fault of a scramble, if it has one.
 fn fault_of<'a>(rt: &HostRuntime, network: &str, id: u16, path: &'a str) -> Option<PathFault<'a>> {
     run(rt, network, id, path, 7).err()
 }
 
+/// The place of the first row that has another fault.
+fn first_other_fault(rt: &HostRuntime, rows: &[Row<'_>]) -> Option<usize> {
+    for (at, (network, id, path, want)) in rows.iter().enumerate() {
+        if fault_of(rt, network, *id, path) != Some(*want) {
+            return Some(at);
+        }
+    }
+    None
+}
+
+/// The place of the first scramble that has another fault, and whether the network's file is as it
+/// was.
+fn tries_faults(rt: &HostRuntime) -> io::Result<(Option<usize>, bool)> {
+    write_files(rt, &FILES)?;
+    let other = first_other_fault(rt, &FAULTS);
+    let is_whole = file_holds(rt, "net.toml", TWO_NODES.as_bytes())?;
+    remove_files(rt, &FILES)?;
+    Ok((other, is_whole))
+}
+
 #[test]
 fn looks_at_the_network_then_the_node_then_the_file(rt: HostRuntime) -> Result<(), Fail> {
-    fs::write(&rt, "net.toml", TWO_NODES)?;
-    fs::write(&rt, "no-net.toml", "nodes =")?;
-    let not_toml = PathFault::Fault(Fault::Network(NetFault::NotToml));
-    for (network, id, path, want) in [
-        (
-            "absent.toml",
-            2,
-            ".",
-            PathFault::Fault(Fault::NetworkUnreadable),
-        ),
-        ("no-net.toml", 2, ".", not_toml),
-        ("net.toml", 2, ".", PathFault::Fault(Fault::NoNode)),
-        ("net.toml", 65535, ".", PathFault::Fault(Fault::NoNode)),
-        ("net.toml", 1, ".", PathFault::Unwritable(".")),
-        ("net.toml", 1, "", PathFault::Unwritable("")),
-        (
-            "net.toml",
-            1,
-            "net.toml/one",
-            PathFault::Unwritable("net.toml/one"),
-        ),
-        ("net.toml", 1, "no/one", PathFault::Unwritable("no/one")),
-    ] {
-        let fault = fault_of(&rt, network, id, path);
-        assert_eq!(rt; fault, Some(want), "node {id} of {network:?} in {path:?}");
-    }
-    assert_eq!(rt; fs::read(&rt, "net.toml")?.as_slice(), TWO_NODES.as_bytes());
-    fs::remove_file(&rt, "net.toml")?;
-    fs::remove_file(&rt, "no-net.toml")?;
+    assert_eq!(rt; tries_faults(&rt)?, (None, true));
     Ok(())
 }
 
@@ -74,28 +126,73 @@ fn holds(store: &MemoryStore, bytes: &[u8]) -> bool {
     }
 }
 
+/// A store whose first call fails, and in which four bytes are stored.
+fn failing_store(alloc: Global) -> Result<FusedStore<MemoryStore>, Fail> {
+    let mut memory = MemoryStore::new(alloc, 36)?;
+    memory.save(b"TKT2")?;
+    Ok(FusedStore::new(memory, 0))
+}
+
+/// Saves the state of node 1 of two in a store.
+fn save(
+    alloc: Global,
+    store: &mut FusedStore<MemoryStore>,
+) -> Result<Result<Result<(), StoreFault>, Fault>, NetFault> {
+    let net = two_nodes(alloc)?;
+    Ok(save_scrambled(alloc, &net, 1, 7, store))
+}
+
+/// Whether a save answers so, and the store holds these bytes then.
+fn saves(
+    alloc: Global,
+    store: &mut FusedStore<MemoryStore>,
+    want: Result<(), StoreFault>,
+    bytes: &[u8],
+) -> Result<bool, NetFault> {
+    Ok(save(alloc, store)? == Ok(want) && holds(store.inner(), bytes))
+}
+
+/// Whether the first of two saves fails, and leaves what was stored, and the second does not.
+fn saves_at_last(alloc: Global) -> Result<bool, Fail> {
+    let mut store = failing_store(alloc)?;
+    Ok(
+        saves(alloc, &mut store, Err(StoreFault::Device), b"TKT2")?
+            && saves(alloc, &mut store, Ok(()), OF_SEVEN)?,
+    )
+}
+
 #[test]
 fn a_failed_save_leaves_what_was_stored(rt: HostRuntime) -> Result<(), Fail> {
-    let net = Net::make(rt.alloc(), 2, 0, 1, 0, &[(0, 1)])?;
-    let mut memory = MemoryStore::new(rt.alloc(), 36)?;
-    memory.save(b"TKT2")?;
-    let mut store = FusedStore::new(memory, 0);
-    let failed = save_scrambled(rt.alloc(), &net, 1, 7, &mut store);
-    assert_eq!(rt; failed, Ok(Err(StoreFault::Device)));
-    assert!(rt; holds(store.inner(), b"TKT2"));
-    let saved = save_scrambled(rt.alloc(), &net, 1, 7, &mut store);
-    assert_eq!(rt; saved, Ok(Ok(())));
-    assert!(rt; holds(store.inner(), OF_SEVEN));
+    assert!(rt; saves_at_last(rt.alloc())?);
     Ok(())
+}
+
+/// Faults, and what they are printed as.
+static NAMES: [(PathFault<'static>, &str); 2] = [
+    (PathFault::Unwritable("a/b"), "cannot write a/b"),
+    (PathFault::Fault(Fault::NoNode), "id NoNode"),
+];
+
+/// Whether a fault is printed so.
+fn is_named(alloc: Global, fault: PathFault<'_>, want: &str) -> Result<bool, AllocError> {
+    Ok(format!(in alloc; "{fault}")?.as_str() == want)
+}
+
+/// The place of the first row whose fault is printed otherwise.
+fn first_other_name(
+    alloc: Global,
+    rows: &[(PathFault<'_>, &str)],
+) -> Result<Option<usize>, AllocError> {
+    for (at, (fault, want)) in rows.iter().enumerate() {
+        if !is_named(alloc, *fault, want)? {
+            return Ok(Some(at));
+        }
+    }
+    Ok(None)
 }
 
 #[test]
 fn names_the_file_that_cannot_be_written(rt: HostRuntime) -> Result<(), Fail> {
-    for (fault, want) in [
-        (PathFault::Unwritable("a/b"), "cannot write a/b"),
-        (PathFault::Fault(Fault::NoNode), "id NoNode"),
-    ] {
-        assert_eq!(rt; format!(in rt.alloc(); "{fault}")?.as_str(), want);
-    }
+    assert_eq!(rt; first_other_name(rt.alloc(), &NAMES)?, None);
     Ok(())
 }

@@ -1,18 +1,18 @@
 //! Readers that are interrupted or fail, and writers that have too little room.
+use crate::nets::two_nodes;
 use crate::shelf::Shelf;
-use command_parts::{Fault, ReadSource, WriteSink};
+use command_parts::{Fault, ReadSource, WriteSink, simulate_between};
 use std::alloc::Global;
-use std::io::{BufWriter, Error, ErrorKind, Read};
+use std::io::{BufWriter, Error, ErrorKind, Read, Write};
 use std::test::Fail;
-use subcommands::simulate::simulate_between;
 use topology::Net;
 use world::simulation::Summary;
 
 /// Lines of which the first, the second and the last are refused.
-const EVENTS: &str = "tick 2\nsend 0 0\ntick 0\nTick 0";
+const EVENTS: &[u8] = b"tick 2\nsend 0 0\ntick 0\nTick 0";
 
 /// What they lead to on two nodes.
-const OUTPUT: &str = "\
+const OUTPUT: &[u8] = b"\
 line 1: NoNode
 line 2: NoLink
 line 4: Unread
@@ -58,32 +58,53 @@ impl Read for Answers<'_> {
     }
 }
 
-/// Simulates what these reads answer, on two nodes, and writes to a shelf.
+/// Simulates what a source gives, on a network, without the contract of that.
+fn simulate<W: Write + Drop>(
+    alloc: Global,
+    net: &Net,
+    source: &mut ReadSource<Answers<'_>>,
+    sink: &mut WriteSink<W>,
+) -> Result<Summary, Fault> {
+    simulate_between(alloc, net, source, sink)
+}
+
+/// Simulates what these reads answer, on a network, and writes to a shelf.
+fn simulate_on(
+    alloc: Global,
+    net: &Net,
+    answers: &[Answer<'_>],
+    shelf: Shelf<'_>,
+) -> Result<Result<Summary, Fault>, Error> {
+    let mut sink = WriteSink::new(BufWriter::with_capacity(alloc, 16, shelf)?);
+    let mut source = ReadSource::new(Answers { answers, reads: 0 });
+    Ok(simulate(alloc, net, &mut source, &mut sink))
+}
+
+/// The same on two nodes.
 fn simulate_to(
     alloc: Global,
     answers: &[Answer<'_>],
     shelf: Shelf<'_>,
 ) -> Result<Result<Summary, Fault>, Fail> {
-    let net = Net::make(alloc, 2, 0, 1, 0, &[(0, 1)])?;
-    let mut source = ReadSource::new(Answers { answers, reads: 0 });
-    let mut sink = WriteSink::new(BufWriter::with_capacity(alloc, 16, shelf)?);
-    Ok(simulate_between(alloc, &net, &mut source, &mut sink))
+    let net = two_nodes(alloc)?;
+    Ok(simulate_on(alloc, &net, answers, shelf)?)
 }
 
-/// The answer of a simulation, and whether this was written where there is room for `room` bytes.
-fn simulated(
+/// Whether a simulation answers so, and this was written where there is room for `room` bytes.
+fn simulates(
     alloc: Global,
     answers: &[Answer<'_>],
     room: usize,
-    want: &[u8],
-) -> Result<(Result<Summary, Fault>, bool), Fail> {
+    want: Result<Summary, Fault>,
+    text: &[u8],
+) -> Result<bool, Fail> {
     let mut taken = Vec::new(alloc);
     let shelf = Shelf {
         taken: &mut taken,
         room,
     };
     let answer = simulate_to(alloc, answers, shelf)?;
-    Ok((answer, taken.as_slice() == want))
+    Ok(answer == want && taken.as_slice() == text)
 }
 
 /// What three refused lines without a sweep are told as.
@@ -92,45 +113,70 @@ const THREE: Summary = Summary {
     sweeps: 0,
 };
 
+/// The events, between interruptions.
+static INTERRUPTED: [Answer<'static>; 6] = [
+    Answer::Interrupted,
+    Answer::Bytes(b"tick 2\nse"),
+    Answer::Interrupted,
+    Answer::Interrupted,
+    Answer::Bytes(b"nd 0 0\ntick 0\nTick 0"),
+    Answer::Interrupted,
+];
+
 #[test]
 fn an_interrupted_read_is_tried_again(rt: HostRuntime) -> Result<(), Fail> {
-    let answers = [
-        Answer::Interrupted,
-        Answer::Bytes(&EVENTS.as_bytes()[..9]),
-        Answer::Interrupted,
-        Answer::Interrupted,
-        Answer::Bytes(&EVENTS.as_bytes()[9..]),
-        Answer::Interrupted,
-    ];
-    let found = simulated(rt.alloc(), &answers, 1000, OUTPUT.as_bytes())?;
-    assert_eq!(rt; found, (Ok(THREE), true));
+    assert!(rt; simulates(rt.alloc(), &INTERRUPTED, 1000, Ok(THREE), OUTPUT)?);
     Ok(())
 }
 
+/// The events, with a failure amid the third line.
+static FAILED: [Answer<'static>; 3] = [
+    Answer::Bytes(b"tick 2\nsend 0 0\ntick"),
+    Answer::Broken,
+    Answer::Bytes(b" 0\nTick 0"),
+];
+
+/// What is told of the lines before the failure.
+const TOLD: &[u8] = b"line 1: NoNode\nline 2: NoLink\n";
+
 #[test]
 fn what_came_before_a_failed_read_is_told(rt: HostRuntime) -> Result<(), Fail> {
-    let answers = [
-        Answer::Bytes(&EVENTS.as_bytes()[..20]),
-        Answer::Broken,
-        Answer::Bytes(&EVENTS.as_bytes()[20..]),
-    ];
-    let told = b"line 1: NoNode\nline 2: NoLink\n";
-    let found = simulated(rt.alloc(), &answers, 1000, told)?;
-    assert_eq!(rt; found, (Err(Fault::EventsUnreadable), true));
+    assert!(rt;
+        simulates(
+            rt.alloc(),
+            &FAILED,
+            1000,
+            Err(Fault::EventsUnreadable),
+            TOLD
+        )?
+    );
     Ok(())
+}
+
+/// The events, in one read.
+static WHOLE: [Answer<'static>; 1] = [Answer::Bytes(EVENTS)];
+
+/// What is answered where there is room for `room` bytes of the output.
+fn answer_with_room(room: usize) -> Result<Summary, Fault> {
+    if room < OUTPUT.len() {
+        Err(Fault::Output)
+    } else {
+        Ok(THREE)
+    }
+}
+
+/// The first room that is not filled with the front of the output, or is answered otherwise.
+fn first_other_room(alloc: Global) -> Result<Option<usize>, Fail> {
+    for room in 0..=OUTPUT.len() {
+        if !simulates(alloc, &WHOLE, room, answer_with_room(room), &OUTPUT[..room])? {
+            return Ok(Some(room));
+        }
+    }
+    Ok(None)
 }
 
 #[test]
 fn output_without_room_is_a_fault(rt: HostRuntime) -> Result<(), Fail> {
-    let answers = [Answer::Bytes(EVENTS.as_bytes())];
-    for room in 0..=OUTPUT.len() {
-        let found = simulated(rt.alloc(), &answers, room, &OUTPUT.as_bytes()[..room])?;
-        let want = if room < OUTPUT.len() {
-            Err(Fault::Output)
-        } else {
-            Ok(THREE)
-        };
-        assert_eq!(rt; found, (want, true), "with room for {room} bytes");
-    }
+    assert_eq!(rt; first_other_room(rt.alloc())?, None);
     Ok(())
 }

@@ -36,13 +36,18 @@ pub fn two(alloc: Global) -> Result<Net, NetFault> {
     net_of(alloc, 2, &[(0, 1)])
 }
 
+/// Three nodes in a line.
+pub fn line(alloc: Global) -> Result<Net, NetFault> {
+    net_of(alloc, 3, &[(0, 1), (1, 2)])
+}
+
 /// A star of 64 nodes, whose links hold as many items as a link may.
 pub fn star(alloc: Global) -> Result<Net, NetFault> {
-    let mut edges = Vec::new(alloc);
-    for leaf in 1..64 {
-        edges.push((0, leaf))?;
+    let mut edges = [(0, 0); 63];
+    for (edge, leaf) in edges.iter_mut().zip(1..64) {
+        *edge = (0, leaf);
     }
-    Net::make(alloc, 64, 0, 4096, 0, edges.as_slice())
+    Net::make(alloc, 64, 0, 4096, 0, &edges)
 }
 
 /// A file: its first word, and numbers of two bytes, the higher byte first.

@@ -1,12 +1,12 @@
 //! State files of which a byte has changed, files of any bytes, and files of scrambled states.
-use crate::calls::{File, NEWER, OLDER, file_of, net_of, reread, scrambled, star, two};
+use crate::calls::{File, NEWER, OLDER, file_of, line, net_of, reread, scrambled, star, two};
 use node_state_file::FileFault;
 use rand_core::SeedableRng;
 use rand_core::utils::NextWord;
 use rand_pcg::Lcg64Xsh32;
 use std::alloc::{AllocError, Global};
 use std::test::Fail;
-use topology::Net;
+use topology::{Net, NetFault};
 
 /// How files are answered.
 #[derive(Clone, Copy, Debug, Default, PartialEq, Eq)]
@@ -22,10 +22,10 @@ struct Tally {
 }
 
 impl Tally {
-    /// Counts the answer to a file.
-    fn count(&mut self, file: &[u8], answer: Result<File, FileFault>) {
+    /// Counts an answer: whether a file that is read ends as it should, or the fault.
+    fn count(&mut self, answer: Result<bool, FileFault>) {
         let count = match answer {
-            Ok(again) if ends_so(&again, file) => &mut self.read,
+            Ok(true) => &mut self.read,
             Err(FileFault::Magic) => &mut self.magic,
             Err(FileFault::Shape) => &mut self.shape,
             Err(FileFault::Range) => &mut self.range,
@@ -40,47 +40,70 @@ fn ends_so(again: &[u8], file: &[u8]) -> bool {
     again.len() == 36 && file.len() >= 24 && again.ends_with(&file[file.len() - 24..])
 }
 
+/// Whether the state that node 1 reads ends with the bytes of its file, or the fault.
+fn answer_to(alloc: Global, net: &Net, file: &[u8]) -> Result<bool, FileFault> {
+    let again = reread(alloc, file, net, 1)?;
+    Ok(ends_so(&again, file))
+}
+
+/// That file with this change of the byte at that place.
+fn with_change(good: &[u8], at: usize, change: u8) -> File {
+    let mut file = file_of(good, &[]);
+    if let Some(byte) = file.get_mut(at) {
+        *byte ^= change;
+    }
+    file
+}
+
 /// How all files are answered that differ in one byte from a file of node 1 of two.
 fn answers_of(alloc: Global, net: &Net, good: &[u8]) -> Tally {
     let mut tally = Tally::default();
     for at in 0..good.len() {
         for change in 1..=255u8 {
-            let mut file = file_of(good, &[]);
-            if let Some(byte) = file.get_mut(at) {
-                *byte ^= change;
-            }
-            let answer = reread(alloc, &file, net, 1);
-            tally.count(&file, answer);
+            tally.count(answer_to(alloc, net, &with_change(good, at, change)));
         }
     }
     tally
 }
 
+/// The same of the layout that is written and of the older one.
+fn answers_of_both(alloc: Global) -> Result<[Tally; 2], NetFault> {
+    let net = two(alloc)?;
+    Ok([
+        answers_of(alloc, &net, NEWER),
+        answers_of(alloc, &net, OLDER),
+    ])
+}
+
 /// Of the 255 changes of a byte these are read: of the distances (now 2) two each, of the numbers
 /// (below 5) four each, of the three ring values (below 7) six each; no parent is one byte away
-/// from none. The first word may become the other one: then the numbers stand elsewhere, and the
-/// neighbour or the degree is none that there is.
+/// from none.
+const READ: u32 = 3 * 2 + 2 * 4 + 3 * 6;
+
+/// The answers to files in the layout that is written. The first word may become the other one:
+/// then the numbers stand elsewhere, and the neighbour or the degree is none that there is.
+const TO_NEWER: Tally = Tally {
+    read: READ,
+    magic: 4 * 255 - 1,
+    // Nodes, id, capacity, degree, neighbour.
+    shape: 5 * 510 + 1,
+    // Of eleven fields of two bytes each whatever is not read is out of range.
+    range: 11 * 510 - READ,
+    other: 0,
+};
+
+/// Those to files in the older layout, which is the same without the capacity.
+const TO_OLDER: Tally = Tally {
+    read: READ,
+    magic: 4 * 255 - 1,
+    shape: 4 * 510 + 1,
+    range: 11 * 510 - READ,
+    other: 0,
+};
+
 #[test]
 fn one_byte_has_changed(rt: HostRuntime) -> Result<(), Fail> {
-    let net = two(rt.alloc())?;
-    let read = 3 * 2 + 2 * 4 + 3 * 6;
-    // Of eleven fields of two bytes each whatever is not read is out of range.
-    let range = 11 * 510 - read;
-    // Nodes, id, capacity, degree, neighbour.
-    let newer = Tally {
-        read,
-        magic: 4 * 255 - 1,
-        shape: 5 * 510 + 1,
-        range,
-        other: 0,
-    };
-    assert_eq!(rt; answers_of(rt.alloc(), &net, NEWER), newer);
-    // The same without the capacity.
-    let older = Tally {
-        shape: 4 * 510 + 1,
-        ..newer
-    };
-    assert_eq!(rt; answers_of(rt.alloc(), &net, OLDER), older);
+    assert_eq!(rt; answers_of_both(rt.alloc())?, [TO_NEWER, TO_OLDER]);
     Ok(())
 }
 
@@ -98,66 +121,111 @@ fn any_bytes(
     Ok(bytes)
 }
 
+/// The fault of any bytes behind these as a file of node 0; none where they are read.
+fn fault_of(
+    alloc: Global,
+    net: &Net,
+    front: &[u8],
+    length: usize,
+    generator: &mut Lcg64Xsh32,
+) -> Result<Option<FileFault>, AllocError> {
+    let bytes = any_bytes(alloc, front, length, generator)?;
+    Ok(reread(alloc, &bytes, net, 0).err())
+}
+
+/// The header of a file of node 0 of the star.
+const HEADER: &[u8; 16] = b"TKT2\0\x40\0\0\x10\0\0\x3f\0\x40\0\x3f";
+
+/// Files of any bytes: those in front, from how many bytes behind them on none is missing, and the
+/// fault of a file that is long enough.
+const ANY_FILES: [(&[u8], usize, FileFault); 2] = [
+    (b"", 4, FileFault::Magic),
+    (HEADER, 20 * 63, FileFault::Shape),
+];
+
+/// Whether any bytes, this number of them behind those in front, have such faults.
+fn have_faults(
+    alloc: Global,
+    net: &Net,
+    length: usize,
+    generator: &mut Lcg64Xsh32,
+) -> Result<bool, AllocError> {
+    let mut as_told = true;
+    for (front, enough, fault) in &ANY_FILES {
+        let want = if length < *enough {
+            FileFault::Short
+        } else {
+            *fault
+        };
+        as_told &= fault_of(alloc, net, front, length, generator)? == Some(want);
+    }
+    Ok(as_told)
+}
+
+/// The first number of bytes that have another fault.
+fn first_unlike(alloc: Global) -> Result<Option<usize>, Fail> {
+    let net = star(alloc)?;
+    let mut generator = Lcg64Xsh32::seed_from_u64(17);
+    for length in 0..=1300usize {
+        if !have_faults(alloc, &net, length, &mut generator)? {
+            return Ok(Some(length));
+        }
+    }
+    Ok(None)
+}
+
 /// No such file has one of the two words, and none has 63 neighbours that ascend, unless by a
 /// chance that this generator does not take.
 #[test]
 fn any_bytes_of_each_length(rt: HostRuntime) -> Result<(), Fail> {
-    let alloc = rt.alloc();
-    let net = star(alloc)?;
-    let header = file_of(b"TKT2", &[64, 0, 4096, 63, 64, 63]);
-    let mut generator = Lcg64Xsh32::seed_from_u64(17);
-    for length in 0..=1300usize {
-        let bytes = any_bytes(alloc, b"", length, &mut generator)?;
-        let want = if length < 4 {
-            FileFault::Short
-        } else {
-            FileFault::Magic
-        };
-        assert_eq!(rt; reread(alloc, &bytes, &net, 0), Err(want), "{length} bytes");
-        let behind = any_bytes(alloc, &header, length, &mut generator)?;
-        let want = if length < 20 * 63 {
-            FileFault::Short
-        } else {
-            FileFault::Shape
-        };
-        assert_eq!(rt;
-            reread(alloc, &behind, &net, 0),
-            Err(want),
-            "{length} bytes behind"
-        );
-    }
+    assert_eq!(rt; first_unlike(rt.alloc())?, None);
     Ok(())
 }
 
-/// Scrambles each node of a network in turn, as often as that, and says how many of the files were
+/// Whether a node's scrambled state is read again as the very same bytes.
+fn is_read_again(
+    alloc: Global,
+    net: &Net,
+    id: u16,
+    generator: &mut Lcg64Xsh32,
+) -> Result<bool, AllocError> {
+    let file = scrambled(alloc, net, id, generator)?;
+    Ok(!file.is_empty() && reread(alloc, &file, net, id) == Ok(file))
+}
+
+/// Scrambles each node of a network in turn, 2000 times in all, and says how many of the files were
 /// read again as the very same bytes.
 fn read_again(
     alloc: Global,
-    net: &Net,
-    times: u16,
+    made: Result<Net, NetFault>,
     generator: &mut Lcg64Xsh32,
-) -> Result<u16, AllocError> {
+) -> Result<u16, Fail> {
+    let net = made?;
     let mut same = 0u16;
-    for time in 0..times {
-        let id = time % net.nodes();
-        let file = scrambled(alloc, net, id, generator)?;
-        if !file.is_empty() && reread(alloc, &file, net, id) == Ok(file) {
+    for time in 0..2000 {
+        if is_read_again(alloc, &net, time % net.nodes(), generator)? {
             same = same.saturating_add(1);
         }
     }
     Ok(same)
 }
 
+/// The same of two nodes, a line, a triangle, a square and a star, one after the other.
+fn read_again_of_five(alloc: Global) -> Result<[u16; 5], Fail> {
+    let triangle = [(0, 1), (1, 2), (0, 2)];
+    let square = [(0, 1), (0, 2), (1, 3), (2, 3)];
+    let mut generator = Lcg64Xsh32::seed_from_u64(1);
+    Ok([
+        read_again(alloc, two(alloc), &mut generator)?,
+        read_again(alloc, line(alloc), &mut generator)?,
+        read_again(alloc, net_of(alloc, 3, &triangle), &mut generator)?,
+        read_again(alloc, net_of(alloc, 4, &square), &mut generator)?,
+        read_again(alloc, star(alloc), &mut generator)?,
+    ])
+}
+
 #[test]
 fn ten_thousand_scrambled_states_are_read_again(rt: HostRuntime) -> Result<(), Fail> {
-    let alloc = rt.alloc();
-    let mut generator = Lcg64Xsh32::seed_from_u64(1);
-    let line = net_of(alloc, 3, &[(0, 1), (1, 2)])?;
-    let triangle = net_of(alloc, 3, &[(0, 1), (1, 2), (0, 2)])?;
-    let square = net_of(alloc, 4, &[(0, 1), (0, 2), (1, 3), (2, 3)])?;
-    let (two, star) = (two(alloc)?, star(alloc)?);
-    for net in [&two, &line, &triangle, &square, &star] {
-        assert_eq!(rt; read_again(alloc, net, 2000, &mut generator), Ok(2000));
-    }
+    assert_eq!(rt; read_again_of_five(rt.alloc())?, [2000; 5]);
     Ok(())
 }

@@ -1,6 +1,6 @@
 //! What is drawn from some seeds. The expected values are those of another program, written from
 //! the definitions of the draws and of the generator.
-use crate::calls::{NONE, file_of, net_of, scrambled, two};
+use crate::calls::{NONE, file_of, line, scrambled, two};
 use damage_tool::{cut, junk_line, scramble_world};
 use frame_codec::LineReader;
 use rand_core::SeedableRng;
@@ -8,26 +8,41 @@ use rand_pcg::Lcg64Xsh32;
 use run_model::Event;
 use std::alloc::{AllocError, Global};
 use std::test::Fail;
-use topology::{Frame, Net, Payload};
+use topology::{Frame, Net, NetFault, Payload};
 use world::World;
+
+/// What the seed 7 makes of the default state of node 1 of two nodes.
+pub const OF_SEVEN: [u16; 16] = [2, 1, 1, 1, 2, NONE, 0, 0, 4, 0, 0, 3, 1, NONE, 1, 2];
+
+/// What the greatest seed makes of that of node 1 of three in a line.
+const OF_GREATEST: [u16; 26] = [
+    3, 1, 1, 2, 0, 2, 0, 4, 3, 2, 1, 12, 1, 2, 7, 8, 2, 2, 2, 2, 2, 3, 0, NONE, 0, 0,
+];
+
+/// Whether this is the file of the state that a seed makes of the default one of node 1.
+fn is_scrambled(
+    alloc: Global,
+    made: Result<Net, NetFault>,
+    seed: u64,
+    want: &[u16],
+) -> Result<bool, Fail> {
+    let net = made?;
+    let mut generator = Lcg64Xsh32::seed_from_u64(seed);
+    let file = scrambled(alloc, &net, 1, &mut generator)?;
+    Ok(file == file_of(b"TKT2", want))
+}
+
+/// Whether these are so.
+fn are_scrambled(alloc: Global) -> Result<[bool; 2], Fail> {
+    Ok([
+        is_scrambled(alloc, two(alloc), 7, &OF_SEVEN)?,
+        is_scrambled(alloc, line(alloc), 4_294_967_295, &OF_GREATEST)?,
+    ])
+}
 
 #[test]
 fn scrambled_states(rt: HostRuntime) -> Result<(), Fail> {
-    let alloc = rt.alloc();
-    let two = two(alloc)?;
-    let line = net_of(alloc, 3, &[(0, 1), (1, 2)])?;
-    let of_seven = [2, 1, 1, 1, 2, NONE, 0, 0, 4, 0, 0, 3, 1, NONE, 1, 2];
-    let of_greatest = [
-        3, 1, 1, 2, 0, 2, 0, 4, 3, 2, 1, 12, 1, 2, 7, 8, 2, 2, 2, 2, 2, 3, 0, NONE, 0, 0,
-    ];
-    for (net, seed, want) in [
-        (&two, 7, of_seven.as_slice()),
-        (&line, 4_294_967_295, of_greatest.as_slice()),
-    ] {
-        let mut generator = Lcg64Xsh32::seed_from_u64(seed);
-        let file = scrambled(alloc, net, 1, &mut generator)?;
-        assert_eq!(rt; file, file_of(b"TKT2", want), "of seed {seed}");
-    }
+    assert_eq!(rt; are_scrambled(rt.alloc())?, [true; 2]);
     Ok(())
 }
 
@@ -43,36 +58,50 @@ pub fn junk(alloc: Global, seed: u64, lines: u32) -> Result<Vec<u8>, AllocError>
     Ok(text)
 }
 
+/// Seeds, numbers of lines, and these lines.
+const JUNK: [(u64, u32, &[u8]); 3] = [
+    (
+        7,
+        4,
+        b"+(==lkMfO]!#B{X}whq}R*SbyZPz$`#?5I3\n\
+          .Vnn)AQDz\"jU}#08]yttOpOL9&sj\n\
+          \"m&tt}YgWO#W2LhWdJ,J;NK%1m;}}T|l@);\"x\n\
+          R3BHS:y^\n",
+    ),
+    (0, 2, b"P*Kn2+/S\'b=hmMrd#TUvK0\"1oB\n{]NUJ%9\"zsUkx#\n"),
+    (4_294_967_295, 1, b"[3c/~drGd/3U%9A/vul,:CgWN;Un8CP+U#e\n"),
+];
+
+/// The place of the first row whose lines are other ones.
+fn first_other_junk(alloc: Global) -> Result<Option<usize>, AllocError> {
+    for (at, (seed, lines, want)) in JUNK.iter().enumerate() {
+        if junk(alloc, *seed, *lines)?.as_slice() != *want {
+            return Ok(Some(at));
+        }
+    }
+    Ok(None)
+}
+
 #[test]
 fn lines_of_junk(rt: HostRuntime) -> Result<(), Fail> {
-    for (seed, lines, want) in [
-        (
-            7,
-            4,
-            &b"+(==lkMfO]!#B{X}whq}R*SbyZPz$`#?5I3\n\
-                .Vnn)AQDz\"jU}#08]yttOpOL9&sj\n\
-                \"m&tt}YgWO#W2LhWdJ,J;NK%1m;}}T|l@);\"x\n\
-                R3BHS:y^\n"[..],
-        ),
-        (
-            0,
-            2,
-            &b"P*Kn2+/S\'b=hmMrd#TUvK0\"1oB\n{]NUJ%9\"zsUkx#\n"[..],
-        ),
-        (
-            4_294_967_295,
-            1,
-            &b"[3c/~drGd/3U%9A/vul,:CgWN;Un8CP+U#e\n"[..],
-        ),
-    ] {
-        assert_eq!(rt;
-            junk(rt.alloc(), seed, lines)?.as_slice(),
-            want,
-            "of seed {seed}"
-        );
-    }
+    assert_eq!(rt; first_other_junk(rt.alloc())?, None);
     Ok(())
 }
+
+/// A line of three nodes' first frame to one that says the distance 1, the parent 0 and the ring
+/// value 12.
+pub const GOOD_LINE: &[u8] = b"F0000000000010000000c\n";
+
+/// What it spells.
+pub const GOOD: Frame = Frame {
+    seq: 0,
+    ack: 0,
+    payload: Payload {
+        distance: 1,
+        parent: Some(0),
+        ring: 12,
+    },
+};
 
 /// The frames of a text.
 fn frames(alloc: Global, net: &Net, text: &[u8]) -> Result<Vec<Frame>, AllocError> {
@@ -81,57 +110,64 @@ fn frames(alloc: Global, net: &Net, text: &[u8]) -> Result<Vec<Frame>, AllocErro
     Ok(frames)
 }
 
+/// How many frames of a line of three nodes a text has, and the first of them.
+fn first_frame(alloc: Global, text: &[u8]) -> Result<(usize, Option<Frame>), Fail> {
+    let net = line(alloc)?;
+    let found = frames(alloc, &net, text)?;
+    Ok((found.len(), found.first().copied()))
+}
+
+/// How long ten thousand lines of junk are, and what frames are read of them and the line behind.
+fn behind_junk(alloc: Global) -> Result<(usize, (usize, Option<Frame>)), Fail> {
+    let mut text = junk(alloc, 7, 10_000)?;
+    let length = text.len();
+    text.extend_from_slice(GOOD_LINE)?;
+    Ok((length, first_frame(alloc, &text)?))
+}
+
 /// Of the lines of junk four are as long as a frame's and begin as one; none is one.
 #[test]
 fn a_frame_behind_junk_is_read(rt: HostRuntime) -> Result<(), Fail> {
-    let net = net_of(rt.alloc(), 3, &[(0, 1), (1, 2)])?;
-    let mut text = junk(rt.alloc(), 7, 10_000)?;
-    assert_eq!(rt; text.len(), 211_725);
-    text.extend_from_slice(b"F0000000000010000000c\n")?;
-    let payload = Payload {
-        distance: 1,
-        parent: Some(0),
-        ring: 12,
-    };
-    let want = Frame {
-        seq: 0,
-        ack: 0,
-        payload,
-    };
-    assert_eq!(rt;
-        frames(rt.alloc(), &net, &text)?.as_slice(),
-        [want].as_slice()
-    );
+    assert_eq!(rt; behind_junk(rt.alloc())?, (211_725, (1, Some(GOOD))));
     Ok(())
+}
+
+/// Lengths, and what bytes `abc` are when they are cut to them.
+const CUTS: [(usize, &str); 5] = [
+    (0, ""),
+    (2, "ab"),
+    (3, "abc"),
+    (4, "abc"),
+    (1_000_000, "abc"),
+];
+
+/// The place of the first row that is not so.
+fn first_other_cut() -> Option<usize> {
+    CUTS.iter()
+        .position(|(length, want)| cut(b"abc", *length) != want.as_bytes())
 }
 
 #[test]
 fn bytes_are_cut(rt: HostRuntime) {
-    for (length, want) in [
-        (0, ""),
-        (2, "ab"),
-        (3, "abc"),
-        (4, "abc"),
-        (1_000_000, "abc"),
-    ] {
-        assert_eq!(rt; cut(b"abc", length), want.as_bytes(), "to {length}");
-    }
+    assert_eq!(rt; first_other_cut(), None);
 }
 
 /// The harms of a seed.
-fn harms(alloc: Global, net: &Net, seed: u64) -> Result<Vec<Event>, AllocError> {
+pub fn harms(alloc: Global, net: &Net, seed: u64) -> Result<Vec<Event>, AllocError> {
     let mut generator = Lcg64Xsh32::seed_from_u64(seed);
     let mut events = Vec::new(alloc);
     scramble_world(net, &mut generator, &mut events)?;
     Ok(events)
 }
 
+/// Whether an event happens to a world.
+fn happens(world: &mut World, event: &Event) -> bool {
+    world.step(event).is_ok()
+}
+
 /// How many of the events are accepted, one after the other.
 fn accepted(world: &mut World, events: &[Event]) -> usize {
-    events
-        .iter()
-        .filter(|event| world.step(event).is_ok())
-        .count()
+    events.iter().filter(|event| happens(world, event)).count()
 }
 
 /// How many harms of its network a seed has, and how many of them a world accepts.
@@ -155,10 +191,15 @@ fn row_with_a_lease(alloc: Global) -> Result<World, Fail> {
     Ok(World::new(alloc, &net)?)
 }
 
+/// How many harms each of these seeds has there, and how many are accepted.
+fn accepted_in_a_row(alloc: Global) -> Result<[(usize, usize); 5], Fail> {
+    let mut world = row_with_a_lease(alloc)?;
+    Ok(accepted_of_five(alloc, &mut world)?)
+}
+
 #[test]
 fn each_harm_of_a_world_is_accepted(rt: HostRuntime) -> Result<(), Fail> {
-    let mut world = row_with_a_lease(rt.alloc())?;
-    let found = accepted_of_five(rt.alloc(), &mut world)?;
-    assert_eq!(rt; found, [(27, 27), (28, 28), (27, 27), (28, 28), (27, 27)]);
+    let want = [(27, 27), (28, 28), (27, 27), (28, 28), (27, 27)];
+    assert_eq!(rt; accepted_in_a_row(rt.alloc())?, want);
     Ok(())
 }

@@ -17,6 +17,8 @@ mod drawn;
 #[cfg(test)]
 mod full_heap;
 #[cfg(test)]
+mod heaps;
+#[cfg(test)]
 mod no_memory;
 #[cfg(test)]
 mod plain_files;

@@ -1,5 +1,6 @@
 //! A node's state is written and scrambled on a heap without a free byte.
-use crate::calls::{NEWER, NONE, file_of, two, written};
+use crate::calls::{NEWER, file_of, two, written};
+use crate::drawn::OF_SEVEN;
 use crate::full_heap::fill;
 use damage_tool::scramble_node;
 use linked_list_allocator::LocalHeap;
@@ -9,9 +10,6 @@ use rand_pcg::Lcg64Xsh32;
 use std::alloc::Global;
 use std::test::Fail;
 use topology::Net;
-
-/// What the seed 7 makes of the default state of node 1 of two nodes.
-const OF_SEVEN: [u16; 16] = [2, 1, 1, 1, 2, NONE, 0, 0, 4, 0, 0, 3, 1, NONE, 1, 2];
 
 /// Node 1 of two nodes on a heap, of which nothing is free then: how much is free at the end, and
 /// whether its default state is written as it should be, and its scrambled one.
@@ -28,10 +26,15 @@ fn without_memory(alloc: Global, heap: &LocalHeap, net: &Net) -> Result<(usize, 
     Ok((heap.free(), is_default, is_scrambled))
 }
 
+/// The same on a heap of 4,096 bytes.
+fn on_a_heap(alloc: Global) -> Result<(usize, bool, bool), Fail> {
+    let net = two(alloc)?;
+    let heap = LocalHeap::new(alloc, 4096)?;
+    without_memory(alloc, &heap, &net)
+}
+
 #[test]
 fn a_state_is_written_and_scrambled_without_memory(rt: HostRuntime) -> Result<(), Fail> {
-    let net = two(rt.alloc())?;
-    let heap = LocalHeap::new(rt.alloc(), 4096)?;
-    assert_eq!(rt; without_memory(rt.alloc(), &heap, &net)?, (0, true, true));
+    assert_eq!(rt; on_a_heap(rt.alloc())?, (0, true, true));
     Ok(())
 }

@@ -2,7 +2,7 @@
 use node_state_file::{FileStore, Store, StoreFault};
 use std::fs;
 use std::os::unix::fs::PermissionsExt;
-use std::process::{Abort, Command};
+use std::process::{Command, Processes};
 use std::rt::Files;
 use std::test::Fail;
 
@@ -37,10 +37,25 @@ fn goes_in_place<R: Files + AllocGlobal>(
     length: usize,
     byte: u8,
 ) -> Result<bool, Fail> {
-    let bytes = vec![in rt.alloc(); byte; length]?;
-    let is_saved = saved(rt, path, &bytes) == Ok(());
+    let all = [byte; 1276];
+    let bytes = &all[..length.min(1276)];
+    let is_saved = saved(rt, path, bytes) == Ok(());
     let is_loaded = loaded(rt, path) == Ok((length, bytes.last().copied()));
-    Ok(is_saved && is_loaded && has(rt, "same.state", &bytes)?)
+    Ok(is_saved && is_loaded && has(rt, "same.state", bytes)?)
+}
+
+/// Numbers of bytes, and the byte that all of them are.
+const LENGTHS: [(usize, u8); 4] = [(1276, 1), (16, 2), (0, 0), (36, 3)];
+
+/// Gives a file its other name. The place of the first of these that does not go in place.
+fn first_not_in_place<R: Files + AllocGlobal>(rt: &R, path: &str) -> Result<Option<usize>, Fail> {
+    fs::hard_link(rt, path, "same.state")?;
+    for (at, (length, byte)) in LENGTHS.iter().enumerate() {
+        if !goes_in_place(rt, path, *length, *byte)? {
+            return Ok(Some(at));
+        }
+    }
+    Ok(None)
 }
 
 /// Whether of a file with more bytes than a state has one byte more is loaded, and a state that is
@@ -52,64 +67,111 @@ fn is_cut_down<R: Files + AllocGlobal>(rt: &R, path: &str) -> Result<bool, Fail>
     Ok(is_long && is_saved && has(rt, path, &[5; 36])?)
 }
 
+/// What a load answers where there is no file, what a save, and who may do what with the file then.
+type Made = (
+    Result<(usize, Option<u8>), StoreFault>,
+    Result<(), StoreFault>,
+    u32,
+);
+
+/// Makes a file.
+fn make<R: Files + AllocGlobal>(rt: &R, path: &str) -> Result<Made, Fail> {
+    let (load, save) = (loaded(rt, path), saved(rt, path, &[7; 36]));
+    Ok((load, save, mode_of(rt, path)?))
+}
+
+/// Removes two files.
+fn remove<F: Files>(files: &F, paths: [&str; 2]) -> Result<(), Fail> {
+    for path in paths {
+        fs::remove_file(files, path)?;
+    }
+    Ok(())
+}
+
+/// What is answered where a file is made, what does not go in place then, and whether it is cut
+/// down.
+fn in_place<R: Files + AllocGlobal>(
+    rt: &R,
+    path: &str,
+) -> Result<(Made, Option<usize>, bool), Fail> {
+    let made = make(rt, path)?;
+    let found = (made, first_not_in_place(rt, path)?, is_cut_down(rt, path)?);
+    remove(rt, [path, "same.state"])?;
+    Ok(found)
+}
+
 #[test]
 fn a_file_is_written_in_place(rt: HostRuntime) -> Result<(), Fail> {
-    let path = "node.state";
-    let found = (loaded(&rt, path), saved(&rt, path, &[7; 36]));
-    assert_eq!(rt; found, (Err(StoreFault::Absent), Ok(())));
-    assert_eq!(rt; mode_of(&rt, path)?, 0o600);
-    fs::hard_link(&rt, path, "same.state")?;
-    for (length, byte) in [(1276, 1), (16, 2), (0, 0), (36, 3)] {
-        let is_in_place = goes_in_place(&rt, path, length, byte)?;
-        assert!(rt; is_in_place, "{length} bytes");
-    }
-    assert!(rt; is_cut_down(&rt, path)?);
-    fs::remove_file(&rt, path)?;
-    fs::remove_file(&rt, "same.state")?;
+    let made = (Err(StoreFault::Absent), Ok(()), 0o600);
+    assert_eq!(rt; in_place(&rt, "node.state")?, (made, None, true));
     Ok(())
+}
+
+/// Makes a pipe, and says whether there is one then.
+fn make_pipe<R: Processes + AllocGlobal>(rt: &R, path: &str) -> Result<bool, Fail> {
+    let status = Command::new(rt.alloc(), "mkfifo")?.arg(path)?.status(rt)?;
+    Ok(status.success())
+}
+
+/// What may stand in a file's place.
+const OTHERS: [&str; 5] = [
+    "folder.state",
+    "loop.state",
+    "pipe.state",
+    "/dev/null",
+    "/dev/full",
+];
+
+/// Whether a load from there and a save fail.
+fn is_failure<F: Files>(files: &F, path: &str) -> bool {
+    loaded(files, path) == Err(StoreFault::Device)
+        && saved(files, path, b"TKT2") == Err(StoreFault::Device)
+}
+
+/// Makes the three of them that are to be made. Whether there is a pipe then, and the place of the
+/// first of all that is no failure.
+fn first_no_failure<R: Files + Processes + AllocGlobal>(
+    rt: &R,
+) -> Result<(bool, Option<usize>), Fail> {
+    fs::create_dir(rt, "folder.state")?;
+    rt.symlink("loop.state", "loop.state")?;
+    let is_made = make_pipe(rt, "pipe.state")?;
+    let found = OTHERS.iter().position(|path| !is_failure(rt, path));
+    fs::remove_dir(rt, "folder.state")?;
+    remove(rt, ["loop.state", "pipe.state"])?;
+    Ok((is_made, found))
 }
 
 /// Both calls fail, and none waits for anybody at the other end.
 #[test]
 fn other_things_in_its_place_are_failures(rt: HostRuntime) -> Result<(), Fail> {
-    fs::create_dir(&rt, "folder.state")?;
-    rt.symlink("loop.state", "loop.state")?;
-    let made = Command::new(rt.alloc(), "mkfifo")?
-        .arg("pipe.state")?
-        .status(&rt)?;
-    assert!(rt; made.success());
-    for path in [
-        "folder.state",
-        "loop.state",
-        "pipe.state",
-        "/dev/null",
-        "/dev/full",
-    ] {
-        assert_eq!(rt; loaded(&rt, path), Err(StoreFault::Device), "at {path}");
-        assert_eq!(rt;
-            saved(&rt, path, b"TKT2"),
-            Err(StoreFault::Device),
-            "at {path}"
-        );
-    }
-    fs::remove_dir(&rt, "folder.state")?;
-    fs::remove_file(&rt, "loop.state")?;
-    fs::remove_file(&rt, "pipe.state")?;
+    assert_eq!(rt; first_no_failure(&rt)?, (true, None));
     Ok(())
+}
+
+/// What loads and saves answer at a link that leads nowhere, and in a folder that is not there.
+type Nowhere = (
+    [Result<(usize, Option<u8>), StoreFault>; 2],
+    [Result<(), StoreFault>; 2],
+);
+
+/// What they answer, and whether what was saved at the link stands where the link leads.
+fn at_a_dead_link<R: Files + AllocGlobal>(rt: &R) -> Result<(Nowhere, bool), Fail> {
+    rt.symlink("linked.state", "dead.state")?;
+    let loads = [loaded(rt, "dead.state"), loaded(rt, "no/folder.state")];
+    let saves = [
+        saved(rt, "no/folder.state", b"TKT2"),
+        saved(rt, "dead.state", b"TKT2"),
+    ];
+    let is_linked = has(rt, "linked.state", b"TKT2")?;
+    remove(rt, ["dead.state", "linked.state"])?;
+    Ok(((loads, saves), is_linked))
 }
 
 #[test]
 fn a_dead_link_is_absent(rt: HostRuntime) -> Result<(), Fail> {
-    rt.symlink("linked.state", "dead.state")?;
-    let found = [loaded(&rt, "dead.state"), loaded(&rt, "no/folder.state")];
-    assert_eq!(rt; found, [Err(StoreFault::Absent); 2]);
-    let found = [
-        saved(&rt, "no/folder.state", b"TKT2"),
-        saved(&rt, "dead.state", b"TKT2"),
-    ];
-    assert_eq!(rt; found, [Err(StoreFault::Device), Ok(())]);
-    assert!(rt; has(&rt, "linked.state", b"TKT2")?);
-    fs::remove_file(&rt, "dead.state")?;
-    fs::remove_file(&rt, "linked.state")?;
+    let loads = [Err(StoreFault::Absent); 2];
+    let saves = [Err(StoreFault::Device), Ok(())];
+    assert_eq!(rt; at_a_dead_link(&rt)?, ((loads, saves), true));
     Ok(())
 }

@@ -3,6 +3,7 @@
 ghost use Rattle.std.specs.Prelude.{⊤};
 
 use crate::calls::two;
+use crate::heaps::{End, first_end};
 use experiments::{Order, PlanFault, Recovery, Scheduler, give_plan, measure_run};
 use linked_list_allocator::LocalHeap;
 use rand_core::SeedableRng;
@@ -52,7 +53,7 @@ impl EventSink for Keeper {
 }
 
 /// A schedule for two nodes.
-#[derive(Clone, Copy, Debug)]
+#[derive(Clone, Copy)]
 enum Kind {
     /// What the seed 7 scrambles, and three rounds.
     Rounds,
@@ -60,16 +61,9 @@ enum Kind {
     Random,
 }
 
-const KINDS: [Kind; 2] = [Kind::Rounds, Kind::Random];
-
-/// Gives a keeper the schedule.
-fn given<A: Allocator + Copy>(
-    alloc: A,
-    net: &Net<A>,
-    kind: Kind,
-    keeper: &mut Keeper,
-) -> Result<(), PlanFault> {
-    let (scramble, order) = match kind {
+/// What is scrambled in front of a schedule, and its steps.
+fn parts(kind: Kind) -> (Option<Lcg64Xsh32>, Order) {
+    match kind {
         Kind::Rounds => (
             Some(Lcg64Xsh32::seed_from_u64(7)),
             Order::Rounds { count: 3 },
@@ -85,7 +79,17 @@ fn given<A: Allocator + Copy>(
                 generator: Lcg64Xsh32::seed_from_u64(3),
             },
         ),
-    };
+    }
+}
+
+/// Gives a keeper the schedule.
+fn given<A: Allocator + Copy>(
+    alloc: A,
+    net: &Net<A>,
+    kind: Kind,
+    keeper: &mut Keeper,
+) -> Result<(), PlanFault> {
+    let (scramble, order) = parts(kind);
     give_plan(alloc, net, scramble, order, keeper)
 }
 
@@ -94,6 +98,12 @@ fn whole(alloc: Global, net: &Net, kind: Kind) -> Result<Vec<Event>, PlanFault> 
     let mut keeper = Keeper::new(alloc, u64::MAX);
     given(alloc, net, kind, &mut keeper)?;
     Ok(keeper.events)
+}
+
+/// Those of two nodes.
+fn whole_of_two(alloc: Global, kind: Kind) -> Result<Vec<Event>, Fail> {
+    let net = two(alloc)?;
+    Ok(whole(alloc, &net, kind)?)
 }
 
 /// Gives the schedule to a keeper that fails behind `calls` events. Whether the answer is as it
@@ -116,22 +126,35 @@ fn is_cut_short(
     )
 }
 
-#[test]
-fn each_event_of_a_schedule_is_once_not_taken(rt: HostRuntime) -> Result<(), Fail> {
-    let net = two(rt.alloc())?;
-    for (kind, least) in [(Kind::Rounds, 44), (Kind::Random, 60)] {
-        let events = whole(rt.alloc(), &net, kind)?;
-        assert!(rt; events.len() >= least, "{kind:?}");
-        for calls in 0..=events.len() {
-            let cut = is_cut_short(rt.alloc(), &net, kind, calls, &events);
-            let want = if calls < events.len() {
-                Some(true)
-            } else {
-                None
-            };
-            assert_eq!(rt; cut, want, "{kind:?} behind {calls} events");
+/// The number of events behind which the schedule is first not cut short, or at its end is.
+fn first_uncut(alloc: Global, kind: Kind, whole: &[Event]) -> Result<Option<usize>, NetFault> {
+    let net = two(alloc)?;
+    for calls in 0..=whole.len() {
+        let want = (calls < whole.len()).then_some(true);
+        if is_cut_short(alloc, &net, kind, calls, whole) != want {
+            return Ok(Some(calls));
         }
     }
+    Ok(None)
+}
+
+/// How many events a schedule has, and that number.
+fn cut_behind_each(alloc: Global, kind: Kind) -> Result<(usize, Option<usize>), Fail> {
+    let events = whole_of_two(alloc, kind)?;
+    Ok((events.len(), first_uncut(alloc, kind, &events)?))
+}
+
+#[test]
+fn each_event_of_rounds_is_once_not_taken(rt: HostRuntime) -> Result<(), Fail> {
+    let (count, uncut) = cut_behind_each(rt.alloc(), Kind::Rounds)?;
+    assert_eq!(rt; (count >= 44, uncut), (true, None));
+    Ok(())
+}
+
+#[test]
+fn each_event_of_random_steps_is_once_not_taken(rt: HostRuntime) -> Result<(), Fail> {
+    let (count, uncut) = cut_behind_each(rt.alloc(), Kind::Random)?;
+    assert_eq!(rt; (count >= 60, uncut), (true, None));
     Ok(())
 }
 
@@ -140,29 +163,16 @@ fn two_on<A: Allocator + Copy>(alloc: A) -> Result<Net<A>, NetFault> {
     Net::make(alloc, 2, 0, 1, 0, &[(0, 1)])
 }
 
-/// How a call ended on a heap.
-#[derive(Clone, Copy, Debug, PartialEq, Eq)]
-enum End {
-    /// There was too little room for a network already.
-    NoNetwork,
-    /// Memory was refused; nothing of what the call had taken stayed allocated.
-    Refused,
-    /// It did what it does with ample memory.
-    Done,
-    /// Anything else.
-    Wrong,
-}
-
-/// Gives a schedule on a heap, to a keeper that has its own memory.
-fn given_on(alloc: Global, heap: &LocalHeap, kind: Kind, whole: &[Event]) -> End {
-    let Ok(net) = two_on(heap) else {
-        return End::NoNetwork;
-    };
-    let used = heap.used();
+/// Gives a schedule to a keeper that has its own memory. How that ends.
+fn given_whole<A: Allocator + Copy>(
+    alloc: Global,
+    on: A,
+    net: &Net<A>,
+    kind: Kind,
+    whole: &[Event],
+) -> End {
     let mut keeper = Keeper::new(alloc, u64::MAX);
-    let answer = given(heap, &net, kind, &mut keeper);
-    match answer {
-        _ if heap.used() != used => End::Wrong,
+    match given(on, net, kind, &mut keeper) {
         Ok(()) if keeper.events.as_slice() == whole => End::Done,
         // What needs memory stands in front of the first event.
         Err(PlanFault::Memory) if keeper.events.is_empty() => End::Refused,
@@ -170,41 +180,32 @@ fn given_on(alloc: Global, heap: &LocalHeap, kind: Kind, whole: &[Event]) -> End
     }
 }
 
-#[test]
-fn a_schedule_meets_each_refusal(rt: HostRuntime) -> Result<(), Fail> {
-    let net = two(rt.alloc())?;
-    for kind in KINDS {
-        let events = whole(rt.alloc(), &net, kind)?;
-        let mut refused = 0u32;
-        let mut end = End::NoNetwork;
-        for units in 1..1000usize {
-            let heap = LocalHeap::new(rt.alloc(), units * 16)?;
-            end = given_on(rt.alloc(), &heap, kind, &events);
-            match end {
-                End::NoNetwork => {}
-                End::Refused => refused = refused.saturating_add(1),
-                End::Done | End::Wrong => break,
-            }
-        }
-        assert_eq!(rt; end, End::Done, "{kind:?} behind {refused} refusals");
-        assert!(rt; refused > 20, "{kind:?}: {refused}");
+/// The same of two nodes on a heap.
+fn given_on(alloc: Global, heap: &LocalHeap, kind: Kind, whole: &[Event]) -> End {
+    match two_on(heap) {
+        Ok(net) => given_whole(alloc, heap, &net, kind, whole),
+        Err(_) => End::NoRoom,
     }
+}
+
+/// How a schedule is given on ever larger heaps.
+fn given_in_turn(alloc: Global, kind: Kind) -> Result<(End, u32), Fail> {
+    let events = whole_of_two(alloc, kind)?;
+    Ok(first_end(alloc, 1000, |heap| given_on(alloc, heap, kind, &events))?)
+}
+
+#[test]
+fn a_schedule_of_rounds_meets_each_refusal(rt: HostRuntime) -> Result<(), Fail> {
+    let (end, refused) = given_in_turn(rt.alloc(), Kind::Rounds)?;
+    assert_eq!(rt; (end, refused > 20), (End::Done, true));
     Ok(())
 }
 
-/// Measures a run on a heap.
-fn measured_on(heap: &LocalHeap, scheduler: Scheduler, run: Recovery) -> End {
-    let Ok(net) = two_on(heap) else {
-        return End::NoNetwork;
-    };
-    let used = heap.used();
-    let answer = measured(heap, &net, scheduler);
-    match answer {
-        _ if heap.used() != used => End::Wrong,
-        Err(AllocError) => End::Refused,
-        Ok(again) if again == run => End::Done,
-        Ok(_) => End::Wrong,
-    }
+#[test]
+fn a_schedule_of_random_steps_meets_each_refusal(rt: HostRuntime) -> Result<(), Fail> {
+    let (end, refused) = given_in_turn(rt.alloc(), Kind::Random)?;
+    assert_eq!(rt; (end, refused > 20), (End::Done, true));
+    Ok(())
 }
 
 /// The run that the seed 7 scrambles.
@@ -216,26 +217,56 @@ fn measured<A: Allocator + Copy>(
     measure_run(alloc, net, scheduler, 7)
 }
 
-#[test]
-fn a_measured_run_meets_each_refusal(rt: HostRuntime) -> Result<(), Fail> {
-    let net = two(rt.alloc())?;
-    for scheduler in [Scheduler::Rounds, Scheduler::Random] {
-        let run = measured(rt.alloc(), &net, scheduler)?;
-        // The sharper bound of two nodes over links of one place is 35.
-        assert_eq!(rt; (run.seed, run.seen), (7, 35));
-        let mut refused = 0u32;
-        let mut end = End::NoNetwork;
-        for units in 1..1000usize {
-            let heap = LocalHeap::new(rt.alloc(), units * 16)?;
-            end = measured_on(&heap, scheduler, run);
-            match end {
-                End::NoNetwork => {}
-                End::Refused => refused = refused.saturating_add(1),
-                End::Done | End::Wrong => break,
-            }
-        }
-        assert_eq!(rt; end, End::Done, "{scheduler:?} behind {refused} refusals");
-        assert!(rt; refused > 20, "{scheduler:?}: {refused}");
+/// The same of two nodes with ample memory.
+fn measured_of_two(alloc: Global, scheduler: Scheduler) -> Result<Recovery, Fail> {
+    let net = two(alloc)?;
+    Ok(measured(alloc, &net, scheduler)?)
+}
+
+/// Measures a run that should be that one. How that ends.
+fn measured_again<A: Allocator + Copy>(
+    alloc: A,
+    net: &Net<A>,
+    scheduler: Scheduler,
+    run: Recovery,
+) -> End {
+    match measured(alloc, net, scheduler) {
+        Err(AllocError) => End::Refused,
+        Ok(again) if again == run => End::Done,
+        Ok(_) => End::Wrong,
     }
+}
+
+/// The same of two nodes on a heap.
+fn measured_on(heap: &LocalHeap, scheduler: Scheduler, run: Recovery) -> End {
+    match two_on(heap) {
+        Ok(net) => measured_again(heap, &net, scheduler, run),
+        Err(_) => End::NoRoom,
+    }
+}
+
+/// The seed of a run and how many sweeps it has with ample memory, and how it is measured on ever
+/// larger heaps.
+fn measured_in_turn(alloc: Global, scheduler: Scheduler) -> Result<((u64, u64), (End, u32)), Fail> {
+    let run = measured_of_two(alloc, scheduler)?;
+    let found = first_end(alloc, 1000, |heap| measured_on(heap, scheduler, run))?;
+    Ok(((run.seed, run.seen), found))
+}
+
+/// The seed of each run, and its sweeps: the sharper bound of two nodes over links of one place is
+/// 35.
+const RUN: (u64, u64) = (7, 35);
+
+#[test]
+fn measured_rounds_meet_each_refusal(rt: HostRuntime) -> Result<(), Fail> {
+    let (run, (end, refused)) = measured_in_turn(rt.alloc(), Scheduler::Rounds)?;
+    assert_eq!(rt; (run, end, refused > 20), (RUN, End::Done, true));
+    Ok(())
+}
+
+#[test]
+fn measured_random_steps_meet_each_refusal(rt: HostRuntime) -> Result<(), Fail> {
+    let (run, (end, refused)) = measured_in_turn(rt.alloc(), Scheduler::Random)?;
+    assert_eq!(rt; (run, end, refused > 20), (RUN, End::Done, true));
     Ok(())
 }

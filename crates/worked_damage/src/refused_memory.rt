@@ -1,5 +1,7 @@
 //! Each growth refused in turn.
-use crate::calls::{NEWER, net_of, reread, started, two};
+use crate::calls::{NEWER, line, reread, started, two};
+use crate::drawn::harms;
+use crate::heaps::{End, first_end};
 use damage_tool::scramble_world;
 use linked_list_allocator::LocalHeap;
 use node_state_file::{FileFault, MemoryStore, Store};
@@ -26,67 +28,83 @@ fn is_started<A: Allocator + Copy>(alloc: A, net: &Net) -> Result<bool, AllocErr
     Ok(file.as_slice() == NEWER.as_slice() && fault.is_none())
 }
 
+/// How a state is read on a heap.
+fn read_on(heap: &LocalHeap, net: &Net) -> End {
+    match is_read(heap, net) {
+        Ok(true) => End::Done,
+        Err(FileFault::Memory) => End::Refused,
+        _ => End::Wrong,
+    }
+}
+
+/// How a state is read on ever larger heaps.
+fn read_in_turn(alloc: Global) -> Result<(End, u32), Fail> {
+    let net = two(alloc)?;
+    Ok(first_end(alloc, 200, |heap| read_on(heap, &net))?)
+}
+
 #[test]
 fn decode_meets_each_refusal(rt: HostRuntime) -> Result<(), Fail> {
-    let net = two(rt.alloc())?;
-    for units in 1..200usize {
-        let heap = LocalHeap::new(rt.alloc(), units * 16)?;
-        let answer = is_read(&heap, &net);
-        assert_eq!(rt; heap.used(), 0);
-        if answer != Err(FileFault::Memory) {
-            assert_eq!(rt; answer, Ok(true));
-            assert!(rt; units > 8);
-            return Ok(());
-        }
+    let (end, refused) = read_in_turn(rt.alloc())?;
+    assert_eq!(rt; (end, refused >= 8), (End::Done, true));
+    Ok(())
+}
+
+/// How a node starts on a heap.
+fn started_on(heap: &LocalHeap, net: &Net) -> End {
+    match is_started(heap, net) {
+        Ok(true) => End::Done,
+        Ok(false) => End::Wrong,
+        Err(AllocError) => End::Refused,
     }
-    panic!(rt; "always refused")
+}
+
+/// How a node starts on ever larger heaps.
+fn started_in_turn(alloc: Global) -> Result<(End, u32), Fail> {
+    let net = two(alloc)?;
+    Ok(first_end(alloc, 200, |heap| started_on(heap, &net))?)
 }
 
 #[test]
 fn start_meets_each_refusal(rt: HostRuntime) -> Result<(), Fail> {
-    let net = two(rt.alloc())?;
-    for units in 1..200usize {
-        let heap = LocalHeap::new(rt.alloc(), units * 16)?;
-        let answer = is_started(&heap, &net);
-        assert_eq!(rt; heap.used(), 0);
-        if let Ok(works) = answer {
-            assert!(rt; works && units > 11);
-            return Ok(());
-        }
-    }
-    panic!(rt; "always refused")
+    let (end, refused) = started_in_turn(rt.alloc())?;
+    assert_eq!(rt; (end, refused >= 11), (End::Done, true));
+    Ok(())
 }
 
-/// Draws the harms of a world, and says how many they are.
-fn harms<A: Allocator>(
-    net: &Net,
-    generator: &mut Lcg64Xsh32,
-    out: &mut Vec<Event, A>,
-) -> Result<usize, AllocError> {
-    scramble_world(net, generator, out)?;
-    Ok(out.len())
+/// Draws the harms of a world, and says whether there was memory.
+fn draw<A: Allocator>(net: &Net, generator: &mut Lcg64Xsh32, out: &mut Vec<Event, A>) -> bool {
+    scramble_world(net, generator, out).is_ok()
+}
+
+/// How the harms of a world are drawn on a heap, which with ample memory are those.
+fn drawn_on(heap: &LocalHeap, net: &Net, generator: &mut Lcg64Xsh32, ample: &[Event]) -> End {
+    let mut out = Vec::new(heap);
+    match draw(net, generator, &mut out) {
+        true if out.as_slice() == ample => End::Done,
+        false if out.is_empty() => End::Refused,
+        _ => End::Wrong,
+    }
+}
+
+/// How the harms of a world of that network are drawn on ever larger heaps.
+fn drawn_in_turn(alloc: Global, net: &Net) -> Result<(End, u32), AllocError> {
+    let ample = harms(alloc, net, 5)?;
+    let mut again = Lcg64Xsh32::seed_from_u64(5);
+    first_end(alloc, 1000, |heap| drawn_on(heap, net, &mut again, &ample))
+}
+
+/// The same of three nodes in a line.
+fn drawn_of_three(alloc: Global) -> Result<(End, u32), Fail> {
+    let net = line(alloc)?;
+    Ok(drawn_in_turn(alloc, &net)?)
 }
 
 /// The harms of a world that were drawn where memory is refused at times: none, or those that are
 /// drawn with ample memory.
 #[test]
 fn harms_meet_each_refusal(rt: HostRuntime) -> Result<(), Fail> {
-    let net = net_of(rt.alloc(), 3, &[(0, 1), (1, 2)])?;
-    let mut ample = Vec::new(rt.alloc());
-    let mut generator = Lcg64Xsh32::seed_from_u64(5);
-    let count = harms(&net, &mut generator, &mut ample)?;
-    let mut again = Lcg64Xsh32::seed_from_u64(5);
-    for units in 1..1000usize {
-        let heap = LocalHeap::new(rt.alloc(), units * 16)?;
-        let mut out = Vec::new(&heap);
-        match harms(&net, &mut again, &mut out) {
-            Err(_) => assert!(rt; out.is_empty()),
-            Ok(drawn) => {
-                assert!(rt; drawn == count && out.as_slice() == ample.as_slice());
-                assert!(rt; units > 20);
-                return Ok(());
-            }
-        }
-    }
-    panic!(rt; "always refused")
+    let (end, refused) = drawn_of_three(rt.alloc())?;
+    assert_eq!(rt; (end, refused >= 20), (End::Done, true));
+    Ok(())
 }

@@ -1,66 +1,76 @@
 //! Links over pipes that end in the middle of a line, and pipes that carry junk.
-use crate::calls::net_of;
-use crate::drawn::junk;
+use crate::calls::line;
+use crate::drawn::{GOOD, GOOD_LINE, junk};
 use frame_codec::decode;
 use socket_links::{MemoryPipe, Pull, SocketLink};
 use std::alloc::{AllocError, Global};
 use std::test::Fail;
-use topology::{Frame, Net, Payload};
+use topology::Net;
 
-/// A line of three nodes' first frame to one that says the distance 1, the parent 0 and the ring
-/// value 12.
-const GOOD_LINE: &[u8] = b"F0000000000010000000c\n";
+/// The bytes that a pipe gives, at most how many in a read, and whether it stays open behind them
+/// and says Later; it closes otherwise.
+type Given<'a> = (&'a [u8], usize, bool);
 
-/// What it spells.
-const GOOD: Frame = Frame {
-    seq: 0,
-    ack: 0,
-    payload: Payload {
-        distance: 1,
-        parent: Some(0),
-        ring: 12,
-    },
-};
-
-/// Attaches a pipe that gives these bytes, at most `piece` in a read, and then closes or, where it
-/// stays open, says Later. Puts what pulls answer behind `answers`, Later aside, until the link is
-/// loose or that many pulls were made.
+/// Attaches such a pipe, and pulls until the link is loose or as many pulls were made. How many of
+/// the wanted answers have come, if this number had come before; none where another one came. Later
+/// is put aside.
 fn pull_all<'a>(
     alloc: Global,
     link: &mut SocketLink<MemoryPipe<'a>>,
     net: &Net,
-    (bytes, piece, stays_open): (&'a [u8], usize, bool),
-    answers: &mut Vec<Pull>,
-) -> Result<(), AllocError> {
+    (bytes, piece, stays_open): Given<'a>,
+    wanted: &[Pull],
+    before: usize,
+) -> Result<Option<usize>, AllocError> {
     let _older = link.attach(MemoryPipe::new(alloc, bytes, piece, stays_open, 0)?);
+    let mut come = before;
     for _ in 0..=bytes.len() {
         match link.pull(net) {
             Pull::Later => {}
-            answer => answers.push(answer)?,
+            answer if wanted.get(come) == Some(&answer) => come = come.saturating_add(1),
+            _ => return Ok(None),
         }
         if !link.is_attached() {
             break;
         }
     }
-    Ok(())
+    Ok(Some(come))
+}
+
+/// A pipe that ends in the middle of a line, and one that begins with the other half of it.
+const HALVES: [(&[u8], bool); 2] = [
+    (b"F000000000", false),
+    (b"0010000000c\nF0000000000010000000c\n", true),
+];
+
+/// Whether a link over both, one after the other, gives just what it should.
+fn ends_with_its_pipe(alloc: Global, net: &Net, piece: usize) -> Result<bool, AllocError> {
+    let wanted = [Pull::Broken, Pull::Frame(GOOD)];
+    let mut link = SocketLink::new();
+    let mut come = 0;
+    for (bytes, stays_open) in HALVES {
+        let given = (bytes, piece, stays_open);
+        match pull_all(alloc, &mut link, net, given, &wanted, come)? {
+            Some(more) => come = more,
+            None => return Ok(false),
+        }
+    }
+    Ok(come == wanted.len())
+}
+
+/// Whether it does with 1, 7 and 512 bytes a read.
+fn end_with_their_pipes(alloc: Global) -> Result<[bool; 3], Fail> {
+    let net = line(alloc)?;
+    Ok([
+        ends_with_its_pipe(alloc, &net, 1)?,
+        ends_with_its_pipe(alloc, &net, 7)?,
+        ends_with_its_pipe(alloc, &net, 512)?,
+    ])
 }
 
 #[test]
 fn half_a_line_ends_with_its_pipe(rt: HostRuntime) -> Result<(), Fail> {
-    let net = net_of(rt.alloc(), 3, &[(0, 1), (1, 2)])?;
-    for piece in [1, 7, 512] {
-        let mut link = SocketLink::new();
-        let mut answers = Vec::new(rt.alloc());
-        for (bytes, stays_open) in [
-            (b"F000000000".as_slice(), false),
-            (b"0010000000c\nF0000000000010000000c\n", true),
-        ] {
-            let given = (bytes, piece, stays_open);
-            pull_all(rt.alloc(), &mut link, &net, given, &mut answers)?;
-        }
-        let want = [Pull::Broken, Pull::Frame(GOOD)];
-        assert_eq!(rt; answers.as_slice(), want.as_slice(), "{piece} bytes a read");
-    }
+    assert_eq!(rt; end_with_their_pipes(rt.alloc())?, [true; 3]);
     Ok(())
 }
 
@@ -75,18 +85,39 @@ fn good_lines(alloc: Global, net: &Net, text: &[u8]) -> Result<Vec<Pull>, AllocE
     Ok(frames)
 }
 
+/// Whether a link over a pipe that closes behind a text gives just these answers, a hundred bytes a
+/// read.
+fn gives(alloc: Global, net: &Net, text: &[u8], wanted: &[Pull]) -> Result<bool, AllocError> {
+    let mut link = SocketLink::new();
+    let come = pull_all(alloc, &mut link, net, (text, 100, false), wanted, 0)?;
+    Ok(come == Some(wanted.len()))
+}
+
+/// The last frame that the lines of a text spell, and whether a link gives all of them and is then
+/// broken.
+fn last_given(alloc: Global, net: &Net, text: &[u8]) -> Result<(Option<Pull>, bool), AllocError> {
+    let mut wanted = good_lines(alloc, net, text)?;
+    let last = wanted.last().copied();
+    wanted.push(Pull::Broken)?;
+    Ok((last, gives(alloc, net, text, &wanted)?))
+}
+
+/// Ten thousand lines of junk, and one that spells a frame.
+fn long_text(alloc: Global) -> Result<Vec<u8>, AllocError> {
+    let mut text = junk(alloc, 7, 10_000)?;
+    text.extend_from_slice(GOOD_LINE)?;
+    Ok(text)
+}
+
+/// What three nodes' link gives of them.
+fn behind_junk(alloc: Global) -> Result<(Option<Pull>, bool), Fail> {
+    let net = line(alloc)?;
+    let text = long_text(alloc)?;
+    Ok(last_given(alloc, &net, &text)?)
+}
+
 #[test]
 fn a_frame_behind_ten_thousand_lines_of_junk(rt: HostRuntime) -> Result<(), Fail> {
-    let net = net_of(rt.alloc(), 3, &[(0, 1), (1, 2)])?;
-    let mut text = junk(rt.alloc(), 7, 10_000)?;
-    text.extend_from_slice(GOOD_LINE)?;
-    let mut want = good_lines(rt.alloc(), &net, &text)?;
-    assert_eq!(rt; want.last(), Some(&Pull::Frame(GOOD)));
-    want.push(Pull::Broken)?;
-    let mut link = SocketLink::new();
-    let mut answers = Vec::new(rt.alloc());
-    let given = (text.as_slice(), 100, false);
-    pull_all(rt.alloc(), &mut link, &net, given, &mut answers)?;
-    assert_eq!(rt; answers.as_slice(), want.as_slice());
+    assert_eq!(rt; behind_junk(rt.alloc())?, (Some(Pull::Frame(GOOD)), true));
     Ok(())
 }

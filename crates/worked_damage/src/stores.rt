@@ -1,7 +1,7 @@
 //! A node that starts from a store, whatever stands there, and stores that fail.
-use crate::calls::{File, NEWER, NONE, OLDER, file_of, started, two};
+use crate::calls::{File, NEWER, OLDER, started, two};
 use node_state_file::{FileFault, FusedStore, MemoryStore, StartFault, Store, StoreFault};
-use std::alloc::Global;
+use std::alloc::{AllocError, Global};
 use std::test::Fail;
 use topology::Net;
 
@@ -22,48 +22,89 @@ fn started_from(
     Ok(started(alloc, &mut store, net, 1)?)
 }
 
+/// Whether node 1 starts with this file then, and this fault of what is stored.
+fn is_started_so(
+    alloc: Global,
+    net: &Net,
+    bytes: &[u8],
+    want: (&[u8], Option<FileFault>),
+) -> Result<bool, Fail> {
+    let (file, told) = started_from(alloc, net, bytes)?;
+    let (start, fault) = want;
+    Ok(file.as_slice() == start && told == fault.map(StartFault::File))
+}
+
+/// The first length for which the front of the older file is not short, or the whole is not right.
+fn first_not_short(alloc: Global) -> Result<Option<usize>, Fail> {
+    let net = two(alloc)?;
+    for length in 0..=OLDER.len() {
+        let fault = (length < OLDER.len()).then_some(FileFault::Short);
+        if !is_started_so(alloc, &net, &OLDER[..length], (NEWER, fault))? {
+            return Ok(Some(length));
+        }
+    }
+    Ok(None)
+}
+
 #[test]
 fn a_file_of_each_length_is_short(rt: HostRuntime) -> Result<(), Fail> {
-    let net = two(rt.alloc())?;
-    let short = Some(StartFault::File(FileFault::Short));
-    for length in 0..OLDER.len() {
-        let (file, fault) = started_from(rt.alloc(), &net, &OLDER[..length])?;
-        assert_eq!(rt;
-            (file.as_slice(), fault),
-            (NEWER.as_slice(), short),
-            "{length} bytes"
-        );
-    }
-    let (file, fault) = started_from(rt.alloc(), &net, OLDER)?;
-    assert_eq!(rt; (file.as_slice(), fault), (NEWER.as_slice(), None));
+    assert_eq!(rt; first_not_short(rt.alloc())?, None);
     Ok(())
 }
 
-/// A state that is not the default one.
-const OTHER: [u16; 16] = [2, 1, 1, 1, 1, 0, 0, 4, 3, 1, 0, 6, 0, NONE, 5, 4];
+/// The file of a state that is not the default one.
+const OTHER: &[u8; 36] = b"TKT2\0\x02\0\x01\0\x01\0\x01\0\x01\0\0\
+    \0\0\0\x04\0\x03\0\x01\0\0\0\x06\0\0\xff\xff\0\x05\0\x04";
+
+/// That file with a number behind it.
+const LONG: &[u8; 38] = b"TKT2\0\x02\0\x01\0\x01\0\x01\0\x01\0\0\
+    \0\0\0\x04\0\x03\0\x01\0\0\0\x06\0\0\xff\xff\0\x05\0\x04\0\0";
+
+/// What is stored, the file of the state that node 1 starts with, and the fault of what is stored.
+const STORED: [(&[u8], &[u8], Option<FileFault>); 3] = [
+    (OTHER, OTHER, None),
+    (LONG, NEWER, Some(FileFault::Long)),
+    (&[b'T'; 1277], NEWER, Some(FileFault::Magic)),
+];
+
+/// The place of the first row that is not so.
+fn first_other_start(alloc: Global) -> Result<Option<usize>, Fail> {
+    let net = two(alloc)?;
+    for (at, (bytes, file, fault)) in STORED.iter().enumerate() {
+        if !is_started_so(alloc, &net, bytes, (file, *fault))? {
+            return Ok(Some(at));
+        }
+    }
+    Ok(None)
+}
 
 #[test]
 fn what_stands_in_the_way_is_told(rt: HostRuntime) -> Result<(), Fail> {
-    let net = two(rt.alloc())?;
-    let other = file_of(b"TKT2", &OTHER);
-    let longest = vec![in rt.alloc(); b'T'; 1277]?;
-    let long = file_of(&other, &[0]);
-    for (bytes, file, fault) in [
-        (other.as_slice(), other.as_slice(), None),
-        (long.as_slice(), NEWER.as_slice(), Some(FileFault::Long)),
-        (longest.as_slice(), NEWER.as_slice(), Some(FileFault::Magic)),
-    ] {
-        let (start, told) = started_from(rt.alloc(), &net, bytes)?;
-        assert_eq!(rt; start.as_slice(), file);
-        assert_eq!(rt; told, fault.map(StartFault::File));
-    }
-    let mut empty = MemoryStore::new(rt.alloc(), 0)?;
-    let (start, told) = started(rt.alloc(), &mut empty, &net, 1)?;
-    assert_eq!(rt;
-        (start.as_slice(), told),
-        (NEWER.as_slice(), Some(StartFault::Absent))
-    );
-    assert_eq!(rt; empty.save(&other), Err(StoreFault::Device));
+    assert_eq!(rt; first_other_start(rt.alloc())?, None);
+    Ok(())
+}
+
+/// Whether node 1 starts from a store without room with the default state, what stands in the way,
+/// and what the store answers to a save.
+type Empty = (bool, Option<StartFault>, Result<(), StoreFault>);
+
+/// What becomes of such a store.
+fn without_room(alloc: Global, net: &Net) -> Result<Empty, AllocError> {
+    let mut empty = MemoryStore::new(alloc, 0)?;
+    let (file, told) = started(alloc, &mut empty, net, 1)?;
+    Ok((file.as_slice() == NEWER.as_slice(), told, empty.save(OTHER)))
+}
+
+/// What becomes of it at a node of two.
+fn without_room_of_two(alloc: Global) -> Result<Empty, Fail> {
+    let net = two(alloc)?;
+    Ok(without_room(alloc, &net)?)
+}
+
+#[test]
+fn nothing_stands_in_a_store_without_room(rt: HostRuntime) -> Result<(), Fail> {
+    let want = (true, Some(StartFault::Absent), Err(StoreFault::Device));
+    assert_eq!(rt; without_room_of_two(rt.alloc())?, want);
     Ok(())
 }
 
@@ -74,37 +115,77 @@ struct Answers {
     saves: [Result<(), StoreFault>; 2],
 }
 
-/// Starts node 1 from a store in which a call fails after as many as that, and saves its state
-/// twice. Says what the store answered, whether it failed, and what it holds in the end.
-fn run_with_failure(alloc: Global, net: &Net, calls: u64) -> Result<(Answers, bool, File), Fail> {
-    let other = file_of(b"TKT2", &OTHER);
-    let mut store = FusedStore::new(store_of(alloc, &other)?, calls);
-    let (file, fault) = started(alloc, &mut store, net, 1)?;
+/// Starts node 1 from a store, and saves its state twice.
+fn answers_of<S: Store>(alloc: Global, store: &mut S, net: &Net) -> Result<Answers, AllocError> {
+    let (file, fault) = started(alloc, store, net, 1)?;
     let saves = [store.save(&file), store.save(&file)];
-    let held = file_of(store.inner().stored().unwrap_or(b""), &[]);
-    Ok((Answers { fault, saves }, store.has_failed(), held))
+    Ok(Answers { fault, saves })
+}
+
+/// The answers of a store in which a call fails after as many as that, whether it failed, and what
+/// it holds in the end.
+type Failing = (u64, Answers, bool, &'static [u8]);
+
+const FAILING: [Failing; 4] = [
+    (
+        0,
+        Answers {
+            fault: Some(StartFault::Device),
+            saves: [Ok(()), Ok(())],
+        },
+        true,
+        NEWER,
+    ),
+    (
+        1,
+        Answers {
+            fault: None,
+            saves: [Err(StoreFault::Device), Ok(())],
+        },
+        true,
+        OTHER,
+    ),
+    (
+        2,
+        Answers {
+            fault: None,
+            saves: [Ok(()), Err(StoreFault::Device)],
+        },
+        true,
+        OTHER,
+    ),
+    (
+        3,
+        Answers {
+            fault: None,
+            saves: [Ok(()), Ok(())],
+        },
+        false,
+        OTHER,
+    ),
+];
+
+/// Whether a store that holds the other state does so.
+fn fails_so(alloc: Global, net: &Net, row: &Failing) -> Result<bool, Fail> {
+    let (calls, want, fails, held) = row;
+    let mut store = FusedStore::new(store_of(alloc, OTHER)?, *calls);
+    let answers = answers_of(alloc, &mut store, net)?;
+    Ok(answers == *want && store.has_failed() == *fails && store.inner().stored() == Some(*held))
+}
+
+/// The place of the first row that is not so.
+fn first_other_failure(alloc: Global) -> Result<Option<usize>, Fail> {
+    let net = two(alloc)?;
+    for (at, row) in FAILING.iter().enumerate() {
+        if !fails_so(alloc, &net, row)? {
+            return Ok(Some(at));
+        }
+    }
+    Ok(None)
 }
 
 #[test]
 fn each_call_of_a_store_fails_once(rt: HostRuntime) -> Result<(), Fail> {
-    let net = two(rt.alloc())?;
-    let other = file_of(b"TKT2", &OTHER);
-    let device = Err(StoreFault::Device);
-    for (calls, fault, saves, held) in [
-        (
-            0,
-            Some(StartFault::Device),
-            [Ok(()), Ok(())],
-            NEWER.as_slice(),
-        ),
-        (1, None, [device, Ok(())], other.as_slice()),
-        (2, None, [Ok(()), device], other.as_slice()),
-        (3, None, [Ok(()), Ok(())], other.as_slice()),
-    ] {
-        let (answers, has_failed, holds) = run_with_failure(rt.alloc(), &net, calls)?;
-        assert_eq!(rt; answers, Answers { fault, saves }, "after {calls} calls");
-        assert_eq!(rt; has_failed, calls < 3);
-        assert_eq!(rt; holds.as_slice(), held);
-    }
+    assert_eq!(rt; first_other_failure(rt.alloc())?, None);
     Ok(())
 }

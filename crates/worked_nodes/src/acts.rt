@@ -1,6 +1,8 @@
 //! What happens between a node and those at the other ends of its connections, as rows tell it.
 use crate::stage::{Run, idle, turn_once, whole};
 use crate::wires::{Pair, Queue};
+use node_core::Node;
+use pace::Plan;
 
 /// What the other end of a connection does, or what is to be seen there.
 #[derive(Clone, Copy)]
@@ -34,6 +36,8 @@ pub enum Act<'a> {
     Idles,
     /// Nothing is done: this is the number of tickets that wait, and this one has the loan.
     Has(usize, Option<u16>),
+    /// Nothing is done: these tickets wait.
+    Queues(&'a [u16]),
     /// Nothing is done: this is the number of its port to node 1.
     IsNumbered(u16),
     /// At the connection with this place.
@@ -63,24 +67,38 @@ fn is_done_at(pair: &Pair, deed: Deed<'_>) -> bool {
     }
 }
 
+/// Does it at one of these connections, and says whether it is as told.
+fn is_done_among(pairs: &[Pair], place: usize, deed: Deed<'_>) -> bool {
+    match pairs.get(place) {
+        Some(pair) => is_done_at(pair, deed),
+        None => false,
+    }
+}
+
+/// Whether what is to be seen of a node is as told.
+fn is_seen(node: &Node, act: Act<'_>) -> bool {
+    match act {
+        Act::Has(waiting, lent) => node.waiting() == waiting && node.lent() == lent,
+        Act::Queues(tickets) => node.tickets() == tickets,
+        Act::IsNumbered(want) => node.ranges().nodes > 1 && node.seq(1) == want,
+        _ => false,
+    }
+}
+
+/// Makes a turn by this plan, which is as told.
+fn is_turned(run: &mut Run<'_>, plan: &Plan) -> bool {
+    turn_once(run, plan);
+    true
+}
+
 /// Does it, and says whether it is as told.
 fn is_done(run: &mut Run<'_>, door: &Queue<'_>, pairs: &[Pair], act: Act<'_>) -> bool {
     match act {
         Act::Comes => door.knock().is_some(),
-        Act::Turns => {
-            turn_once(run, &whole());
-            true
-        }
-        Act::Idles => {
-            turn_once(run, &idle());
-            true
-        }
-        Act::Has(waiting, lent) => run.node().waiting() == waiting && run.node().lent() == lent,
-        Act::IsNumbered(want) => run.node().ranges().nodes > 1 && run.node().seq(1) == want,
-        Act::At(place, deed) => match pairs.get(place) {
-            Some(pair) => is_done_at(pair, deed),
-            None => false,
-        },
+        Act::Turns => is_turned(run, &whole()),
+        Act::Idles => is_turned(run, &idle()),
+        Act::At(place, deed) => is_done_among(pairs, place, deed),
+        _ => is_seen(run.node(), act),
     }
 }
 

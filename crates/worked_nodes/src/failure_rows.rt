@@ -1,10 +1,12 @@
 //! Doors, connections and stores that fail.
-use crate::stage::{Run, doors, doors_to, idle, in_a_row, turn_once, whole, with_made, with_token};
+use crate::stage::{
+    Run, doors, doors_to, idle, in_a_row, over_new, run_with, turn_once, whole, with_made,
+    with_token,
+};
 use crate::wires::{MemoryDoors, Pair, Queue, Trip};
 use node_core::Node;
 use node_loop::NodeRun;
 use node_state_file::{FusedStore, MemoryStore, StoreFault};
-use pace::Manner;
 use std::alloc::{AllocError, Global};
 use std::test::Fail;
 use topology::Net;
@@ -29,18 +31,29 @@ fn turn_both(near: &mut Run<'_>, far: &mut Run<'_>) {
     }
 }
 
-/// Runs two nodes over these connections, of which the first two are the clients', and lets the call
-/// behind that number of others fail. Whether both settle, node 1 below node 0, and whether that
-/// call was made.
+/// Runs two nodes over these connections, of which the first two are the clients', and lets the
+/// call behind that number of others fail. Whether both settle, node 1 below node 0, and whether
+/// that call was made.
 fn settle(alloc: Global, calls: u64, pairs: &[Pair]) -> Result<(bool, bool), Fail> {
     let (near_clients, far_clients) = (Queue::new(pairs, 0, 1), Queue::new(pairs, 1, 2));
-    let links = Queue::new(pairs, 2, 5);
-    let trip = Trip::after(calls);
-    let near = with_token(alloc, doors(&links, &near_clients, &trip));
-    ask(&near_clients);
-    let door = doors_to(&links, &far_clients, &trip);
-    let are_settled = with_made(near, |near| settle_with(alloc, near, door))??;
+    let (links, trip) = (Queue::new(pairs, 2, 5), Trip::after(calls));
+    let are_settled = settle_at(
+        alloc,
+        doors(&links, &near_clients, &trip),
+        doors_to(&links, &far_clients, &trip),
+    )?;
     Ok((are_settled, trip.is_over()))
+}
+
+/// Makes the near one of two nodes, and then the far one beside it. Whether both settle.
+fn settle_at(
+    alloc: Global,
+    near_doors: MemoryDoors<'_>,
+    far_doors: MemoryDoors<'_>,
+) -> Result<bool, Fail> {
+    let near = with_token(alloc, near_doors);
+    ask(near_doors.clients);
+    with_made(near, |near| settle_with(alloc, near, far_doors))?
 }
 
 /// Makes the far one of two nodes, and runs it beside the near one. Whether both settle.
@@ -61,41 +74,44 @@ fn are_settled(near: &mut Run<'_>, far: &mut Run<'_>) -> bool {
     is_settled(near.node()) && is_settled(far.node()) && far.node().parent() == Some(0)
 }
 
-#[test]
-fn two_nodes_settle_whichever_call_fails(rt: HostRuntime) -> Result<(), Fail> {
+/// Fails each call in turn, in a run over connections of its own. The first failure behind which
+/// the two do not settle, and whether there are more than 100 calls.
+fn first_unsettled(alloc: Global) -> Result<(Option<u64>, bool), Fail> {
     for calls in 0..10_000 {
-        let pairs = [
-            Pair::new(),
-            Pair::new(),
-            Pair::new(),
-            Pair::new(),
-            Pair::new(),
-        ];
-        let (are_settled, has_failed) = settle(rt.alloc(), calls, &pairs)?;
-        assert!(rt; are_settled, "call {calls}");
+        let (are_settled, has_failed) = over_new(alloc, 5, |pairs| settle(alloc, calls, pairs))?;
+        if !are_settled {
+            return Ok((Some(calls), calls > 100));
+        }
         if !has_failed {
-            assert!(rt; calls > 100);
-            return Ok(());
+            return Ok((None, calls > 100));
         }
     }
     Err(Fail::from(AllocError))
 }
 
+#[test]
+fn two_nodes_settle_whichever_call_fails(rt: HostRuntime) -> Result<(), Fail> {
+    assert_eq!(rt; first_unsettled(rt.alloc())?, (None, true));
+    Ok(())
+}
+
 /// A node whose store fails once.
 type Fused<'a> = NodeRun<MemoryDoors<'a>, FusedStore<MemoryStore>>;
 
+/// A store of which the first save fails.
+fn fused(alloc: Global) -> Result<FusedStore<MemoryStore>, Fail> {
+    Ok(FusedStore::new(MemoryStore::new(alloc, 1276)?, 0))
+}
+
 /// Node 1 of two, of whose saves the first one fails.
 fn with_fused_store<'a>(alloc: Global, doors: MemoryDoors<'a>) -> Result<Fused<'a>, Fail> {
+    let store = fused(alloc)?;
     let net = Net::make(alloc, 2, 0, 1, 0, &[(0, 1)])?;
     if net.nodes() < 2 {
         return Err(Fail::from(AllocError));
     }
     let node = Node::new(alloc, &net, 1)?;
-    let store = FusedStore::new(MemoryStore::new(alloc, 1276)?, 0);
-    match NodeRun::new(alloc, net, node, doors, store, Manner::usual()) {
-        Ok(run) => Ok(run),
-        Err(_unmade) => Err(Fail::from(AllocError)),
-    }
+    run_with(alloc, net, node, doors, store)
 }
 
 /// Turns a node 512 times, and lets it tick in the last turn. The first turn that did not save, or
@@ -125,13 +141,15 @@ fn has_stored(run: &Fused<'_>) -> bool {
     run.store().inner().stored() == Some(TICKED.as_slice())
 }
 
+/// The first wrong turn of node 1 alone, and whether it has stored that at last.
+fn saved(alloc: Global) -> Result<(Option<u32>, bool), Fail> {
+    let (links, clients, trip) = (Queue::new(&[], 0, 0), Queue::new(&[], 0, 0), Trip::never());
+    let made = with_fused_store(alloc, doors(&links, &clients, &trip));
+    with_made(made, |run| (first_wrong_turn(run), has_stored(run)))
+}
+
 #[test]
 fn each_256th_turn_saves_and_goes_on_where_that_fails(rt: HostRuntime) -> Result<(), Fail> {
-    let pairs = [Pair::new()];
-    let all = &pairs[..];
-    let (links, clients, trip) = (Queue::new(all, 0, 0), Queue::new(all, 0, 0), Trip::never());
-    let made = with_fused_store(rt.alloc(), doors(&links, &clients, &trip));
-    let told = with_made(made, |run| (first_wrong_turn(run), has_stored(run)))?;
-    assert_eq!(rt; told, (None, true));
+    assert_eq!(rt; saved(rt.alloc())?, (None, true));
     Ok(())
 }

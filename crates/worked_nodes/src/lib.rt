@@ -7,6 +7,8 @@
 #[cfg(test)]
 mod acts;
 #[cfg(test)]
+mod cast;
+#[cfg(test)]
 mod client_rows;
 #[cfg(test)]
 mod failure_rows;

@@ -1,48 +1,19 @@
 //! Connections of neighbours, and the first lines on them.
+use crate::acts::Act;
 use crate::acts::Act::{At, Comes, Idles, IsNumbered, Turns};
 use crate::acts::Deed::{Hears, IsClosed, IsLeft, IsSent, Shuts, Writes};
-use crate::acts::{Act, first_wrong};
-use crate::stage::{Run, doors, doors_to, idle, in_a_row, turn_once, whole, with_made};
-use crate::wires::{Pair, Queue, Trip};
+use crate::cast::{Cast, on_stage, wrong_act};
+use crate::stage::{Run, idle, turn_once, whole};
+use crate::wires::{Pair, Queue};
 use std::alloc::Global;
 use std::test::Fail;
 use topology::Net;
 
-/// These neighbours, no clients, and no call that fails.
-fn stage<'a>(pairs: &'a [Pair]) -> (Queue<'a>, Queue<'a>, Trip) {
-    (
-        Queue::new(pairs, 0, pairs.len()),
-        Queue::new(pairs, 0, 0),
-        Trip::never(),
-    )
-}
-
 /// What a new node of three says first.
 const FIRST_FRAME: &[u8] = b"F000000000003ffff0000\n";
 
-/// The place of the first act that is not as told, between neighbours and node `id` of three in a row,
-/// to which all of them come.
-fn wrong_above(
-    alloc: Global,
-    id: u16,
-    pairs: &[Pair],
-    acts: &[Act<'_>],
-) -> Result<Option<usize>, Fail> {
-    let (links, clients, trip) = stage(pairs);
-    let made = in_a_row(alloc, 3, id, doors(&links, &clients, &trip));
-    with_made(made, |run| first_wrong(run, &links, pairs, acts))
-}
-
-/// The same of node 2, which comes to its neighbour.
-fn wrong_below(alloc: Global, pairs: &[Pair], acts: &[Act<'_>]) -> Result<Option<usize>, Fail> {
-    let (links, clients, trip) = stage(pairs);
-    let made = in_a_row(alloc, 3, 2, doors_to(&links, &clients, &trip));
-    with_made(made, |run| first_wrong(run, &links, pairs, acts))
-}
-
 /// The place of the first act that is not as told where this is said as a hello to node 1.
-fn wrong_hello(alloc: Global, hello: &[u8], is_welcome: bool) -> Result<Option<usize>, Fail> {
-    let pairs = [Pair::new()];
+fn wrong_in_hello(alloc: Global, hello: &[u8], is_welcome: bool) -> Result<Option<usize>, Fail> {
     let acts = [
         Comes,
         At(0, Writes(hello)),
@@ -50,63 +21,72 @@ fn wrong_hello(alloc: Global, hello: &[u8], is_welcome: bool) -> Result<Option<u
         At(0, IsClosed(!is_welcome)),
         At(0, Hears(if is_welcome { FIRST_FRAME } else { b"" })),
     ];
-    wrong_above(alloc, 1, &pairs, &acts)
+    wrong_act(alloc, Cast::Row(1), &acts)
 }
+
+/// The place of the first of these that is not as welcome as told.
+fn wrong_hello(alloc: Global, rows: &[(&[u8], bool)]) -> Result<Option<usize>, Fail> {
+    for (place, (hello, is_welcome)) in rows.iter().enumerate() {
+        if wrong_in_hello(alloc, hello, *is_welcome)?.is_some() {
+            return Ok(Some(place));
+        }
+    }
+    Ok(None)
+}
+
+/// What may be said as a hello to node 1, and whether it is welcome.
+const HELLOS: [(&[u8], bool); 8] = [
+    (b"H0002\n", true),
+    (b"H0000\n", false),
+    (b"H0001\n", false),
+    (b"H0003\n", false),
+    (b"h0002\n", false),
+    (b"H002\n", false),
+    (b"H00022", false),
+    (b"\n", false),
+];
 
 #[test]
 fn a_hello_of_a_higher_neighbour_alone_is_welcome(rt: HostRuntime) -> Result<(), Fail> {
-    for (hello, is_welcome) in [
-        (b"H0002\n".as_slice(), true),
-        (b"H0000\n", false),
-        (b"H0001\n", false),
-        (b"H0003\n", false),
-        (b"h0002\n", false),
-        (b"H002\n", false),
-        (b"H00022", false),
-        (b"\n", false),
-    ] {
-        assert_eq!(rt;
-            wrong_hello(rt.alloc(), hello, is_welcome)?,
-            None,
-            "{hello:?}"
-        );
-    }
+    assert_eq!(rt; wrong_hello(rt.alloc(), &HELLOS)?, None);
     Ok(())
 }
+
+/// A hello in two parts, and a frame behind it.
+const IN_PARTS: [Act<'static>; 7] = [
+    Comes,
+    At(0, Writes(b"H00")),
+    Idles,
+    At(0, IsClosed(false)),
+    At(0, Writes(b"01\nF000000000003ffff0000\n")),
+    Idles,
+    IsNumbered(1),
+];
 
 #[test]
 fn a_hello_comes_in_parts_and_frames_behind_it(rt: HostRuntime) -> Result<(), Fail> {
-    let pairs = [Pair::new()];
-    let acts = [
-        Comes,
-        At(0, Writes(b"H00")),
-        Idles,
-        At(0, IsClosed(false)),
-        At(0, Writes(b"01\nF000000000003ffff0000\n")),
-        Idles,
-        IsNumbered(1),
-    ];
-    assert_eq!(rt; wrong_above(rt.alloc(), 0, &pairs, &acts)?, None);
+    assert_eq!(rt; wrong_act(rt.alloc(), Cast::Row(0), &IN_PARTS)?, None);
     Ok(())
 }
 
+/// A neighbour comes twice.
+const TWICE: [Act<'static>; 11] = [
+    Comes,
+    At(0, Writes(b"H0001\n")),
+    Turns,
+    At(0, Hears(FIRST_FRAME)),
+    At(0, IsClosed(false)),
+    Comes,
+    At(1, Writes(b"H0001\n")),
+    Turns,
+    At(1, Hears(FIRST_FRAME)),
+    At(1, IsClosed(false)),
+    At(0, IsClosed(true)),
+];
+
 #[test]
 fn a_newer_hello_replaces_the_older_connection(rt: HostRuntime) -> Result<(), Fail> {
-    let pairs = [Pair::new(), Pair::new()];
-    let acts = [
-        Comes,
-        At(0, Writes(b"H0001\n")),
-        Turns,
-        At(0, Hears(FIRST_FRAME)),
-        At(0, IsClosed(false)),
-        Comes,
-        At(1, Writes(b"H0001\n")),
-        Turns,
-        At(1, Hears(FIRST_FRAME)),
-        At(1, IsClosed(false)),
-        At(0, IsClosed(true)),
-    ];
-    assert_eq!(rt; wrong_above(rt.alloc(), 0, &pairs, &acts)?, None);
+    assert_eq!(rt; wrong_act(rt.alloc(), Cast::Row(0), &TWICE)?, None);
     Ok(())
 }
 
@@ -152,38 +132,35 @@ fn all_silent(run: &mut Run<'_>, links: &Queue<'_>, pairs: &[Pair]) -> Silence {
     (wrong, closed(pairs), is_welcome(run, links))
 }
 
-/// The same at the root of a row.
-fn silent(alloc: Global, pairs: &[Pair]) -> Result<Silence, Fail> {
-    let (links, clients, trip) = stage(pairs);
-    let made = in_a_row(alloc, 3, 0, doors(&links, &clients, &trip));
-    with_made(made, |run| all_silent(run, &links, pairs))
+/// The same at the root of a row, over this number of connections.
+fn silent(alloc: Global, count: usize) -> Result<Silence, Fail> {
+    on_stage(alloc, Cast::Row(0), count, |run, links, pairs| {
+        Ok(all_silent(run, links, pairs))
+    })
 }
 
 #[test]
 fn silent_connections_are_few_and_go(rt: HostRuntime) -> Result<(), Fail> {
-    let mut pairs = Vec::with_capacity(rt.alloc(), 66)?;
-    for _ in 0..66 {
-        pairs.push(Pair::new())?;
-    }
-    assert_eq!(rt; silent(rt.alloc(), pairs.as_slice())?, (None, 65, true));
+    assert_eq!(rt; silent(rt.alloc(), 66)?, (None, 65, true));
     Ok(())
 }
 
+/// A node comes to its lower neighbour, and once more as that one closes.
+const BELOW: [Act<'static>; 9] = [
+    Idles,
+    Idles,
+    At(0, IsSent(b"H0002\n")),
+    At(1, IsSent(b"")),
+    At(0, Shuts),
+    Idles,
+    At(0, IsLeft),
+    Turns,
+    At(1, IsSent(b"H0002\nF000000000003ffff0000\n")),
+];
+
 #[test]
 fn a_node_connects_to_a_lower_neighbour_and_says_who_it_is(rt: HostRuntime) -> Result<(), Fail> {
-    let pairs = [Pair::new(), Pair::new()];
-    let acts = [
-        Idles,
-        Idles,
-        At(0, IsSent(b"H0002\n")),
-        At(1, IsSent(b"")),
-        At(0, Shuts),
-        Idles,
-        At(0, IsLeft),
-        Turns,
-        At(1, IsSent(b"H0002\nF000000000003ffff0000\n")),
-    ];
-    assert_eq!(rt; wrong_below(rt.alloc(), &pairs, &acts)?, None);
+    assert_eq!(rt; wrong_act(rt.alloc(), Cast::Last, &BELOW)?, None);
     Ok(())
 }
 
@@ -191,60 +168,105 @@ fn a_node_connects_to_a_lower_neighbour_and_says_who_it_is(rt: HostRuntime) -> R
 /// told a frame then, and whether its connection was closed.
 type Rewired = Option<(bool, bool, bool)>;
 
+/// Takes up a network, without the contract of that. Whether it did.
+fn is_taken_up(run: &mut Run<'_>, net: &Net) -> bool {
+    run.rewire(net)
+}
+
 /// Takes up a network and turns; node 2 knocks before that.
 fn rewired(run: &mut Run<'_>, net: &Net, links: &Queue<'_>) -> Rewired {
     let pair = links.knock()?;
     pair.up.write(b"H0002\n");
-    let is_taken = run.rewire(net);
+    let is_taken = is_taken_up(run, net);
     turn_once(run, &whole());
     Some((is_taken, pair.says(FIRST_FRAME), pair.down.is_closed()))
 }
 
-/// What the root of a row of three nodes told of the networks that it was handed: that row, a ring
-/// with other links, the ring, and without a knock the row again; and whether the last connection
-/// was closed then.
-type Told = ([Rewired; 3], bool, bool);
+/// A network of three nodes that a node is handed: how many frames its links hold, its edges, and
+/// what is to come of it.
+type Handed<'a> = (i64, &'a [(i64, i64)], Rewired);
 
-/// Hands the root of a row those networks, one after the other.
+/// A row.
+const ROW: &[(i64, i64)] = &[(0, 1), (1, 2)];
+
+/// A ring.
+const RING: &[(i64, i64)] = &[(0, 1), (1, 2), (0, 2)];
+
+/// What the root of a row is handed: that row, a ring with other links, and the ring.
+const HANDED: [Handed<'static>; 3] = [
+    (1, ROW, Some((true, false, true))),
+    (2, RING, Some((false, false, true))),
+    (1, RING, Some((true, true, false))),
+];
+
+/// Three nodes, the root first, with these edges.
+fn three(alloc: Global, capacity: i64, edges: &[(i64, i64)]) -> Result<Net, Fail> {
+    Ok(Net::make(alloc, 3, 0, capacity, 0, edges)?)
+}
+
+/// Whether of this network comes what is to come of it.
+fn is_as_told(
+    alloc: Global,
+    run: &mut Run<'_>,
+    links: &Queue<'_>,
+    (capacity, edges, want): Handed<'_>,
+) -> Result<bool, Fail> {
+    let net = three(alloc, capacity, edges)?;
+    Ok(rewired(run, &net, links) == want)
+}
+
+/// The place of the first of these networks of which something else comes, each handed behind the
+/// one before it.
+fn first_unlike(
+    alloc: Global,
+    run: &mut Run<'_>,
+    links: &Queue<'_>,
+    rows: &[Handed<'_>],
+) -> Result<Option<usize>, Fail> {
+    for (place, row) in rows.iter().enumerate() {
+        if !is_as_told(alloc, run, links, *row)? {
+            return Ok(Some(place));
+        }
+    }
+    Ok(None)
+}
+
+/// Hands a node the row again, without a knock. Whether it is taken up, and whether the last
+/// connection is closed then.
+fn goes_back(alloc: Global, run: &mut Run<'_>, pairs: &[Pair]) -> Result<(bool, bool), Fail> {
+    let row = three(alloc, 1, ROW)?;
+    let is_taken = is_taken_up(run, &row);
+    let has_gone = match pairs.last() {
+        Some(pair) => pair.down.is_closed(),
+        None => false,
+    };
+    Ok((is_taken, has_gone))
+}
+
+/// The first of those networks that is unlike, and what comes of the row then.
+type Told = (Option<usize>, (bool, bool));
+
+/// Hands a node all of these.
 fn rewired_often(
     alloc: Global,
     run: &mut Run<'_>,
     links: &Queue<'_>,
     pairs: &[Pair],
 ) -> Result<Told, Fail> {
-    let row = Net::make(alloc, 3, 0, 1, 0, &[(0, 1), (1, 2)])?;
-    let other = Net::make(alloc, 3, 0, 2, 0, &[(0, 1), (1, 2), (0, 2)])?;
-    let ring = Net::make(alloc, 3, 0, 1, 0, &[(0, 1), (1, 2), (0, 2)])?;
-    let told = [
-        rewired(run, &row, links),
-        rewired(run, &other, links),
-        rewired(run, &ring, links),
-    ];
-    let is_taken = run.rewire(&row);
-    let has_gone = pairs.last().is_some_and(|pair| pair.down.is_closed());
-    Ok((told, is_taken, has_gone))
+    let unlike = first_unlike(alloc, run, links, &HANDED)?;
+    Ok((unlike, goes_back(alloc, run, pairs)?))
 }
 
-/// What the root of a row told of them over these connections.
-fn rewired_over(alloc: Global, pairs: &[Pair]) -> Result<Told, Fail> {
-    let (links, clients, trip) = stage(pairs);
-    let made = in_a_row(alloc, 3, 0, doors(&links, &clients, &trip));
-    with_made(made, |run| rewired_often(alloc, run, &links, pairs))?
+/// What the root of a row told of them.
+fn rewired_anew(alloc: Global) -> Result<Told, Fail> {
+    on_stage(alloc, Cast::Row(0), 3, |run, links, pairs| {
+        rewired_often(alloc, run, links, pairs)
+    })
 }
 
 #[test]
 fn a_network_with_other_edges_is_taken_up(rt: HostRuntime) -> Result<(), Fail> {
-    let pairs = [Pair::new(), Pair::new(), Pair::new()];
-    let (told, is_taken, has_gone) = rewired_over(rt.alloc(), &pairs)?;
-    assert_eq!(rt;
-        told,
-        [
-            Some((true, false, true)),
-            Some((false, false, true)),
-            Some((true, true, false)),
-        ]
-    );
     // The connection of node 2 went with its edge.
-    assert!(rt; is_taken && has_gone);
+    assert_eq!(rt; rewired_anew(rt.alloc())?, (None, (true, true)));
     Ok(())
 }

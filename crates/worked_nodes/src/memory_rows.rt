@@ -1,9 +1,13 @@
 //! A node's loop takes all memory at its start, and none in its turns.
-use crate::stage::{doors, whole, with_made};
+ghost use Rattle.std.specs.Prelude.{◌≡◌};
+ghost use Rattle.node_core.specs.Site.{site_of};
+ghost use Rattle.node_core.specs.View.{site_in};
+
+use crate::stage::{doors, over_new, whole, with_made};
 use crate::wires::{MemoryDoors, Pair, Queue, Trip};
 use linked_list_allocator::LocalHeap;
 use node_core::Node;
-use node_loop::NodeRun;
+use node_loop::{NodeRun, Unmade};
 use node_state_file::MemoryStore;
 use pace::Manner;
 use std::alloc::{AllocError, Global};
@@ -26,6 +30,9 @@ fn fill<'h>(alloc: Global, heap: &'h LocalHeap) -> Result<Vec<Vec<u8, &'h LocalH
 /// A node that runs on a heap.
 type RunOn<'a, 'h> = NodeRun<MemoryDoors<'a>, MemoryStore, &'h LocalHeap>;
 
+/// The edges of a row of three nodes.
+const ROW: [(i64, i64); 2] = [(0, 1), (1, 2)];
+
 /// What came of a node on a heap.
 #[derive(Drop)]
 enum Begun<'a, 'h> {
@@ -38,7 +45,7 @@ enum Begun<'a, 'h> {
 }
 
 /// What a node on a heap of some size did.
-#[derive(Clone, Copy)]
+#[derive(Clone, Copy, PartialEq, Eq, Debug)]
 enum Outcome {
     NoNode,
     Refused(bool),
@@ -46,28 +53,60 @@ enum Outcome {
     Ran(bool),
 }
 
-/// Begins the root of two nodes on a heap.
-fn root_of_two<'a, 'h>(
+/// Whether what was handed in came back, and nothing else of the heap stayed taken.
+fn came_back(
+    unmade: &Unmade<MemoryDoors<'_>, MemoryStore, &LocalHeap>,
+    heap: &LocalHeap,
+    nodes: u16,
+    used: usize,
+) -> bool {
+    unmade.node.id() == 0 && unmade.net.nodes() == nodes && heap.used() == used
+}
+
+/// Begins the loop of this node on a heap.
+fn looped<'a, 'h>(
+    heap: &'h LocalHeap,
+    net: Net,
+    node: Node<&'h LocalHeap>,
+    doors: MemoryDoors<'a>,
+    store: MemoryStore,
+) -> Begun<'a, 'h>
+    requires { site_in node ≡ site_of net (site_in node).id }
+{
+    let (nodes, used) = (net.nodes(), heap.used());
+    match NodeRun::new(heap, net, node, doors, store, Manner::usual()) {
+        Ok(run) => Begun::Whole(run),
+        Err(unmade) => Begun::Refused(came_back(&unmade, heap, nodes, used)),
+    }
+}
+
+/// Begins node 0 of this network on a heap.
+fn begun_on<'a, 'h>(
+    heap: &'h LocalHeap,
+    net: Net,
+    doors: MemoryDoors<'a>,
+    store: MemoryStore,
+) -> Begun<'a, 'h> {
+    if net.nodes() == 0 {
+        return Begun::NoNode;
+    }
+    match Node::new(heap, &net, 0) {
+        Ok(node) => looped(heap, net, node, doors, store),
+        Err(_) => Begun::NoNode,
+    }
+}
+
+/// Begins the root of this number of nodes in a row on a heap.
+fn root_of<'a, 'h>(
     alloc: Global,
     heap: &'h LocalHeap,
+    nodes: i64,
+    edges: &[(i64, i64)],
     doors: MemoryDoors<'a>,
 ) -> Result<Begun<'a, 'h>, Fail> {
-    let net = Net::make(alloc, 2, 0, 1, 0, &[(0, 1)])?;
-    if net.nodes() == 0 {
-        return Err(Fail::from(AllocError));
-    }
     let store = MemoryStore::new(alloc, 1276)?;
-    let Ok(node) = Node::new(heap, &net, 0) else {
-        return Ok(Begun::NoNode);
-    };
-    let used = heap.used();
-    match NodeRun::new(heap, net, node, doors, store, Manner::usual()) {
-        Ok(run) => Ok(Begun::Whole(run)),
-        Err(unmade) => {
-            let is_whole = unmade.node.id() == 0 && unmade.net.nodes() == 2;
-            Ok(Begun::Refused(is_whole && heap.used() == used))
-        }
-    }
+    let net = Net::make(alloc, nodes, 0, 1, 0, edges)?;
+    Ok(begun_on(heap, net, doors, store))
 }
 
 /// The next one knocks, and writes this.
@@ -77,14 +116,24 @@ fn comes(queue: &Queue<'_>, bytes: &[u8]) {
     }
 }
 
+/// One turn by a whole plan.
+fn turn_whole(run: &mut RunOn<'_, '_>) {
+    run.turn_by(&whole(), 0);
+}
+
+/// One turn at the node's own pace.
+fn turn_at(run: &mut RunOn<'_, '_>, now: u64) {
+    run.wait(now);
+    run.turn(now);
+}
+
 /// This number of `turns` by a whole plan, and then as many at the node's own pace.
 fn turn_often(run: &mut RunOn<'_, '_>, turns: u64) {
     for _ in 0..turns {
-        run.turn_by(&whole(), 0);
+        turn_whole(run);
     }
     for now in 0..turns {
-        run.wait(now);
-        run.turn(now);
+        turn_at(run, now);
     }
 }
 
@@ -119,7 +168,7 @@ fn outcome_of(
 fn tried_on(alloc: Global, heap: &LocalHeap, pairs: &[Pair]) -> Result<Outcome, Fail> {
     let (links, clients) = (Queue::new(pairs, 0, 1), Queue::new(pairs, 1, 2));
     let trip = Trip::never();
-    let made = root_of_two(alloc, heap, doors(&links, &clients, &trip));
+    let made = root_of(alloc, heap, 2, &ROW[..1], doors(&links, &clients, &trip));
     with_made(
         made,
         |begun| outcome_of(alloc, heap, begun, &links, &clients),
@@ -132,29 +181,39 @@ fn tried(alloc: Global, size: usize, pairs: &[Pair]) -> Result<Outcome, Fail> {
     tried_on(alloc, &heap, pairs)
 }
 
-#[test]
-fn only_new_asks_for_memory(rt: HostRuntime) -> Result<(), Fail> {
+/// What a client that gives the lock back before it is granted hears.
+const ANSWERS: &[u8] = b"released\nnode 0 distance 2 parent none token no lent none waiting 0\n";
+
+/// The same, and whether its client has all answers then.
+fn tried_over(alloc: Global, size: usize, pairs: &[Pair]) -> Result<(Outcome, bool), Fail> {
+    let outcome = tried(alloc, size, pairs)?;
+    let has_answers = match pairs.get(1) {
+        Some(client) => client.says(ANSWERS),
+        None => false,
+    };
+    Ok((outcome, has_answers))
+}
+
+/// Tries heaps that grow. Whether more than 100 refused the loop, what came of the first one that
+/// did not refuse as it should, and whether its client had all answers.
+fn first_to_run(alloc: Global) -> Result<(bool, Outcome, bool), Fail> {
     let mut refused = 0u32;
     for units in 1..4000usize {
-        let pairs = [Pair::new(), Pair::new()];
-        match tried(rt.alloc(), units * 128, &pairs)? {
+        let size = units * 128;
+        let (outcome, has_answers) = over_new(alloc, 2, |pairs| tried_over(alloc, size, pairs))?;
+        match outcome {
             Outcome::NoNode => {}
-            Outcome::Refused(is_whole) => {
-                refused = refused.saturating_add(1);
-                assert!(rt; is_whole);
-            }
-            Outcome::Ran(took_nothing) => {
-                assert!(rt; took_nothing && refused > 100);
-                assert!(rt;
-                    pairs[1].says(
-                        b"released\nnode 0 distance 2 parent none token no lent none waiting 0\n"
-                    )
-                );
-                return Ok(());
-            }
+            Outcome::Refused(true) => refused = refused.saturating_add(1),
+            _ => return Ok((refused > 100, outcome, has_answers)),
         }
     }
-    assert!(rt; false, "a larger heap is wanted");
+    // A larger heap is wanted.
+    Ok((refused > 100, Outcome::NoNode, false))
+}
+
+#[test]
+fn only_new_asks_for_memory(rt: HostRuntime) -> Result<(), Fail> {
+    assert_eq!(rt; first_to_run(rt.alloc())?, (true, Outcome::Ran(true), true));
     Ok(())
 }
 
@@ -163,104 +222,127 @@ fn three(alloc: Global, capacity: i64, edges: &[(i64, i64)]) -> Result<Net, Fail
     Ok(Net::make(alloc, 3, 0, capacity, 0, edges)?)
 }
 
-/// The root of three nodes in a row, on a heap.
-fn root_on<'a, 'h>(
-    alloc: Global,
-    heap: &'h LocalHeap,
-    doors: MemoryDoors<'a>,
-) -> Result<RunOn<'a, 'h>, Fail> {
-    let net = three(alloc, 1, &[(0, 1), (1, 2)])?;
-    if net.nodes() == 0 {
-        return Err(Fail::from(AllocError));
-    }
-    let node = Node::new(heap, &net, 0)?;
-    let store = MemoryStore::new(alloc, 1276)?;
-    match NodeRun::new(heap, net, node, doors, store, Manner::usual()) {
-        Ok(run) => Ok(run),
-        Err(_unmade) => Err(Fail::from(AllocError)),
-    }
-}
-
 /// What came of a network that was handed to a node: whether it was taken up, whether node 2 was
 /// welcome then, and how much memory was free.
 type Rewired = Option<(bool, bool, usize)>;
+
+/// Takes up a network, without the contract of that. Whether it did.
+fn is_taken_up(run: &mut RunOn<'_, '_>, net: &Net) -> bool {
+    run.rewire(net)
+}
 
 /// Takes up a network and turns; node 2 knocks before that.
 fn rewired(run: &mut RunOn<'_, '_>, net: &Net, links: &Queue<'_>, heap: &LocalHeap) -> Rewired {
     let pair = links.knock()?;
     pair.up.write(b"H0002\n");
-    let is_taken = run.rewire(net);
-    run.turn_by(&whole(), 0);
+    let is_taken = is_taken_up(run, net);
+    turn_whole(run);
     Some((is_taken, !pair.down.is_closed(), heap.free()))
 }
 
-/// Hands four networks to the root of a row, one after the other: the row, a ring with other links,
-/// the ring, and the row.
-fn rewired_often(
+/// A network that a node is handed: how many frames its links hold, its edges, and what is to come
+/// of it.
+type Handed<'a> = (i64, &'a [(i64, i64)], Rewired);
+
+/// The edges of a ring of three nodes.
+const RING: [(i64, i64); 3] = [(0, 1), (1, 2), (0, 2)];
+
+/// What the root of a row is handed: the row, a ring with other links, the ring, and the row.
+const HANDED: [Handed<'static>; 4] = [
+    (1, &ROW, Some((true, false, 0))),
+    (2, &RING, Some((false, false, 0))),
+    (1, &RING, Some((true, true, 0))),
+    (1, &ROW, Some((true, false, 0))),
+];
+
+/// Whether of this network comes what is to come of it.
+fn is_as_told(
     alloc: Global,
     run: &mut RunOn<'_, '_>,
     links: &Queue<'_>,
     heap: &LocalHeap,
-) -> Result<[Rewired; 4], Fail> {
-    let row = three(alloc, 1, &[(0, 1), (1, 2)])?;
-    let other = three(alloc, 2, &[(0, 1), (1, 2), (0, 2)])?;
-    let ring = three(alloc, 1, &[(0, 1), (1, 2), (0, 2)])?;
-    Ok([
-        rewired(run, &row, links, heap),
-        rewired(run, &other, links, heap),
-        rewired(run, &ring, links, heap),
-        rewired(run, &row, links, heap),
-    ])
+    (capacity, edges, want): Handed<'_>,
+) -> Result<bool, Fail> {
+    let net = three(alloc, capacity, edges)?;
+    Ok(rewired(run, &net, links, heap) == want)
 }
 
-/// The same on a heap that has nothing left; and whether the third of these connections was closed
-/// then.
+/// The place of the first of these networks of which something else comes, each handed behind the
+/// one before it.
+fn first_unlike(
+    alloc: Global,
+    run: &mut RunOn<'_, '_>,
+    links: &Queue<'_>,
+    heap: &LocalHeap,
+    rows: &[Handed<'_>],
+) -> Result<Option<usize>, Fail> {
+    for (place, row) in rows.iter().enumerate() {
+        if !is_as_told(alloc, run, links, heap, *row)? {
+            return Ok(Some(place));
+        }
+    }
+    Ok(None)
+}
+
+/// What was unlike, and whether the third connection was closed then.
+type Told = (Option<usize>, bool);
+
+/// The same of those networks on a heap that has nothing left.
 fn rewired_on_a_full_heap(
     alloc: Global,
     run: &mut RunOn<'_, '_>,
     links: &Queue<'_>,
     heap: &LocalHeap,
     pairs: &[Pair],
-) -> Result<([Rewired; 4], bool), Fail> {
+) -> Result<Told, Fail> {
     let _full = fill(alloc, heap)?;
-    let told = rewired_often(alloc, run, links, heap)?;
-    Ok((told, pairs.get(2).is_some_and(|pair| pair.down.is_closed())))
+    let unlike = first_unlike(alloc, run, links, heap, &HANDED)?;
+    let has_gone = match pairs.get(2) {
+        Some(pair) => pair.down.is_closed(),
+        None => false,
+    };
+    Ok((unlike, has_gone))
+}
+
+/// What a node that has begun tells of that.
+fn rewired_from(
+    alloc: Global,
+    begun: &mut Begun<'_, '_>,
+    links: &Queue<'_>,
+    heap: &LocalHeap,
+    pairs: &[Pair],
+) -> Result<Told, Fail> {
+    match begun {
+        Begun::Whole(run) => rewired_on_a_full_heap(alloc, run, links, heap, pairs),
+        _ => Err(Fail::from(AllocError)),
+    }
 }
 
 /// What the root of a row tells of that, on this heap.
-fn rewired_on(
-    alloc: Global,
-    heap: &LocalHeap,
-    pairs: &[Pair],
-) -> Result<([Rewired; 4], bool), Fail> {
+fn rewired_on(alloc: Global, heap: &LocalHeap, pairs: &[Pair]) -> Result<Told, Fail> {
     let (links, clients) = (Queue::new(pairs, 0, 4), Queue::new(pairs, 4, 4));
     let trip = Trip::never();
-    let made = root_on(alloc, heap, doors(&links, &clients, &trip));
-    with_made(made, |run| {
-        rewired_on_a_full_heap(alloc, run, &links, heap, pairs)
-    })?
+    let made = root_of(alloc, heap, 3, &ROW, doors(&links, &clients, &trip));
+    with_made(
+        made,
+        |begun| rewired_from(alloc, begun, &links, heap, pairs),
+    )?
 }
 
 /// The same on a heap of its own.
-fn rewired_over(alloc: Global, pairs: &[Pair]) -> Result<([Rewired; 4], bool), Fail> {
+fn rewired_over(alloc: Global, pairs: &[Pair]) -> Result<Told, Fail> {
     let heap = LocalHeap::new(alloc, 524_288)?;
     rewired_on(alloc, &heap, pairs)
 }
 
+/// The same over new connections.
+fn rewired_anew(alloc: Global) -> Result<Told, Fail> {
+    over_new(alloc, 4, |pairs| rewired_over(alloc, pairs))
+}
+
 #[test]
 fn a_network_is_taken_up_without_memory(rt: HostRuntime) -> Result<(), Fail> {
-    let pairs = [Pair::new(), Pair::new(), Pair::new(), Pair::new()];
-    let (told, has_gone) = rewired_over(rt.alloc(), &pairs)?;
-    assert_eq!(rt;
-        told,
-        [
-            Some((true, false, 0)),
-            Some((false, false, 0)),
-            Some((true, true, 0)),
-            Some((true, false, 0)),
-        ]
-    );
     // The connection of node 2 went with its edge.
-    assert!(rt; has_gone);
+    assert_eq!(rt; rewired_anew(rt.alloc())?, (None, true));
     Ok(())
 }

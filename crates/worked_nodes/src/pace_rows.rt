@@ -1,5 +1,5 @@
 //! Nodes under load whose pace is damaged again and again.
-use crate::stage::{Run, doors, doors_to, in_a_row, with_made, with_token};
+use crate::stage::{Run, doors, doors_to, in_a_row, over_new, with_made, with_token};
 use crate::wires::{MemoryDoors, Pair, Queue, Trip};
 use pace::{Manner, NodePace, PORTS, Pace, PortPace};
 use std::alloc::Global;
@@ -85,13 +85,18 @@ impl Draws {
     }
 }
 
+/// One turn of a node, at its own pace.
+fn turn_at(run: &mut Run<'_>, now: u64) {
+    run.wait(now);
+    run.turn(now);
+}
+
 /// One turn of a node; its pace may be damaged before.
 fn turn(run: &mut Run<'_>, draws: &mut Draws, now: u64) {
     if draws.next() % 4 == 0 {
         run.set_pace(draws.pace());
     }
-    run.wait(now);
-    run.turn(now);
+    turn_at(run, now);
 }
 
 /// Whether this client was granted the lock now; it gives it back then, and asks again.
@@ -147,38 +152,58 @@ fn ask<'a>(clients: &Queue<'a>) -> Option<&'a Pair> {
     Some(client)
 }
 
-/// Runs the far one of two nodes beside the near one, each with a client that asks for the lock again
-/// and again. Whether no client starves.
+/// The clients of both nodes, of which each has asked for the lock.
+fn both_ask<'a>(near: &Queue<'a>, far: &Queue<'a>) -> Option<(&'a Pair, &'a Pair)> {
+    Some((ask(near)?, ask(far)?))
+}
+
+/// Runs the far one of two nodes beside the near one, each with a client that asks for the lock
+/// again and again. Whether no client starves.
 fn none_starves<'a>(
     alloc: Global,
     near: &mut Run<'_>,
-    near_clients: &Queue<'_>,
+    clients: [&Pair; 2],
     doors: MemoryDoors<'a>,
 ) -> Result<bool, Fail> {
-    let (first, second) = (ask(near_clients), ask(doors.clients));
-    let (Some(first), Some(second)) = (first, second) else {
-        return Ok(false);
-    };
     let far = in_a_row(alloc, 2, 1, doors);
-    with_made(
-        far,
-        |far| first_starved(near, far, [first, second]).is_none(),
-    )
+    with_made(far, |far| first_starved(near, far, clients).is_none())
 }
 
-/// Runs two nodes over these connections, of which the first two are the clients'. Whether no client
-/// starves.
+/// Runs two nodes at these doors, each with a client. Whether no client starves.
+fn none_starves_at(
+    alloc: Global,
+    near_doors: MemoryDoors<'_>,
+    far_doors: MemoryDoors<'_>,
+) -> Result<bool, Fail> {
+    let Some((first, second)) = both_ask(near_doors.clients, far_doors.clients) else {
+        return Ok(false);
+    };
+    let near = with_token(alloc, near_doors);
+    with_made(
+        near,
+        |near| none_starves(alloc, near, [first, second], far_doors),
+    )?
+}
+
+/// Runs two nodes over these connections, of which the first two are the clients'. Whether no
+/// client starves.
 fn none_starves_over(alloc: Global, pairs: &[Pair]) -> Result<bool, Fail> {
     let (near_clients, far_clients) = (Queue::new(pairs, 0, 1), Queue::new(pairs, 1, 2));
     let (links, trip) = (Queue::new(pairs, 2, 3), Trip::never());
-    let near = with_token(alloc, doors(&links, &near_clients, &trip));
-    let door = doors_to(&links, &far_clients, &trip);
-    with_made(near, |near| none_starves(alloc, near, &near_clients, door))?
+    none_starves_at(
+        alloc,
+        doors(&links, &near_clients, &trip),
+        doors_to(&links, &far_clients, &trip),
+    )
+}
+
+/// The same over new connections.
+fn none_starves_anew(alloc: Global) -> Result<bool, Fail> {
+    over_new(alloc, 3, |pairs| none_starves_over(alloc, pairs))
 }
 
 #[test]
 fn a_damaged_pace_costs_time_alone(rt: HostRuntime) -> Result<(), Fail> {
-    let pairs = [Pair::new(), Pair::new(), Pair::new()];
-    assert!(rt; none_starves_over(rt.alloc(), &pairs)?);
+    assert!(rt; none_starves_anew(rt.alloc())?);
     Ok(())
 }

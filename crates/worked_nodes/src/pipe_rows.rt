@@ -21,11 +21,41 @@ fn frame(seq: u16) -> Frame {
     }
 }
 
+/// How many frames are kept at most: a link is pulled twice behind each offer.
+const KEPT: usize = 6;
+
+/// Frames in their order.
+#[derive(Clone, Copy)]
+struct Frames {
+    frames: [Frame; KEPT],
+    count: usize,
+}
+
+impl Frames {
+    fn new() -> Frames {
+        Frames {
+            frames: [frame(0); KEPT],
+            count: 0,
+        }
+    }
+
+    fn push(&mut self, frame: Frame) {
+        if self.count < KEPT {
+            self.frames[self.count] = frame;
+            self.count += 1;
+        }
+    }
+
+    fn all(&self) -> &[Frame] {
+        &self.frames[..self.count.min(KEPT)]
+    }
+}
+
 /// What became of frames that one link was offered and the other one gave.
-#[derive(Drop)]
+#[derive(Clone, Copy)]
 struct Told {
-    taken: Vec<Frame>,
-    pulled: Vec<Frame>,
+    taken: Frames,
+    pulled: Frames,
     /// How often the first link and the second one were broken.
     breaks: [u32; 2],
 }
@@ -45,7 +75,7 @@ struct Ends<'a> {
 }
 
 impl<'a> Ends<'a> {
-    fn new(alloc: Global, second: &'a Pair, near_trip: &'a Trip, far_trip: &'a Trip) -> Ends<'a> {
+    fn new(second: &'a Pair, near_trip: &'a Trip, far_trip: &'a Trip) -> Ends<'a> {
         Ends {
             near: SocketLink::new(),
             far: SocketLink::new(),
@@ -53,8 +83,8 @@ impl<'a> Ends<'a> {
             near_trip,
             far_trip,
             told: Told {
-                taken: Vec::new(alloc),
-                pulled: Vec::new(alloc),
+                taken: Frames::new(),
+                pulled: Frames::new(),
                 breaks: [0; 2],
             },
         }
@@ -78,45 +108,47 @@ impl<'a> Ends<'a> {
     }
 
     /// Offers a frame to the first link and writes it.
-    fn offer(&mut self, frame: &Frame) -> Result<(), AllocError> {
-        if self.near.offer(frame) == Offer::Taken {
-            self.told.taken.push(*frame)?;
+    fn offer(&mut self, frame: Frame) {
+        if self.near.offer(&frame) == Offer::Taken {
+            self.told.taken.push(frame);
         }
         if self.near.push_out() == Flow::Broken {
             self.mend(0);
         }
-        Ok(())
     }
 
     /// Pulls once at each link.
-    fn pull(&mut self, net: &Net) -> Result<(), AllocError> {
+    fn pull(&mut self, net: &Net) {
         if self.near.pull(net) == Pull::Broken {
             self.mend(0);
         }
         match self.far.pull(net) {
-            Pull::Frame(frame) => self.told.pulled.push(frame)?,
+            Pull::Frame(frame) => self.told.pulled.push(frame),
             Pull::Broken => self.mend(1),
             Pull::Later => {}
         }
-        Ok(())
     }
 }
 
 /// Offers three frames, one after the other, and pulls behind each.
+fn offer_all(ends: &mut Ends<'_>, net: &Net) {
+    for seq in 0..FRAMES {
+        ends.offer(frame(seq));
+        ends.pull(net);
+        ends.pull(net);
+    }
+}
+
+/// The same between two links over these pairs, the first of which stands at first. What is told.
 fn exchange<'a>(
-    alloc: Global,
     net: &Net,
     (first, second): (&'a Pair, &'a Pair),
     (near_trip, far_trip): (&'a Trip, &'a Trip),
-) -> Result<Told, AllocError> {
-    let mut ends = Ends::new(alloc, second, near_trip, far_trip);
+) -> Told {
+    let mut ends = Ends::new(second, near_trip, far_trip);
     ends.attach(first);
-    for seq in 0..FRAMES {
-        ends.offer(&frame(seq))?;
-        ends.pull(net)?;
-        ends.pull(net)?;
-    }
-    Ok(ends.told)
+    offer_all(&mut ends, net);
+    ends.told
 }
 
 /// Whether frames are some of these, in their order.
@@ -138,28 +170,23 @@ fn is_right(told: &Told, side: usize, has_failed: bool) -> bool {
     let want = if side == 0 { [lost, 0] } else { [0, lost] };
     let least = if has_failed { 2 } else { 3 };
     told.breaks == want
-        && told.taken.len() == 3
-        && told.pulled.len() >= least
-        && is_part(told.pulled.as_slice(), told.taken.as_slice())
+        && told.taken.count == 3
+        && told.pulled.count >= least
+        && is_part(told.pulled.all(), told.taken.all())
 }
 
 /// Fails the call behind `calls` others of the first link's pipes, or of the second one's. Whether
 /// that call was made, and whether the frames are told as they should be.
-fn with_a_failure(
-    alloc: Global,
-    net: &Net,
-    side: usize,
-    calls: u64,
-) -> Result<(bool, bool), AllocError> {
+fn with_a_failure(net: &Net, side: usize, calls: u64) -> (bool, bool) {
     let (first, second) = (Pair::new(), Pair::new());
     let (near_trip, far_trip) = if side == 0 {
         (Trip::after(calls), Trip::never())
     } else {
         (Trip::never(), Trip::after(calls))
     };
-    let told = exchange(alloc, net, (&first, &second), (&near_trip, &far_trip))?;
+    let told = exchange(net, (&first, &second), (&near_trip, &far_trip));
     let has_failed = near_trip.is_over() && far_trip.is_over();
-    Ok((has_failed, is_right(&told, side, has_failed)))
+    (has_failed, is_right(&told, side, has_failed))
 }
 
 /// Fails each call of one side in turn. How many calls there are, and whether each failure was told
@@ -167,7 +194,7 @@ fn with_a_failure(
 fn calls_of(alloc: Global, side: usize) -> Result<(u64, bool), Fail> {
     let net = Net::make(alloc, 3, 0, 1, 0, &[(0, 1), (1, 2)])?;
     for calls in 0..100 {
-        let (has_failed, is_right) = with_a_failure(alloc, &net, side, calls)?;
+        let (has_failed, is_right) = with_a_failure(&net, side, calls);
         if !has_failed || !is_right {
             return Ok((calls, is_right));
         }
@@ -175,11 +202,20 @@ fn calls_of(alloc: Global, side: usize) -> Result<(u64, bool), Fail> {
     Err(Fail::from(AllocError))
 }
 
+/// The first side of which a failure is not told as it should be, or which has too few calls, and
+/// the number of that call.
+fn first_wrong(alloc: Global) -> Result<Option<(usize, u64)>, Fail> {
+    for side in 0..2 {
+        let (calls, are_right) = calls_of(alloc, side)?;
+        if !are_right || calls <= 5 {
+            return Ok(Some((side, calls)));
+        }
+    }
+    Ok(None)
+}
+
 #[test]
 fn frames_are_some_of_those_taken_whichever_call_fails(rt: HostRuntime) -> Result<(), Fail> {
-    for side in 0..2 {
-        let (calls, are_right) = calls_of(rt.alloc(), side)?;
-        assert!(rt; are_right && calls > 5, "side {side}, call {calls}");
-    }
+    assert_eq!(rt; first_wrong(rt.alloc())?, None);
     Ok(())
 }

@@ -1,5 +1,7 @@
 //! A node that starts again from a state that means nothing, among nodes that run.
-use crate::stage::{Run, doors, doors_between, doors_to, run_of, turn_once, whole, with_made};
+use crate::stage::{
+    Run, doors, doors_between, doors_to, over_new, run_with, turn_once, whole, with_made,
+};
 use crate::wires::{MemoryDoors, Pair, Queue, Trip};
 use node_state_file::{FileFault, MemoryStore, StartFault, Store, start};
 use std::alloc::{AllocError, Global};
@@ -29,6 +31,15 @@ fn row(alloc: Global) -> Result<Net, Fail> {
     Ok(Net::make(alloc, 3, 0, 64, 0, &[(0, 1), (1, 2)])?)
 }
 
+/// A store with these bytes.
+fn stored(alloc: Global, bytes: Option<&[u8]>) -> Result<MemoryStore, Fail> {
+    let mut store = MemoryStore::new(alloc, 1276)?;
+    if let Some(bytes) = bytes {
+        store.save(bytes)?;
+    }
+    Ok(store)
+}
+
 /// Node `id` of three in a row, from what a store with these bytes loads, and what stood in the
 /// way.
 fn started<'a>(
@@ -37,16 +48,16 @@ fn started<'a>(
     bytes: Option<&[u8]>,
     doors: MemoryDoors<'a>,
 ) -> Result<(Run<'a>, Option<StartFault>), Fail> {
+    let mut store = stored(alloc, bytes)?;
     let net = row(alloc)?;
     if id >= net.nodes() {
         return Err(Fail::from(AllocError));
     }
-    let mut store = MemoryStore::new(alloc, 1276)?;
-    if let Some(bytes) = bytes {
-        store.save(bytes)?;
-    }
     let started = start(alloc, &mut store, &net, id)?;
-    Ok((run_of(alloc, net, started.state, doors)?, started.fault))
+    Ok((
+        run_with(alloc, net, started.state, doors, store)?,
+        started.fault,
+    ))
 }
 
 /// One turn of each node.
@@ -162,6 +173,16 @@ fn life(
     })
 }
 
+/// The clients in a life of node 2 whose own two begin at this place of the connections.
+fn clients_from(pairs: &[Pair], place: usize) -> Option<Clients<'_>> {
+    Some(Clients {
+        of_first: pairs.get(3)?,
+        of_second: pairs.get(4)?,
+        leaving: pairs.get(place)?,
+        next: pairs.get(place.checked_add(1)?)?,
+    })
+}
+
 /// Starts node 2 beside two nodes that run, ends it, and starts it again with these bytes in its
 /// store. What both starts came to.
 fn both_lives(
@@ -169,19 +190,12 @@ fn both_lives(
     first: &mut Run<'_>,
     second: &mut Run<'_>,
     ways: Ways<'_>,
-    clients: &[Pair; 6],
+    pairs: &[Pair],
     bytes: &[u8],
 ) -> Result<[Life; 2], Fail> {
-    let of_both = Clients {
-        of_first: &clients[0],
-        of_second: &clients[1],
-        leaving: &clients[2],
-        next: &clients[3],
-    };
-    let of_the_other = Clients {
-        leaving: &clients[4],
-        next: &clients[5],
-        ..of_both
+    let (Some(of_both), Some(of_the_other)) = (clients_from(pairs, 5), clients_from(pairs, 7))
+    else {
+        return Err(Fail::from(AllocError));
     };
     Ok([
         life(alloc, first, second, ways, of_both, None)?,
@@ -194,28 +208,38 @@ fn beside_first(
     alloc: Global,
     first: &mut Run<'_>,
     ways: Ways<'_>,
-    clients: &[Pair; 6],
+    pairs: &[Pair],
     bytes: &[u8],
 ) -> Result<[Life; 2], Fail> {
     let between = doors_between(ways.upper, ways.lower, ways.of_second, ways.trip);
     let second = started(alloc, 1, None, between);
     ways.of_second.knock();
     with_made(second, |second| {
-        both_lives(alloc, first, &mut second.0, ways, clients, bytes)
+        both_lives(alloc, first, &mut second.0, ways, pairs, bytes)
+    })?
+}
+
+/// Starts node 0, and then the others beside it.
+fn all_started(
+    alloc: Global,
+    of_first: &Queue<'_>,
+    ways: Ways<'_>,
+    pairs: &[Pair],
+    bytes: &[u8],
+) -> Result<[Life; 2], Fail> {
+    let first = started(alloc, 0, None, doors(ways.lower, of_first, ways.trip));
+    of_first.knock();
+    with_made(first, |first| {
+        beside_first(alloc, &mut first.0, ways, pairs, bytes)
     })?
 }
 
 /// Runs three nodes in a row, ends node 2, and starts it again with these bytes in its store. What
-/// both starts came to.
-fn starts_again(
-    alloc: Global,
-    links: &[Pair; 3],
-    clients: &[Pair; 6],
-    bytes: &[u8],
-) -> Result<[Life; 2], Fail> {
-    let (lower, upper) = (Queue::new(links, 0, 1), Queue::new(links, 1, 3));
-    let (of_first, of_second) = (Queue::new(clients, 0, 1), Queue::new(clients, 1, 2));
-    let (of_third, trip) = (Queue::new(clients, 2, 6), Trip::never());
+/// both starts came to. Of the nine connections three are between nodes.
+fn starts_again(alloc: Global, pairs: &[Pair], bytes: &[u8]) -> Result<[Life; 2], Fail> {
+    let (lower, upper) = (Queue::new(pairs, 0, 1), Queue::new(pairs, 1, 3));
+    let (of_first, of_second) = (Queue::new(pairs, 3, 4), Queue::new(pairs, 4, 5));
+    let (of_third, trip) = (Queue::new(pairs, 5, 9), Trip::never());
     let ways = Ways {
         lower: &lower,
         upper: &upper,
@@ -223,30 +247,38 @@ fn starts_again(
         of_third: &of_third,
         trip: &trip,
     };
-    let first = started(alloc, 0, None, doors(&lower, &of_first, &trip));
-    of_first.knock();
-    with_made(first, |first| {
-        beside_first(alloc, &mut first.0, ways, clients, bytes)
-    })?
+    all_started(alloc, &of_first, ways, pairs, bytes)
 }
+
+/// Whether that stands in the way of the second start, where the store has this many bytes of the
+/// state, and nothing is missed.
+fn is_as_told(alloc: Global, kept: usize, want: Option<StartFault>) -> Result<bool, Fail> {
+    let bytes = &SCRAMBLED[..kept.min(SCRAMBLED.len())];
+    let told = over_new(alloc, 9, |pairs| starts_again(alloc, pairs, bytes))?;
+    Ok(told == [(Some(StartFault::Absent), None), (want, None)])
+}
+
+/// The place of the first of these that is not as told.
+fn first_unlike(
+    alloc: Global,
+    rows: &[(usize, Option<StartFault>)],
+) -> Result<Option<usize>, Fail> {
+    for (place, (kept, want)) in rows.iter().enumerate() {
+        if !is_as_told(alloc, *kept, *want)? {
+            return Ok(Some(place));
+        }
+    }
+    Ok(None)
+}
+
+/// How many bytes of the state a file holds, and what stands in the way then.
+const FILES: [(usize, Option<StartFault>); 2] = [
+    (36, None),
+    (33, Some(StartFault::File(FileFault::Short))),
+];
 
 #[test]
 fn a_node_starts_again_whatever_its_file_holds(rt: HostRuntime) -> Result<(), Fail> {
-    for (bytes, want) in [
-        (SCRAMBLED.as_slice(), None),
-        (&SCRAMBLED[..33], Some(StartFault::File(FileFault::Short))),
-    ] {
-        let links = [Pair::new(), Pair::new(), Pair::new()];
-        let clients = [
-            Pair::new(),
-            Pair::new(),
-            Pair::new(),
-            Pair::new(),
-            Pair::new(),
-            Pair::new(),
-        ];
-        let told = starts_again(rt.alloc(), &links, &clients, bytes)?;
-        assert_eq!(rt; told, [(Some(StartFault::Absent), None), (want, None)]);
-    }
+    assert_eq!(rt; first_unlike(rt.alloc(), &FILES)?, None);
     Ok(())
 }

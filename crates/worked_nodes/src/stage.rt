@@ -3,10 +3,10 @@ ghost use Rattle.std.specs.Prelude.{◌≡◌};
 ghost use Rattle.node_core.specs.Site.{site_of};
 ghost use Rattle.node_core.specs.View.{site_in};
 
-use crate::wires::{MemoryDoors, Queue, Trip};
+use crate::wires::{MemoryDoors, Pair, Queue, Trip};
 use node_core::Node;
 use node_loop::NodeRun;
-use node_state_file::{MemoryStore, decode};
+use node_state_file::{MemoryStore, Store, decode};
 use pace::{Manner, Plan};
 use std::alloc::{AllocError, Global};
 use std::test::Fail;
@@ -47,6 +47,27 @@ pub fn with_made<R: Drop, T, F: FnOnce(&mut R) -> T>(
 {
     let mut held = made?;
     Ok(deed(&mut held))
+}
+
+/// This number of new connections.
+pub fn connections(alloc: Global, count: usize) -> Result<Vec<Pair>, Fail> {
+    let mut pairs = Vec::with_capacity(alloc, count)?;
+    for _ in 0..count {
+        pairs.push(Pair::new())?;
+    }
+    Ok(pairs)
+}
+
+/// Does something over this number of new connections, and drops them then. What came of it.
+pub fn over_new<T, F: FnOnce(&[Pair]) -> Result<T, Fail>>(
+    alloc: Global,
+    count: usize,
+    deed: F,
+) -> Result<T, Fail>
+    requires { F.IsAlwaysCallable deed }
+{
+    let pairs = connections(alloc, count)?;
+    deed(pairs.as_slice())
 }
 
 /// One turn by this plan, without the contract of a turn, which would else stand in each test.
@@ -123,6 +144,22 @@ pub fn with_token<'a>(alloc: Global, doors: MemoryDoors<'a>) -> Result<Run<'a>, 
     run_of(alloc, net, node, doors)
 }
 
+/// This node, with this store.
+pub fn run_with<'a, S: Store + Drop>(
+    alloc: Global,
+    net: Net,
+    node: Node,
+    doors: MemoryDoors<'a>,
+    store: S,
+) -> Result<NodeRun<MemoryDoors<'a>, S>, Fail>
+    requires { site_in node ≡ site_of net (site_in node).id }
+{
+    match NodeRun::new(alloc, net, node, doors, store, Manner::usual()) {
+        Ok(run) => Ok(run),
+        Err(_unmade) => Err(Fail::from(AllocError)),
+    }
+}
+
 /// This node, with room for one state in its store.
 pub fn run_of<'a>(
     alloc: Global,
@@ -133,8 +170,5 @@ pub fn run_of<'a>(
     requires { site_in node ≡ site_of net (site_in node).id }
 {
     let store = MemoryStore::new(alloc, 1276)?;
-    match NodeRun::new(alloc, net, node, doors, store, Manner::usual()) {
-        Ok(run) => Ok(run),
-        Err(_unmade) => Err(Fail::from(AllocError)),
-    }
+    run_with(alloc, net, node, doors, store)
 }

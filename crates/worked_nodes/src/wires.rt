@@ -275,7 +275,7 @@ impl<'a> Queue<'a> {
 }
 
 /// Doors over memory. All calls that they and their connections make share one trip.
-#[derive(Drop)]
+#[derive(Clone, Copy, Drop)]
 pub struct MemoryDoors<'a> {
     /// Where higher neighbours come to this node, if it has any.
     pub links: Option<&'a Queue<'a>>,

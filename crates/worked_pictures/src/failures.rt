@@ -1,5 +1,5 @@
 //! Recordings whose source fails, and recordings where memory is refused.
-use crate::rows::FORGED;
+use crate::rows::{FORGED, two};
 use byte_streams::{Fused, MemorySource, Source};
 use linked_list_allocator::LocalHeap;
 use run_picture::{Window, record};
@@ -8,18 +8,12 @@ use std::test::Fail;
 use topology::Net;
 use world::simulation::SimFault;
 
-/// Two nodes, over links of one place.
-fn two(alloc: Global) -> Result<Net, Fail> {
-    Ok(Net::make(alloc, 2, 0, 1, 0, &[(0, 1)])?)
-}
+/// How many events a recording has, how many columns, and how many nodes are privileged in the last
+/// of them.
+type Recorded = Result<(u64, usize, Option<usize>), SimFault>;
 
-/// How many events a recording of at most four columns has of what the source gives, how many
-/// columns, and how many nodes are privileged in the last of them.
-fn recorded<A: Allocator + Copy, R: Source>(
-    alloc: A,
-    net: &Net,
-    source: &mut R,
-) -> Result<(u64, usize, Option<usize>), SimFault> {
+/// Records what the source gives in at most four columns.
+fn recorded<A: Allocator + Copy, R: Source>(alloc: A, net: &Net, source: &mut R) -> Recorded {
     let recording = record(alloc, net, source, 4, Window::ALL)?;
     let columns = recording.strip().columns();
     let last = columns.last().map(|column| column.privileged);
@@ -44,38 +38,78 @@ fn read_failed(heap: &LocalHeap, net: &Net, piece: usize, calls: u64) -> Option<
     (answer == want && heap.used() == 0).then_some(failed)
 }
 
-#[test]
-fn each_read_of_a_recording_fails_once(rt: HostRuntime) -> Result<(), Fail> {
-    let net = two(rt.alloc())?;
-    let heap = LocalHeap::new(rt.alloc(), 65536)?;
-    for piece in [1, 7, 4096] {
+/// Of how many bytes a read is at most.
+const PIECES: [usize; 3] = [1, 7, 4096];
+
+/// The first size of pieces, and behind how many reads of them, at which a read does not fail where
+/// it should, or fails where it should not.
+fn first_unlike_read(heap: &LocalHeap, net: &Net) -> Option<(usize, u64)> {
+    for piece in PIECES {
         // As many reads as there are pieces, and one that finds the end.
         let reads = FORGED.len().div_ceil(piece) as u64 + 1;
         for calls in 0..=reads {
-            assert_eq!(rt;
-                read_failed(&heap, &net, piece, calls),
-                Some(calls < reads),
-                "pieces of {piece}, behind {calls} reads"
-            );
+            if read_failed(heap, net, piece, calls) != Some(calls < reads) {
+                return Some((piece, calls));
+            }
         }
     }
+    None
+}
+
+/// The same on a heap of its own.
+fn unlike_read_of(alloc: Global, net: &Net) -> Result<Option<(usize, u64)>, Fail> {
+    let heap = LocalHeap::new(alloc, 65536)?;
+    Ok(first_unlike_read(&heap, net))
+}
+
+/// The same of two nodes.
+fn unlike_read(alloc: Global) -> Result<Option<(usize, u64)>, Fail> {
+    unlike_read_of(alloc, &two(alloc)?)
+}
+
+#[test]
+fn each_read_of_a_recording_fails_once(rt: HostRuntime) -> Result<(), Fail> {
+    assert_eq!(rt; unlike_read(rt.alloc())?, None);
     Ok(())
+}
+
+/// What is recorded on a heap of this size, and how much of it stays allocated.
+fn recorded_within<R: Source>(
+    alloc: Global,
+    net: &Net,
+    source: &mut R,
+    size: usize,
+) -> Result<(Recorded, usize), Fail> {
+    let heap = LocalHeap::new(alloc, size)?;
+    let answer = recorded(&heap, net, source);
+    Ok((answer, heap.used()))
+}
+
+/// What is recorded of the forged tokens on the smallest heap that has enough memory, and whether
+/// that has more than 40 units of 16 bytes; none where memory stays allocated, or heaps of less than
+/// 2000 units do not do. Each heap records from the same source.
+fn recorded_at_last(alloc: Global, net: &Net) -> Result<Option<(Recorded, bool)>, Fail> {
+    let mut source = MemorySource::new(FORGED.as_bytes(), 7);
+    for units in 1..2000usize {
+        let (answer, used) = recorded_within(alloc, net, &mut source, units * 16)?;
+        if used != 0 {
+            return Ok(None);
+        }
+        if answer != Err(SimFault::Memory) {
+            return Ok(Some((answer, units > 40)));
+        }
+    }
+    Ok(None)
+}
+
+/// The same of two nodes.
+fn recorded_of_two(alloc: Global) -> Result<Option<(Recorded, bool)>, Fail> {
+    recorded_at_last(alloc, &two(alloc)?)
 }
 
 #[test]
 fn refused_memory_leaves_the_source_unread(rt: HostRuntime) -> Result<(), Fail> {
-    let net = two(rt.alloc())?;
-    let mut source = MemorySource::new(FORGED.as_bytes(), 7);
-    for units in 1..2000usize {
-        let heap = LocalHeap::new(rt.alloc(), units * 16)?;
-        let answer = recorded(&heap, &net, &mut source);
-        assert_eq!(rt; heap.used(), 0);
-        if answer != Err(SimFault::Memory) {
-            // The source still had all its bytes.
-            assert_eq!(rt; answer, Ok(RECORDED));
-            assert!(rt; units > 40);
-            return Ok(());
-        }
-    }
-    panic!(rt; "always refused")
+    // The source still had all its bytes.
+    assert_eq!(rt; recorded_of_two(rt.alloc())?, Some((Ok(RECORDED), true)));
+    Ok(())
 }

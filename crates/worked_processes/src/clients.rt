@@ -1,11 +1,13 @@
 //! Copies of the test program as clients, against desks that follow a script.
-use crate::hold::{changed, hold};
+use crate::copies::{copy, prints, prints_and_tells, shell, started};
+use crate::hold::hold;
 use lock_command::{Request, lock, status};
 use std::alloc::{AllocError, Global};
 use std::io::{Input, Read, Write};
 use std::net::Net;
 use std::os::unix::net::{UnixListener, UnixStream};
-use std::process::{Abort, Child, Command, Processes, Stdio};
+use std::path::AsPath;
+use std::process::{Child, Command, Processes, Stdio};
 use std::rt::{Env, Files};
 use std::sync::Wait;
 use std::test::Fail;
@@ -14,7 +16,7 @@ use std::{env, fs, thread};
 
 /// What a desk of the tests does, one step after the other. Behind the last one it closes the
 /// connection.
-#[derive(Clone, Copy, Debug)]
+#[derive(Clone, Copy)]
 enum Step {
     /// It reads these very bytes.
     Hears(&'static [u8]),
@@ -25,7 +27,7 @@ enum Step {
 }
 
 /// What a client of the tests is asked to do; an empty text stands for none.
-#[derive(Clone, Copy, Debug)]
+#[derive(Clone, Copy)]
 struct Asked {
     seconds: &'static str,
     keeps: &'static str,
@@ -35,7 +37,7 @@ struct Asked {
 }
 
 /// A row: what is asked, what the desk does, and the client's status and line on standard error.
-#[derive(Clone, Copy, Debug)]
+#[derive(Clone, Copy)]
 struct Row {
     asked: Asked,
     steps: &'static [Step],
@@ -46,63 +48,58 @@ struct Row {
 /// A copy that is started with lines takes the lock as they say, and prints its status.
 #[test]
 fn acts_as_a_client(rt: HostRuntime) -> Result<(), Fail> {
-    let Ok(lines) = env::var(&rt, "LOCK_LINES") else {
-        return Ok(());
-    };
-    let status = take_lock(&rt, lines.as_str())?;
-    println!(rt; "status {status}")?;
-    Ok(())
+    match env::var(&rt, "LOCK_LINES") {
+        Ok(lines) => take_lock(&rt, lines.as_str()),
+        Err(_) => Ok(()),
+    }
 }
 
-/// Takes the lock as lines say, and answers the status: the folder, the seconds, whether the command
-/// runs on, whether somebody looks after the client, and up to three words.
+/// Takes the lock as lines say, and prints the status.
 fn take_lock<
     R: Env + Net + Files + Processes + Clock + Input + Print + Eprint + AllocGlobal + Wait,
->(rt: &R, lines: &str) -> Result<u8, Fail> {
+>(rt: &R, lines: &str) -> Result<(), Fail> {
     let words: Vec<&str> = lines.split('\n').collect(rt.alloc())?;
-    let [folder, seconds, keeps, guarded, command @ ..] = words.as_slice() else {
-        return Err(Fail::new("fewer than four lines"));
+    match request_of(words.as_slice()) {
+        Some(request) => print_status(rt, lock::run(rt, &request)),
+        None => Err(Fail::new("fewer than four lines")),
+    }
+}
+
+/// What lines ask for: the folder, the seconds, whether the command runs on, whether somebody looks
+/// after the client, and up to three words.
+fn request_of<'a>(words: &'a [&'a str]) -> Option<Request<'a>> {
+    let [folder, seconds, keeps, guarded, command @ ..] = words else {
+        return None;
     };
-    let count = command.iter().take_while(|word| !word.is_empty()).count();
-    let request = Request {
+    Some(Request {
         folder: *folder,
         node: 0,
         seconds: seconds.parse().ok(),
         keeps_running: !keeps.is_empty(),
         guarded: !guarded.is_empty(),
-        command: &command[..count.min(command.len())],
-    };
-    Ok(lock::run(rt, &request))
+        command: until_empty(command),
+    })
+}
+
+/// The words before the first empty one.
+fn until_empty<'a>(words: &'a [&'a str]) -> &'a [&'a str] {
+    let count = words.iter().take_while(|word| !word.is_empty()).count();
+    &words[..count.min(words.len())]
+}
+
+/// Prints the status with which a command would end.
+fn print_status<R: Print>(rt: &R, status: u8) -> Result<(), Fail> {
+    println!(rt; "status {status}")?;
+    Ok(())
 }
 
 /// A copy that is started with a folder of nodes prints how they stand, and its status.
 #[test]
 fn acts_as_an_onlooker(rt: HostRuntime) -> Result<(), Fail> {
-    let Ok(folder) = env::var(&rt, "STATUS_FOLDER") else {
-        return Ok(());
-    };
-    let status = status::run(&rt, folder.as_str(), &[]);
-    println!(rt; "status {status}")?;
-    Ok(())
-}
-
-/// A command that starts this program.
-fn own_program<R: Env + Files + AllocGlobal>(rt: &R) -> Result<Command, Fail> {
-    let program = env::current_exe(rt)?;
-    Ok(Command::new(rt.alloc(), program.as_path())?)
-}
-
-/// A copy that does one of these tests, with a variable of its environment.
-fn copy_of<R: Env + Files + AllocGlobal>(
-    rt: &R,
-    test: &str,
-    name: &str,
-    value: &str,
-) -> Result<Command, Fail> {
-    changed(own_program(rt), |command| {
-        command.arg(test)?.env(name, value)?;
-        Ok(())
-    })
+    match env::var(&rt, "STATUS_FOLDER") {
+        Ok(folder) => print_status(&rt, status::run(&rt, folder.as_str(), &[])),
+        Err(_) => Ok(()),
+    }
 }
 
 /// The lines that say what a client is asked to do.
@@ -117,25 +114,16 @@ fn lines_of(alloc: Global, folder: &str, asked: Asked) -> Result<String, AllocEr
     format!(in alloc; "{folder}\n{seconds}\n{keeps}\n\n{program}\n{flag}\n{script}")
 }
 
+/// Starts a copy as a client that is told these lines.
+fn client_of(rt: &HostRuntime, lines: &str, input: Stdio) -> Result<Child, Fail> {
+    let test = "clients::acts_as_a_client";
+    started(rt, copy(rt, test, &[("LOCK_LINES", lines)])?, input)
+}
+
 /// Starts a copy as a client.
-fn client<R: Env + Files + Processes + AllocGlobal>(
-    rt: &R,
-    folder: &str,
-    asked: Asked,
-    input: Stdio,
-) -> Result<Child<R::Started>, Fail> {
+fn client(rt: &HostRuntime, folder: &str, asked: Asked, input: Stdio) -> Result<Child, Fail> {
     let lines = lines_of(rt.alloc(), folder, asked)?;
-    let mut command = copy_of(
-        rt,
-        "clients::acts_as_a_client",
-        "LOCK_LINES",
-        lines.as_str(),
-    )?;
-    command
-        .stdin(input)
-        .stdout(Stdio::piped())
-        .stderr(Stdio::piped());
-    Ok(command.spawn(rt)?)
+    client_of(rt, lines.as_str(), input)
 }
 
 /// Serves one client by a script.
@@ -158,26 +146,62 @@ fn hears(stream: &mut UnixStream, want: &[u8]) -> Result<(), Fail> {
     hold(&room[..count] == want, "a client writes something else")
 }
 
-/// Does what a row says, and holds what the client prints against what is wanted.
-fn try_row<R: Abort + Env + Files + Processes + AllocGlobal>(
-    rt: &R,
-    folder: &str,
-    desk: &UnixListener,
-    row: &Row,
-) -> Result<(), Fail> {
-    let client = client(rt, folder, row.asked, Stdio::null())?;
-    serve_one(desk, row.steps)?;
-    let output = client.wait_with_output(rt.alloc())?;
-    let is_ended = output.stdout.as_slice().starts_with(row.status.as_bytes());
-    let is_told = output.stderr.as_slice() == row.told.as_bytes();
-    assert!(rt; is_ended && is_told, "{row:?}: {output:?}");
-    Ok(())
+/// Does something with a desk at this socket, and drops it then. What came of it.
+fn at_desk<T, F: FnOnce(&UnixListener) -> Result<T, Fail>>(
+    rt: &HostRuntime,
+    path: &str,
+    deed: F,
+) -> Result<T, Fail>
+    requires { F.IsAlwaysCallable deed }
+{
+    let desk = UnixListener::bind(rt, path)?;
+    deed(&desk)
+}
+
+/// The next connection to a desk.
+fn accepted(desk: &UnixListener) -> Result<UnixStream, Fail> {
+    let (stream, _) = desk.accept()?;
+    Ok(stream)
 }
 
 /// Serves the next client by a script, and closes the connection.
 fn serve_one(desk: &UnixListener, steps: &[Step]) -> Result<(), Fail> {
-    let (mut stream, _) = desk.accept()?;
+    let mut stream = accepted(desk)?;
     serve(&mut stream, steps)
+}
+
+/// Does what a row says. Whether the client ends and tells as is wanted.
+fn goes_so(rt: &HostRuntime, folder: &str, desk: &UnixListener, row: &Row) -> Result<bool, Fail> {
+    let client = client(rt, folder, row.asked, Stdio::null())?;
+    serve_one(desk, row.steps)?;
+    prints_and_tells(rt, client, row.status, row.told)
+}
+
+/// The place of the first row that does not go as is wanted.
+fn first_unlike(
+    rt: &HostRuntime,
+    folder: &str,
+    desk: &UnixListener,
+    rows: &[Row],
+) -> Result<Option<usize>, Fail> {
+    for (place, row) in rows.iter().enumerate() {
+        if !goes_so(rt, folder, desk, row)? {
+            return Ok(Some(place));
+        }
+    }
+    Ok(None)
+}
+
+/// The same at the desk of node 0 in a folder, which is made for it and stays. The socket is at
+/// `path`.
+fn unlike_in(
+    rt: &HostRuntime,
+    folder: &str,
+    path: &str,
+    rows: &[Row],
+) -> Result<Option<usize>, Fail> {
+    fs::create_dir_all(rt, folder)?;
+    at_desk(rt, path, |desk| first_unlike(rt, folder, desk, rows))
 }
 
 const LOCK: Step = Step::Hears(b"lock\n");
@@ -193,147 +217,172 @@ const LOST: Step = Step::Says(b"lost\n");
 /// A lock that is taken and given back.
 const WHOLE: [Step; 5] = [LOCK, GRANTED, UNLOCK, RELEASED, Step::SeesOff];
 
-/// A program without arguments; it is waited for without an end, and ended where the lock is lost.
-fn plainly(program: &'static str) -> Asked {
-    Asked {
-        seconds: "",
-        keeps: "",
-        program,
-        script: "",
-    }
-}
+/// No program, which is waited for without an end, and ended where the lock is lost.
+const PLAIN: Asked = Asked {
+    seconds: "",
+    keeps: "",
+    program: "",
+    script: "",
+};
 
-/// The same of a script for the shell.
-fn by_shell(script: &'static str) -> Asked {
-    Asked {
-        script,
-        ..plainly("/bin/sh")
-    }
-}
+/// The same of the shell.
+const SHELL: Asked = Asked {
+    program: "/bin/sh",
+    ..PLAIN
+};
+
+/// Clients that end as their commands do.
+const ENDS: [Row; 6] = [
+    Row {
+        asked: Asked {
+            script: "exit 7",
+            ..SHELL
+        },
+        steps: &WHOLE,
+        status: "status 7\n",
+        told: "",
+    },
+    Row {
+        asked: Asked {
+            script: "kill -KILL $$",
+            ..SHELL
+        },
+        steps: &WHOLE,
+        status: "status 137\n",
+        told: "",
+    },
+    Row {
+        asked: Asked {
+            program: "/no/such/command",
+            ..PLAIN
+        },
+        steps: &WHOLE,
+        status: "status 127\n",
+        told: "tokentree: there is no command /no/such/command\n",
+    },
+    Row {
+        asked: Asked {
+            program: "/",
+            ..PLAIN
+        },
+        steps: &WHOLE,
+        status: "status 126\n",
+        told: "tokentree: / cannot be run\n",
+    },
+    // There is no room at first, and the client asks again.
+    Row {
+        asked: Asked {
+            script: "exit 0",
+            ..SHELL
+        },
+        steps: &[LOCK, Step::Says(b"full\n"), LOCK, GRANTED, UNLOCK, RELEASED],
+        status: "status 0\n",
+        told: "",
+    },
+    // The lock is lost and the command runs on.
+    Row {
+        asked: Asked {
+            seconds: "5",
+            keeps: "yes",
+            script: "sleep 0.2; exit 3",
+            ..SHELL
+        },
+        steps: &[LOCK, GRANTED, LOST, Step::SeesOff],
+        status: "status 3\n",
+        told: "tokentree: the lock is lost, since node 0 ended the loan: \
+                   the command runs on without it\n",
+    },
+];
 
 #[test]
 fn ends_as_its_command_does(rt: HostRuntime) -> Result<(), Fail> {
-    let folder = "lock-held";
-    fs::create_dir_all(&rt, folder)?;
-    let desk = UnixListener::bind(&rt, "lock-held/desk-0.sock")?;
-    for row in [
-        Row {
-            asked: by_shell("exit 7"),
-            steps: &WHOLE,
-            status: "status 7\n",
-            told: "",
-        },
-        Row {
-            asked: by_shell("kill -KILL $$"),
-            steps: &WHOLE,
-            status: "status 137\n",
-            told: "",
-        },
-        Row {
-            asked: plainly("/no/such/command"),
-            steps: &WHOLE,
-            status: "status 127\n",
-            told: "tokentree: there is no command /no/such/command\n",
-        },
-        Row {
-            asked: plainly("/"),
-            steps: &WHOLE,
-            status: "status 126\n",
-            told: "tokentree: / cannot be run\n",
-        },
-        // There is no room at first, and the client asks again.
-        Row {
-            asked: by_shell("exit 0"),
-            steps: &[LOCK, Step::Says(b"full\n"), LOCK, GRANTED, UNLOCK, RELEASED],
-            status: "status 0\n",
-            told: "",
-        },
-        // The lock is lost and the command runs on.
-        Row {
-            asked: Asked {
-                seconds: "5",
-                keeps: "yes",
-                ..by_shell("sleep 0.2; exit 3")
-            },
-            steps: &[LOCK, GRANTED, LOST, Step::SeesOff],
-            status: "status 3\n",
-            told: "tokentree: the lock is lost, since node 0 ended the loan: \
-                   the command runs on without it\n",
-        },
-    ] {
-        try_row(&rt, folder, &desk, &row)?;
-    }
-    drop(desk);
-    fs::remove_dir_all(&rt, folder)?;
+    assert_eq!(rt;
+        unlike_in(&rt, "lock-held", "lock-held/desk-0.sock", &ENDS)?,
+        None
+    );
+    fs::remove_dir_all(&rt, "lock-held")?;
     Ok(())
 }
 
+/// Clients that do not hold the lock, or not to the end.
+const NOT_HELD: [Row; 6] = [
+    Row {
+        asked: Asked {
+            seconds: "1",
+            script: "exit 7",
+            ..SHELL
+        },
+        steps: &[LOCK, Step::SeesOff],
+        status: "status 124\n",
+        told: "tokentree: node 0 did not lend the lock within 1 s\n",
+    },
+    Row {
+        asked: Asked {
+            script: "exec sleep 30",
+            ..SHELL
+        },
+        steps: &[LOCK, GRANTED, LOST, Step::SeesOff],
+        status: "status 122\n",
+        told: "tokentree: the lock is lost, since node 0 ended the loan: \
+                   the command is ended\n",
+    },
+    Row {
+        asked: Asked {
+            script: "exec sleep 30",
+            ..SHELL
+        },
+        steps: &[LOCK, GRANTED],
+        status: "status 122\n",
+        told: "tokentree: the lock is lost, since node 0 went away: the command is ended\n",
+    },
+    // The loan ended before it was given back, and the command was none the wiser.
+    Row {
+        asked: Asked {
+            script: "exit 0",
+            ..SHELL
+        },
+        steps: &[
+            LOCK,
+            GRANTED,
+            UNLOCK,
+            Step::Says(b"stranger\n"),
+            Step::SeesOff,
+        ],
+        status: "status 122\n",
+        told: "tokentree: the lock may have been lost: \
+                   node 0 did not say that it was held to the end\n",
+    },
+    Row {
+        asked: Asked {
+            script: "exit 0",
+            ..SHELL
+        },
+        steps: &[LOCK],
+        status: "status 125\n",
+        told: "tokentree: node 0 went away before it lent the lock\n",
+    },
+    Row {
+        asked: Asked {
+            script: "exit 0",
+            ..SHELL
+        },
+        steps: &[LOCK, Step::Says(b"unknown\n"), Step::SeesOff],
+        status: "status 125\n",
+        told: "tokentree: what answers for node 0 is no lock service\n",
+    },
+];
+
 #[test]
 fn tells_why_the_lock_is_not_held(rt: HostRuntime) -> Result<(), Fail> {
-    let folder = "lock-not-held";
-    fs::create_dir_all(&rt, folder)?;
-    let desk = UnixListener::bind(&rt, "lock-not-held/desk-0.sock")?;
-    for row in [
-        Row {
-            asked: Asked {
-                seconds: "1",
-                ..by_shell("exit 7")
-            },
-            steps: &[LOCK, Step::SeesOff],
-            status: "status 124\n",
-            told: "tokentree: node 0 did not lend the lock within 1 s\n",
-        },
-        Row {
-            asked: by_shell("exec sleep 30"),
-            steps: &[LOCK, GRANTED, LOST, Step::SeesOff],
-            status: "status 122\n",
-            told: "tokentree: the lock is lost, since node 0 ended the loan: \
-                   the command is ended\n",
-        },
-        Row {
-            asked: by_shell("exec sleep 30"),
-            steps: &[LOCK, GRANTED],
-            status: "status 122\n",
-            told: "tokentree: the lock is lost, since node 0 went away: the command is ended\n",
-        },
-        // The loan ended before it was given back, and the command was none the wiser.
-        Row {
-            asked: by_shell("exit 0"),
-            steps: &[
-                LOCK,
-                GRANTED,
-                UNLOCK,
-                Step::Says(b"stranger\n"),
-                Step::SeesOff,
-            ],
-            status: "status 122\n",
-            told: "tokentree: the lock may have been lost: \
-                   node 0 did not say that it was held to the end\n",
-        },
-        Row {
-            asked: by_shell("exit 0"),
-            steps: &[LOCK],
-            status: "status 125\n",
-            told: "tokentree: node 0 went away before it lent the lock\n",
-        },
-        Row {
-            asked: by_shell("exit 0"),
-            steps: &[LOCK, Step::Says(b"unknown\n"), Step::SeesOff],
-            status: "status 125\n",
-            told: "tokentree: what answers for node 0 is no lock service\n",
-        },
-    ] {
-        try_row(&rt, folder, &desk, &row)?;
-    }
-    drop(desk);
-    serves_nobody(&rt, folder)
+    assert_eq!(rt;
+        unlike_in(&rt, "lock-not-held", "lock-not-held/desk-0.sock", &NOT_HELD)?,
+        None
+    );
+    serves_nobody(&rt, "lock-not-held")
 }
 
 /// The file of the socket is still there, and nobody listens; then it goes too; then the folder.
-fn serves_nobody<R: Abort + Env + Files + Processes + AllocGlobal>(
-    rt: &R,
-    folder: &str,
-) -> Result<(), Fail> {
+fn serves_nobody(rt: &HostRuntime, folder: &str) -> Result<(), Fail> {
     let nobody = "tokentree: nobody listens at lock-not-held/desk-0.sock: start node 0\n";
     no_service(rt, folder, nobody)?;
     fs::remove_file(rt, "lock-not-held/desk-0.sock")?;
@@ -343,19 +392,16 @@ fn serves_nobody<R: Abort + Env + Files + Processes + AllocGlobal>(
 }
 
 /// A client of a folder in which nobody serves ends with status 125, and tells this.
-fn no_service<R: Abort + Env + Files + Processes + AllocGlobal>(
-    rt: &R,
-    folder: &str,
-    told: &str,
-) -> Result<(), Fail> {
-    let client = client(rt, folder, by_shell("exit 0"), Stdio::null())?;
-    let output = client.wait_with_output(rt.alloc())?;
-    let is_ended = output.stdout.as_slice().starts_with(b"status 125\n");
-    assert!(rt;
-        is_ended && output.stderr.as_slice() == told.as_bytes(),
-        "{output:?}"
-    );
-    Ok(())
+fn no_service(rt: &HostRuntime, folder: &str, told: &str) -> Result<(), Fail> {
+    let asked = Asked {
+        script: "exit 0",
+        ..SHELL
+    };
+    let client = client(rt, folder, asked, Stdio::null())?;
+    hold(
+        prints_and_tells(rt, client, "status 125\n", told)?,
+        "a client finds a service where there is none, or tells something else",
+    )
 }
 
 /// The next eight bytes that a client prints.
@@ -379,27 +425,37 @@ fn end_input(client: &mut Child) -> Result<(), Fail> {
 
 /// Lends the lock to a client until its input ends.
 fn lend(desk: &UnixListener, client: &mut Child) -> Result<(), Fail> {
-    let (mut stream, _) = desk.accept()?;
-    serve(&mut stream, &[LOCK, GRANTED])?;
+    let mut stream = accepted(desk)?;
+    lend_over(&mut stream, client)
+}
+
+/// The same over this connection.
+fn lend_over(stream: &mut UnixStream, client: &mut Child) -> Result<(), Fail> {
+    serve(stream, &[LOCK, GRANTED])?;
     hold(printed(client)? == Some(*b"granted\n"), "no `granted`")?;
     // What stands in its input is passed over, and it holds the lock on.
     end_input(client)?;
-    serve(&mut stream, &[UNLOCK, RELEASED, Step::SeesOff])
+    serve(stream, &[UNLOCK, RELEASED, Step::SeesOff])
+}
+
+/// Whether a client of a desk holds the lock until its input ends, and ends with status 0 then.
+fn ends_with_its_input(rt: &HostRuntime, desk: &UnixListener) -> Result<bool, Fail> {
+    let mut client = client(rt, "lock-input", PLAIN, Stdio::piped())?;
+    lend(desk, &mut client)?;
+    prints(rt, client, b"status 0\n")
 }
 
 #[test]
 fn holds_the_lock_until_its_input_ends(rt: HostRuntime) -> Result<(), Fail> {
-    let folder = "lock-input";
-    fs::create_dir_all(&rt, folder)?;
-    let desk = UnixListener::bind(&rt, "lock-input/desk-0.sock")?;
-    let mut client = client(&rt, folder, plainly(""), Stdio::piped())?;
-    lend(&desk, &mut client)?;
-    let output = client.wait_with_output(rt.alloc())?;
+    fs::create_dir_all(&rt, "lock-input")?;
     assert!(rt;
-        output.stdout.as_slice().starts_with(b"status 0\n"),
-        "{output:?}"
+        at_desk(
+            &rt,
+            "lock-input/desk-0.sock",
+            |desk| ends_with_its_input(&rt, desk)
+        )?
     );
-    fs::remove_dir_all(&rt, folder)?;
+    fs::remove_dir_all(&rt, "lock-input")?;
     Ok(())
 }
 
@@ -408,16 +464,17 @@ fn holds_the_lock_until_its_input_ends(rt: HostRuntime) -> Result<(), Fail> {
 const GUARDED: &str = "lock-guarded\n\n\nyes\n/bin/sh\n-c\n>lock-guarded/held; exec sleep 50";
 
 /// A shell that starts such a client, and does not become it, since it has more to do.
-fn shell(rt: &HostRuntime) -> Result<Child, Fail> {
+fn guarded_by_shell(rt: &HostRuntime) -> Result<Command, Fail> {
     let program = env::current_exe(rt)?;
-    let mut command = Command::new(rt.alloc(), "/bin/sh")?;
-    command
-        .arg("-c")?
-        .arg("\"$0\" clients::acts_as_a_client; exit 1")?
-        .arg(program.as_path())?
-        .env("LOCK_LINES", GUARDED)?
-        .stdin(Stdio::null())
-        .stdout(Stdio::null());
+    let script = "\"$0\" clients::acts_as_a_client; exit 1";
+    let lines = [("LOCK_LINES", GUARDED)];
+    Ok(shell(rt.alloc(), script, program.path_text(), &lines)?)
+}
+
+/// Starts such a shell.
+fn guard(rt: &HostRuntime) -> Result<Child, Fail> {
+    let mut command = guarded_by_shell(rt)?;
+    command.stdin(Stdio::null()).stdout(Stdio::null());
     Ok(command.spawn(rt)?)
 }
 
@@ -432,53 +489,71 @@ fn appears(rt: &HostRuntime, path: &str) -> Result<bool, Fail> {
     Ok(false)
 }
 
-/// Lends the lock to the client of a shell, and kills the shell once the command runs: a client that
-/// is alone before that leaves without the lock.
-fn lend_and_kill(rt: &HostRuntime, desk: &UnixListener, shell: &mut Child) -> Result<(), Fail> {
-    let (mut stream, _) = desk.accept()?;
-    serve(&mut stream, &[LOCK, GRANTED])?;
+/// Lends the lock to the client of a shell, and kills the shell once the command runs: a client
+/// that is alone before that leaves without the lock.
+fn lend_and_kill(rt: &HostRuntime, stream: &mut UnixStream, shell: &mut Child) -> Result<(), Fail> {
+    serve(stream, &[LOCK, GRANTED])?;
     hold(
         appears(rt, "lock-guarded/held")?,
         "the command does not run",
     )?;
     shell.kill()?;
     // Its command would run on for long: it is ended, and then the lock is given back.
-    serve(&mut stream, &[UNLOCK, RELEASED, Step::SeesOff])
+    serve(stream, &[UNLOCK, RELEASED, Step::SeesOff])?;
+    shell.wait()?;
+    Ok(())
+}
+
+/// The same over the next connection to a desk.
+fn lend_at(rt: &HostRuntime, desk: &UnixListener, shell: &mut Child) -> Result<(), Fail> {
+    let mut stream = accepted(desk)?;
+    lend_and_kill(rt, &mut stream, shell)
+}
+
+/// The same of a shell of its own.
+fn lend_to_shell(rt: &HostRuntime, desk: &UnixListener) -> Result<(), Fail> {
+    let mut shell = guard(rt)?;
+    lend_at(rt, desk, &mut shell)
 }
 
 #[test]
 fn outlives_who_started_it(rt: HostRuntime) -> Result<(), Fail> {
-    let folder = "lock-guarded";
-    fs::create_dir_all(&rt, folder)?;
-    let desk = UnixListener::bind(&rt, "lock-guarded/desk-0.sock")?;
-    let mut shell = shell(&rt)?;
-    lend_and_kill(&rt, &desk, &mut shell)?;
-    shell.wait()?;
-    fs::remove_dir_all(&rt, folder)?;
+    fs::create_dir_all(&rt, "lock-guarded")?;
+    at_desk(
+        &rt,
+        "lock-guarded/desk-0.sock",
+        |desk| lend_to_shell(&rt, desk),
+    )?;
+    fs::remove_dir_all(&rt, "lock-guarded")?;
     Ok(())
 }
 
-/// A desk that says how its node stands; none where it never does.
-fn tells(desk: &UnixListener, pieces: &[&[u8]]) -> Result<UnixStream, Fail> {
-    let (mut stream, _) = desk.accept()?;
-    hears(&mut stream, b"status\n")?;
+/// Writes how a node stands to who asks it.
+fn tell(stream: &mut UnixStream, pieces: &[&[u8]]) -> Result<(), Fail> {
+    hears(stream, b"status\n")?;
     for piece in pieces {
-        stream.write_all(piece)?;
+        stream.write_all(*piece)?;
     }
+    Ok(())
+}
+
+/// The connection over which a desk has said how its node stands.
+fn told(desk: &UnixListener, pieces: &[&[u8]]) -> Result<UnixStream, Fail> {
+    let mut stream = accepted(desk)?;
+    tell(&mut stream, pieces)?;
     Ok(stream)
 }
 
-/// The desks of three nodes: the first answers in two pieces, the second is silent, and the third
-/// answers for another node.
-fn tell_all(desks: &[UnixListener; 3]) -> Result<[UnixStream; 3], Fail> {
-    let lent: &[u8] = b"parent none token yes lent 5 waiting 64\nmore";
-    let wrong: &[u8] = b"node 1 distance 1 parent 0 token no lent none waiting 0\n";
-    Ok([
-        tells(&desks[0], &[b"node 0 distance 0 ", lent])?,
-        tells(&desks[1], &[])?,
-        tells(&desks[2], &[wrong])?,
-    ])
-}
+/// What the desks of three nodes say: the first answers in two pieces, the second is silent, and
+/// the third answers for another node.
+const TOLD: [&[&[u8]]; 3] = [
+    &[
+        b"node 0 distance 0 ",
+        b"parent none token yes lent 5 waiting 64\nmore",
+    ],
+    &[],
+    &[b"node 1 distance 1 parent 0 token no lent none waiting 0\n"],
+];
 
 /// What an onlooker prints.
 const SEEN: &[u8] = b"\
@@ -489,30 +564,56 @@ privileged 1 lending 1
 status 1
 ";
 
-/// Has an onlooker ask all desks, and holds what it prints against what is wanted.
-fn look_on(rt: &HostRuntime, desks: &[UnixListener; 3]) -> Result<(), Fail> {
+/// Starts an onlooker of the folder of these desks.
+fn onlooker(rt: &HostRuntime) -> Result<Child, Fail> {
     let test = "clients::acts_as_an_onlooker";
-    let mut command = copy_of(rt, test, "STATUS_FOLDER", "lock-status")?;
-    let onlooker = command.stdout(Stdio::piped()).spawn(rt)?;
-    let _streams = tell_all(desks)?;
-    let output = onlooker.wait_with_output(rt.alloc())?;
-    hold(
-        output.stdout.as_slice().starts_with(SEEN),
-        "the onlooker sees something else",
-    )
+    let command = copy(rt, test, &[("STATUS_FOLDER", "lock-status")])?;
+    started(rt, command, Stdio::null())
+}
+
+/// Whether an onlooker prints what it is to see, once it has asked the third of three desks.
+fn sees_behind_third(
+    rt: &HostRuntime,
+    desks: [&UnixListener; 3],
+    onlooker: Child,
+) -> Result<bool, Fail> {
+    let _stream = told(desks[2], TOLD[2])?;
+    prints(rt, onlooker, SEEN)
+}
+
+/// The same once it has asked the second and the third of them.
+fn sees_behind_second(
+    rt: &HostRuntime,
+    desks: [&UnixListener; 3],
+    onlooker: Child,
+) -> Result<bool, Fail> {
+    let _stream = told(desks[1], TOLD[1])?;
+    sees_behind_third(rt, desks, onlooker)
+}
+
+/// The same once it has asked all.
+fn sees_all(rt: &HostRuntime, desks: [&UnixListener; 3]) -> Result<bool, Fail> {
+    let onlooker = onlooker(rt)?;
+    let _stream = told(desks[0], TOLD[0])?;
+    sees_behind_second(rt, desks, onlooker)
+}
+
+/// The same with three desks of its own.
+fn sees_three(rt: &HostRuntime) -> Result<bool, Fail> {
+    at_desk(rt, "lock-status/desk-0.sock", |first| {
+        at_desk(rt, "lock-status/desk-2.sock", |second| {
+            at_desk(rt, "lock-status/desk-10.sock", |third| {
+                sees_all(rt, [first, second, third])
+            })
+        })
+    })
 }
 
 #[test]
 fn tells_who_gave_no_answer(rt: HostRuntime) -> Result<(), Fail> {
-    let folder = "lock-status";
-    fs::create_dir_all(&rt, folder)?;
+    fs::create_dir_all(&rt, "lock-status")?;
     fs::write(&rt, "lock-status/node-1.sock", "")?;
-    let desks = [
-        UnixListener::bind(&rt, "lock-status/desk-0.sock")?,
-        UnixListener::bind(&rt, "lock-status/desk-2.sock")?,
-        UnixListener::bind(&rt, "lock-status/desk-10.sock")?,
-    ];
-    look_on(&rt, &desks)?;
-    fs::remove_dir_all(&rt, folder)?;
+    assert!(rt; sees_three(&rt)?);
+    fs::remove_dir_all(&rt, "lock-status")?;
     Ok(())
 }

@@ -1,13 +1,14 @@
 //! What is held in a function that a test calls.
+use std::alloc::AllocError;
 use std::test::Fail;
 
 /// What was made, a command say, behind a change that may fail.
 ///
 /// Whoever holds such a value and may give up is dear to prove; here it is held once for all.
-pub fn changed<T: Drop, F: FnOnce(&mut T) -> Result<(), Fail>>(
-    made: Result<T, Fail>,
+pub fn changed<T: Drop, F: FnOnce(&mut T) -> Result<(), AllocError>>(
+    made: Result<T, AllocError>,
     change: F,
-) -> Result<T, Fail>
+) -> Result<T, AllocError>
     requires { F.IsAlwaysCallable change }
 {
     let mut held = made?;

@@ -6,6 +6,8 @@
 #[cfg(test)]
 mod clients;
 #[cfg(test)]
+mod copies;
+#[cfg(test)]
 mod hold;
 #[cfg(test)]
 mod nodes;

@@ -1,13 +1,16 @@
 //! Nodes as processes: copies of this test program, which talk over sockets.
+use crate::copies::{copy, copy_at, shell, started};
 use crate::hold::hold;
 use node_process::{NodeFault, NodeProgram, NodeWords, Refusal, node, up};
-use node_texts::{CapacityLine, End, EndLine, NodePaths};
+use node_texts::desk_file::desk_path;
+use node_texts::{CapacityLine, End, EndLine, NodePaths, links_name};
 use pace::Manner;
 use std::alloc::{AllocError, Global};
+use std::fmt::Display;
 use std::io::{Read, Write};
 use std::os::unix::fs::PermissionsExt;
 use std::os::unix::net::UnixStream;
-use std::path::PathBuf;
+use std::path::AsPath;
 use std::process::{Child, Command, Stdio};
 use std::test::Fail;
 use std::time::Duration;
@@ -27,51 +30,73 @@ const RING: &str =
 /// How often a node is asked at most.
 const ASKS: u32 = 100_000;
 
+/// The network file of a folder.
+fn network_file(alloc: Global, dir: &str) -> Result<String, AllocError> {
+    format!(in alloc; "{dir}.toml")
+}
+
+/// Which node the environment says that this copy is.
+fn told_id(rt: &HostRuntime) -> Result<Option<u16>, Fail> {
+    match env::var(rt, "TOKENTREE_ID") {
+        Ok(id) => Ok(Some(id.parse::<u16>()?)),
+        Err(_) => Ok(None),
+    }
+}
+
+/// Runs node `id` in a folder. What becomes of it.
+fn run_node(
+    rt: &HostRuntime,
+    dir: &str,
+    id: u16,
+    is_child: bool,
+) -> Result<Result<(), NodeFault>, Fail> {
+    let file = network_file(rt.alloc(), dir)?;
+    let words = NodeWords {
+        file: file.as_str(),
+        id,
+        dir,
+        manner: Manner::usual(),
+        is_child,
+    };
+    Ok(node::run(rt, &words))
+}
+
+/// Runs node `id` in the folder that the environment says. A node that another copy keeps running
+/// tells first which process it is.
+fn run_told(rt: &HostRuntime, id: u16) -> Result<Result<(), NodeFault>, Fail> {
+    let dir = env::var(rt, "TOKENTREE_DIR")?;
+    let is_child = env::var(rt, "TOKENTREE_CHILD").is_ok();
+    if is_child {
+        tell_process(rt, dir.as_str(), id)?;
+    }
+    run_node(rt, dir.as_str(), id, is_child)
+}
+
 /// What a copy of this program does, where the environment says which node it is.
 #[test]
 fn acts_as_a_node(rt: HostRuntime) -> Result<(), Fail> {
-    let Ok(id) = env::var(&rt, "TOKENTREE_ID") else {
-        return Ok(());
-    };
-    let dir = env::var(&rt, "TOKENTREE_DIR")?;
-    let file = format!(in rt.alloc(); "{dir}.toml")?;
-    let words = NodeWords {
-        file: file.as_str(),
-        id: id.parse::<u16>()?,
-        dir: dir.as_str(),
-        manner: Manner::usual(),
-        is_child: env::var(&rt, "TOKENTREE_CHILD").is_ok(),
-    };
-    if words.is_child {
-        tell_process(&rt, words.dir, words.id)?;
+    if let Some(id) = told_id(&rt)? {
+        assert_eq!(rt; run_told(&rt, id)?, Ok(()));
     }
-    assert_eq!(rt; node::run(&rt, &words), Ok(()));
     Ok(())
 }
 
 /// Writes which process a node is.
 fn tell_process(rt: &HostRuntime, dir: &str, id: u16) -> Result<(), Fail> {
+    let path = pid_file(rt.alloc(), dir, id)?;
+    write_process(rt, path.as_str())
+}
+
+/// Writes which process this is.
+fn write_process(rt: &HostRuntime, path: &str) -> Result<(), Fail> {
     let process = process::id(rt.process());
     let told = format!(in rt.alloc(); "{process}")?;
-    let path = pid_file(rt.alloc(), dir, id)?;
-    fs::write(rt, path.as_str(), told.as_str())?;
-    Ok(())
+    Ok(fs::write(rt, path, told.as_str())?)
 }
 
 /// Where a node that another copy keeps running tells which process it is.
-fn pid_file(alloc: Global, dir: &str, id: u16) -> Result<String, Fail> {
-    Ok(format!(in alloc; "{dir}/pid-{id}")?)
-}
-
-/// The copy of this program that is node `id` in a folder, whose network file is beside it.
-fn command_of(alloc: Global, program: &PathBuf, dir: &str, id: u16) -> io::Result<Command> {
-    let number = format!(in alloc; "{id}")?;
-    let mut command = Command::new(alloc, program.as_path())?;
-    command
-        .arg("nodes::acts_as_a_node")?
-        .env("TOKENTREE_ID", number.as_str())?
-        .env("TOKENTREE_DIR", dir)?;
-    Ok(command)
+fn pid_file(alloc: Global, dir: &str, id: u16) -> Result<String, AllocError> {
+    format!(in alloc; "{dir}/pid-{id}")
 }
 
 /// What a node prints first where it has no state file.
@@ -80,12 +105,17 @@ const ABSENT: [&str; 2] = ["start default Absent", "ready"];
 /// What it prints first where its state was loaded.
 const LOADED: [&str; 2] = ["start loaded", "ready"];
 
+/// Starts a node's process, which is told its number.
+fn spawn_as(rt: &HostRuntime, dir: &str, number: &str) -> Result<Child, Fail> {
+    let test = "nodes::acts_as_a_node";
+    let variables = [("TOKENTREE_ID", number), ("TOKENTREE_DIR", dir)];
+    started(rt, copy(rt, test, &variables)?, Stdio::null())
+}
+
 /// Starts a node's process.
 fn spawn(rt: &HostRuntime, dir: &str, id: u16) -> Result<Child, Fail> {
-    let program = env::current_exe(rt)?;
-    let mut command = command_of(rt.alloc(), &program, dir, id)?;
-    command.stdout(Stdio::piped()).stderr(Stdio::piped());
-    Ok(command.spawn(rt)?)
+    let number = format!(in rt.alloc(); "{id}")?;
+    spawn_as(rt, dir, number.as_str())
 }
 
 /// Whether these are the next lines that a process prints.
@@ -97,13 +127,18 @@ fn prints(rt: &HostRuntime, child: &mut Child, lines: [&str; 2]) -> Result<bool,
     Ok(read_line(rt.alloc(), output)?.as_str() == lines[1] && is_first)
 }
 
+/// Fails unless these are the next lines that a process prints.
+fn begins(rt: &HostRuntime, child: &mut Child, lines: [&str; 2]) -> Result<(), Fail> {
+    hold(
+        prints(rt, child, lines)?,
+        "a node prints something else first",
+    )
+}
+
 /// A node's process, which prints these lines first.
 fn start(rt: &HostRuntime, dir: &str, id: u16, lines: [&str; 2]) -> Result<Child, Fail> {
     let mut child = spawn(rt, dir, id)?;
-    hold(
-        prints(rt, &mut child, lines)?,
-        "a node prints something else first",
-    )?;
+    begins(rt, &mut child, lines)?;
     Ok(child)
 }
 
@@ -121,34 +156,69 @@ fn read_line<R: Read>(alloc: Global, reader: &mut R) -> Result<String, Fail> {
     Ok(line)
 }
 
+/// Whether any of these files is there.
+fn any_exists(rt: &HostRuntime, paths: &NodePaths) -> Result<bool, Fail> {
+    Ok(
+        fs::exists(rt, paths.stop.as_str())?
+            || fs::exists(rt, paths.links.as_str())?
+            || fs::exists(rt, paths.clients.as_str())?,
+    )
+}
+
+/// Whether a node's stop file or a socket of it is there.
+fn leaves_files(rt: &HostRuntime, dir: &str, id: u16) -> Result<bool, Fail> {
+    let paths = NodePaths::new(rt.alloc(), dir, id)?;
+    any_exists(rt, &paths)
+}
+
+/// Makes a node's stop file.
+fn stop(rt: &HostRuntime, dir: &str, id: u16) -> Result<(), Fail> {
+    let paths = NodePaths::new(rt.alloc(), dir, id)?;
+    Ok(fs::write(rt, paths.stop.as_str(), "")?)
+}
+
+/// The rest of what is read.
+fn rest<R: Read>(alloc: Global, reader: &mut R) -> Result<Vec<u8>, Fail> {
+    let mut bytes = Vec::new(alloc);
+    reader.read_to_end(&mut bytes)?;
+    Ok(bytes)
+}
+
+/// Whether a process tells just this on standard error, until it ends.
+fn tells(rt: &HostRuntime, child: &mut Child, told: &str) -> Result<bool, Fail> {
+    let Some(errors) = &mut child.stderr else {
+        return Ok(false);
+    };
+    Ok(rest(rt.alloc(), errors)?.as_slice() == told.as_bytes())
+}
+
+/// Whether a process ends with status 0.
+fn ends_well(child: &mut Child) -> Result<bool, Fail> {
+    Ok(child.wait()?.code() == Some(0))
+}
+
 /// Makes a node's stop file. Whether its process ends with status 0, and removes that file and its
 /// sockets, and has told just this on standard error.
 fn stops_with(
     rt: &HostRuntime,
     dir: &str,
     id: u16,
-    child: Child,
+    child: &mut Child,
     told: &str,
 ) -> Result<bool, Fail> {
-    let paths = NodePaths::new(rt.alloc(), dir, id)?;
-    fs::write(rt, paths.stop.as_str(), "")?;
-    let output = child.wait_with_output(rt.alloc())?;
-    let leaves_file = fs::exists(rt, paths.stop.as_str())?
-        || fs::exists(rt, paths.links.as_str())?
-        || fs::exists(rt, paths.clients.as_str())?;
-    let told_so = output.stderr.as_slice() == told.as_bytes();
-    Ok(output.status.code() == Some(0) && !leaves_file && told_so)
+    stop(rt, dir, id)?;
+    Ok(tells(rt, child, told)? && ends_well(child)? && !leaves_files(rt, dir, id)?)
 }
 
 /// The same where it told nothing there.
-fn stops(rt: &HostRuntime, dir: &str, id: u16, child: Child) -> Result<bool, Fail> {
+fn stops(rt: &HostRuntime, dir: &str, id: u16, child: &mut Child) -> Result<bool, Fail> {
     stops_with(rt, dir, id, child, "")
 }
 
 /// A client of node `id`.
 fn client(rt: &HostRuntime, dir: &str, id: u16) -> Result<UnixStream, Fail> {
-    let paths = NodePaths::new(rt.alloc(), dir, id)?;
-    Ok(UnixStream::connect(rt, paths.clients.as_str())?)
+    let path = desk_path(rt.alloc(), dir, id)?;
+    Ok(UnixStream::connect(rt, path.as_str())?)
 }
 
 /// What a node answers to a line.
@@ -157,46 +227,81 @@ fn ask(rt: &HostRuntime, client: &mut UnixStream, line: &str) -> Result<String, 
     read_line(rt.alloc(), client)
 }
 
-/// Asks a node how it stands. Whether it says at last that it is this far from the root.
-fn comes_to(rt: &HostRuntime, dir: &str, id: u16, distance: u16) -> Result<bool, Fail> {
-    let mut client = client(rt, dir, id)?;
-    let begin = format!(in rt.alloc(); "node {id} distance {distance} ")?;
+/// Whether a node says how it stands in a line that begins so.
+fn stands(rt: &HostRuntime, client: &mut UnixStream, begin: &str) -> Result<bool, Fail> {
+    Ok(ask(rt, client, "status\n")?.as_str().starts_with(begin))
+}
+
+/// Asks a node how it stands. Whether it says so at last in a line that begins so.
+fn stands_at_last(rt: &HostRuntime, client: &mut UnixStream, begin: &str) -> Result<bool, Fail> {
     for _ in 0..ASKS {
-        if ask(rt, &mut client, "status\n")?
-            .as_str()
-            .starts_with(begin.as_str())
-        {
+        if stands(rt, client, begin)? {
             return Ok(true);
         }
     }
     Ok(false)
 }
 
-/// A folder of this test's own that is not there yet, beside its network file.
-fn fresh_folder(rt: &HostRuntime, name: &str, network: &str) -> Result<String, Fail> {
+/// Asks node `id` how it stands. Whether its line begins so at last.
+fn comes_to_say(rt: &HostRuntime, dir: &str, id: u16, begin: &str) -> Result<bool, Fail> {
+    let mut client = client(rt, dir, id)?;
+    stands_at_last(rt, &mut client, begin)
+}
+
+/// Asks a node how it stands. Whether it says at last that it is this far from the root.
+fn comes_to(rt: &HostRuntime, dir: &str, id: u16, distance: u16) -> Result<bool, Fail> {
+    let begin = format!(in rt.alloc(); "node {id} distance {distance} ")?;
+    comes_to_say(rt, dir, id, begin.as_str())
+}
+
+/// The place of a folder.
+fn place(rt: &HostRuntime, name: &str) -> Result<String, Fail> {
     let tmp = env::temp_dir(rt)?;
-    let place = tmp.as_path().display();
-    let dir = format!(in rt.alloc(); "{place}/tokentree-{name}")?;
-    if fs::exists(rt, dir.as_str())? {
-        fs::remove_dir_all(rt, dir.as_str())?;
+    let above = tmp.as_path().display();
+    Ok(format!(in rt.alloc(); "{above}/tokentree-{name}")?)
+}
+
+/// Removes a folder, if it is there, and writes its network file.
+fn freshen(rt: &HostRuntime, dir: &str, network: &str) -> Result<(), Fail> {
+    if fs::exists(rt, dir)? {
+        fs::remove_dir_all(rt, dir)?;
     }
-    write_network(rt, dir.as_str(), network)?;
-    Ok(dir)
+    write_network(rt, dir, network)
+}
+
+/// Does something in a folder of this test's own that is not there yet, beside its network file,
+/// and removes what was made.
+fn in_folder<F: FnOnce(&str) -> Result<(), Fail>>(
+    rt: &HostRuntime,
+    name: &str,
+    network: &str,
+    deed: F,
+) -> Result<(), Fail>
+    requires { F.IsAlwaysCallable deed }
+{
+    let folder = place(rt, name)?;
+    let dir = folder.as_str();
+    freshen(rt, dir, network)?;
+    deed(dir)?;
+    clean(rt, dir)
 }
 
 /// Writes the network file of a folder.
 fn write_network(rt: &HostRuntime, dir: &str, text: &str) -> Result<(), Fail> {
-    let file = format!(in rt.alloc(); "{dir}.toml")?;
-    fs::write(rt, file.as_str(), text)?;
-    Ok(())
+    let file = network_file(rt.alloc(), dir)?;
+    Ok(fs::write(rt, file.as_str(), text)?)
+}
+
+/// Removes the network file of a folder.
+fn remove_network(rt: &HostRuntime, dir: &str) -> Result<(), Fail> {
+    let file = network_file(rt.alloc(), dir)?;
+    Ok(fs::remove_file(rt, file.as_str())?)
 }
 
 /// Removes what a test has made.
 fn clean(rt: &HostRuntime, dir: &str) -> Result<(), Fail> {
-    let file = format!(in rt.alloc(); "{dir}.toml")?;
-    fs::remove_file(rt, file.as_str())?;
-    fs::remove_dir_all(rt, dir)?;
-    Ok(())
+    remove_network(rt, dir)?;
+    Ok(fs::remove_dir_all(rt, dir)?)
 }
 
 /// Whether all three nodes come to these distances.
@@ -208,34 +313,33 @@ fn all_come_to(rt: &HostRuntime, dir: &str, distances: [u16; 3]) -> Result<bool,
     )
 }
 
+/// Where a node's state is.
+fn state_file(alloc: Global, dir: &str, id: u16) -> Result<String, AllocError> {
+    Ok(NodePaths::new(alloc, dir, id)?.state)
+}
+
+/// Writes a state file at `path` with any values in range.
+fn scramble_at(rt: &HostRuntime, dir: &str, id: u16, path: &str) -> Result<bool, Fail> {
+    let file = network_file(rt.alloc(), dir)?;
+    Ok(scramble::run(rt, file.as_str(), id, path, 7).is_ok())
+}
+
 /// Writes a state file with any values in range, as a fault may leave it.
 fn scramble_state(rt: &HostRuntime, dir: &str, id: u16) -> Result<bool, Fail> {
-    let file = format!(in rt.alloc(); "{dir}.toml")?;
-    let paths = NodePaths::new(rt.alloc(), dir, id)?;
-    Ok(scramble::run(rt, file.as_str(), id, paths.state.as_str(), 7).is_ok())
+    let path = state_file(rt.alloc(), dir, id)?;
+    scramble_at(rt, dir, id, path.as_str())
 }
 
-/// Cuts a state file to 33 bytes, one less than its shortest has.
+/// Cuts the state file at `path` to 33 bytes, one less than its shortest has.
+fn cut(rt: &HostRuntime, path: &str) -> Result<(), Fail> {
+    let file = fs::OpenOptions::new().write(true).open(rt, path)?;
+    Ok(file.set_len(33)?)
+}
+
+/// Cuts a state file.
 fn cut_state(rt: &HostRuntime, dir: &str, id: u16) -> Result<(), Fail> {
-    let paths = NodePaths::new(rt.alloc(), dir, id)?;
-    let file = fs::OpenOptions::new()
-        .write(true)
-        .open(rt, paths.state.as_str())?;
-    file.set_len(33)?;
-    Ok(())
-}
-
-/// What becomes of a second process that is node 0 in a folder.
-fn second_node(rt: &HostRuntime, dir: &str) -> Result<Result<(), NodeFault>, Fail> {
-    let file = format!(in rt.alloc(); "{dir}.toml")?;
-    let words = NodeWords {
-        file: file.as_str(),
-        id: 0,
-        dir,
-        manner: Manner::usual(),
-        is_child: false,
-    };
-    Ok(node::run(rt, &words))
+    let path = state_file(rt.alloc(), dir, id)?;
+    cut(rt, path.as_str())
 }
 
 /// Whether a client is answered so.
@@ -254,21 +358,31 @@ fn knows_its_lines(rt: &HostRuntime, dir: &str) -> Result<bool, Fail> {
     is_answered(rt, &mut asking, "loc\n", "unknown")
 }
 
+/// Whether a client takes the lock, and gives it back.
+fn is_lent(rt: &HostRuntime, asking: &mut UnixStream) -> Result<bool, Fail> {
+    let is_lent = is_answered(rt, asking, "lock\n", "granted")?;
+    Ok(is_answered(rt, asking, "unlock\n", "released")? && is_lent)
+}
+
 /// Whether node 2 lends the lock to a client, and takes it back.
 fn lends(rt: &HostRuntime, dir: &str) -> Result<bool, Fail> {
     let mut asking = client(rt, dir, 2)?;
-    let is_lent = is_answered(rt, &mut asking, "lock\n", "granted")?;
-    Ok(is_answered(rt, &mut asking, "unlock\n", "released")? && is_lent)
+    is_lent(rt, &mut asking)
 }
 
-/// Node 2 joins two nodes that run, ends, and its state is scrambled.
-fn scramble_third(rt: &HostRuntime, dir: &str) -> Result<(), Fail> {
-    let third = start(rt, dir, 2, ABSENT)?;
+/// Node 2 joins two nodes that run, and ends.
+fn join_and_stop(rt: &HostRuntime, dir: &str, third: &mut Child) -> Result<(), Fail> {
     hold(
         all_come_to(rt, dir, [0, 1, 2])?,
         "not all come to their distances",
     )?;
-    hold(stops(rt, dir, 2, third)?, "node 2 does not stop")?;
+    hold(stops(rt, dir, 2, third)?, "node 2 does not stop")
+}
+
+/// Node 2 joins two nodes that run, ends, and its state is scrambled.
+fn scramble_third(rt: &HostRuntime, dir: &str) -> Result<(), Fail> {
+    let mut third = start(rt, dir, 2, ABSENT)?;
+    join_and_stop(rt, dir, &mut third)?;
     hold(scramble_state(rt, dir, 2)?, "no state is scrambled")
 }
 
@@ -286,51 +400,83 @@ fn serve_and_rewire(rt: &HostRuntime, dir: &str) -> Result<(), Fail> {
     write_network(rt, dir, RING)?;
     hold(comes_to(rt, dir, 2, 1)?, "the new edge is not taken up")?;
     hold(
-        second_node(rt, dir)? == Err(NodeFault::Running),
+        run_node(rt, dir, 0, false)? == Err(NodeFault::Running),
         "a second node 0 runs",
     )
 }
 
-/// Runs three nodes, of which node 2 starts again from any state, while the others run.
-fn run_three(rt: &HostRuntime, dir: &str) -> Result<(), Fail> {
-    let first = start(rt, dir, 0, ABSENT)?;
-    let second = start(rt, dir, 1, ABSENT)?;
-    scramble_third(rt, dir)?;
-    let third = start(rt, dir, 2, LOADED)?;
+/// Three nodes serve, and stop one after the other.
+fn serve_and_stop(
+    rt: &HostRuntime,
+    dir: &str,
+    first: &mut Child,
+    second: &mut Child,
+    third: &mut Child,
+) -> Result<(), Fail> {
     serve_and_rewire(rt, dir)?;
     hold(stops(rt, dir, 0, first)?, "node 0 does not stop")?;
     hold(stops(rt, dir, 1, second)?, "node 1 does not stop")?;
     hold(stops(rt, dir, 2, third)?, "node 2 does not stop again")
 }
 
+/// Runs node 2 beside two nodes that run: it starts again from any state.
+fn run_third(
+    rt: &HostRuntime,
+    dir: &str,
+    first: &mut Child,
+    second: &mut Child,
+) -> Result<(), Fail> {
+    scramble_third(rt, dir)?;
+    let mut third = start(rt, dir, 2, LOADED)?;
+    serve_and_stop(rt, dir, first, second, &mut third)
+}
+
+/// Runs nodes 1 and 2 beside node 0, which runs.
+fn run_second(rt: &HostRuntime, dir: &str, first: &mut Child) -> Result<(), Fail> {
+    let mut second = start(rt, dir, 1, ABSENT)?;
+    run_third(rt, dir, first, &mut second)
+}
+
+/// Runs three nodes, of which node 2 starts again from any state, while the others run.
+fn run_three(rt: &HostRuntime, dir: &str) -> Result<(), Fail> {
+    let mut first = start(rt, dir, 0, ABSENT)?;
+    run_second(rt, dir, &mut first)
+}
+
 /// Starts node 2, which prints these lines first, and stops it.
 fn start_and_stop(rt: &HostRuntime, dir: &str, lines: [&str; 2]) -> Result<(), Fail> {
-    let third = start(rt, dir, 2, lines)?;
+    let mut third = start(rt, dir, 2, lines)?;
     hold(
-        stops(rt, dir, 2, third)?,
+        stops(rt, dir, 2, &mut third)?,
         "node 2 does not stop once started again",
     )
 }
 
-#[test]
-fn three_nodes_serve_rewire_stop_and_start_again(rt: HostRuntime) -> Result<(), Fail> {
-    let folder = fresh_folder(&rt, "three", LINE)?;
-    let dir = folder.as_str();
-    run_three(&rt, dir)?;
+/// Runs three nodes, and starts node 2 again twice.
+fn run_again(rt: &HostRuntime, dir: &str) -> Result<(), Fail> {
+    run_three(rt, dir)?;
     // Its state is as it was saved, and then it is cut.
-    start_and_stop(&rt, dir, LOADED)?;
-    cut_state(&rt, dir, 2)?;
-    start_and_stop(&rt, dir, ["start default Short", "ready"])?;
-    clean(&rt, dir)
+    start_and_stop(rt, dir, LOADED)?;
+    cut_state(rt, dir, 2)?;
+    start_and_stop(rt, dir, ["start default Short", "ready"])
 }
 
-/// Removes the files of a node's sockets. Whether both come again, while it runs.
-fn makes_sockets_anew(rt: &HostRuntime, dir: &str, id: u16) -> Result<bool, Fail> {
-    let paths = NodePaths::new(rt.alloc(), dir, id)?;
+#[test]
+fn three_nodes_serve_rewire_stop_and_start_again(rt: HostRuntime) -> Result<(), Fail> {
+    in_folder(&rt, "three", LINE, |dir| run_again(&rt, dir))
+}
+
+/// Whether there are files of both sockets.
+fn has_sockets(rt: &HostRuntime, paths: &NodePaths) -> Result<bool, Fail> {
+    Ok(fs::exists(rt, paths.links.as_str())? && fs::exists(rt, paths.clients.as_str())?)
+}
+
+/// Removes the files of both sockets. Whether both come again.
+fn come_again(rt: &HostRuntime, paths: &NodePaths) -> Result<bool, Fail> {
     fs::remove_file(rt, paths.links.as_str())?;
     fs::remove_file(rt, paths.clients.as_str())?;
     for _ in 0..5_000u32 {
-        if fs::exists(rt, paths.links.as_str())? && fs::exists(rt, paths.clients.as_str())? {
+        if has_sockets(rt, paths)? {
             return Ok(true);
         }
         thread::sleep(rt, Duration::from_millis(10));
@@ -338,24 +484,33 @@ fn makes_sockets_anew(rt: &HostRuntime, dir: &str, id: u16) -> Result<bool, Fail
     Ok(false)
 }
 
+/// Removes the files of a node's sockets. Whether both come again, while it runs.
+fn makes_sockets_anew(rt: &HostRuntime, dir: &str, id: u16) -> Result<bool, Fail> {
+    let paths = NodePaths::new(rt.alloc(), dir, id)?;
+    come_again(rt, &paths)
+}
+
+/// A connection to where the neighbours of node 0 come.
+fn neighbour(rt: &HostRuntime, dir: &str) -> Result<UnixStream, Fail> {
+    let path = links_name(rt.alloc(), dir, 0)?;
+    Ok(UnixStream::connect(rt, path.as_str())?)
+}
+
 /// A neighbour of node 0 that reads nothing, a second after it came: time for 100 frames.
 fn silent_neighbour(rt: &HostRuntime, dir: &str) -> Result<UnixStream, Fail> {
-    let paths = NodePaths::new(rt.alloc(), dir, 0)?;
-    let mut stream = UnixStream::connect(rt, paths.links.as_str())?;
+    let mut stream = neighbour(rt, dir)?;
     stream.write_all(b"H0001\n")?;
     thread::sleep(rt, Duration::from_millis(1000));
     Ok(stream)
 }
 
 /// How many frames have gathered in a socket whose other end is gone.
-fn gathered(rt: &HostRuntime, mut stream: UnixStream) -> Result<usize, Fail> {
-    let mut bytes = Vec::new(rt.alloc());
-    stream.read_to_end(&mut bytes)?;
-    Ok(bytes.len() / 22)
+fn gathered(rt: &HostRuntime, stream: &mut UnixStream) -> Result<usize, Fail> {
+    Ok(rest(rt.alloc(), stream)?.len() / 22)
 }
 
-/// The folder that a node has made is its owner's alone, and its sockets come again. What answers is a
-/// neighbour that reads nothing.
+/// The folder that a node has made is its owner's alone, and its sockets come again. What answers
+/// is a neighbour that reads nothing.
 fn keeps_its_sockets(rt: &HostRuntime, dir: &str) -> Result<UnixStream, Fail> {
     let mode = fs::metadata(rt, dir)?.permissions().mode();
     hold(mode & 0o7777 == 0o700, "others may use the folder")?;
@@ -369,55 +524,106 @@ const SMALL: &str =
     "tokentree: capacity 63 is less than the 64 frames that may be under way on a link; \
     give the network capacity 64 or more\n";
 
+/// A node tells as it stops what its links hold, and few frames are under way to a neighbour that
+/// reads nothing.
+fn stop_beside(
+    rt: &HostRuntime,
+    dir: &str,
+    node: &mut Child,
+    neighbour: &mut UnixStream,
+) -> Result<(), Fail> {
+    hold(
+        stops_with(rt, dir, 0, node, SMALL)?,
+        "the node does not stop, or tells something else",
+    )?;
+    hold(
+        (1..=6).contains(&gathered(rt, neighbour)?),
+        "no frames or many are under way",
+    )
+}
+
+/// A node that runs keeps its folder and its sockets, and stops.
+fn keep_and_stop(rt: &HostRuntime, dir: &str, node: &mut Child) -> Result<(), Fail> {
+    let mut neighbour = keeps_its_sockets(rt, dir)?;
+    stop_beside(rt, dir, node, &mut neighbour)
+}
+
+/// The same of node 0, which starts where the folder is not there.
+fn keep_from_start(rt: &HostRuntime, dir: &str) -> Result<(), Fail> {
+    let mut node = start(rt, dir, 0, ABSENT)?;
+    keep_and_stop(rt, dir, &mut node)
+}
+
 #[test]
 fn a_node_keeps_its_folder_and_sockets(rt: HostRuntime) -> Result<(), Fail> {
-    let folder = fresh_folder(&rt, "sockets", NARROW)?;
-    let dir = folder.as_str();
-    // The folder is not there.
-    let node = start(&rt, dir, 0, ABSENT)?;
-    let neighbour = keeps_its_sockets(&rt, dir)?;
-    assert!(rt; stops_with(&rt, dir, 0, node, SMALL)?);
-    // Few frames are under way where nobody reads.
-    assert!(rt; (1..=6).contains(&gathered(&rt, neighbour)?));
-    clean(&rt, dir)
+    in_folder(&rt, "sockets", NARROW, |dir| keep_from_start(&rt, dir))
 }
 
 /// Copies of this program as the processes of nodes.
 #[derive(Drop)]
 struct TestProgram<'a> {
-    program: &'a PathBuf,
+    program: &'a str,
     dir: &'a str,
+}
+
+/// The copy of the test program at `program` that is the node of this number, and is kept running.
+fn kept_at(alloc: Global, program: &str, dir: &str, number: &str) -> Result<Command, AllocError> {
+    let variables = [
+        ("TOKENTREE_ID", number),
+        ("TOKENTREE_DIR", dir),
+        ("TOKENTREE_CHILD", "yes"),
+    ];
+    copy_at(alloc, program, "nodes::acts_as_a_node", &variables)
 }
 
 impl NodeProgram for TestProgram<'_> {
     fn command(&self, alloc: Global, id: u16) -> io::Result<Command> {
-        let mut command = command_of(alloc, self.program, self.dir, id)?;
-        command.env("TOKENTREE_CHILD", "yes")?;
-        Ok(command)
+        let number = format!(in alloc; "{id}")?;
+        Ok(kept_at(alloc, self.program, self.dir, number.as_str())?)
+    }
+}
+
+/// Keeps the nodes of this network file running in a folder. What becomes of it.
+fn run_up_of(rt: &HostRuntime, file: &str, dir: &str) -> Result<Result<(), NodeFault>, Fail> {
+    let program = env::current_exe(rt)?;
+    let nodes = TestProgram {
+        program: program.path_text(),
+        dir,
+    };
+    Ok(up::run(rt, &nodes, file, dir))
+}
+
+/// Keeps the nodes of a folder running. What becomes of it.
+fn run_up(rt: &HostRuntime, dir: &str) -> Result<Result<(), NodeFault>, Fail> {
+    let file = network_file(rt.alloc(), dir)?;
+    run_up_of(rt, file.as_str(), dir)
+}
+
+/// The same in the folder that the environment says, if it says one.
+fn run_told_up(rt: &HostRuntime) -> Result<Result<(), NodeFault>, Fail> {
+    match env::var(rt, "TOKENTREE_UP") {
+        Ok(dir) => run_up(rt, dir.as_str()),
+        Err(_) => Ok(Ok(())),
     }
 }
 
 /// What a copy of this program does, where the environment says in which folder.
 #[test]
 fn acts_as_up(rt: HostRuntime) -> Result<(), Fail> {
-    let Ok(dir) = env::var(&rt, "TOKENTREE_UP") else {
-        return Ok(());
-    };
-    let file = format!(in rt.alloc(); "{dir}.toml")?;
-    let program = env::current_exe(&rt)?;
-    let nodes = TestProgram {
-        program: &program,
-        dir: dir.as_str(),
-    };
-    assert_eq!(rt; up::run(&rt, &nodes, file.as_str(), dir.as_str()), Ok(()));
+    assert_eq!(rt; run_told_up(&rt)?, Ok(()));
     Ok(())
+}
+
+/// Whether this is the next line.
+fn is_next<R: Read>(alloc: Global, reader: &mut R, want: &str) -> Result<bool, Fail> {
+    Ok(read_line(alloc, reader)?.as_str() == want)
 }
 
 /// Reads lines, at most 100. Whether this one comes.
 fn says(rt: &HostRuntime, child: &mut Child, want: &str) -> Result<bool, Fail> {
     if let Some(output) = &mut child.stdout {
         for _ in 0..100u32 {
-            if read_line(rt.alloc(), output)?.as_str() == want {
+            if is_next(rt.alloc(), output, want)? {
                 return Ok(true);
             }
         }
@@ -425,44 +631,39 @@ fn says(rt: &HostRuntime, child: &mut Child, want: &str) -> Result<bool, Fail> {
     Ok(false)
 }
 
-/// What becomes of a second process that is to keep them running.
-fn second_up(rt: &HostRuntime, dir: &str) -> Result<Result<(), NodeFault>, Fail> {
-    let file = format!(in rt.alloc(); "{dir}.toml")?;
-    let program = env::current_exe(rt)?;
-    let nodes = TestProgram {
-        program: &program,
-        dir,
-    };
-    Ok(up::run(rt, &nodes, file.as_str(), dir))
-}
-
 /// Starts a copy that keeps the nodes running.
 fn keeper(rt: &HostRuntime, dir: &str) -> Result<Child, Fail> {
-    let program = env::current_exe(rt)?;
-    let mut command = Command::new(rt.alloc(), program.as_path())?;
-    command
-        .arg("nodes::acts_as_up")?
-        .env("TOKENTREE_UP", dir)?
-        .stdin(Stdio::piped())
-        .stdout(Stdio::piped());
+    let mut command = copy(rt, "nodes::acts_as_up", &[("TOKENTREE_UP", dir)])?;
+    command.stdin(Stdio::piped()).stdout(Stdio::piped());
     Ok(command.spawn(rt)?)
+}
+
+/// Runs a command to its end. Whether it ends with status 0.
+fn succeeds(rt: &HostRuntime, mut command: Command) -> Result<bool, Fail> {
+    Ok(command.status(rt)?.success())
+}
+
+/// Kills a process.
+fn kill(rt: &HostRuntime, process: &str) -> Result<bool, Fail> {
+    succeeds(rt, shell(rt.alloc(), "kill -KILL \"$0\"", process, &[])?)
+}
+
+/// The process of a node that is kept running.
+fn process_of(rt: &HostRuntime, dir: &str, id: u16) -> Result<String, Fail> {
+    let path = pid_file(rt.alloc(), dir, id)?;
+    Ok(fs::read_to_string(rt, path.as_str())?)
 }
 
 /// Kills the process of a node that is kept running.
 fn kill_node(rt: &HostRuntime, dir: &str, id: u16) -> Result<bool, Fail> {
-    let process = fs::read_to_string(rt, pid_file(rt.alloc(), dir, id)?.as_str())?;
-    let status = Command::new(rt.alloc(), "/bin/sh")?
-        .arg("-c")?
-        .arg("kill -KILL \"$0\"")?
-        .arg(process.as_str())?
-        .status(rt)?;
-    Ok(status.success())
+    let process = process_of(rt, dir, id)?;
+    kill(rt, process.as_str())
 }
 
 /// Whether anybody listens for clients of node `id`.
 fn listens(rt: &HostRuntime, dir: &str, id: u16) -> Result<bool, Fail> {
-    let paths = NodePaths::new(rt.alloc(), dir, id)?;
-    Ok(UnixStream::connect(rt, paths.clients.as_str()).is_ok())
+    let path = desk_path(rt.alloc(), dir, id)?;
+    Ok(UnixStream::connect(rt, path.as_str()).is_ok())
 }
 
 /// Whether nobody listens for clients of node `id` in the end.
@@ -484,13 +685,6 @@ fn all_come(rt: &HostRuntime, child: &mut Child, lines: &[&str]) -> Result<bool,
         }
     }
     Ok(true)
-}
-
-/// Makes a node's stop file.
-fn stop(rt: &HostRuntime, dir: &str, id: u16) -> Result<(), Fail> {
-    let paths = NodePaths::new(rt.alloc(), dir, id)?;
-    fs::write(rt, paths.stop.as_str(), "")?;
-    Ok(())
 }
 
 /// Ends node 1 by its stop file, and by a signal. It is started again each time, by one `up` alone.
@@ -520,7 +714,7 @@ fn starts_again(rt: &HostRuntime, dir: &str, up: &mut Child) -> Result<(), Fail>
         "up does not start again what was killed",
     )?;
     hold(
-        second_up(rt, dir)? == Err(NodeFault::UpRunning),
+        run_up(rt, dir)? == Err(NodeFault::UpRunning),
         "a second up runs",
     )
 }
@@ -531,17 +725,32 @@ fn ends(rt: &HostRuntime, child: Child) -> Result<bool, Fail> {
     Ok(output.status.code() == Some(0))
 }
 
+/// The first of three nodes for whose clients somebody listens.
+fn first_listening(rt: &HostRuntime, dir: &str) -> Result<Option<u16>, Fail> {
+    for id in 0..3u16 {
+        if listens(rt, dir, id)? {
+            return Ok(Some(id));
+        }
+    }
+    Ok(None)
+}
+
+/// A copy starts again what ends, and leaves nothing as its input ends.
+fn keep_running(rt: &HostRuntime, dir: &str) -> Result<(), Fail> {
+    let mut up = keeper(rt, dir)?;
+    starts_again(rt, dir, &mut up)?;
+    hold(ends(rt, up)?, "up does not end with its input")?;
+    hold(first_listening(rt, dir)?.is_none(), "a node still listens")
+}
+
 #[test]
 fn up_starts_again_what_ends_and_leaves_nothing(rt: HostRuntime) -> Result<(), Fail> {
-    let folder = fresh_folder(&rt, "up", LINE)?;
-    let dir = folder.as_str();
-    let mut up = keeper(&rt, dir)?;
-    starts_again(&rt, dir, &mut up)?;
-    assert!(rt; ends(&rt, up)?);
-    for id in 0..3u16 {
-        assert!(rt; !listens(&rt, dir, id)?, "node {id}");
-    }
-    clean(&rt, dir)
+    in_folder(&rt, "up", LINE, |dir| keep_running(&rt, dir))
+}
+
+/// Whether the next line is that a node is ready.
+fn is_ready_next<R: Read>(alloc: Global, reader: &mut R) -> Result<bool, Fail> {
+    Ok(read_line(alloc, reader)?.as_str().ends_with(" ready"))
 }
 
 /// Reads lines, at most 100. Whether all three nodes are ready.
@@ -549,7 +758,7 @@ fn says_all_are_ready(rt: &HostRuntime, child: &mut Child) -> Result<bool, Fail>
     let mut ready = 0u32;
     if let Some(output) = &mut child.stdout {
         for _ in 0..100u32 {
-            if read_line(rt.alloc(), output)?.as_str().ends_with(" ready") {
+            if is_ready_next(rt.alloc(), output)? {
                 ready = ready.wrapping_add(1);
             }
             if ready == 3 {
@@ -560,18 +769,34 @@ fn says_all_are_ready(rt: &HostRuntime, child: &mut Child) -> Result<bool, Fail>
     Ok(false)
 }
 
-#[test]
-fn nodes_end_where_up_is_killed(rt: HostRuntime) -> Result<(), Fail> {
-    let folder = fresh_folder(&rt, "killed", LINE)?;
-    let dir = folder.as_str();
-    let mut up = keeper(&rt, dir)?;
-    assert!(rt; says_all_are_ready(&rt, &mut up)?);
+/// Kills a copy once it has told that all nodes are ready.
+fn kill_when_ready(rt: &HostRuntime, up: &mut Child) -> Result<(), Fail> {
+    hold(says_all_are_ready(rt, up)?, "not all nodes are ready")?;
     up.kill()?;
     up.wait()?;
+    Ok(())
+}
+
+/// The first of three nodes that does not fall silent.
+fn first_loud(rt: &HostRuntime, dir: &str) -> Result<Option<u16>, Fail> {
     for id in 0..3u16 {
-        assert!(rt; falls_silent(&rt, dir, id)?, "node {id}");
+        if !falls_silent(rt, dir, id)? {
+            return Ok(Some(id));
+        }
     }
-    clean(&rt, dir)
+    Ok(None)
+}
+
+/// All nodes end where the copy that keeps them running is killed.
+fn end_by_kill(rt: &HostRuntime, dir: &str) -> Result<(), Fail> {
+    let mut up = keeper(rt, dir)?;
+    kill_when_ready(rt, &mut up)?;
+    hold(first_loud(rt, dir)?.is_none(), "a node listens on")
+}
+
+#[test]
+fn nodes_end_where_up_is_killed(rt: HostRuntime) -> Result<(), Fail> {
+    in_folder(&rt, "killed", LINE, |dir| end_by_kill(&rt, dir))
 }
 
 /// Whether why a node does not run is told so.
@@ -585,50 +810,67 @@ fn is_told(alloc: Global, fault: NodeFault, want: &str) -> Result<bool, AllocErr
     Ok(format!(in alloc; "{refusal}")?.as_str() == want)
 }
 
+/// Why a node does not run, and how it is told.
+const FAULTS: [(NodeFault, &str); 6] = [
+    (
+        NodeFault::NoNode(3),
+        "no node 7 is in a.toml: its 3 nodes are numbered from 0",
+    ),
+    (
+        NodeFault::LongName,
+        "run: a socket there has a name of more than 107 bytes; choose a shorter DIR",
+    ),
+    (
+        NodeFault::Folder,
+        "run: cannot be made; make this folder, or choose another DIR",
+    ),
+    (
+        NodeFault::Running,
+        "run/lock-7: node 7 runs there already; stop it, or choose another DIR",
+    ),
+    (
+        NodeFault::UpRunning,
+        "run/lock-up: another up runs there already; stop it, or choose another DIR",
+    ),
+    (
+        NodeFault::Links,
+        "run/node-7.sock: cannot be made; choose another DIR",
+    ),
+];
+
+/// The place of the first of these that is not told so.
+fn first_untold(alloc: Global) -> Result<Option<usize>, AllocError> {
+    for (place, (fault, want)) in FAULTS.iter().enumerate() {
+        if !is_told(alloc, *fault, *want)? {
+            return Ok(Some(place));
+        }
+    }
+    Ok(None)
+}
+
+#[test]
+fn faults_are_told_as_written(rt: HostRuntime) -> Result<(), Fail> {
+    assert_eq!(rt; first_untold(rt.alloc())?, None);
+    Ok(())
+}
+
+/// Whether a line is spelled so.
+fn is_spelled<D: Display + Drop>(alloc: Global, line: D, want: &str) -> Result<bool, AllocError> {
+    Ok(format!(in alloc; "{line}")?.as_str() == want)
+}
+
+/// What is told where links hold one frame.
+const ONE: &str =
+    "tokentree: capacity 1 is less than the 64 frames that may be under way on a link; give the \
+    network capacity 64 or more";
+
+/// What is told of a node that was killed.
+const KILLED: &str = "node 2 was ended by signal 9, and is started again";
+
 #[test]
 fn lines_are_as_written(rt: HostRuntime) -> Result<(), Fail> {
-    let alloc: Global = rt.alloc();
-    for (fault, want) in [
-        (
-            NodeFault::NoNode(3),
-            "no node 7 is in a.toml: its 3 nodes are numbered from 0",
-        ),
-        (
-            NodeFault::LongName,
-            "run: a socket there has a name of more than 107 bytes; choose a shorter DIR",
-        ),
-        (
-            NodeFault::Folder,
-            "run: cannot be made; make this folder, or choose another DIR",
-        ),
-        (
-            NodeFault::Running,
-            "run/lock-7: node 7 runs there already; stop it, or choose another DIR",
-        ),
-        (
-            NodeFault::UpRunning,
-            "run/lock-up: another up runs there already; stop it, or choose another DIR",
-        ),
-        (
-            NodeFault::Links,
-            "run/node-7.sock: cannot be made; choose another DIR",
-        ),
-    ] {
-        assert!(rt; is_told(alloc, fault, want)?, "{want}");
-    }
-    let line = CapacityLine(1);
-    assert_eq!(rt;
-        format!(in alloc; "{line}")?.as_str(),
-        "tokentree: capacity 1 is less than the 64 frames that may be under way on a link; give the \
-        network capacity 64 or more"
-    );
-    let line = EndLine {
-        id: 2,
-        end: End::Signal(9),
-    };
-    assert_eq!(rt;
-        format!(in alloc; "{line}")?.as_str(),
-        "node 2 was ended by signal 9, and is started again"
-    );
+    let end = End::Signal(9);
+    assert!(rt; is_spelled(rt.alloc(), CapacityLine(1), ONE)?);
+    assert!(rt; is_spelled(rt.alloc(), EndLine { id: 2, end }, KILLED)?);
     Ok(())
 }

@@ -1,7 +1,5 @@
 //! Command lines of `draw`, and the statuses that they end with.
-use crate::words::status_of;
-use std::fs;
-use std::process::ExitCode;
+use crate::words::{TWO_NODES, first_other_beside};
 use std::test::Fail;
 
 /// A command line, and its status.
@@ -32,27 +30,16 @@ const ROWS: [(&str, u8); 18] = [
     ),
 ];
 
-#[test]
-fn draw_ends_with_the_status(rt: HostRuntime) -> Result<(), Fail> {
-    for (path, text) in FILES {
-        fs::write(&rt, path, text)?;
-    }
-    for (line, want) in ROWS {
-        assert_eq!(rt; status_of(&rt, line)?, ExitCode::from(want), "at {line:?}");
-    }
-    for (path, _) in FILES {
-        fs::remove_file(&rt, path)?;
-    }
-    Ok(())
-}
-
 /// The files that the command lines name.
 const FILES: [(&str, &str); 4] = [
-    (
-        "drawn.toml",
-        "nodes = 2\nroot = 0\ncapacity = 1\nlease = 0\nedges = [[0, 1]]\n",
-    ),
+    ("drawn.toml", TWO_NODES),
     ("drawn.events", "tick 0\ntick 1\n"),
     ("drawn-refused.events", "tick 0\ntick 2\n"),
     ("drawn-unread.events", "tick 0\ntick\n"),
 ];
+
+#[test]
+fn draw_ends_with_the_status(rt: HostRuntime) -> Result<(), Fail> {
+    assert_eq!(rt; first_other_beside(&rt, &FILES, &ROWS)?, None);
+    Ok(())
+}

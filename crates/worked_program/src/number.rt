@@ -1,21 +1,16 @@
 //! Numbers on the command line: each has one spelling, decimal with no sign and no zero in front,
 //! and a range.
-use crate::words::status_of;
+use crate::words::{Runs, ends_with, first_other_status};
 use std::alloc::AllocError;
-use std::fs::File;
-use std::io::Input;
-use std::net::Net;
-use std::process::{ExitCode, Processes};
-use std::rt::{Env, Files};
-use std::sync::Wait;
 use std::test::Fail;
-use std::thread::Threads;
-use std::time::Clock;
 
 /// What stands in front of a number and behind it; the most that the number may be, and one more;
-/// and the status of the line with the most. No file of these lines is there: so where the number is
-/// taken the status is 1, or 0 where the line prints no junk.
-const NUMBERS: [(&str, &str, &str, &str, u8); 19] = [
+/// and the status of the line with the most.
+type Row<'a> = (&'a str, &'a str, &'a str, &'a str, u8);
+
+/// No file of these lines is there: so where the number is taken the status is 1, or 0 where the
+/// line prints no junk.
+const NUMBERS: [Row<'static>; 19] = [
     ("draw absent.toml - --columns ", "", "1200", "1201", 1),
     (
         "draw absent.toml - --from ",
@@ -97,55 +92,83 @@ const NUMBERS: [(&str, &str, &str, &str, u8); 19] = [
     ("threads absent.toml ", "", "1000000", "1000001", 1),
 ];
 
-/// The status of a command line with this number between its other words.
-fn status_with<R>(rt: &R, front: &str, number: &str, back: &str) -> Result<ExitCode, AllocError>
-where
-    R: Files<File = File>
-        + Net
-        + Clock
-        + Env
-        + Input
-        + Print
-        + Eprint
-        + Processes
-        + Threads
-        + Wait
-        + AllocGlobal
-        + Sync,
-{
-    let line = format!(in rt.alloc(); "tokentree {front}{number}{back}")?;
-    status_of(rt, line.as_str())
+/// Spellings that are no number's.
+const SPELLINGS: [&str; 4] = ["+1", "01", "-1", "1.0"];
+
+/// Whether a row's command line with this number ends with this status.
+fn number_ends<R: Runs>(rt: &R, row: &Row<'_>, number: &str, want: u8) -> Result<bool, AllocError> {
+    let line = format!(in rt.alloc(); "tokentree {}{number}{}", row.0, row.1)?;
+    ends_with(rt, line.as_str(), want)
+}
+
+/// The first of these spellings that a row's command line does not refuse.
+fn first_taken<'a, R: Runs>(
+    rt: &R,
+    row: &Row<'_>,
+    spellings: &[&'a str],
+) -> Result<Option<&'a str>, AllocError> {
+    for spelling in spellings {
+        if !number_ends(rt, row, spelling, 2)? {
+            return Ok(Some(spelling));
+        }
+    }
+    Ok(None)
+}
+
+/// The first number with which a row's command line ends otherwise than it should.
+fn first_other_number<'a, R: Runs>(rt: &R, row: &Row<'a>) -> Result<Option<&'a str>, AllocError> {
+    let (_, _, most, above, status) = *row;
+    let taken = first_taken(rt, row, &SPELLINGS)?;
+    if taken.is_some() {
+        return Ok(taken);
+    }
+    if !number_ends(rt, row, above, 2)? {
+        return Ok(Some(above));
+    }
+    if !number_ends(rt, row, most, status)? {
+        return Ok(Some(most));
+    }
+    Ok(None)
+}
+
+/// The place of the first row with a number with which its command line ends otherwise, and that
+/// number.
+fn first_other_row<'a, R: Runs>(
+    rt: &R,
+    rows: &[Row<'a>],
+) -> Result<Option<(usize, &'a str)>, AllocError> {
+    for (at, row) in rows.iter().enumerate() {
+        if let Some(number) = first_other_number(rt, row)? {
+            return Ok(Some((at, number)));
+        }
+    }
+    Ok(None)
 }
 
 #[test]
 fn a_number_has_one_spelling_and_a_range(rt: HostRuntime) -> Result<(), Fail> {
-    for (front, back, most, above, status) in NUMBERS {
-        for (number, want) in [
-            ("+1", 2),
-            ("01", 2),
-            ("-1", 2),
-            ("1.0", 2),
-            (above, 2),
-            (most, status),
-        ] {
-            let status = status_with(&rt, front, number, back)?;
-            assert_eq!(rt; status, ExitCode::from(want), "at {front}{number}{back}");
-        }
-    }
-    for line in [
-        "tokentree lock absent +1",
-        "tokentree lock absent 01",
-        "tokentree lock absent 65536",
-        "tokentree lock --timeout +1 absent 1",
-        "tokentree lock --timeout 01 absent 1",
-        "tokentree lock --timeout 65536 absent 1",
-        "tokentree junk 1 01",
-        "tokentree junk 1 1000001",
-        "tokentree measure absent.toml --runs 0",
-        "tokentree threads absent.toml 0",
-        "tokentree draw absent.toml - --columns 0",
-    ] {
-        assert_eq!(rt; status_of(&rt, line)?, ExitCode::from(2), "at {line:?}");
-    }
+    assert_eq!(rt; first_other_row(&rt, &NUMBERS)?, None);
+    Ok(())
+}
+
+/// Command lines whose number is refused: those of numbers that are not taken without a file, and
+/// those of a least number, or of a second one.
+const REFUSED: [(&str, u8); 11] = [
+    ("tokentree lock absent +1", 2),
+    ("tokentree lock absent 01", 2),
+    ("tokentree lock absent 65536", 2),
+    ("tokentree lock --timeout +1 absent 1", 2),
+    ("tokentree lock --timeout 01 absent 1", 2),
+    ("tokentree lock --timeout 65536 absent 1", 2),
+    ("tokentree junk 1 01", 2),
+    ("tokentree junk 1 1000001", 2),
+    ("tokentree measure absent.toml --runs 0", 2),
+    ("tokentree threads absent.toml 0", 2),
+    ("tokentree draw absent.toml - --columns 0", 2),
+];
+
+#[test]
+fn other_numbers_are_refused(rt: HostRuntime) -> Result<(), Fail> {
+    assert_eq!(rt; first_other_status(&rt, &REFUSED)?, None);
     Ok(())
 }

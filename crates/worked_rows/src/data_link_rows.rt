@@ -1,7 +1,7 @@
 //! Two ports over two links, and writes that do not fit.
 use data_link::{OutOfRange, Port};
 use link_model::{Item, Link};
-use std::alloc::Global;
+use std::alloc::{AllocError, Global};
 use std::test::Fail;
 use topology::{Frame, Net, NetFault, Payload};
 
@@ -56,24 +56,52 @@ fn go_round(near: &mut Port, far: &mut Port, out: &mut Link, back: &mut Link, ro
 }
 
 /// A port's own number, the last one that it took, and its copy.
-fn numbers(port: &Port) -> (u16, u16, Payload) {
+type Numbers = (u16, u16, Payload);
+
+fn numbers(port: &Port) -> Numbers {
     (port.seq(), port.last(), port.copy())
 }
 
+/// What two ports have behind four rounds, and behind three more, with a new link back.
+fn have_behind_rounds(
+    alloc: Global,
+    near: &mut Port,
+    far: &mut Port,
+    out: &mut Link,
+) -> Result<[(Numbers, Numbers); 2], AllocError> {
+    let mut back = Link::new(alloc, 1)?;
+    go_round(near, far, out, &mut back, 4);
+    let first = (numbers(near), numbers(far));
+    go_round(near, far, out, &mut back, 3);
+    Ok([first, (numbers(near), numbers(far))])
+}
+
+/// What two new ports have then.
+fn behind_rounds(alloc: Global) -> Result<[(Numbers, Numbers); 2], Fail> {
+    let mut near = new_port(alloc)?;
+    let mut far = new_port(alloc)?;
+    let mut out = Link::new(alloc, 1)?;
+    Ok(have_behind_rounds(alloc, &mut near, &mut far, &mut out)?)
+}
+
+/// What they are to have.
+const BEHIND_ROUNDS: [(Numbers, Numbers); 2] = [
+    ((4, 4, CHILD), (4, 3, ROOT)),
+    ((2, 2, CHILD), (2, 1, ROOT)),
+];
+
 #[test]
 fn numbers_go_round(rt: HostRuntime) -> Result<(), Fail> {
-    let mut near = new_port(rt.alloc())?;
-    let mut far = new_port(rt.alloc())?;
-    let mut out = Link::new(rt.alloc(), 1)?;
-    let mut back = Link::new(rt.alloc(), 1)?;
-    go_round(&mut near, &mut far, &mut out, &mut back, 4);
-    let first = (numbers(&near), numbers(&far));
-    go_round(&mut near, &mut far, &mut out, &mut back, 3);
-    let second = (numbers(&near), numbers(&far));
-    assert_eq!(rt; first, ((4, 4, CHILD), (4, 3, ROOT)));
-    assert_eq!(rt; second, ((2, 2, CHILD), (2, 1, ROOT)));
+    assert_eq!(rt; behind_rounds(rt.alloc())?, BEHIND_ROUNDS);
     Ok(())
 }
+
+/// Each field at its greatest.
+const GREATEST: Payload = Payload {
+    distance: 2,
+    parent: Some(1),
+    ring: 6,
+};
 
 /// Writes what fits: the numbers 4 and 3, and the payload as staged and as copied.
 fn write(port: &mut Port, payload: Payload) -> Result<(), OutOfRange> {
@@ -100,24 +128,37 @@ fn refuses_what_does_not_fit(port: &mut Port, payload: Payload) -> bool {
         && port.set_copy(parent) == Err(OutOfRange)
 }
 
+/// Whether a port is as new behind a reset.
+fn is_reset(port: &mut Port, new: &Frame) -> bool {
+    port.reset();
+    port.frame() == *new
+}
+
+/// What a new port answers to a write that fits, whether it refuses those that do not, what it
+/// sends and has as its copy then, and whether it is as new behind a reset.
+type Written = (Result<(), OutOfRange>, bool, (Frame, Payload), bool);
+
+fn written(alloc: Global) -> Result<Written, NetFault> {
+    let mut port = new_port(alloc)?;
+    let new = port.frame();
+    let answer = write(&mut port, GREATEST);
+    let is_refused = refuses_what_does_not_fit(&mut port, GREATEST);
+    let kept = (port.frame(), port.copy());
+    Ok((answer, is_refused, kept, is_reset(&mut port, &new)))
+}
+
+/// What is sent behind the write that fits.
+const SENT: Frame = Frame {
+    seq: 4,
+    ack: 3,
+    payload: GREATEST,
+};
+
 #[test]
 fn writes_outside_their_range_change_nothing(rt: HostRuntime) -> Result<(), Fail> {
-    let mut port = new_port(rt.alloc())?;
-    let first = port.frame();
-    let payload = Payload {
-        distance: 2,
-        parent: Some(1),
-        ring: 6,
-    };
-    assert_eq!(rt; write(&mut port, payload), Ok(()));
-    assert!(rt; refuses_what_does_not_fit(&mut port, payload));
-    let sent = Frame {
-        seq: 4,
-        ack: 3,
-        payload,
-    };
-    assert_eq!(rt; (port.frame(), port.copy()), (sent, payload));
-    port.reset();
-    assert_eq!(rt; port.frame(), first);
+    assert_eq!(rt;
+        written(rt.alloc())?,
+        (Ok(()), true, (SENT, GREATEST), true)
+    );
     Ok(())
 }

@@ -1,15 +1,5 @@
 //! The tree neighbours of a node, in their order, and a tour of the square.
 use euler_ring::{TreeNeighbours, tree_neighbours};
-use std::test::Fail;
-
-/// The true parents of the square 0-1, 0-2, 1-3, 2-3 with root 0.
-fn parent_in_square(node: u16) -> Option<u16> {
-    match node {
-        0 => None,
-        1 | 2 => Some(0),
-        _ => Some(1),
-    }
-}
 
 /// Whether the tree neighbour at a place is this one, with these behind it and before it.
 fn stands_between(tree: &TreeNeighbours, at: usize, id: u16, next: u16, source: u16) -> bool {
@@ -20,63 +10,122 @@ fn stands_between(tree: &TreeNeighbours, at: usize, id: u16, next: u16, source: 
         && tree.source_for(id) == source
 }
 
-#[test]
-fn goes_round_three(rt: HostRuntime) -> Result<(), Fail> {
-    // node 6 has the parent 4; nodes 1 and 9 name it as theirs, and 2 names nobody
-    let tree = tree_neighbours(
+/// The place of the first tree neighbour that is not as told: a row has its number, the one behind
+/// it and the one before it.
+fn first_unlike(tree: &TreeNeighbours, rows: &[(u16, u16, u16)]) -> Option<usize> {
+    for (at, (id, next, source)) in rows.iter().enumerate() {
+        if !stands_between(tree, at, *id, *next, *source) {
+            return Some(at);
+        }
+    }
+    None
+}
+
+/// How many there are, whether there is none, and from which the special machine comes in, at the
+/// root and at another node.
+fn ends(tree: &TreeNeighbours) -> (usize, bool, Option<u16>, Option<u16>) {
+    (
+        tree.len(),
+        tree.is_empty(),
+        tree.special(true),
+        tree.special(false),
+    )
+}
+
+/// The tree neighbours of node 6 with the parent 4: nodes 1 and 9 name it as theirs, and 2 names
+/// nobody.
+fn of_six() -> TreeNeighbours {
+    tree_neighbours(
         Some(4),
         6,
         &[1, 2, 4, 9],
         |w| if w == 1 || w == 9 { Some(6) } else { None },
+    )
+}
+
+/// They, in their order.
+const ROUND_SIX: [(u16, u16, u16); 3] = [(1, 4, 9), (4, 9, 1), (9, 1, 4)];
+
+#[test]
+fn goes_round_three(rt: HostRuntime) {
+    let tree = of_six();
+    assert_eq!(rt;
+        (ends(&tree), tree.contains(2)),
+        ((3, false, Some(1), None), false)
     );
-    assert_eq!(rt; tree.len(), 3);
-    assert!(rt; !tree.is_empty());
-    assert!(rt; !tree.contains(2));
-    for (i, id, next, source) in [(0, 1, 4, 9), (1, 4, 9, 1), (2, 9, 1, 4)] {
-        assert!(rt; stands_between(&tree, i, id, next, source), "{id}");
+    assert_eq!(rt; first_unlike(&tree, &ROUND_SIX), None);
+}
+
+/// The tree neighbours of node 5 with the parent 0, which node 63 names as its own.
+fn of_five() -> TreeNeighbours {
+    tree_neighbours(Some(0), 5, &[0, 63], |_| Some(5))
+}
+
+/// They, in their order.
+const ROUND_FIVE: [(u16, u16, u16); 2] = [(0, 63, 63), (63, 0, 0)];
+
+#[test]
+fn least_and_greatest_id_follow_each_other(rt: HostRuntime) {
+    assert_eq!(rt; first_unlike(&of_five(), &ROUND_FIVE), None);
+}
+
+/// The tree neighbours of a node whose parent is no neighbour, and which none names.
+fn of_a_stranger() -> TreeNeighbours {
+    tree_neighbours(Some(9), 5, &[0, 63], |_| None)
+}
+
+#[test]
+fn has_none(rt: HostRuntime) {
+    assert_eq!(rt; ends(&of_a_stranger()), (0, true, None, None));
+}
+
+/// The true parents of the square 0-1, 0-2, 1-3, 2-3 with root 0.
+fn parent_in_square(node: u16) -> Option<u16> {
+    match node {
+        0 => None,
+        1 | 2 => Some(0),
+        _ => Some(1),
     }
-    assert_eq!(rt; tree.special(true), Some(1));
-    assert_eq!(rt; tree.special(false), None);
-    Ok(())
 }
 
-#[test]
-fn least_and_greatest_id_follow_each_other(rt: HostRuntime) -> Result<(), Fail> {
-    let tree = tree_neighbours(Some(0), 5, &[0, 63], |_| Some(5));
-    for (id, other) in [(0, 63), (63, 0)] {
-        assert!(rt; tree.contains(id));
-        assert_eq!(rt; tree.next_after(id), other);
-        assert_eq!(rt; tree.source_for(id), other);
+/// The tree neighbours of a node of that square; none of a node that is none of it.
+fn in_square(node: u16) -> Option<TreeNeighbours> {
+    let neighbours = match node {
+        0 | 3 => [1, 2],
+        1 | 2 => [0, 3],
+        _ => return None,
+    };
+    Some(tree_neighbours(parent_in_square(node), node, &neighbours, parent_in_square))
+}
+
+/// Where the tour goes on that came to a node from this one; none where no tour does.
+fn onward(from: u16, here: u16) -> Option<u16> {
+    let tree = in_square(here)?;
+    if tree.contains(from) {
+        Some(tree.next_after(from))
+    } else {
+        None
     }
-    Ok(())
 }
 
-#[test]
-fn has_none(rt: HostRuntime) -> Result<(), Fail> {
-    let tree = tree_neighbours(Some(9), 5, &[0, 63], |_| None);
-    assert!(rt; tree.is_empty());
-    assert_eq!(rt; tree.len(), 0);
-    assert_eq!(rt; tree.special(true), None);
-    Ok(())
-}
+/// Where the tour has come from and where it is, stop by stop, when it begins at node 0 as if from
+/// node 1.
+const TOUR: [(u16, u16); 6] = [(0, 2), (2, 0), (0, 1), (1, 3), (3, 1), (1, 0)];
 
-#[test]
-fn walks_the_square(rt: HostRuntime) -> Result<(), Fail> {
-    let trees = [
-        tree_neighbours(None, 0, &[1, 2], parent_in_square),
-        tree_neighbours(Some(0), 1, &[0, 3], parent_in_square),
-        tree_neighbours(Some(0), 2, &[0, 3], parent_in_square),
-        tree_neighbours(Some(1), 3, &[1, 2], parent_in_square),
-    ];
+/// The place of the first stop that the tour does not come to.
+fn first_missed(stops: &[(u16, u16)]) -> Option<usize> {
     let (mut from, mut here) = (1, 0);
-    for want in [(0, 2), (2, 0), (0, 1), (1, 3), (3, 1), (1, 0)] {
-        assert!(rt; here < 4);
-        let tree: &TreeNeighbours = &trees[here as usize];
-        assert!(rt; tree.contains(from));
-        let onward = tree.next_after(from);
-        from = here;
-        here = onward;
-        assert_eq!(rt; (from, here), want);
+    for (at, stop) in stops.iter().enumerate() {
+        let next = onward(from, here);
+        if (here, next) != (stop.0, Some(stop.1)) {
+            return Some(at);
+        }
+        (from, here) = *stop;
     }
-    Ok(())
+    None
+}
+
+#[test]
+fn walks_the_square(rt: HostRuntime) {
+    assert_eq!(rt; first_missed(&TOUR), None);
 }

@@ -26,4 +26,6 @@ mod node_core_rows;
 #[cfg(test)]
 mod registers_rows;
 #[cfg(test)]
+mod told;
+#[cfg(test)]
 mod topology_rows;

@@ -1,42 +1,64 @@
 //! A link that fills, loses and empties, and its memory refused.
-use crate::full_heap::fill;
+use crate::full_heap::{least_heap, on_full};
+use crate::told::all_as_told;
 use link_model::{Frame, Full, Item, Link, NoItem, Payload};
 use linked_list_allocator::LocalHeap;
 use std::alloc::{Allocator, Global};
 use std::test::Fail;
 
-/// A frame that is told apart by its number.
-fn numbered(seq: u16) -> Item {
-    Item::Frame(Frame {
-        seq,
-        ack: 0,
-        payload: Payload {
-            distance: 0,
-            parent: None,
-            ring: 0,
-        },
-    })
+/// What goes over a link.
+#[derive(Clone, Copy)]
+enum Sent {
+    /// A frame that is told apart by its number.
+    Numbered(u16),
+    Noise,
+}
+
+use Sent::{Noise, Numbered};
+
+/// The item that it is.
+fn item(sent: Sent) -> Item {
+    match sent {
+        Noise => Item::Noise,
+        Numbered(seq) => Item::Frame(Frame {
+            seq,
+            ack: 0,
+            payload: Payload {
+                distance: 0,
+                parent: None,
+                ring: 0,
+            },
+        }),
+    }
 }
 
 /// What is done to a link, and what it answers.
 #[derive(Clone, Copy)]
 enum Deed {
-    Puts(Item, Result<(), Full>),
-    Takes(Option<Item>),
+    Puts(Sent, Result<(), Full>),
+    Takes(Option<Sent>),
     Loses(usize, Result<(), NoItem>),
+    Clears,
     /// Nothing is done: this is the number of items on it.
     Holds(usize),
+    /// Nothing is done: whether it is full.
+    IsFull(bool),
 }
 
-use Deed::{Holds, Loses, Puts, Takes};
+use Deed::{Clears, Holds, IsFull, Loses, Puts, Takes};
 
 /// Does it, and says whether the link answers so.
 fn answers_so<A: Allocator>(link: &mut Link<A>, deed: &Deed) -> bool {
     match *deed {
-        Puts(item, want) => link.put(item) == want,
-        Takes(want) => link.take() == want,
+        Puts(sent, want) => link.put(item(sent)) == want,
+        Takes(want) => link.take() == want.map(item),
         Loses(at, want) => link.lose(at) == want,
+        Clears => {
+            link.clear();
+            true
+        }
         Holds(want) => link.len() == want && link.is_empty() == (want == 0),
+        IsFull(want) => link.is_full() == want,
     }
 }
 
@@ -50,74 +72,71 @@ fn first_wrong<A: Allocator>(link: &mut Link<A>, deeds: &[Deed]) -> Option<usize
     None
 }
 
+/// The place of the first deed that a new link of so many places does not answer so.
+fn first_wrong_of(alloc: Global, capacity: usize, deeds: &[Deed]) -> Result<Option<usize>, Fail> {
+    let mut link = Link::new(alloc, capacity)?;
+    Ok(first_wrong(&mut link, deeds))
+}
+
+/// Items go over a link of three places.
+const ORDER: [Deed; 14] = [
+    Holds(0),
+    Takes(None),
+    Puts(Numbered(0), Ok(())),
+    Puts(Numbered(1), Ok(())),
+    Puts(Numbered(2), Ok(())),
+    Puts(Noise, Err(Full)),
+    Takes(Some(Numbered(0))),
+    Puts(Noise, Ok(())),
+    Loses(3, Err(NoItem)),
+    Loses(1, Ok(())),
+    Holds(2),
+    Takes(Some(Numbered(1))),
+    Takes(Some(Noise)),
+    Takes(None),
+];
+
 #[test]
 fn items_keep_their_order(rt: HostRuntime) -> Result<(), Fail> {
-    let deeds = [
-        Holds(0),
-        Takes(None),
-        Puts(numbered(0), Ok(())),
-        Puts(numbered(1), Ok(())),
-        Puts(numbered(2), Ok(())),
-        Puts(Item::Noise, Err(Full)),
-        Takes(Some(numbered(0))),
-        Puts(Item::Noise, Ok(())),
-        Loses(3, Err(NoItem)),
-        Loses(1, Ok(())),
-        Holds(2),
-        Takes(Some(numbered(1))),
-        Takes(Some(Item::Noise)),
-        Takes(None),
-    ];
-    let mut link = Link::new(rt.alloc(), 3)?;
-    assert_eq!(rt; first_wrong(&mut link, &deeds), None);
-    Ok(())
+    all_as_told(&rt, first_wrong_of(rt.alloc(), 3, &ORDER))
 }
+
+/// An item comes to a link of no place.
+const NO_PLACE: [Deed; 3] = [Holds(0), IsFull(true), Puts(Noise, Err(Full))];
 
 #[test]
 fn a_link_of_no_place_is_full(rt: HostRuntime) -> Result<(), Fail> {
-    let mut link = Link::new(rt.alloc(), 0)?;
-    assert!(rt; link.is_empty() && link.is_full());
-    assert_eq!(rt; link.put(Item::Noise), Err(Full));
-    Ok(())
+    all_as_told(&rt, first_wrong_of(rt.alloc(), 0, &NO_PLACE))
 }
 
-/// A link of four places on a heap of which nothing else is free: how much is free, and the place of
-/// the first deed that it does not answer so. None where the heap has no room for it.
-fn without_memory(
-    alloc: Global,
-    heap: &LocalHeap,
-    deeds: &[Deed],
-) -> Result<Option<(usize, Option<usize>)>, Fail> {
+/// Items go over a link of four places, which is cleared then.
+const WITHOUT_MEMORY: [Deed; 10] = [
+    Puts(Numbered(0), Ok(())),
+    Puts(Numbered(1), Ok(())),
+    Puts(Numbered(2), Ok(())),
+    Puts(Numbered(3), Ok(())),
+    Takes(Some(Numbered(0))),
+    Puts(Noise, Ok(())),
+    Puts(Noise, Err(Full)),
+    Loses(0, Ok(())),
+    Clears,
+    Holds(0),
+];
+
+/// Whether a link of four places answers each of these deeds so on a heap of which nothing else is
+/// free. None where the heap has no room for it.
+fn is_right_on_full(alloc: Global, heap: &LocalHeap) -> Result<Option<bool>, Fail> {
     let Ok(mut link) = Link::new(heap, 4) else {
         return Ok(None);
     };
-    let _full = fill(alloc, heap)?;
-    let wrong = first_wrong(&mut link, deeds);
-    link.clear();
-    let is_clear = Holds(0);
-    Ok(Some((heap.free(), wrong.or(first_wrong(&mut link, &[is_clear])))))
+    let found = on_full(alloc, heap, || first_wrong(&mut link, &WITHOUT_MEMORY))?;
+    Ok(Some(found == (None, 0)))
 }
 
 #[test]
 fn only_new_asks_for_memory(rt: HostRuntime) -> Result<(), Fail> {
-    let deeds = [
-        Puts(numbered(0), Ok(())),
-        Puts(numbered(1), Ok(())),
-        Puts(numbered(2), Ok(())),
-        Puts(numbered(3), Ok(())),
-        Takes(Some(numbered(0))),
-        Puts(Item::Noise, Ok(())),
-        Puts(Item::Noise, Err(Full)),
-        Loses(0, Ok(())),
-    ];
-    for units in 1..100usize {
-        let heap = LocalHeap::new(rt.alloc(), units * 16)?;
-        let told = without_memory(rt.alloc(), &heap, &deeds)?;
-        assert_eq!(rt; heap.used(), 0);
-        if told.is_some() {
-            assert!(rt; told == Some((0, None)) && units > 1);
-            return Ok(());
-        }
-    }
-    panic!(rt; "always refused")
+    let alloc = rt.alloc();
+    let (units, is_so) = least_heap(alloc, |heap| is_right_on_full(alloc, heap))?;
+    assert!(rt; is_so && units > 1 && units < 100);
+    Ok(())
 }

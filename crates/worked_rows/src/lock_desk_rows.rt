@@ -1,18 +1,22 @@
 //! A desk from its first ticket to its last, its memory refused, and client lines in any cutting.
-use crate::full_heap::fill;
+use crate::full_heap::{least_heap, on_full};
+use crate::told::{all_as_told, all_as_told_on_full};
 use linked_list_allocator::LocalHeap;
 use lock_desk::{AskFault, ClientLine, ClientReader, Desk, DeskAct, OutOfRange, Stranger};
-use std::alloc::{AllocFailed, Allocator, Global};
-use std::process::Abort;
+use std::alloc::{Allocator, Global};
 use std::test::Fail;
 
 /// What is done to a desk, and what it answers.
 #[derive(Clone, Copy)]
 enum Deed<'a> {
     Asks(u16, Result<(), AskFault>),
+    /// Each ticket below 64 asks, and is taken.
+    AllAsk,
     Leaves(u16, Result<(), Stranger>),
     /// A tick, with the privilege or without it.
     Ticks(bool, DeskAct),
+    /// A hundred ticks with the privilege, all of them quiet.
+    StaysQuiet,
     /// A loan is written: its ticket, the ticks that are left of it, and whether the desk has
     /// served.
     LoanIsSet((Option<u16>, u16, bool), Result<(), OutOfRange>),
@@ -21,240 +25,288 @@ enum Deed<'a> {
     HasLoan((Option<u16>, u16, bool)),
     /// Nothing is done: these tickets wait.
     HasQueue(&'a [u16]),
+    /// Nothing is done: so many tickets wait.
+    Waits(usize),
+    /// Nothing is done: this is the lease.
+    HasLease(u16),
 }
 
-use Deed::{Asks, HasLoan, HasQueue, Leaves, LoanIsSet, QueueIsSet, Ticks};
+use Deed::{
+    AllAsk, Asks, HasLease, HasLoan, HasQueue, Leaves, LoanIsSet, QueueIsSet, StaysQuiet, Ticks,
+    Waits,
+};
+
+/// Whether each ticket below 64 is taken.
+fn all_are_taken<A: Allocator + Copy>(desk: &mut Desk<A>) -> bool {
+    for ticket in 0..64 {
+        if desk.ask(ticket).is_err() {
+            return false;
+        }
+    }
+    true
+}
+
+/// Whether nothing comes of a hundred ticks with the privilege.
+fn stays_quiet<A: Allocator + Copy>(desk: &mut Desk<A>) -> bool {
+    for _ in 0..100 {
+        if desk.tick(true) != DeskAct::Quiet {
+            return false;
+        }
+    }
+    true
+}
 
 /// Does it, and says whether the desk answers so.
 fn answers_so<A: Allocator + Copy>(desk: &mut Desk<A>, deed: &Deed<'_>) -> bool {
     match *deed {
         Asks(ticket, want) => desk.ask(ticket) == want,
+        AllAsk => all_are_taken(desk),
         Leaves(ticket, want) => desk.leave(ticket) == want,
         Ticks(privileged, want) => desk.tick(privileged) == want,
+        StaysQuiet => stays_quiet(desk),
         LoanIsSet((lent, left, served), want) => desk.set_loan(lent, left, served) == want,
         QueueIsSet(tickets, want) => desk.set_waiting(tickets) == want,
         HasLoan(want) => (desk.lent(), desk.left(), desk.served()) == want,
         HasQueue(want) => desk.tickets() == want && desk.waiting() == want.len(),
+        Waits(want) => desk.waiting() == want,
+        HasLease(want) => desk.lease() == want,
     }
 }
 
-/// Holds that the desk answers each deed so.
-fn all_hold<A: Allocator + Copy>(
-    rt: &(impl Eprint + Abort),
-    desk: &mut Desk<A>,
-    deeds: &[Deed<'_>],
-) {
+/// The place of the first deed that the desk does not answer so.
+fn first_wrong<A: Allocator + Copy>(desk: &mut Desk<A>, deeds: &[Deed<'_>]) -> Option<usize> {
     for (at, deed) in deeds.iter().enumerate() {
-        assert!(rt; answers_so(desk, deed), "deed {at}");
+        if !answers_so(desk, deed) {
+            return Some(at);
+        }
     }
+    None
 }
+
+/// The place of the first deed that a new desk with this lease does not answer so.
+fn first_wrong_of(alloc: Global, lease: u16, deeds: &[Deed<'_>]) -> Result<Option<usize>, Fail> {
+    let mut desk = Desk::new(alloc, lease)?;
+    Ok(first_wrong(&mut desk, deeds))
+}
+
+/// The queue is full, and has room again.
+const SIXTY_FOUR: [Deed<'static>; 10] = [
+    AllAsk,
+    Waits(64),
+    Asks(64, Err(AskFault::Full)),
+    Asks(5, Err(AskFault::Full)),
+    Leaves(5, Ok(())),
+    Leaves(5, Err(Stranger)),
+    Asks(6, Err(AskFault::Twice)),
+    Asks(5, Ok(())),
+    Ticks(true, DeskAct::Granted(0)),
+    Asks(0, Err(AskFault::Twice)),
+];
 
 #[test]
 fn sixty_four_wait_and_no_more(rt: HostRuntime) -> Result<(), Fail> {
-    let mut desk = Desk::new(rt.alloc(), 0)?;
-    for ticket in 0..64 {
-        all_hold(&rt, &mut desk, &[Asks(ticket, Ok(()))]);
-    }
-    assert_eq!(rt; desk.waiting(), 64);
-    let deeds = [
-        Asks(64, Err(AskFault::Full)),
-        Asks(5, Err(AskFault::Full)),
-        Leaves(5, Ok(())),
-        Leaves(5, Err(Stranger)),
-        Asks(6, Err(AskFault::Twice)),
-        Asks(5, Ok(())),
-        Ticks(true, DeskAct::Granted(0)),
-        Asks(0, Err(AskFault::Twice)),
-    ];
-    all_hold(&rt, &mut desk, &deeds);
-    Ok(())
+    all_as_told(&rt, first_wrong_of(rt.alloc(), 0, &SIXTY_FOUR))
 }
+
+/// A loan with a lease of one tick.
+const ONE_TICK: [Deed<'static>; 7] = [
+    Asks(1, Ok(())),
+    Ticks(true, DeskAct::Granted(1)),
+    HasLoan((Some(1), 1, false)),
+    Ticks(true, DeskAct::Quiet),
+    HasLoan((Some(1), 0, false)),
+    Ticks(true, DeskAct::Lost(1)),
+    HasLoan((None, 0, false)),
+];
 
 #[test]
 fn a_lease_of_one_tick_ends_in_the_third(rt: HostRuntime) -> Result<(), Fail> {
-    let deeds = [
-        Asks(1, Ok(())),
-        Ticks(true, DeskAct::Granted(1)),
-        HasLoan((Some(1), 1, false)),
-        Ticks(true, DeskAct::Quiet),
-        HasLoan((Some(1), 0, false)),
-        Ticks(true, DeskAct::Lost(1)),
-        HasLoan((None, 0, false)),
-    ];
-    all_hold(&rt, &mut Desk::new(rt.alloc(), 1)?, &deeds);
-    Ok(())
+    all_as_told(&rt, first_wrong_of(rt.alloc(), 1, &ONE_TICK))
 }
+
+/// A loan without a lease, and the next one.
+const NO_LEASE: [Deed<'static>; 9] = [
+    HasLease(0),
+    Asks(8, Ok(())),
+    Asks(9, Ok(())),
+    Ticks(false, DeskAct::Quiet),
+    Ticks(true, DeskAct::Granted(8)),
+    StaysQuiet,
+    Ticks(false, DeskAct::Lost(8)),
+    HasQueue(&[9]),
+    Ticks(true, DeskAct::Granted(9)),
+];
 
 #[test]
 fn a_loan_without_lease_ends_with_the_privilege(rt: HostRuntime) -> Result<(), Fail> {
-    let mut desk = Desk::new(rt.alloc(), 0)?;
-    assert_eq!(rt; desk.lease(), 0);
-    let deeds = [
-        Asks(8, Ok(())),
-        Asks(9, Ok(())),
-        Ticks(false, DeskAct::Quiet),
-        Ticks(true, DeskAct::Granted(8)),
-    ];
-    all_hold(&rt, &mut desk, &deeds);
-    all_hold(&rt, &mut desk, &[Ticks(true, DeskAct::Quiet); 100]);
-    let deeds = [
-        Ticks(false, DeskAct::Lost(8)),
-        HasQueue(&[9]),
-        Ticks(true, DeskAct::Granted(9)),
-    ];
-    all_hold(&rt, &mut desk, &deeds);
-    Ok(())
+    all_as_told(&rt, first_wrong_of(rt.alloc(), 0, &NO_LEASE))
 }
+
+/// Two loans, with a tick between them at which the desk is quiet.
+const TWO_LOANS: [Deed<'static>; 11] = [
+    Asks(1, Ok(())),
+    Asks(2, Ok(())),
+    Ticks(true, DeskAct::Granted(1)),
+    Leaves(3, Err(Stranger)),
+    Leaves(1, Ok(())),
+    HasLoan((None, 0, true)),
+    HasQueue(&[2]),
+    Ticks(true, DeskAct::Quiet),
+    HasLoan((None, 0, false)),
+    HasQueue(&[2]),
+    Ticks(true, DeskAct::Granted(2)),
+];
 
 #[test]
 fn the_token_leaves_before_the_second_loan(rt: HostRuntime) -> Result<(), Fail> {
-    let deeds = [
-        Asks(1, Ok(())),
-        Asks(2, Ok(())),
-        Ticks(true, DeskAct::Granted(1)),
-        Leaves(3, Err(Stranger)),
-        Leaves(1, Ok(())),
-        HasLoan((None, 0, true)),
-        HasQueue(&[2]),
-        Ticks(true, DeskAct::Quiet),
-        HasLoan((None, 0, false)),
-        HasQueue(&[2]),
-        Ticks(true, DeskAct::Granted(2)),
-    ];
-    all_hold(&rt, &mut Desk::new(rt.alloc(), 0)?, &deeds);
-    Ok(())
+    all_as_told(&rt, first_wrong_of(rt.alloc(), 0, &TWO_LOANS))
 }
+
+/// Loans are written to a desk with a lease of three ticks.
+const WRITTEN_LOANS: [Deed<'static>; 9] = [
+    Asks(4, Ok(())),
+    LoanIsSet((Some(4), 0, false), Err(OutOfRange)),
+    LoanIsSet((Some(5), 4, false), Err(OutOfRange)),
+    LoanIsSet((None, 1, false), Err(OutOfRange)),
+    HasLoan((None, 0, false)),
+    LoanIsSet((Some(5), 3, true), Ok(())),
+    HasLoan((Some(5), 3, true)),
+    LoanIsSet((None, 0, true), Ok(())),
+    HasLoan((None, 0, true)),
+];
 
 #[test]
 fn a_loan_is_written_where_it_fits(rt: HostRuntime) -> Result<(), Fail> {
-    let deeds = [
-        Asks(4, Ok(())),
-        LoanIsSet((Some(4), 0, false), Err(OutOfRange)),
-        LoanIsSet((Some(5), 4, false), Err(OutOfRange)),
-        LoanIsSet((None, 1, false), Err(OutOfRange)),
-        HasLoan((None, 0, false)),
-        LoanIsSet((Some(5), 3, true), Ok(())),
-        HasLoan((Some(5), 3, true)),
-        LoanIsSet((None, 0, true), Ok(())),
-        HasLoan((None, 0, true)),
-    ];
-    all_hold(&rt, &mut Desk::new(rt.alloc(), 3)?, &deeds);
-    Ok(())
+    all_as_told(&rt, first_wrong_of(rt.alloc(), 3, &WRITTEN_LOANS))
 }
+
+/// Queues are written to a desk that lends to ticket 5.
+const WRITTEN_QUEUES: [Deed<'static>; 9] = [
+    LoanIsSet((Some(5), 0, false), Ok(())),
+    QueueIsSet(&[3, 1, 2], Ok(())),
+    QueueIsSet(&[3, 1, 3], Err(OutOfRange)),
+    QueueIsSet(&[3, 5], Err(OutOfRange)),
+    QueueIsSet(&[0; 65], Err(OutOfRange)),
+    HasQueue(&[3, 1, 2]),
+    Leaves(5, Ok(())),
+    Ticks(true, DeskAct::Quiet),
+    Ticks(true, DeskAct::Granted(3)),
+];
 
 #[test]
 fn a_queue_is_written_where_it_fits(rt: HostRuntime) -> Result<(), Fail> {
-    let deeds = [
-        LoanIsSet((Some(5), 0, false), Ok(())),
-        QueueIsSet(&[3, 1, 2], Ok(())),
-        QueueIsSet(&[3, 1, 3], Err(OutOfRange)),
-        QueueIsSet(&[3, 5], Err(OutOfRange)),
-        QueueIsSet(&[0; 65], Err(OutOfRange)),
-        HasQueue(&[3, 1, 2]),
-        Leaves(5, Ok(())),
-        Ticks(true, DeskAct::Quiet),
-        Ticks(true, DeskAct::Granted(3)),
-    ];
-    all_hold(&rt, &mut Desk::new(rt.alloc(), 0)?, &deeds);
-    Ok(())
+    all_as_told(&rt, first_wrong_of(rt.alloc(), 0, &WRITTEN_QUEUES))
+}
+
+/// A desk is full and lends.
+const USE: [Deed<'static>; 3] = [AllAsk, Ticks(true, DeskAct::Granted(0)), Leaves(1, Ok(()))];
+
+/// Whether a desk answers each of these deeds so, and takes nothing more of its heap for them. None
+/// where the heap has no room for it.
+fn is_used(heap: &LocalHeap) -> Option<bool> {
+    let Ok(mut desk) = Desk::new(heap, 2) else {
+        return None;
+    };
+    let used = heap.used();
+    let wrong = first_wrong(&mut desk, &USE);
+    Some(wrong.is_none() && heap.used() == used)
 }
 
 #[test]
 fn memory_is_refused_once_and_then_needed_no_more(rt: HostRuntime) -> Result<(), Fail> {
-    let mut refused = 0u32;
-    for units in 1..100usize {
-        let heap = LocalHeap::new(rt.alloc(), units * 16)?;
-        match Desk::new(&heap, 2) {
-            Ok(mut desk) => {
-                let used = heap.used();
-                for ticket in 0..64 {
-                    all_hold(&rt, &mut desk, &[Asks(ticket, Ok(()))]);
-                }
-                let deeds = [Ticks(true, DeskAct::Granted(0)), Leaves(1, Ok(()))];
-                all_hold(&rt, &mut desk, &deeds);
-                assert_eq!(rt; heap.used(), used);
-                assert!(rt; refused > 0);
-                return Ok(());
-            }
-            Err(_) => {
-                refused = refused.wrapping_add(1);
-                assert_eq!(rt; heap.used(), 0);
-            }
-        }
-    }
-    panic!(rt; "always refused")
+    let (units, is_so) = least_heap(rt.alloc(), |heap| Ok(is_used(heap)))?;
+    assert!(rt; is_so && units > 1 && units < 100);
+    Ok(())
+}
+
+/// Each kind of deed, with a full queue at first.
+const WITHOUT_MEMORY: [Deed<'static>; 12] = [
+    AllAsk,
+    Asks(64, Err(AskFault::Full)),
+    Ticks(true, DeskAct::Granted(0)),
+    Leaves(0, Ok(())),
+    Leaves(63, Ok(())),
+    Asks(63, Ok(())),
+    Ticks(true, DeskAct::Quiet),
+    QueueIsSet(&[9; 2], Err(OutOfRange)),
+    QueueIsSet(&[3, 1, 2], Ok(())),
+    LoanIsSet((Some(5), 1, false), Ok(())),
+    Ticks(false, DeskAct::Lost(5)),
+    HasQueue(&[3, 1, 2]),
+];
+
+/// The place of the first deed that a desk does not answer so on a heap of which nothing is left,
+/// and how much was left.
+fn first_wrong_on_full(
+    alloc: Global,
+    heap: &LocalHeap,
+    deeds: &[Deed<'_>],
+) -> Result<(Option<usize>, usize), Fail> {
+    let mut desk = Desk::new(heap, 2)?;
+    on_full(alloc, heap, || first_wrong(&mut desk, deeds))
+}
+
+/// The same, on a heap of this size that nothing else is on.
+fn first_wrong_without_memory(
+    alloc: Global,
+    deeds: &[Deed<'_>],
+) -> Result<(Option<usize>, usize), Fail> {
+    let heap = LocalHeap::new(alloc, 4096)?;
+    first_wrong_on_full(alloc, &heap, deeds)
 }
 
 #[test]
 fn a_desk_takes_no_memory(rt: HostRuntime) -> Result<(), Fail> {
-    let heap = LocalHeap::new(rt.alloc(), 4096)?;
-    let mut desk = Desk::new(&heap, 2)?;
-    let taken = fill(rt.alloc(), &heap)?;
-    assert_eq!(rt; heap.free(), 0);
-    for ticket in 0..64 {
-        all_hold(&rt, &mut desk, &[Asks(ticket, Ok(()))]);
-    }
-    let deeds = [
-        Asks(64, Err(AskFault::Full)),
-        Ticks(true, DeskAct::Granted(0)),
-        Leaves(0, Ok(())),
-        Leaves(63, Ok(())),
-        Asks(63, Ok(())),
-        Ticks(true, DeskAct::Quiet),
-        QueueIsSet(&[9; 2], Err(OutOfRange)),
-        QueueIsSet(&[3, 1, 2], Ok(())),
-        LoanIsSet((Some(5), 1, false), Ok(())),
-        Ticks(false, DeskAct::Lost(5)),
-        HasQueue(&[3, 1, 2]),
-    ];
-    all_hold(&rt, &mut desk, &deeds);
-    drop(taken);
-    Ok(())
+    all_as_told_on_full(&rt, first_wrong_without_memory(rt.alloc(), &WITHOUT_MEMORY))
 }
 
-/// What a new reader answers to these bytes.
-fn answers(alloc: Global, bytes: &[u8]) -> Result<Vec<ClientLine>, AllocFailed<ClientLine>> {
+/// Bytes, and what a new reader answers to them.
+const CLIENT_LINES: [(&[u8], &[ClientLine]); 11] = [
+    (b"lock\n", &[ClientLine::Lock]),
+    (b"unlock\n", &[ClientLine::Unlock]),
+    (b"status\n", &[ClientLine::Status]),
+    (b"Lock\n", &[ClientLine::Unknown]),
+    (b"lock \n", &[ClientLine::Unknown]),
+    (b"loc\n", &[ClientLine::Unknown]),
+    (b"\n", &[ClientLine::Unknown]),
+    (b"lock\r\n", &[ClientLine::Unknown]),
+    (
+        b"xxxxxxxxxxxxxxxxx\nlock\n",
+        &[ClientLine::Unknown, ClientLine::Lock],
+    ),
+    (
+        b"xxxxxxxxxxxxxlock\nlock\n",
+        &[ClientLine::Unknown, ClientLine::Lock],
+    ),
+    (b"lock", &[]),
+];
+
+/// Whether a new reader answers just these lines to these bytes.
+fn is_read_as(bytes: &[u8], want: &[ClientLine]) -> bool {
     let mut reader = ClientReader::new();
-    let mut lines = Vec::new(alloc);
+    let mut rest = want;
     for byte in bytes {
         if let Some(line) = reader.push(*byte) {
-            lines.push(line)?;
+            match rest.split_first() {
+                Some((first, others)) if *first == line => rest = others,
+                _ => return false,
+            }
         }
     }
-    Ok(lines)
+    rest.is_empty()
 }
 
-/// Whether a new reader answers these lines to these bytes.
-fn is_read_as(
-    alloc: Global,
-    bytes: &[u8],
-    want: &[ClientLine],
-) -> Result<bool, AllocFailed<ClientLine>> {
-    Ok(answers(alloc, bytes)?.as_slice() == want)
+/// The place of the first row whose bytes are not read so.
+fn first_misread(rows: &[(&[u8], &[ClientLine])]) -> Option<usize> {
+    for (at, (bytes, want)) in rows.iter().enumerate() {
+        if !is_read_as(bytes, want) {
+            return Some(at);
+        }
+    }
+    None
 }
 
 #[test]
-fn client_lines_are_matched_byte_for_byte(rt: HostRuntime) -> Result<(), Fail> {
-    for (bytes, want) in [
-        (b"lock\n".as_slice(), [ClientLine::Lock].as_slice()),
-        (b"unlock\n".as_slice(), [ClientLine::Unlock].as_slice()),
-        (b"status\n".as_slice(), [ClientLine::Status].as_slice()),
-        (b"Lock\n".as_slice(), [ClientLine::Unknown].as_slice()),
-        (b"lock \n".as_slice(), [ClientLine::Unknown].as_slice()),
-        (b"loc\n".as_slice(), [ClientLine::Unknown].as_slice()),
-        (b"\n".as_slice(), [ClientLine::Unknown].as_slice()),
-        (b"lock\r\n".as_slice(), [ClientLine::Unknown].as_slice()),
-        (
-            b"xxxxxxxxxxxxxxxxx\nlock\n".as_slice(),
-            [ClientLine::Unknown, ClientLine::Lock].as_slice(),
-        ),
-        (
-            b"xxxxxxxxxxxxxlock\nlock\n".as_slice(),
-            [ClientLine::Unknown, ClientLine::Lock].as_slice(),
-        ),
-        (b"lock".as_slice(), [].as_slice()),
-    ] {
-        assert!(rt; is_read_as(rt.alloc(), bytes, want)?, "at {bytes:?}");
-    }
-    Ok(())
+fn client_lines_are_matched_byte_for_byte(rt: HostRuntime) {
+    assert_eq!(rt; first_misread(&CLIENT_LINES), None);
 }

@@ -1,14 +1,14 @@
 //! One node, and two that hear each other, event by event.
-use crate::full_heap::fill;
+use crate::full_heap::{least_heap, on_full};
+use crate::told::{all_as_told, all_as_told_on_full};
 use linked_list_allocator::LocalHeap;
 use node_core::{AskFault, DeskAct, Item, Node, OutOfRange, Payload, Stranger, Ticked};
-use std::alloc::{AllocError, Allocator, Global};
-use std::process::Abort;
+use std::alloc::{Allocator, Global};
 use std::test::Fail;
 use topology::{Net, NetFault};
 
 /// Two nodes, 0 the root, capacity 1.
-fn two(alloc: Global, lease: i64) -> Result<Net, NetFault> {
+fn net_of_two(alloc: Global, lease: i64) -> Result<Net, NetFault> {
     Net::make(alloc, 2, 0, 1, lease, &[(0, 1)])
 }
 
@@ -20,6 +20,8 @@ enum Deed<'a> {
     /// The near one ticks, and this becomes of its loan; the tick may be a full one.
     NearTicks(DeskAct, bool),
     NearIsAsked(u16, Result<(), AskFault>),
+    /// The near one is asked by 64 tickets, from this one on, and takes them.
+    NearIsFilled(u8),
     NearIsLeft(u16, Result<(), Stranger>),
     /// Both hold a forged token, and lend it, to the tickets 5 and 6.
     Forgery,
@@ -29,7 +31,7 @@ enum Deed<'a> {
     FarShows(&'a str),
 }
 
-use Deed::{FarShows, Forgery, NearIsAsked, NearIsLeft, NearShows, NearTicks, Round};
+use Deed::{FarShows, Forgery, NearIsAsked, NearIsFilled, NearIsLeft, NearShows, NearTicks, Round};
 
 /// Does it, and says whether the nodes answer so.
 fn answer_so<A: Allocator + Copy>(near: &mut Node<A>, far: &mut Node<A>, deed: &Deed<'_>) -> bool {
@@ -40,6 +42,7 @@ fn answer_so<A: Allocator + Copy>(near: &mut Node<A>, far: &mut Node<A>, deed: &
         }
         NearTicks(act, full) => near.tick() == Ticked { act, full },
         NearIsAsked(ticket, want) => near.ask(ticket) == want,
+        NearIsFilled(first) => takes_sixty_four(near, first),
         NearIsLeft(ticket, want) => near.leave(ticket) == want,
         Forgery => forge_both(near, far).is_ok(),
         NearShows(line) => shows(near, line),
@@ -47,35 +50,35 @@ fn answer_so<A: Allocator + Copy>(near: &mut Node<A>, far: &mut Node<A>, deed: &
     }
 }
 
-/// Two new nodes, the root first, over this allocator.
-fn both<A: Allocator + Copy>(alloc: Global, lease: i64, on: A) -> Result<(Node<A>, Node<A>), Fail> {
-    let net = two(alloc, lease)?;
-    Ok((Node::new(on, &net, 0)?, Node::new(on, &net, 1)?))
+/// Two nodes, of which the near one is the root.
+#[derive(Drop)]
+struct Two<A: Allocator + Copy> {
+    near: Node<A>,
+    far: Node<A>,
 }
 
-/// Holds that two new nodes with this lease answer each deed so.
-fn all_hold(
-    rt: &(impl Eprint + AllocGlobal + Abort),
-    lease: i64,
-    deeds: &[Deed<'_>],
-) -> Result<(), Fail> {
-    let (mut near, mut far) = both(rt.alloc(), lease, rt.alloc())?;
-    assert_eq!(rt; first_wrong(&mut near, &mut far, deeds), None);
-    Ok(())
+/// Two new nodes over this allocator.
+fn both<A: Allocator + Copy>(alloc: Global, lease: i64, on: A) -> Result<Two<A>, Fail> {
+    let net = net_of_two(alloc, lease)?;
+    let near = Node::new(on, &net, 0)?;
+    let far = Node::new(on, &net, 1)?;
+    Ok(Two { near, far })
 }
 
-/// The place of the first deed that two nodes do not answer so.
-fn first_wrong<A: Allocator + Copy>(
-    near: &mut Node<A>,
-    far: &mut Node<A>,
-    deeds: &[Deed<'_>],
-) -> Option<usize> {
+/// The place of the first deed that they do not answer so.
+fn first_wrong<A: Allocator + Copy>(nodes: &mut Two<A>, deeds: &[Deed<'_>]) -> Option<usize> {
     for (at, deed) in deeds.iter().enumerate() {
-        if !answer_so(near, far, deed) {
+        if !answer_so(&mut nodes.near, &mut nodes.far, deed) {
             return Some(at);
         }
     }
     None
+}
+
+/// The place of the first deed that two new nodes with this lease do not answer so.
+fn first_wrong_of(alloc: Global, lease: i64, deeds: &[Deed<'_>]) -> Result<Option<usize>, Fail> {
+    let mut nodes = both(alloc, lease, alloc)?;
+    Ok(first_wrong(&mut nodes, deeds))
 }
 
 /// Both tick, and then each frame goes over twice.
@@ -159,70 +162,78 @@ fn forge_both<A: Allocator + Copy>(
     forge(far, 1, Some(0), root, 6)
 }
 
+/// Two nodes begin, and the token goes to the far one.
+const REACHES_TREE: [Deed<'static>; 11] = [
+    NearShows("node 0 distance 2 parent none token no lent none waiting 0\n"),
+    FarShows("node 1 distance 2 parent none token no lent none waiting 0\n"),
+    Round,
+    NearShows("node 0 distance 0 parent none token yes lent none waiting 0\n"),
+    FarShows("node 1 distance 2 parent 0 token no lent none waiting 0\n"),
+    Round,
+    NearShows("node 0 distance 0 parent none token no lent none waiting 0\n"),
+    FarShows("node 1 distance 2 parent 0 token no lent none waiting 0\n"),
+    Round,
+    NearShows("node 0 distance 0 parent none token no lent none waiting 0\n"),
+    FarShows("node 1 distance 1 parent 0 token yes lent none waiting 0\n"),
+];
+
 #[test]
 fn two_nodes_reach_the_tree_and_pass_the_token(rt: HostRuntime) -> Result<(), Fail> {
-    let deeds = [
-        NearShows("node 0 distance 2 parent none token no lent none waiting 0\n"),
-        FarShows("node 1 distance 2 parent none token no lent none waiting 0\n"),
-        Round,
-        NearShows("node 0 distance 0 parent none token yes lent none waiting 0\n"),
-        FarShows("node 1 distance 2 parent 0 token no lent none waiting 0\n"),
-        Round,
-        NearShows("node 0 distance 0 parent none token no lent none waiting 0\n"),
-        FarShows("node 1 distance 2 parent 0 token no lent none waiting 0\n"),
-        Round,
-        NearShows("node 0 distance 0 parent none token no lent none waiting 0\n"),
-        FarShows("node 1 distance 1 parent 0 token yes lent none waiting 0\n"),
-    ];
-    all_hold(&rt, 0, &deeds)
+    all_as_told(&rt, first_wrong_of(rt.alloc(), 0, &REACHES_TREE))
 }
+
+/// Two tickets ask at the near node, and the first has its loan.
+const TWO_TICKETS: [Deed<'static>; 10] = [
+    Round,
+    NearIsAsked(1, Ok(())),
+    NearIsAsked(2, Ok(())),
+    NearIsAsked(2, Err(AskFault::Twice)),
+    NearTicks(DeskAct::Granted(1), false),
+    NearShows("node 0 distance 0 parent none token yes lent 1 waiting 1\n"),
+    NearIsLeft(1, Ok(())),
+    NearIsLeft(1, Err(Stranger)),
+    NearTicks(DeskAct::Quiet, true),
+    NearShows("node 0 distance 0 parent none token no lent none waiting 1\n"),
+];
 
 #[test]
 fn the_token_leaves_before_a_second_loan(rt: HostRuntime) -> Result<(), Fail> {
-    let deeds = [
-        Round,
-        NearIsAsked(1, Ok(())),
-        NearIsAsked(2, Ok(())),
-        NearIsAsked(2, Err(AskFault::Twice)),
-        NearTicks(DeskAct::Granted(1), false),
-        NearShows("node 0 distance 0 parent none token yes lent 1 waiting 1\n"),
-        NearIsLeft(1, Ok(())),
-        NearIsLeft(1, Err(Stranger)),
-        NearTicks(DeskAct::Quiet, true),
-        NearShows("node 0 distance 0 parent none token no lent none waiting 1\n"),
-    ];
-    all_hold(&rt, 0, &deeds)
+    all_as_told(&rt, first_wrong_of(rt.alloc(), 0, &TWO_TICKETS))
 }
+
+/// A ticket has a loan with a lease of one tick.
+const ONE_TICK: [Deed<'static>; 7] = [
+    Round,
+    NearIsAsked(1, Ok(())),
+    NearTicks(DeskAct::Granted(1), false),
+    NearTicks(DeskAct::Quiet, false),
+    NearShows("node 0 distance 0 parent none token yes lent 1 waiting 0\n"),
+    NearTicks(DeskAct::Lost(1), true),
+    NearShows("node 0 distance 0 parent none token no lent none waiting 0\n"),
+];
 
 #[test]
 fn a_loan_of_one_tick_ends(rt: HostRuntime) -> Result<(), Fail> {
-    let deeds = [
-        Round,
-        NearIsAsked(1, Ok(())),
-        NearTicks(DeskAct::Granted(1), false),
-        NearTicks(DeskAct::Quiet, false),
-        NearShows("node 0 distance 0 parent none token yes lent 1 waiting 0\n"),
-        NearTicks(DeskAct::Lost(1), true),
-        NearShows("node 0 distance 0 parent none token no lent none waiting 0\n"),
-    ];
-    all_hold(&rt, 1, &deeds)
+    all_as_told(&rt, first_wrong_of(rt.alloc(), 1, &ONE_TICK))
 }
+
+/// Both nodes lend by forged tokens, of which one stays.
+const FORGED_TOKEN: [Deed<'static>; 10] = [
+    Forgery,
+    NearShows("node 0 distance 0 parent none token yes lent 5 waiting 0\n"),
+    FarShows("node 1 distance 1 parent 0 token yes lent 6 waiting 0\n"),
+    Round,
+    NearShows("node 0 distance 0 parent none token yes lent 5 waiting 0\n"),
+    FarShows("node 1 distance 1 parent 0 token yes lent 6 waiting 0\n"),
+    Round,
+    Round,
+    NearShows("node 0 distance 0 parent none token yes lent 5 waiting 0\n"),
+    FarShows("node 1 distance 1 parent 0 token no lent none waiting 0\n"),
+];
 
 #[test]
 fn a_forged_token_goes_and_its_loan_ends(rt: HostRuntime) -> Result<(), Fail> {
-    let deeds = [
-        Forgery,
-        NearShows("node 0 distance 0 parent none token yes lent 5 waiting 0\n"),
-        FarShows("node 1 distance 1 parent 0 token yes lent 6 waiting 0\n"),
-        Round,
-        NearShows("node 0 distance 0 parent none token yes lent 5 waiting 0\n"),
-        FarShows("node 1 distance 1 parent 0 token yes lent 6 waiting 0\n"),
-        Round,
-        Round,
-        NearShows("node 0 distance 0 parent none token yes lent 5 waiting 0\n"),
-        FarShows("node 1 distance 1 parent 0 token no lent none waiting 0\n"),
-    ];
-    all_hold(&rt, 0, &deeds)
+    all_as_told(&rt, first_wrong_of(rt.alloc(), 0, &FORGED_TOKEN))
 }
 
 /// Writes the counters and the values of port 0: of the first three writes the third alone fits.
@@ -244,81 +255,108 @@ fn refuses_what_does_not_fit(node: &mut Node) -> bool {
         && node.set_desk(None, 1, false) == Err(OutOfRange)
 }
 
+/// The status line of node 1 as it is at first.
+const NEW_LINE: &str = "node 1 distance 2 parent none token no lent none waiting 0\n";
+
+/// What noise and writes out of range leave of a node: whether each write was refused, what was
+/// written where it fits, and whether the status line is that of a new node.
+fn left_by(node: &mut Node) -> (bool, Option<(u16, u16, u16)>, bool) {
+    take(node, 0, Item::Noise);
+    let is_refused = refuses_what_does_not_fit(node);
+    let written = write_port(node);
+    (is_refused, written, shows(node, NEW_LINE))
+}
+
+/// What they leave of the far one of two nodes.
+fn left_of_far(alloc: Global) -> Result<(bool, Option<(u16, u16, u16)>, bool), Fail> {
+    let mut nodes = both(alloc, 0, alloc)?;
+    Ok(left_by(&mut nodes.far))
+}
+
 #[test]
 fn noise_and_writes_out_of_range_change_nothing(rt: HostRuntime) -> Result<(), Fail> {
-    let net = two(rt.alloc(), 0)?;
-    let mut node = Node::new(rt.alloc(), &net, 1)?;
-    take(&mut node, 0, Item::Noise);
-    assert!(rt; refuses_what_does_not_fit(&mut node));
-    assert_eq!(rt; write_port(&mut node), Some((0, 0, 6)));
-    assert!(rt;
-        shows(
-            &node,
-            "node 1 distance 2 parent none token no lent none waiting 0\n"
-        )
-    );
+    assert_eq!(rt; left_of_far(rt.alloc())?, (true, Some((0, 0, 6)), true));
     Ok(())
 }
 
-/// A node, and what it answers when it is used: no call but `new` may ask for memory.
-fn used<A: Allocator + Copy>(alloc: A, net: &Net) -> Result<bool, AllocError> {
-    let mut node = Node::new(alloc, net, net.root())?;
-    let asked = (0..64).all(|ticket| node.ask(ticket).is_ok());
+/// Whether a node takes 64 tickets, from this one on.
+fn takes_sixty_four<A: Allocator + Copy>(node: &mut Node<A>, first: u8) -> bool {
+    for further in 0..64 {
+        if node.ask(u16::from(first) + further).is_err() {
+            return false;
+        }
+    }
+    true
+}
+
+/// Whether a node takes 64 tickets, ticks, and takes no more.
+fn is_filled<A: Allocator + Copy>(node: &mut Node<A>) -> bool {
+    let takes = takes_sixty_four(node, 0);
     node.tick();
-    Ok(asked && node.ask(64) == Err(AskFault::Full) && node.waiting() == 64)
+    takes && node.ask(64) == Err(AskFault::Full) && node.waiting() == 64
+}
+
+/// Whether a new node does so: no call but `new` may ask for memory. None where that is refused it.
+fn used<A: Allocator + Copy>(alloc: A, net: &Net) -> Option<bool> {
+    match Node::new(alloc, net, net.root()) {
+        Ok(mut node) => Some(is_filled(&mut node)),
+        Err(_) => None,
+    }
+}
+
+/// The size of the least heap, in units of 16 bytes, that has room for a node; and whether it does
+/// so there, and with enough memory.
+fn least_used(alloc: Global) -> Result<(usize, bool), Fail> {
+    let net = net_of_two(alloc, 0)?;
+    let (units, is_so) = least_heap(alloc, |heap| Ok(used(heap, &net)))?;
+    Ok((units, is_so && used(alloc, &net) == Some(true)))
 }
 
 #[test]
 fn each_growth_of_new_may_be_refused(rt: HostRuntime) -> Result<(), Fail> {
-    let net = two(rt.alloc(), 0)?;
-    assert_eq!(rt; used(rt.alloc(), &net), Ok(true));
-    for units in 1..200usize {
-        let heap = LocalHeap::new(rt.alloc(), units * 16)?;
-        let answer = used(&heap, &net);
-        assert_eq!(rt; heap.used(), 0);
-        if let Ok(works) = answer {
-            assert!(rt; works && units > 8);
-            return Ok(());
-        }
-    }
-    panic!(rt; "always refused")
+    let (units, is_so) = least_used(rt.alloc())?;
+    assert!(rt; is_so && units > 8);
+    Ok(())
 }
 
-/// Two nodes on a heap of which nothing is free: how much is free, whether the near one takes 64
-/// tickets, and the place of the first deed that they do not answer so then.
-fn without_memory(
+/// The place of the first deed that two nodes do not answer so on a heap of which nothing is left,
+/// and how much was left.
+fn first_wrong_on_full(
     alloc: Global,
     heap: &LocalHeap,
     deeds: &[Deed<'_>],
-) -> Result<(usize, bool, Option<usize>), Fail> {
-    let (mut near, mut far) = both(alloc, 0, heap)?;
-    let _full = fill(alloc, heap)?;
-    let are_asked = (10..74).all(|ticket| near.ask(ticket).is_ok());
-    Ok((
-        heap.free(),
-        are_asked,
-        first_wrong(&mut near, &mut far, deeds),
-    ))
+) -> Result<(Option<usize>, usize), Fail> {
+    let mut nodes = both(alloc, 0, heap)?;
+    on_full(alloc, heap, || first_wrong(&mut nodes, deeds))
 }
+
+/// The same, on a heap of its own.
+fn first_wrong_without_memory(
+    alloc: Global,
+    deeds: &[Deed<'_>],
+) -> Result<(Option<usize>, usize), Fail> {
+    let heap = LocalHeap::new(alloc, 8192)?;
+    first_wrong_on_full(alloc, &heap, deeds)
+}
+
+/// The near one's queue is full, and then each kind of deed is done.
+const WITHOUT_MEMORY: [Deed<'static>; 13] = [
+    NearIsFilled(10),
+    NearIsAsked(74, Err(AskFault::Full)),
+    Forgery,
+    NearShows("node 0 distance 0 parent none token yes lent 5 waiting 64\n"),
+    FarShows("node 1 distance 1 parent 0 token yes lent 6 waiting 0\n"),
+    Round,
+    Round,
+    Round,
+    FarShows("node 1 distance 1 parent 0 token no lent none waiting 0\n"),
+    NearIsLeft(5, Ok(())),
+    NearIsLeft(10, Ok(())),
+    NearTicks(DeskAct::Quiet, true),
+    NearShows("node 0 distance 0 parent none token no lent none waiting 63\n"),
+];
 
 #[test]
 fn nodes_take_no_memory(rt: HostRuntime) -> Result<(), Fail> {
-    let heap = LocalHeap::new(rt.alloc(), 8192)?;
-    let deeds = [
-        NearIsAsked(74, Err(AskFault::Full)),
-        Forgery,
-        NearShows("node 0 distance 0 parent none token yes lent 5 waiting 64\n"),
-        FarShows("node 1 distance 1 parent 0 token yes lent 6 waiting 0\n"),
-        Round,
-        Round,
-        Round,
-        FarShows("node 1 distance 1 parent 0 token no lent none waiting 0\n"),
-        NearIsLeft(5, Ok(())),
-        NearIsLeft(10, Ok(())),
-        NearTicks(DeskAct::Quiet, true),
-        NearShows("node 0 distance 0 parent none token no lent none waiting 63\n"),
-    ];
-    let told = without_memory(rt.alloc(), &heap, &deeds)?;
-    assert_eq!(rt; told, (0, true, None));
-    Ok(())
+    all_as_told_on_full(&rt, first_wrong_without_memory(rt.alloc(), &WITHOUT_MEMORY))
 }

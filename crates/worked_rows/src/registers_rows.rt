@@ -1,12 +1,13 @@
 //! All ports of a node in one table, and its memory refused.
-use crate::full_heap::fill;
+use crate::full_heap::{least_heap, on_full};
+use crate::told::all_as_told;
 use linked_list_allocator::LocalHeap;
 use registers::{Heard, OutOfRange, Registers};
-use std::alloc::{AllocError, Allocator, Global};
+use std::alloc::{Allocator, Global};
 use std::test::Fail;
-use topology::{Frame, Net, Payload};
+use topology::{Frame, Net, NetFault, Payload};
 
-/// Writes both numbers and the value of a neighbour; a node that is none is refused.
+/// Writes both numbers of a neighbour; a node that is none is refused.
 fn write<A: Allocator>(
     registers: &mut Registers<A>,
     port: u16,
@@ -39,32 +40,29 @@ fn hear<A: Allocator>(registers: &mut Registers<A>, port: u16, frame: &Frame) ->
     None
 }
 
-/// Uses the registers of the root, and says whether its two neighbours and no other node could be
-/// written.
-fn used<A: Allocator + Copy>(alloc: A, net: &Net) -> Result<bool, AllocError> {
-    let mut registers = Registers::new(alloc, net, net.root())?;
-    Ok(are_written(&mut registers))
-}
+/// A frame that is news to new registers.
+const FRAME: Frame = Frame {
+    seq: 4,
+    ack: 0,
+    payload: Payload {
+        distance: 1,
+        parent: Some(0),
+        ring: 3,
+    },
+};
+
+/// What it does there.
+const NEWS: Heard = Heard {
+    moved: true,
+    accepted: true,
+};
 
 /// Writes all that can be written, and says whether the neighbours 1 and 2 and no other node could
 /// be.
 fn are_written<A: Allocator>(registers: &mut Registers<A>) -> bool {
-    let frame = Frame {
-        seq: 4,
-        ack: 0,
-        payload: Payload {
-            distance: 1,
-            parent: Some(0),
-            ring: 3,
-        },
-    };
-    let news = Heard {
-        moved: true,
-        accepted: true,
-    };
     let mut written = 0u16;
     for id in 0..registers.ranges().nodes {
-        if hear(registers, id, &frame) == Some(news)
+        if hear(registers, id, &FRAME) == Some(NEWS)
             && write(registers, id, (1, 2)) == Ok(())
             && write_value(registers, id, 6) == Ok(())
         {
@@ -82,51 +80,108 @@ fn numbers(registers: &Registers, id: u16) -> Option<(u16, u16, u16)> {
     Some((registers.seq(id), registers.last(id), registers.value(id)))
 }
 
-/// The registers of the root of a square, whose neighbours are 1 and 2.
+/// A square, of whose root the neighbours are 1 and 2.
+fn square(alloc: Global) -> Result<Net, NetFault> {
+    Net::make(alloc, 4, 0, 1, 0, &[(0, 1), (0, 2), (1, 3), (2, 3)])
+}
+
+/// The registers of the root of a square.
 fn of_a_square<A: Allocator + Copy>(alloc: Global, on: A) -> Result<Registers<A>, Fail> {
-    let net = Net::make(alloc, 4, 0, 1, 0, &[(0, 1), (0, 2), (1, 3), (2, 3)])?;
+    let net = square(alloc)?;
     Ok(Registers::new(on, &net, net.root())?)
 }
 
+/// What is done to the registers of a square's root, and what they answer.
+#[derive(Clone, Copy)]
+enum Deed<'a> {
+    /// Both numbers of a port are written.
+    Writes(u16, (u16, u16), Result<(), OutOfRange>),
+    WritesValue(u16, u16, Result<(), OutOfRange>),
+    /// Nothing is done: these are the neighbours.
+    HasNeighbours(&'a [u16]),
+    /// Nothing is done: these are the numbers of a port and its machine's value.
+    Has(u16, Option<(u16, u16, u16)>),
+}
+
+use Deed::{Has, HasNeighbours, Writes, WritesValue};
+
+/// Does it, and says whether the registers answer so.
+fn answer_so(registers: &mut Registers, deed: &Deed<'_>) -> bool {
+    match *deed {
+        Writes(port, both, want) => write(registers, port, both) == want,
+        WritesValue(port, value, want) => write_value(registers, port, value) == want,
+        HasNeighbours(want) => registers.neighbours() == want,
+        Has(port, want) => numbers(registers, port) == want,
+    }
+}
+
+/// The place of the first deed that the registers of a square's root do not answer so.
+fn first_wrong(alloc: Global, deeds: &[Deed<'_>]) -> Result<Option<usize>, Fail> {
+    let mut registers = of_a_square(alloc, alloc)?;
+    for (at, deed) in deeds.iter().enumerate() {
+        if !answer_so(&mut registers, deed) {
+            return Ok(Some(at));
+        }
+    }
+    Ok(None)
+}
+
+/// Port 1 is written, at its greatest and beyond.
+const WRITES: [Deed<'static>; 9] = [
+    HasNeighbours(&[1, 2]),
+    Writes(1, (4, 3), Ok(())),
+    Writes(1, (5, 3), Err(OutOfRange)),
+    WritesValue(1, 18, Ok(())),
+    WritesValue(1, 19, Err(OutOfRange)),
+    Has(1, Some((4, 3, 18))),
+    Has(2, Some((0, 0, 0))),
+    Has(3, Some((0, 0, 0))),
+    Has(4, None),
+];
+
 #[test]
 fn one_port_alone_is_written(rt: HostRuntime) -> Result<(), Fail> {
-    let mut registers = of_a_square(rt.alloc(), rt.alloc())?;
-    assert!(rt; registers.neighbours() == [1, 2].as_slice());
-    let written = [
-        write(&mut registers, 1, (4, 3)),
-        write(&mut registers, 1, (5, 3)),
-        write_value(&mut registers, 1, 18),
-        write_value(&mut registers, 1, 19),
-    ];
-    let want = [Ok(()), Err(OutOfRange), Ok(()), Err(OutOfRange)];
-    assert_eq!(rt; written, want);
-    let told = [1, 2, 3, 4].map(|id| numbers(&registers, id));
-    let (first, rest) = (Some((4, 3, 18)), Some((0, 0, 0)));
-    assert_eq!(rt; told, [first, rest, rest, None]);
-    Ok(())
+    all_as_told(&rt, first_wrong(rt.alloc(), &WRITES))
+}
+
+/// Uses the registers of the root, and says whether its two neighbours and no other node could be
+/// written; none where their memory is refused.
+fn used<A: Allocator + Copy>(alloc: A, net: &Net) -> Option<bool> {
+    match Registers::new(alloc, net, net.root()) {
+        Ok(mut registers) => Some(are_written(&mut registers)),
+        Err(_) => None,
+    }
+}
+
+/// The size of the least heap, in units of 16 bytes, that has room for them; and whether they are
+/// written there, and with enough memory.
+fn least_used(alloc: Global) -> Result<(usize, bool), Fail> {
+    let net = square(alloc)?;
+    let (units, is_so) = least_heap(alloc, |heap| Ok(used(heap, &net)))?;
+    Ok((units, is_so && used(alloc, &net) == Some(true)))
 }
 
 #[test]
 fn each_growth_of_new_may_be_refused(rt: HostRuntime) -> Result<(), Fail> {
-    let net = Net::make(rt.alloc(), 4, 0, 1, 0, &[(0, 1), (0, 2), (1, 3), (2, 3)])?;
-    assert_eq!(rt; used(rt.alloc(), &net), Ok(true));
-    for units in 1..200usize {
-        let heap = LocalHeap::new(rt.alloc(), units * 16)?;
-        let answer = used(&heap, &net);
-        assert_eq!(rt; heap.used(), 0);
-        if let Ok(works) = answer {
-            assert!(rt; works && units > 3);
-            return Ok(());
-        }
-    }
-    panic!(rt; "always refused")
+    let (units, is_so) = least_used(rt.alloc())?;
+    assert!(rt; is_so && units > 3);
+    Ok(())
+}
+
+/// Whether they are written on a heap of which nothing is left, and how much was left.
+fn written_on_full(alloc: Global, heap: &LocalHeap) -> Result<(bool, usize), Fail> {
+    let mut registers = of_a_square(alloc, heap)?;
+    on_full(alloc, heap, || are_written(&mut registers))
+}
+
+/// Whether they are written without memory, and how much there was.
+fn written_without_memory(alloc: Global) -> Result<(bool, usize), Fail> {
+    let heap = LocalHeap::new(alloc, 4096)?;
+    written_on_full(alloc, &heap)
 }
 
 #[test]
 fn registers_take_no_memory(rt: HostRuntime) -> Result<(), Fail> {
-    let heap = LocalHeap::new(rt.alloc(), 4096)?;
-    let mut registers = of_a_square(rt.alloc(), &heap)?;
-    let _full = fill(rt.alloc(), &heap)?;
-    assert!(rt; heap.free() == 0 && are_written(&mut registers));
+    assert_eq!(rt; written_without_memory(rt.alloc())?, (true, 0));
     Ok(())
 }

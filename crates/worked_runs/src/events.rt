@@ -41,12 +41,42 @@ fn are_lines(
     Ok(lines(alloc, text, size)?.as_slice() == want)
 }
 
-#[test]
-fn a_text_is_the_same_in_any_pieces(rt: HostRuntime) -> Result<(), Fail> {
-    let text =
-        b"tick 0\n\nsend 0 1\n# take 0 1, in a comment that is longer than any line that is read: it has 100 bytes or more.\n\
-        take  0 1\nxxxxxxxxxxxxxxxxxxxxxxxxxxxxxxxxxxxxxxxxxxxxxxxxxxxxxxxxxxxxxxxxxxxxxx\nharm own 0 3 none\nharm own 0 3 65535\nask 1 7";
-    let want = [
+/// The most bytes of a piece.
+const SIZES: [usize; 5] = [1, 7, 64, 65, 4096];
+
+/// The first size of pieces in which a text does not have these lines, if there is one.
+fn first_unlike_size(
+    alloc: Global,
+    text: &[u8],
+    want: &[TextLine],
+) -> Result<Option<usize>, AllocFailed<TextLine>> {
+    for size in SIZES {
+        if !are_lines(alloc, text, size, want)? {
+            return Ok(Some(size));
+        }
+    }
+    Ok(None)
+}
+
+/// The place of the first text that does not have its lines, and the size of pieces, if there is
+/// one.
+fn first_unlike(
+    alloc: Global,
+    rows: &[(&[u8], &[TextLine])],
+) -> Result<Option<(usize, usize)>, AllocFailed<TextLine>> {
+    for (at, (text, want)) in rows.iter().enumerate() {
+        if let Some(size) = first_unlike_size(alloc, text, want)? {
+            return Ok(Some((at, size)));
+        }
+    }
+    Ok(None)
+}
+
+/// A text with lines of each kind.
+const EACH_KIND: [(&[u8], &[TextLine]); 1] = [(
+    b"tick 0\n\nsend 0 1\n# take 0 1, in a comment that is longer than any line that is read: it has 100 bytes or more.\n\
+    take  0 1\nxxxxxxxxxxxxxxxxxxxxxxxxxxxxxxxxxxxxxxxxxxxxxxxxxxxxxxxxxxxxxxxxxxxxxx\nharm own 0 3 none\nharm own 0 3 65535\nask 1 7",
+    &[
         TextLine::Told(Event::Tick { node: 0 }),
         TextLine::Passed,
         TextLine::Told(Event::Send { from: 0, to: 1 }),
@@ -64,38 +94,54 @@ fn a_text_is_the_same_in_any_pieces(rt: HostRuntime) -> Result<(), Fail> {
             parent: Some(65535),
         })),
         TextLine::Told(Event::Ask { node: 1, ticket: 7 }),
-    ];
-    for size in [1, 7, 64, 65, 4096] {
-        let is_same = are_lines(rt.alloc(), text.as_slice(), size, want.as_slice())?;
-        assert!(rt; is_same, "in pieces of {size}");
-    }
+    ],
+)];
+
+#[test]
+fn a_text_is_the_same_in_any_pieces(rt: HostRuntime) -> Result<(), Fail> {
+    assert_eq!(rt; first_unlike(rt.alloc(), &EACH_KIND)?, None);
     Ok(())
 }
 
+/// Texts that end with a newline, or are empty.
+const ENDED: [(&[u8], &[TextLine]); 2] = [
+    (
+        b"tick 0\n\n",
+        &[TextLine::Told(Event::Tick { node: 0 }), TextLine::Passed],
+    ),
+    (b"", &[]),
+];
+
 #[test]
 fn a_text_that_ends_with_a_newline_has_no_line_behind_it(rt: HostRuntime) -> Result<(), Fail> {
-    let want = [TextLine::Told(Event::Tick { node: 0 }), TextLine::Passed];
-    for size in [1, 7, 4096] {
-        let is_same = are_lines(rt.alloc(), b"tick 0\n\n", size, want.as_slice())?;
-        assert!(rt; is_same, "in pieces of {size}");
-    }
-    assert!(rt; are_lines(rt.alloc(), b"", 1, &[])?);
+    assert_eq!(rt; first_unlike(rt.alloc(), &ENDED)?, None);
     Ok(())
+}
+
+/// Lines with numbers, and what they spell.
+const NUMBERS: [(&[u8], Option<Event>); 9] = [
+    (b"tick 0", Some(Event::Tick { node: 0 })),
+    (b"tick 65535", Some(Event::Tick { node: 65535 })),
+    (b"tick 65536", None),
+    (b"tick 99999999999999999999", None),
+    (b"tick 00", None),
+    (b"tick +1", None),
+    (b"tick 1\r", None),
+    (b"tick ", None),
+    (b"tick", None),
+];
+
+/// The place of the first line that does not spell that, if there is one.
+fn first_misread(rows: &[(&[u8], Option<Event>)]) -> Option<usize> {
+    for (at, (line, want)) in rows.iter().enumerate() {
+        if parse_line(line) != *want {
+            return Some(at);
+        }
+    }
+    None
 }
 
 #[test]
 fn numbers_are_decimal(rt: HostRuntime) {
-    for (line, want) in [
-        (b"tick 0".as_slice(), Some(Event::Tick { node: 0 })),
-        (b"tick 65535".as_slice(), Some(Event::Tick { node: 65535 })),
-        (b"tick 65536".as_slice(), None),
-        (b"tick 99999999999999999999".as_slice(), None),
-        (b"tick 00".as_slice(), None),
-        (b"tick +1".as_slice(), None),
-        (b"tick 1\r".as_slice(), None),
-        (b"tick ".as_slice(), None),
-        (b"tick".as_slice(), None),
-    ] {
-        assert_eq!(rt; parse_line(line), want, "at {line:?}");
-    }
+    assert_eq!(rt; first_misread(&NUMBERS), None);
 }

@@ -106,10 +106,15 @@ fn shown_on_full(alloc: Global, heap: &LocalHeap) -> Result<(bool, usize), Fail>
     )
 }
 
+/// The same of a heap of its own.
+fn shown_without_memory(alloc: Global) -> Result<(bool, usize), Fail> {
+    let heap = LocalHeap::new(alloc, 65536)?;
+    shown_on_full(alloc, &heap)
+}
+
 #[test]
 fn a_world_changes_its_edges_and_is_shown_without_memory(rt: HostRuntime) -> Result<(), Fail> {
-    let heap = LocalHeap::new(rt.alloc(), 65536)?;
-    assert_eq!(rt; shown_on_full(rt.alloc(), &heap)?, (true, 0));
+    assert_eq!(rt; shown_without_memory(rt.alloc())?, (true, 0));
     Ok(())
 }
 
@@ -119,10 +124,15 @@ fn judged_on_full(alloc: Global, heap: &LocalHeap) -> Result<(bool, usize), Fail
     on_full(alloc, heap, || all_judged(world))
 }
 
+/// The same of a heap of its own, and how much of it stays taken.
+fn judged_without_memory(alloc: Global) -> Result<((bool, usize), usize), Fail> {
+    let heap = LocalHeap::new(alloc, 65536)?;
+    let found = judged_on_full(alloc, &heap)?;
+    Ok((found, heap.used()))
+}
+
 #[test]
 fn a_judge_sees_edges_change_without_memory(rt: HostRuntime) -> Result<(), Fail> {
-    let heap = LocalHeap::new(rt.alloc(), 65536)?;
-    let found = judged_on_full(rt.alloc(), &heap)?;
-    assert_eq!(rt; (found, heap.used()), ((true, 0), 0));
+    assert_eq!(rt; judged_without_memory(rt.alloc())?, ((true, 0), 0));
     Ok(())
 }

@@ -4,7 +4,6 @@ use crate::texts::{FORGED, ROUND, round_of};
 use crate::worlds::net_of;
 use std::alloc::{AllocError, Allocator, Global};
 use std::fmt::Write;
-use std::process::Abort;
 use std::test::Fail;
 use topology::Net;
 use world::World;
@@ -76,72 +75,87 @@ fn run<A: Allocator + Copy, R: Source, W: Sink>(
     simulate(alloc, net, source, sink)
 }
 
-/// What the text, in pieces of at most `piece` bytes, leads to.
-fn simulated(
+/// Simulates the text, in pieces of at most `piece` bytes.
+fn run_text(
     alloc: Global,
     net: &Net,
     text: &str,
     piece: usize,
-) -> Result<(String, Summary), Fail> {
-    let mut source = MemorySource::new(text.as_bytes(), piece);
+    sink: &mut MemorySink,
+) -> Result<Summary, SimFault> {
+    run(
+        alloc,
+        net,
+        &mut MemorySource::new(text.as_bytes(), piece),
+        sink,
+    )
+}
+
+/// What the text, in pieces of at most `piece` bytes, is told as, and what `deed` says of its
+/// output.
+fn simulated<F: FnOnce(&str) -> bool>(
+    alloc: Global,
+    net: &Net,
+    text: &str,
+    piece: usize,
+    deed: F,
+) -> Result<(Summary, bool), Fail>
+    requires { F.IsAlwaysCallable deed }
+{
     let mut sink = MemorySink::new(alloc, ROOM)?;
-    let summary = run(alloc, net, &mut source, &mut sink)?;
-    let output = String::from_str(alloc, std::str::from_utf8(sink.taken())?)?;
-    Ok((output, summary))
+    let summary = run_text(alloc, net, text, piece, &mut sink)?;
+    Ok((summary, deed(std::str::from_utf8(sink.taken())?)))
 }
 
-/// The network, the text and the output of a row.
-fn parts_of(alloc: Global, row: &Row<'_>) -> Result<(Net, String, String), Fail> {
-    Ok((
-        two_nodes(alloc, row.lease)?,
-        joined(alloc, row.text)?,
-        format!(in alloc; "{}{}", row.refusals, row.state)?,
-    ))
+/// Whether an output is that of a row.
+fn is_output(output: &str, row: &Row<'_>) -> bool {
+    output.strip_prefix(row.refusals) == Some(row.state)
 }
 
-/// What the text, in pieces of at most `piece` bytes, is told as, and whether its output is this.
-fn simulated_as(
+/// What a row is told as: with as many refused lines as are told.
+fn summary_of(row: &Row<'_>) -> Summary {
+    Summary {
+        refused: row.refusals.lines().count() as u64,
+        sweeps: row.sweeps,
+    }
+}
+
+/// The first size of pieces in which a text does not lead to the output of a row, if there is one.
+fn first_wrong_piece(
     alloc: Global,
     net: &Net,
     text: &str,
-    piece: usize,
-    want: &str,
-) -> Result<(Summary, bool), Fail> {
-    let (output, summary) = simulated(alloc, net, text, piece)?;
-    Ok((summary, output.as_str() == want))
-}
-
-/// The first size of pieces in which a text is not told as this, with this output.
-fn first_unlike_piece(
-    alloc: Global,
-    net: &Net,
-    text: &str,
-    want: (Summary, &str),
+    row: &Row<'_>,
 ) -> Result<Option<usize>, Fail> {
-    let (summary, output) = want;
+    let want = (summary_of(row), true);
     for piece in PIECES {
-        if simulated_as(alloc, net, text, piece, output)? != (summary, true) {
+        if simulated(alloc, net, text, piece, |output| is_output(output, row))? != want {
             return Ok(Some(piece));
         }
     }
     Ok(None)
 }
 
-/// The first size of pieces in which the text of a row does not lead to its output, with as many
-/// refused lines as are told.
-fn row_fails(alloc: Global, row: &Row<'_>) -> Result<Option<usize>, Fail> {
-    let (net, text, output) = parts_of(alloc, row)?;
-    let summary = Summary {
-        refused: row.refusals.lines().count() as u64,
-        sweeps: row.sweeps,
-    };
-    first_unlike_piece(alloc, &net, &text, (summary, &output))
+/// The first size of pieces in which the text of a row does not lead to its output on a network, if
+/// there is one.
+fn row_fails_on(alloc: Global, net: &Net, row: &Row<'_>) -> Result<Option<usize>, Fail> {
+    let text = joined(alloc, row.text)?;
+    first_wrong_piece(alloc, net, &text, row)
 }
 
-/// Holds that each text leads to its output.
-fn all_hold(rt: &(impl Eprint + AllocGlobal + Abort), rows: &[Row<'_>]) -> Result<(), Fail> {
+/// The same of two nodes.
+fn row_fails(alloc: Global, row: &Row<'_>) -> Result<Option<usize>, Fail> {
+    let net = two_nodes(alloc, row.lease)?;
+    row_fails_on(alloc, &net, row)
+}
+
+/// The place of the first row whose text does not lead to its output, and the size of pieces in
+/// which it does not, if there is one.
+fn first_wrong(alloc: Global, rows: &[Row<'_>]) -> Result<Option<(usize, usize)>, Fail> {
     for (at, row) in rows.iter().enumerate() {
-        assert_eq!(rt; row_fails(rt.alloc(), row)?, None, "row {at}");
+        if let Some(piece) = row_fails(alloc, row)? {
+            return Ok(Some((at, piece)));
+        }
     }
-    Ok(())
+    Ok(None)
 }

@@ -45,11 +45,11 @@ pub fn told<A: Allocator + Copy>(
     Some(step(world, &event))
 }
 
-/// Whether each of these events is accepted.
-pub fn happen<A: Allocator + Copy>(world: &mut World<A>, events: &[Event]) -> bool {
+/// Whether each line of a text spells an event that is accepted.
+pub fn happen<A: Allocator + Copy>(world: &mut World<A>, text: &str) -> bool {
     let mut accepted = true;
-    for event in events {
-        accepted &= step(world, event).is_ok();
+    for line in text.lines() {
+        accepted &= told(world, line) == Some(Ok(()));
     }
     accepted
 }

@@ -1,12 +1,12 @@
 //! Journals that are woven into room that their caller has made.
-ghost use Rattle.std.specs.Prelude.{◌≡◌, ℕ, IfOk};
+ghost use Rattle.std.specs.Prelude.{◌≡◌, ◌≤◌, ℕ, [], IfOk, vec_capacity};
 ghost use Rattle.weaving.specs.Journals.{entries_in, entry_count, journal_of};
 ghost use Rattle.weaving.specs.Woven.{AreRising};
 
 use crate::full_heap::fill;
 use linked_list_allocator::LocalHeap;
 use run_model::Event;
-use std::alloc::{AllocError, Allocator};
+use std::alloc::{AllocError, Allocator, Global};
 use std::test::Fail;
 use weaving::{Entry, Journal, weave};
 
@@ -39,23 +39,56 @@ fn journals<A: Allocator + Copy>(alloc: A) -> Result<[Journal<A>; 2], AllocError
     ])
 }
 
+/// What is woven of them.
+const WOVEN: [Event; 6] = [
+    Event::Tick { node: 0 },
+    Event::Tick { node: 1 },
+    SEND,
+    TAKE,
+    Event::Tick { node: 1 },
+    Event::Tick { node: 0 },
+];
+
+/// Whether that is woven of journals into the room that is there.
+fn is_woven<A: Allocator + Copy>(both: &[Journal<A>; 2], events: &mut Vec<Event, A>) -> bool
+    requires rising { (v : ℕ) → AreRising (journal_of (entries_in both.now) v) }
+    requires empty { events.old.items ≡ [] }
+    requires room { entry_count (entries_in both.now) ≤ vec_capacity events.old }
+{
+    weave(both, events);
+    events.as_slice() == WOVEN.as_slice()
+}
+
+/// Whether that is so while a heap has nothing left, and how much the heap had left.
+fn woven_without_memory<'h>(
+    alloc: Global,
+    heap: &'h LocalHeap,
+    both: &[Journal<&'h LocalHeap>; 2],
+    events: &mut Vec<Event, &'h LocalHeap>,
+) -> Result<(bool, usize), Fail>
+    requires rising { (v : ℕ) → AreRising (journal_of (entries_in both.now) v) }
+    requires empty { events.old.items ≡ [] }
+    requires room { entry_count (entries_in both.now) ≤ vec_capacity events.old }
+{
+    let _full = fill(alloc, heap)?;
+    Ok((is_woven(both, events), heap.free()))
+}
+
+/// Whether that is so of the journals and the room on a heap, and how much the heap had left.
+fn woven_on_full(alloc: Global, heap: &LocalHeap) -> Result<(bool, usize), Fail> {
+    let both = journals(heap)?;
+    let mut events = Vec::with_capacity(heap, 6)?;
+    woven_without_memory(alloc, heap, &both, &mut events)
+}
+
+/// The same of a heap of its own.
+fn woven_on_a_heap(alloc: Global) -> Result<(bool, usize), Fail> {
+    let heap = LocalHeap::new(alloc, 4096)?;
+    woven_on_full(alloc, &heap)
+}
+
 #[test]
 fn weaving_fills_the_room_that_is_there_and_takes_no_memory(rt: HostRuntime) -> Result<(), Fail> {
-    let heap = LocalHeap::new(rt.alloc(), 4096)?;
-    let both = journals(&heap)?;
-    let mut events = Vec::with_capacity(&heap, 6)?;
-    let full = fill(rt.alloc(), &heap)?;
-    assert_eq!(rt; heap.free(), 0);
-    weave(&both, &mut events);
-    let want = [
-        Event::Tick { node: 0 },
-        Event::Tick { node: 1 },
-        SEND,
-        TAKE,
-        Event::Tick { node: 1 },
-        Event::Tick { node: 0 },
-    ];
-    assert_eq!(rt; events.as_slice(), want.as_slice());
-    drop(full);
+    assert_eq!(rt; woven_on_a_heap(rt.alloc())?, (true, 0));
     Ok(())
 }

@@ -1,10 +1,9 @@
 //! Damage between runs.
-use crate::ran::{happen, judged, ran, shown, start};
+use crate::ran::{LINE, happen, judged_right, ran, start, tree};
 use damage_tool::scramble_world;
 use rand_core::SeedableRng;
 use rand_pcg::Lcg64Xsh32;
 use std::alloc::{AllocError, Global};
-use std::process::Abort;
 use std::sync::Wait;
 use std::test::Fail;
 use std::thread::Threads;
@@ -17,6 +16,12 @@ fn net_of_three(alloc: Global) -> Result<Net, NetFault> {
     Net::make(alloc, 3, 0, 1, 3, &[(0, 1), (1, 2)])
 }
 
+/// Its default world.
+fn three(alloc: Global) -> Result<World, Fail> {
+    let net = net_of_three(alloc)?;
+    Ok(start(alloc, &net)?)
+}
+
 /// Harms that write every part of a world of a network, drawn from a seed.
 fn scrambled(alloc: Global, net: &Net, seed: u64) -> Result<Vec<Event>, AllocError> {
     let mut generator = Lcg64Xsh32::seed_from_u64(seed);
@@ -25,84 +30,108 @@ fn scrambled(alloc: Global, net: &Net, seed: u64) -> Result<Vec<Event>, AllocErr
     Ok(harms)
 }
 
-/// Whether node 0 is the root of the line and the others follow, and at most one is privileged and
-/// lends.
-fn is_right(world: &World) -> bool {
-    if world.net().nodes() != 3 {
-        return false;
-    }
-    let (first, second, third) = (world.node(0), world.node(1), world.node(2));
-    (first.distance(), first.parent()) == (0, None)
-        && (second.distance(), second.parent()) == (1, Some(0))
-        && (third.distance(), third.parent()) == (2, Some(1))
-        && world.privileged() <= 1
-        && world.lending() <= 1
-}
-
-/// Damages a world by harms that are accepted, 2 to a node, 4 to a port, and 1 or 2 to a link; the
-/// harms go to the end of the history.
+/// Damages a world; the harms go to the end of the history. Whether they are as many as they should
+/// be, 2 to a node, 4 to a port, and 1 or 2 to a link, and each is accepted.
 fn damage(
-    rt: &(impl Eprint + AllocGlobal + Abort),
+    alloc: Global,
     seed: u64,
     world: &mut World,
     history: &mut Vec<Event>,
-) -> Result<(), Fail> {
-    let net = net_of_three(rt.alloc())?;
-    let harms = scrambled(rt.alloc(), &net, seed)?;
-    assert!(rt; (26..=30).contains(&harms.len()), "of seed {seed}");
-    assert!(rt; happen(world, harms.as_slice()), "of seed {seed}");
-    history.extend_from_slice(harms.as_slice())?;
-    Ok(())
+) -> Result<[bool; 2], AllocError> {
+    let harms = scrambled(alloc, world.net(), seed)?;
+    history.extend_from_slice(&harms)?;
+    Ok([(26..=30).contains(&harms.len()), happen(world, &harms)])
 }
 
-/// Holds that the history, from the default world, is accepted and leads to the world that came,
-/// with more sweeps since its last damage than the line needs, and that this world is right.
-fn recovered(
-    rt: &(impl Eprint + AllocGlobal + Abort),
-    seed: u64,
-    came: &World,
-    history: &[Event],
-) -> Result<(), Fail> {
-    let net = net_of_three(rt.alloc())?;
-    let report = judged(start(rt.alloc(), &net)?, history);
-    assert_eq!(rt; report.refused, 0, "of seed {seed}");
-    assert!(rt; report.sweeps >= 217, "of seed {seed}");
-    assert!(rt; is_right(came), "of seed {seed}");
-    let text = shown(rt.alloc(), came)?;
-    assert_eq!(rt;
-        shown(rt.alloc(), &report.world)?.taken(),
-        text.taken(),
-        "of seed {seed}"
-    );
-    Ok(())
+/// Whether node 0 is the root of the line and the others follow, and at most one is privileged and
+/// lends.
+fn is_right(world: &World) -> [bool; 3] {
+    [
+        tree(world) == Some(LINE),
+        world.privileged() <= 1,
+        world.lending() <= 1,
+    ]
 }
 
-/// Runs 4,000 turns in step; the events go to the end of the history.
-fn run_in_step<R: Threads + Wait + Sync + Eprint + AllocGlobal + Abort>(
+/// What was made; what stands in the way of it is dropped, whatever it is.
+fn made<M: Drop, E: Drop>(made: Result<M, E>) -> Result<M, Fail> {
+    match made {
+        Ok(made) => Ok(made),
+        Err(_refused) => Err(Fail::new("the run was refused")),
+    }
+}
+
+/// Runs 4,000 turns in step. What came of them, and whether the gate held.
+fn in_step<R: Threads + Wait + Sync>(
     rt: &R,
+    alloc: Global,
     world: World,
-    history: &mut Vec<Event>,
-) -> Result<World, Fail> {
+) -> Result<(Woven, bool), Fail> {
     let gate = Pace::new(3);
-    let Ok(woven) = ran(rt, rt.alloc(), world, 4000, &gate) else {
-        panic!(rt; "the run was refused");
-    };
-    assert!(rt; !gate.gave_up());
-    let Woven { world, events } = woven;
-    history.extend_from_slice(events.as_slice())?;
-    Ok(world)
+    let woven = made(ran(rt, alloc, world, 4000, &gate))?;
+    Ok((woven, !gate.gave_up()))
+}
+
+/// What is held of a run: of its damage, that the gate held, what a judge says of the history with
+/// it, from the default world, and of the world that came.
+type Held = ([bool; 2], bool, [bool; 3], [bool; 3]);
+
+/// What is held where all is right.
+const RIGHT: Held = ([true; 2], true, [true; 3], [true; 3]);
+
+/// Puts what nodes did to the end of the history. What a judge says of it, and what of the world.
+fn held_of(
+    alloc: Global,
+    woven: &Woven,
+    history: &mut Vec<Event>,
+) -> Result<([bool; 3], [bool; 3]), Fail> {
+    history.extend_from_slice(&woven.events)?;
+    let judged = judged_right(alloc, three(alloc)?, history, &woven.world)?;
+    Ok((judged, is_right(&woven.world)))
+}
+
+/// Damages a world, and runs it then. The world that came, and what is held.
+fn run_damaged<R: Threads + Wait + Sync>(
+    rt: &R,
+    alloc: Global,
+    seed: u64,
+    mut world: World,
+    history: &mut Vec<Event>,
+) -> Result<(World, Held), Fail> {
+    let damaged = damage(alloc, seed, &mut world, history)?;
+    let (woven, paced) = in_step(rt, alloc, world)?;
+    let (judged, right) = held_of(alloc, &woven, history)?;
+    Ok((woven.world, (damaged, paced, judged, right)))
+}
+
+/// What is held of five runs, each of the world that came of the one before, with the seeds 1 to 5.
+fn five_runs<R: Threads + Wait + Sync>(
+    rt: &R,
+    alloc: Global,
+    history: &mut Vec<Event>,
+) -> Result<[Option<Held>; 5], Fail> {
+    let mut all = [None; 5];
+    let mut world = three(alloc)?;
+    for (seed, place) in (1..=5).zip(&mut all) {
+        let (came, held) = run_damaged(rt, alloc, seed, world, history)?;
+        world = came;
+        *place = Some(held);
+    }
+    Ok(all)
+}
+
+/// The same with a history of their own.
+fn five_runs_alone<R: Threads + Wait + Sync>(
+    rt: &R,
+    alloc: Global,
+) -> Result<[Option<Held>; 5], Fail> {
+    let mut history = Vec::new(alloc);
+    five_runs(rt, alloc, &mut history)
 }
 
 /// Each of five runs begins with a scrambled world, and ends with one that serves.
 #[test]
 fn runs_recover_from_damage(rt: HostRuntime) -> Result<(), Fail> {
-    let net = net_of_three(rt.alloc())?;
-    let mut world = start(rt.alloc(), &net)?;
-    let mut history = Vec::new(rt.alloc());
-    for seed in [1u64, 2, 3, 4, 5] {
-        damage(&rt, seed, &mut world, &mut history)?;
-        world = run_in_step(&rt, world, &mut history)?;
-        recovered(&rt, seed, &world, history.as_slice())?;
-    }
+    assert_eq!(rt; five_runs_alone(&rt, rt.alloc())?, [Some(RIGHT); 5]);
     Ok(())
 }

@@ -1,23 +1,33 @@
 //! Runs in which all nodes meet before their first turn.
-use crate::ran::{count, net_of, ran, start};
+use crate::ran::{lend, line, ran, ticks};
+use std::alloc::Global;
+use std::sync::Wait;
 use std::test::Fail;
-use thread_net::Meet;
-use world::Event;
+use std::thread::Threads;
+use thread_net::{Meet, RunFault, Woven};
+
+/// How often each of three nodes ticked in a run; none where the run was refused.
+fn ticked(ended: &Result<Woven, RunFault>) -> Option<[usize; 3]> {
+    match ended {
+        Ok(woven) => Some(ticks(woven.events.as_slice())),
+        Err(_) => None,
+    }
+}
+
+/// The same of a run of ten turns, and whether the gate gave up.
+fn ten_turns<R: Threads + Wait + Sync>(
+    rt: &R,
+    alloc: Global,
+) -> Result<(Option<[usize; 3]>, bool), Fail> {
+    let world = line(alloc)?;
+    let gate = Meet::new(3);
+    let found = lend(ran(rt, alloc, world, 10, &gate), |ended| ticked(ended));
+    Ok((found, gate.gave_up()))
+}
 
 /// All nodes stand at the gate at one time, so each has a thread of its own.
 #[test]
 fn nodes_meet_before_their_first_turn(rt: HostRuntime) -> Result<(), Fail> {
-    let alloc = rt.alloc();
-    let net = net_of(alloc, 3, &[(0, 1), (1, 2)])?;
-    let world = start(alloc, &net)?;
-    let gate = Meet::new(3);
-    let Ok(woven) = ran(&rt, alloc, world, 10, &gate) else {
-        panic!(rt; "the run was refused");
-    };
-    assert!(rt; !gate.gave_up());
-    let events = woven.events.as_slice();
-    for node in [0u16, 1, 2] {
-        assert_eq!(rt; count(Event::Tick { node }, events), 10);
-    }
+    assert_eq!(rt; ten_turns(&rt, rt.alloc())?, (Some([10; 3]), false));
     Ok(())
 }

@@ -1,12 +1,12 @@
 //! Memory that is refused before the first turn.
-use crate::ran::{happen, net_of, shown, start};
+use crate::ran::{happen, is_shown_as, lend, net_of, shown, start};
 use linked_list_allocator::LocalHeap;
-use std::alloc::Global;
+use std::alloc::{Allocator, Global};
 use std::test::Fail;
 use thread_net::prepare_world;
 use topology::Net;
-use world::Event;
 use world::simulation::SimFault;
+use world::{Event, World};
 
 /// How far a run comes on a heap.
 #[derive(Clone, Copy, Debug, PartialEq, Eq)]
@@ -15,52 +15,87 @@ enum Reached {
     Nothing,
     /// The world comes back as it was.
     SameWorld,
-    /// The world comes back, and is not as it was.
-    OtherWorld,
     /// All that the run needs is made.
     Run,
+    /// Anything else.
+    Wrong,
 }
 
-/// How far a run of two nodes comes on a heap, where a client asks, and over each link a frame is
-/// under way.
+/// A client asks, and over each link a frame is under way.
+const EVENTS: [Event; 3] = [
+    Event::Tick { node: 0 },
+    Event::Send { from: 0, to: 1 },
+    Event::Send { from: 1, to: 0 },
+];
+
+/// How far it came where this world was sent back, if one was, which was shown by that text.
+fn reach_of<A: Allocator + Copy>(
+    alloc: Global,
+    back: Option<&World<A>>,
+    text: &[u8],
+) -> Result<Reached, SimFault> {
+    match back {
+        None => Ok(Reached::Run),
+        Some(world) if is_shown_as(alloc, world, text)? => Ok(Reached::SameWorld),
+        Some(_) => Ok(Reached::Wrong),
+    }
+}
+
+/// How far a run of a world on a heap comes there.
+fn prepared<A: Allocator + Copy>(
+    alloc: Global,
+    on: A,
+    world: World<A>,
+) -> Result<Reached, SimFault> {
+    let text = shown(alloc, &world)?;
+    lend(
+        prepare_world(on, world, 2),
+        |prepared| reach_of(alloc, prepared.as_ref().err(), text.taken()),
+    )
+}
+
+/// How far a run of two nodes comes on a heap.
 fn tried(alloc: Global, heap: &LocalHeap, net: &Net) -> Result<Reached, SimFault> {
     let Ok(mut world) = start(heap, net) else {
         return Ok(Reached::Nothing);
     };
-    let events = [
-        Event::Tick { node: 0 },
-        Event::Send { from: 0, to: 1 },
-        Event::Send { from: 1, to: 0 },
-    ];
-    let accepted = happen(&mut world, &events);
-    let text = shown(alloc, &world)?;
-    match prepare_world(heap, world, 2) {
-        Ok(_prepared) => Ok(Reached::Run),
-        Err(back) if accepted && shown(alloc, &back)?.taken() == text.taken() => {
-            Ok(Reached::SameWorld)
-        }
-        Err(_) => Ok(Reached::OtherWorld),
+    if !happen(&mut world, &EVENTS) {
+        return Ok(Reached::Wrong);
     }
+    prepared(alloc, heap, world)
 }
 
-/// Heaps with room for ever more units of 16 bytes refuse each growth in turn, until one has room
-/// for all. Each time the world comes back as it was, and in the end nothing is kept.
-#[test]
-fn each_growth_before_a_run_is_refused_in_turn(rt: HostRuntime) -> Result<(), Fail> {
-    let net = net_of(rt.alloc(), 2, &[(0, 1)])?;
+/// How far it comes on a heap with room for that many units of 16 bytes, on which nothing is kept.
+fn tried_within(alloc: Global, units: usize, net: &Net) -> Result<Reached, Fail> {
+    let heap = LocalHeap::new(alloc, units.saturating_mul(16))?;
+    let reached = tried(alloc, &heap, net)?;
+    Ok(if heap.used() == 0 {
+        reached
+    } else {
+        Reached::Wrong
+    })
+}
+
+/// How far it comes on the first of ever larger heaps that neither has too little room for a world
+/// nor sends it back as it was, and how many sent it back before.
+fn tried_in_turn(alloc: Global) -> Result<(Reached, u32), Fail> {
+    let net = net_of(alloc, 2, &[(0, 1)])?;
     let mut came_back = 0u32;
     for units in 1..4000usize {
-        let heap = LocalHeap::new(rt.alloc(), units * 16)?;
-        let reached = tried(rt.alloc(), &heap, &net)?;
-        assert_eq!(rt; heap.used(), 0);
-        assert_ne!(rt; reached, Reached::OtherWorld, "at {units}");
-        if reached == Reached::Run {
-            assert!(rt; came_back > 0);
-            return Ok(());
-        }
-        if reached == Reached::SameWorld {
-            came_back = came_back.saturating_add(1);
+        match tried_within(alloc, units, &net)? {
+            Reached::Nothing => {}
+            Reached::SameWorld => came_back = came_back.saturating_add(1),
+            reached => return Ok((reached, came_back)),
         }
     }
-    panic!(rt; "always refused")
+    Ok((Reached::Nothing, came_back))
+}
+
+/// Heaps with room for ever more units refuse each growth in turn, until one has room for all. Each
+/// time the world comes back as it was, and in the end nothing is kept.
+#[test]
+fn each_growth_before_a_run_is_refused_in_turn(rt: HostRuntime) -> Result<(), Fail> {
+    let (reached, came_back) = tried_in_turn(rt.alloc())?;
+    assert_eq!(rt; (reached, came_back > 0), (Reached::Run, true));
+    Ok(())
 }

@@ -1,22 +1,41 @@
 //! Runs in which nobody is held back.
-use crate::ran::{count, net_of, ran, start};
+use crate::ran::{count, lend, net_of, ran, start};
+use std::alloc::Global;
+use std::sync::Wait;
 use std::test::Fail;
-use thread_net::Open;
-use world::Event;
+use std::thread::Threads;
+use thread_net::{Open, RunFault, Woven};
+use world::{Event, World};
+
+/// The default world of two nodes.
+fn two(alloc: Global) -> Result<World, Fail> {
+    let net = net_of(alloc, 2, &[(0, 1)])?;
+    Ok(start(alloc, &net)?)
+}
+
+/// How often each of two nodes ticked in a run, and sent; none where the run was refused.
+fn counted(ended: &Result<Woven, RunFault>) -> Option<[usize; 4]> {
+    let Ok(woven) = ended else {
+        return None;
+    };
+    let events = woven.events.as_slice();
+    Some([
+        count(Event::Tick { node: 0 }, events),
+        count(Event::Tick { node: 1 }, events),
+        count(Event::Send { from: 0, to: 1 }, events),
+        count(Event::Send { from: 1, to: 0 }, events),
+    ])
+}
+
+/// The same of a run of one turn.
+fn one_turn<R: Threads + Wait + Sync>(rt: &R, alloc: Global) -> Result<Option<[usize; 4]>, Fail> {
+    let world = two(alloc)?;
+    Ok(lend(ran(rt, alloc, world, 1, &Open), |ended| counted(ended)))
+}
 
 /// In its one turn each node ticks, and sends over the one link from it, which is empty.
 #[test]
 fn one_turn_of_two_nodes(rt: HostRuntime) -> Result<(), Fail> {
-    let alloc = rt.alloc();
-    let net = net_of(alloc, 2, &[(0, 1)])?;
-    let world = start(alloc, &net)?;
-    let Ok(woven) = ran(&rt, alloc, world, 1, &Open) else {
-        panic!(rt; "the run was refused");
-    };
-    let events = woven.events.as_slice();
-    assert_eq!(rt; count(Event::Tick { node: 0 }, events), 1);
-    assert_eq!(rt; count(Event::Tick { node: 1 }, events), 1);
-    assert_eq!(rt; count(Event::Send { from: 0, to: 1 }, events), 1);
-    assert_eq!(rt; count(Event::Send { from: 1, to: 0 }, events), 1);
+    assert_eq!(rt; one_turn(&rt, rt.alloc())?, Some([1; 4]));
     Ok(())
 }

@@ -2,6 +2,7 @@
 //! calls say, and where they are called from here the prover need not carry that along.
 use std::alloc::{AllocError, Allocator, Global};
 use std::sync::Wait;
+use std::test::Fail;
 use std::thread::Threads;
 use thread_net::{Gate, RunFault, Woven, run_threads};
 use topology::{Net, NetFault};
@@ -15,9 +16,31 @@ pub fn net_of(alloc: Global, nodes: i64, edges: &[(i64, i64)]) -> Result<Net, Ne
     Net::make(alloc, nodes, 0, 1, 0, edges)
 }
 
+/// The tree of a line of three nodes: of each its distance from the root, and its parent.
+pub type Tree = [(u16, Option<u16>); 3];
+
+/// The tree to which that line converges.
+pub const LINE: Tree = [(0, None), (1, Some(0)), (2, Some(1))];
+
 /// A network's default world.
 pub fn start<A: Allocator + Copy>(alloc: A, net: &Net) -> Result<World<A>, AllocError> {
     World::new(alloc, net)
+}
+
+/// The default world of a line of three nodes.
+pub fn line(alloc: Global) -> Result<World, Fail> {
+    let net = net_of(alloc, 3, &[(0, 1), (1, 2)])?;
+    Ok(start(alloc, &net)?)
+}
+
+/// Lends something to a deed, and drops it then. What the deed answers.
+///
+/// A function that knows what it drops, a world say, is dear to prove for each way out of it; this
+/// one does not know.
+pub fn lend<H: Drop, T, F: FnOnce(&H) -> T>(held: H, deed: F) -> T
+    requires { F.IsAlwaysCallable deed }
+{
+    deed(&held)
 }
 
 /// Runs each node of a world on a thread of its own.
@@ -62,6 +85,48 @@ pub fn shown<A: Allocator + Copy>(alloc: Global, world: &World<A>) -> Result<Mem
     Ok(sink)
 }
 
+/// Whether a world is shown by that text.
+pub fn is_shown_as<A: Allocator + Copy>(
+    alloc: Global,
+    world: &World<A>,
+    text: &[u8],
+) -> Result<bool, SimFault> {
+    let sink = shown(alloc, world)?;
+    Ok(sink.taken() == text)
+}
+
+/// Whether two worlds are shown by one text.
+pub fn is_same(alloc: Global, world: &World, other: &World) -> Result<bool, SimFault> {
+    let sink = shown(alloc, world)?;
+    is_shown_as(alloc, other, sink.taken())
+}
+
+/// Whether a judge accepts each of these events, sees at least 217 sweeps, which are as many as a
+/// line of three nodes needs from any state, and comes to the world that came.
+pub fn judged_right(
+    alloc: Global,
+    from: World,
+    events: &[Event],
+    came: &World,
+) -> Result<[bool; 3], SimFault> {
+    let report = judged(from, events);
+    let is_same = is_same(alloc, &report.world, came)?;
+    Ok([report.refused == 0, report.sweeps >= 217, is_same])
+}
+
+/// The tree of three nodes; none where there are other nodes.
+pub fn tree(world: &World) -> Option<Tree> {
+    if world.net().nodes() != 3 {
+        return None;
+    }
+    let (first, second, third) = (world.node(0), world.node(1), world.node(2));
+    Some([
+        (first.distance(), first.parent()),
+        (second.distance(), second.parent()),
+        (third.distance(), third.parent()),
+    ])
+}
+
 /// How often an event stands in a list.
 pub fn count(event: Event, events: &[Event]) -> usize {
     let mut found = 0usize;
@@ -71,4 +136,13 @@ pub fn count(event: Event, events: &[Event]) -> usize {
         }
     }
     found
+}
+
+/// How often the nodes 0, 1 and 2 ticked.
+pub fn ticks(events: &[Event]) -> [usize; 3] {
+    [
+        count(Event::Tick { node: 0 }, events),
+        count(Event::Tick { node: 1 }, events),
+        count(Event::Tick { node: 2 }, events),
+    ]
 }

@@ -1,34 +1,56 @@
 //! Starts of threads that are refused.
-use crate::ran::{count, net_of, ran, start};
+use crate::ran::{count, lend, net_of, ran, start};
 use std::alloc::Global;
 use std::env;
 use std::path::Path;
 use std::process::{Command, Processes};
+use std::rt::Files;
 use std::sync::Wait;
 use std::test::Fail;
 use std::thread::Threads;
-use thread_net::{Open, RunFault};
+use thread_net::{Open, RunFault, Woven};
 use world::Event;
 
 /// The variable that tells a copy of this program to run nodes.
 const COPY: &str = "TOKENTREE_TEST_COPY";
 
+/// How often each of two nodes ticked.
+fn ticks(woven: &Woven) -> (usize, usize) {
+    let events = woven.events.as_slice();
+    (
+        count(Event::Tick { node: 0 }, events),
+        count(Event::Tick { node: 1 }, events),
+    )
+}
+
 /// What became of a run of two nodes: whether a thread was refused, and how often each ticked; none
 /// where memory was refused.
-fn told<R: Threads + Wait + Sync>(
+fn told(ended: &Result<Woven, RunFault>) -> Option<(bool, (usize, usize))> {
+    match ended {
+        Ok(woven) => Some((false, ticks(woven))),
+        Err(RunFault::Spawn(woven)) => Some((true, ticks(woven))),
+        Err(RunFault::Memory(_world)) => None,
+    }
+}
+
+/// What becomes of fifty turns of two nodes.
+fn fifty_turns<R: Threads + Wait + Sync>(
     rt: &R,
     alloc: Global,
-) -> Result<Option<(bool, usize, usize)>, Fail> {
+) -> Result<Option<(bool, (usize, usize))>, Fail> {
     let net = net_of(alloc, 2, &[(0, 1)])?;
-    let (refused, woven) = match ran(rt, alloc, start(alloc, &net)?, 50, &Open) {
-        Ok(woven) => (false, woven),
-        Err(RunFault::Spawn(woven)) => (true, woven),
-        Err(RunFault::Memory(_world)) => return Ok(None),
-    };
-    let events = woven.events.as_slice();
-    let first = count(Event::Tick { node: 0 }, events);
-    let second = count(Event::Tick { node: 1 }, events);
-    Ok(Some((refused, first, second)))
+    let world = start(alloc, &net)?;
+    Ok(lend(ran(rt, alloc, world, 50, &Open), |ended| told(ended)))
+}
+
+/// The same in words.
+fn in_words(told: Option<(bool, (usize, usize))>) -> &'static str {
+    match told {
+        Some((false, (50, 50))) => "both ran",
+        Some((true, (50 | 0, 0))) => "refused",
+        Some(_) => "other turns",
+        None => "no memory",
+    }
 }
 
 /// In a copy of this program, two nodes run 50 turns, and what became of it is printed. Where a
@@ -39,50 +61,55 @@ fn in_a_copy(rt: HostRuntime) -> Result<(), Fail> {
     if env::var(&rt, COPY).is_err() {
         return Ok(());
     }
-    let text = match told(&rt, rt.alloc())? {
-        Some((false, 50, 50)) => "both ran",
-        Some((true, 50 | 0, 0)) => "refused",
-        Some(_) => "other turns",
-        None => "no memory",
-    };
+    let text = in_words(fifty_turns(&rt, rt.alloc())?);
     println!(rt; "{text}")?;
     Ok(())
 }
 
-/// What a copy of this program writes that has as many kilobytes of addresses, 8,192 of them a
-/// thread's stack.
+/// The line by which a shell becomes its first word with as many kilobytes of addresses as the
+/// second tells, 8,192 of them a thread's stack.
+const LIMITED: &str = "ulimit -S -s 8192; ulimit -v $1; exec \"$0\" refused::in_a_copy";
+
+/// Tells a shell to become a copy of this program with as many kilobytes.
+fn add_words(command: &mut Command, program: Path, kilobytes: &str) -> Result<(), Fail> {
+    command.arg("-c")?.arg(LIMITED)?.arg(program)?;
+    command.arg(kilobytes)?.env(COPY, "1")?;
+    Ok(())
+}
+
+/// Whether a copy of this program that has as many kilobytes writes this first.
 fn copy_says<R: Processes + AllocGlobal>(
     rt: &R,
     program: Path,
-    kilobytes: u32,
-) -> Result<Vec<u8>, Fail> {
-    let line = format!(in rt.alloc();
-        "ulimit -S -s 8192; ulimit -v {kilobytes}; exec \"$0\" refused::in_a_copy"
-    )?;
+    kilobytes: &str,
+    text: &str,
+) -> Result<bool, Fail> {
     let mut command = Command::new(rt.alloc(), "sh")?;
-    command
-        .arg("-c")?
-        .arg(line.as_str())?
-        .arg(program)?
-        .env(COPY, "1")?;
-    Ok(command.output(rt)?.stdout)
+    add_words(&mut command, program, kilobytes)?;
+    let output = command.output(rt)?;
+    Ok(output.stdout.as_slice().starts_with(text.as_bytes()))
 }
 
-/// There is room for no stack, for one, and for both.
+/// Kilobytes with room for no stack, for one, and for both, and what a copy says.
+const ROWS: [(&str, &str); 3] = [
+    ("6000", "refused\n"),
+    ("12000", "refused\n"),
+    ("200000", "both ran\n"),
+];
+
+/// The place of the first row that is not so.
+fn first_unlike<R: Files + Processes + AllocGlobal>(rt: &R) -> Result<Option<usize>, Fail> {
+    let program = env::current_exe(rt)?;
+    for (at, (kilobytes, text)) in ROWS.iter().enumerate() {
+        if !copy_says(rt, program.as_path(), kilobytes, text)? {
+            return Ok(Some(at));
+        }
+    }
+    Ok(None)
+}
+
 #[test]
 fn a_refused_start_leaves_a_run(rt: HostRuntime) -> Result<(), Fail> {
-    let program = env::current_exe(&rt)?;
-    let rows = [
-        (6_000u32, "refused\n"),
-        (12_000, "refused\n"),
-        (200_000, "both ran\n"),
-    ];
-    for (kilobytes, text) in rows {
-        let found = copy_says(&rt, program.as_path(), kilobytes)?;
-        assert!(rt;
-            found.as_slice().starts_with(text.as_bytes()),
-            "at {kilobytes}"
-        );
-    }
+    assert_eq!(rt; first_unlike(&rt)?, None);
     Ok(())
 }

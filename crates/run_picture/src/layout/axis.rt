@@ -4,14 +4,12 @@ ghost use Rattle.std.specs.List.{flat_map};
 ghost use Rattle.run_picture.specs.Added.{Adds};
 ghost use Rattle.run_picture.specs.Axis.{AreFarApart, IsRoundStep, FirstFarApart};
 ghost use Rattle.run_picture.specs.Axis.{axis_numbers, number_at, number_shown, IsAxis};
-ghost use Rattle.run_picture.specs.Drawn.{drawn};
+ghost use Rattle.svg_drawing.specs.Drawn.{drawn};
 
-use super::canvas::{Anchor, Canvas, Point, Stroke};
-use super::colours::Colour;
 use super::page::Page;
-use super::px::Px;
 use super::words::numeral;
 use std::alloc::{AllocError, Global};
+use svg_drawing::{Anchor, Canvas, Colour, Point, Px, Stroke};
 
 /// The least distance of two numbers on the axis.
 const APART: u128 = 70;

@@ -4,16 +4,14 @@ ghost use Rattle.std.specs.Prelude.{length, map};
 ghost use Rattle.run_picture.specs.Curves.{most_nodes, node_height, count_in, curve_steps};
 ghost use Rattle.run_picture.specs.Curves.{step_in, first_count, curves_shown, levels_shown};
 ghost use Rattle.run_picture.specs.Curves.{level_shown, level_pen, name_shown, names_shown};
-ghost use Rattle.run_picture.specs.Drawn.{drawn, pen_of};
+ghost use Rattle.svg_drawing.specs.Drawn.{drawn, pen_of};
 
-use super::canvas::{Anchor, Canvas, Point, Stroke};
-use super::colours::Colour;
 use super::page::Page;
-use super::px::Px;
 use super::words::numeral;
-use crate::column::Column;
+use run_recording::Column;
 use std::alloc::{AllocError, Global};
 use std::fmt::Write;
+use svg_drawing::{Anchor, Canvas, Colour, Point, Px, Stroke};
 
 /// What a curve counts.
 #[derive(Clone, Copy)]

@@ -3,21 +3,17 @@ ghost use Rattle.std.specs.Prelude.{◌≡◌, ◌++◌, OnOk, IfOk, string_byte
 ghost use Rattle.std.specs.List.{flat_map};
 ghost use Rattle.std.specs.Option.{option_map};
 ghost use Rattle.run_picture.specs.Added.{Adds};
-ghost use Rattle.run_picture.specs.Drawn.{drawn};
+ghost use Rattle.svg_drawing.specs.Drawn.{drawn};
 ghost use Rattle.run_picture.specs.Lanes.{bar, width_of, all_bars_shown, bars_shown, lane_shown};
 ghost use Rattle.run_picture.specs.Lanes.{ticket_shown, AreLanes};
 ghost use Rattle.run_picture.specs.Words.{ticket_words};
 
-use super::canvas::{Anchor, Canvas, Point, Stroke};
-use super::colours::Colour;
 use super::page::Page;
-use super::px::Px;
-use super::runs::{Run, runs_of};
 use super::words::numeral;
-use crate::column::Column;
-use crate::mark::Mark;
+use run_recording::{Column, Mark, Run, runs_of};
 use std::alloc::{AllocError, Global};
 use std::fmt::Write;
+use svg_drawing::{Anchor, Canvas, Colour, Point, Px, Stroke};
 
 /// Draws the lane of each node; the nodes are those of the lanes from above.
 pub fn draw_lanes(

@@ -1,20 +1,18 @@
 //! What the colours and signs of a picture mean.
 ghost use Rattle.std.specs.Prelude.{◌≡◌, ◌+◌, ◌-◌, ◌∷◌, ◌++◌, [], IfOk, OnOk, string_bytes};
-ghost use Rattle.run_picture.specs.Drawn.{drawn, pen_of, line_shown, words_shown};
-ghost use Rattle.run_picture.specs.declared.layout.canvas.Anchor.TheVariants.{Start};
-ghost use Rattle.run_picture.specs.declared.layout.colours.Colour.TheVariants.{Ink};
+ghost use Rattle.svg_drawing.specs.Drawn.{drawn, pen_of, line_shown, words_shown};
+ghost use Rattle.svg_drawing.specs.declared.canvas.Anchor.TheVariants.{Start};
+ghost use Rattle.svg_drawing.specs.declared.colours.Colour.TheVariants.{Ink};
 ghost use Rattle.run_picture.specs.declared.layout.legend.Sign.TheVariants.{Bar, Bolt};
 ghost use Rattle.run_picture.specs.Legend.{sign_shown, room_of, behind, meanings_shown};
 ghost use Rattle.run_picture.specs.Legend.{colour_meanings, sign_meanings, legend_shown};
-ghost use Rattle.run_picture.specs.Page.{px};
+ghost use Rattle.svg_drawing.specs.Lengths.{px};
 ghost use Rattle.run_picture.specs.Words.{column_words};
 
-use super::canvas::{Anchor, Canvas, Point, Stroke};
-use super::colours::Colour;
 use super::page::Page;
-use super::px::Px;
 use super::ruler::BOLT;
 use std::alloc::{AllocError, Global};
+use svg_drawing::{Anchor, Canvas, Colour, Point, Px, Stroke};
 
 /// The baselines of the three lines of the legend.
 const COLOURS: Px = Px(68);

@@ -4,8 +4,7 @@ ghost use Rattle.run_picture.specs.Page.{column_width, lane_height, x_of, right_
 ghost use Rattle.run_picture.specs.Page.{y_of, top_of, ground_of, level_of};
 ghost use Rattle.run_picture.specs.Page.{page_width, page_height, page_of, indent_of, node_x};
 
-use super::canvas::Point;
-use super::px::Px;
+use svg_drawing::{Point, Px};
 use topology::Net;
 
 /// How wide the legend of the tree's edges and the nodes' names is.

@@ -2,20 +2,18 @@
 ghost use Rattle.std.specs.Prelude.{◌≡◌, if◌then◌else◌, [], ◌∷◌, ◌++◌, OnOk, IfOk};
 ghost use Rattle.std.specs.Prelude.{string_bytes, length, map};
 ghost use Rattle.run_picture.specs.Added.{Adds};
-ghost use Rattle.run_picture.specs.Drawn.{drawn};
+ghost use Rattle.svg_drawing.specs.Drawn.{drawn};
 ghost use Rattle.run_picture.specs.Ruler.{damage_over, tick_over, over_each, AreNumbers};
 ghost use Rattle.run_picture.specs.Ruler.{has_room, with_number, damage_shown, ticks_shown};
 ghost use Rattle.run_picture.specs.Ruler.{guarantee_shown, guarantees_over, lines_named};
 ghost use Rattle.run_picture.specs.Ruler.{sweeps_shown, IsRuler};
 
-use super::canvas::{Anchor, Canvas, Point, Stroke};
-use super::colours::Colour;
 use super::page::Page;
-use super::px::Px;
 use super::words::numeral;
-use crate::column::Column;
+use run_recording::Column;
 use std::alloc::{AllocError, Global};
 use std::fmt::Write;
+use svg_drawing::{Anchor, Canvas, Colour, Point, Px, Stroke};
 
 /// The least distance of two numbers of sweeps.
 const APART: u32 = 30;

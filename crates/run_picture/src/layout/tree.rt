@@ -2,19 +2,17 @@
 //! root.
 ghost use Rattle.std.specs.Prelude.{◌≡◌, ◌∷◌, ◌++◌, [], IfOk, OnOk, string_bytes};
 ghost use Rattle.std.specs.List.{flat_map};
-ghost use Rattle.run_picture.specs.Drawn.{drawn};
+ghost use Rattle.svg_drawing.specs.Drawn.{drawn};
 ghost use Rattle.run_picture.specs.Page.{y_of};
 ghost use Rattle.run_picture.specs.Tree.{lane_of, tree_x, corner_steps, bow_steps, bow_width};
 ghost use Rattle.run_picture.specs.Tree.{line_down, edge_shown, node_shown, nodes_shown};
 ghost use Rattle.run_picture.specs.Tree.{tree_shown};
 ghost use Rattle.run_picture.specs.Words.{node_name};
 
-use super::canvas::{Anchor, Canvas, Point, Stroke};
-use super::colours::Colour;
 use super::page::Page;
-use super::px::Px;
-use crate::tour::is_tree_edge;
+use run_recording::is_tree_edge;
 use std::alloc::{AllocError, Global};
+use svg_drawing::{Anchor, Canvas, Colour, Point, Px, Stroke};
 use topology::Net;
 
 /// A node in its lane.

@@ -4,21 +4,19 @@ ghost use Rattle.configuration.specs.ConfigurationView.{world_of};
 ghost use Rattle.run_model.specs.World.{World};
 ghost use Rattle.run_model.specs.declared.event.Event.{Event};
 ghost use Rattle.judge.specs.Judging.{counted_up_to};
-ghost use Rattle.run_picture.specs.Recordings.{IsRecorded};
+ghost use Rattle.run_recording.specs.Recordings.{IsRecorded};
 ghost use Rattle.run_picture.specs.Words.{title_words, size_words, limit_words, bound_words};
 ghost use Rattle.run_picture.specs.Words.{headline_words, event_words, node_words, sweep_words};
 ghost use Rattle.run_picture.specs.Words.{description_words, TellsOf};
-ghost use Rattle.run_picture.specs.Drawn.{drawn};
+ghost use Rattle.svg_drawing.specs.Drawn.{drawn};
 ghost use Rattle.run_picture.specs.Head.{head_shown, told_words};
 
-use super::canvas::{Anchor, Canvas, Point};
-use super::colours::Colour;
 use super::page::Page;
-use super::px::Px;
-use crate::recording::Recording;
 use configuration::Configuration;
+use run_recording::Recording;
 use std::alloc::{AllocError, Global};
 use std::fmt::Write;
+use svg_drawing::{Anchor, Canvas, Colour, Point, Px};
 use topology::Net;
 
 /// Draws what stands first: title and description, for who does not see the picture, the white

@@ -30,89 +30,118 @@ fn is_settled(world: &World, tree: &[(u16, Option<u16>)]) -> bool {
     settled
 }
 
-/// How many are privileged and how many lend after the start; then how many events, sweeps and
-/// refusals there are, and whether the nodes are settled.
-type Told = ((usize, usize), (usize, u64, u64, bool));
-
-/// What a run is told as.
-fn told_of(alloc: Global, run: &LongRun<'_>) -> Result<Told, Fail> {
-    let net = net_of(alloc, run.nodes, run.lease, run.edges)?;
-    Ok((counted_at_start(alloc, &net, run)?, ends(alloc, &net, run)?))
-}
-
-/// Holds that it ends so.
-fn holds(rt: &(impl Eprint + AllocGlobal + Abort), run: &LongRun<'_>) -> Result<(), Fail> {
-    let want = (run.at_start, (run.events, u64::from(run.rounds), 0, true));
-    assert_eq!(rt; told_of(rt.alloc(), run)?, want);
-    Ok(())
+/// How many are privileged and how many lend behind events.
+fn counted_behind(world: World, events: &[Event]) -> (usize, usize) {
+    let forged = judged(world, events).world;
+    (forged.privileged(), forged.lending())
 }
 
 /// How many are privileged and how many lend after the start of a run.
-fn counted_at_start(alloc: Global, net: &Net, run: &LongRun<'_>) -> Result<(usize, usize), Fail> {
-    let events = events_of(alloc, run.start)?;
-    let forged = judged(start(alloc, net)?, &events).world;
-    Ok((forged.privileged(), forged.lending()))
+fn counted_at_start(alloc: Global, net: &Net, text: &str) -> Result<(usize, usize), Fail> {
+    let events = events_of(alloc, text)?;
+    Ok(counted_behind(start(alloc, net)?, &events))
 }
 
-/// The events of a run, its rounds with them.
-fn all_events(alloc: Global, net: &Net, run: &LongRun<'_>) -> Result<Vec<Event>, Fail> {
-    let mut events = events_of(alloc, run.start)?;
-    let round = round_of(alloc, net)?;
-    for _ in 0..run.rounds {
-        push_events(&mut events, &round)?;
+/// The events of a start and of as many rounds.
+fn events_with_rounds(
+    alloc: Global,
+    text: &str,
+    round: &str,
+    rounds: u32,
+) -> Result<Vec<Event>, Fail> {
+    let mut events = events_of(alloc, text)?;
+    for _ in 0..rounds {
+        push_events(&mut events, round)?;
     }
     Ok(events)
 }
 
-/// How many events, sweeps and refusals a run has, and whether its nodes are settled then.
-fn ends(alloc: Global, net: &Net, run: &LongRun<'_>) -> Result<(usize, u64, u64, bool), Fail> {
-    let events = all_events(alloc, net, run)?;
-    let report = judged(start(alloc, net)?, &events);
-    let is_settled = is_settled(&report.world, run.tree);
-    Ok((events.len(), report.sweeps, report.refused, is_settled))
+/// The events of a run, its rounds with them.
+fn all_events(alloc: Global, net: &Net, run: &LongRun<'_>) -> Result<Vec<Event>, Fail> {
+    let round = round_of(alloc, net)?;
+    events_with_rounds(alloc, run.start, &round, run.rounds)
 }
+
+/// How many events, sweeps and refusals there are, and whether the nodes are settled then.
+type Ends = (usize, u64, u64, bool);
+
+/// What a world comes to.
+fn ends_of(world: World, events: &[Event], tree: &[(u16, Option<u16>)]) -> Ends {
+    let report = judged(world, events);
+    let is_settled = is_settled(&report.world, tree);
+    (events.len(), report.sweeps, report.refused, is_settled)
+}
+
+/// What a run comes to.
+fn ends(alloc: Global, net: &Net, run: &LongRun<'_>) -> Result<Ends, Fail> {
+    let events = all_events(alloc, net, run)?;
+    Ok(ends_of(start(alloc, net)?, &events, run.tree))
+}
+
+/// How many are privileged and how many lend after the start, and what a run comes to.
+fn told_of(alloc: Global, run: &LongRun<'_>) -> Result<((usize, usize), Ends), Fail> {
+    let net = net_of(alloc, run.nodes, run.lease, run.edges)?;
+    Ok((
+        counted_at_start(alloc, &net, run.start)?,
+        ends(alloc, &net, run)?,
+    ))
+}
+
+/// What a run is to be told as.
+fn wanted_of(run: &LongRun<'_>) -> ((usize, usize), Ends) {
+    (run.at_start, (run.events, u64::from(run.rounds), 0, true))
+}
+
+/// The square: node 3 lies opposite the root.
+const SQUARE: LongRun<'_> = LongRun {
+    nodes: 4,
+    lease: 0,
+    edges: &[(0, 1), (0, 2), (1, 3), (2, 3)],
+    start: "",
+    at_start: (0, 0),
+    rounds: 461,
+    events: 16_596,
+    tree: &[(0, None), (1, Some(0)), (1, Some(0)), (2, Some(1))],
+};
 
 #[test]
 fn the_far_corner_of_the_square_takes_the_smaller_parent(rt: HostRuntime) -> Result<(), Fail> {
-    let run = LongRun {
-        nodes: 4,
-        lease: 0,
-        edges: &[(0, 1), (0, 2), (1, 3), (2, 3)],
-        start: "",
-        at_start: (0, 0),
-        rounds: 461,
-        events: 16_596,
-        tree: &[(0, None), (1, Some(0)), (1, Some(0)), (2, Some(1))],
-    };
-    holds(&rt, &run)
+    assert_eq!(rt; told_of(rt.alloc(), &SQUARE)?, wanted_of(&SQUARE));
+    Ok(())
 }
+
+/// Three nodes in a line.
+const LINE: LongRun<'_> = LongRun {
+    nodes: 3,
+    lease: 0,
+    edges: &[(0, 1), (1, 2)],
+    start: "",
+    at_start: (0, 0),
+    rounds: 217,
+    events: 4_123,
+    tree: &[(0, None), (1, Some(0)), (2, Some(1))],
+};
 
 #[test]
 fn three_nodes_in_a_line_settle(rt: HostRuntime) -> Result<(), Fail> {
-    let run = LongRun {
-        nodes: 3,
-        lease: 0,
-        edges: &[(0, 1), (1, 2)],
-        start: "",
-        at_start: (0, 0),
-        rounds: 217,
-        events: 4_123,
-        tree: &[(0, None), (1, Some(0)), (2, Some(1))],
-    };
-    holds(&rt, &run)
+    assert_eq!(rt; told_of(rt.alloc(), &LINE)?, wanted_of(&LINE));
+    Ok(())
 }
+
+/// Two nodes that hold a forged token each, and lend it.
+const TWO_FORGED: LongRun<'_> = LongRun {
+    nodes: 2,
+    lease: 1,
+    edges: &[(0, 1)],
+    start: FORGED,
+    at_start: (2, 2),
+    rounds: 69,
+    events: 698,
+    tree: &[(0, None), (1, Some(0))],
+};
 
 #[test]
 fn forged_tokens_and_loans_are_gone(rt: HostRuntime) -> Result<(), Fail> {
-    let run = LongRun {
-        nodes: 2,
-        lease: 1,
-        edges: &[(0, 1)],
-        start: FORGED,
-        at_start: (2, 2),
-        rounds: 69,
-        events: 698,
-        tree: &[(0, None), (1, Some(0))],
-    };
-    holds(&rt, &run)
+    assert_eq!(rt; told_of(rt.alloc(), &TWO_FORGED)?, wanted_of(&TWO_FORGED));
+    Ok(())
 }

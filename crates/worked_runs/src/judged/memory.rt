@@ -19,70 +19,56 @@ harm frame 0 1 4 3 0 none 6
 harm empty 0 1
 ";
 
-/// Whether a judge accepts each of these events.
-fn all_happen<A: Allocator + Copy>(judge: &mut Judge<A>, events: &[Event]) -> bool {
-    let mut accepted = true;
-    for event in events {
-        accepted &= looked(judge, event).is_some();
-    }
-    accepted
-}
-
-/// How many nodes of a world are privileged and how many lend behind events; none where one of them
-/// is refused.
-fn counted_behind<A: Allocator + Copy>(
-    world: &mut World<A>,
-    events: &[Event],
-) -> Option<(usize, usize)> {
-    if happen(world, events) {
-        Some((world.privileged(), world.lending()))
-    } else {
-        None
-    }
-}
-
 /// Whether forged tokens lend at both nodes of a world, also behind a round, and each other kind of
 /// event happens then.
-fn takes_each_kind<A: Allocator + Copy>(
-    world: &mut World<A>,
-    forged: &[Event],
-    others: &[Event],
-) -> bool {
-    counted_behind(world, forged) == Some((2, 2)) && happen(world, others)
+fn takes_each_kind<A: Allocator + Copy>(world: &mut World<A>) -> bool {
+    happen(world, FORGED)
+        && happen(world, ROUND)
+        && (world.privileged(), world.lending()) == (2, 2)
+        && happen(world, OTHERS)
 }
 
 /// Whether that is so of a world on a heap, and how much the heap had left.
 fn takes_each_kind_on_full(alloc: Global, heap: &LocalHeap) -> Result<(bool, usize), Fail> {
-    let mut forged = events_of(alloc, FORGED)?;
-    push_events(&mut forged, ROUND)?;
-    let others = events_of(alloc, OTHERS)?;
     let mut world = world_of_two(alloc, heap)?;
-    on_full(
-        alloc,
-        heap,
-        || takes_each_kind(&mut world, &forged, &others),
-    )
+    on_full(alloc, heap, || takes_each_kind(&mut world))
+}
+
+/// The same of a heap of its own.
+fn takes_each_kind_without_memory(alloc: Global) -> Result<(bool, usize), Fail> {
+    let heap = LocalHeap::new(alloc, 16384)?;
+    takes_each_kind_on_full(alloc, &heap)
 }
 
 #[test]
 fn a_world_takes_no_memory(rt: HostRuntime) -> Result<(), Fail> {
-    let heap = LocalHeap::new(rt.alloc(), 16384)?;
-    assert_eq!(rt; takes_each_kind_on_full(rt.alloc(), &heap)?, (true, 0));
+    assert_eq!(rt; takes_each_kind_without_memory(rt.alloc())?, (true, 0));
     Ok(())
+}
+
+/// What happens behind a round, of which the last is followed by one loan.
+const LENDING: [&str; 3] = ["ask 0 5", "tick 0", "harm junk 0 1"];
+
+/// Whether a judge accepts each of these events.
+fn all_happen<A: Allocator + Copy>(judge: &mut Judge<A>) -> bool {
+    let mut accepted = true;
+    for line in LENDING {
+        accepted &= looked(judge, line).is_some();
+    }
+    accepted
+}
+
+/// Whether they happen to a world, and are followed by one loan.
+fn lends_one<A: Allocator + Copy>(world: World<A>) -> bool {
+    let mut judge = Judge::new(world);
+    all_happen(&mut judge) && judge.into_world().lending() == 1
 }
 
 /// Whether a round of a world is judged to be one sweep, nothing of it is refused, and then these
 /// events happen, of which the last is followed by one loan.
-fn is_judged_right<A: Allocator + Copy>(
-    world: World<A>,
-    round: &[Event],
-    events: &[Event],
-) -> bool {
+fn is_judged_right<A: Allocator + Copy>(world: World<A>, round: &[Event]) -> bool {
     let report = judged(world, round);
-    let counted = (report.sweeps, report.refused);
-    let mut judge = Judge::new(report.world);
-    let happened = all_happen(&mut judge, events);
-    happened && counted == (1, 0) && judge.into_world().lending() == 1
+    (report.sweeps, report.refused) == (1, 0) && lends_one(report.world)
 }
 
 /// Whether that is so of a world on a heap, and how much the heap had left; none where the heap
@@ -91,13 +77,12 @@ fn judged_on_full(
     alloc: Global,
     heap: &LocalHeap,
     net: &Net,
-    events: (&[Event], &[Event]),
+    round: &[Event],
 ) -> Result<Option<(bool, usize)>, Fail> {
     let Ok(world) = start(heap, net) else {
         return Ok(None);
     };
-    let (round, then) = events;
-    let found = on_full(alloc, heap, || is_judged_right(world, round, then))?;
+    let found = on_full(alloc, heap, || is_judged_right(world, round))?;
     Ok(Some(found))
 }
 
@@ -106,22 +91,23 @@ fn judged_within(
     alloc: Global,
     bytes: usize,
     net: &Net,
-    events: (&[Event], &[Event]),
+    round: &[Event],
 ) -> Result<(Option<(bool, usize)>, usize), Fail> {
     let heap = LocalHeap::new(alloc, bytes)?;
-    let found = judged_on_full(alloc, &heap, net, events)?;
+    let found = judged_on_full(alloc, &heap, net, round)?;
     Ok((found, heap.used()))
 }
 
-/// In units of 16 bytes, the size of the least heap that does not refuse a world, and what is found
-/// there; none where each heap refuses it, or one that does keeps something.
-fn least_heap(alloc: Global) -> Result<Option<(usize, (bool, usize), usize)>, Fail> {
-    let net = net_of(alloc, 2, 0, &[(0, 1)])?;
-    let round = events_of(alloc, ROUND)?;
-    let events = events_of(alloc, "ask 0 5\ntick 0\nharm junk 0 1\n")?;
+/// Whether the least heap that does not refuse a world has more than 40 units of 16 bytes, what is
+/// found there, and how much of it stays taken.
+type LeastHeap = (bool, (bool, usize), usize);
+
+/// What is found on the least heap that does not refuse a world; none where each heap refuses it,
+/// or one that does keeps something.
+fn least_heap(alloc: Global, net: &Net, round: &[Event]) -> Result<Option<LeastHeap>, Fail> {
     for units in 1..400usize {
-        match judged_within(alloc, units * 16, &net, (&round, &events))? {
-            (Some(found), used) => return Ok(Some((units, found, used))),
+        match judged_within(alloc, units * 16, net, round)? {
+            (Some(found), used) => return Ok(Some((units > 40, found, used))),
             (None, 0) => {}
             (None, _) => return Ok(None),
         }
@@ -129,12 +115,25 @@ fn least_heap(alloc: Global) -> Result<Option<(usize, (bool, usize), usize)>, Fa
     Ok(None)
 }
 
+/// The same of two nodes.
+fn least_heap_of_two(alloc: Global, round: &[Event]) -> Result<Option<LeastHeap>, Fail> {
+    let net = net_of(alloc, 2, 0, &[(0, 1)])?;
+    least_heap(alloc, &net, round)
+}
+
+/// The same of their round.
+fn least_heap_of_round(alloc: Global) -> Result<Option<LeastHeap>, Fail> {
+    let round = events_of(alloc, ROUND)?;
+    least_heap_of_two(alloc, &round)
+}
+
 #[test]
 fn each_growth_of_a_world_may_be_refused_and_judging_takes_none(
     rt: HostRuntime,
 ) -> Result<(), Fail> {
-    let found = least_heap(rt.alloc())?;
-    let found = found.map(|(units, found, used)| (units > 40, found, used));
-    assert_eq!(rt; found, Some((true, (true, 0), 0)));
+    assert_eq!(rt;
+        least_heap_of_round(rt.alloc())?,
+        Some((true, (true, 0), 0))
+    );
     Ok(())
 }

@@ -196,25 +196,50 @@ fn first_difference(
     (None, plain.sweeps)
 }
 
-/// What the judge and the plain count of a network come to behind `count` events of its rounds: the
-/// number of events, the first one behind which they differ, and the sweeps.
-fn compared(alloc: Global, net: &Net, count: usize) -> Result<(usize, Option<usize>, u64), Fail> {
+/// The first `count` events of the rounds of a network, of which every third take is left out.
+fn events_with_gaps(alloc: Global, net: &Net, count: usize) -> Result<Vec<Event>, Fail> {
     let round = round_of(alloc, net)?;
-    let events = rounds_with_gaps(alloc, &round, count)?;
-    let mut judge = Judge::new(start(alloc, net)?);
-    let mut plain = Plain::new(net.edges());
-    let (difference, sweeps) = first_difference(&mut judge, &mut plain, &events);
-    Ok((events.len(), difference, sweeps))
+    rounds_with_gaps(alloc, &round, count)
 }
+
+/// What the judge and the plain count of a world come to: the number of events, the first one
+/// behind which they differ, and the sweeps.
+fn compared(world: World, events: &[Event]) -> (usize, Option<usize>, u64) {
+    let mut plain = Plain::new(world.net().edges());
+    let mut judge = Judge::new(world);
+    let (difference, sweeps) = first_difference(&mut judge, &mut plain, events);
+    (events.len(), difference, sweeps)
+}
+
+/// The same of a network, behind `count` events of its rounds.
+fn compared_on(
+    alloc: Global,
+    net: &Net,
+    count: usize,
+) -> Result<(usize, Option<usize>, u64), Fail> {
+    let events = events_with_gaps(alloc, net, count)?;
+    Ok(compared(start(alloc, net)?, &events))
+}
+
+/// The same of the square, with whether there are at least so many sweeps.
+fn compared_on_square(
+    alloc: Global,
+    count: usize,
+    least: u64,
+) -> Result<(usize, Option<usize>, bool), Fail> {
+    let net = net_of(alloc, 4, 0, &[(0, 1), (0, 2), (1, 3), (2, 3)])?;
+    let (events, difference, sweeps) = compared_on(alloc, &net, count)?;
+    Ok((events, difference, sweeps >= least))
+}
+
+/// Each link takes at least once a round, right behind a send, and at most one of its items is old:
+/// so of two whole rounds each renews it. A stretch has at most one round more, in parts, and no
+/// round has more than 36 events.
+const LEAST_SWEEPS: u64 = 10_000 / (3 * 36);
 
 #[test]
 fn ten_thousand_events_with_every_third_take_left_out(rt: HostRuntime) -> Result<(), Fail> {
-    let net = net_of(rt.alloc(), 4, 0, &[(0, 1), (0, 2), (1, 3), (2, 3)])?;
-    let (count, difference, sweeps) = compared(rt.alloc(), &net, 10_000)?;
-    assert_eq!(rt; (count, difference), (10_000, None));
-    // Each link takes at least once a round, right behind a send, and at most one of its items is
-    // old: so of two whole rounds each renews it. A stretch has at most one round more, in parts,
-    // and no round has more than 36 events.
-    assert!(rt; sweeps >= 10_000 / (3 * 36));
+    let found = compared_on_square(rt.alloc(), 10_000, LEAST_SWEEPS)?;
+    assert_eq!(rt; found, (10_000, None, true));
     Ok(())
 }

@@ -23,60 +23,61 @@ struct Stage<'a> {
 
 /// What a stage's events lead to: how many are privileged and how many lend, and the far node; none
 /// where one of them is refused.
-fn led_to(alloc: Global, world: &mut World, events: &str) -> Result<Option<Outcome>, Fail> {
-    let events = events_of(alloc, events)?;
-    Ok(if happen(world, &events) {
+fn led_to(world: &mut World, events: &str) -> Option<Outcome> {
+    if happen(world, events) {
         Some((counted(world), far(world)))
     } else {
         None
-    })
+    }
 }
 
 /// The place of the first stage through which a world does not come so, if there is one.
-fn first_unlike_stage(
-    alloc: Global,
-    world: &mut World,
-    stages: &[Stage<'_>],
-) -> Result<Option<usize>, Fail> {
+fn first_unlike_stage(world: &mut World, stages: &[Stage<'_>]) -> Option<usize> {
     for (at, stage) in stages.iter().enumerate() {
-        let want = Some((stage.counted, Some(stage.far)));
-        if led_to(alloc, world, stage.events)? != want {
-            return Ok(Some(at));
+        if led_to(world, stage.events) != Some((stage.counted, Some(stage.far))) {
+            return Some(at);
         }
     }
-    Ok(None)
+    None
+}
+
+/// Three rounds, and a ticket that asks behind them.
+const STAGES: [Stage<'_>; 5] = [
+    Stage {
+        events: "",
+        counted: (0, 0),
+        far: (2, None, false),
+    },
+    Stage {
+        events: ROUND,
+        counted: (1, 0),
+        far: (2, Some(0), false),
+    },
+    Stage {
+        events: ROUND,
+        counted: (0, 0),
+        far: (2, Some(0), false),
+    },
+    Stage {
+        events: ROUND,
+        counted: (1, 0),
+        far: (1, Some(0), true),
+    },
+    Stage {
+        events: "ask 1 7\ntick 1\n",
+        counted: (1, 1),
+        far: (1, Some(0), true),
+    },
+];
+
+/// The place of the first stage through which two nodes do not come so, if there is one.
+fn first_unlike_of_two(alloc: Global) -> Result<Option<usize>, Fail> {
+    let mut world = world_of_two(alloc, alloc)?;
+    Ok(first_unlike_stage(&mut world, &STAGES))
 }
 
 #[test]
 fn the_token_goes_to_the_other_node_in_three_rounds(rt: HostRuntime) -> Result<(), Fail> {
-    let stages = [
-        Stage {
-            events: "",
-            counted: (0, 0),
-            far: (2, None, false),
-        },
-        Stage {
-            events: ROUND,
-            counted: (1, 0),
-            far: (2, Some(0), false),
-        },
-        Stage {
-            events: ROUND,
-            counted: (0, 0),
-            far: (2, Some(0), false),
-        },
-        Stage {
-            events: ROUND,
-            counted: (1, 0),
-            far: (1, Some(0), true),
-        },
-        Stage {
-            events: "ask 1 7\ntick 1\n",
-            counted: (1, 1),
-            far: (1, Some(0), true),
-        },
-    ];
-    let mut world = world_of_two(rt.alloc(), rt.alloc())?;
-    assert_eq!(rt; first_unlike_stage(rt.alloc(), &mut world, &stages)?, None);
+    assert_eq!(rt; first_unlike_of_two(rt.alloc())?, None);
     Ok(())
 }

@@ -6,7 +6,9 @@ use crate::worlds::{self, simulated_start};
 use run_model::EventFault;
 
 /// A square: node 3 lies opposite the root.
-const SQUARE: &[(i64, i64)] = &[(0, 1), (0, 2), (1, 3), (2, 3)];
+fn square(alloc: Global) -> Result<Net, Fail> {
+    Ok(net_of(alloc, 4, 0, &[(0, 1), (0, 2), (1, 3), (2, 3)])?)
+}
 
 /// The edge between 1 and 3 goes; then neither it goes again, nor the last edge of node 3, nor does
 /// an edge join a node to itself, or where one stands, or with no node.
@@ -19,13 +21,8 @@ harm join 0 1
 harm join 0 4
 ";
 
-/// What that text leads to.
+/// What stands on the square behind that.
 const PARTED: &str = "\
-line 2: NoLink
-line 3: Apart
-line 4: OutOfRange
-line 5: OutOfRange
-line 6: NoNode
 node 0 distance 4 parent none token no lent none waiting 0
 node 1 distance 4 parent none token no lent none waiting 0
 node 2 distance 4 parent none token no lent none waiting 0
@@ -58,64 +55,102 @@ privileged 0 lending 0
 sweeps 0 of 461
 ";
 
-#[test]
-fn what_is_shown_are_the_links_that_stand(rt: HostRuntime) -> Result<(), Fail> {
-    let net = net_of(rt.alloc(), 4, 0, SQUARE)?;
-    let rows = [
-        (REFUSED, PARTED),
-        ("send 1 3\nsend 2 3\nharm part 3 1\nharm join 3 1\n", BACK),
-    ];
-    for (text, want) in rows {
-        for piece in PIECES {
-            let (_, is_shown) = simulated_as(rt.alloc(), &net, text, piece, want)?;
-            assert!(rt; is_shown, "of {text:?} in pieces of {piece}");
+/// Texts for the square, where edges go and one comes back.
+const ON_THE_SQUARE: [Row<'_>; 2] = [
+    Row {
+        lease: 0,
+        text: &[(REFUSED, 1)],
+        refusals: "\
+line 2: NoLink
+line 3: Apart
+line 4: OutOfRange
+line 5: OutOfRange
+line 6: NoNode
+",
+        state: PARTED,
+        sweeps: 0,
+    },
+    Row {
+        lease: 0,
+        text: &[("send 1 3\nsend 2 3\nharm part 3 1\nharm join 3 1\n", 1)],
+        refusals: "",
+        state: BACK,
+        sweeps: 0,
+    },
+];
+
+/// The place of the first row whose text does not lead to its output on the square, and the size of
+/// pieces, if there is one.
+fn first_wrong_on_square(alloc: Global, rows: &[Row<'_>]) -> Result<Option<(usize, usize)>, Fail> {
+    let net = square(alloc)?;
+    for (at, row) in rows.iter().enumerate() {
+        if let Some(piece) = row_fails_on(alloc, &net, row)? {
+            return Ok(Some((at, piece)));
         }
     }
+    Ok(None)
+}
+
+#[test]
+fn what_is_shown_are_the_links_that_stand(rt: HostRuntime) -> Result<(), Fail> {
+    assert_eq!(rt; first_wrong_on_square(rt.alloc(), &ON_THE_SQUARE)?, None);
     Ok(())
+}
+
+/// One round of the square without an edge.
+fn round_of_three_edges(alloc: Global) -> Result<String, Fail> {
+    let left = net_of(alloc, 4, 0, &[(0, 1), (0, 2), (2, 3)])?;
+    Ok(round_of(alloc, &left)?)
 }
 
 /// A text by which an edge of the square goes, and then as many rounds as are sweeps of the bound.
 fn parted_for_long(alloc: Global) -> Result<String, Fail> {
-    let left = net_of(alloc, 4, 0, &[(0, 1), (0, 2), (2, 3)])?;
-    let round = round_of(alloc, &left)?;
+    let round = round_of_three_edges(alloc)?;
     Ok(joined(alloc, &[("harm part 1 3\n", 1), (&round, 461)])?)
 }
 
-/// What that text leads to.
-fn simulated_for_long(alloc: Global) -> Result<(String, Summary), Fail> {
-    let net = net_of(alloc, 4, 0, SQUARE)?;
+/// How the lines begin of what that text leads to.
+const OTHER_PARENT: [&str; 4] = [
+    "node 0 distance 0 parent none ",
+    "node 1 distance 1 parent 0 ",
+    "node 2 distance 1 parent 0 ",
+    "node 3 distance 2 parent 2 ",
+];
+
+/// Whether an output is what that text leads to.
+fn is_parted_for_long(output: &str) -> bool {
+    lines_begin(output, &OTHER_PARENT) && output.ends_with("\nsweeps 461 of 461\n")
+}
+
+/// What a text is told as on the square, and whether its output is so.
+fn on_the_square(alloc: Global, text: &str) -> Result<(Summary, bool), Fail> {
+    let net = square(alloc)?;
+    simulated(alloc, &net, text, 4096, is_parted_for_long)
+}
+
+/// The same of the text by which an edge goes.
+fn simulated_for_long(alloc: Global) -> Result<(Summary, bool), Fail> {
     let text = parted_for_long(alloc)?;
-    simulated(alloc, &net, &text, 4096)
+    on_the_square(alloc, &text)
 }
 
 #[test]
 fn the_far_corner_of_the_square_finds_its_other_parent(rt: HostRuntime) -> Result<(), Fail> {
-    let (output, summary) = simulated_for_long(rt.alloc())?;
-    let beginnings = [
-        "node 0 distance 0 parent none ",
-        "node 1 distance 1 parent 0 ",
-        "node 2 distance 1 parent 0 ",
-        "node 3 distance 2 parent 2 ",
-    ];
-    assert!(rt; lines_begin(&output, &beginnings), "{output}");
-    assert!(rt; output.ends_with("\nsweeps 461 of 461\n"), "{output}");
-    assert_eq!(rt;
-        summary,
-        Summary {
-            refused: 0,
-            sweeps: 461
-        }
-    );
+    let want = Summary {
+        refused: 0,
+        sweeps: 461,
+    };
+    assert_eq!(rt; simulated_for_long(rt.alloc())?, (want, true));
     Ok(())
 }
 
 /// A star of 64 nodes round the root.
 fn star(alloc: Global) -> Result<Net, Fail> {
-    let mut edges = Vec::new(alloc);
-    for leaf in 1..64 {
-        edges.push((0, leaf))?;
+    let mut edges = [(0, 0); 63];
+    for (edge, leaf) in edges.iter_mut().zip(1..64) {
+        *edge = (0, leaf);
     }
-    Ok(net_of(alloc, 64, 0, edges.as_slice())?)
+    Ok(net_of(alloc, 64, 0, &edges)?)
 }
 
 /// What happens on the star, and what is answered: eight edges join it, which are as many as there
@@ -143,11 +178,16 @@ fn star_world(alloc: Global) -> Result<World, Fail> {
     Ok(simulated_start(alloc, &net)?)
 }
 
+/// The place of the first line that the star does not answer so, if there is one, and how many
+/// edges it has then.
+fn on_the_star(alloc: Global) -> Result<(Option<usize>, usize), Fail> {
+    let mut world = star_world(alloc)?;
+    let unlike = worlds::first_unlike(&mut world, &ON_THE_STAR);
+    Ok((unlike, world.net().edges().len()))
+}
+
 #[test]
 fn an_edge_that_goes_leaves_its_links_to_the_next(rt: HostRuntime) -> Result<(), Fail> {
-    let mut world = star_world(rt.alloc())?;
-    let unlike = worlds::first_unlike(&mut world, &ON_THE_STAR);
-    let found = (unlike, world.net().edges().len());
-    assert_eq!(rt; found, (None, 71));
+    assert_eq!(rt; on_the_star(rt.alloc())?, (None, 71));
     Ok(())
 }

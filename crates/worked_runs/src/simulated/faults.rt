@@ -62,6 +62,14 @@ struct Outcome {
     is_written: bool,
 }
 
+impl Outcome {
+    /// Whether it is as it is to be, where a call that fails is told as `fault`.
+    fn is_right(&self, fault: SimFault) -> bool {
+        let want = if self.has_failed { Err(fault) } else { Ok(ALL) };
+        self.is_written && self.answer == want
+    }
+}
+
 /// Whether these are the refusal lines of the lines that end within the first `bytes` bytes.
 fn are_refusals(alloc: Global, taken: &[u8], bytes: usize) -> Result<bool, AllocError> {
     Ok(taken == refusals_within(alloc, bytes)?.as_bytes())
@@ -112,44 +120,67 @@ fn with_a_failing_write(
     })
 }
 
+/// Behind how many calls a simulation with a failing read does not come out right, or does not fail
+/// just as long as there are reads, if there is such a number.
+fn first_wrong_read(alloc: Global, net: &Net, piece: usize) -> Result<Option<u64>, AllocError> {
+    // As many reads as there are pieces, and one that finds the end.
+    let reads = LINES.len().div_ceil(piece.max(1)) as u64 + 1;
+    for calls in 0..=reads {
+        let outcome = with_a_failing_read(alloc, net, piece, calls)?;
+        if !outcome.is_right(SimFault::Read) || outcome.has_failed != (calls < reads) {
+            return Ok(Some(calls));
+        }
+    }
+    Ok(None)
+}
+
+/// The same of a failing write, of which there is at least one, and behind as many calls as there
+/// are writes none.
+fn first_wrong_write(alloc: Global, net: &Net, piece: usize) -> Result<Option<u64>, AllocError> {
+    for calls in 0..1000u64 {
+        let outcome = with_a_failing_write(alloc, net, piece, calls)?;
+        if !outcome.is_right(SimFault::Write) || (calls == 0 && !outcome.has_failed) {
+            return Ok(Some(calls));
+        }
+        if !outcome.has_failed {
+            return Ok(None);
+        }
+    }
+    Ok(Some(1000))
+}
+
+/// The first size of pieces for which there is such a number of calls before a failing read, and
+/// that number.
+fn first_wrong_read_of_all(alloc: Global) -> Result<Option<(usize, u64)>, Fail> {
+    let net = two_nodes(alloc, 0)?;
+    for piece in PIECES {
+        if let Some(calls) = first_wrong_read(alloc, &net, piece)? {
+            return Ok(Some((piece, calls)));
+        }
+    }
+    Ok(None)
+}
+
+/// The same of a failing write.
+fn first_wrong_write_of_all(alloc: Global) -> Result<Option<(usize, u64)>, Fail> {
+    let net = two_nodes(alloc, 0)?;
+    for piece in PIECES {
+        if let Some(calls) = first_wrong_write(alloc, &net, piece)? {
+            return Ok(Some((piece, calls)));
+        }
+    }
+    Ok(None)
+}
+
 #[test]
 fn a_read_that_fails_leaves_the_refusals_of_whole_lines(rt: HostRuntime) -> Result<(), Fail> {
-    let net = two_nodes(rt.alloc(), 0)?;
-    for piece in PIECES {
-        let mut failed = 0u64;
-        for calls in 0..100u64 {
-            let outcome = with_a_failing_read(rt.alloc(), &net, piece, calls)?;
-            assert!(rt; outcome.is_written, "call {calls}, pieces of {piece}");
-            if !outcome.has_failed {
-                assert_eq!(rt; outcome.answer, Ok(ALL));
-                break;
-            }
-            failed = failed.saturating_add(1);
-            assert_eq!(rt; outcome.answer, Err(SimFault::Read));
-        }
-        // As many reads as there are pieces, and one that finds the end.
-        assert_eq!(rt; failed, LINES.len().div_ceil(piece) as u64 + 1);
-    }
+    assert_eq!(rt; first_wrong_read_of_all(rt.alloc())?, None);
     Ok(())
 }
 
 #[test]
 fn a_write_that_fails_leaves_a_beginning(rt: HostRuntime) -> Result<(), Fail> {
-    let net = two_nodes(rt.alloc(), 0)?;
-    for piece in PIECES {
-        let mut failed = 0u64;
-        for calls in 0..1000u64 {
-            let outcome = with_a_failing_write(rt.alloc(), &net, piece, calls)?;
-            assert!(rt; outcome.is_written, "call {calls}, pieces of {piece}");
-            if !outcome.has_failed {
-                assert_eq!(rt; outcome.answer, Ok(ALL));
-                break;
-            }
-            failed = failed.saturating_add(1);
-            assert_eq!(rt; outcome.answer, Err(SimFault::Write));
-        }
-        assert!(rt; failed > 0);
-    }
+    assert_eq!(rt; first_wrong_write_of_all(rt.alloc())?, None);
     Ok(())
 }
 
@@ -166,18 +197,30 @@ fn with_room(
     Ok((answer, is_filled))
 }
 
+/// What is to come of it.
+fn wanted_with_room(room: usize) -> (Result<Summary, SimFault>, bool) {
+    let answer = if room < OUTPUT.len() {
+        Err(SimFault::Write)
+    } else {
+        Ok(ALL)
+    };
+    (answer, true)
+}
+
+/// The first number of bytes of a sink for which that does not come of it, if there is one.
+fn first_wrong_room(alloc: Global) -> Result<Option<usize>, Fail> {
+    let net = two_nodes(alloc, 0)?;
+    for room in 0..=OUTPUT.len() {
+        if with_room(alloc, &net, room)? != wanted_with_room(room) {
+            return Ok(Some(room));
+        }
+    }
+    Ok(None)
+}
+
 #[test]
 fn a_sink_with_too_little_room_is_filled(rt: HostRuntime) -> Result<(), Fail> {
-    let net = two_nodes(rt.alloc(), 0)?;
-    for room in 0..=OUTPUT.len() {
-        let want = if room < OUTPUT.len() {
-            Err(SimFault::Write)
-        } else {
-            Ok(ALL)
-        };
-        let found = with_room(rt.alloc(), &net, room)?;
-        assert_eq!(rt; found, (want, true), "with room for {room} bytes");
-    }
+    assert_eq!(rt; first_wrong_room(rt.alloc())?, None);
     Ok(())
 }
 
@@ -194,23 +237,52 @@ fn on_a_heap(
     Ok((answer, heap.used()))
 }
 
+/// In units of 16 bytes, the size of the first heap that does not refuse a simulation, or keeps
+/// something, or on which something is written while it does; what is answered there, and how much
+/// of it stays taken.
+fn first_heap(
+    alloc: Global,
+    net: &Net,
+    source: &mut MemorySource<'_>,
+    sink: &mut MemorySink,
+) -> Result<Option<(usize, Result<Summary, SimFault>, usize)>, AllocError> {
+    for units in 1..1000usize {
+        let (answer, used) = on_a_heap(alloc, net, units * 16, source, sink)?;
+        if answer != Err(SimFault::Memory) || used > 0 || !sink.taken().is_empty() {
+            return Ok(Some((units, answer, used)));
+        }
+    }
+    Ok(None)
+}
+
+/// Whether the first heap that does not refuse a simulation has more than ten units; what is
+/// answered there, how much of it stays taken, and whether the output is written.
+type LeastHeap = (bool, Result<Summary, SimFault>, usize, bool);
+
+/// What is found there; none where each heap refuses.
+fn least_heap(alloc: Global, net: &Net) -> Result<Option<LeastHeap>, AllocError> {
+    let mut source = MemorySource::new(LINES.as_bytes(), 7);
+    let mut sink = MemorySink::new(alloc, ROOM)?;
+    let Some((units, answer, used)) = first_heap(alloc, net, &mut source, &mut sink)? else {
+        return Ok(None);
+    };
+    let is_written = sink.taken() == OUTPUT.as_bytes();
+    Ok(Some((units > 10, answer, used, is_written)))
+}
+
+/// The same of two nodes.
+fn least_heap_of_two(alloc: Global) -> Result<Option<LeastHeap>, Fail> {
+    let net = two_nodes(alloc, 0)?;
+    Ok(least_heap(alloc, &net)?)
+}
+
 #[test]
 fn refused_memory_leaves_all_unread_and_unwritten(rt: HostRuntime) -> Result<(), Fail> {
-    let net = two_nodes(rt.alloc(), 0)?;
-    let mut source = MemorySource::new(LINES.as_bytes(), 7);
-    let mut sink = MemorySink::new(rt.alloc(), ROOM)?;
-    for units in 1..1000usize {
-        let (answer, used) = on_a_heap(rt.alloc(), &net, units * 16, &mut source, &mut sink)?;
-        assert_eq!(rt; used, 0);
-        if answer != Err(SimFault::Memory) {
-            // The same as with all memory there is; the source still had all its bytes, and the
-            // sink all its room.
-            assert!(rt; answer == Ok(ALL) && sink.taken() == OUTPUT.as_bytes() && units > 10);
-            return Ok(());
-        }
-        assert!(rt; sink.taken().is_empty());
-    }
-    panic!(rt; "always refused")
+    // The same as with all memory there is; the source still had all its bytes, and the sink all
+    // its room.
+    let want = Some((true, Ok(ALL), 0, true));
+    assert_eq!(rt; least_heap_of_two(rt.alloc())?, want);
+    Ok(())
 }
 
 /// A line that is refused, and then a comment up to that length.
@@ -257,17 +329,15 @@ fn with_long_text(
     Ok((answer, sink.taken() == want.as_bytes()))
 }
 
-#[test]
-fn a_text_may_have_a_gibibyte_and_no_more(rt: HostRuntime) -> Result<(), Fail> {
-    let net = two_nodes(rt.alloc(), 0)?;
-    for (more, want, output) in [
-        (
-            0,
-            Ok(Summary {
-                refused: 1,
-                sweeps: 0,
-            }),
-            "\
+/// By how many bytes a text is longer than a gibibyte, what is answered, and what is written.
+const LENGTHS: [(usize, Result<Summary, SimFault>, &str); 2] = [
+    (
+        0,
+        Ok(Summary {
+            refused: 1,
+            sweeps: 0,
+        }),
+        "\
 line 1: Unread
 node 0 distance 2 parent none token no lent none waiting 0
 node 1 distance 2 parent none token no lent none waiting 0
@@ -276,11 +346,23 @@ link 1 0 items 0
 privileged 0 lending 0
 sweeps 0 of 69
 ",
-        ),
-        (1, Err(SimFault::Long), "line 1: Unread\n"),
-    ] {
-        let found = with_long_text(rt.alloc(), &net, 1_073_741_824 + more, output)?;
-        assert_eq!(rt; found, (want, true));
+    ),
+    (1, Err(SimFault::Long), "line 1: Unread\n"),
+];
+
+/// The place of the first length for which that is not so, if there is one.
+fn first_wrong_length(alloc: Global) -> Result<Option<usize>, Fail> {
+    let net = two_nodes(alloc, 0)?;
+    for (at, (more, want, output)) in LENGTHS.iter().enumerate() {
+        if with_long_text(alloc, &net, 1_073_741_824 + *more, output)? != (*want, true) {
+            return Ok(Some(at));
+        }
     }
+    Ok(None)
+}
+
+#[test]
+fn a_text_may_have_a_gibibyte_and_no_more(rt: HostRuntime) -> Result<(), Fail> {
+    assert_eq!(rt; first_wrong_length(rt.alloc())?, None);
     Ok(())
 }

@@ -15,6 +15,9 @@ struct LongRun<'a> {
     lines: usize,
     /// How the nodes' lines begin.
     beginnings: &'a [&'a str],
+    /// How the text ends behind the number of the privileged nodes: none lends, after as many
+    /// sweeps as there are rounds.
+    end: &'a str,
 }
 
 /// Whether the lines of the text, from its first on, begin so.
@@ -29,11 +32,17 @@ pub fn lines_begin(text: &str, beginnings: &[&str]) -> bool {
     true
 }
 
-/// How many lines the text of a run has, and the first size of pieces in which it does not end so.
-fn told_of(alloc: Global, run: &LongRun<'_>) -> Result<(usize, Option<usize>), Fail> {
-    let (net, text) = parts_of(alloc, run)?;
-    let first = first_unsettled(alloc, &net, &text, run)?;
-    Ok((text.lines().count(), first))
+/// Whether a text ends so behind a number of privileged nodes, which are one at most.
+fn ends_so(output: &str, end: &str) -> bool {
+    match output.strip_suffix(end) {
+        Some(front) => front.ends_with("privileged 0") || front.ends_with("privileged 1"),
+        None => false,
+    }
+}
+
+/// Whether an output begins and ends as that of a run does.
+fn is_settled(output: &str, run: &LongRun<'_>) -> bool {
+    ends_so(output, run.end) && lines_begin(output, run.beginnings)
 }
 
 /// The first size of pieces in which the text of a run does not end so, if there is one.
@@ -43,103 +52,99 @@ fn first_unsettled(
     text: &str,
     run: &LongRun<'_>,
 ) -> Result<Option<usize>, Fail> {
-    let summary = Summary {
+    let want = Summary {
         refused: 0,
         sweeps: run.rounds as u64,
     };
     for piece in PIECES {
-        if settled(alloc, net, text, piece, run)? != (summary, true) {
+        if simulated(alloc, net, text, piece, |output| is_settled(output, run))? != (want, true) {
             return Ok(Some(piece));
         }
     }
     Ok(None)
 }
 
-/// Holds that it ends so.
-fn holds(rt: &(impl Eprint + AllocGlobal + Abort), run: &LongRun<'_>) -> Result<(), Fail> {
-    assert_eq!(rt; told_of(rt.alloc(), run)?, (run.lines, None));
-    Ok(())
+/// The text of a run.
+fn text_of(alloc: Global, net: &Net, run: &LongRun<'_>) -> Result<String, AllocError> {
+    let round = round_of(alloc, net)?;
+    joined(alloc, &[(run.start, 1), (&round, run.rounds)])
 }
 
-/// The network and the text of a run.
-fn parts_of(alloc: Global, run: &LongRun<'_>) -> Result<(Net, String), Fail> {
+/// How many lines the text of a run has, and the first size of pieces in which it does not end so.
+fn told_on(alloc: Global, net: &Net, run: &LongRun<'_>) -> Result<(usize, Option<usize>), Fail> {
+    let text = text_of(alloc, net, run)?;
+    let first = first_unsettled(alloc, net, &text, run)?;
+    Ok((text.lines().count(), first))
+}
+
+/// The same on the network of the run.
+fn told_of(alloc: Global, run: &LongRun<'_>) -> Result<(usize, Option<usize>), Fail> {
     let net = net_of(alloc, run.nodes, run.lease, run.edges)?;
-    let round = round_of(alloc, &net)?;
-    let text = joined(alloc, &[(run.start, 1), (&round, run.rounds)])?;
-    Ok((net, text))
+    told_on(alloc, &net, run)
 }
 
-/// Whether a text ends as a run does: at most one node is privileged and none lends, after as many
-/// sweeps as there are rounds.
-fn ends_so(alloc: Global, output: &str, sweeps: usize) -> Result<bool, AllocError> {
-    let one = format!(in alloc; "privileged 1 lending 0\nsweeps {sweeps} of {sweeps}\n")?;
-    let none = format!(in alloc; "privileged 0 lending 0\nsweeps {sweeps} of {sweeps}\n")?;
-    Ok(output.ends_with(one.as_str()) || output.ends_with(none.as_str()))
-}
-
-/// What a text is told as, and whether it begins and ends as the run does.
-fn settled(
-    alloc: Global,
-    net: &Net,
-    text: &str,
-    piece: usize,
-    run: &LongRun<'_>,
-) -> Result<(Summary, bool), Fail> {
-    let (output, summary) = simulated(alloc, net, text, piece)?;
-    let has_ended = ends_so(alloc, &output, run.rounds)?;
-    Ok((summary, has_ended && lines_begin(&output, run.beginnings)))
-}
+/// The square: node 3 lies opposite the root.
+const SQUARE: LongRun<'_> = LongRun {
+    nodes: 4,
+    lease: 0,
+    edges: &[(0, 1), (0, 2), (1, 3), (2, 3)],
+    start: "",
+    rounds: 461,
+    lines: 16_596,
+    beginnings: &[
+        "node 0 distance 0 parent none ",
+        "node 1 distance 1 parent 0 ",
+        "node 2 distance 1 parent 0 ",
+        "node 3 distance 2 parent 1 ",
+    ],
+    end: " lending 0\nsweeps 461 of 461\n",
+};
 
 #[test]
 fn the_far_corner_of_the_square_takes_the_smaller_parent(rt: HostRuntime) -> Result<(), Fail> {
-    let run = LongRun {
-        nodes: 4,
-        lease: 0,
-        edges: &[(0, 1), (0, 2), (1, 3), (2, 3)],
-        start: "",
-        rounds: 461,
-        lines: 16_596,
-        beginnings: &[
-            "node 0 distance 0 parent none ",
-            "node 1 distance 1 parent 0 ",
-            "node 2 distance 1 parent 0 ",
-            "node 3 distance 2 parent 1 ",
-        ],
-    };
-    holds(&rt, &run)
+    assert_eq!(rt; told_of(rt.alloc(), &SQUARE)?, (SQUARE.lines, None));
+    Ok(())
 }
+
+/// Three nodes in a line.
+const LINE: LongRun<'_> = LongRun {
+    nodes: 3,
+    lease: 0,
+    edges: &[(0, 1), (1, 2)],
+    start: "",
+    rounds: 217,
+    lines: 4_123,
+    beginnings: &[
+        "node 0 distance 0 parent none ",
+        "node 1 distance 1 parent 0 ",
+        "node 2 distance 2 parent 1 ",
+    ],
+    end: " lending 0\nsweeps 217 of 217\n",
+};
 
 #[test]
 fn three_nodes_in_a_line_settle(rt: HostRuntime) -> Result<(), Fail> {
-    let run = LongRun {
-        nodes: 3,
-        lease: 0,
-        edges: &[(0, 1), (1, 2)],
-        start: "",
-        rounds: 217,
-        lines: 4_123,
-        beginnings: &[
-            "node 0 distance 0 parent none ",
-            "node 1 distance 1 parent 0 ",
-            "node 2 distance 2 parent 1 ",
-        ],
-    };
-    holds(&rt, &run)
+    assert_eq!(rt; told_of(rt.alloc(), &LINE)?, (LINE.lines, None));
+    Ok(())
 }
+
+/// Two nodes that hold a forged token each, and lend it.
+const TWO_FORGED: LongRun<'_> = LongRun {
+    nodes: 2,
+    lease: 1,
+    edges: &[(0, 1)],
+    start: FORGED,
+    rounds: 69,
+    lines: 698,
+    beginnings: &[
+        "node 0 distance 0 parent none ",
+        "node 1 distance 1 parent 0 ",
+    ],
+    end: " lending 0\nsweeps 69 of 69\n",
+};
 
 #[test]
 fn forged_tokens_and_loans_are_gone(rt: HostRuntime) -> Result<(), Fail> {
-    let run = LongRun {
-        nodes: 2,
-        lease: 1,
-        edges: &[(0, 1)],
-        start: FORGED,
-        rounds: 69,
-        lines: 698,
-        beginnings: &[
-            "node 0 distance 0 parent none ",
-            "node 1 distance 1 parent 0 ",
-        ],
-    };
-    holds(&rt, &run)
+    assert_eq!(rt; told_of(rt.alloc(), &TWO_FORGED)?, (TWO_FORGED.lines, None));
+    Ok(())
 }

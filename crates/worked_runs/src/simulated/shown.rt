@@ -61,12 +61,22 @@ fn world_of(alloc: Global, net: Result<Net, NetFault>) -> Result<World, Fail> {
     Ok(start(alloc, &net)?)
 }
 
+/// Two nodes.
+fn world_of_two(alloc: Global) -> Result<World, Fail> {
+    world_of(alloc, net_of(alloc, 2, 0, &[(0, 1)]))
+}
+
+/// Whether a frame of two nodes gets under way and a ticket waits, and the first number of bytes
+/// into which they are not shown then as far as there is room.
+fn shown_as_far(alloc: Global) -> Result<(bool, Option<usize>), Fail> {
+    let mut world = world_of_two(alloc)?;
+    let are_accepted = all_happen(&mut world, &["send 0 1", "ask 1 9"]);
+    Ok((are_accepted, first_wrong_room(alloc, &world)?))
+}
+
 #[test]
 fn a_world_is_shown_as_far_as_there_is_room(rt: HostRuntime) -> Result<(), Fail> {
-    let mut world = world_of(rt.alloc(), net_of(rt.alloc(), 2, 0, &[(0, 1)]))?;
-    let are_accepted = all_happen(&mut world, &["send 0 1", "ask 1 9"]);
-    let found = (are_accepted, first_wrong_room(rt.alloc(), &world)?);
-    assert_eq!(rt; found, (true, None));
+    assert_eq!(rt; shown_as_far(rt.alloc())?, (true, None));
     Ok(())
 }
 
@@ -82,13 +92,13 @@ fn is_shown_behind(
     Ok(is_whole && sink.taken() == want.as_bytes())
 }
 
-#[test]
-fn links_stand_by_source_and_then_destination(rt: HostRuntime) -> Result<(), Fail> {
-    let lines = [
-        "send 2 0", "send 2 1", "send 2 1", "send 1 2", "send 1 2", "send 1 2",
-    ];
-    // 4(4+1) + 4(3+1) + 48 * 2 * 2 + 1
-    let want = "\
+/// Lines for three nodes with node 2 as their root, whose links hold four items.
+const SENDS: [&str; 6] = [
+    "send 2 0", "send 2 1", "send 2 1", "send 1 2", "send 1 2", "send 1 2",
+];
+
+/// What is shown behind them. The bound is 4(4+1) + 4(3+1) + 48 * 2 * 2 + 1.
+const SENT: &str = "\
 node 0 distance 3 parent none token no lent none waiting 0
 node 1 distance 3 parent none token no lent none waiting 0
 node 2 distance 3 parent none token no lent none waiting 0
@@ -99,8 +109,20 @@ link 2 1 items 2
 privileged 0 lending 0
 sweeps 0 of 229
 ";
-    let net = Net::make(rt.alloc(), 3, 2, 4, 0, &[(2, 1), (0, 2)]);
-    let mut world = world_of(rt.alloc(), net)?;
-    assert!(rt; is_shown_behind(rt.alloc(), &mut world, &lines, want)?);
+
+/// Three nodes with node 2 as their root, whose links hold four items.
+fn world_of_three(alloc: Global) -> Result<World, Fail> {
+    world_of(alloc, Net::make(alloc, 3, 2, 4, 0, &[(2, 1), (0, 2)]))
+}
+
+/// Whether they are shown so behind those lines.
+fn are_links_shown(alloc: Global) -> Result<bool, Fail> {
+    let mut world = world_of_three(alloc)?;
+    Ok(is_shown_behind(alloc, &mut world, &SENDS, SENT)?)
+}
+
+#[test]
+fn links_stand_by_source_and_then_destination(rt: HostRuntime) -> Result<(), Fail> {
+    assert!(rt; are_links_shown(rt.alloc())?);
     Ok(())
 }

@@ -21,20 +21,17 @@ privileged 1 lending 0
 sweeps 1 of 69
 ";
 
-#[test]
-fn a_sweep_is_a_tick_of_each_node_and_a_new_item_over_each_link(
-    rt: HostRuntime,
-) -> Result<(), Fail> {
-    let rows = [
-        // A round without its last take is one.
-        Row {
-            lease: 0,
-            text: &[(
-                "tick 0\ntick 1\nsend 0 1\ntake 0 1\nsend 0 1\ntake 0 1\nsend 1 0\ntake 1 0\nsend 1 0\n",
-                1,
-            )],
-            refusals: "",
-            state: "\
+/// Short runs, of which some are a sweep.
+const SHORT_RUNS: [Row<'_>; 5] = [
+    // A round without its last take is one.
+    Row {
+        lease: 0,
+        text: &[(
+            "tick 0\ntick 1\nsend 0 1\ntake 0 1\nsend 0 1\ntake 0 1\nsend 1 0\ntake 1 0\nsend 1 0\n",
+            1,
+        )],
+        refusals: "",
+        state: "\
 node 0 distance 0 parent none token yes lent none waiting 0
 node 1 distance 2 parent 0 token no lent none waiting 0
 link 0 1 items 0
@@ -42,51 +39,57 @@ link 1 0 items 1
 privileged 1 lending 0
 sweeps 1 of 69
 ",
-            sweeps: 1,
-        },
-        // Items from before renew no link.
-        Row {
-            lease: 0,
-            text: &[(
+        sweeps: 1,
+    },
+    // Items from before renew no link.
+    Row {
+        lease: 0,
+        text: &[(
+            "harm junk 0 1\nharm junk 1 0\ntick 0\ntick 1\ntake 0 1\ntake 1 0\n",
+            1,
+        )],
+        refusals: "",
+        state: TICKED,
+        sweeps: 0,
+    },
+    Row {
+        lease: 0,
+        text: &[
+            (
                 "harm junk 0 1\nharm junk 1 0\ntick 0\ntick 1\ntake 0 1\ntake 1 0\n",
                 1,
-            )],
-            refusals: "",
-            state: TICKED,
-            sweeps: 0,
-        },
-        Row {
-            lease: 0,
-            text: &[
-                (
-                    "harm junk 0 1\nharm junk 1 0\ntick 0\ntick 1\ntake 0 1\ntake 1 0\n",
-                    1,
-                ),
-                ("send 0 1\ntake 0 1\nsend 1 0\ntake 1 0\n", 1),
-            ],
-            refusals: "",
-            state: HEARD,
-            sweeps: 1,
-        },
-        // One that is lost is in no way.
-        Row {
-            lease: 0,
-            text: &[(
-                "harm junk 0 1\ntick 0\ntick 1\nlose 0 1 0\nsend 0 1\ntake 0 1\nsend 1 0\ntake 1 0\n",
-                1,
-            )],
-            refusals: "",
-            state: HEARD,
-            sweeps: 1,
-        },
-        // A take that finds nothing renews no link.
-        Row {
-            lease: 0,
-            text: &[("tick 0\ntick 1\ntake 0 1\ntake 1 0\n", 1)],
-            refusals: "",
-            state: TICKED,
-            sweeps: 0,
-        },
-    ];
-    all_hold(&rt, &rows)
+            ),
+            ("send 0 1\ntake 0 1\nsend 1 0\ntake 1 0\n", 1),
+        ],
+        refusals: "",
+        state: HEARD,
+        sweeps: 1,
+    },
+    // One that is lost is in no way.
+    Row {
+        lease: 0,
+        text: &[(
+            "harm junk 0 1\ntick 0\ntick 1\nlose 0 1 0\nsend 0 1\ntake 0 1\nsend 1 0\ntake 1 0\n",
+            1,
+        )],
+        refusals: "",
+        state: HEARD,
+        sweeps: 1,
+    },
+    // A take that finds nothing renews no link.
+    Row {
+        lease: 0,
+        text: &[("tick 0\ntick 1\ntake 0 1\ntake 1 0\n", 1)],
+        refusals: "",
+        state: TICKED,
+        sweeps: 0,
+    },
+];
+
+#[test]
+fn a_sweep_is_a_tick_of_each_node_and_a_new_item_over_each_link(
+    rt: HostRuntime,
+) -> Result<(), Fail> {
+    assert_eq!(rt; first_wrong(rt.alloc(), &SHORT_RUNS)?, None);
+    Ok(())
 }

@@ -1,6 +1,6 @@
 use Rattle.std.proofs.Common.{◌≡◌, ◌∙◌, ◌++◌, ap, subst, length}
 use Rattle.run_picture.specs.Added.{Adds}
-use Rattle.run_picture.specs.Drawn.{drawn}
+use Rattle.svg_drawing.specs.Drawn.{drawn}
 use Rattle.run_picture.specs.Lanes.{AreLanes}
 use Rattle.run_picture.specs.Page.{page_of}
 use Rattle.run_picture.specs.Picture.{page_attributes}

@@ -7,7 +7,7 @@ use Rattle.run_model.specs.Step.{refusal}
 use Rattle.run_model.specs.declared.event.Event.TheVariants.{Damage}
 use Rattle.run_model.specs.declared.event.Harm.TheVariants as harm
 use Rattle.run_model.specs.declared.happened.Happened.TheVariants.{Damaged}
-use Rattle.configuration.specs.LinksView.{spare_pairs}
+use Rattle.network_links.specs.LinksView.{spare_pairs}
 use Rattle.configuration.specs.ConfigurationView.{ConfigurationView, AreNodesOf, node_at, world_of}
 use Rattle.configuration.specs.Rewired.{IsRewired}
 use Rattle.configuration.proofs.EdgeHarms.{edge-world, join-fault-none, join-none, joins-two}

@@ -8,7 +8,7 @@ use Rattle.run_model.specs.declared.event.EventFault.TheVariants.{Apart}
 use Rattle.run_model.specs.declared.event.Harm.TheVariants as harm
 use Rattle.run_model.specs.declared.happened.Happened.TheVariants.{Damaged}
 use Rattle.configuration.specs.Answers.{Answers}
-use Rattle.configuration.specs.LinksView.{spare_pairs}
+use Rattle.network_links.specs.LinksView.{spare_pairs}
 use Rattle.configuration.specs.ConfigurationView.{ConfigurationView, AreNodesOf, node_at, world_of}
 use Rattle.configuration.specs.Rewired.{IsRewired}
 use Rattle.configuration.proofs.EdgeHarms.{IsParted, edge-world, part-apart, part-did, part-none, part-undone, parts-two, unchanged-answers}

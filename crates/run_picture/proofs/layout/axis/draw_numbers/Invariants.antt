@@ -1,7 +1,7 @@
 use Rattle.std.proofs.Common.{◌≡◌, ◌++◌, take}
 use Rattle.std.specs.List.{flat_map}
 use Rattle.run_picture.specs.Axis.{number_shown}
-use Rattle.run_picture.specs.Drawn.{drawn}
+use Rattle.svg_drawing.specs.Drawn.{drawn}
 use Rattle.run_picture.proofs.layout.axis.draw_numbers.Given as goal
 
 -- the first numbers are added

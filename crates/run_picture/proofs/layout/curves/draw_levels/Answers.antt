@@ -1,5 +1,5 @@
 use Rattle.std.proofs.Common.{◌∙◌, ◌+◌, ap}
-use Rattle.run_picture.specs.Page.{px}
+use Rattle.svg_drawing.specs.Lengths.{px}
 use Rattle.run_picture.proofs.Curves.{levels_drawn}
 use Rattle.run_picture.proofs.layout.curves.draw_levels.Goals as goal
 

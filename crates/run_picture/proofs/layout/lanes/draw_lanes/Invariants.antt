@@ -1,6 +1,6 @@
 use Rattle.std.proofs.Common.{take}
 use Rattle.run_picture.specs.Added.{Adds}
-use Rattle.run_picture.specs.Drawn.{drawn}
+use Rattle.svg_drawing.specs.Drawn.{drawn}
 use Rattle.run_picture.specs.Lanes.{AreLanes}
 use Rattle.run_picture.proofs.layout.lanes.draw_lanes.Given as goal
 

@@ -1,6 +1,6 @@
 use Rattle.std.proofs.Common.{sym, [], codes, drop}
 use Rattle.std.proofs.lemmas.List.{append-nil}
-use Rattle.run_picture.specs.declared.layout.colours.Colour.TheVariants.{Ink, Blue, Faint}
+use Rattle.svg_drawing.specs.declared.colours.Colour.TheVariants.{Ink, Blue, Faint}
 use Rattle.run_picture.specs.declared.layout.legend.Sign.TheVariants.{Bolt, Upright, Edge}
 use Rattle.run_picture.specs.Legend.{sign_meanings}
 use Rattle.run_picture.proofs.Legend.{first_meaning}

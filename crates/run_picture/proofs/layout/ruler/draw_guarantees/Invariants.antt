@@ -1,5 +1,5 @@
 use Rattle.std.proofs.Common.{◌≡◌, ◌++◌, take}
-use Rattle.run_picture.specs.Drawn.{drawn}
+use Rattle.svg_drawing.specs.Drawn.{drawn}
 use Rattle.run_picture.specs.Ruler.{guarantees_over, over_each}
 use Rattle.run_picture.proofs.layout.ruler.draw_guarantees.Given as goal
 

@@ -1,6 +1,6 @@
 use Rattle.std.proofs.Common.{◌∙◌, ◌+◌, ◌-◌, ap, sym, length, nat_le, slice_index_or}
 use Rattle.run_picture.specs.declared.layout.ruler.SweepNumber.{SweepNumber}
-use Rattle.run_picture.specs.Page.{px}
+use Rattle.svg_drawing.specs.Lengths.{px}
 use Rattle.run_picture.specs.Ruler.{room_behind}
 use Rattle.run_picture.proofs.Sweeps.{last_room}
 use Rattle.run_picture.proofs.layout.ruler.has_room.Goals as goal

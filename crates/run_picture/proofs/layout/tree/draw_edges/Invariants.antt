@@ -1,6 +1,6 @@
 use Rattle.std.proofs.Common.{◌≡◌, ◌++◌, take}
 use Rattle.std.specs.List.{flat_map}
-use Rattle.run_picture.specs.Drawn.{drawn}
+use Rattle.svg_drawing.specs.Drawn.{drawn}
 use Rattle.run_picture.specs.Tree.{edge_shown}
 use Rattle.run_picture.proofs.layout.tree.draw_edges.Given as goal
 

@@ -1,5 +1,5 @@
 use Rattle.std.proofs.Common.{◌≡◌, ◌++◌, take}
-use Rattle.run_picture.specs.Drawn.{drawn}
+use Rattle.svg_drawing.specs.Drawn.{drawn}
 use Rattle.run_picture.specs.Tree.{nodes_shown}
 use Rattle.run_picture.proofs.layout.tree.draw_nodes.Given as goal
 

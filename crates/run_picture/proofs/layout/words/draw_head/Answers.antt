@@ -1,11 +1,10 @@
-use Rattle.std.proofs.Common.{◌≡◌, ◌∙◌, ◌∷◌, ◌++◌, [], ap, codes}
-use Rattle.run_picture.specs.declared.layout.canvas.Anchor.TheVariants.{Start}
-use Rattle.run_picture.specs.declared.layout.colours.Colour.TheVariants.{Ink, Paper}
-use Rattle.run_picture.specs.Drawn.{drawn, note_shown, rect_shown, heading_shown, words_shown}
+use Rattle.std.proofs.Common.{◌≡◌, ◌∙◌, ◌∷◌, ◌++◌, [], OnOk, ap, subst, codes}
+use Rattle.svg_drawing.specs.declared.canvas.Anchor.TheVariants.{Start}
+use Rattle.svg_drawing.specs.declared.colours.Colour.TheVariants.{Ink, Paper}
+use Rattle.svg_drawing.specs.Drawn.{drawn, note_shown, rect_shown, heading_shown, words_shown}
 use Rattle.run_picture.specs.Head.{told_words}
 use Rattle.run_picture.specs.Page.{page_width, page_height}
 use Rattle.run_picture.specs.Words.{title_words, headline_words}
-use Rattle.run_picture.proofs.Drawn.{shown_as}
 use Rattle.run_picture.proofs.Head.{five_shown}
 use Rattle.run_picture.proofs.layout.words.draw_head.Goals as goal
 
@@ -26,5 +25,5 @@ returns c =
     (c.in_ok-rect.ensures ∙ ap (λ w. drawn c.note-2.new.self ++ rect_shown 0 0 w c.height.result.0 Paper ∷ []) c.width.ensures
     ∙ ap (λ h. drawn c.note-2.new.self ++ rect_shown 0 0 (page_width page) h Paper ∷ []) c.height.ensures)
     (c.in_ok-heading.ensures ∙ ap (λ t. drawn c.rect.new.self ++ heading_shown 16 26 t ∷ []) headline)
-    (shown_as c.words.result (drawn c.words.new.self) (drawn c.heading.new.self) (words_shown 16 46 Start Ink c.as_str-4.result.now) _
-    (ap (λ t. words_shown 16 46 Start Ink t) again) c.words.ensures)
+    (subst (λ t. OnOk c.words.result (drawn c.words.new.self ≡ drawn c.heading.new.self ++ words_shown 16 46 Start Ink t ∷ []))
+    again c.words.ensures)

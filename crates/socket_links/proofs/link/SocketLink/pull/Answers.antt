@@ -44,6 +44,7 @@ returns-in-Some-look-clause-pulled g c =
           (waiting c.look.new.self) bytes (c.in-Some-look.frame ∷ []) reads.2 c.in_default.ensures.looked c.in_default.ensures.all c.in-Some-look.ensures.looked,
       pushes_same r g.P.Pipe.gave g.P.Pipe.took g.P.Pipe.counts l new c.in-Some-pipe.pipe q was c.look-in-Got.ensures.pipe c.try_read.ensures.took
           (c.look-in-Got.ensures.unsent ∙ c.in_default.ensures.unsent),
+      rw c.look-in-Got.ensures.pipe refl,
     )
 
 pub returns-in-None-clause-pulled : goal.returns-in-None-clause-pulled

@@ -1,4 +1,4 @@
-use Rattle.std.proofs.Common.{◌≡◌, ◌+◌, ◌-◌, ◌≤◌, ◌∙◌, take, drop, length, sym, inr, arith}
+use Rattle.std.proofs.Common.{◌≡◌, ◌+◌, ◌-◌, ◌≤◌, ◌∙◌, take, drop, length, sym, refl, inr, arith}
 use Rattle.std.proofs.lemmas.List.{take_all, drop_all, length-drop, drop-drop}
 use Rattle.socket_links.specs.Links.{waiting}
 use Rattle.socket_links.proofs.Flowing.{pushes_front, pulls_none}
@@ -17,6 +17,7 @@ returns-in-Done-clause-pushed g c =
       pushes_front g.P.Pipe.gave g.P.Pipe.took l.pipe c.in-Some.pipe q c.in-Some.is count (drop l.sent l.line) (drop (l.sent + count) l.line) wrote.0 left,
       pulls_none g.P.Pipe.gave g.P.Pipe.took l.pipe c.in-Some.pipe q c.in-Some.is c.write_line-count.ensures.gave l.reader (waiting l),
       left ∙ drop_all count (drop l.sent l.line) all,
+      rw c.in-Some.is refl,
     )
 
 pub returns-in-Later-clause-pushed : goal.returns-in-Later-clause-pushed

@@ -1,0 +1,64 @@
+//! A simulation whose text is all written, and the status of a run of events.
+ghost use Rattle.std.specs.Prelude.{◌≡◌, ℕ, List, [], Some, ◌==◌, if◌then◌else◌, OnOk};
+ghost use Rattle.std.specs.Process.{exit_status};
+ghost use Rattle.world.specs.SimulatedText.{simulated_start};
+ghost use Rattle.command_parts.specs.Simulated.{IsCaused, IsDone};
+
+use crate::fault::Fault;
+use crate::streams::Flush;
+use std::alloc::Global;
+use std::process::ExitCode;
+use topology::Net;
+use world::simulation::{Summary, simulate};
+use world::streams::Source;
+
+/// The name of standard input, where a file of events is wanted.
+pub const STANDARD_INPUT: &str = "-";
+
+/// The status where a line was refused.
+const LINES_REFUSED: u8 = 3;
+
+/// Simulates from the source to the sink, and sees to it that all the text is written: after a
+/// fault too, as far as it had come.
+///
+/// What is unproved: that the events of a file, or of standard input, are the bytes that were
+/// simulated, and that the text stands in standard output. Neither end tells its bytes, so of them
+/// the contract says when a fault comes; of ends that tell theirs it says all that [`simulate`]
+/// says.
+///
+/// # Errors
+/// Where memory runs out, the source fails or gives too many bytes, or the sink fails.
+pub fn simulate_between<S: Source, W: Flush>(
+    alloc: Global,
+    net: &Net,
+    source: &mut S,
+    sink: &mut W,
+) -> Result<Summary, Fault>
+    // Where both ends tell their bytes, the answer is that of a simulation of them.
+    ensures text { (bytes : List ℕ) → S.rest source.old ≡ Some bytes
+        → IsDone (simulated_start net.now) bytes (S.rest source.new) (W.taken sink.old)
+        (W.taken sink.new) result }
+    ensures written { OnOk result (W.unwritten sink.new ≡ []) }
+    // A fault of the events only where the source failed, one of the output only where the sink did.
+    ensures cause { IsCaused result (S.failures source.old) (S.failures source.new)
+        (W.failures sink.old) (W.failures sink.new) }
+{
+    let simulated = simulate(alloc, net, source, sink);
+    let flushed = sink.flush();
+    let summary = simulated?;
+    match flushed {
+        Ok(()) => Ok(summary),
+        Err(_) => Err(Fault::Output),
+    }
+}
+
+/// The status of a command that went through a text of events, of which as many lines were refused.
+pub fn events_status(refused: u64) -> ExitCode
+    ensures { exit_status result ≡ (if refused == 0 then 0 else 3) }
+{
+    if refused == 0 {
+        ExitCode::SUCCESS
+    } else {
+        ExitCode::from(LINES_REFUSED)
+    }
+}

@@ -1,0 +1,6 @@
+mod Changing
+mod Placing
+mod LinkMoves
+mod LinkPlaces
+mod PairTables
+mod JoinedPairs

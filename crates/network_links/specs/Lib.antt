@@ -1,0 +1,3 @@
+pub mod PairTable
+pub mod Placed
+pub mod LinksView

@@ -1,5 +1,0 @@
-use Rattle.run_picture.proofs.Columns.{even_length}
-use Rattle.run_picture.proofs.column.is_even.Goals as goal
-
-pub returns : goal.returns
-returns c = even_length c.args.columns.now

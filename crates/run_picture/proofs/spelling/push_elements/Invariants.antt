@@ -1,8 +1,0 @@
-use Rattle.std.proofs.Common.{◌≡◌, ◌++◌, take}
-use Rattle.std.specs.List.{flat_map}
-use Rattle.run_picture.specs.Spelling.{element_text}
-use Rattle.run_picture.proofs.spelling.push_elements.Given as goal
-
--- the first elements are added
-abbrev pub invariant-loop-element : goal.invariant-loop-element
-invariant-loop-element l = l.text.items ≡ l.fn.text.items ++ flat_map element_text (take l.element-index l.elements)

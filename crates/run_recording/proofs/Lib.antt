@@ -1,0 +1,8 @@
+pub mod Marks
+pub mod Columns
+pub mod Strips
+pub mod Marking
+pub mod Recordings
+pub mod Visits
+pub mod RunsOfMarks
+pub mod Rows

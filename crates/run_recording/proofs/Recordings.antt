@@ -1,0 +1,148 @@
+-- A recording goes on with each event, each line and each piece.
+use Rattle.std.proofs.Common.{◌≡◌, ◌∙◌, ap, sym, refl, subst, ℕ, ◌+◌, ◌≤◌, ◌==◌, if◌then◌else◌, false, Bool, List, [], ◌∷◌, ◌++◌, length, append_assoc, Option, None, Some, Result, Ok, Err, OnOk, IfErr, is_ok, is_none, arith}
+use Rattle.std.proofs.lemmas.Grind.{common_steps, flat_map-append}
+use Rattle.std.proofs.lemmas.List.{append-nil}
+use Rattle.byte_lines.specs.Kept.{Kept, StandsAfter}
+use Rattle.run_model.specs.World.{World}
+use Rattle.run_model.specs.Run.{run, is_damage}
+use Rattle.run_model.specs.Count.{IsSweepCount}
+use Rattle.run_model.specs.declared.event.Event.{Event}
+use Rattle.run_model.specs.declared.event.EventFault.{EventFault}
+use Rattle.events_text.specs.declared.text_line.TextLine.{TextLine}
+use Rattle.events_text.specs.EventsText.{ended_lines}
+use Rattle.judge.specs.JudgeView.{HasSeen}
+use Rattle.judge.specs.Judging.{counted_up_to}
+use Rattle.world.specs.SimulatedText.{told_event, told_events}
+use Rattle.run_recording.specs.declared.column.Column.{Column}
+use Rattle.run_recording.specs.declared.recording.Before.{Before}
+use Rattle.run_recording.specs.declared.window.Window.{Window}
+use Rattle.run_recording.specs.Strips.{Shows}
+use Rattle.run_recording.proofs.Strips.{as_empty}
+use Rattle.run_recording.specs.Recordings.{moment_of, shown_if, ended_at, AreMoments, IsBeforeAny, RecordingView, IsRecorded, IsReading}
+use Rattle.run_recording.specs.Recordings.AreMoments.{Start, Next}
+use Rattle.run_recording.specs.Recordings.IsFirstHeld.{AtStart, Behind}
+
+-- an event is accepted where its step says so
+pub accepted_is : (result : Result (Unit {0}) EventFault) (refusal : Option EventFault) → OnOk result (refusal ≡ None) → IfErr result (λ fault. refusal ≡ Some fault)
+    → is_none refusal ≡ is_ok result
+accepted_is (Ok value) refusal ok err = grind (arith, common_steps)
+accepted_is (Err fault) refusal ok err = grind (arith, common_steps)
+
+-- ---- what was before the first moment shown
+
+-- one moment alone may be shown
+at_most_one : (window : Window) (ended : ℕ) (moment : Column) → length (shown_if window ended moment) ≤ 1
+at_most_one window ended moment = grind (arith, common_steps)
+
+-- nothing was before the start
+before_start : (window : Window) (start : World) (moments : List Column) (before : Before) → before.events ≡ 0 → before.sweeps ≡ 0
+    → AreMoments window start [] 0 moments → length moments ≤ 1 → IsBeforeAny window start [] moments before
+before_start window start [] before events sweeps are few = tt
+before_start window start (moment ∷ []) before events sweeps are few = record {
+  front = [];
+  back = [];
+  are = refl;
+  first = rw sweeps (AtStart moment are);
+  events_are = events;
+}
+before_start window start (moment ∷ next ∷ moments) before events sweeps are few = let no : ⊥ = grind (arith, few) in elim no [ ]
+
+-- where nothing was shown before an event, what is now before it; else what was
+before_more : (window : Window) (start : World) (es : List Event) (e : Event) (sweeps ended : ℕ) (moments shown : List Column) (was now : Before)
+    → AreMoments window start es sweeps moments → AreMoments window start (es ++ e ∷ []) ended (moments ++ shown) → length shown ≤ 1
+    → IsBeforeAny window start es moments was
+    → now ≡ (if length moments == 0 then record { events = length es + 1; sweeps = sweeps } else was)
+    → IsBeforeAny window start (es ++ e ∷ []) (moments ++ shown) now
+before_more window start es e sweeps ended [] [] was now are next few before is = tt
+before_more window start es e sweeps ended [] (moment ∷ []) was now are next few before is = record {
+  front = es ++ e ∷ [];
+  back = [];
+  are = sym (append-nil (es ++ e ∷ []));
+  first = rw (ap (λ b. b.sweeps) is) (Behind e moment are next);
+  events_are = grind (arith, common_steps, is);
+}
+before_more window start es e sweeps ended [] (moment ∷ more ∷ shown) was now are next few before is = let no : ⊥ = grind (arith, few) in elim no [ ]
+before_more window start es e sweeps ended (moment ∷ moments) shown was now are next few before is =
+    let some : (length (moment ∷ moments) == 0) ≡ false = grind (arith, common_steps) in
+    let same : now ≡ was = is ∙ ap (λ empty. if empty then record { events = length es + 1; sweeps = sweeps } else was) some in
+    rw same (record {
+      front = before.front;
+      back = before.back ++ e ∷ [];
+      are = ap (λ xs. xs ++ e ∷ []) before.are ∙ append_assoc before.front before.back (e ∷ []);
+      first = before.first;
+      events_are = before.events_are;
+    })
+
+-- ---- what is recorded
+
+-- nothing has happened yet
+pub begun : (start : World) (r : RecordingView) (moment : Column) → HasSeen r.judge start [] → r.ended ≡ 0 → r.events ≡ 0
+    → r.before.events ≡ 0 → r.before.sweeps ≡ 0 → moment ≡ moment_of start false 0 0 → Shows r.strip (shown_if r.window 0 moment) → IsRecorded start [] r
+begun start r moment seen ended events led swept is shown = record {
+  seen = seen;
+  moments = shown_if r.window 0 (moment_of start false 0 0);
+  are = rw ended Start;
+  shown = rw is at shown;
+  events_are = events;
+  before_is = before_start r.window start _ r.before led swept Start (at_most_one r.window 0 (moment_of start false 0 0));
+}
+
+-- how many sweeps there were, as a judge counts them
+abbrev pub IsCount : World → List Event → ℕ → Type 0
+IsCount start es sweeps = (count : ℕ) × IsSweepCount start es count × (sweeps ≡ counted_up_to count)
+
+-- an event more has happened
+pub recorded_more : (start : World) (es : List Event) (e : Event) (old new : RecordingView) (before after : ℕ) (moment : Column) (empty : Bool)
+    → (h : IsRecorded start es old) → HasSeen new.judge start (es ++ e ∷ []) → IsCount start es before → IsCount start (es ++ e ∷ []) after
+    → moment ≡ moment_of (run start (es ++ e ∷ [])) (is_damage (run start es) e) before after
+    → new.window ≡ old.window → new.ended ≡ ended_at old.ended moment
+    → Shows new.strip (h.moments ++ shown_if old.window new.ended moment)
+    → new.events ≡ old.events + 1
+    → empty ≡ (length old.strip.columns == 0) → new.before ≡ (if empty then record { events = new.events; sweeps = old.ended } else old.before)
+    → IsRecorded start (es ++ e ∷ []) new
+recorded_more start es e old new before after moment empty h seen (count, counted, before_is) (next, counted_next, after_is) is window ended shown events empty_is first =
+    let exact = is ∙ ap (λ b. moment_of (run start (es ++ e ∷ [])) (is_damage (run start es) e) b after) before_is
+    ∙ ap (moment_of (run start (es ++ e ∷ [])) (is_damage (run start es) e) (counted_up_to count)) after_is in
+    let are = Next e count next h.are counted counted_next moment exact in
+    let led : new.events ≡ length es + 1 = events ∙ ap (λ n. n + 1) h.events_are in
+    let first_is : new.before ≡ (if length h.moments == 0 then record { events = length es + 1; sweeps = old.ended } else old.before) =
+    first
+    ∙ ap (λ b. if b then record { events = new.events; sweeps = old.ended } else old.before) (empty_is ∙ as_empty old.strip.width old.strip.last h.moments old.strip.columns h.shown.0)
+    ∙ ap (λ n. if length h.moments == 0 then record { events = n; sweeps = old.ended } else old.before) led in
+    record {
+      seen = seen;
+      moments = h.moments ++ shown_if old.window (ended_at old.ended moment) moment;
+      are = rw (window, ended) are;
+      shown = rw ended at shown;
+      events_are = grind (arith, common_steps);
+      before_is = rw window (before_more old.window start es e old.ended (ended_at old.ended moment) h.moments
+          (shown_if old.window (ended_at old.ended moment) moment) old.before new.before h.are are
+          (at_most_one old.window (ended_at old.ended moment) moment) h.before_is first_is);
+    }
+
+-- no event more has happened, and the same is kept of those before
+pub recorded_same : (start : World) (es : List Event) (r : RecordingView) → IsRecorded start es r → IsRecorded start (es ++ []) r
+recorded_same start es r h = subst (λ xs. IsRecorded start xs r) (sym (append-nil es)) h
+
+-- another line is under way
+pub reader_moves : (start : World) (es : List Event) (r : RecordingView) (reader : Kept) → IsRecorded start es r → IsRecorded start es (record r { reader = reader })
+reader_moves start es r reader h = record { seen = h.seen; moments = h.moments; are = h.are; shown = h.shown; events_are = h.events_are; before_is = h.before_is }
+
+-- a line more is ended, and its event is recorded
+pub line_ends : (start : World) (bytes more : List ℕ) (line : TextLine) (old new : RecordingView) (reader : Kept)
+    → IsReading start bytes old → StandsAfter 64 (bytes ++ more) reader → ended_lines (bytes ++ more) ≡ ended_lines bytes ++ line ∷ []
+    → (IsRecorded start (told_events (ended_lines bytes)) (record old { reader = reader }) → IsRecorded start (told_events (ended_lines bytes) ++ told_events (line ∷ [])) new)
+    → new.reader ≡ reader → IsReading start (bytes ++ more) new
+line_ends start bytes more line old new reader h stands ends records same = record {
+  stands = rw same stands;
+  recorded = rw (ends, flat_map-append told_event (ended_lines bytes) (line ∷ [])) (records (reader_moves start (told_events (ended_lines bytes)) old reader h.recorded));
+}
+
+-- no line more is ended, and more is kept of the one under way
+pub half_line_grows : (start : World) (bytes more : List ℕ) (old : RecordingView) (reader : Kept)
+    → IsReading start bytes old → StandsAfter 64 (bytes ++ more) reader → ended_lines (bytes ++ more) ≡ ended_lines bytes
+    → IsReading start (bytes ++ more) (record old { reader = reader })
+half_line_grows start bytes more old reader h stands ends = record {
+  stands = stands;
+  recorded = rw ends (reader_moves start (told_events (ended_lines bytes)) old reader h.recorded);
+}

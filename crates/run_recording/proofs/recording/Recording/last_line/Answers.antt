@@ -1,0 +1,14 @@
+use Rattle.std.proofs.Common.{◌∙◌, ap, [], ◌∷◌, ◌++◌}
+use Rattle.std.proofs.lemmas.Grind.{flat_map-append}
+use Rattle.std.specs.Option.{option_to_list}
+use Rattle.events_text.specs.EventsText.{ended_lines}
+use Rattle.world.specs.SimulatedText.{told_event, told_events}
+use Rattle.run_recording.proofs.recording.Recording.last_line.Goals as goal
+
+pub returns-in-Some-clause-text : goal.returns-in-Some-clause-text
+returns-in-Some-clause-text g c =
+    λ start bytes h.
+    let now = rw (← c.self.view_is) at h in
+    let ended = ended_lines bytes in
+    let lines_are = c.last.ensures bytes now.stands ∙ ap (λ line. ended ++ option_to_list line) c.in-Some.is in
+    rw (lines_are, flat_map-append told_event ended (c.in-Some.line ∷ [])) (c.line.ensures.records start (told_events ended) h.recorded)

@@ -1,0 +1,16 @@
+use Rattle.std.proofs.Common.{◌≡◌, ℕ, ◌+◌, ◌-◌, ◌≤◌, List, ◌++◌, length, take}
+use Rattle.run_model.specs.World.{World}
+use Rattle.run_recording.specs.Recordings.{IsReading}
+use Rattle.run_recording.proofs.recording.Recording.take.Given as goal
+
+-- the first bytes of the piece have been taken
+abbrev pub invariant-loop-at : goal.invariant-loop-at
+invariant-loop-at g l =
+    (l.at ≤ length l.piece)
+    × (l.self.events ≤ l.fn.self.events + l.at)
+    × (l.self.window ≡ l.fn.self.window)
+    × (l.self.strip.limit ≡ l.fn.self.strip.limit)
+    × ((start : World) (bytes : List ℕ) → IsReading start bytes l.fn.self → IsReading start (bytes ++ take l.at l.piece) l.self)
+
+abbrev pub decreases-loop-at : goal.decreases-loop-at
+decreases-loop-at g l = length l.piece - l.at

@@ -1,0 +1,46 @@
+-- What several moments show together, and each two columns as one.
+use Rattle.std.specs.Prelude.{ℕ, ◌+◌, ◌||◌, if◌then◌else◌, Bool, true, false, max, List, [], ◌∷◌}
+use Rattle.judge.specs.Judging.{counted_up_to}
+use Rattle.run_recording.specs.declared.column.Column.{Column}
+use Rattle.run_recording.specs.Marks.{worse_marks}
+
+-- the worst of what two columns show: the worse marks, the greater counts, all sweeps, and what was
+-- at any moment
+abbrev pub worse_column : Column → Column → Column
+worse_column a b = record {
+  marks = worse_marks a.marks b.marks;
+  privileged = max a.privileged b.privileged;
+  lending = max a.lending b.lending;
+  sweeps = counted_up_to (a.sweeps + b.sweeps);
+  damaged = a.damaged || b.damaged;
+  sharp = a.sharp || b.sharp;
+  bound = a.bound || b.bound;
+}
+
+-- the worst of a moment and of those behind it
+abbrev pub worst : Column → List Column → Column
+worst first [] = first
+worst first (next ∷ later) = worse_column first (worst next later)
+
+-- each two columns as one; an odd one at the end stays
+abbrev pub folded : List Column → List Column
+folded [] = []
+folded (a ∷ []) = a ∷ []
+folded (a ∷ b ∷ columns) = worse_column a b ∷ folded columns
+
+-- whether a list falls into pairs
+abbrev pub is_even : List Column → Bool
+is_even [] = true
+is_even (a ∷ []) = false
+is_even (a ∷ b ∷ columns) = is_even columns
+
+-- the last column, if there is one, shows one moment more
+abbrev pub with_last : List Column → Column → List Column
+with_last [] moment = []
+with_last (a ∷ []) moment = worse_column a moment ∷ []
+with_last (a ∷ b ∷ columns) moment = a ∷ with_last (b ∷ columns) moment
+
+-- how many moments the last column shows, where it showed `last`, others `width`, and each two
+-- columns become one
+abbrev pub last_folded : Bool → ℕ → ℕ → ℕ
+last_folded even width last = if even then last + width else last

@@ -1,0 +1,9 @@
+pub mod Marks
+pub mod Columns
+pub mod Strips
+pub mod Seen
+pub mod Recordings
+pub mod RecordingSteps
+pub mod TreeEdges
+pub mod Visits
+pub mod Runs

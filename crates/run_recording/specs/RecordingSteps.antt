@@ -1,0 +1,25 @@
+-- What the steps of a recording say of it, whatever was recorded before.
+use Rattle.std.specs.Prelude.{◌≡◌, ℕ, Bool, is_none, List, [], ◌++◌, Option, Some, Result, OnOk}
+use Rattle.run_model.specs.World.{World}
+use Rattle.run_model.specs.Step.{refusal}
+use Rattle.run_model.specs.Run.{is_damage}
+use Rattle.run_model.specs.declared.event.Event.{Event}
+use Rattle.world.specs.SimulatedText.{events_of}
+use Rattle.run_recording.specs.Recordings.{RecordingView, IsRecorded, IsReading}
+
+-- an event is damage, if it is accepted or not
+abbrev pub IsDamageWhere : Event → Bool → Bool → Type 0
+IsDamageWhere e accepted damaged = (w : World) → is_none (refusal w e) ≡ accepted → damaged ≡ is_damage w e
+
+-- a piece of the text is read behind what was read
+abbrev pub ReadsNext : RecordingView → List ℕ → RecordingView → Type 0
+ReadsNext old piece new = (start : World) (bytes : List ℕ) → IsReading start bytes old → IsReading start (bytes ++ piece) new
+
+-- where a source tells that it has these bytes to give, all are read, unless there is a fault
+abbrev pub ReadsAll : {T E : Type 0} → RecordingView → Option (List ℕ) → Result T E → RecordingView → Type 0
+ReadsAll old rest result new =
+    (start : World) (bytes : List ℕ) → rest ≡ Some bytes → IsReading start [] old → OnOk result (IsReading start bytes new)
+
+-- the text has ended: all its events are recorded
+abbrev pub EndsThere : RecordingView → RecordingView → Type 0
+EndsThere old new = (start : World) (bytes : List ℕ) → IsReading start bytes old → IsRecorded start (events_of bytes) new

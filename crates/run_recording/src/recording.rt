@@ -1,0 +1,331 @@
+//! What is kept of a run for its picture.
+ghost use Rattle.std.specs.Prelude.{◌≡◌, ◌+◌, ◌^◌, ◌<◌, ◌≤◌, ℕ, List, [], ◌∷◌, ◌++◌, Some, IfOk};
+ghost use Rattle.std.specs.Prelude.{length, if◌then◌else◌};
+ghost use Rattle.configuration.specs.ConfigurationView.{world_of};
+ghost use Rattle.judge.specs.Judging.{counted_up_to};
+ghost use Rattle.judge.specs.JudgeView.{AreSweepsSeen};
+ghost use Rattle.world.specs.SimulatedText.{events_of, simulated_start, told_events};
+ghost use Rattle.run_recording.specs.declared.column.Column.{Column};
+ghost use Rattle.run_recording.specs.Strips.{Shows};
+ghost use Rattle.run_recording.specs.Recordings.{moment_of, shown_if, RecordsNext, IsRecorded};
+ghost use Rattle.run_recording.specs.Recordings.{IsReading};
+ghost use Rattle.run_recording.specs.RecordingSteps.{EndsThere, IsDamageWhere, ReadsAll, ReadsNext};
+
+use crate::column::Column;
+use crate::seen::marks_of;
+use crate::strip::Strip;
+use crate::window::Window;
+use byte_streams::Source;
+use configuration::Configuration;
+use events_text::{EventReader, TextLine};
+use judge::{Judge, World};
+use run_model::Event;
+use std::alloc::{Allocator, Global};
+use std::marker::Model;
+use topology::Net;
+use world::simulation::{LONGEST_TEXT, SimFault};
+
+/// The most bytes of one read.
+const PIECE: usize = 8192;
+
+/// How many pairs of links are spare as a run begins: as many edges more may join.
+const SPARE_PAIRS: u16 = 8;
+
+/// What was before the first moment that is shown.
+#[derive(Clone, Copy, Debug, PartialEq, Eq)]
+pub struct Before {
+    /// How many events have led to it.
+    pub events: u64,
+    /// How many sweeps have ended before it.
+    pub sweeps: u64,
+}
+
+/// What is kept of a run.
+#[derive(Drop)]
+pub struct Recording<A: Allocator + Copy = Global> {
+    judge: Judge<A>,
+    reader: EventReader,
+    strip: Strip<A>,
+    window: Window,
+    /// The sweeps that have ended since the start.
+    ended: u64,
+    /// The events that were told.
+    events: u64,
+    /// The lines that spell no event.
+    unread: u64,
+    before: Before,
+}
+
+impl<A: Allocator + Copy> Model for Recording<A> {
+    ghost use Rattle.std.specs.Prelude.{◌+◌, ◌≤◌};
+    ghost use Rattle.run_recording.specs.Recordings.{RecordingView};
+
+    ghost Value = { RecordingView };
+
+    ghost view = { λ r. record {
+      judge = r.judge;
+      reader = r.reader;
+      strip = r.strip;
+      window = r.window;
+      ended = r.ended;
+      events = r.events;
+      unread = r.unread;
+      before = r.before;
+    } };
+
+    ghost invariant = { λ r. r.strip.moments ≤ r.events + 1 };
+}
+
+/// Reads an events text, lets its events happen on a network, from its default nodes, empty links
+/// and 8 spare pairs of links on, and keeps what is seen of the moments that the window holds, in
+/// at most as many columns as are given.
+///
+/// # Errors
+/// The first that is met: [`SimFault::Memory`], before anything is read; [`SimFault::Read`] where
+/// the source failed; [`SimFault::Long`] where it gave more bytes than [`LONGEST_TEXT`].
+pub fn record<A: Allocator + Copy, N: Allocator + Copy, R: Source>(
+    alloc: A,
+    net: &Net<N>,
+    source: &mut R,
+    columns: usize,
+    window: Window,
+) -> Result<Recording<A>, SimFault>
+    requires { 0 < columns }
+    ensures recorded { (bytes : List ℕ) → R.rest source.old ≡ Some bytes
+        → IfOk result (IsRecorded (simulated_start net.now) (events_of bytes)) }
+    ensures window { IfOk result (λ r. r.window ≡ window) }
+    ensures columns { IfOk result (λ r. r.strip.limit ≡ columns) }
+{
+    let world = World::with_spares(alloc, net, SPARE_PAIRS)?;
+    let strip = Strip::new(alloc, columns)?;
+    let mut recording = Recording::new(world, strip, window);
+    recording.read_all(source)?;
+    recording.last_line();
+    Ok(recording)
+}
+
+/// What is seen of a moment, at which the sweeps since the last damage have become `after`, from
+/// `before`.
+fn moment_of<A: Allocator + Copy>(
+    configuration: &Configuration<A>,
+    damaged: bool,
+    before: u64,
+    after: u64,
+) -> Column
+    ensures { result ≡ moment_of (world_of configuration.now) damaged before after }
+{
+    let net = configuration.net();
+    let ends = before < after;
+    Column {
+        marks: marks_of(configuration),
+        privileged: configuration.privileged(),
+        lending: configuration.lending(),
+        sweeps: u64::from(ends),
+        damaged,
+        sharp: ends & (after == u64::from(net.sharp_bound())),
+        bound: ends & (after == u64::from(net.bound())),
+    }
+}
+
+/// Whether an event is damage, by whether it is accepted.
+fn is_damage(event: &Event, accepted: bool) -> bool
+    ensures { IsDamageWhere event.now accepted result }
+{
+    match event {
+        Event::Damage(_) => accepted,
+        _ => false,
+    }
+}
+
+impl<A: Allocator + Copy> Recording<A> {
+    /// What is kept as a run begins.
+    fn new(world: World<A>, mut strip: Strip<A>, window: Window) -> Recording<A>
+        requires { Shows strip [] }
+        ensures recorded { IsRecorded (world_of world) [] result }
+        ensures reading { IsReading (world_of world) [] result }
+        ensures window { result.window ≡ window }
+        ensures limit { result.strip.limit ≡ strip.limit }
+        ensures events { result.events ≡ 0 }
+    {
+        let judge = Judge::new(world);
+        let start = moment_of(judge.configuration(), false, 0, 0);
+        keep(&mut strip, window, 0, &start);
+        Recording {
+            judge,
+            reader: EventReader::new(),
+            strip,
+            window,
+            ended: 0,
+            events: 0,
+            unread: 0,
+            before: Before {
+                events: 0,
+                sweeps: 0,
+            },
+        }
+    }
+
+    /// Reads the text to its end.
+    fn read_all<R: Source>(&mut self, source: &mut R) -> Result<(), SimFault>
+        requires { self.old.events ≡ 0 }
+        ensures text { ReadsAll self.old (R.rest source.old) result self.new }
+        ensures window { self.new.window ≡ self.old.window }
+        ensures limit { self.new.strip.limit ≡ self.old.strip.limit }
+        ensures events { self.new.events < 2 ^ 61 }
+    {
+        byte_streams::laws::reading_in_pieces();
+        let mut piece = [0; PIECE];
+        let mut left = LONGEST_TEXT;
+        loop {
+            let Ok(count) = source.read(&mut piece) else {
+                return Err(SimFault::Read);
+            };
+            if count == 0 {
+                return Ok(());
+            }
+            self.take(&piece[..count.min(left)]);
+            if count > left {
+                return Err(SimFault::Long);
+            }
+            left -= count;
+        }
+    }
+
+    /// Takes a piece of the text.
+    fn take(&mut self, piece: &[u8])
+        requires { self.old.events + length piece.now < 2 ^ 61 }
+        ensures text { ReadsNext self.old piece.now self.new }
+        ensures window { self.new.window ≡ self.old.window }
+        ensures limit { self.new.strip.limit ≡ self.old.strip.limit }
+        ensures events { self.new.events ≤ self.old.events + length piece.now }
+    {
+        let mut at = 0;
+        while at < piece.len() {
+            let taken = self.reader.take(&piece[at..]);
+            at += taken.used;
+            let Some(line) = taken.line else {
+                return;
+            };
+            self.line(line);
+        }
+    }
+
+    /// The last line of the text, if no newline ended it.
+    fn last_line(&mut self)
+        requires { self.old.events < 2 ^ 61 }
+        ensures text { EndsThere self.old self.new }
+        ensures window { self.new.window ≡ self.old.window }
+        ensures limit { self.new.strip.limit ≡ self.old.strip.limit }
+    {
+        if let Some(line) = self.reader.last() {
+            self.line(line);
+        }
+    }
+
+    /// The next line: its event happens.
+    fn line(&mut self, line: TextLine)
+        requires { self.old.events < 2 ^ 61 }
+        ensures records { RecordsNext self.old (told_events (line ∷ [])) self.new }
+        ensures reader { self.new.reader ≡ self.old.reader }
+        ensures window { self.new.window ≡ self.old.window }
+        ensures limit { self.new.strip.limit ≡ self.old.strip.limit }
+        ensures events { self.new.events ≤ self.old.events + 1 }
+    {
+        match line {
+            TextLine::Passed => {}
+            TextLine::Unread => self.unread = self.unread.saturating_add(1),
+            TextLine::Told(event) => self.happens(&event),
+        }
+    }
+
+    /// An event happens, and the moment behind it is kept.
+    fn happens(&mut self, event: &Event)
+        requires { self.old.events < 2 ^ 61 }
+        ensures records { RecordsNext self.old (event.now ∷ []) self.new }
+        ensures reader { self.new.reader ≡ self.old.reader }
+        ensures window { self.new.window ≡ self.old.window }
+        ensures limit { self.new.strip.limit ≡ self.old.strip.limit }
+        ensures events { self.new.events ≡ self.old.events + 1 }
+    {
+        let before = self.judge.sweeps();
+        let accepted = self.judge.step(event).is_ok();
+        let moment = moment_of(
+            self.judge.configuration(),
+            is_damage(event, accepted),
+            before,
+            self.judge.sweeps(),
+        );
+        self.events += 1;
+        let now = Before {
+            events: self.events,
+            sweeps: self.ended,
+        };
+        self.before = now_where(self.strip.columns().is_empty(), now, self.before);
+        self.ended = self.ended.saturating_add(moment.sweeps);
+        keep(&mut self.strip, self.window, self.ended, &moment);
+    }
+
+    /// The columns that are shown, and how many moments each is.
+    pub fn strip(&self) -> &Strip<A>
+        ensures { result.now ≡ self.now.strip }
+    {
+        &self.strip
+    }
+
+    /// The nodes and links at the end.
+    pub fn configuration(&self) -> &Configuration<A>
+        ensures { result.now ≡ self.now.judge.configuration }
+    {
+        self.judge.configuration()
+    }
+
+    /// The sweeps since the last accepted damage, at the end.
+    pub fn sweeps(&self) -> u64
+        ensures count { result ≡ self.now.judge.sweeps }
+        // Whatever run was recorded, that many sweeps and no more stand behind its last damage.
+        ensures seen { AreSweepsSeen self.now.judge result }
+    {
+        self.judge.sweeps()
+    }
+
+    /// The events that were told, also those that were refused.
+    pub fn events(&self) -> u64
+        ensures { result ≡ self.now.events }
+    {
+        self.events
+    }
+
+    /// The lines that were refused: those that spell no event, and those whose event was refused.
+    pub fn refused(&self) -> u64
+        ensures { result ≡ counted_up_to (self.now.unread + self.now.judge.refused) }
+    {
+        self.unread.saturating_add(self.judge.refused())
+    }
+
+    /// What was before the first moment that is shown.
+    pub fn before(&self) -> Before
+        ensures { result ≡ self.now.before }
+    {
+        self.before
+    }
+}
+
+/// What is now, where nothing is shown yet; else what was.
+fn now_where(is_first: bool, now: Before, was: Before) -> Before
+    ensures { result ≡ (if is_first then now else was) }
+{
+    if is_first { now } else { was }
+}
+
+/// Keeps a moment, where the window holds it.
+fn keep<A: Allocator + Copy>(strip: &mut Strip<A>, window: Window, ended: u64, moment: &Column)
+    requires { strip.old.moments < 2 ^ 62 }
+    ensures shows { (moments : List Column) → Shows strip.old moments
+        → Shows strip.new (moments ++ shown_if window ended moment.now) }
+    ensures limit { strip.new.limit ≡ strip.old.limit }
+    ensures moments { strip.new.moments ≤ strip.old.moments + 1 }
+{
+    if window.holds(ended) {
+        strip.push(moment);
+    }
+}

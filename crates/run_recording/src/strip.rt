@@ -1,0 +1,165 @@
+//! The columns of a picture, from left to right.
+ghost use Rattle.std.specs.Prelude.{◌≡◌, ◌+◌, ◌^◌, ◌<◌, ◌≤◌, List, [], ◌∷◌, ◌++◌, length, IfOk};
+ghost use Rattle.std.specs.Vec.{vec_capacity};
+ghost use Rattle.run_recording.specs.declared.column.Column.{Column};
+ghost use Rattle.run_recording.specs.Columns.{folded, last_folded};
+ghost use Rattle.run_recording.specs.Strips.{Shows};
+
+use crate::column::{Column, is_even, worsen_last};
+use std::alloc::{AllocError, Allocator, Global};
+use std::marker::Model;
+use std::mem;
+
+/// Columns, each of which shows the worst of as many moments, but for the last one, which may yet
+/// show fewer. Where there is no room for one more column, each two become one.
+#[derive(Drop)]
+pub struct Strip<A: Allocator + Copy = Global> {
+    columns: Vec<Column, A>,
+    /// Where two columns become one; empty between two calls.
+    spare: Vec<Column, A>,
+    limit: usize,
+    /// How many moments a column shows.
+    width: u64,
+    /// How many the last one shows; `width` where there is none.
+    last: u64,
+    /// How many moments there were.
+    moments: u64,
+}
+
+impl<A: Allocator + Copy> Model for Strip<A> {
+    ghost use Rattle.std.specs.Prelude.{◌≡◌, ◌<◌, ◌≤◌, [], length};
+    ghost use Rattle.std.specs.Vec.{vec_capacity};
+    ghost use Rattle.run_recording.specs.Strips.{StripView, IsStrip};
+
+    ghost Value = { StripView };
+
+    ghost view = { λ s. record {
+      columns = s.columns.items;
+      width = s.width;
+      last = s.last;
+      limit = s.limit;
+      moments = s.moments;
+    } };
+
+    ghost invariant = { λ s. (0 < s.limit)
+        × (length s.columns.items ≤ s.limit)
+        × (s.limit ≤ vec_capacity s.columns)
+        × (s.limit ≤ vec_capacity s.spare)
+        × (s.spare.items ≡ [])
+        × IsStrip (record {
+          columns = s.columns.items;
+          width = s.width;
+          last = s.last;
+          limit = s.limit;
+          moments = s.moments;
+        }) };
+}
+
+impl<A: Allocator + Copy> Strip<A> {
+    /// A strip of no moments, of at most `limit` columns. Its memory is taken here.
+    pub fn new(alloc: A, limit: usize) -> Result<Strip<A>, AllocError>
+        requires { 0 < limit }
+        ensures shows { IfOk result (λ strip. Shows strip []) }
+        ensures limit { IfOk result (λ strip. strip.limit ≡ limit) }
+    {
+        Ok(Strip {
+            columns: Vec::with_capacity(alloc, limit)?,
+            spare: Vec::with_capacity(alloc, limit)?,
+            limit,
+            width: 1,
+            last: 1,
+            moments: 0,
+        })
+    }
+
+    /// The columns.
+    pub fn columns(&self) -> &[Column]
+        ensures { result.now ≡ self.now.columns }
+    {
+        self.columns.as_slice()
+    }
+
+    /// How many moments each column shows, but for the last one, which may show fewer.
+    pub fn width(&self) -> u64
+        ensures { result ≡ self.now.width }
+    {
+        self.width
+    }
+
+    /// One more moment, of at most 2^62.
+    pub fn push(&mut self, moment: &Column)
+        requires { self.old.moments < 2 ^ 62 }
+        ensures shows { (moments : List Column)
+            → Shows self.old moments → Shows self.new (moments ++ moment.now ∷ []) }
+        ensures limit { self.new.limit ≡ self.old.limit }
+        ensures moments { self.new.moments ≡ self.old.moments + 1 }
+    {
+        if self.last == self.width && self.columns.len() == self.limit {
+            self.fold();
+        }
+        self.add(moment);
+    }
+
+    /// One more moment, where there is room for it.
+    fn add(&mut self, moment: &Column)
+        requires few { self.old.moments < 2 ^ 62 }
+        requires room { self.old.last ≡ self.old.width
+            → length self.old.columns < self.old.limit }
+        ensures shows { (moments : List Column)
+            → Shows self.old moments → Shows self.new (moments ++ moment.now ∷ []) }
+        ensures limit { self.new.limit ≡ self.old.limit }
+        ensures moments { self.new.moments ≡ self.old.moments + 1 }
+    {
+        self.moments += 1;
+        if self.last == self.width {
+            self.columns.push_reserved(*moment);
+            self.last = 1;
+        } else {
+            worsen_last(self.columns.as_mut_slice(), moment);
+            self.last += 1;
+        }
+    }
+
+    /// Each two columns become one, so that there is room for a moment more.
+    fn fold(&mut self)
+        requires full { self.old.last ≡ self.old.width }
+        requires some { 0 < length self.old.columns }
+        requires few { self.old.moments < 2 ^ 62 }
+        ensures shows { (moments : List Column) → Shows self.old moments → Shows self.new moments }
+        ensures limit { self.new.limit ≡ self.old.limit }
+        ensures moments { self.new.moments ≡ self.old.moments }
+        ensures room { self.new.last ≡ self.new.width
+            → length self.new.columns < length self.old.columns }
+    {
+        fold_into(self.columns.as_slice(), &mut self.spare);
+        self.last = last_folded(is_even(self.columns.as_slice()), self.width, self.last);
+        self.width += self.width;
+        mem::swap(&mut self.columns, &mut self.spare);
+        self.spare.clear();
+    }
+}
+
+/// How many moments the last column shows, where each two columns become one.
+fn last_folded(even: bool, width: u64, last: u64) -> u64
+    requires { last + width < 2 ^ 64 }
+    ensures { result ≡ last_folded even width last }
+{
+    if even { last + width } else { last }
+}
+
+/// Writes each two columns as one; an odd one at the end stays.
+fn fold_into<A: Allocator>(columns: &[Column], spare: &mut Vec<Column, A>)
+    requires empty { spare.old.items ≡ [] }
+    requires room { length columns.now ≤ vec_capacity spare.old }
+    ensures folded { spare.new.items ≡ folded columns.now }
+    ensures capacity { vec_capacity spare.new ≡ vec_capacity spare.old }
+{
+    let mut rest = columns;
+    while let [first, second, more @ ..] = rest {
+        spare.push_reserved(first.worse(second));
+        rest = more;
+    }
+    if let [only] = rest {
+        spare.push_reserved(*only);
+    }
+}

@@ -1,0 +1,28 @@
+//! Which moments of a run are shown.
+ghost use Rattle.std.specs.Prelude.{◌≡◌};
+ghost use Rattle.run_recording.specs.Recordings.{is_held};
+
+/// The moments that are to be shown, by how many sweeps have ended since the start, at the moment
+/// itself among them; damage does not begin this count anew.
+#[derive(Clone, Copy, Debug, PartialEq, Eq)]
+pub struct Window {
+    /// The least number.
+    pub from: u64,
+    /// The greatest number.
+    pub to: u64,
+}
+
+impl Window {
+    /// All moments.
+    pub const ALL: Window = Window {
+        from: 0,
+        to: u64::MAX,
+    };
+
+    /// Whether a moment is shown at which as many sweeps have ended.
+    pub fn holds(self, ended: u64) -> bool
+        ensures { result ≡ is_held self ended }
+    {
+        !(ended < self.from) & !(self.to < ended)
+    }
+}

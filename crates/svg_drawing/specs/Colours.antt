@@ -1,0 +1,16 @@
+-- The colours of a picture.
+use Rattle.std.specs.Prelude.{ℕ, List, codes}
+use Rattle.svg_drawing.specs.declared.colours.Colour.{Colour}
+use Rattle.svg_drawing.specs.declared.colours.Colour.TheVariants.{Pale, Grey, Gold, Red, Ink, Blue, Faint, Paper}
+
+-- Colours as SVG writes them. Those of the marks grow darker in the order pale, gold, grey, red, so
+-- that they are told apart without any colour too.
+abbrev pub colour_code : Colour → List ℕ
+colour_code Pale = codes "#e6edf2"
+colour_code Gold = codes "#f2b705"
+colour_code Grey = codes "#8a8f94"
+colour_code Red = codes "#a3142e"
+colour_code Ink = codes "#22262a"
+colour_code Blue = codes "#0b5394"
+colour_code Faint = codes "#b4bac0"
+colour_code Paper = codes "#ffffff"

@@ -1,0 +1,5 @@
+pub mod Lengths
+pub mod Colours
+pub mod Drawn
+pub mod Spelling
+pub mod Xml

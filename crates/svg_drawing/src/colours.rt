@@ -1,0 +1,43 @@
+//! The colours of a picture.
+ghost use Rattle.std.specs.Prelude.{◌≡◌};
+ghost use Rattle.svg_drawing.specs.Colours.{colour_code};
+
+/// A colour. Those of the marks grow darker in the order pale, gold, grey, red, so that they are
+/// told apart without any colour too.
+#[derive(Clone, Copy, Debug, PartialEq, Eq)]
+pub enum Colour {
+    /// A node whose distance and parent are true.
+    Pale,
+    /// A node whose distance or parent is wrong.
+    Grey,
+    /// A privileged node.
+    Gold,
+    /// A node that lends, and damage.
+    Red,
+    /// Texts, sweeps and the edges of the tree.
+    Ink,
+    /// The lines from which the guarantee holds.
+    Blue,
+    /// Other edges, and lines that only help to read.
+    Faint,
+    /// What is behind all.
+    Paper,
+}
+
+impl Colour {
+    /// How SVG writes it.
+    pub fn code(self) -> &'static str
+        ensures { result.now ≡ colour_code self }
+    {
+        match self {
+            Colour::Pale => "#e6edf2",
+            Colour::Grey => "#8a8f94",
+            Colour::Gold => "#f2b705",
+            Colour::Red => "#a3142e",
+            Colour::Ink => "#22262a",
+            Colour::Blue => "#0b5394",
+            Colour::Faint => "#b4bac0",
+            Colour::Paper => "#ffffff",
+        }
+    }
+}

@@ -1,0 +1,86 @@
+//! What a drawing is made of.
+ghost use Rattle.std.specs.Prelude.{◌≡◌, ◌++◌, [], IfOk, decimal};
+ghost use Rattle.svg_drawing.specs.Drawn.{shown_of, with_given, with_text, numbered, note_shown};
+
+use std::alloc::{AllocError, Global};
+
+/// An attribute of an element.
+#[derive(Drop)]
+pub struct Attribute {
+    /// Its name.
+    pub name: &'static str,
+    /// Its value, as it is meant: what writes it escapes it.
+    pub value: String,
+}
+
+/// An element that holds a text alone.
+#[derive(Drop)]
+pub struct Element {
+    /// Its name.
+    pub name: &'static str,
+    /// Its attributes, in the order in which they are written.
+    pub attributes: Vec<Attribute>,
+    /// Its text, as it is meant: what writes it escapes it.
+    pub text: String,
+}
+
+impl Element {
+    /// An element without attributes and text.
+    pub fn new(alloc: Global, name: &'static str) -> Element
+        ensures { shown_of result ≡ note_shown name.now [] }
+    {
+        Element {
+            name,
+            attributes: Vec::new(alloc),
+            text: String::new(alloc),
+        }
+    }
+
+    /// The element with one attribute more.
+    pub fn with(
+        mut self,
+        alloc: Global,
+        name: &'static str,
+        value: &str,
+    ) -> Result<Element, AllocError>
+        ensures { IfOk result (λ element. shown_of element
+            ≡ with_given (shown_of self) (record { name = name.now; value = value.now })) }
+    {
+        let value = format!(in alloc; "{value}")?;
+        self.attributes.push(Attribute { name, value })?;
+        Ok(self)
+    }
+
+    /// The element with one attribute more, whose value is a number.
+    pub fn with_number(
+        mut self,
+        alloc: Global,
+        name: &'static str,
+        number: u32,
+    ) -> Result<Element, AllocError>
+        ensures { IfOk result (λ element. shown_of element
+            ≡ with_given (shown_of self) (numbered name.now number)) }
+    {
+        let value = format!(in alloc; "{number}")?;
+        self.attributes.push(Attribute { name, value })?;
+        Ok(self)
+    }
+
+    /// The element with this text behind its own.
+    pub fn saying(mut self, text: &str) -> Result<Element, AllocError>
+        ensures { IfOk result (λ element. shown_of element
+            ≡ with_text (shown_of self) text.now) }
+    {
+        self.text.push_str(text)?;
+        Ok(self)
+    }
+}
+
+/// A drawing: an element `svg` that holds elements.
+#[derive(Drop)]
+pub struct Drawing {
+    /// The attributes of the element `svg`.
+    pub attributes: Vec<Attribute>,
+    /// What it holds, the undermost first.
+    pub elements: Vec<Element>,
+}

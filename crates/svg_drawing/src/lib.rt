@@ -1,0 +1,30 @@
+//! A drawing, and its text as SVG 1.1.
+//!
+//! A [`Canvas`] takes elements, one over the other: rectangles, circles, lines and forms, texts in
+//! one line. Lengths are [`Px`], in units of the page. A [`Drawing`] is an element `svg` that holds
+//! such [`Element`]s, and [`spelled`] writes it:
+//!
+//! ```
+//! let mut canvas = Canvas::new(alloc);
+//! canvas.circle(Point { x: Px(24), y: Px(192) }, Px(5), Colour::Ink)?;
+//! let drawing = Drawing { attributes, elements: canvas.elements };
+//! let text = spelled(alloc, &drawing)?;      // bytes of a file that a browser shows
+//! ```
+//!
+//! It knows nothing of networks and runs, and measures no text: what is drawn, and where, is the
+//! caller's.
+//!
+//! The trap: lengths stay within 0 and what 32 bits hold, so what would stand beyond stands there.
+#![tactic(auto)]
+
+mod canvas;
+mod colours;
+mod element;
+mod px;
+mod spelling;
+
+pub use canvas::{Anchor, Canvas, Point, Stroke};
+pub use colours::Colour;
+pub use element::{Attribute, Drawing, Element};
+pub use px::Px;
+pub use spelling::spelled;

@@ -1,0 +1,80 @@
+//! A node, and those who come to it over new connections.
+use crate::acts::{Act, first_wrong};
+use crate::stage::{Run, connections, doors, doors_to, in_a_row, run_of, with_token};
+use crate::wires::{MemoryDoors, Pair, Queue, Trip};
+use node_core::Node;
+use std::alloc::{AllocError, Global};
+use std::test::Fail;
+use topology::Net;
+
+/// A node as it begins, and who comes to it.
+#[derive(Clone, Copy)]
+pub enum Cast {
+    /// The root of two nodes, which has the token, and clients.
+    Token,
+    /// The root of two nodes, as it is at the start, and clients.
+    New,
+    /// The root of two nodes, at whose desk tickets wait that no client has, and clients.
+    Strangers,
+    /// The node with this id of three in a row, and higher neighbours.
+    Row(u16),
+    /// The last node of three in a row, and the lower neighbour to which it comes.
+    Last,
+}
+
+/// The root of two nodes, at whose desk three tickets wait and a fourth is lent to.
+fn with_strangers<'a>(alloc: Global, doors: MemoryDoors<'a>) -> Result<Run<'a>, Fail> {
+    let net = Net::make(alloc, 2, 0, 1, 0, &[(0, 1)])?;
+    if net.nodes() == 0 {
+        return Err(Fail::from(AllocError));
+    }
+    let mut node = Node::new(alloc, &net, 0)?;
+    let is_set = node.set_waiting(&[7, 0, 65535]).is_ok()
+        && node.set_desk(Some(300), 0, false).is_ok();
+    if !is_set {
+        return Err(Fail::from(AllocError));
+    }
+    run_of(alloc, net, node, doors)
+}
+
+/// This node, with those who come at one door, and nobody at the other.
+fn begun<'a>(
+    alloc: Global,
+    cast: Cast,
+    comers: &'a Queue<'a>,
+    nobody: &'a Queue<'a>,
+    trip: &'a Trip,
+) -> Result<Run<'a>, Fail> {
+    match cast {
+        Cast::Token => with_token(alloc, doors(nobody, comers, trip)),
+        Cast::New => in_a_row(alloc, 2, 0, doors(nobody, comers, trip)),
+        Cast::Strangers => with_strangers(alloc, doors(nobody, comers, trip)),
+        Cast::Row(id) => in_a_row(alloc, 3, id, doors(comers, nobody, trip)),
+        Cast::Last => in_a_row(alloc, 3, 2, doors_to(comers, nobody, trip)),
+    }
+}
+
+/// Does something with a node, those who come to it over this number of new connections, and these.
+/// What came of it. No call fails.
+pub fn on_stage<T, F: FnOnce(&mut Run<'_>, &Queue<'_>, &[Pair]) -> Result<T, Fail>>(
+    alloc: Global,
+    cast: Cast,
+    count: usize,
+    deed: F,
+) -> Result<T, Fail>
+    requires { F.IsAlwaysCallable deed }
+{
+    let pairs = connections(alloc, count)?;
+    let all = pairs.as_slice();
+    let (comers, nobody) = (Queue::new(all, 0, count), Queue::new(all, 0, 0));
+    let trip = Trip::never();
+    let mut run = begun(alloc, cast, &comers, &nobody, &trip)?;
+    deed(&mut run, &comers, all)
+}
+
+/// The place of the first act that is not as told, over two new connections.
+pub fn wrong_act(alloc: Global, cast: Cast, acts: &[Act<'_>]) -> Result<Option<usize>, Fail> {
+    on_stage(alloc, cast, 2, |run, comers, pairs| {
+        Ok(first_wrong(run, comers, pairs, acts))
+    })
+}
