@@ -7,8 +7,8 @@ use Rattle.std.proofs.lemmas.List.{get_or-map, map_push, get_or-set_same, get_or
 use Rattle.std.proofs.lemmas.List.Elements.{All-push, All-nil, filter-append}
 use Rattle.topology.specs.Network.{Network, are_joined}
 use Rattle.run_model.specs.World.{World}
-use Rattle.thread_net.specs.declared.runner.Port.{Port}
-use Rattle.thread_net.specs.Runner.{IsPortTold}
+use Rattle.node_runner.specs.declared.runner.Port.{Port}
+use Rattle.node_runner.specs.Runner.{IsPortTold}
 use Rattle.thread_net.specs.Cables.{IsCable, AreCabled, AreLaid, AreFurnished, ids_in, row, reach, rows_reach, neighbours_below}
 
 pub range-last : (a n : ℕ) → range_with_len a (suc n) ≡ range_with_len a n ++ (a + n) ∷ []

@@ -1,5 +1,5 @@
 -- Runners that came back, and the world that is made of them.
-use Rattle.std.proofs.Common.{◌≡◌, ◌⊎◌, inl, inr, ℕ, zero, suc, ◌+◌, ◌*◌, ◌<◌, ◌≤◌, ◌&&◌, Bool, true, false, if◌then◌else◌, nat_lt, IsTrue, Option, Some, None, List, [], ◌∷◌, length, map, ap, refl, sym, subst, ◌∙◌, arith, slice_index_or, slice_get, All}
+use Rattle.std.proofs.Common.{◌≡◌, ◌⊎◌, inl, inr, ℕ, zero, suc, ◌+◌, ◌*◌, ◌<◌, ◌≤◌, ◌&&◌, Bool, true, false, if◌then◌else◌, nat_lt, IsTrue, Option, Some, None, List, [], ◌∷◌, length, map, ap, refl, sym, subst, ◌∙◌, rules, arith, slice_index_or, slice_get, All}
 use Rattle.std.proofs.lemmas.Grind.{common_steps}
 use Rattle.std.specs.List.{AllZip}
 use Rattle.std.specs.declared.alloc.Global.{Global}
@@ -21,14 +21,15 @@ use Rattle.weaving.specs.declared.journal.Entry.{Entry}
 use Rattle.weaving.specs.Journals.{entry_count, journal_of}
 use Rattle.weaving.specs.Laws.{WovenIsRun}
 use Rattle.weaving.specs.Woven.{IsWoven}
-use Rattle.thread_net.specs.declared.ports.Outgoing.{Outgoing}
-use Rattle.thread_net.specs.declared.ports.Incoming.{Incoming}
-use Rattle.thread_net.specs.declared.runner.Port.{Port}
-use Rattle.thread_net.specs.declared.runner.Runner.{Runner}
+use Rattle.node_runner.specs.Laws.{EachRoundTicks}
+use Rattle.node_runner.specs.declared.ports.Outgoing.{Outgoing}
+use Rattle.node_runner.specs.declared.ports.Incoming.{Incoming}
+use Rattle.node_runner.specs.declared.runner.Port.{Port}
+use Rattle.node_runner.specs.declared.runner.Runner.{Runner}
 use Rattle.thread_net.specs.declared.threads.Outcome.{Outcome}
-use Rattle.thread_net.specs.Ports.{SameOutgoing, SameIncoming}
-use Rattle.thread_net.specs.Runner.{IsTold, AreSamePorts, IsSamePort, port_ids, round_room}
-use Rattle.thread_net.specs.Rounds.{AreRounds}
+use Rattle.node_runner.specs.Ports.{SameOutgoing, SameIncoming}
+use Rattle.node_runner.specs.Runner.{IsTold, AreSamePorts, IsSamePort, port_ids, round_room}
+use Rattle.node_runner.specs.Rounds.{AreRounds}
 use Rattle.thread_net.specs.Cables.{AreCabled, AreEnds, IsCable, IsOver, AreSettleable, IsFlushedBetween, ids_in, row, rows_of, settled}
 use Rattle.thread_net.specs.Seats.{AreAtStart, IsAtStart, degree_of, entries_of_all, nodes_of, total_room}
 use Rattle.thread_net.specs.Keeps.{Keeps}
@@ -40,7 +41,6 @@ use Rattle.thread_net.specs.Fault.{IsPartRun}
 use Rattle.thread_net.specs.Done.{HasDone, HaveDone, IsStart, IsGatherable}
 use Rattle.thread_net.specs.ThreadRun.{IsThreadRun}
 use Rattle.thread_net.proofs.Maps.{map-long}
-use Rattle.thread_net.proofs.PortLists.{all-same, long}
 use Rattle.thread_net.proofs.Zips.{zip_length}
 use Rattle.thread_net.proofs.Gathering.{is-run, last, settleable, get-mapped}
 use Rattle.thread_net.proofs.Starting.{below-long}
@@ -94,7 +94,7 @@ port-ids-are w turns v r start = start.ready.ports ∙ ap (λ s. s.neighbours) s
 -- a node has at most 64 neighbours
 few-ports : (w : World) (turns v : ℕ) (r : Runner Global) → IsWorldInRange w → IsAtStart w turns v r → length r.ports.items ≤ 64
 few-ports w turns v r range start =
-    let a = long r.ports.items in
+    let a = map-long (λ p. p.neighbour) r.ports.items in
     let b = ap length (port-ids-are w turns v r start) in
     let c = below-long w.net v w.net.nodes in
     let most = range.network.limits.most in
@@ -113,6 +113,12 @@ ids-as : (w : World) (turns v : ℕ) (r now : Runner Global) (ran : Bool) → Is
 ids-as w turns v r now true start (deeds, does, rounds, few, first) = does.ready.ports ∙ (ap (λ s. s.neighbours) does.site ∙ (sym start.ready.ports ∙ port-ids-are w turns v r start))
 ids-as w turns v r now false start same = ap port_ids same ∙ port-ids-are w turns v r start
 
+all-same : (ps : List (Port Global)) → AreSamePorts ps ps
+all-same ps = (refl, λ k d within. same-port (slice_index_or ps k d))
+  where
+    same-port : (p : Port Global) → IsSamePort p p
+    same-port p = search rules
+
 ports-as : (turns : ℕ) (r now : Runner Global) (ran : Bool) → Keeps turns r now ran → AreSamePorts r.ports.items now.ports.items
 ports-as turns r now true (deeds, does, rounds, few, first) = does.ports
 ports-as turns r now false same = subst (λ n. AreSamePorts r.ports.items n.ports.items) (sym same) (all-same r.ports.items)
@@ -122,7 +128,7 @@ entries-as : (w : World) (turns v : ℕ) (r now : Runner Global) (ran : Bool) �
 entries-as w turns v r now true start (deeds, does, rounds, few, first) =
     let none = ap length start.told.journal in
     let count = does.entries in
-    let same : round_room r ≡ 1 + 3 * degree_of r.node = ap (λ k. 1 + 3 * k) (sym (long r.ports.items) ∙ ap length start.ready.ports) in
+    let same : round_room r ≡ 1 + 3 * degree_of r.node = ap (λ k. 1 + 3 * k) (sym (map-long (λ p. p.neighbour) r.ports.items) ∙ ap length start.ready.ports) in
     let most = subst (λ k. length deeds ≤ turns * k) same few in
     omega (arith, none, count, most)
 entries-as w turns v r now false start same =
@@ -296,12 +302,12 @@ pub gathered : {A : Type 0} (w : World) (turns : ℕ → ℕ) (rs : List (Runner
     → now.net ≡ links.net → now.spares ≡ links.spares
     → ((u v : ℕ) → IsTrue (are_joined links.net.edges u v) → IsFlushedBetween rows u v)
     → (AreSettleable links.net rows → under_way now ≡ settled links.net rows (under_way links))
-    → IsWoven (journal_of entries) events → WovenIsRun → RangesStay → JoinedAreNodes
+    → IsWoven (journal_of entries) events → WovenIsRun → EachRoundTicks → RangesStay → JoinedAreNodes
     → IsThreadRun turns w events (world_of (record { nodes = nodes; links = now }))
-gathered w turns rs links now nodes rows entries events done start over spares nodes-are rows-are entries-are net spare flushed settles woven law ranges joined =
+gathered w turns rs links now nodes rows entries events done start over spares nodes-are rows-are entries-are net spare flushed settles woven law rounds ranges joined =
     let flat : (u v : ℕ) → IsTrue (are_joined w.net.edges u v) → IsFlushedBetween (rows_of rs) u v = λ u v joint. subst (λ r. IsFlushedBetween r u v) rows-are (flushed u v (ap (λ n. are_joined n.edges u v) (sym over.0) ∙ joint)) in
     let weave = subst (λ e. IsWoven (journal_of e) events) entries-are woven in
-    let run = is-run w turns rs done start flat joined events weave law in
+    let run = is-run w turns rs done start flat joined events weave law rounds in
     let able = settleable w turns rs done start flat joined events weave law ranges in
     let able' : AreSettleable links.net rows = subst (λ r. AreSettleable links.net r) (sym rows-are) (subst (λ n. AreSettleable n (rows_of rs)) over.0 able) in
     let link : settled w.net (rows_of rs) w.link ≡ under_way now =

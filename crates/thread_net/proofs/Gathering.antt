@@ -20,18 +20,18 @@ use Rattle.weaving.specs.Journals.{journal_of}
 use Rattle.weaving.specs.Laws.{GoesThrough, WovenIsRun}
 use Rattle.weaving.specs.Matched.{AreMatched, AreOf, IsLinkMatched, stamps}
 use Rattle.weaving.specs.Woven.{AreRising, IsWoven}
-use Rattle.thread_net.specs.declared.runner.Port.{Port}
-use Rattle.thread_net.specs.declared.runner.Runner.{Runner}
-use Rattle.thread_net.specs.Ports.{IsSender, IsReceiver}
-use Rattle.thread_net.specs.Runner.{IsTold, IsPortTold}
-use Rattle.thread_net.specs.Rounds.{AreRounds}
+use Rattle.node_runner.specs.declared.runner.Port.{Port}
+use Rattle.node_runner.specs.declared.runner.Runner.{Runner}
+use Rattle.node_runner.specs.Ports.{IsSender, IsReceiver}
+use Rattle.node_runner.specs.Runner.{IsTold, IsPortTold}
+use Rattle.node_runner.specs.Rounds.{AreRounds}
 use Rattle.thread_net.specs.Cables.{row, rows_of, port_to, left_between, left_on_ports, settled, IsFlushedOn, IsFlushedBetween, AreSettleable}
 use Rattle.thread_net.specs.Seats.{nodes_of, entries_of_all}
 use Rattle.thread_net.specs.Done.{HasDone, HaveDone, IsStart}
 use Rattle.thread_net.specs.ThreadRun.{IsThreadRun}
-use Rattle.thread_net.specs.FirstTurn.{IsFirstTurn, count_of, is_tick_of}
-use Rattle.thread_net.specs.Due.{events_of}
-use Rattle.thread_net.proofs.AccountEvents.{rounds-ticks}
+use Rattle.node_runner.specs.FirstTurn.{IsFirstTurn, count_of, is_tick_of}
+use Rattle.node_runner.specs.Due.{events_of}
+use Rattle.node_runner.specs.Laws.{EachRoundTicks}
 use Rattle.thread_net.proofs.OwnEvents.{own-deeds, own-ticks}
 use Rattle.thread_net.proofs.Matching.{Rise, link-matched}
 
@@ -265,8 +265,8 @@ module _ {A : Type 0} where
         both-laws : (run w events ≡ last) × GoesThrough w events
         both-laws = law w last account (journal_of (entries_of_all rs)) events start.range matched told-of woven
 
-        pub is-run : IsThreadRun turns w events last
-        is-run = record {
+        pub is-run : EachRoundTicks → IsThreadRun turns w events last
+        is-run rounds-tick = record {
           leads = both-laws.0;
           through = both-laws.1;
           account = account;
@@ -278,7 +278,7 @@ module _ {A : Type 0} where
           rounds = all-rounds;
           ticks = λ v lt.
               own-ticks v events
-              ∙ (ap (count_of (is_tick_of v)) (own-deeds account (journal_of (entries_of_all rs)) events v told-of woven) ∙ rounds-ticks v (neighbours_of w.net v) (turns v) (account v) (all-rounds v lt));
+              ∙ (ap (count_of (is_tick_of v)) (own-deeds account (journal_of (entries_of_all rs)) events v told-of woven) ∙ rounds-tick v (neighbours_of w.net v) (turns v) (account v) (all-rounds v lt));
           first = λ v lt some. subst (IsFirstTurn w v) (sym (own-deeds account (journal_of (entries_of_all rs)) events v told-of woven)) (all-first v lt some);
         }
 

@@ -1,14 +1,4 @@
-pub mod Stamps
-pub mod Spends
-pub mod Accounts
-pub mod AccountEvents
 pub mod OwnEvents
-pub mod FirstRows
-pub mod Chances
-pub mod Deeds
-pub mod PortLists
-pub mod PortDeeds
-pub mod Rounds
 pub mod Zips
 pub mod Maps
 pub mod Cabling

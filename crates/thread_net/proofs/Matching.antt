@@ -6,10 +6,10 @@ use Rattle.rtrb.specs.Ring.{received}
 use Rattle.link_model.specs.declared.item.Item.{Item}
 use Rattle.weaving.specs.declared.journal.Stamped.{Stamped}
 use Rattle.weaving.specs.Matched.{AreAbove, stamps, items, IsLinkMatched}
-use Rattle.thread_net.specs.declared.ports.Outgoing.{Outgoing}
-use Rattle.thread_net.specs.declared.ports.Incoming.{Incoming}
-use Rattle.thread_net.specs.Stamps.{IsTakeOf, last_place}
-use Rattle.thread_net.specs.Ports.{opening, IsSender, IsReceiver}
+use Rattle.node_runner.specs.declared.ports.Outgoing.{Outgoing}
+use Rattle.node_runner.specs.declared.ports.Incoming.{Incoming}
+use Rattle.node_runner.specs.Stamps.{IsTakeOf, last_place}
+use Rattle.node_runner.specs.Ports.{opening, IsSender, IsReceiver}
 use Rattle.thread_net.specs.Cables.{IsFlushed, left_on}
 
 items-append : (xs ys : List Stamped) → items (xs ++ ys) ≡ items xs ++ items ys

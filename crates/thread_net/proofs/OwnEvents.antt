@@ -7,8 +7,8 @@ use Rattle.weaving.specs.declared.journal.Entry.{Entry}
 use Rattle.weaving.specs.Account.{Deed, Ticks, Sends, Takes, entry_of}
 use Rattle.weaving.specs.Matched.{AreOf}
 use Rattle.weaving.specs.Woven.{Placed, entries_of, IsWoven}
-use Rattle.thread_net.specs.FirstTurn.{count_of, deeds_of, is_deed_of, is_tick_of}
-use Rattle.thread_net.specs.Due.{events_of}
+use Rattle.node_runner.specs.FirstTurn.{count_of, deeds_of, is_deed_of, is_tick_of}
+use Rattle.node_runner.specs.Due.{events_of}
 
 -- the event of the entry is a deed of u
 abbrev IsOwn : ℕ → Entry → Type 0

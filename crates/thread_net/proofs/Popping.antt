@@ -2,7 +2,7 @@
 use Rattle.std.proofs.Common.{◌≡◌, ◌≢◌, ℕ, ◌+◌, ◌<◌, true, List, [], ◌∷◌, ◌++◌, length, arith, slice_set}
 use Rattle.std.specs.declared.vec.Vec.{Vec}
 use Rattle.topology.specs.Network.{Network, are_joined}
-use Rattle.thread_net.specs.declared.runner.Port.{Port}
+use Rattle.node_runner.specs.declared.runner.Port.{Port}
 use Rattle.thread_net.specs.Cables.{IsCable, AreCabled, ids_in, row, reach, neighbours_below}
 use Rattle.thread_net.specs.Tables.{rows_in}
 use Rattle.thread_net.proofs.Maps.{map-long}

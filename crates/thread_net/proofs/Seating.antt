@@ -3,7 +3,7 @@ use Rattle.std.proofs.Common.{◌≡◌, ℕ, ◌+◌, ◌<◌, ◌≤◌, List,
 use Rattle.std.proofs.lemmas.List.{get_or-map, take_more_set, take_more}
 use Rattle.std.proofs.lemmas.List.Elements.{All-push, All-set}
 use Rattle.node_core.specs.View.{NodeView, site_in}
-use Rattle.thread_net.specs.declared.runner.Runner.{Runner}
+use Rattle.node_runner.specs.declared.runner.Runner.{Runner}
 use Rattle.thread_net.specs.Cables.{seat_of, seats_of}
 use Rattle.thread_net.specs.Seats.{IsNew, HasRoom, AreShort, degree_of, entry_room, total_room, nodes_of}
 use Rattle.thread_net.proofs.Maps.{map-set, map-long}

@@ -12,7 +12,7 @@ use Rattle.topology.specs.Laws.{JoinedAreNodes, NotToItself}
 use Rattle.topology.specs.Network.{IsAcceptedNetwork}
 use Rattle.link_model.specs.declared.item.Item.{Item}
 use Rattle.run_model.specs.World.{at_pair}
-use Rattle.thread_net.specs.declared.runner.Port.{Port}
+use Rattle.node_runner.specs.declared.runner.Port.{Port}
 use Rattle.thread_net.specs.Cables.{IsCable, AreCabled, ids_in, row, reach, rows_reach, neighbours_below, port_to, left_on, left_on_ports, left_between, settled, IsFlushed, IsFlushedOn, IsFlushedBetween, IsRoomFor, AreSettleable}
 use Rattle.thread_net.specs.Settling.{is_settled, are_from, IsSettling, IsSettlingFrom, AreRowsSettled}
 use Rattle.thread_net.proofs.Cabling.{reach-u, reach-v, next-u, next-v, next-x, below-yes, below-all, done-reach, row-reach, skip-reach, all-reach, row-other}

@@ -10,8 +10,8 @@ use Rattle.node_core.specs.View.{NodeView, site_in, state_of}
 use Rattle.run_model.specs.World.{World}
 use Rattle.configuration.specs.ConfigurationView.{AreNodesOf, no_node, node_at, world_of}
 use Rattle.configuration.specs.LinksView.{LinksView}
-use Rattle.thread_net.specs.declared.runner.Runner.{Runner}
-use Rattle.thread_net.specs.Runner.{IsPortTold, port_ids}
+use Rattle.node_runner.specs.declared.runner.Runner.{Runner}
+use Rattle.node_runner.specs.Runner.{IsPortTold, port_ids}
 use Rattle.thread_net.specs.Cables.{AreFurnished, neighbours_below, row, rows_of, seat_of, seats_of}
 use Rattle.thread_net.specs.Seats.{IsNew, HasRoom, AreAtStart, AreShort, IsAtStart, degree_of, nodes_of}
 use Rattle.thread_net.proofs.Cabling.{below-yes, below-no}

@@ -12,11 +12,11 @@ use Rattle.configuration.specs.LinksView.{LinksView, under_way}
 use Rattle.weaving.specs.declared.journal.Journal.{Journal}
 use Rattle.weaving.specs.declared.journal.Stamped.{Stamped}
 use Rattle.weaving.specs.Matched.{items}
-use Rattle.thread_net.specs.declared.ports.Outgoing.{Outgoing}
-use Rattle.thread_net.specs.declared.ports.Incoming.{Incoming}
-use Rattle.thread_net.specs.declared.runner.Port.{Port}
-use Rattle.thread_net.specs.declared.runner.Runner.{Runner}
-use Rattle.thread_net.specs.Runner.{IsPortTold}
+use Rattle.node_runner.specs.declared.ports.Outgoing.{Outgoing}
+use Rattle.node_runner.specs.declared.ports.Incoming.{Incoming}
+use Rattle.node_runner.specs.declared.runner.Port.{Port}
+use Rattle.node_runner.specs.declared.runner.Runner.{Runner}
+use Rattle.node_runner.specs.Runner.{IsPortTold}
 
 -- they are the two ends of one link
 abbrev pub AreEnds : {A : Type 0} → Outgoing A → Incoming A → Type 0

@@ -10,12 +10,12 @@ use Rattle.configuration.specs.LinksView.{LinksView, spare_pairs}
 use Rattle.judge.specs.Stretch.{StretchView, HasRoomFor}
 use Rattle.weaving.specs.Account.{Deed}
 use Rattle.weaving.specs.Journals.{entry_count}
-use Rattle.thread_net.specs.declared.runner.Runner.{Runner}
+use Rattle.node_runner.specs.declared.runner.Runner.{Runner}
 use Rattle.thread_net.specs.declared.seats.Seats.{Seats}
-use Rattle.thread_net.specs.Runner.{IsTold}
-use Rattle.thread_net.specs.Rounds.{AreRounds}
-use Rattle.thread_net.specs.FirstTurn.{IsFirstTurn}
-use Rattle.thread_net.specs.Due.{events_of}
+use Rattle.node_runner.specs.Runner.{IsTold}
+use Rattle.node_runner.specs.Rounds.{AreRounds}
+use Rattle.node_runner.specs.FirstTurn.{IsFirstTurn}
+use Rattle.node_runner.specs.Due.{events_of}
 use Rattle.thread_net.specs.Cables.{AreCabled, IsOver, ids_in, row, rows_of}
 use Rattle.thread_net.specs.Seats.{entries_of_all}
 use Rattle.thread_net.specs.Tables.{AreEmptySeats}

@@ -1,10 +1,10 @@
 -- What a thread hands back of the runner that it got.
 use Rattle.std.specs.Prelude.{◌≡◌, ℕ, ◌+◌, ◌*◌, ◌<◌, ◌≤◌, Bool, true, false, List, length, vec_capacity}
 use Rattle.weaving.specs.Account.{Deed}
-use Rattle.thread_net.specs.declared.runner.Runner.{Runner}
-use Rattle.thread_net.specs.Runner.{IsReady, Does, port_ids, round_room}
-use Rattle.thread_net.specs.Rounds.{AreRounds}
-use Rattle.thread_net.specs.Due.{BeginsWhole}
+use Rattle.node_runner.specs.declared.runner.Runner.{Runner}
+use Rattle.node_runner.specs.Runner.{IsReady, Does, port_ids, round_room}
+use Rattle.node_runner.specs.Rounds.{AreRounds}
+use Rattle.node_runner.specs.Due.{BeginsWhole}
 
 -- the runner is ready, with room for that number of turns
 abbrev pub MayRun : {A : Type 0} → ℕ → Runner A → Type 0

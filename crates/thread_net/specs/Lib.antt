@@ -1,9 +1,3 @@
-pub mod Stamps
-pub mod Ports
-pub mod Runner
-pub mod Rounds
-pub mod FirstTurn
-pub mod Due
 pub mod Cables
 pub mod Seats
 pub mod Settling

@@ -1,7 +1,7 @@
 -- What starting a runner gives, and what comes back.
 use Rattle.std.specs.Prelude.{◌≡◌, ℕ, zero, suc, Bool, true, ◌&&◌, if◌then◌else◌, List, [], ◌∷◌, map}
 use Rattle.std.specs.declared.alloc.Global.{Global}
-use Rattle.thread_net.specs.declared.runner.Runner.{Runner}
+use Rattle.node_runner.specs.declared.runner.Runner.{Runner}
 use Rattle.thread_net.specs.declared.threads.Outcome.{Outcome}
 use Rattle.thread_net.specs.declared.threads.Started.{Started}
 use Rattle.thread_net.specs.declared.threads.Started.TheVariants.{Running, Back}

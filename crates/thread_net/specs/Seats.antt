@@ -3,8 +3,8 @@ use Rattle.std.specs.Prelude.{◌≡◌, ℕ, ◌+◌, ◌*◌, ◌<◌, ◌≤�
 use Rattle.node_core.specs.View.{NodeView, site_in}
 use Rattle.run_model.specs.World.{World}
 use Rattle.weaving.specs.declared.journal.Entry.{Entry}
-use Rattle.thread_net.specs.declared.runner.Runner.{Runner}
-use Rattle.thread_net.specs.Runner.{IsTold, IsReady, round_room}
+use Rattle.node_runner.specs.declared.runner.Runner.{Runner}
+use Rattle.node_runner.specs.Runner.{IsTold, IsReady, round_room}
 use Rattle.thread_net.specs.Cables.{AreCabled, rows_of, Seat}
 
 -- the node of each

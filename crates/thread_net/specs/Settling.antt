@@ -2,7 +2,7 @@
 use Rattle.std.specs.Prelude.{◌≡◌, ℕ, ◌<◌, ◌==◌, ◌&&◌, ◌||◌, Bool, true, false, if◌then◌else◌, nat_lt, nat_le, IsTrue, List}
 use Rattle.topology.specs.Network.{Network, are_joined}
 use Rattle.link_model.specs.declared.item.Item.{Item}
-use Rattle.thread_net.specs.declared.runner.Port.{Port}
+use Rattle.node_runner.specs.declared.runner.Port.{Port}
 use Rattle.thread_net.specs.Cables.{AreCabled, ids_in, row, reach, rows_reach, neighbours_below, left_between, port_to, IsFlushedBetween, AreSettleable}
 
 -- the pair of a and the greater b is that of u and v, or comes behind it

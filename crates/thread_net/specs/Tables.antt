@@ -1,7 +1,7 @@
 -- The tables to which the parts of runners go.
 use Rattle.std.specs.Prelude.{◌≡◌, ℕ, ◌≤◌, List, [], map, vec_capacity}
 use Rattle.std.specs.declared.vec.Vec.{Vec}
-use Rattle.thread_net.specs.declared.runner.Port.{Port}
+use Rattle.node_runner.specs.declared.runner.Port.{Port}
 use Rattle.thread_net.specs.declared.seats.Seats.{Seats}
 
 -- the ports in some tables

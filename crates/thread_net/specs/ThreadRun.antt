@@ -9,8 +9,8 @@ use Rattle.weaving.specs.Account.{Deed}
 use Rattle.weaving.specs.Laws.{GoesThrough}
 use Rattle.weaving.specs.Matched.{AreMatched, AreOf}
 use Rattle.weaving.specs.Woven.{AreRising, IsWoven}
-use Rattle.thread_net.specs.Rounds.{AreRounds}
-use Rattle.thread_net.specs.FirstTurn.{IsFirstTurn, count_of, deeds_of, is_tick_of}
+use Rattle.node_runner.specs.Rounds.{AreRounds}
+use Rattle.node_runner.specs.FirstTurn.{IsFirstTurn, count_of, deeds_of, is_tick_of}
 
 -- The events lead from the one world to the other: each is a tick, a send to a link that has room,
 -- or a take of an item that is there, and none is refused. They are woven of one journal a node,

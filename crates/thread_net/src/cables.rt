@@ -5,14 +5,13 @@ ghost use Rattle.topology.specs.Network.{are_joined};
 ghost use Rattle.run_model.specs.World.{World};
 ghost use Rattle.configuration.specs.LinksView.{LinksView, under_way};
 ghost use Rattle.rtrb.specs.Ring.{sent, known_free, SameProducer};
-ghost use Rattle.thread_net.specs.Ports.{opening, IsSender, IsReceiver};
-ghost use Rattle.thread_net.specs.Runner.{IsPortTold};
+ghost use Rattle.node_runner.specs.Ports.{opening, IsSender, IsReceiver};
+ghost use Rattle.node_runner.specs.Runner.{IsPortTold};
 ghost use Rattle.thread_net.specs.Cables.{AreEnds, IsCable, AreLaid, AreFurnished, rows_of, row};
 ghost use Rattle.thread_net.specs.Cables.{reach, seats_of, AreWithin, IsOver};
 
-use crate::ports::{Incoming, Outgoing, StampBound};
-use crate::runner::{Port, Runner};
 use configuration::Links;
+use node_runner::{Incoming, Outgoing, Port, Runner, StampBound};
 use rtrb::{Producer, RingBuffer};
 use std::alloc::{AllocError, Allocator};
 use weaving::Stamped;

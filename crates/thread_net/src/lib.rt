@@ -3,7 +3,8 @@
 //! A directed link is two rings of `rtrb`: one carries items to its receiver, the other carries the
 //! places that these leave free back to its sender. Together they hold as many as the link's
 //! capacity says, so no send meets a full link. Each item and each place has the stamp of the event
-//! that sent it ([`Outgoing`], [`Incoming`]).
+//! that sent it. What one node does on its thread is `node_runner`'s, whose gates are offered here
+//! too.
 //!
 //! What nodes do is a run whatever a scheduler does; a [`Gate`] only holds them back.
 //!
@@ -17,16 +18,11 @@
 #![tactic(auto)]
 
 mod cables;
-mod gates;
-mod ports;
 pub mod prepare;
 mod run;
-mod runner;
 mod seats;
 mod settle;
 mod threads;
 
-pub use gates::{Gate, Meet, Open, Pace};
-pub use ports::{Incoming, Outgoing, StampBound};
+pub use node_runner::{Gate, Meet, Open, Pace};
 pub use run::{RunFault, Woven, prepare_world, run_threads};
-pub use runner::{Port, Runner};

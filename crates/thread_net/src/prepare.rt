@@ -12,10 +12,10 @@ ghost use Rattle.thread_net.specs.Tables.{AreEmptySeats};
 ghost use Rattle.thread_net.specs.Prepared.{IsPrepared};
 
 use crate::cables::cable_all;
-use crate::runner::Runner;
 use crate::seats::{Seats, new_seats, reserve_journals, seat_all, total_room, unseat_all};
 use configuration::Links;
 use judge::{Parts, Stretch};
+use node_runner::Runner;
 use run_model::Event;
 use std::alloc::{AllocError, Allocator};
 

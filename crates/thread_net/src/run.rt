@@ -6,14 +6,13 @@ ghost use Rattle.thread_net.specs.Done.{CanGather, Gathers};
 ghost use Rattle.thread_net.specs.ThreadRun.{IsThreadRun};
 ghost use Rattle.thread_net.specs.Fault.{IsFault};
 
-use crate::gates::Gate;
 use crate::prepare::{Prepared, prepare};
-use crate::runner::Runner;
 use crate::seats::{Seats, unseat_all};
 use crate::settle::settle_all;
 use crate::threads::{Outcome, Started, run_all};
 use configuration::Links;
 use judge::{Parts, Stretch, World};
+use node_runner::{Gate, Runner};
 use run_model::Event;
 use std::alloc::{AllocError, Allocator, Global};
 use std::sync::Wait;
@@ -79,6 +78,7 @@ fn gather<A: Allocator + Copy>(
 {
     topology::laws::joined();
     weaving::laws::weave();
+    node_runner::laws::rounds();
     run_model::laws::in_range();
     let mut links = links;
     let mut seats = seats;

@@ -9,8 +9,8 @@ ghost use Rattle.thread_net.specs.Seats.{nodes_of, entries_of_all, IsNew, entry_
 ghost use Rattle.thread_net.specs.Seats.{total_room, AreShort};
 ghost use Rattle.thread_net.specs.Tables.{rows_in, AreEmptySeats};
 
-use crate::runner::{Port, Runner};
 use node_core::Node;
+use node_runner::{Port, Runner};
 use std::alloc::{AllocError, Allocator};
 use weaving::Journal;
 

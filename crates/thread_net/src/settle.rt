@@ -6,16 +6,15 @@ ghost use Rattle.topology.specs.Ranges.{ranges_of};
 ghost use Rattle.link_model.specs.declared.item.Item.{Item};
 ghost use Rattle.run_model.specs.World.{at_pair, item_fits};
 ghost use Rattle.configuration.specs.LinksView.{under_way};
-ghost use Rattle.thread_net.specs.declared.runner.Port.{Port};
+ghost use Rattle.node_runner.specs.declared.runner.Port.{Port};
 ghost use Rattle.thread_net.specs.Cables.{left_on, settled, AreSettleable, AreCabled, row, ids_in};
 ghost use Rattle.thread_net.specs.Cables.{AreEnds, IsFlushed, IsFlushedBetween, IsRoomFor};
 ghost use Rattle.thread_net.specs.Settling.{IsSettlingFrom};
 ghost use Rattle.thread_net.specs.Tables.{rows_in};
 
-use crate::ports::{Incoming, Outgoing};
-use crate::runner::Port;
 use configuration::Links;
 use link_model::Item;
+use node_runner::{Incoming, Outgoing, Port};
 use std::alloc::Allocator;
 use topology::Net;
 

@@ -4,8 +4,7 @@ ghost use Rattle.std.specs.List.{AllZip};
 ghost use Rattle.std.specs.declared.alloc.Global.{Global};
 ghost use Rattle.thread_net.specs.Outcomes.{Keeps, MayRun, IsStartOf, IsOutcomeOf};
 
-use crate::gates::Gate;
-use crate::runner::Runner;
+use node_runner::{Gate, Runner};
 use std::snapshot::Snapshot;
 use std::sync::Wait;
 use std::sync::atomic::{AtomicBool, Ordering};

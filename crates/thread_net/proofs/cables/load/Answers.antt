@@ -1,7 +1,7 @@
 use Rattle.std.proofs.Common.{rules, ap, ◌≡◌, ◌∙◌, ◌++◌, ◌∷◌, [], ◌+◌, take}
 use Rattle.std.proofs.lemmas.List.{map_push}
 use Rattle.configuration.specs.LinksView.{under_way}
-use Rattle.thread_net.specs.Ports.{stamped, opening}
+use Rattle.node_runner.specs.Ports.{stamped, opening}
 use Rattle.thread_net.proofs.Maps.{get-more}
 use Rattle.thread_net.proofs.cables.load.Goals as goal
 

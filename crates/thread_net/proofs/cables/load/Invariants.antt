@@ -1,7 +1,7 @@
 use Rattle.std.proofs.Common.{◌≡◌, ◌+◌, take}
 use Rattle.configuration.specs.LinksView.{under_way}
 use Rattle.rtrb.specs.Ring.{sent, known_free, SameProducer}
-use Rattle.thread_net.specs.Ports.{opening}
+use Rattle.node_runner.specs.Ports.{opening}
 use Rattle.thread_net.proofs.cables.load.Given as goal
 
 abbrev pub invariant-loop-index : goal.invariant-loop-index

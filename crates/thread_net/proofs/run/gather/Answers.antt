@@ -72,4 +72,4 @@ returns g c = λ w turns it.
     subst (λ v. IsThreadRun turns w c.weave-2.new.out.items (world_of v)) (sym c.from_parts.ensures)
     (gathered w turns c.args.runners.items c.args.links c.settle_all.new.links c.unseat_all.new.seats.nodes.items (rows_in c.unseat_all.new.seats.rows.items)
     (entries_in c.unseat_all.new.seats.journals.items) c.weave-2.new.out.items it.done it.start it.over it.spares c.unseat_all.ensures.nodes c.unseat_all.ensures.rows c.unseat_all.ensures.journals
-    c.settle_all.ensures.net c.settle_all.ensures.spares c.settle_all.ensures.flushed c.settle_all.ensures.settled woven c.weave.ensures c.in_range.ensures c.joined.ensures.nodes)
+    c.settle_all.ensures.net c.settle_all.ensures.spares c.settle_all.ensures.flushed c.settle_all.ensures.settled woven c.weave.ensures c.rounds.ensures c.in_range.ensures c.joined.ensures.nodes)

@@ -1,6 +1,6 @@
 use Rattle.std.proofs.Common.{rules, arith, ap, sym, refl, ◌≡◌, ◌∙◌, ◌<◌, ◌≤◌, length}
 use Rattle.std.proofs.lemmas.List.{length-set}
-use Rattle.thread_net.specs.declared.runner.Runner.{Runner}
+use Rattle.node_runner.specs.declared.runner.Runner.{Runner}
 use Rattle.thread_net.specs.Cables.{seat_of}
 use Rattle.thread_net.specs.Seats.{HasRoom, entry_room, degree_of, nodes_of}
 use Rattle.node_core.specs.View.{site_in}

@@ -1,7 +1,7 @@
 use Rattle.std.proofs.Common.{◌≡◌, ℕ, ◌-◌, List, length}
 use Rattle.link_model.specs.declared.item.Item.{Item}
 use Rattle.configuration.specs.LinksView.{under_way}
-use Rattle.thread_net.specs.declared.runner.Port.{Port}
+use Rattle.node_runner.specs.declared.runner.Port.{Port}
 use Rattle.thread_net.specs.Settling.{IsSettlingFrom}
 use Rattle.thread_net.specs.Tables.{rows_in}
 use Rattle.thread_net.proofs.settle.settle_row.Given as goal

@@ -3,7 +3,7 @@ use Rattle.std.specs.List.{AllZip}
 use Rattle.std.specs.Vec.Iter.{into_iter_items, into_iter_len}
 use Rattle.std.specs.declared.alloc.Global.{Global}
 use Rattle.thread_net.specs.Outcomes.{IsStartOf, IsOutcomeOf}
-use Rattle.thread_net.specs.declared.runner.Runner.{Runner}
+use Rattle.node_runner.specs.declared.runner.Runner.{Runner}
 use Rattle.thread_net.proofs.threads.finish_all.Given as goal
 
 abbrev pub invariant-loop-one : goal.invariant-loop-one

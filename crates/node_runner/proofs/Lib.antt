@@ -1,0 +1,10 @@
+pub mod Stamps
+pub mod Spends
+pub mod Accounts
+pub mod AccountEvents
+pub mod FirstRows
+pub mod Chances
+pub mod Deeds
+pub mod PortLists
+pub mod PortDeeds
+pub mod Rounds
