@@ -5,7 +5,7 @@
 //! how long that took. Its run in the gate is a small one; `bench/feed.sh` runs it on 64 MiB.
 #![tactic(auto)]
 
-ghost use Rattle.std.specs.Prelude.{◌<◌};
+ghost use Rattle.std.specs.Prelude.{◌<◌, IfOk};
 
 mod text;
 
@@ -17,25 +17,55 @@ use std::time::Instant;
 use text::{Kind, make_text};
 use topology::{Frame, Net};
 
+/// What is to be measured.
+#[derive(Clone, Copy)]
+struct Request {
+    kind: Kind,
+    /// The length of the text, in lines of 22 bytes.
+    lines: u32,
+    /// The bytes of a piece, at least 1.
+    piece: u32,
+}
+
 fn main(rt: HostRuntime) -> Result<()> {
-    let alloc = rt.alloc();
-    let words: Vec<String> = env::args(&rt)?.collect(alloc)?;
-    let [_program, kind, lines, piece] = words.as_slice() else {
+    let words: Vec<String> = env::args(&rt)?.collect(rt.alloc())?;
+    measure(&rt, request_of(words.as_slice())?)
+}
+
+/// What the words of the command line ask for.
+fn request_of(words: &[String]) -> Result<Request>
+    ensures { IfOk result (λ request. 0 < request.piece) }
+{
+    let [_program, kind, lines, piece] = words else {
         bail!("bench_feed TEXT LINES PIECE");
     };
     let Some(kind) = Kind::named(kind.as_str()) else {
         bail!("TEXT is good, noise, flat, empty or short");
     };
-    let lines: u32 = lines.as_str().parse()?;
-    let piece: u32 = piece.as_str().parse()?;
+    let lines = lines.as_str().parse()?;
+    let piece = piece.as_str().parse()?;
     if piece == 0 {
         bail!("PIECE is at least 1");
     }
-    let net = Net::make(alloc, 3, 0, 1, 0, &[(0, 1), (1, 2)])?;
-    let text = make_text(alloc, kind, lines)?;
-    let start = Instant::now(&rt)?;
-    let frames = count_frames(&text, piece as usize, &net, Vec::new(alloc))?;
-    let micros = start.elapsed(&rt)?.as_micros();
+    Ok(Request { kind, lines, piece })
+}
+
+/// Makes the text, and measures how fast it is read.
+fn measure(rt: &HostRuntime, request: Request) -> Result<()>
+    requires { 0 < request.piece }
+{
+    let text = make_text(rt.alloc(), request.kind, request.lines)?;
+    read_text(rt, &text, request.piece)
+}
+
+/// Reads a text, and prints how many frames it holds; on standard error, how long that took.
+fn read_text(rt: &HostRuntime, text: &[u8], piece: u32) -> Result<()>
+    requires { 0 < piece }
+{
+    let net = Net::make(rt.alloc(), 3, 0, 1, 0, &[(0, 1), (1, 2)])?;
+    let start = Instant::now(rt)?;
+    let frames = count_frames(text, piece as usize, &net, Vec::new(rt.alloc()))?;
+    let micros = start.elapsed(rt)?.as_micros();
     eprintln!(rt; "{} bytes in {} microseconds", text.len(), micros)?;
     println!(rt; "{frames} frames")?;
     Ok(())
