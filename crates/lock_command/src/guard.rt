@@ -54,19 +54,17 @@ fn start_copy<R: Processes + AllocGlobal>(
 
 /// Adds the words of a guarded `lock` that is asked for as much.
 fn add_words(command: &mut Command, alloc: Global, request: &Request) -> io::Result<()> {
-    command.arg("lock")?.arg("--guarded")?;
+    command.args(["lock", "--guarded"])?;
     if let Some(seconds) = request.seconds {
         let seconds = format!(in alloc; "{seconds}")?;
-        command.arg("--timeout")?.arg(seconds.as_str())?;
+        command.args(["--timeout", seconds.as_str()])?;
     }
     if request.keeps_running {
         command.arg("--keep")?;
     }
     let node = format!(in alloc; "{}", request.node)?;
-    command.arg("--")?.arg(request.folder)?.arg(node.as_str())?;
-    for word in request.command {
-        command.arg(*word)?;
-    }
+    command.args(["--", request.folder, node.as_str()])?;
+    command.args(request.command.iter().copied())?;
     Ok(())
 }
 

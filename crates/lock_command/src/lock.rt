@@ -1,4 +1,5 @@
 //! `lock`: a command is run under the lock.
+use crate::desk::Desk;
 use crate::notice::{Notice, NoticeLine};
 use crate::reach::reach;
 use crate::session::Session;
@@ -54,10 +55,17 @@ fn hold<'a, R: Net + Files + Processes + Clock + Input + Print + Eprint + AllocG
     rt: &R,
     request: &Request<'a>,
 ) -> Result<Outcome, Notice<'a>> {
+    let mut session = Session::new(rt, *request, desk_of(rt, request)?)?;
+    Ok(session.run(rt))
+}
+
+/// A connection to the desk of the node that is asked.
+fn desk_of<'a, R: Net + Files + Clock + AllocGlobal>(
+    rt: &R,
+    request: &Request<'a>,
+) -> Result<Desk, Notice<'a>> {
     let Ok(path) = desk_path(rt.alloc(), request.folder, request.node) else {
         return Err(Notice::Memory);
     };
-    let desk = reach(rt, path.as_str(), request.folder, request.node)?;
-    let mut session = Session::new(rt, *request, desk)?;
-    Ok(session.run(rt))
+    reach(rt, path.as_str(), request.folder, request.node)
 }

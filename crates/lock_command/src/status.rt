@@ -103,6 +103,17 @@ fn nodes_in<'a, R: Files + AllocGlobal>(rt: &R, folder: &'a str) -> Result<Vec<u
 /// The same, or what the system answers.
 fn sockets_in<R: Files + AllocGlobal>(rt: &R, alloc: Global, folder: &str) -> io::Result<Vec<u16>> {
     let mut nodes = Vec::new(alloc);
+    add_sockets(rt, folder, &mut nodes)?;
+    nodes.sort_unstable();
+    Ok(nodes)
+}
+
+/// Adds the nodes of the sockets in a folder.
+fn add_sockets<R: Files + AllocGlobal>(
+    rt: &R,
+    folder: &str,
+    nodes: &mut Vec<u16>,
+) -> io::Result<()> {
     for entry in fs::read_dir(&rt, folder)? {
         // What has a name that is no text is no desk's.
         let Ok(entry) = entry else {
@@ -112,8 +123,7 @@ fn sockets_in<R: Files + AllocGlobal>(rt: &R, alloc: Global, folder: &str) -> io
             nodes.push(node)?;
         }
     }
-    nodes.sort_unstable();
-    Ok(nodes)
+    Ok(())
 }
 
 /// Asks each of the nodes, all at once, and waits for their lines.

@@ -29,9 +29,7 @@ pub fn start<R: Processes>(rt: &R, alloc: Global, words: &[&str]) -> io::Result<
         return Err(io::Error::from(ErrorKind::NotFound));
     };
     let mut command = Command::new(alloc, *name)?;
-    for argument in arguments {
-        command.arg(*argument)?;
-    }
+    command.args(arguments.iter().copied())?;
     command.spawn(rt)
 }
 
@@ -106,17 +104,21 @@ fn read_input<R: Input>(rt: &R) -> Option<CommandEnd> {
 /// Sends SIGTERM to a process, by the shell's own `kill`, since the library has SIGKILL alone.
 fn ask_to_end<R: Processes>(rt: &R, alloc: Global, process: u32) -> io::Result<()> {
     let number = format!(in alloc; "{process}")?;
-    let status = Command::new(alloc, "/bin/sh")?
-        .arg("-c")?
-        .arg("kill -TERM \"$0\"")?
-        .arg(number.as_str())?
-        .stdin(Stdio::null())
-        .stdout(Stdio::null())
-        .stderr(Stdio::null())
-        .status(rt)?;
-    if status.success() {
+    let mut command = shell(alloc)?;
+    command.args(["-c", "kill -TERM \"$0\"", number.as_str()])?;
+    if command.status(rt)?.success() {
         Ok(())
     } else {
         Err(io::Error::from(ErrorKind::Other))
     }
+}
+
+/// The shell, which reads nothing and whose output goes nowhere.
+fn shell(alloc: Global) -> io::Result<Command> {
+    let mut command = Command::new(alloc, "/bin/sh")?;
+    command
+        .stdin(Stdio::null())
+        .stdout(Stdio::null())
+        .stderr(Stdio::null());
+    Ok(command)
 }
