@@ -29,29 +29,25 @@ fn has<R: Files + AllocGlobal>(rt: &R, path: &str, bytes: &[u8]) -> Result<bool,
     Ok(fs::read(rt, path)?.as_slice() == bytes)
 }
 
-/// Saves this number of equal bytes. Whether they are loaded again, and stand in the file under its
-/// other name.
+/// Saves these bytes. Whether they are loaded again, and stand in the file under its other name.
 fn goes_in_place<R: Files + AllocGlobal>(
     rt: &R,
     path: &str,
-    length: usize,
-    byte: u8,
+    bytes: &[u8],
 ) -> Result<bool, Fail> {
-    let all = [byte; 1276];
-    let bytes = &all[..length.min(1276)];
     let is_saved = saved(rt, path, bytes) == Ok(());
-    let is_loaded = loaded(rt, path) == Ok((length, bytes.last().copied()));
+    let is_loaded = loaded(rt, path) == Ok((bytes.len(), bytes.last().copied()));
     Ok(is_saved && is_loaded && has(rt, "same.state", bytes)?)
 }
 
-/// Numbers of bytes, and the byte that all of them are.
-const LENGTHS: [(usize, u8); 4] = [(1276, 1), (16, 2), (0, 0), (36, 3)];
+/// What is saved one behind the other: the longest state, shorter ones, and nothing.
+const STATES: [&[u8]; 4] = [&[1; 1276], &[2; 16], b"", &[3; 36]];
 
 /// Gives a file its other name. The place of the first of these that does not go in place.
 fn first_not_in_place<R: Files + AllocGlobal>(rt: &R, path: &str) -> Result<Option<usize>, Fail> {
     fs::hard_link(rt, path, "same.state")?;
-    for (at, (length, byte)) in LENGTHS.iter().enumerate() {
-        if !goes_in_place(rt, path, *length, *byte)? {
+    for (at, bytes) in STATES.iter().enumerate() {
+        if !goes_in_place(rt, path, *bytes)? {
             return Ok(Some(at));
         }
     }
