@@ -567,7 +567,12 @@ struct TestProgram<'a> {
 }
 
 /// The copy of the test program at `program` that is the node of this number, and is kept running.
-fn kept_at(alloc: Global, program: &str, dir: &str, number: &str) -> Result<Command, AllocError> {
+fn kept_at<'a>(
+    alloc: Global,
+    program: &str,
+    dir: &'a str,
+    number: &'a str,
+) -> Result<Command, AllocError> {
     let variables = [
         ("TOKENTREE_ID", number),
         ("TOKENTREE_DIR", dir),
