@@ -1,5 +1,6 @@
 //! The store over a real file, and over what may stand in a file's place.
 use node_state_file::{FileStore, Store, StoreFault};
+use std::alloc::{AllocError, Global};
 use std::fs;
 use std::os::unix::fs::PermissionsExt;
 use std::process::{Command, Processes};
@@ -103,10 +104,16 @@ fn a_file_is_written_in_place(rt: HostRuntime) -> Result<(), Fail> {
     Ok(())
 }
 
+/// The command that makes a pipe.
+fn pipe_maker(alloc: Global, path: &str) -> Result<Command, AllocError> {
+    let mut command = Command::new(alloc, "mkfifo")?;
+    command.arg(path)?;
+    Ok(command)
+}
+
 /// Makes a pipe, and says whether there is one then.
 fn make_pipe<R: Processes + AllocGlobal>(rt: &R, path: &str) -> Result<bool, Fail> {
-    let status = Command::new(rt.alloc(), "mkfifo")?.arg(path)?.status(rt)?;
-    Ok(status.success())
+    Ok(pipe_maker(rt.alloc(), path)?.status(rt)?.success())
 }
 
 /// What may stand in a file's place.

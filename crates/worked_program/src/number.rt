@@ -6,11 +6,11 @@ use std::test::Fail;
 
 /// What stands in front of a number and behind it; the most that the number may be, and one more;
 /// and the status of the line with the most.
-type Row<'a> = (&'a str, &'a str, &'a str, &'a str, u8);
+type Row = (&'static str, &'static str, &'static str, &'static str, u8);
 
 /// No file of these lines is there: so where the number is taken the status is 1, or 0 where the
 /// line prints no junk.
-const NUMBERS: [Row<'static>; 19] = [
+const NUMBERS: [Row; 19] = [
     ("draw absent.toml - --columns ", "", "1200", "1201", 1),
     (
         "draw absent.toml - --from ",
@@ -96,18 +96,14 @@ const NUMBERS: [Row<'static>; 19] = [
 const SPELLINGS: [&str; 4] = ["+1", "01", "-1", "1.0"];
 
 /// Whether a row's command line with this number ends with this status.
-fn number_ends<R: Runs>(rt: &R, row: &Row<'_>, number: &str, want: u8) -> Result<bool, AllocError> {
+fn number_ends<R: Runs>(rt: &R, row: &Row, number: &str, want: u8) -> Result<bool, AllocError> {
     let line = format!(in rt.alloc(); "tokentree {}{number}{}", row.0, row.1)?;
     ends_with(rt, line.as_str(), want)
 }
 
-/// The first of these spellings that a row's command line does not refuse.
-fn first_taken<'a, R: Runs>(
-    rt: &R,
-    row: &Row<'_>,
-    spellings: &[&'a str],
-) -> Result<Option<&'a str>, AllocError> {
-    for spelling in spellings {
+/// The first of those spellings that a row's command line does not refuse.
+fn first_taken<R: Runs>(rt: &R, row: &Row) -> Result<Option<&'static str>, AllocError> {
+    for spelling in SPELLINGS {
         if !number_ends(rt, row, spelling, 2)? {
             return Ok(Some(spelling));
         }
@@ -116,9 +112,9 @@ fn first_taken<'a, R: Runs>(
 }
 
 /// The first number with which a row's command line ends otherwise than it should.
-fn first_other_number<'a, R: Runs>(rt: &R, row: &Row<'a>) -> Result<Option<&'a str>, AllocError> {
+fn first_other_number<R: Runs>(rt: &R, row: &Row) -> Result<Option<&'static str>, AllocError> {
     let (_, _, most, above, status) = *row;
-    let taken = first_taken(rt, row, &SPELLINGS)?;
+    let taken = first_taken(rt, row)?;
     if taken.is_some() {
         return Ok(taken);
     }
@@ -133,10 +129,10 @@ fn first_other_number<'a, R: Runs>(rt: &R, row: &Row<'a>) -> Result<Option<&'a s
 
 /// The place of the first row with a number with which its command line ends otherwise, and that
 /// number.
-fn first_other_row<'a, R: Runs>(
+fn first_other_row<R: Runs>(
     rt: &R,
-    rows: &[Row<'a>],
-) -> Result<Option<(usize, &'a str)>, AllocError> {
+    rows: &[Row],
+) -> Result<Option<(usize, &'static str)>, AllocError> {
     for (at, row) in rows.iter().enumerate() {
         if let Some(number) = first_other_number(rt, row)? {
             return Ok(Some((at, number)));
