@@ -31,11 +31,7 @@ fn has<R: Files + AllocGlobal>(rt: &R, path: &str, bytes: &[u8]) -> Result<bool,
 }
 
 /// Saves these bytes. Whether they are loaded again, and stand in the file under its other name.
-fn goes_in_place<R: Files + AllocGlobal>(
-    rt: &R,
-    path: &str,
-    bytes: &[u8],
-) -> Result<bool, Fail> {
+fn goes_in_place<R: Files + AllocGlobal>(rt: &R, path: &str, bytes: &[u8]) -> Result<bool, Fail> {
     let is_saved = saved(rt, path, bytes) == Ok(());
     let is_loaded = loaded(rt, path) == Ok((bytes.len(), bytes.last().copied()));
     Ok(is_saved && is_loaded && has(rt, "same.state", bytes)?)

@@ -70,11 +70,18 @@ fn in_a_copy(rt: HostRuntime) -> Result<(), Fail> {
 /// second tells, 8,192 of them a thread's stack.
 const LIMITED: &str = "ulimit -S -s 8192; ulimit -v $1; exec \"$0\" refused::in_a_copy";
 
-/// Tells a shell to become a copy of this program with as many kilobytes.
+/// The words for that shell.
 fn add_words(command: &mut Command, program: Path, kilobytes: &str) -> Result<(), Fail> {
     command.arg("-c")?.arg(LIMITED)?.arg(program)?;
     command.arg(kilobytes)?.env(COPY, "1")?;
     Ok(())
+}
+
+/// A shell that becomes a copy of this program with as many kilobytes.
+fn limited(alloc: Global, program: Path, kilobytes: &str) -> Result<Command, Fail> {
+    let mut command = Command::new(alloc, "sh")?;
+    add_words(&mut command, program, kilobytes)?;
+    Ok(command)
 }
 
 /// Whether a copy of this program that has as many kilobytes writes this first.
@@ -84,9 +91,7 @@ fn copy_says<R: Processes + AllocGlobal>(
     kilobytes: &str,
     text: &str,
 ) -> Result<bool, Fail> {
-    let mut command = Command::new(rt.alloc(), "sh")?;
-    add_words(&mut command, program, kilobytes)?;
-    let output = command.output(rt)?;
+    let output = limited(rt.alloc(), program, kilobytes)?.output(rt)?;
     Ok(output.stdout.as_slice().starts_with(text.as_bytes()))
 }
 
