@@ -1,6 +1,7 @@
 //! Copies of this test program on networks of three processes: the lock as its users take it.
+use crate::words::Runs;
 use command_line::run_words;
-use std::alloc::Global;
+use std::alloc::{AllocError, Global};
 use std::io::{Read, Write};
 use std::os::unix::net::UnixStream;
 use std::process::{Child, Command, ExitCode, Stdio};
@@ -42,24 +43,30 @@ fn acts_as_the_program(rt: HostRuntime) -> Result<(), Fail> {
     Ok(())
 }
 
-/// A copy that does these words, one a line, as often as told.
-fn copy_of(rt: &HostRuntime, words: &str, times: &str) -> Result<Command, Fail> {
-    let program = env::current_exe(rt)?;
-    let mut command = Command::new(rt.alloc(), program.as_path())?;
+/// Tells a copy to do these words, one a line, as often as told.
+fn tell_words(command: &mut Command, words: &str, times: &str) -> Result<(), AllocError> {
     command
         .arg("network::acts_as_the_program")?
         .env("TOKENTREE_WORDS", words)?
         .env("TOKENTREE_TIMES", times)?;
-    Ok(command)
+    Ok(())
 }
 
-/// Starts such a copy.
-fn copy(rt: &HostRuntime, words: &str, times: &str) -> Result<Child, Fail> {
-    let mut command = copy_of(rt, words, times)?;
+/// A copy of this program, which is told nothing yet.
+fn copy_of(rt: &HostRuntime) -> Result<Command, Fail> {
+    let program = env::current_exe(rt)?;
+    let mut command = Command::new(rt.alloc(), program.as_path())?;
     command
         .stdin(Stdio::null())
         .stdout(Stdio::piped())
         .stderr(Stdio::piped());
+    Ok(command)
+}
+
+/// Starts a copy that does these words, one a line, as often as told.
+fn copy(rt: &HostRuntime, words: &str, times: &str) -> Result<Child, Fail> {
+    let mut command = copy_of(rt)?;
+    tell_words(&mut command, words, times)?;
     Ok(command.spawn(rt)?)
 }
 
@@ -261,16 +268,35 @@ fn holds_until_its_input_ends(rt: &HostRuntime, dir: &str) -> Result<bool, Fail>
     tells(rt, child, ["granted", "status 0"])
 }
 
+/// Whether `lock` ends as its command does.
+fn ends_as_its_command(rt: &HostRuntime, dir: &str) -> Result<bool, Fail> {
+    ends(rt, locker(rt, dir, 0, "exit 7", "1")?, "status 7", "")
+}
+
+/// What is held of lockers at nodes that run: that the nodes serve, how often each of two lockers
+/// ended well, how often the lock was taken then, and whether `lock` ends as its command does, and
+/// without a command as its input does.
+type Locked = (bool, (usize, usize), usize, [bool; 2]);
+
+/// Has lockers take the lock.
+fn locked(rt: &HostRuntime, dir: &str) -> Result<Locked, Fail> {
+    Ok((
+        all_serve(rt, dir)?,
+        compete(rt, dir)?,
+        taken(rt, dir)?,
+        [
+            ends_as_its_command(rt, dir)?,
+            holds_until_its_input_ends(rt, dir)?,
+        ],
+    ))
+}
+
 #[test]
 fn two_lockers_never_hold_it_at_once(rt: HostRuntime) -> Result<(), Fail> {
     let nodes = start_nodes(&rt, "witness", RING)?;
-    let dir = nodes.folder.as_str();
-    assert!(rt; all_serve(&rt, dir)?);
-    assert_eq!(rt; compete(&rt, dir)?, (20, 20));
-    assert_eq!(rt; taken(&rt, dir)?, 40);
-    assert!(rt; ends(&rt, locker(&rt, dir, 0, "exit 7", "1")?, "status 7", "")?);
-    assert!(rt; holds_until_its_input_ends(&rt, dir)?);
+    let held = locked(&rt, nodes.folder.as_str())?;
     assert!(rt; all_stop(&rt, nodes, "")?);
+    assert_eq!(rt; held, (true, (20, 20), 40, [true; 2]));
     Ok(())
 }
 
@@ -334,17 +360,31 @@ fn is_not_there(rt: &HostRuntime, dir: &str) -> Result<bool, Fail> {
     )
 }
 
+/// What is held while node 1 is there, as it is killed, and once it is gone.
+fn lost(rt: &HostRuntime, dir: &str, one: &mut Child) -> Result<[bool; 6], Fail> {
+    Ok([
+        all_serve(rt, dir)?,
+        is_there_once(rt, dir)?,
+        is_waited_for_in_vain(rt, dir)?,
+        is_lost_with_its_node(rt, dir, one)?,
+        is_missed(rt, dir)?,
+        is_not_there(rt, dir)?,
+    ])
+}
+
+/// The same; then node 1 is there again.
+fn lost_and_back(rt: &HostRuntime, nodes: &mut Nodes) -> Result<[bool; 6], Fail> {
+    let held = lost(rt, nodes.folder.as_str(), &mut nodes.one)?;
+    nodes.one = node(rt, nodes.folder.as_str(), 1)?;
+    Ok(held)
+}
+
 #[test]
 fn a_lock_waits_is_lost_and_is_not_there(rt: HostRuntime) -> Result<(), Fail> {
     let mut nodes = start_nodes(&rt, "lost", RING)?;
-    assert!(rt; all_serve(&rt, nodes.folder.as_str())?);
-    assert!(rt; is_there_once(&rt, nodes.folder.as_str())?);
-    assert!(rt; is_waited_for_in_vain(&rt, nodes.folder.as_str())?);
-    assert!(rt; is_lost_with_its_node(&rt, nodes.folder.as_str(), &mut nodes.one)?);
-    assert!(rt; is_missed(&rt, nodes.folder.as_str())?);
-    assert!(rt; is_not_there(&rt, nodes.folder.as_str())?);
-    nodes.one = node(&rt, nodes.folder.as_str(), 1)?;
+    let held = lost_and_back(&rt, &mut nodes)?;
     assert!(rt; all_stop(&rt, nodes, "")?);
+    assert_eq!(rt; held, [true; 6]);
     Ok(())
 }
 
@@ -358,34 +398,41 @@ fn is_lost_by_its_lease(rt: &HostRuntime, dir: &str) -> Result<bool, Fail> {
 #[test]
 fn a_lease_ends_and_a_small_capacity_is_told(rt: HostRuntime) -> Result<(), Fail> {
     let nodes = start_nodes(&rt, "lease", LEASED)?;
-    assert!(rt; is_lost_by_its_lease(&rt, nodes.folder.as_str())?);
+    let is_lost = is_lost_by_its_lease(&rt, nodes.folder.as_str())?;
     let told = "tokentree: capacity 63 is less than the 64 frames that may be under way on a link; \
         give the network capacity 64 or more\n";
     assert!(rt; all_stop(&rt, nodes, told)?);
+    assert!(rt; is_lost);
     Ok(())
 }
 
-/// Makes a pipe.
-fn make_pipe(rt: &HostRuntime, path: &str) -> Result<bool, Fail> {
-    let made = Command::new(rt.alloc(), "mkfifo")?.arg(path)?.status(rt)?;
-    Ok(made.success())
+/// The command that makes a pipe.
+fn pipe_maker(alloc: Global, path: &str) -> Result<Command, AllocError> {
+    let mut command = Command::new(alloc, "mkfifo")?;
+    command.arg(path)?;
+    Ok(command)
+}
+
+/// Makes a pipe. Whether a node is refused whose network file it is, and makes no folder.
+fn is_no_file<R: Runs>(rt: &R, pipe: &str) -> Result<[bool; 3], Fail> {
+    let is_made = pipe_maker(rt.alloc(), pipe)?.status(rt)?.success();
+    let words = ["tokentree", "node", pipe, "0", "tokentree-pipe-nodes"];
+    let is_refused = run_words(rt, &words, false) == ExitCode::FAILURE;
+    let is_left = !fs::exists(rt, "tokentree-pipe-nodes")?;
+    fs::remove_file(rt, pipe)?;
+    Ok([is_made, is_refused, is_left])
+}
+
+/// The same in the folder of temporary files.
+fn pipe_is_no_file<R: Runs>(rt: &R) -> Result<[bool; 3], Fail> {
+    let place = env::temp_dir(rt)?;
+    let pipe = format!(in rt.alloc(); "{}/tokentree-pipe", place.as_path().display())?;
+    is_no_file(rt, pipe.as_str())
 }
 
 /// Where a pipe were waited for, nobody would ever write to it.
 #[test]
 fn a_pipe_is_no_network_file(rt: HostRuntime) -> Result<(), Fail> {
-    let place = env::temp_dir(&rt)?;
-    let pipe = format!(in rt.alloc(); "{}/tokentree-pipe", place.as_path().display())?;
-    assert!(rt; make_pipe(&rt, pipe.as_str())?);
-    let words = [
-        "tokentree",
-        "node",
-        pipe.as_str(),
-        "0",
-        "tokentree-pipe-nodes",
-    ];
-    assert_eq!(rt; run_words(&rt, &words, false), ExitCode::FAILURE);
-    assert!(rt; !fs::exists(&rt, "tokentree-pipe-nodes")?);
-    fs::remove_file(&rt, pipe.as_str())?;
+    assert_eq!(rt; pipe_is_no_file(&rt)?, [true; 3]);
     Ok(())
 }
