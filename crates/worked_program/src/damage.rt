@@ -2,6 +2,7 @@
 use crate::words::{Runs, TWO_NODES, first_other_beside};
 use std::fs;
 use std::test::Fail;
+use test_parts::as_told;
 
 /// A command line, and its status.
 const ROWS: [(&str, u8); 29] = [
@@ -50,6 +51,5 @@ fn does_damage<R: Runs>(rt: &R) -> Result<(Option<usize>, u64), Fail> {
 
 #[test]
 fn damage_ends_with_the_status(rt: HostRuntime) -> Result<(), Fail> {
-    assert_eq!(rt; does_damage(&rt)?, (None, 33));
-    Ok(())
+    as_told(does_damage(&rt), &(None, 33))
 }

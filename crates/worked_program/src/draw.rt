@@ -1,6 +1,7 @@
 //! Command lines of `draw`, and the statuses that they end with.
 use crate::words::{TWO_NODES, first_other_beside};
 use std::test::Fail;
+use test_parts::as_told;
 
 /// A command line, and its status.
 const ROWS: [(&str, u8); 18] = [
@@ -40,6 +41,5 @@ const FILES: [(&str, &str); 4] = [
 
 #[test]
 fn draw_ends_with_the_status(rt: HostRuntime) -> Result<(), Fail> {
-    assert_eq!(rt; first_other_beside(&rt, &FILES, &ROWS)?, None);
-    Ok(())
+    as_told(first_other_beside(&rt, &FILES, &ROWS), &None)
 }

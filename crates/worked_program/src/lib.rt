@@ -8,9 +8,9 @@ mod damage;
 #[cfg(test)]
 mod draw;
 #[cfg(test)]
-mod network;
-#[cfg(test)]
 mod number;
+#[cfg(test)]
+mod pipe;
 #[cfg(test)]
 mod statuses;
 #[cfg(test)]

@@ -3,6 +3,7 @@
 use crate::words::{Runs, ends_with, first_other_status};
 use std::alloc::AllocError;
 use std::test::Fail;
+use test_parts::is_told;
 
 /// What stands in front of a number and behind it; the most that the number may be, and one more;
 /// and the status of the line with the most.
@@ -143,8 +144,7 @@ fn first_other_row<R: Runs>(
 
 #[test]
 fn a_number_has_one_spelling_and_a_range(rt: HostRuntime) -> Result<(), Fail> {
-    assert_eq!(rt; first_other_row(&rt, &NUMBERS)?, None);
-    Ok(())
+    is_told(&first_other_row(&rt, &NUMBERS)?, &None)
 }
 
 /// Command lines whose number is refused: those of numbers that are not taken without a file, and
@@ -165,6 +165,5 @@ const REFUSED: [(&str, u8); 11] = [
 
 #[test]
 fn other_numbers_are_refused(rt: HostRuntime) -> Result<(), Fail> {
-    assert_eq!(rt; first_other_status(&rt, &REFUSED)?, None);
-    Ok(())
+    is_told(&first_other_status(&rt, &REFUSED)?, &None)
 }

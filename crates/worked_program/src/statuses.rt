@@ -6,6 +6,7 @@ use std::fs;
 use std::rt::Files;
 use std::test::Fail;
 use subcommands::bound;
+use test_parts::{as_told, is_told};
 
 /// A command line, and its status.
 const ROWS: [(&str, u8); 59] = [
@@ -92,8 +93,7 @@ const FILES: [(&str, &str); 4] = [
 
 #[test]
 fn ends_with_the_status(rt: HostRuntime) -> Result<(), Fail> {
-    assert_eq!(rt; first_other_beside(&rt, &FILES, &ROWS)?, None);
-    Ok(())
+    as_told(first_other_beside(&rt, &FILES, &ROWS), &None)
 }
 
 /// A network file that is refused, and its fault line.
@@ -151,7 +151,7 @@ fn fault_line<R: Files + Print + AllocGlobal>(rt: &R, path: &str) -> Result<Stri
 }
 
 /// Whether this is the fault line of `bound` on a file.
-fn is_told<R: Files + Print + AllocGlobal>(
+fn is_refused_so<R: Files + Print + AllocGlobal>(
     rt: &R,
     path: &str,
     want: &str,
@@ -163,7 +163,7 @@ fn is_told<R: Files + Print + AllocGlobal>(
 fn is_refused<R: Runs>(rt: &R, text: &str, want: &str) -> Result<bool, Fail> {
     fs::write(rt, "refused.toml", text)?;
     let has_status = ends_with(rt, "tokentree bound refused.toml", 1)?;
-    Ok(has_status && is_told(rt, "refused.toml", want)?)
+    Ok(has_status && is_refused_so(rt, "refused.toml", want)?)
 }
 
 /// The place of the first row whose file is not refused so.
@@ -187,8 +187,7 @@ fn tries_refusals<R: Runs>(rt: &R) -> Result<Option<usize>, Fail> {
 /// under a contract.
 #[test]
 fn tells_each_refusal_of_a_network_by_its_name(rt: HostRuntime) -> Result<(), Fail> {
-    assert_eq!(rt; tries_refusals(&rt)?, None);
-    Ok(())
+    as_told(tries_refusals(&rt), &None)
 }
 
 /// A path at which no file can be read, and its fault line.
@@ -203,7 +202,7 @@ fn first_told_otherwise(
     rows: &[(&str, &str)],
 ) -> Result<Option<usize>, AllocError> {
     for (at, (path, want)) in rows.iter().enumerate() {
-        if !is_told(rt, path, want)? {
+        if !is_refused_so(rt, path, want)? {
             return Ok(Some(at));
         }
     }
@@ -212,6 +211,5 @@ fn first_told_otherwise(
 
 #[test]
 fn tells_a_file_that_cannot_be_read(rt: HostRuntime) -> Result<(), Fail> {
-    assert_eq!(rt; first_told_otherwise(&rt, &UNREADABLE)?, None);
-    Ok(())
+    is_told(&first_told_otherwise(&rt, &UNREADABLE)?, &None)
 }

@@ -1,5 +1,4 @@
 //! Copies of this test program on networks of three processes: the lock as its users take it.
-use crate::words::Runs;
 use command_line::run_words;
 use std::alloc::{AllocError, Global};
 use std::io::{Read, Write};
@@ -8,6 +7,7 @@ use std::process::{Child, Command, ExitCode, Stdio};
 use std::test::Fail;
 use std::time::Duration;
 use std::{env, fs, str, thread};
+use test_parts::{as_told, is_told};
 
 /// Three nodes in a ring, whose loans have no end.
 const RING: &str =
@@ -295,9 +295,8 @@ fn locked(rt: &HostRuntime, dir: &str) -> Result<Locked, Fail> {
 fn two_lockers_never_hold_it_at_once(rt: HostRuntime) -> Result<(), Fail> {
     let nodes = start_nodes(&rt, "witness", RING)?;
     let held = locked(&rt, nodes.folder.as_str())?;
-    assert!(rt; all_stop(&rt, nodes, "")?);
-    assert_eq!(rt; held, (true, (20, 20), 40, [true; 2]));
-    Ok(())
+    as_told(all_stop(&rt, nodes, ""), &true)?;
+    is_told(&held, &(true, (20, 20), 40, [true; 2]))
 }
 
 /// No second process is node 0 there.
@@ -383,9 +382,8 @@ fn lost_and_back(rt: &HostRuntime, nodes: &mut Nodes) -> Result<[bool; 6], Fail>
 fn a_lock_waits_is_lost_and_is_not_there(rt: HostRuntime) -> Result<(), Fail> {
     let mut nodes = start_nodes(&rt, "lost", RING)?;
     let held = lost_and_back(&rt, &mut nodes)?;
-    assert!(rt; all_stop(&rt, nodes, "")?);
-    assert_eq!(rt; held, [true; 6]);
-    Ok(())
+    as_told(all_stop(&rt, nodes, ""), &true)?;
+    is_told(&held, &[true; 6])
 }
 
 /// A loan of node 2 ends while a command runs.
@@ -401,38 +399,6 @@ fn a_lease_ends_and_a_small_capacity_is_told(rt: HostRuntime) -> Result<(), Fail
     let is_lost = is_lost_by_its_lease(&rt, nodes.folder.as_str())?;
     let told = "tokentree: capacity 63 is less than the 64 frames that may be under way on a link; \
         give the network capacity 64 or more\n";
-    assert!(rt; all_stop(&rt, nodes, told)?);
-    assert!(rt; is_lost);
-    Ok(())
-}
-
-/// The command that makes a pipe.
-fn pipe_maker(alloc: Global, path: &str) -> Result<Command, AllocError> {
-    let mut command = Command::new(alloc, "mkfifo")?;
-    command.arg(path)?;
-    Ok(command)
-}
-
-/// Makes a pipe. Whether a node is refused whose network file it is, and makes no folder.
-fn is_no_file<R: Runs>(rt: &R, pipe: &str) -> Result<[bool; 3], Fail> {
-    let is_made = pipe_maker(rt.alloc(), pipe)?.status(rt)?.success();
-    let words = ["tokentree", "node", pipe, "0", "tokentree-pipe-nodes"];
-    let is_refused = run_words(rt, &words, false) == ExitCode::FAILURE;
-    let is_left = !fs::exists(rt, "tokentree-pipe-nodes")?;
-    fs::remove_file(rt, pipe)?;
-    Ok([is_made, is_refused, is_left])
-}
-
-/// The same in the folder of temporary files.
-fn pipe_is_no_file<R: Runs>(rt: &R) -> Result<[bool; 3], Fail> {
-    let place = env::temp_dir(rt)?;
-    let pipe = format!(in rt.alloc(); "{}/tokentree-pipe", place.as_path().display())?;
-    is_no_file(rt, pipe.as_str())
-}
-
-/// Where a pipe were waited for, nobody would ever write to it.
-#[test]
-fn a_pipe_is_no_network_file(rt: HostRuntime) -> Result<(), Fail> {
-    assert_eq!(rt; pipe_is_no_file(&rt)?, [true; 3]);
-    Ok(())
+    as_told(all_stop(&rt, nodes, told), &true)?;
+    is_told(&is_lost, &true)
 }

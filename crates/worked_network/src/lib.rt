@@ -1,0 +1,7 @@
+//! Copies of the program on networks of three processes: the lock as its users take it.
+//!
+//! Nothing but tests stands here, since a crate's tests prove all of that crate once more.
+#![tactic(auto)]
+
+#[cfg(test)]
+mod network;

@@ -1,0 +1,38 @@
+//! A pipe that is named as a network file.
+use crate::words::Runs;
+use command_line::run_words;
+use std::alloc::{AllocError, Global};
+use std::process::{Command, ExitCode};
+use std::test::Fail;
+use std::{env, fs};
+use test_parts::as_told;
+
+/// The command that makes a pipe.
+fn pipe_maker(alloc: Global, path: &str) -> Result<Command, AllocError> {
+    let mut command = Command::new(alloc, "mkfifo")?;
+    command.arg(path)?;
+    Ok(command)
+}
+
+/// Makes a pipe. Whether a node is refused whose network file it is, and makes no folder.
+fn is_no_file<R: Runs>(rt: &R, pipe: &str) -> Result<[bool; 3], Fail> {
+    let is_made = pipe_maker(rt.alloc(), pipe)?.status(rt)?.success();
+    let words = ["tokentree", "node", pipe, "0", "tokentree-pipe-nodes"];
+    let is_refused = run_words(rt, &words, false) == ExitCode::FAILURE;
+    let is_left = !fs::exists(rt, "tokentree-pipe-nodes")?;
+    fs::remove_file(rt, pipe)?;
+    Ok([is_made, is_refused, is_left])
+}
+
+/// The same in the folder of temporary files.
+fn pipe_is_no_file<R: Runs>(rt: &R) -> Result<[bool; 3], Fail> {
+    let place = env::temp_dir(rt)?;
+    let pipe = format!(in rt.alloc(); "{}/tokentree-pipe", place.as_path().display())?;
+    is_no_file(rt, pipe.as_str())
+}
+
+/// Where a pipe were waited for, nobody would ever write to it.
+#[test]
+fn a_pipe_is_no_network_file(rt: HostRuntime) -> Result<(), Fail> {
+    as_told(pipe_is_no_file(&rt), &[true; 3])
+}
