@@ -3,6 +3,7 @@ use crate::nets::net_of;
 use std::alloc::{AllocError, Global};
 use std::test::Fail;
 use subcommands::bound::{bound_text, shown_text};
+use test_parts::as_told;
 use topology::Net;
 
 /// A network: its nodes, what its links hold, its edges; and what it is shown as.
@@ -53,8 +54,7 @@ fn first_other_text(alloc: Global, rows: &[Row<'_>]) -> Result<Option<usize>, Fa
 
 #[test]
 fn prints_numbers_distances_and_parents(rt: HostRuntime) -> Result<(), Fail> {
-    assert_eq!(rt; first_other_text(rt.alloc(), &TEXTS)?, None);
-    Ok(())
+    as_told(first_other_text(rt.alloc(), &TEXTS), &None)
 }
 
 /// The edges of a star of 64 nodes around the root.
@@ -94,8 +94,7 @@ fn star_has_its_text(alloc: Global) -> Result<bool, Fail> {
 
 #[test]
 fn prints_the_star_of_sixty_four(rt: HostRuntime) -> Result<(), Fail> {
-    assert!(rt; star_has_its_text(rt.alloc())?);
-    Ok(())
+    as_told(star_has_its_text(rt.alloc()), &true)
 }
 
 /// Networks, and the lines of their sharp bounds.
@@ -141,8 +140,7 @@ fn first_other_sharp(alloc: Global, rows: &[Row<'_>]) -> Result<Option<usize>, F
 
 #[test]
 fn shows_the_sharp_bound_where_it_is_asked_for(rt: HostRuntime) -> Result<(), Fail> {
-    assert_eq!(rt; first_other_sharp(rt.alloc(), &SHARP)?, None);
-    Ok(())
+    as_told(first_other_sharp(rt.alloc(), &SHARP), &None)
 }
 
 /// Whether the star is shown with its sharp bound, and without it.
@@ -153,6 +151,5 @@ fn star_shows_sharp(alloc: Global) -> Result<bool, Fail> {
 
 #[test]
 fn shows_the_sharp_bound_of_the_star(rt: HostRuntime) -> Result<(), Fail> {
-    assert!(rt; star_shows_sharp(rt.alloc())?);
-    Ok(())
+    as_told(star_shows_sharp(rt.alloc()), &true)
 }

@@ -5,6 +5,7 @@ use std::process::{Command, ExitCode};
 use std::test::Fail;
 use std::{fs, io};
 use subcommands::cut::run;
+use test_parts::is_told;
 
 /// To how many bytes a file of six is cut, each time behind the one before, and what it holds then.
 const CUTS: [(u32, &str); 8] = [
@@ -44,8 +45,7 @@ fn cuts(rt: &HostRuntime) -> io::Result<Option<usize>> {
 
 #[test]
 fn cuts_a_longer_file_alone(rt: HostRuntime) -> Result<(), Fail> {
-    assert_eq!(rt; cuts(&rt)?, None);
-    Ok(())
+    is_told(&cuts(&rt)?, &None)
 }
 
 /// Paths that name nothing that can be cut.
@@ -98,6 +98,5 @@ fn tries_other_things(rt: &HostRuntime) -> io::Result<(bool, Option<usize>, bool
 /// None of these is waited for, and an absent file is not made.
 #[test]
 fn other_things_are_not_cut(rt: HostRuntime) -> Result<(), Fail> {
-    assert_eq!(rt; tries_other_things(&rt)?, (true, None, false));
-    Ok(())
+    is_told(&tries_other_things(&rt)?, &(true, None, false))
 }

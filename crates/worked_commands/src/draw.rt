@@ -10,6 +10,7 @@ use std::io::{Error, ErrorKind};
 use std::process::ExitCode;
 use std::str;
 use std::test::Fail;
+use test_parts::{as_told, is_told};
 use topology::NetFault;
 use world::streams::Source;
 
@@ -89,8 +90,7 @@ fn drawn_in_part(alloc: Global) -> Result<(Ended, Option<usize>), Fail> {
 
 #[test]
 fn draws_what_is_accepted_and_counts_what_is_refused(rt: HostRuntime) -> Result<(), Fail> {
-    assert_eq!(rt; drawn_in_part(rt.alloc())?, (Ok(ExitCode::from(3)), None));
-    Ok(())
+    as_told(drawn_in_part(rt.alloc()), &(Ok(ExitCode::from(3)), None))
 }
 
 /// How the drawing of events ended that cannot be read, and how many bytes were drawn.
@@ -101,11 +101,10 @@ fn drawn_of_broken(alloc: Global) -> Result<(Ended, usize), NetFault> {
 
 #[test]
 fn draws_nothing_of_events_that_cannot_be_read(rt: HostRuntime) -> Result<(), Fail> {
-    assert_eq!(rt;
-        drawn_of_broken(rt.alloc())?,
-        (Err(Fault::EventsUnreadable), 0)
-    );
-    Ok(())
+    is_told(
+        &drawn_of_broken(rt.alloc())?,
+        &(Err(Fault::EventsUnreadable), 0),
+    )
 }
 
 /// Rooms that a picture does not fit into.
@@ -154,9 +153,8 @@ fn drawn_without_room(alloc: Global) -> Result<(Ended, Option<usize>, bool), Net
 
 #[test]
 fn a_picture_without_room_is_a_fault(rt: HostRuntime) -> Result<(), Fail> {
-    assert_eq!(rt;
-        drawn_without_room(rt.alloc())?,
-        (Ok(ExitCode::SUCCESS), None, true)
-    );
-    Ok(())
+    is_told(
+        &drawn_without_room(rt.alloc())?,
+        &(Ok(ExitCode::SUCCESS), None, true),
+    )
 }

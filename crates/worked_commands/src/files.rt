@@ -5,6 +5,7 @@ use std::alloc::{AllocError, Global};
 use std::test::Fail;
 use std::{fs, io};
 use subcommands::simulate;
+use test_parts::is_told;
 use topology::NetFault;
 use world::simulation::SimFault;
 
@@ -49,8 +50,7 @@ fn first_other_fault(alloc: Global, rows: &[(&[u8], &str)]) -> Result<Option<usi
 
 #[test]
 fn names_the_fault_of_a_file(rt: HostRuntime) -> Result<(), Fail> {
-    assert_eq!(rt; first_other_fault(rt.alloc(), &FAULTS)?, None);
-    Ok(())
+    is_told(&first_other_fault(rt.alloc(), &FAULTS)?, &None)
 }
 
 /// Whether as many blanks as a file may have, and one more, have the fault lines that they should.
@@ -64,20 +64,19 @@ fn blanks_have_faults(alloc: Global) -> Result<bool, AllocError> {
 
 #[test]
 fn a_file_with_too_many_bytes_is_unreadable(rt: HostRuntime) -> Result<(), Fail> {
-    assert!(rt; blanks_have_faults(rt.alloc())?);
-    Ok(())
+    is_told(&blanks_have_faults(rt.alloc())?, &true)
 }
 
 #[test]
 fn names_the_fault_of_memory(rt: HostRuntime) -> Result<(), Fail> {
-    assert!(rt;
-        is_named(
+    is_told(
+        &is_named(
             rt.alloc(),
             Fault::Network(NetFault::Memory),
-            "network Memory"
-        )?
-    );
-    Ok(())
+            "network Memory",
+        )?,
+        &true,
+    )
 }
 
 /// Paths, and the faults of what is read there.
@@ -118,8 +117,7 @@ fn reads(rt: &HostRuntime) -> io::Result<Option<usize>> {
 
 #[test]
 fn reads_files(rt: HostRuntime) -> Result<(), Fail> {
-    assert_eq!(rt; reads(&rt)?, None);
-    Ok(())
+    is_told(&reads(&rt)?, &None)
 }
 
 /// The faults of simulations, and their names.
@@ -142,8 +140,7 @@ fn first_other_name(alloc: Global, rows: &[(SimFault, &str)]) -> Result<Option<u
 
 #[test]
 fn names_the_fault_of_a_simulation(rt: HostRuntime) -> Result<(), Fail> {
-    assert_eq!(rt; first_other_name(rt.alloc(), &NAMES)?, None);
-    Ok(())
+    is_told(&first_other_name(rt.alloc(), &NAMES)?, &None)
 }
 
 /// The files of simulations.
@@ -190,8 +187,7 @@ fn simulates(rt: &HostRuntime) -> io::Result<Option<usize>> {
 
 #[test]
 fn looks_at_the_network_before_the_events(rt: HostRuntime) -> Result<(), Fail> {
-    assert_eq!(rt; simulates(&rt)?, None);
-    Ok(())
+    is_told(&simulates(&rt)?, &None)
 }
 
 /// A word, the greatest number that is taken, and the number that it spells.
@@ -227,6 +223,6 @@ fn first_spelled_otherwise(rows: &[(&str, u64, Option<u64>)]) -> Option<usize> {
 }
 
 #[test]
-fn a_number_has_one_spelling(rt: HostRuntime) {
-    assert_eq!(rt; first_spelled_otherwise(&SPELLINGS), None);
+fn a_number_has_one_spelling() -> Result<(), Fail> {
+    is_told(&first_spelled_otherwise(&SPELLINGS), &None)
 }

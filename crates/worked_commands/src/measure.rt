@@ -8,6 +8,7 @@ use std::alloc::Global;
 use std::process::ExitCode;
 use std::test::Fail;
 use subcommands::measure::{ending, has_served, measured_text};
+use test_parts::{as_told, is_told};
 use topology::Net;
 use world::World;
 
@@ -108,8 +109,7 @@ fn first_other_text(alloc: Global, rows: &[Row<'_>]) -> Result<Option<usize>, Fa
 
 #[test]
 fn shows_what_sums_runs_up(rt: HostRuntime) -> Result<(), Fail> {
-    assert_eq!(rt; first_other_text(rt.alloc(), &TEXTS)?, None);
-    Ok(())
+    as_told(first_other_text(rt.alloc(), &TEXTS), &None)
 }
 
 /// What standard output answers, whether each run has served, and how that ends.
@@ -134,8 +134,8 @@ fn first_other_ending(rows: &[Ending]) -> Option<usize> {
 }
 
 #[test]
-fn ends_with_the_status(rt: HostRuntime) {
-    assert_eq!(rt; first_other_ending(&ENDINGS), None);
+fn ends_with_the_status() -> Result<(), Fail> {
+    is_told(&first_other_ending(&ENDINGS), &None)
 }
 
 /// Plays as many rounds under a watch.
@@ -190,8 +190,7 @@ fn first_other_watched(alloc: Global, rows: &[(u64, (u64, u64))]) -> Result<Opti
 
 #[test]
 fn two_nodes_serve_behind_three_sweeps(rt: HostRuntime) -> Result<(), Fail> {
-    assert_eq!(rt; first_other_watched(rt.alloc(), &WATCHED)?, None);
-    Ok(())
+    as_told(first_other_watched(rt.alloc(), &WATCHED), &None)
 }
 
 /// Runs that are measured bear their seeds, have as many sweeps as the sharper bound says, and are
@@ -226,6 +225,5 @@ fn first_other_run(alloc: Global, rows: &[(Scheduler, u64)]) -> Result<Option<us
 
 #[test]
 fn measures_runs(rt: HostRuntime) -> Result<(), Fail> {
-    assert_eq!(rt; first_other_run(rt.alloc(), &MEASURED)?, None);
-    Ok(())
+    as_told(first_other_run(rt.alloc(), &MEASURED), &None)
 }

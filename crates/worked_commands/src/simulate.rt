@@ -5,6 +5,7 @@ use command_parts::{Fault, ReadSource, WriteSink, simulate_between};
 use std::alloc::Global;
 use std::io::{BufWriter, Error, ErrorKind, Read, Write};
 use std::test::Fail;
+use test_parts::as_told;
 use topology::Net;
 use world::simulation::Summary;
 
@@ -125,8 +126,10 @@ static INTERRUPTED: [Answer<'static>; 6] = [
 
 #[test]
 fn an_interrupted_read_is_tried_again(rt: HostRuntime) -> Result<(), Fail> {
-    assert!(rt; simulates(rt.alloc(), &INTERRUPTED, 1000, Ok(THREE), OUTPUT)?);
-    Ok(())
+    as_told(
+        simulates(rt.alloc(), &INTERRUPTED, 1000, Ok(THREE), OUTPUT),
+        &true,
+    )
 }
 
 /// The events, with a failure amid the third line.
@@ -141,16 +144,16 @@ const TOLD: &[u8] = b"line 1: NoNode\nline 2: NoLink\n";
 
 #[test]
 fn what_came_before_a_failed_read_is_told(rt: HostRuntime) -> Result<(), Fail> {
-    assert!(rt;
+    as_told(
         simulates(
             rt.alloc(),
             &FAILED,
             1000,
             Err(Fault::EventsUnreadable),
-            TOLD
-        )?
-    );
-    Ok(())
+            TOLD,
+        ),
+        &true,
+    )
 }
 
 /// The events, in one read.
@@ -177,6 +180,5 @@ fn first_other_room(alloc: Global) -> Result<Option<usize>, Fail> {
 
 #[test]
 fn output_without_room_is_a_fault(rt: HostRuntime) -> Result<(), Fail> {
-    assert_eq!(rt; first_other_room(rt.alloc())?, None);
-    Ok(())
+    as_told(first_other_room(rt.alloc()), &None)
 }

@@ -6,6 +6,7 @@ use rand_core::utils::NextWord;
 use rand_pcg::Lcg64Xsh32;
 use std::alloc::{AllocError, Global};
 use std::test::Fail;
+use test_parts::{as_told, is_told};
 use topology::{Net, NetFault};
 
 /// How files are answered.
@@ -103,8 +104,7 @@ const TO_OLDER: Tally = Tally {
 
 #[test]
 fn one_byte_has_changed(rt: HostRuntime) -> Result<(), Fail> {
-    assert_eq!(rt; answers_of_both(rt.alloc())?, [TO_NEWER, TO_OLDER]);
-    Ok(())
+    is_told(&answers_of_both(rt.alloc())?, &[TO_NEWER, TO_OLDER])
 }
 
 /// As many bytes as are wanted behind these, in any order.
@@ -178,8 +178,7 @@ fn first_unlike(alloc: Global) -> Result<Option<usize>, Fail> {
 /// chance that this generator does not take.
 #[test]
 fn any_bytes_of_each_length(rt: HostRuntime) -> Result<(), Fail> {
-    assert_eq!(rt; first_unlike(rt.alloc())?, None);
-    Ok(())
+    as_told(first_unlike(rt.alloc()), &None)
 }
 
 /// Whether a node's scrambled state is read again as the very same bytes.
@@ -226,6 +225,5 @@ fn read_again_of_five(alloc: Global) -> Result<[u16; 5], Fail> {
 
 #[test]
 fn ten_thousand_scrambled_states_are_read_again(rt: HostRuntime) -> Result<(), Fail> {
-    assert_eq!(rt; read_again_of_five(rt.alloc())?, [2000; 5]);
-    Ok(())
+    as_told(read_again_of_five(rt.alloc()), &[2000; 5])
 }

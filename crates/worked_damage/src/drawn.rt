@@ -8,6 +8,7 @@ use rand_pcg::Lcg64Xsh32;
 use run_model::Event;
 use std::alloc::{AllocError, Global};
 use std::test::Fail;
+use test_parts::{as_told, is_told};
 use topology::{Frame, Net, NetFault, Payload};
 use world::World;
 
@@ -42,8 +43,7 @@ fn are_scrambled(alloc: Global) -> Result<[bool; 2], Fail> {
 
 #[test]
 fn scrambled_states(rt: HostRuntime) -> Result<(), Fail> {
-    assert_eq!(rt; are_scrambled(rt.alloc())?, [true; 2]);
-    Ok(())
+    as_told(are_scrambled(rt.alloc()), &[true; 2])
 }
 
 /// Lines of junk, each with its newline.
@@ -84,8 +84,7 @@ fn first_other_junk(alloc: Global) -> Result<Option<usize>, AllocError> {
 
 #[test]
 fn lines_of_junk(rt: HostRuntime) -> Result<(), Fail> {
-    assert_eq!(rt; first_other_junk(rt.alloc())?, None);
-    Ok(())
+    is_told(&first_other_junk(rt.alloc())?, &None)
 }
 
 /// A line of three nodes' first frame to one that says the distance 1, the parent 0 and the ring
@@ -128,8 +127,7 @@ fn behind_junk(alloc: Global) -> Result<(usize, (usize, Option<Frame>)), Fail> {
 /// Of the lines of junk four are as long as a frame's and begin as one; none is one.
 #[test]
 fn a_frame_behind_junk_is_read(rt: HostRuntime) -> Result<(), Fail> {
-    assert_eq!(rt; behind_junk(rt.alloc())?, (211_725, (1, Some(GOOD))));
-    Ok(())
+    as_told(behind_junk(rt.alloc()), &(211_725, (1, Some(GOOD))))
 }
 
 /// Lengths, and what bytes `abc` are when they are cut to them.
@@ -148,8 +146,8 @@ fn first_other_cut() -> Option<usize> {
 }
 
 #[test]
-fn bytes_are_cut(rt: HostRuntime) {
-    assert_eq!(rt; first_other_cut(), None);
+fn bytes_are_cut() -> Result<(), Fail> {
+    is_told(&first_other_cut(), &None)
 }
 
 /// The harms of a seed.
@@ -200,6 +198,5 @@ fn accepted_in_a_row(alloc: Global) -> Result<[(usize, usize); 5], Fail> {
 #[test]
 fn each_harm_of_a_world_is_accepted(rt: HostRuntime) -> Result<(), Fail> {
     let want = [(27, 27), (28, 28), (27, 27), (28, 28), (27, 27)];
-    assert_eq!(rt; accepted_in_a_row(rt.alloc())?, want);
-    Ok(())
+    as_told(accepted_in_a_row(rt.alloc()), &want)
 }

@@ -15,8 +15,6 @@ mod changed_bytes;
 #[cfg(test)]
 mod drawn;
 #[cfg(test)]
-mod full_heap;
-#[cfg(test)]
 mod heaps;
 #[cfg(test)]
 mod no_memory;

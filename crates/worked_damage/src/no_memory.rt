@@ -1,7 +1,6 @@
 //! A node's state is written and scrambled on a heap without a free byte.
 use crate::calls::{NEWER, file_of, two, written};
 use crate::drawn::OF_SEVEN;
-use crate::full_heap::fill;
 use damage_tool::scramble_node;
 use linked_list_allocator::LocalHeap;
 use node_core::NodeState;
@@ -9,6 +8,7 @@ use rand_core::SeedableRng;
 use rand_pcg::Lcg64Xsh32;
 use std::alloc::Global;
 use std::test::Fail;
+use test_parts::{as_told, fill};
 use topology::Net;
 
 /// Node 1 of two nodes on a heap, of which nothing is free then: how much is free at the end, and
@@ -35,6 +35,5 @@ fn on_a_heap(alloc: Global) -> Result<(usize, bool, bool), Fail> {
 
 #[test]
 fn a_state_is_written_and_scrambled_without_memory(rt: HostRuntime) -> Result<(), Fail> {
-    assert_eq!(rt; on_a_heap(rt.alloc())?, (0, true, true));
-    Ok(())
+    as_told(on_a_heap(rt.alloc()), &(0, true, true))
 }

@@ -6,6 +6,7 @@ use std::os::unix::fs::PermissionsExt;
 use std::process::{Command, Processes};
 use std::rt::Files;
 use std::test::Fail;
+use test_parts::as_told;
 
 /// What a load answers: the bytes' number and the last of them.
 fn loaded<F: Files>(files: &F, path: &str) -> Result<(usize, Option<u8>), StoreFault> {
@@ -96,8 +97,7 @@ fn in_place<R: Files + AllocGlobal>(
 #[test]
 fn a_file_is_written_in_place(rt: HostRuntime) -> Result<(), Fail> {
     let made = (Err(StoreFault::Absent), Ok(()), 0o600);
-    assert_eq!(rt; in_place(&rt, "node.state")?, (made, None, true));
-    Ok(())
+    as_told(in_place(&rt, "node.state"), &(made, None, true))
 }
 
 /// The command that makes a pipe.
@@ -144,8 +144,7 @@ fn first_no_failure<R: Files + Processes + AllocGlobal>(
 /// Both calls fail, and none waits for anybody at the other end.
 #[test]
 fn other_things_in_its_place_are_failures(rt: HostRuntime) -> Result<(), Fail> {
-    assert_eq!(rt; first_no_failure(&rt)?, (true, None));
-    Ok(())
+    as_told(first_no_failure(&rt), &(true, None))
 }
 
 /// What loads and saves answer at a link that leads nowhere, and in a folder that is not there.
@@ -171,6 +170,5 @@ fn at_a_dead_link<R: Files + AllocGlobal>(rt: &R) -> Result<(Nowhere, bool), Fai
 fn a_dead_link_is_absent(rt: HostRuntime) -> Result<(), Fail> {
     let loads = [Err(StoreFault::Absent); 2];
     let saves = [Err(StoreFault::Device), Ok(())];
-    assert_eq!(rt; at_a_dead_link(&rt)?, ((loads, saves), true));
-    Ok(())
+    as_told(at_a_dead_link(&rt), &((loads, saves), true))
 }

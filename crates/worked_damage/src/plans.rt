@@ -12,6 +12,7 @@ use run_model::Event;
 use schedules::{Chances, EventSink};
 use std::alloc::{AllocError, Allocator, Global};
 use std::test::Fail;
+use test_parts::is_told;
 use topology::{Net, NetFault};
 use world::streams::{Failed, Fuse};
 
@@ -147,15 +148,13 @@ fn cut_behind_each(alloc: Global, kind: Kind) -> Result<(usize, Option<usize>), 
 #[test]
 fn each_event_of_rounds_is_once_not_taken(rt: HostRuntime) -> Result<(), Fail> {
     let (count, uncut) = cut_behind_each(rt.alloc(), Kind::Rounds)?;
-    assert_eq!(rt; (count >= 44, uncut), (true, None));
-    Ok(())
+    is_told(&(count >= 44, uncut), &(true, None))
 }
 
 #[test]
 fn each_event_of_random_steps_is_once_not_taken(rt: HostRuntime) -> Result<(), Fail> {
     let (count, uncut) = cut_behind_each(rt.alloc(), Kind::Random)?;
-    assert_eq!(rt; (count >= 60, uncut), (true, None));
-    Ok(())
+    is_told(&(count >= 60, uncut), &(true, None))
 }
 
 /// Two nodes whose network, and whatever is done with it, is to have its memory from there.
@@ -197,15 +196,13 @@ fn given_in_turn(alloc: Global, kind: Kind) -> Result<(End, u32), Fail> {
 #[test]
 fn a_schedule_of_rounds_meets_each_refusal(rt: HostRuntime) -> Result<(), Fail> {
     let (end, refused) = given_in_turn(rt.alloc(), Kind::Rounds)?;
-    assert_eq!(rt; (end, refused > 20), (End::Done, true));
-    Ok(())
+    is_told(&(end, refused > 20), &(End::Done, true))
 }
 
 #[test]
 fn a_schedule_of_random_steps_meets_each_refusal(rt: HostRuntime) -> Result<(), Fail> {
     let (end, refused) = given_in_turn(rt.alloc(), Kind::Random)?;
-    assert_eq!(rt; (end, refused > 20), (End::Done, true));
-    Ok(())
+    is_told(&(end, refused > 20), &(End::Done, true))
 }
 
 /// The run that the seed 7 scrambles.
@@ -260,13 +257,11 @@ const RUN: (u64, u64) = (7, 35);
 #[test]
 fn measured_rounds_meet_each_refusal(rt: HostRuntime) -> Result<(), Fail> {
     let (run, (end, refused)) = measured_in_turn(rt.alloc(), Scheduler::Rounds)?;
-    assert_eq!(rt; (run, end, refused > 20), (RUN, End::Done, true));
-    Ok(())
+    is_told(&(run, end, refused > 20), &(RUN, End::Done, true))
 }
 
 #[test]
 fn measured_random_steps_meet_each_refusal(rt: HostRuntime) -> Result<(), Fail> {
     let (run, (end, refused)) = measured_in_turn(rt.alloc(), Scheduler::Random)?;
-    assert_eq!(rt; (run, end, refused > 20), (RUN, End::Done, true));
-    Ok(())
+    is_told(&(run, end, refused > 20), &(RUN, End::Done, true))
 }

@@ -10,6 +10,7 @@ use rand_pcg::Lcg64Xsh32;
 use run_model::Event;
 use std::alloc::{AllocError, Allocator, Global};
 use std::test::Fail;
+use test_parts::is_told;
 use topology::Net;
 
 /// Whether a state was read, and is written as it was; it is not where memory was refused.
@@ -46,8 +47,7 @@ fn read_in_turn(alloc: Global) -> Result<(End, u32), Fail> {
 #[test]
 fn decode_meets_each_refusal(rt: HostRuntime) -> Result<(), Fail> {
     let (end, refused) = read_in_turn(rt.alloc())?;
-    assert_eq!(rt; (end, refused >= 8), (End::Done, true));
-    Ok(())
+    is_told(&(end, refused >= 8), &(End::Done, true))
 }
 
 /// How a node starts on a heap.
@@ -68,8 +68,7 @@ fn started_in_turn(alloc: Global) -> Result<(End, u32), Fail> {
 #[test]
 fn start_meets_each_refusal(rt: HostRuntime) -> Result<(), Fail> {
     let (end, refused) = started_in_turn(rt.alloc())?;
-    assert_eq!(rt; (end, refused >= 11), (End::Done, true));
-    Ok(())
+    is_told(&(end, refused >= 11), &(End::Done, true))
 }
 
 /// Draws the harms of a world, and says whether there was memory.
@@ -105,6 +104,5 @@ fn drawn_of_three(alloc: Global) -> Result<(End, u32), Fail> {
 #[test]
 fn harms_meet_each_refusal(rt: HostRuntime) -> Result<(), Fail> {
     let (end, refused) = drawn_of_three(rt.alloc())?;
-    assert_eq!(rt; (end, refused >= 20), (End::Done, true));
-    Ok(())
+    is_told(&(end, refused >= 20), &(End::Done, true))
 }

@@ -5,6 +5,7 @@ use frame_codec::decode;
 use socket_links::{MemoryPipe, Pull, SocketLink};
 use std::alloc::{AllocError, Global};
 use std::test::Fail;
+use test_parts::as_told;
 use topology::Net;
 
 /// The bytes that a pipe gives, at most how many in a read, and whether it stays open behind them
@@ -70,8 +71,7 @@ fn end_with_their_pipes(alloc: Global) -> Result<[bool; 3], Fail> {
 
 #[test]
 fn half_a_line_ends_with_its_pipe(rt: HostRuntime) -> Result<(), Fail> {
-    assert_eq!(rt; end_with_their_pipes(rt.alloc())?, [true; 3]);
-    Ok(())
+    as_told(end_with_their_pipes(rt.alloc()), &[true; 3])
 }
 
 /// The frames that the lines of a text spell, each line by itself.
@@ -118,6 +118,5 @@ fn behind_junk(alloc: Global) -> Result<(Option<Pull>, bool), Fail> {
 
 #[test]
 fn a_frame_behind_ten_thousand_lines_of_junk(rt: HostRuntime) -> Result<(), Fail> {
-    assert_eq!(rt; behind_junk(rt.alloc())?, (Some(Pull::Frame(GOOD)), true));
-    Ok(())
+    as_told(behind_junk(rt.alloc()), &(Some(Pull::Frame(GOOD)), true))
 }

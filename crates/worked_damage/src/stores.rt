@@ -3,6 +3,7 @@ use crate::calls::{File, NEWER, OLDER, started, two};
 use node_state_file::{FileFault, FusedStore, MemoryStore, StartFault, Store, StoreFault};
 use std::alloc::{AllocError, Global};
 use std::test::Fail;
+use test_parts::as_told;
 use topology::Net;
 
 /// A store with these bytes in it.
@@ -48,8 +49,7 @@ fn first_not_short(alloc: Global) -> Result<Option<usize>, Fail> {
 
 #[test]
 fn a_file_of_each_length_is_short(rt: HostRuntime) -> Result<(), Fail> {
-    assert_eq!(rt; first_not_short(rt.alloc())?, None);
-    Ok(())
+    as_told(first_not_short(rt.alloc()), &None)
 }
 
 /// The file of a state that is not the default one.
@@ -80,8 +80,7 @@ fn first_other_start(alloc: Global) -> Result<Option<usize>, Fail> {
 
 #[test]
 fn what_stands_in_the_way_is_told(rt: HostRuntime) -> Result<(), Fail> {
-    assert_eq!(rt; first_other_start(rt.alloc())?, None);
-    Ok(())
+    as_told(first_other_start(rt.alloc()), &None)
 }
 
 /// Whether node 1 starts from a store without room with the default state, what stands in the way,
@@ -104,8 +103,7 @@ fn without_room_of_two(alloc: Global) -> Result<Empty, Fail> {
 #[test]
 fn nothing_stands_in_a_store_without_room(rt: HostRuntime) -> Result<(), Fail> {
     let want = (true, Some(StartFault::Absent), Err(StoreFault::Device));
-    assert_eq!(rt; without_room_of_two(rt.alloc())?, want);
-    Ok(())
+    as_told(without_room_of_two(rt.alloc()), &want)
 }
 
 /// What a node's store answers: at its start, and to two saves of the state that it started with.
@@ -186,6 +184,5 @@ fn first_other_failure(alloc: Global) -> Result<Option<usize>, Fail> {
 
 #[test]
 fn each_call_of_a_store_fails_once(rt: HostRuntime) -> Result<(), Fail> {
-    assert_eq!(rt; first_other_failure(rt.alloc())?, None);
-    Ok(())
+    as_told(first_other_failure(rt.alloc()), &None)
 }

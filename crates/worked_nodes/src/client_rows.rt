@@ -7,6 +7,7 @@ use crate::stage::{Run, turn_once, whole};
 use crate::wires::{Pair, Queue};
 use std::alloc::Global;
 use std::test::Fail;
+use test_parts::as_told;
 
 /// The status of a root that had the token, was asked for the lock, and has passed the token on.
 const PASSED_ON: &[u8] = b"node 0 distance 0 parent none token no lent none waiting 0\n";
@@ -28,8 +29,7 @@ const CLOSING: [Act<'static>; 11] = [
 
 #[test]
 fn a_client_that_closes_gives_the_lock_back(rt: HostRuntime) -> Result<(), Fail> {
-    assert_eq!(rt; wrong_act(rt.alloc(), Cast::Token, &CLOSING)?, None);
-    Ok(())
+    as_told(wrong_act(rt.alloc(), Cast::Token, &CLOSING), &None)
 }
 
 /// A client asks for the lock, and each write to it fails.
@@ -50,8 +50,7 @@ const CUT_OFF: [Act<'static>; 12] = [
 
 #[test]
 fn a_client_that_cannot_be_told_has_left(rt: HostRuntime) -> Result<(), Fail> {
-    assert_eq!(rt; wrong_act(rt.alloc(), Cast::Token, &CUT_OFF)?, None);
-    Ok(())
+    as_told(wrong_act(rt.alloc(), Cast::Token, &CUT_OFF), &None)
 }
 
 /// The place of the first act that is not as told where a client writes this and is to hear that.
@@ -96,8 +95,7 @@ const LINES: [(&[u8], &[u8]); 11] = [
 
 #[test]
 fn each_line_has_its_answer(rt: HostRuntime) -> Result<(), Fail> {
-    assert_eq!(rt; wrong_line(rt.alloc(), &LINES)?, None);
-    Ok(())
+    as_told(wrong_line(rt.alloc(), &LINES), &None)
 }
 
 /// A client writes two lines in two parts, and closes its sending half.
@@ -117,8 +115,7 @@ const IN_PARTS: [Act<'static>; 11] = [
 
 #[test]
 fn a_line_comes_in_parts_and_the_sending_half_may_close(rt: HostRuntime) -> Result<(), Fail> {
-    assert_eq!(rt; wrong_act(rt.alloc(), Cast::Token, &IN_PARTS)?, None);
-    Ok(())
+    as_told(wrong_act(rt.alloc(), Cast::Token, &IN_PARTS), &None)
 }
 
 /// A client asks more often than there is room for answers.
@@ -136,8 +133,7 @@ const TOO_MUCH: [Act<'static>; 9] = [
 
 #[test]
 fn a_client_without_room_for_its_answers_has_left(rt: HostRuntime) -> Result<(), Fail> {
-    assert_eq!(rt; wrong_act(rt.alloc(), Cast::New, &TOO_MUCH)?, None);
-    Ok(())
+    as_told(wrong_act(rt.alloc(), Cast::New, &TOO_MUCH), &None)
 }
 
 /// The first of these clients that is not answered as it should be: 64 wait, 64 find no room, and
@@ -178,8 +174,7 @@ fn crowded(alloc: Global, count: usize) -> Result<(usize, Option<usize>), Fail> 
 
 #[test]
 fn the_hundred_and_twenty_ninth_client_is_closed(rt: HostRuntime) -> Result<(), Fail> {
-    assert_eq!(rt; crowded(rt.alloc(), 129)?, (64, None));
-    Ok(())
+    as_told(crowded(rt.alloc(), 129), &(64, None))
 }
 
 /// A client comes to a node with the tickets of strangers: ticket 0 alone waits then, and nobody
@@ -188,6 +183,5 @@ const STRANGERS: [Act<'static>; 4] = [Comes, Idles, Has(1, None), Queues(&[0])];
 
 #[test]
 fn tickets_that_no_client_has_leave(rt: HostRuntime) -> Result<(), Fail> {
-    assert_eq!(rt; wrong_act(rt.alloc(), Cast::Strangers, &STRANGERS)?, None);
-    Ok(())
+    as_told(wrong_act(rt.alloc(), Cast::Strangers, &STRANGERS), &None)
 }

@@ -9,6 +9,7 @@ use node_loop::NodeRun;
 use node_state_file::{FusedStore, MemoryStore, StoreFault};
 use std::alloc::{AllocError, Global};
 use std::test::Fail;
+use test_parts::as_told;
 use topology::Net;
 
 /// Whether one of two nodes in a row has its true distance, and nobody waits or borrows.
@@ -91,8 +92,7 @@ fn first_unsettled(alloc: Global) -> Result<(Option<u64>, bool), Fail> {
 
 #[test]
 fn two_nodes_settle_whichever_call_fails(rt: HostRuntime) -> Result<(), Fail> {
-    assert_eq!(rt; first_unsettled(rt.alloc())?, (None, true));
-    Ok(())
+    as_told(first_unsettled(rt.alloc()), &(None, true))
 }
 
 /// A node whose store fails once.
@@ -150,6 +150,5 @@ fn saved(alloc: Global) -> Result<(Option<u32>, bool), Fail> {
 
 #[test]
 fn each_256th_turn_saves_and_goes_on_where_that_fails(rt: HostRuntime) -> Result<(), Fail> {
-    assert_eq!(rt; saved(rt.alloc())?, (None, true));
-    Ok(())
+    as_told(saved(rt.alloc()), &(None, true))
 }

@@ -7,6 +7,7 @@ use crate::stage::{Run, idle, turn_once, whole};
 use crate::wires::{Pair, Queue};
 use std::alloc::Global;
 use std::test::Fail;
+use test_parts::as_told;
 use topology::Net;
 
 /// What a new node of three says first.
@@ -48,8 +49,7 @@ const HELLOS: [(&[u8], bool); 8] = [
 
 #[test]
 fn a_hello_of_a_higher_neighbour_alone_is_welcome(rt: HostRuntime) -> Result<(), Fail> {
-    assert_eq!(rt; wrong_hello(rt.alloc(), &HELLOS)?, None);
-    Ok(())
+    as_told(wrong_hello(rt.alloc(), &HELLOS), &None)
 }
 
 /// A hello in two parts, and a frame behind it.
@@ -65,8 +65,7 @@ const IN_PARTS: [Act<'static>; 7] = [
 
 #[test]
 fn a_hello_comes_in_parts_and_frames_behind_it(rt: HostRuntime) -> Result<(), Fail> {
-    assert_eq!(rt; wrong_act(rt.alloc(), Cast::Row(0), &IN_PARTS)?, None);
-    Ok(())
+    as_told(wrong_act(rt.alloc(), Cast::Row(0), &IN_PARTS), &None)
 }
 
 /// A neighbour comes twice.
@@ -86,8 +85,7 @@ const TWICE: [Act<'static>; 11] = [
 
 #[test]
 fn a_newer_hello_replaces_the_older_connection(rt: HostRuntime) -> Result<(), Fail> {
-    assert_eq!(rt; wrong_act(rt.alloc(), Cast::Row(0), &TWICE)?, None);
-    Ok(())
+    as_told(wrong_act(rt.alloc(), Cast::Row(0), &TWICE), &None)
 }
 
 /// Turns a node 256 times. The first turn before which another connection than the 65th was closed
@@ -141,8 +139,7 @@ fn silent(alloc: Global, count: usize) -> Result<Silence, Fail> {
 
 #[test]
 fn silent_connections_are_few_and_go(rt: HostRuntime) -> Result<(), Fail> {
-    assert_eq!(rt; silent(rt.alloc(), 66)?, (None, 65, true));
-    Ok(())
+    as_told(silent(rt.alloc(), 66), &(None, 65, true))
 }
 
 /// A node comes to its lower neighbour, and once more as that one closes.
@@ -160,8 +157,7 @@ const BELOW: [Act<'static>; 9] = [
 
 #[test]
 fn a_node_connects_to_a_lower_neighbour_and_says_who_it_is(rt: HostRuntime) -> Result<(), Fail> {
-    assert_eq!(rt; wrong_act(rt.alloc(), Cast::Last, &BELOW)?, None);
-    Ok(())
+    as_told(wrong_act(rt.alloc(), Cast::Last, &BELOW), &None)
 }
 
 /// What came of a network that was handed to a node: whether it was taken up, whether node 2 was
@@ -267,6 +263,5 @@ fn rewired_anew(alloc: Global) -> Result<Told, Fail> {
 #[test]
 fn a_network_with_other_edges_is_taken_up(rt: HostRuntime) -> Result<(), Fail> {
     // The connection of node 2 went with its edge.
-    assert_eq!(rt; rewired_anew(rt.alloc())?, (None, (true, true)));
-    Ok(())
+    as_told(rewired_anew(rt.alloc()), &(None, (true, true)))
 }

@@ -12,20 +12,8 @@ use node_state_file::MemoryStore;
 use pace::Manner;
 use std::alloc::{AllocError, Global};
 use std::test::Fail;
+use test_parts::{as_told, fill};
 use topology::Net;
-
-/// Takes all that a heap has left, so that it refuses every growth until what is answered is
-/// dropped.
-fn fill<'h>(alloc: Global, heap: &'h LocalHeap) -> Result<Vec<Vec<u8, &'h LocalHeap>>, Fail> {
-    let mut taken = Vec::with_capacity(alloc, heap.size())?;
-    for _ in 0..heap.size() {
-        match Vec::with_capacity(heap, 1) {
-            Ok(bytes) if taken.len() < taken.capacity() => taken.push_reserved(bytes),
-            _ => break,
-        }
-    }
-    Ok(taken)
-}
 
 /// A node that runs on a heap.
 type RunOn<'a, 'h> = NodeRun<MemoryDoors<'a>, MemoryStore, &'h LocalHeap>;
@@ -213,8 +201,7 @@ fn first_to_run(alloc: Global) -> Result<(bool, Outcome, bool), Fail> {
 
 #[test]
 fn only_new_asks_for_memory(rt: HostRuntime) -> Result<(), Fail> {
-    assert_eq!(rt; first_to_run(rt.alloc())?, (true, Outcome::Ran(true), true));
-    Ok(())
+    as_told(first_to_run(rt.alloc()), &(true, Outcome::Ran(true), true))
 }
 
 /// Three nodes, the root first, with these edges.
@@ -343,6 +330,5 @@ fn rewired_anew(alloc: Global) -> Result<Told, Fail> {
 #[test]
 fn a_network_is_taken_up_without_memory(rt: HostRuntime) -> Result<(), Fail> {
     // The connection of node 2 went with its edge.
-    assert_eq!(rt; rewired_anew(rt.alloc())?, (None, true));
-    Ok(())
+    as_told(rewired_anew(rt.alloc()), &(None, true))
 }

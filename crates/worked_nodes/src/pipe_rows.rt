@@ -3,6 +3,7 @@ use crate::wires::{End, Pair, Trip};
 use socket_links::{Flow, Offer, Pull, SocketLink};
 use std::alloc::{AllocError, Global};
 use std::test::Fail;
+use test_parts::as_told;
 use topology::{Frame, Net, Payload};
 
 /// How many frames are offered.
@@ -216,6 +217,5 @@ fn first_wrong(alloc: Global) -> Result<Option<(usize, u64)>, Fail> {
 
 #[test]
 fn frames_are_some_of_those_taken_whichever_call_fails(rt: HostRuntime) -> Result<(), Fail> {
-    assert_eq!(rt; first_wrong(rt.alloc())?, None);
-    Ok(())
+    as_told(first_wrong(rt.alloc()), &None)
 }

@@ -6,6 +6,7 @@ use crate::wires::{MemoryDoors, Pair, Queue, Trip};
 use node_state_file::{FileFault, MemoryStore, StartFault, Store, start};
 use std::alloc::{AllocError, Global};
 use std::test::Fail;
+use test_parts::as_told;
 use topology::Net;
 
 /// A state of node 2 of three nodes in a row: at distance 0, below node 1, with numbers of its port
@@ -279,6 +280,5 @@ const FILES: [(usize, Option<StartFault>); 2] = [
 
 #[test]
 fn a_node_starts_again_whatever_its_file_holds(rt: HostRuntime) -> Result<(), Fail> {
-    assert_eq!(rt; first_unlike(rt.alloc(), &FILES)?, None);
-    Ok(())
+    as_told(first_unlike(rt.alloc(), &FILES), &None)
 }

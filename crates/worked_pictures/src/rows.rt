@@ -7,6 +7,7 @@ use run_picture::{
 };
 use std::alloc::Global;
 use std::test::Fail;
+use test_parts::{as_told, is_told};
 use topology::Net;
 
 /// What a fault may leave of two nodes: a token at each, and each lends it.
@@ -117,9 +118,8 @@ const MOMENTS: [MarksRow; 6] = [
 
 #[test]
 fn a_column_is_a_moment(rt: HostRuntime) -> Result<(), Fail> {
-    assert_eq!(rt; size(rt.alloc(), 9, Window::ALL)?, (9, 1, 8, 0));
-    assert_eq!(rt; unlike_marks(rt.alloc(), 9, &MOMENTS)?, None);
-    Ok(())
+    as_told(size(rt.alloc(), 9, Window::ALL), &(9, 1, 8, 0))?;
+    as_told(unlike_marks(rt.alloc(), 9, &MOMENTS), &None)
 }
 
 /// What a column counts that is a moment.
@@ -127,8 +127,7 @@ const COUNTS: [CountsRow; 3] = [(0, (0, 0, false)), (7, (2, 1, true)), (8, (2, 2
 
 #[test]
 fn a_column_counts_tokens_and_loans(rt: HostRuntime) -> Result<(), Fail> {
-    assert_eq!(rt; unlike_counts(rt.alloc(), &COUNTS)?, None);
-    Ok(())
+    as_told(unlike_counts(rt.alloc(), &COUNTS), &None)
 }
 
 /// What a column shows that is four moments.
@@ -140,16 +139,14 @@ const WORST: [MarksRow; 2] = [
 #[test]
 fn a_column_shows_the_worst_of_its_moments(rt: HostRuntime) -> Result<(), Fail> {
     // Nine moments in at most four columns: four, four and one.
-    assert_eq!(rt; size(rt.alloc(), 4, Window::ALL)?, (3, 4, 8, 0));
-    assert_eq!(rt; unlike_marks(rt.alloc(), 4, &WORST)?, None);
-    Ok(())
+    as_told(size(rt.alloc(), 4, Window::ALL), &(3, 4, 8, 0))?;
+    as_told(unlike_marks(rt.alloc(), 4, &WORST), &None)
 }
 
 #[test]
 fn nothing_is_shown_of_a_run_that_has_no_sweep(rt: HostRuntime) -> Result<(), Fail> {
     let (shown, _, events, refused) = size(rt.alloc(), 4, Window { from: 1, to: 9 })?;
-    assert_eq!(rt; (shown, events, refused), (0, 8, 0));
-    Ok(())
+    is_told(&(shown, events, refused), &(0, 8, 0))
 }
 
 /// A sweep of two nodes: both tick, and each link hands over what was sent inside.
@@ -192,8 +189,7 @@ fn first_unlike_before(alloc: Global) -> Result<Option<usize>, Fail> {
 
 #[test]
 fn what_was_before_the_first_moment_shown(rt: HostRuntime) -> Result<(), Fail> {
-    assert_eq!(rt; first_unlike_before(rt.alloc())?, None);
-    Ok(())
+    as_told(first_unlike_before(rt.alloc()), &None)
 }
 
 /// Whether the tour of the square comes to its nodes in this order.
@@ -204,8 +200,7 @@ fn is_tour_of_square(alloc: Global, want: &[u16]) -> Result<bool, Fail> {
 
 #[test]
 fn the_tour_comes_to_the_smallest_child_last(rt: HostRuntime) -> Result<(), Fail> {
-    assert!(rt; is_tour_of_square(rt.alloc(), &[0, 2, 1, 3])?);
-    Ok(())
+    as_told(is_tour_of_square(rt.alloc(), &[0, 2, 1, 3]), &true)
 }
 
 /// A text with each byte that is escaped, in an attribute and in an element.
@@ -237,8 +232,7 @@ const ESCAPED: &[u8] =
 
 #[test]
 fn a_text_is_escaped(rt: HostRuntime) -> Result<(), Fail> {
-    assert!(rt; is_escaped_as(rt.alloc(), ESCAPED)?);
-    Ok(())
+    as_told(is_escaped_as(rt.alloc(), ESCAPED), &true)
 }
 
 /// The picture of the forged tokens.
@@ -295,6 +289,5 @@ fn first_undrawn(alloc: Global, parts: &[&str]) -> Result<Option<usize>, Fail> {
 
 #[test]
 fn the_lanes_are_drawn(rt: HostRuntime) -> Result<(), Fail> {
-    assert_eq!(rt; first_undrawn(rt.alloc(), &DRAWN)?, None);
-    Ok(())
+    as_told(first_undrawn(rt.alloc(), &DRAWN), &None)
 }

@@ -13,6 +13,7 @@ use std::sync::Wait;
 use std::test::Fail;
 use std::time::{Clock, Duration};
 use std::{env, fs, thread};
+use test_parts::as_told;
 
 /// What a desk of the tests does, one step after the other. Behind the last one it closes the
 /// connection.
@@ -296,10 +297,10 @@ const ENDS: [Row; 6] = [
 
 #[test]
 fn ends_as_its_command_does(rt: HostRuntime) -> Result<(), Fail> {
-    assert_eq!(rt;
-        unlike_in(&rt, "lock-held", "lock-held/desk-0.sock", &ENDS)?,
-        None
-    );
+    as_told(
+        unlike_in(&rt, "lock-held", "lock-held/desk-0.sock", &ENDS),
+        &None,
+    )?;
     fs::remove_dir_all(&rt, "lock-held")?;
     Ok(())
 }
@@ -374,10 +375,10 @@ const NOT_HELD: [Row; 6] = [
 
 #[test]
 fn tells_why_the_lock_is_not_held(rt: HostRuntime) -> Result<(), Fail> {
-    assert_eq!(rt;
-        unlike_in(&rt, "lock-not-held", "lock-not-held/desk-0.sock", &NOT_HELD)?,
-        None
-    );
+    as_told(
+        unlike_in(&rt, "lock-not-held", "lock-not-held/desk-0.sock", &NOT_HELD),
+        &None,
+    )?;
     serves_nobody(&rt, "lock-not-held")
 }
 
@@ -448,13 +449,14 @@ fn ends_with_its_input(rt: &HostRuntime, desk: &UnixListener) -> Result<bool, Fa
 #[test]
 fn holds_the_lock_until_its_input_ends(rt: HostRuntime) -> Result<(), Fail> {
     fs::create_dir_all(&rt, "lock-input")?;
-    assert!(rt;
+    as_told(
         at_desk(
             &rt,
             "lock-input/desk-0.sock",
-            |desk| ends_with_its_input(&rt, desk)
-        )?
-    );
+            |desk| ends_with_its_input(&rt, desk),
+        ),
+        &true,
+    )?;
     fs::remove_dir_all(&rt, "lock-input")?;
     Ok(())
 }
@@ -613,7 +615,7 @@ fn sees_three(rt: &HostRuntime) -> Result<bool, Fail> {
 fn tells_who_gave_no_answer(rt: HostRuntime) -> Result<(), Fail> {
     fs::create_dir_all(&rt, "lock-status")?;
     fs::write(&rt, "lock-status/node-1.sock", "")?;
-    assert!(rt; sees_three(&rt)?);
+    as_told(sees_three(&rt), &true)?;
     fs::remove_dir_all(&rt, "lock-status")?;
     Ok(())
 }

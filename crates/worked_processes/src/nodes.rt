@@ -16,6 +16,7 @@ use std::test::Fail;
 use std::time::Duration;
 use std::{env, fs, io, process, thread};
 use subcommands::scramble;
+use test_parts::{as_told, is_told};
 
 /// Three nodes in a line. Fewer frames than the capacity are under way.
 const LINE: &str = "nodes = 3\nroot = 0\ncapacity = 64\nlease = 0\nedges = [[0, 1], [1, 2]]\n";
@@ -76,7 +77,7 @@ fn run_told(rt: &HostRuntime, id: u16) -> Result<Result<(), NodeFault>, Fail> {
 #[test]
 fn acts_as_a_node(rt: HostRuntime) -> Result<(), Fail> {
     if let Some(id) = told_id(&rt)? {
-        assert_eq!(rt; run_told(&rt, id)?, Ok(()));
+        as_told(run_told(&rt, id), &Ok(()))?;
     }
     Ok(())
 }
@@ -615,8 +616,7 @@ fn run_told_up(rt: &HostRuntime) -> Result<Result<(), NodeFault>, Fail> {
 /// What a copy of this program does, where the environment says in which folder.
 #[test]
 fn acts_as_up(rt: HostRuntime) -> Result<(), Fail> {
-    assert_eq!(rt; run_told_up(&rt)?, Ok(()));
-    Ok(())
+    as_told(run_told_up(&rt), &Ok(()))
 }
 
 /// Whether this is the next line.
@@ -805,7 +805,7 @@ fn nodes_end_where_up_is_killed(rt: HostRuntime) -> Result<(), Fail> {
 }
 
 /// Whether why a node does not run is told so.
-fn is_told(alloc: Global, fault: NodeFault, want: &str) -> Result<bool, AllocError> {
+fn is_fault_line(alloc: Global, fault: NodeFault, want: &str) -> Result<bool, AllocError> {
     let refusal = Refusal {
         file: "a.toml",
         dir: "run",
@@ -846,7 +846,7 @@ const FAULTS: [(NodeFault, &str); 6] = [
 /// The place of the first of these that is not told so.
 fn first_untold(alloc: Global) -> Result<Option<usize>, AllocError> {
     for (place, (fault, want)) in FAULTS.iter().enumerate() {
-        if !is_told(alloc, *fault, *want)? {
+        if !is_fault_line(alloc, *fault, *want)? {
             return Ok(Some(place));
         }
     }
@@ -855,8 +855,7 @@ fn first_untold(alloc: Global) -> Result<Option<usize>, AllocError> {
 
 #[test]
 fn faults_are_told_as_written(rt: HostRuntime) -> Result<(), Fail> {
-    assert_eq!(rt; first_untold(rt.alloc())?, None);
-    Ok(())
+    is_told(&first_untold(rt.alloc())?, &None)
 }
 
 /// Whether a line is spelled so.
@@ -875,7 +874,9 @@ const KILLED: &str = "node 2 was ended by signal 9, and is started again";
 #[test]
 fn lines_are_as_written(rt: HostRuntime) -> Result<(), Fail> {
     let end = End::Signal(9);
-    assert!(rt; is_spelled(rt.alloc(), CapacityLine(1), ONE)?);
-    assert!(rt; is_spelled(rt.alloc(), EndLine { id: 2, end }, KILLED)?);
-    Ok(())
+    is_told(&is_spelled(rt.alloc(), CapacityLine(1), ONE)?, &true)?;
+    is_told(
+        &is_spelled(rt.alloc(), EndLine { id: 2, end }, KILLED)?,
+        &true,
+    )
 }

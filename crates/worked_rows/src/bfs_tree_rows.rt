@@ -1,5 +1,7 @@
 //! One step of the tree, from its copies.
 use bfs_tree::recompute;
+use std::test::Fail;
+use test_parts::is_told;
 
 /// Whether a node is the root, what it has as copies of its neighbours 1 and 2, and what its step
 /// gives.
@@ -31,6 +33,6 @@ fn first_unlike(steps: &[(bool, [u16; 2], (u16, Option<u16>))]) -> Option<usize>
 }
 
 #[test]
-fn steps_by_hand(rt: HostRuntime) {
-    assert_eq!(rt; first_unlike(&STEPS), None);
+fn steps_by_hand() -> Result<(), Fail> {
+    is_told(&first_unlike(&STEPS), &None)
 }

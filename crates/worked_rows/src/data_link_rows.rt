@@ -3,6 +3,7 @@ use data_link::{OutOfRange, Port};
 use link_model::{Item, Link};
 use std::alloc::{AllocError, Global};
 use std::test::Fail;
+use test_parts::{as_told, is_told};
 use topology::{Frame, Net, NetFault, Payload};
 
 /// Puts the frame of a port on a link.
@@ -92,8 +93,7 @@ const BEHIND_ROUNDS: [(Numbers, Numbers); 2] = [
 
 #[test]
 fn numbers_go_round(rt: HostRuntime) -> Result<(), Fail> {
-    assert_eq!(rt; behind_rounds(rt.alloc())?, BEHIND_ROUNDS);
-    Ok(())
+    as_told(behind_rounds(rt.alloc()), &BEHIND_ROUNDS)
 }
 
 /// Each field at its greatest.
@@ -156,9 +156,5 @@ const SENT: Frame = Frame {
 
 #[test]
 fn writes_outside_their_range_change_nothing(rt: HostRuntime) -> Result<(), Fail> {
-    assert_eq!(rt;
-        written(rt.alloc())?,
-        (Ok(()), true, (SENT, GREATEST), true)
-    );
-    Ok(())
+    is_told(&written(rt.alloc())?, &(Ok(()), true, (SENT, GREATEST), true))
 }

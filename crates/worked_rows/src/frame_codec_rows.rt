@@ -1,10 +1,10 @@
 //! Frame lines and hellos, at the ends of their ranges, cut at every place, and with memory
 //! refused.
-use crate::told::all_as_told;
 use frame_codec::{LineReader, decode, decode_hello, encode, encode_hello};
 use linked_list_allocator::LocalHeap;
 use std::alloc::{AllocError, Allocator, Global};
 use std::test::Fail;
+use test_parts::{as_told, is_told};
 use topology::{Frame, Net, Payload};
 
 /// Three nodes in a line, with capacity 1: counters are below 5 and ring values below 13.
@@ -81,7 +81,7 @@ const LINES: [(&[u8], Option<Frame>); 2] = [
 
 #[test]
 fn lines_of_three_nodes(rt: HostRuntime) -> Result<(), Fail> {
-    all_as_told(&rt, first_unlike(line_of_three(rt.alloc()), &LINES))
+    as_told(first_unlike(line_of_three(rt.alloc()), &LINES), &None)
 }
 
 /// Lines that are none of three nodes.
@@ -100,7 +100,7 @@ const NOISE: [(&[u8], Option<Frame>); 10] = [
 
 #[test]
 fn lines_that_are_noise(rt: HostRuntime) -> Result<(), Fail> {
-    all_as_told(&rt, first_unlike(line_of_three(rt.alloc()), &NOISE))
+    as_told(first_unlike(line_of_three(rt.alloc()), &NOISE), &None)
 }
 
 /// A frame of the star with each field at its greatest.
@@ -122,7 +122,7 @@ const GREATEST_LINES: [(&[u8], Option<Frame>); 2] = [
 
 #[test]
 fn each_field_at_its_greatest(rt: HostRuntime) -> Result<(), Fail> {
-    all_as_told(&rt, first_unlike(star_of_64(rt.alloc()), &GREATEST_LINES))
+    as_told(first_unlike(star_of_64(rt.alloc()), &GREATEST_LINES), &None)
 }
 
 /// Whether this is the hello of a node, without its end.
@@ -164,7 +164,7 @@ fn first_unlike_hello(alloc: Global, rows: &[(&[u8], Option<u16>)]) -> Result<Op
 
 #[test]
 fn hellos(rt: HostRuntime) -> Result<(), Fail> {
-    all_as_told(&rt, first_unlike_hello(rt.alloc(), &HELLOS))
+    as_told(first_unlike_hello(rt.alloc(), &HELLOS), &None)
 }
 
 /// A line of junk that a good line joins, and then a good line.
@@ -234,7 +234,7 @@ fn first_wrong_cut(alloc: Global) -> Result<Option<usize>, Fail> {
 
 #[test]
 fn every_cut_gives_the_same_frame(rt: HostRuntime) -> Result<(), Fail> {
-    all_as_told(&rt, first_wrong_cut(rt.alloc()))
+    as_told(first_wrong_cut(rt.alloc()), &None)
 }
 
 /// The first byte of the stream that ends a frame and is not its last one, or its last one where
@@ -252,7 +252,7 @@ fn first_wrong_byte(alloc: Global) -> Result<Option<usize>, Fail> {
 
 #[test]
 fn bytes_one_by_one(rt: HostRuntime) -> Result<(), Fail> {
-    all_as_told(&rt, first_wrong_byte(rt.alloc()))
+    as_told(first_wrong_byte(rt.alloc()), &None)
 }
 
 /// Half a line.
@@ -269,8 +269,7 @@ fn half_spoils_nothing(alloc: Global) -> Result<bool, Fail> {
 
 #[test]
 fn a_dropped_half_line_spoils_nothing(rt: HostRuntime) -> Result<(), Fail> {
-    assert!(rt; half_spoils_nothing(rt.alloc())?);
-    Ok(())
+    as_told(half_spoils_nothing(rt.alloc()), &true)
 }
 
 /// A line and a half.
@@ -353,6 +352,5 @@ fn refusals(alloc: Global) -> Result<Option<u32>, Fail> {
 #[test]
 fn a_refused_growth_reads_nothing(rt: HostRuntime) -> Result<(), Fail> {
     let refused = refusals(rt.alloc())?;
-    assert!(rt; refused.unwrap_or(0) > 0);
-    Ok(())
+    is_told(&(refused.unwrap_or(0) > 0), &true)
 }

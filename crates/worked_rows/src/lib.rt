@@ -16,7 +16,7 @@ mod euler_ring_rows;
 #[cfg(test)]
 mod frame_codec_rows;
 #[cfg(test)]
-mod full_heap;
+mod least_heap;
 #[cfg(test)]
 mod link_model_rows;
 #[cfg(test)]
@@ -25,7 +25,5 @@ mod lock_desk_rows;
 mod node_core_rows;
 #[cfg(test)]
 mod registers_rows;
-#[cfg(test)]
-mod told;
 #[cfg(test)]
 mod topology_rows;

@@ -1,10 +1,10 @@
 //! One node, and two that hear each other, event by event.
-use crate::full_heap::{least_heap, on_full};
-use crate::told::{all_as_told, all_as_told_on_full};
+use crate::least_heap::least_heap;
 use linked_list_allocator::LocalHeap;
 use node_core::{AskFault, DeskAct, Item, Node, OutOfRange, Payload, Stranger, Ticked};
 use std::alloc::{Allocator, Global};
 use std::test::Fail;
+use test_parts::{as_told, is_told, on_full};
 use topology::{Net, NetFault};
 
 /// Two nodes, 0 the root, capacity 1.
@@ -179,7 +179,7 @@ const REACHES_TREE: [Deed<'static>; 11] = [
 
 #[test]
 fn two_nodes_reach_the_tree_and_pass_the_token(rt: HostRuntime) -> Result<(), Fail> {
-    all_as_told(&rt, first_wrong_of(rt.alloc(), 0, &REACHES_TREE))
+    as_told(first_wrong_of(rt.alloc(), 0, &REACHES_TREE), &None)
 }
 
 /// Two tickets ask at the near node, and the first has its loan.
@@ -198,7 +198,7 @@ const TWO_TICKETS: [Deed<'static>; 10] = [
 
 #[test]
 fn the_token_leaves_before_a_second_loan(rt: HostRuntime) -> Result<(), Fail> {
-    all_as_told(&rt, first_wrong_of(rt.alloc(), 0, &TWO_TICKETS))
+    as_told(first_wrong_of(rt.alloc(), 0, &TWO_TICKETS), &None)
 }
 
 /// A ticket has a loan with a lease of one tick.
@@ -214,7 +214,7 @@ const ONE_TICK: [Deed<'static>; 7] = [
 
 #[test]
 fn a_loan_of_one_tick_ends(rt: HostRuntime) -> Result<(), Fail> {
-    all_as_told(&rt, first_wrong_of(rt.alloc(), 1, &ONE_TICK))
+    as_told(first_wrong_of(rt.alloc(), 1, &ONE_TICK), &None)
 }
 
 /// Both nodes lend by forged tokens, of which one stays.
@@ -233,7 +233,7 @@ const FORGED_TOKEN: [Deed<'static>; 10] = [
 
 #[test]
 fn a_forged_token_goes_and_its_loan_ends(rt: HostRuntime) -> Result<(), Fail> {
-    all_as_told(&rt, first_wrong_of(rt.alloc(), 0, &FORGED_TOKEN))
+    as_told(first_wrong_of(rt.alloc(), 0, &FORGED_TOKEN), &None)
 }
 
 /// Writes the counters and the values of port 0: of the first three writes the third alone fits.
@@ -275,8 +275,7 @@ fn left_of_far(alloc: Global) -> Result<(bool, Option<(u16, u16, u16)>, bool), F
 
 #[test]
 fn noise_and_writes_out_of_range_change_nothing(rt: HostRuntime) -> Result<(), Fail> {
-    assert_eq!(rt; left_of_far(rt.alloc())?, (true, Some((0, 0, 6)), true));
-    Ok(())
+    as_told(left_of_far(rt.alloc()), &(true, Some((0, 0, 6)), true))
 }
 
 /// Whether a node takes 64 tickets, from this one on.
@@ -315,8 +314,7 @@ fn least_used(alloc: Global) -> Result<(usize, bool), Fail> {
 #[test]
 fn each_growth_of_new_may_be_refused(rt: HostRuntime) -> Result<(), Fail> {
     let (units, is_so) = least_used(rt.alloc())?;
-    assert!(rt; is_so && units > 8);
-    Ok(())
+    is_told(&(is_so && units > 8), &true)
 }
 
 /// The place of the first deed that two nodes do not answer so on a heap of which nothing is left,
@@ -358,5 +356,8 @@ const WITHOUT_MEMORY: [Deed<'static>; 13] = [
 
 #[test]
 fn nodes_take_no_memory(rt: HostRuntime) -> Result<(), Fail> {
-    all_as_told_on_full(&rt, first_wrong_without_memory(rt.alloc(), &WITHOUT_MEMORY))
+    as_told(
+        first_wrong_without_memory(rt.alloc(), &WITHOUT_MEMORY),
+        &(None, 0),
+    )
 }

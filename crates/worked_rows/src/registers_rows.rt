@@ -1,10 +1,10 @@
 //! All ports of a node in one table, and its memory refused.
-use crate::full_heap::{least_heap, on_full};
-use crate::told::all_as_told;
+use crate::least_heap::least_heap;
 use linked_list_allocator::LocalHeap;
 use registers::{Heard, OutOfRange, Registers};
 use std::alloc::{Allocator, Global};
 use std::test::Fail;
+use test_parts::{as_told, is_told, on_full};
 use topology::{Frame, Net, NetFault, Payload};
 
 /// Writes both numbers of a neighbour; a node that is none is refused.
@@ -141,7 +141,7 @@ const WRITES: [Deed<'static>; 9] = [
 
 #[test]
 fn one_port_alone_is_written(rt: HostRuntime) -> Result<(), Fail> {
-    all_as_told(&rt, first_wrong(rt.alloc(), &WRITES))
+    as_told(first_wrong(rt.alloc(), &WRITES), &None)
 }
 
 /// Uses the registers of the root, and says whether its two neighbours and no other node could be
@@ -164,8 +164,7 @@ fn least_used(alloc: Global) -> Result<(usize, bool), Fail> {
 #[test]
 fn each_growth_of_new_may_be_refused(rt: HostRuntime) -> Result<(), Fail> {
     let (units, is_so) = least_used(rt.alloc())?;
-    assert!(rt; is_so && units > 3);
-    Ok(())
+    is_told(&(is_so && units > 3), &true)
 }
 
 /// Whether they are written on a heap of which nothing is left, and how much was left.
@@ -182,6 +181,5 @@ fn written_without_memory(alloc: Global) -> Result<(bool, usize), Fail> {
 
 #[test]
 fn registers_take_no_memory(rt: HostRuntime) -> Result<(), Fail> {
-    assert_eq!(rt; written_without_memory(rt.alloc())?, (true, 0));
-    Ok(())
+    as_told(written_without_memory(rt.alloc()), &(true, 0))
 }

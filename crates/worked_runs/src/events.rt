@@ -2,6 +2,7 @@
 use run_model::{Event, Harm};
 use std::alloc::{AllocFailed, Global};
 use std::test::Fail;
+use test_parts::is_told;
 use world::events::{EventReader, TextLine, parse_line};
 
 /// Hands a piece to a reader, and says which line it ended, and what is left of the piece.
@@ -99,8 +100,7 @@ const EACH_KIND: [(&[u8], &[TextLine]); 1] = [(
 
 #[test]
 fn a_text_is_the_same_in_any_pieces(rt: HostRuntime) -> Result<(), Fail> {
-    assert_eq!(rt; first_unlike(rt.alloc(), &EACH_KIND)?, None);
-    Ok(())
+    is_told(&first_unlike(rt.alloc(), &EACH_KIND)?, &None)
 }
 
 /// Texts that end with a newline, or are empty.
@@ -114,8 +114,7 @@ const ENDED: [(&[u8], &[TextLine]); 2] = [
 
 #[test]
 fn a_text_that_ends_with_a_newline_has_no_line_behind_it(rt: HostRuntime) -> Result<(), Fail> {
-    assert_eq!(rt; first_unlike(rt.alloc(), &ENDED)?, None);
-    Ok(())
+    is_told(&first_unlike(rt.alloc(), &ENDED)?, &None)
 }
 
 /// Lines with numbers, and what they spell.
@@ -142,6 +141,6 @@ fn first_misread(rows: &[(&[u8], Option<Event>)]) -> Option<usize> {
 }
 
 #[test]
-fn numbers_are_decimal(rt: HostRuntime) {
-    assert_eq!(rt; first_misread(&NUMBERS), None);
+fn numbers_are_decimal() -> Result<(), Fail> {
+    is_told(&first_misread(&NUMBERS), &None)
 }

@@ -5,6 +5,7 @@ use crate::worlds::{event_of, first_unlike, net_of, start};
 use run_model::{Event, EventFault};
 use std::alloc::{AllocFailed, Allocator, Global};
 use std::test::Fail;
+use test_parts::as_told;
 use world::report::{Report, judge};
 use world::{Judge, World};
 
@@ -106,8 +107,7 @@ const ROUNDS: [(usize, &str, Counts); 6] = [
 
 #[test]
 fn each_round_is_a_sweep_and_the_third_visits_the_other_node(rt: HostRuntime) -> Result<(), Fail> {
-    assert_eq!(rt; first_miscounted(rt.alloc(), &ROUNDS)?, None);
-    Ok(())
+    as_told(first_miscounted(rt.alloc(), &ROUNDS), &None)
 }
 
 /// Rounds with damage behind them.
@@ -124,8 +124,7 @@ const DAMAGED: [(usize, &str, Counts); 4] = [
 
 #[test]
 fn damage_leaves_those_visited_that_are_privileged(rt: HostRuntime) -> Result<(), Fail> {
-    assert_eq!(rt; first_miscounted(rt.alloc(), &DAMAGED)?, None);
-    Ok(())
+    as_told(first_miscounted(rt.alloc(), &DAMAGED), &None)
 }
 
 /// Short runs, of which some are a sweep.
@@ -163,8 +162,7 @@ const SERVING: [(usize, &str, Counts); 5] = [
 
 #[test]
 fn what_serves_and_what_does_not(rt: HostRuntime) -> Result<(), Fail> {
-    assert_eq!(rt; first_miscounted(rt.alloc(), &SERVING)?, None);
-    Ok(())
+    as_told(first_miscounted(rt.alloc(), &SERVING), &None)
 }
 
 /// The default world of three nodes in a line.
@@ -200,8 +198,7 @@ fn first_unlike_of_three(alloc: Global) -> Result<Option<usize>, Fail> {
 
 #[test]
 fn each_refusal_has_its_name(rt: HostRuntime) -> Result<(), Fail> {
-    assert_eq!(rt; first_unlike_of_three(rt.alloc())?, None);
-    Ok(())
+    as_told(first_unlike_of_three(rt.alloc()), &None)
 }
 
 /// A round and a harm behind it, each event with the number of tallies at which a judge looks.
@@ -238,6 +235,5 @@ fn looks(alloc: Global) -> Result<(u32, Option<usize>), Fail> {
 
 #[test]
 fn a_step_looks_at_two_tallies_except_where_a_sweep_ends(rt: HostRuntime) -> Result<(), Fail> {
-    assert_eq!(rt; looks(rt.alloc())?, (0, None));
-    Ok(())
+    as_told(looks(rt.alloc()), &(0, None))
 }

@@ -9,8 +9,6 @@
 #[cfg(test)]
 mod events;
 #[cfg(test)]
-mod full_heap;
-#[cfg(test)]
 mod judged;
 #[cfg(test)]
 mod no_memory;

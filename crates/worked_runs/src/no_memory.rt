@@ -1,11 +1,11 @@
 //! What takes no memory: edges that join and go, and the text of a world, on a heap without a free
 //! byte.
-use crate::full_heap::on_full;
 use crate::worlds::{event_of, first_unlike, net_of};
 use linked_list_allocator::LocalHeap;
 use run_model::EventFault;
 use std::alloc::{Allocator, Global};
 use std::test::Fail;
+use test_parts::{as_told, on_full};
 use topology::{Net, NetFault};
 use world::simulation::{SimFault, state_text};
 use world::streams::MemorySink;
@@ -114,8 +114,7 @@ fn shown_without_memory(alloc: Global) -> Result<(bool, usize), Fail> {
 
 #[test]
 fn a_world_changes_its_edges_and_is_shown_without_memory(rt: HostRuntime) -> Result<(), Fail> {
-    assert_eq!(rt; shown_without_memory(rt.alloc())?, (true, 0));
-    Ok(())
+    as_told(shown_without_memory(rt.alloc()), &(true, 0))
 }
 
 /// Whether a judge of a world on a heap answers so, and how much the heap had left.
@@ -133,6 +132,5 @@ fn judged_without_memory(alloc: Global) -> Result<((bool, usize), usize), Fail> 
 
 #[test]
 fn a_judge_sees_edges_change_without_memory(rt: HostRuntime) -> Result<(), Fail> {
-    assert_eq!(rt; judged_without_memory(rt.alloc())?, ((true, 0), 0));
-    Ok(())
+    as_told(judged_without_memory(rt.alloc()), &((true, 0), 0))
 }

@@ -3,11 +3,11 @@ ghost use Rattle.std.specs.Prelude.{◌≡◌, ◌≤◌, ℕ, [], IfOk, vec_cap
 ghost use Rattle.weaving.specs.Journals.{entries_in, entry_count, journal_of};
 ghost use Rattle.weaving.specs.Woven.{AreRising};
 
-use crate::full_heap::fill;
 use linked_list_allocator::LocalHeap;
 use run_model::Event;
 use std::alloc::{AllocError, Allocator, Global};
 use std::test::Fail;
+use test_parts::{as_told, fill};
 use weaving::{Entry, Journal, weave};
 
 const SEND: Event = Event::Send { from: 0, to: 1 };
@@ -89,6 +89,5 @@ fn woven_on_a_heap(alloc: Global) -> Result<(bool, usize), Fail> {
 
 #[test]
 fn weaving_fills_the_room_that_is_there_and_takes_no_memory(rt: HostRuntime) -> Result<(), Fail> {
-    assert_eq!(rt; woven_on_a_heap(rt.alloc())?, (true, 0));
-    Ok(())
+    as_told(woven_on_a_heap(rt.alloc()), &(true, 0))
 }

@@ -4,6 +4,7 @@ use std::alloc::Global;
 use std::sync::Wait;
 use std::test::Fail;
 use std::thread::Threads;
+use test_parts::as_told;
 use thread_net::{Meet, RunFault, Woven};
 
 /// How often each of three nodes ticked in a run; none where the run was refused.
@@ -28,6 +29,5 @@ fn ten_turns<R: Threads + Wait + Sync>(
 /// All nodes stand at the gate at one time, so each has a thread of its own.
 #[test]
 fn nodes_meet_before_their_first_turn(rt: HostRuntime) -> Result<(), Fail> {
-    assert_eq!(rt; ten_turns(&rt, rt.alloc())?, (Some([10; 3]), false));
-    Ok(())
+    as_told(ten_turns(&rt, rt.alloc()), &(Some([10; 3]), false))
 }

@@ -4,6 +4,7 @@ use std::alloc::Global;
 use std::sync::Wait;
 use std::test::Fail;
 use std::thread::Threads;
+use test_parts::as_told;
 use thread_net::{Open, RunFault, Woven};
 use world::{Event, World};
 
@@ -36,6 +37,5 @@ fn one_turn<R: Threads + Wait + Sync>(rt: &R, alloc: Global) -> Result<Option<[u
 /// In its one turn each node ticks, and sends over the one link from it, which is empty.
 #[test]
 fn one_turn_of_two_nodes(rt: HostRuntime) -> Result<(), Fail> {
-    assert_eq!(rt; one_turn(&rt, rt.alloc())?, Some([1; 4]));
-    Ok(())
+    as_told(one_turn(&rt, rt.alloc()), &Some([1; 4]))
 }

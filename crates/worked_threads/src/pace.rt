@@ -4,6 +4,7 @@ use std::alloc::Global;
 use std::sync::Wait;
 use std::test::Fail;
 use std::thread::Threads;
+use test_parts::as_told;
 use thread_net::{Pace, RunFault, Woven};
 use world::{Event, World};
 
@@ -45,6 +46,5 @@ fn in_step<R: Threads + Wait + Sync>(rt: &R, alloc: Global) -> Result<(Told, boo
 #[test]
 fn a_line_of_three_in_step_converges(rt: HostRuntime) -> Result<(), Fail> {
     let want = ([4000; 3], Some(LINE), [true; 3], [true; 2]);
-    assert_eq!(rt; in_step(&rt, rt.alloc())?, (want, false));
-    Ok(())
+    as_told(in_step(&rt, rt.alloc()), &(want, false))
 }

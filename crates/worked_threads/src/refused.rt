@@ -8,6 +8,7 @@ use std::rt::Files;
 use std::sync::Wait;
 use std::test::Fail;
 use std::thread::Threads;
+use test_parts::as_told;
 use thread_net::{Open, RunFault, Woven};
 use world::Event;
 
@@ -115,6 +116,5 @@ fn first_unlike<R: Files + Processes + AllocGlobal>(rt: &R) -> Result<Option<usi
 
 #[test]
 fn a_refused_start_leaves_a_run(rt: HostRuntime) -> Result<(), Fail> {
-    assert_eq!(rt; first_unlike(&rt)?, None);
-    Ok(())
+    as_told(first_unlike(&rt), &None)
 }

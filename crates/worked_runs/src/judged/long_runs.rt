@@ -1,5 +1,7 @@
 //! Runs of as many sweeps as a network's lock needs to work from any state.
 use super::*;
+use std::test::Fail;
+use test_parts::as_told;
 use topology::Net;
 
 /// Rounds of a network, and what they lead to.
@@ -106,8 +108,7 @@ const SQUARE: LongRun<'_> = LongRun {
 
 #[test]
 fn the_far_corner_of_the_square_takes_the_smaller_parent(rt: HostRuntime) -> Result<(), Fail> {
-    assert_eq!(rt; told_of(rt.alloc(), &SQUARE)?, wanted_of(&SQUARE));
-    Ok(())
+    as_told(told_of(rt.alloc(), &SQUARE), &wanted_of(&SQUARE))
 }
 
 /// Three nodes in a line.
@@ -124,8 +125,7 @@ const LINE: LongRun<'_> = LongRun {
 
 #[test]
 fn three_nodes_in_a_line_settle(rt: HostRuntime) -> Result<(), Fail> {
-    assert_eq!(rt; told_of(rt.alloc(), &LINE)?, wanted_of(&LINE));
-    Ok(())
+    as_told(told_of(rt.alloc(), &LINE), &wanted_of(&LINE))
 }
 
 /// Two nodes that hold a forged token each, and lend it.
@@ -142,6 +142,5 @@ const TWO_FORGED: LongRun<'_> = LongRun {
 
 #[test]
 fn forged_tokens_and_loans_are_gone(rt: HostRuntime) -> Result<(), Fail> {
-    assert_eq!(rt; told_of(rt.alloc(), &TWO_FORGED)?, wanted_of(&TWO_FORGED));
-    Ok(())
+    as_told(told_of(rt.alloc(), &TWO_FORGED), &wanted_of(&TWO_FORGED))
 }

@@ -1,8 +1,9 @@
 //! What memory a judge takes: none.
 use super::*;
-use crate::full_heap::on_full;
 use crate::worlds::happen;
 use linked_list_allocator::LocalHeap;
+use std::test::Fail;
+use test_parts::{as_told, on_full};
 use topology::Net;
 
 /// An event of each kind that does not stand in a round.
@@ -42,8 +43,7 @@ fn takes_each_kind_without_memory(alloc: Global) -> Result<(bool, usize), Fail> 
 
 #[test]
 fn a_world_takes_no_memory(rt: HostRuntime) -> Result<(), Fail> {
-    assert_eq!(rt; takes_each_kind_without_memory(rt.alloc())?, (true, 0));
-    Ok(())
+    as_told(takes_each_kind_without_memory(rt.alloc()), &(true, 0))
 }
 
 /// What happens behind a round, of which the last is followed by one loan.
@@ -131,9 +131,5 @@ fn least_heap_of_round(alloc: Global) -> Result<Option<LeastHeap>, Fail> {
 fn each_growth_of_a_world_may_be_refused_and_judging_takes_none(
     rt: HostRuntime,
 ) -> Result<(), Fail> {
-    assert_eq!(rt;
-        least_heap_of_round(rt.alloc())?,
-        Some((true, (true, 0), 0))
-    );
-    Ok(())
+    as_told(least_heap_of_round(rt.alloc()), &Some((true, (true, 0), 0)))
 }

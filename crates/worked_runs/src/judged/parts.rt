@@ -1,8 +1,9 @@
 //! A world that is taken apart and put together goes on as it would have.
 use super::*;
-use crate::full_heap::on_full;
 use crate::worlds::told;
 use linked_list_allocator::LocalHeap;
+use std::test::Fail;
+use test_parts::{as_told, on_full};
 
 /// Takes a world apart and puts it together again, and says how many nodes and edges its parts had.
 fn taken_apart<A: Allocator + Copy>(world: World<A>) -> (World<A>, usize, usize) {
@@ -50,8 +51,7 @@ fn goes_over_at_two(alloc: Global) -> Result<bool, Fail> {
 fn the_token_goes_over_in_three_rounds_of_a_world_taken_apart_after_each_event(
     rt: HostRuntime,
 ) -> Result<(), Fail> {
-    assert!(rt; goes_over_at_two(rt.alloc())?);
-    Ok(())
+    as_told(goes_over_at_two(rt.alloc()), &true)
 }
 
 /// Whether that is so of a world on a heap, and how much the heap had left.
@@ -69,6 +69,5 @@ fn goes_over_without_memory(alloc: Global) -> Result<((bool, usize), usize), Fai
 
 #[test]
 fn a_world_is_taken_apart_and_put_together_without_memory(rt: HostRuntime) -> Result<(), Fail> {
-    assert_eq!(rt; goes_over_without_memory(rt.alloc())?, ((true, 0), 0));
-    Ok(())
+    as_told(goes_over_without_memory(rt.alloc()), &((true, 0), 0))
 }

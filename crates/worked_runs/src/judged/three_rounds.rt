@@ -1,6 +1,8 @@
 //! A world that is moved event by event, without a judge.
 use super::*;
 use crate::worlds::happen;
+use std::test::Fail;
+use test_parts::as_told;
 
 /// How many nodes are privileged, and how many lend.
 fn counted(world: &World) -> (usize, usize) {
@@ -78,6 +80,5 @@ fn first_unlike_of_two(alloc: Global) -> Result<Option<usize>, Fail> {
 
 #[test]
 fn the_token_goes_to_the_other_node_in_three_rounds(rt: HostRuntime) -> Result<(), Fail> {
-    assert_eq!(rt; first_unlike_of_two(rt.alloc())?, None);
-    Ok(())
+    as_told(first_unlike_of_two(rt.alloc()), &None)
 }

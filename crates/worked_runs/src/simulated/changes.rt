@@ -4,6 +4,8 @@ use super::*;
 use crate::texts::round_of;
 use crate::worlds::{self, simulated_start};
 use run_model::EventFault;
+use std::test::Fail;
+use test_parts::as_told;
 
 /// A square: node 3 lies opposite the root.
 fn square(alloc: Global) -> Result<Net, Fail> {
@@ -93,8 +95,7 @@ fn first_wrong_on_square(alloc: Global, rows: &[Row<'_>]) -> Result<Option<(usiz
 
 #[test]
 fn what_is_shown_are_the_links_that_stand(rt: HostRuntime) -> Result<(), Fail> {
-    assert_eq!(rt; first_wrong_on_square(rt.alloc(), &ON_THE_SQUARE)?, None);
-    Ok(())
+    as_told(first_wrong_on_square(rt.alloc(), &ON_THE_SQUARE), &None)
 }
 
 /// One round of the square without an edge.
@@ -140,8 +141,7 @@ fn the_far_corner_of_the_square_finds_its_other_parent(rt: HostRuntime) -> Resul
         refused: 0,
         sweeps: 461,
     };
-    assert_eq!(rt; simulated_for_long(rt.alloc())?, (want, true));
-    Ok(())
+    as_told(simulated_for_long(rt.alloc()), &(want, true))
 }
 
 /// A star of 64 nodes round the root.
@@ -188,6 +188,5 @@ fn on_the_star(alloc: Global) -> Result<(Option<usize>, usize), Fail> {
 
 #[test]
 fn an_edge_that_goes_leaves_its_links_to_the_next(rt: HostRuntime) -> Result<(), Fail> {
-    assert_eq!(rt; on_the_star(rt.alloc())?, (None, 71));
-    Ok(())
+    as_told(on_the_star(rt.alloc()), &(None, 71))
 }

@@ -1,6 +1,8 @@
 //! Sources, sinks and memory that fail, at each of their calls in turn.
 use super::*;
 use linked_list_allocator::LocalHeap;
+use std::test::Fail;
+use test_parts::{as_told, fill};
 use world::streams::{Failed, Fused};
 
 /// Lines of which all but one are refused.
@@ -174,14 +176,12 @@ fn first_wrong_write_of_all(alloc: Global) -> Result<Option<(usize, u64)>, Fail>
 
 #[test]
 fn a_read_that_fails_leaves_the_refusals_of_whole_lines(rt: HostRuntime) -> Result<(), Fail> {
-    assert_eq!(rt; first_wrong_read_of_all(rt.alloc())?, None);
-    Ok(())
+    as_told(first_wrong_read_of_all(rt.alloc()), &None)
 }
 
 #[test]
 fn a_write_that_fails_leaves_a_beginning(rt: HostRuntime) -> Result<(), Fail> {
-    assert_eq!(rt; first_wrong_write_of_all(rt.alloc())?, None);
-    Ok(())
+    as_told(first_wrong_write_of_all(rt.alloc()), &None)
 }
 
 /// Simulates into a sink with `room` bytes. What is answered, and whether all of them are filled.
@@ -220,8 +220,7 @@ fn first_wrong_room(alloc: Global) -> Result<Option<usize>, Fail> {
 
 #[test]
 fn a_sink_with_too_little_room_is_filled(rt: HostRuntime) -> Result<(), Fail> {
-    assert_eq!(rt; first_wrong_room(rt.alloc())?, None);
-    Ok(())
+    as_told(first_wrong_room(rt.alloc()), &None)
 }
 
 /// Simulates on a heap of this size in `bytes`. What is answered, and how much of it stays taken.
@@ -281,8 +280,7 @@ fn refused_memory_leaves_all_unread_and_unwritten(rt: HostRuntime) -> Result<(),
     // The same as with all memory there is; the source still had all its bytes, and the sink all
     // its room.
     let want = Some((true, Ok(ALL), 0, true));
-    assert_eq!(rt; least_heap_of_two(rt.alloc())?, want);
-    Ok(())
+    as_told(least_heap_of_two(rt.alloc()), &want)
 }
 
 /// A line that is refused, and then a comment up to that length.
@@ -363,6 +361,5 @@ fn first_wrong_length(alloc: Global) -> Result<Option<usize>, Fail> {
 
 #[test]
 fn a_text_may_have_a_gibibyte_and_no_more(rt: HostRuntime) -> Result<(), Fail> {
-    assert_eq!(rt; first_wrong_length(rt.alloc())?, None);
-    Ok(())
+    as_told(first_wrong_length(rt.alloc()), &None)
 }

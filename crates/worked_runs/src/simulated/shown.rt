@@ -1,6 +1,8 @@
 //! The text that shows a world.
 use super::*;
 use crate::worlds::{start, told};
+use std::test::Fail;
+use test_parts::as_told;
 use topology::NetFault;
 
 /// A world of two nodes with a frame under way, shown with 7 sweeps.
@@ -76,8 +78,7 @@ fn shown_as_far(alloc: Global) -> Result<(bool, Option<usize>), Fail> {
 
 #[test]
 fn a_world_is_shown_as_far_as_there_is_room(rt: HostRuntime) -> Result<(), Fail> {
-    assert_eq!(rt; shown_as_far(rt.alloc())?, (true, None));
-    Ok(())
+    as_told(shown_as_far(rt.alloc()), &(true, None))
 }
 
 /// Whether a world is shown so behind the event of each line, none of which is refused.
@@ -123,6 +124,5 @@ fn are_links_shown(alloc: Global) -> Result<bool, Fail> {
 
 #[test]
 fn links_stand_by_source_and_then_destination(rt: HostRuntime) -> Result<(), Fail> {
-    assert!(rt; are_links_shown(rt.alloc())?);
-    Ok(())
+    as_told(are_links_shown(rt.alloc()), &true)
 }

@@ -5,6 +5,9 @@ use std::test::Fail;
 
 /// Takes all that a heap has left, so that it refuses every growth until what is answered is
 /// dropped.
+///
+/// # Errors
+/// Where `alloc` refuses the list of what was taken.
 pub fn fill<'h>(alloc: Global, heap: &'h LocalHeap) -> Result<Vec<Vec<u8, &'h LocalHeap>>, Fail> {
     let mut taken = Vec::with_capacity(alloc, heap.size())?;
     for _ in 0..heap.size() {
@@ -16,12 +19,16 @@ pub fn fill<'h>(alloc: Global, heap: &'h LocalHeap) -> Result<Vec<Vec<u8, &'h Lo
     Ok(taken)
 }
 
-/// Does something while a heap has nothing left. What it answers, and how much the heap had left.
-pub fn on_full<F: FnOnce() -> bool>(
+/// Does something while a heap has nothing left. What it answers, and how many bytes the heap had
+/// left.
+///
+/// # Errors
+/// Where `alloc` refuses the list of what was taken.
+pub fn on_full<T, F: FnOnce() -> T>(
     alloc: Global,
     heap: &LocalHeap,
     deed: F,
-) -> Result<(bool, usize), Fail>
+) -> Result<(T, usize), Fail>
     requires { F.IsAlwaysCallable deed }
 {
     let _full = fill(alloc, heap)?;

@@ -1,0 +1,32 @@
+//! How a test ends by what it found.
+ghost use Rattle.std.specs.Prelude.{◌≡◌, ◌↔◌, IsOk, IfOk, OnOk, Bool, true};
+
+use std::fmt::Debug;
+use std::test::Fail;
+
+/// Ends a test well exactly where this is what was to be found.
+///
+/// # Errors
+/// Both values, where they differ.
+pub fn is_told<T: PartialEq + Debug>(found: &T, want: &T) -> Result<(), Fail>
+    ensures { IsOk result ↔ (T.eq found.now want.now ≡ true) }
+{
+    if *found == *want {
+        Ok(())
+    } else {
+        Err(Fail::new(format_args!("{found:?} was found, not {want:?}")))
+    }
+}
+
+/// Ends a test well exactly where this was found, and nothing failed on the way.
+///
+/// # Errors
+/// What failed on the way; both values, where they differ.
+pub fn as_told<T: PartialEq + Debug + Drop>(
+    found: Result<T, Fail>,
+    want: &T,
+) -> Result<(), Fail>
+    ensures { IsOk result → IsOk found }
+{
+    is_told(&found?, want)
+}
