@@ -22,10 +22,7 @@ pub fn is_told<T: PartialEq + Debug>(found: &T, want: &T) -> Result<(), Fail>
 ///
 /// # Errors
 /// What failed on the way; both values, where they differ.
-pub fn as_told<T: PartialEq + Debug + Drop>(
-    found: Result<T, Fail>,
-    want: &T,
-) -> Result<(), Fail>
+pub fn as_told<T: PartialEq + Debug + Drop>(found: Result<T, Fail>, want: &T) -> Result<(), Fail>
     ensures { IsOk result → IsOk found }
 {
     is_told(&found?, want)

@@ -156,5 +156,8 @@ const SENT: Frame = Frame {
 
 #[test]
 fn writes_outside_their_range_change_nothing(rt: HostRuntime) -> Result<(), Fail> {
-    is_told(&written(rt.alloc())?, &(Ok(()), true, (SENT, GREATEST), true))
+    is_told(
+        &written(rt.alloc())?,
+        &(Ok(()), true, (SENT, GREATEST), true),
+    )
 }
