@@ -1,6 +1,6 @@
 //! The clients that are connected to a node.
 ghost use Rattle.std.specs.Prelude.{◌≡◌, ◌≢◌, ◌<◌, ◌≤◌, ◌&&◌, ◌==◌, ◌++◌, ℕ, not, true, false};
-ghost use Rattle.std.specs.Prelude.{IsTrue};
+ghost use Rattle.std.specs.Prelude.{IsTrue, []};
 ghost use Rattle.std.specs.Prelude.{IfOk, IfSome, OnSome, IsSome, length};
 ghost use Rattle.slab.specs.Slab.{get, slab_len};
 
@@ -66,10 +66,14 @@ impl<P: Pipe, A: Allocator + Copy> Clients<P, A> {
         ensures closed { 128 ≤ slab_len self.old.table → self.new ≡ self.old }
         ensures was_free { is_connected self.old self.old.table.vacant_key ≡ false }
         ensures others { (t : ℕ) → t ≢ self.old.table.vacant_key
-            → get self.new.table t ≡ get self.old.table t }
+            → (get self.new.table t ≡ get self.old.table t)
+            × (answers_of self.new t ≡ answers_of self.old t) }
         ensures admitted { slab_len self.old.table < 128 → self.old.table.vacant_key < 128
             → IfSome (get self.new.table self.old.table.vacant_key) (λ client. client.pipe ≡ pipe)
             × (is_connected self.new self.old.table.vacant_key ≡ true) }
+        // No answer to whoever had the ticket before waits for the client.
+        ensures silent { slab_len self.old.table < 128 → self.old.table.vacant_key < 128
+            → answers_of self.new self.old.table.vacant_key ≡ [] }
     {
         let key = self.table.vacant_key();
         if self.table.len() >= PLACES || key >= PLACES {
@@ -116,6 +120,7 @@ impl<P: Pipe, A: Allocator + Copy> Clients<P, A> {
         ensures same { SameClients self.old self.new }
         ensures said { IsTrue result → answers_of self.new ticket
             ≡ answers_of self.old ticket ++ text.now }
+        ensures others { (t : ℕ) → t ≢ ticket → answers_of self.new t ≡ answers_of self.old t }
         ensures unsaid { result ≡ false → self.new ≡ self.old }
         ensures no_room { result ≡ false → ticket < 128
             → room_of self.old ticket < length text.now }
@@ -135,6 +140,7 @@ impl<P: Pipe, A: Allocator + Copy> Clients<P, A> {
     /// Writes once to a client for whom answers wait; no where that fails.
     pub fn write(&mut self, ticket: u16) -> bool
         ensures same { SameClients self.old self.new }
+        ensures others { (t : ℕ) → t ≢ ticket → answers_of self.new t ≡ answers_of self.old t }
     {
         let key = ticket as usize;
         if key >= PLACES || !self.table.contains(key) {

@@ -1,5 +1,5 @@
 //! How a test ends by what it found.
-ghost use Rattle.std.specs.Prelude.{◌≡◌, ◌↔◌, IsOk, IfOk, OnOk, Bool, true};
+ghost use Rattle.std.specs.Prelude.{◌≡◌, ◌↔◌, IsOk, IfOk, Bool, true};
 
 use std::fmt::Debug;
 use std::test::Fail;
@@ -23,7 +23,7 @@ pub fn is_told<T: PartialEq + Debug>(found: &T, want: &T) -> Result<(), Fail>
 /// # Errors
 /// What failed on the way; both values, where they differ.
 pub fn as_told<T: PartialEq + Debug + Drop>(found: Result<T, Fail>, want: &T) -> Result<(), Fail>
-    ensures { IsOk result → IsOk found }
+    ensures { IsOk result ↔ (IsOk found × IfOk found (λ value. T.eq value want.now ≡ true)) }
 {
     is_told(&found?, want)
 }

@@ -1,9 +1,10 @@
-//! Worked runs: what whole networks do, event by event, judged, and told and shown as texts, with
-//! every expected value computed by hand.
+//! Worked runs: what whole networks do, event by event, judged, and told, with every expected value
+//! computed by hand.
 //!
-//! Nothing but tests stands here: of the events text, of worlds and their judge, of simulations,
-//! and of woven lists. They are not in the crates that they test because a crate's tests prove all
-//! of that crate once more. The rows of single layers stand in `worked_rows`.
+//! Tests stand here: of the events text, of worlds and their judge, and of woven lists; and what
+//! they share with those of simulations, in `worked_simulations`. They are not in the crates that
+//! they test because a crate's tests prove all of that crate once more. The rows of single layers
+//! stand in `worked_rows`.
 #![tactic(auto)]
 
 #[cfg(test)]
@@ -12,11 +13,7 @@ mod events;
 mod judged;
 #[cfg(test)]
 mod no_memory;
-#[cfg(test)]
-mod simulated;
-#[cfg(test)]
-mod texts;
-#[cfg(test)]
-mod worlds;
+pub mod texts;
+pub mod worlds;
 #[cfg(test)]
 mod woven;

@@ -1,11 +1,11 @@
 //! Texts by which edges join and go, and what they lead to.
 use super::long_runs::lines_begin;
 use super::*;
-use crate::texts::round_of;
-use crate::worlds::{self, simulated_start};
 use run_model::EventFault;
 use std::test::Fail;
 use test_parts::as_told;
+use worked_runs::texts::round_of;
+use worked_runs::worlds::{self, simulated_start};
 
 /// A square: node 3 lies opposite the root.
 fn square(alloc: Global) -> Result<Net, Fail> {

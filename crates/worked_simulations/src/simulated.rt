@@ -1,11 +1,11 @@
 //! Texts and what they lead to, worked out by hand. Each comes in pieces of one byte, of seven, and
 //! whole.
-use crate::texts::{FORGED, ROUND, round_of};
-use crate::worlds::net_of;
 use std::alloc::{AllocError, Allocator, Global};
 use std::fmt::Write;
 use std::test::Fail;
 use topology::Net;
+use worked_runs::texts::{FORGED, ROUND, round_of};
+use worked_runs::worlds::net_of;
 use world::World;
 use world::simulation::{SimFault, Summary, simulate, state_text};
 use world::streams::{MemorySink, MemorySource, Sink, Source};

@@ -1,9 +1,9 @@
 //! The text that shows a world.
 use super::*;
-use crate::worlds::{start, told};
 use std::test::Fail;
 use test_parts::as_told;
 use topology::NetFault;
+use worked_runs::worlds::{start, told};
 
 /// A world of two nodes with a frame under way, shown with 7 sweeps.
 const SHOWN: &str = "\
