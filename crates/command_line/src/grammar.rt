@@ -19,6 +19,8 @@ enum Shape<'a> {
     Flag,
     /// A flag that the help does not show.
     Hidden,
+    /// An option that the help does not show.
+    HiddenValue,
 }
 
 /// A parameter of a command.
@@ -99,6 +101,11 @@ pub fn hidden<'a>(id: &'a str) -> Parameter<'a> {
     shaped(id, Shape::Hidden, "")
 }
 
+/// An option that the help does not show.
+pub fn hidden_option<'a>(id: &'a str) -> Parameter<'a> {
+    shaped(id, Shape::HiddenValue, "")
+}
+
 /// A command: its name, what it does, what follows its help, and what it takes.
 pub fn command_of<'a>(
     alloc: Global,
@@ -158,5 +165,6 @@ fn given_as(alloc: Global, parameter: Parameter<'_>) -> Arg<'_> {
             .default_value(value),
         Shape::Flag => arg.long(parameter.id).action(ArgAction::SetTrue),
         Shape::Hidden => arg.long(parameter.id).action(ArgAction::SetTrue).hide(true),
+        Shape::HiddenValue => arg.long(parameter.id).action(ArgAction::Set).hide(true),
     }
 }

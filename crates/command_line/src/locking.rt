@@ -1,5 +1,5 @@
 //! The words of the commands for those who use the lock.
-use crate::grammar::{command_of, flag, hidden, option, place, places, rest};
+use crate::grammar::{command_of, flag, hidden, hidden_option, option, place, places, rest};
 use crate::locking_help;
 use crate::words::{Number, Refusal, given_number, number_if_given, spelled, word};
 use clap::{ArgMatches, Command};
@@ -37,25 +37,32 @@ pub fn lock<R: Env + Net + Files + Processes + Clock + Input + Print + Eprint + 
     rt: &R,
     given: &ArgMatches,
 ) -> Result<ExitCode, Refusal> {
-    let folder = word(given, "DIR")?;
-    let node = given_number(rt, given, ID)? as u16;
+    let keeps_running = given.get_flag("keep");
+    let (is_guard, is_keeping_guard) = (given.get_flag("guard"), given.get_flag("guard-keeping"));
+    if is_guard || is_keeping_guard {
+        return Ok(ExitCode::from(guard::run(rt, is_keeping_guard)));
+    }
+    // The words with which the program becomes the guard of a command. DIR and ID are not used then.
+    let flag = if keeps_running {
+        "--guard-keeping"
+    } else {
+        "--guard"
+    };
+    let guard = ["lock", flag, "--", ".", "0"];
     let seconds = match number_if_given(rt, given, TIMEOUT)? {
         None => None,
         Some(seconds) => Some(seconds as u16),
     };
     let request = Request {
-        folder,
-        node,
+        folder: word(given, "DIR")?,
+        node: given_number(rt, given, ID)? as u16,
         seconds,
-        keeps_running: given.get_flag("keep"),
-        guarded: given.get_flag("guarded"),
+        keeps_running,
+        waits_for_children: given.get_flag("wait-children"),
+        guard: given.get_strs("guard-as").unwrap_or(&guard),
         command: given.get_strs("COMMAND").unwrap_or(&[]),
     };
-    Ok(ExitCode::from(if request.guarded {
-        lock::run(rt, &request)
-    } else {
-        guard::run(rt, &request)
-    }))
+    Ok(ExitCode::from(lock::run(rt, &request)))
 }
 
 /// Does `status`, and says with which status it is done.
@@ -81,9 +88,13 @@ pub fn lock_command<'a>(alloc: Global) -> Result<Command<'a>, AllocError> {
         locking_help::LOCK,
         &[
             option(TIMEOUT.id, "SECONDS", TIMEOUT_HELP),
-            flag("keep", "Let the command run on where the lock is lost"),
-            // The program gives it to a copy of itself.
-            hidden("guarded"),
+            flag("keep", "Let the command run on if the lock is lost"),
+            flag("wait-children", WAIT_CHILDREN_HELP),
+            // With it the program starts its own guard.
+            hidden("guard"),
+            hidden("guard-keeping"),
+            // The word by which a test program becomes a guard.
+            hidden_option("guard-as"),
             place("DIR", FOLDER),
             place("ID", "The node that is asked, by its id"),
             rest("COMMAND", COMMAND_HELP),
@@ -93,7 +104,11 @@ pub fn lock_command<'a>(alloc: Global) -> Result<Command<'a>, AllocError> {
 
 /// The help of the time that `lock` waits.
 const TIMEOUT_HELP: &str =
-    "Give up where the lock is not lent within this time: 0 to 65535 seconds";
+    "Give up if the lock is not granted within this time: 0 to 65535 seconds";
+
+/// The help of the flag by which `lock` waits for what the command started.
+const WAIT_CHILDREN_HELP: &str =
+    "Hold the lock until all that the command started has ended too, in the background as well";
 
 /// The help of the command that `lock` runs.
 const COMMAND_HELP: &str =

@@ -2,9 +2,9 @@
 
 /// What follows the help of `lock`.
 pub const LOCK: &str = "\
-Waits until node ID, whose socket is DIR/desk-ID.sock, lends the lock, runs the command with the standard streams of
-this one, gives the lock back, and ends with the command's status. Before it, -- may stand, and must where its name
-begins with a hyphen.
+Waits until node ID, whose socket is DIR/desk-ID.sock, grants the lock, runs the command with the standard streams of
+this one, releases the lock, and ends with the command's status. Before it, -- may stand, and must if its name begins
+with a hyphen.
 
   $ tokentree lock /run/tokentree 1 -- make deploy
   $ tokentree lock --timeout 5 /run/tokentree 1 -- ./backup.sh /srv
@@ -14,13 +14,26 @@ Without a command it prints granted and holds the lock until its standard input 
   $ tokentree lock /run/tokentree 1
   granted
 
-The lock is lost where its lease is over, where the node goes away, and where the node is damaged. Then that is told,
-the command is asked to end (SIGTERM) and killed 3 seconds later, and the status is 122; with --keep it runs on, and its
-status counts. A command whose status is that of the command held the lock from its start to its end.
+The lock is lost if its lease is over, if the node goes away, and if the node is damaged. Then lock reports it, asks
+the command and what it started to end (SIGTERM), kills them 3 seconds later, and ends with 122; with --keep they run on,
+and the command's status counts. A command whose status is lock's held the lock from its start to its end.
+
+While the command runs, lock is two processes, and either of them holds the lock. If the first one is killed, the second
+one ends the command in the same way, and gives the lock back when nobody of it is left. If a signal came to the whole
+group, as Ctrl-C on a terminal, the command has had it too: the second process only waits until the command has ended.
+So a command that catches the signal and cleans up still has the lock. If the second one is killed, the lock counts as
+lost.
+
+The launcher ./tokentree, or env --block-signal=INT,QUIT,TERM tokentree lock .., holds signals back from lock itself: it
+then outlives Ctrl-C, hands SIGTERM on to the command, and ends as the command does.
+
+The lock is given back when the command itself has ended. What it left in the background runs on without the lock, other
+than under flock, whose open file children keep; with --wait-children lock waits for them.
 
 Statuses: the command's own, or 128 and the number of the signal that ended it; 122 the lock was lost, or may have
-been; 124 it was not lent in time; 125 there is no lock service at DIR, or it or the system failed; 126 the command
-cannot be run; 127 there is no such command; 2 the command line was refused.";
+been; 124 it was not granted in time; 125 there is no lock service at DIR, or it or the system failed, or the second
+process could not be started; 126 the command cannot be run; 127 there is no such command; 2 invalid arguments. A signal
+that ends lock while it waits gives 128 and its number.";
 
 /// What follows the help of `status`.
 pub const STATUS: &str = "\

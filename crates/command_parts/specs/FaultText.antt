@@ -1,14 +1,13 @@
 -- How a fault of the program is told.
 use Rattle.std.specs.Prelude.{ℕ, List, ◌++◌, codes}
-use Rattle.topology.specs.FaultName.{fault_name}
+use Rattle.network_file.specs.FaultText.{network_fault_text}
 use Rattle.command_parts.specs.declared.fault.Fault.{Fault}
-use Rattle.command_parts.specs.declared.fault.Fault.TheVariants.{NetworkUnreadable, Network, NoNode, EventsUnreadable, EventsLong, Memory}
+use Rattle.command_parts.specs.declared.fault.Fault.TheVariants.{Network, NoNode, EventsUnreadable, EventsLong, Memory}
 use Rattle.command_parts.specs.declared.fault.Fault.TheVariants.{Output, EventsUnwritable, Threads}
 
 -- what was refused, and by which name
 abbrev pub fault_text : Fault → List ℕ
-fault_text NetworkUnreadable = codes "network Unreadable"
-fault_text (Network fault) = codes "network " ++ fault_name fault
+fault_text (Network fault) = network_fault_text fault
 fault_text NoNode = codes "id NoNode"
 fault_text EventsUnreadable = codes "events Unreadable"
 fault_text EventsLong = codes "events Long"

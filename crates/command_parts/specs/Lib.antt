@@ -1,4 +1,3 @@
-pub mod NetworkFile
 pub mod SimulationFault
 pub mod Simulated
 pub mod FaultText

@@ -1,15 +1,13 @@
 //! Why a command ends without its work.
+use network_file::NetworkFault;
 use std::fmt;
-use topology::NetFault;
 use world::simulation::SimFault;
 
 /// Why a command ends with status 1. Printed, it is what a fault line has after `tokentree: `.
 #[derive(Clone, Copy, Debug, PartialEq, Eq, Drop)]
 pub enum Fault {
-    /// The network file cannot be read, or has too many bytes.
-    NetworkUnreadable,
-    /// The network file was read, and is refused.
-    Network(NetFault),
+    /// The network file gives no network.
+    Network(NetworkFault),
     /// The network has no node of the id that was given.
     NoNode,
     /// The events file cannot be opened, or a read of the events failed.
@@ -34,11 +32,7 @@ impl fmt::Display for Fault {
 
     fn fmt<W: fmt::Write>(&self, f: &mut fmt::Formatter<W>) -> fmt::Result {
         match *self {
-            Fault::NetworkUnreadable => f.write_str("network Unreadable"),
-            Fault::Network(fault) => {
-                f.write_str("network ")?;
-                f.write_str(fault.name())
-            }
+            Fault::Network(fault) => f.write(fault),
             Fault::NoNode => f.write_str("id NoNode"),
             Fault::EventsUnreadable => f.write_str("events Unreadable"),
             Fault::EventsLong => f.write_str("events Long"),
@@ -51,6 +45,17 @@ impl fmt::Display for Fault {
 }
 
 impl std::error::Error for Fault {}
+
+impl From<NetworkFault> for Fault {
+    ghost use Rattle.std.specs.Prelude.{◌≡◌};
+    ghost use Rattle.command_parts.specs.declared.fault.Fault.TheVariants.{Network};
+
+    ghost from_gives = { λ refused fault. fault ≡ Network refused };
+
+    fn from(refused: NetworkFault) -> Fault {
+        Fault::Network(refused)
+    }
+}
 
 impl From<SimFault> for Fault {
     ghost use Rattle.std.specs.Prelude.{◌≡◌};

@@ -1,6 +1,6 @@
-//! What the commands of `tokentree` have in common: why they end without their work, the files that
-//! they read, the ends of what they read and write, a simulation between such ends, and a line that
-//! tells how far they are.
+//! What the commands of `tokentree` have in common: why they end without their work, the ends of
+//! what they read and write, a simulation between such ends, and a line that says how far they are.
+//! The network of a file, and numbers as words, are those of the crates below.
 //!
 //! ```
 //! let net = read_network(rt, "two-nodes.toml")?;       // or a `Fault`
@@ -15,8 +15,6 @@
 
 mod event_text;
 mod fault;
-mod network_file;
-mod number;
 mod path_fault;
 mod progress;
 mod simulation;
@@ -24,8 +22,8 @@ mod streams;
 
 pub use event_text::EventText;
 pub use fault::Fault;
-pub use network_file::{network_of, read_network};
-pub use number::decimal_number;
+pub use line_words::decimal_number;
+pub use network_file::{NetworkFault, network_of, read_network};
 pub use path_fault::PathFault;
 pub use progress::Progress;
 pub use simulation::{STANDARD_INPUT, events_status, simulate_between};

@@ -1,5 +1,6 @@
 //! Why a command that changes a file ends without its work.
 use crate::fault::Fault;
+use network_file::NetworkFault;
 use std::fmt;
 
 /// Why a command that changes a file of its own ends with status 1. Printed, it is what a fault
@@ -30,6 +31,18 @@ impl fmt::Display for PathFault<'_> {
 }
 
 impl std::error::Error for PathFault<'_> {}
+
+impl From<NetworkFault> for PathFault<'_> {
+    ghost use Rattle.std.specs.Prelude.{◌≡◌};
+    ghost use Rattle.command_parts.specs.declared.fault.Fault.TheVariants.{Network};
+    ghost use Rattle.command_parts.specs.declared.path_fault.PathFault.TheVariants.{Fault as Told};
+
+    ghost from_gives = { λ refused told. told ≡ Told (Network refused) };
+
+    fn from(refused: NetworkFault) -> Self {
+        PathFault::Fault(Fault::Network(refused))
+    }
+}
 
 impl From<Fault> for PathFault<'_> {
     ghost use Rattle.std.specs.Prelude.{◌≡◌};

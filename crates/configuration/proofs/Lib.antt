@@ -6,3 +6,4 @@ mod NodeCounts
 mod NodePlaces
 mod WorldRanges
 mod WorldSteps
+mod RowsAnswers

@@ -5,3 +5,4 @@ mod Visited
 mod Passes
 mod Served
 mod RowsServed
+mod RowsService

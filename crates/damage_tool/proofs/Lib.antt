@@ -3,3 +3,4 @@ pub mod Drawing
 pub mod JunkBytes
 pub mod Ports
 pub mod Scrambles
+mod RowsDrawn

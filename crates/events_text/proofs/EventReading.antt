@@ -4,16 +4,20 @@ use Rattle.std.specs.List.{list_any, list_all, join_with_byte}
 use Rattle.std.specs.Str.{bytes_eq}
 use Rattle.std.specs.Fmt.{decimal}
 use Rattle.std.proofs.lemmas.Bool.Decides.{nat_tests}
+use Rattle.std.specs.Str.{all_ascii_digits}
 use Rattle.std.proofs.lemmas.Fmt.{digits_decimal}
+use Rattle.std.proofs.lemmas.Str.Parse.{tells_all_ascii_digits, numerals_by_value}
 use Rattle.topology.specs.declared.frame.Payload.{Payload}
 use Rattle.link_model.specs.declared.item.Item.TheVariants as item
 use Rattle.run_model.specs.declared.event.Event.{Event}
 use Rattle.run_model.specs.declared.event.Event.TheVariants.{Send, Take, Lose, Tick, Ask, Leave, Damage}
 use Rattle.run_model.specs.declared.event.Harm.{Harm}
 use Rattle.run_model.specs.declared.event.Harm.TheVariants as harm
-use Rattle.events_text.specs.EventLine.{Word, is_space, words, number, number_or_none, yes_or_no, payload_of, damage_of, event_of, line_event}
+use Rattle.line_words.specs.Words.{Word, is_space, words}
+use Rattle.line_words.specs.Numbers.{number, number_or_none, yes_or_no}
+use Rattle.line_words.specs.Laws.{NumbersAreRead}
+use Rattle.events_text.specs.EventLine.{payload_of, damage_of, event_of, line_event}
 use Rattle.events_text.specs.EventLaws.{word_or_none, yes_or_no_word, payload_words, harm_words, event_words, is_small, is_small_or_none, payload_is_small, harm_is_small, event_is_small}
-use Rattle.events_text.proofs.SpellingLemmas.{AreDigits, own, numbers-read}
 
 abbrev has_no_space : Word → Bool
 has_no_space word = not (list_any is_space word)
@@ -37,6 +41,13 @@ words-joined w (v ∷ ws) n =
     let (first, others) = both (has_no_space w) (list_all has_no_space (v ∷ ws)) n in
     words-front w (join_with_byte 32 (v ∷ ws)) first ∙ ap (λ vs. w ∷ vs) (words-joined v ws others)
 
+-- what decimal spells are digits
+abbrev pub AreDigits : List ℕ → Type 0
+AreDigits ds = all_ascii_digits ds ≡ true
+
+pub digits-in : (n : ℕ) → n < 65536 → AreDigits (decimal n)
+digits-in n h = digits_decimal (numerals_by_value AreDigits tells_all_ascii_digits) n (omega arith)
+
 -- digits have no space, and are not `none`
 digits-no_space : (ds : List ℕ) → AreDigits ds → has_no_space ds ≡ true
 digits-no_space [] d = refl
@@ -50,19 +61,11 @@ below : (n : ℕ) → is_small n ≡ true → n < 65536
 below n s = grind (arith, nat_tests)
 
 number-no_space : (n : ℕ) → is_small n ≡ true → has_no_space (decimal n) ≡ true
-number-no_space n s = let h = below n s in digits-no_space (decimal n) (digits_decimal own n (omega arith))
-
-number-read : (n : ℕ) → is_small n ≡ true → number (decimal n) ≡ Some n
-number-read n s = numbers-read n (below n s)
+number-no_space n s = let h = below n s in digits-no_space (decimal n) (digits-in n h)
 
 or_none-no_space : (o : Option ℕ) → is_small_or_none o ≡ true → has_no_space (word_or_none o) ≡ true
 or_none-no_space None s = refl
 or_none-no_space (Some n) s = number-no_space n s
-
-or_none-read : (o : Option ℕ) → is_small_or_none o ≡ true → number_or_none (word_or_none o) ≡ Some o
-or_none-read None s = refl
-or_none-read (Some n) s =
-    let h = below n s in rw (digits-not_none (decimal n) (digits_decimal own n (omega arith)), number-read n s) refl
 
 yes_or_no-no_space : (b : Bool) → has_no_space (yes_or_no_word b) ≡ true
 yes_or_no-no_space true = refl
@@ -81,30 +84,39 @@ read-of verb ws e spaces read = rw (words-joined verb ws spaces) read
 payload-no_space : (p : Payload) → payload_is_small p ≡ true → list_all has_no_space (payload_words p) ≡ true
 payload-no_space p s = grind (arith, number-no_space, or_none-no_space)
 
-payload-read : (p : Payload) → payload_is_small p ≡ true → payload_of (payload_words p) ≡ Some p
-payload-read p s = grind (arith, number-read, or_none-read)
-
 harm-no_space : (h : Harm) → harm_is_small h ≡ true → list_all has_no_space (harm_words h) ≡ true
 harm-no_space h s = grind (arith, number-no_space, or_none-no_space, yes_or_no-no_space)
 
-harm-read : (h : Harm) → harm_is_small h ≡ true → damage_of (harm_words h) ≡ Some (Damage h)
-harm-read (harm.Own v d p) s = grind (arith, number-read, or_none-read, yes_or_no-read, payload-read)
-harm-read (harm.Counters v w seq last) s = grind (arith, number-read, or_none-read, yes_or_no-read, payload-read)
-harm-read (harm.Staged v w payload) s = grind (arith, number-read, or_none-read, yes_or_no-read, payload-read)
-harm-read (harm.Copy v w payload) s = grind (arith, number-read, or_none-read, yes_or_no-read, payload-read)
-harm-read (harm.Value v w x) s = grind (arith, number-read, or_none-read, yes_or_no-read, payload-read)
-harm-read (harm.Desk v lent left served) s = grind (arith, number-read, or_none-read, yes_or_no-read, payload-read)
-harm-read (harm.Item u v (item.Frame f)) s = grind (arith, number-read, or_none-read, yes_or_no-read, payload-read)
-harm-read (harm.Item u v item.Noise) s = grind (arith, number-read, or_none-read, yes_or_no-read, payload-read)
-harm-read (harm.Empty u v) s = grind (arith, number-read, or_none-read, yes_or_no-read, payload-read)
-harm-read (harm.Join u v) s = grind (arith, number-read, or_none-read, yes_or_no-read, payload-read)
-harm-read (harm.Part u v) s = grind (arith, number-read, or_none-read, yes_or_no-read, payload-read)
+module _ (read : NumbersAreRead) where
+  number-read : (n : ℕ) → is_small n ≡ true → number (decimal n) ≡ Some n
+  number-read n s = read n (below n s)
 
-pub events-read : (e : Event) → event_is_small e ≡ true → line_event (join_with_byte 32 (event_words e)) ≡ Some e
-events-read (Send u v) s = read-of (codes "send") (decimal u ∷ decimal v ∷ []) (Send u v) (grind (arith, number-no_space)) (grind (arith, number-read))
-events-read (Take u v) s = read-of (codes "take") (decimal u ∷ decimal v ∷ []) (Take u v) (grind (arith, number-no_space)) (grind (arith, number-read))
-events-read (Lose u v i) s = read-of (codes "lose") (decimal u ∷ decimal v ∷ decimal i ∷ []) (Lose u v i) (grind (arith, number-no_space)) (grind (arith, number-read))
-events-read (Tick v) s = read-of (codes "tick") (decimal v ∷ []) (Tick v) (grind (arith, number-no_space)) (grind (arith, number-read))
-events-read (Ask v t) s = read-of (codes "ask") (decimal v ∷ decimal t ∷ []) (Ask v t) (grind (arith, number-no_space)) (grind (arith, number-read))
-events-read (Leave v t) s = read-of (codes "leave") (decimal v ∷ decimal t ∷ []) (Leave v t) (grind (arith, number-no_space)) (grind (arith, number-read))
-events-read (Damage h) s = read-of (codes "harm") (harm_words h) (Damage h) (harm-no_space h s) (harm-read h s)
+  or_none-read : (o : Option ℕ) → is_small_or_none o ≡ true → number_or_none (word_or_none o) ≡ Some o
+  or_none-read None s = refl
+  or_none-read (Some n) s =
+      let h = below n s in rw (digits-not_none (decimal n) (digits-in n h), read n h) refl
+
+  payload-read : (p : Payload) → payload_is_small p ≡ true → payload_of (payload_words p) ≡ Some p
+  payload-read p s = grind (arith, number-read, or_none-read)
+
+  harm-read : (h : Harm) → harm_is_small h ≡ true → damage_of (harm_words h) ≡ Some (Damage h)
+  harm-read (harm.Own v d p) s = grind (arith, number-read, or_none-read, yes_or_no-read, payload-read)
+  harm-read (harm.Counters v w seq last) s = grind (arith, number-read, or_none-read, yes_or_no-read, payload-read)
+  harm-read (harm.Staged v w payload) s = grind (arith, number-read, or_none-read, yes_or_no-read, payload-read)
+  harm-read (harm.Copy v w payload) s = grind (arith, number-read, or_none-read, yes_or_no-read, payload-read)
+  harm-read (harm.Value v w x) s = grind (arith, number-read, or_none-read, yes_or_no-read, payload-read)
+  harm-read (harm.Desk v lent left served) s = grind (arith, number-read, or_none-read, yes_or_no-read, payload-read)
+  harm-read (harm.Item u v (item.Frame f)) s = grind (arith, number-read, or_none-read, yes_or_no-read, payload-read)
+  harm-read (harm.Item u v item.Noise) s = grind (arith, number-read, or_none-read, yes_or_no-read, payload-read)
+  harm-read (harm.Empty u v) s = grind (arith, number-read, or_none-read, yes_or_no-read, payload-read)
+  harm-read (harm.Join u v) s = grind (arith, number-read, or_none-read, yes_or_no-read, payload-read)
+  harm-read (harm.Part u v) s = grind (arith, number-read, or_none-read, yes_or_no-read, payload-read)
+
+  pub events-read : (e : Event) → event_is_small e ≡ true → line_event (join_with_byte 32 (event_words e)) ≡ Some e
+  events-read (Send u v) s = read-of (codes "send") (decimal u ∷ decimal v ∷ []) (Send u v) (grind (arith, number-no_space)) (grind (arith, number-read))
+  events-read (Take u v) s = read-of (codes "take") (decimal u ∷ decimal v ∷ []) (Take u v) (grind (arith, number-no_space)) (grind (arith, number-read))
+  events-read (Lose u v i) s = read-of (codes "lose") (decimal u ∷ decimal v ∷ decimal i ∷ []) (Lose u v i) (grind (arith, number-no_space)) (grind (arith, number-read))
+  events-read (Tick v) s = read-of (codes "tick") (decimal v ∷ []) (Tick v) (grind (arith, number-no_space)) (grind (arith, number-read))
+  events-read (Ask v t) s = read-of (codes "ask") (decimal v ∷ decimal t ∷ []) (Ask v t) (grind (arith, number-no_space)) (grind (arith, number-read))
+  events-read (Leave v t) s = read-of (codes "leave") (decimal v ∷ decimal t ∷ []) (Leave v t) (grind (arith, number-no_space)) (grind (arith, number-read))
+  events-read (Damage h) s = read-of (codes "harm") (harm_words h) (Damage h) (harm-no_space h s) (harm-read h s)

@@ -4,37 +4,8 @@ use Rattle.link_model.specs.declared.item.Item.TheVariants as item
 use Rattle.run_model.specs.declared.event.Event.TheVariants.{Send, Take, Lose, Tick, Ask, Leave, Damage}
 use Rattle.run_model.specs.declared.event.Harm.TheVariants as harm
 use Rattle.events_text.specs.declared.text_line.TextLine.TheVariants.{Passed, Unread, Told}
-use Rattle.events_text.specs.EventLine.{words, number, line_event}
+use Rattle.events_text.specs.EventLine.{line_event}
 use Rattle.events_text.specs.EventsText.{text_line, text_lines}
-
--- two spaces have an empty word between them, and one at the end has one behind it
-words-two : words (codes "tick 0") ≡ codes "tick" ∷ codes "0" ∷ []
-words-two = refl
-
-words-empty : words (codes "a  b ") ≡ codes "a" ∷ [] ∷ codes "b" ∷ [] ∷ []
-words-empty = refl
-
--- numbers, and words that are none
-number-zero : number (codes "0") ≡ Some 0
-number-zero = refl
-
-number-most : number (codes "65535") ≡ Some 65535
-number-most = refl
-
-number_not-more : number (codes "65536") ≡ None
-number_not-more = refl
-
-number_not-zeros : number (codes "00") ≡ None
-number_not-zeros = refl
-
-number_not-leading : number (codes "07") ≡ None
-number_not-leading = refl
-
-number_not-signed : number (codes "+7") ≡ None
-number_not-signed = refl
-
-number_not-empty : number [] ≡ None
-number_not-empty = refl
 
 -- a line of each kind
 line-send : line_event (codes "send 0 1") ≡ Some (Send 0 1)

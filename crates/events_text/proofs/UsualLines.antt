@@ -4,7 +4,7 @@ use Rattle.std.specs.Char.{is_ascii_digit}
 use Rattle.std.specs.Fmt.{decimal}
 use Rattle.std.proofs.lemmas.Grind.{common_steps}
 use Rattle.std.proofs.lemmas.Bool.Decides.{nat_tests}
-use Rattle.std.proofs.lemmas.Fmt.{digits_decimal, decimal_digit, decimal_step, length-decimal-le}
+use Rattle.std.proofs.lemmas.Fmt.{decimal_digit, decimal_step, length-decimal-le}
 use Rattle.std.proofs.lemmas.List.{length-append}
 use Rattle.byte_lines.specs.Lines.{newline, HasNoNewline}
 use Rattle.run_model.specs.declared.event.Event.{Event}
@@ -13,8 +13,8 @@ use Rattle.events_text.specs.declared.text_line.TextLine.TheVariants.{Told}
 use Rattle.events_text.specs.EventLine.{line_event}
 use Rattle.events_text.specs.EventLaws.{is_small}
 use Rattle.events_text.specs.EventsText.{text_line}
-use Rattle.events_text.proofs.SpellingLemmas.{AreDigits, own}
-use Rattle.events_text.proofs.EventReading.{events-read}
+use Rattle.line_words.specs.Laws.{NumbersAreRead}
+use Rattle.events_text.proofs.EventReading.{AreDigits, digits-in, events-read}
 
 -- a digit is the decimal spelling of its value, and so are two where the first is no zero
 pub one_digit : (ones : ℕ) → is_ascii_digit ones ≡ true → decimal (ones - 48) ≡ ones ∷ []
@@ -87,7 +87,7 @@ digits-no_newline [] d = tt
 digits-no_newline (x ∷ ds) d = grind (arith, nat_tests, digits-no_newline ds)
 
 number-no_newline : (n : ℕ) → n < 100 → HasNoNewline (decimal n)
-number-no_newline n h = digits-no_newline (decimal n) (digits_decimal own n (omega arith))
+number-no_newline n h = digits-no_newline (decimal n) (digits-in n (omega arith))
 
 no_newline-both : (a b : List ℕ) → HasNoNewline a → HasNoNewline b → HasNoNewline (a ++ b)
 no_newline-both [] b p q = q
@@ -115,34 +115,35 @@ pair-in_front : (u v : ℕ) (ids more rest : List ℕ) → ids ≡ decimal u ++ 
 pair-in_front u v ids more rest first second =
     first ∙ ap (λ xs. decimal u ++ 32 ∷ xs) second ∙ sym (append_assoc (decimal u) (32 ∷ decimal v) (newline ∷ rest))
 
--- `send U V`, `take U V` and `tick V`, each with its newline, in front of a text
-pub send_line : (u v : ℕ) (text ids more rest : List ℕ) → u < 100 → v < 100 → text ≡ 115 ∷ 101 ∷ 110 ∷ 100 ∷ 32 ∷ ids
-    → ids ≡ decimal u ++ 32 ∷ more → more ≡ decimal v ++ newline ∷ rest
-    → (line : List ℕ) × (text ≡ line ++ newline ∷ rest) × HasNoNewline line × (text_line line ≡ Told (Send u v))
-send_line u v text ids more rest a b is first second = (
-  115 ∷ 101 ∷ 110 ∷ 100 ∷ 32 ∷ (decimal u ++ 32 ∷ decimal v),
-  is ∙ ap (λ xs. 115 ∷ 101 ∷ 110 ∷ 100 ∷ 32 ∷ xs) (pair-in_front u v ids more rest first second),
-  no_newline-both (codes "send ") (decimal u ++ 32 ∷ decimal v) (grind arith) (pair-no_newline u v a b),
-  told_line 115 (101 ∷ 110 ∷ 100 ∷ 32 ∷ (decimal u ++ 32 ∷ decimal v)) (Send u v) refl (omega (arith, pair-short u v a b))
-      (events-read (Send u v) (grind (arith, small u a, small v b))),
-)
+module _ (read : NumbersAreRead) where
+  -- `send U V`, `take U V` and `tick V`, each with its newline, in front of a text
+  pub send_line : (u v : ℕ) (text ids more rest : List ℕ) → u < 100 → v < 100 → text ≡ 115 ∷ 101 ∷ 110 ∷ 100 ∷ 32 ∷ ids
+      → ids ≡ decimal u ++ 32 ∷ more → more ≡ decimal v ++ newline ∷ rest
+      → (line : List ℕ) × (text ≡ line ++ newline ∷ rest) × HasNoNewline line × (text_line line ≡ Told (Send u v))
+  send_line u v text ids more rest a b is first second = (
+    115 ∷ 101 ∷ 110 ∷ 100 ∷ 32 ∷ (decimal u ++ 32 ∷ decimal v),
+    is ∙ ap (λ xs. 115 ∷ 101 ∷ 110 ∷ 100 ∷ 32 ∷ xs) (pair-in_front u v ids more rest first second),
+    no_newline-both (codes "send ") (decimal u ++ 32 ∷ decimal v) (grind arith) (pair-no_newline u v a b),
+    told_line 115 (101 ∷ 110 ∷ 100 ∷ 32 ∷ (decimal u ++ 32 ∷ decimal v)) (Send u v) refl (omega (arith, pair-short u v a b))
+        (events-read read (Send u v) (grind (arith, small u a, small v b))),
+  )
 
-pub take_line : (u v : ℕ) (text ids more rest : List ℕ) → u < 100 → v < 100 → text ≡ 116 ∷ 97 ∷ 107 ∷ 101 ∷ 32 ∷ ids
-    → ids ≡ decimal u ++ 32 ∷ more → more ≡ decimal v ++ newline ∷ rest
-    → (line : List ℕ) × (text ≡ line ++ newline ∷ rest) × HasNoNewline line × (text_line line ≡ Told (Take u v))
-take_line u v text ids more rest a b is first second = (
-  116 ∷ 97 ∷ 107 ∷ 101 ∷ 32 ∷ (decimal u ++ 32 ∷ decimal v),
-  is ∙ ap (λ xs. 116 ∷ 97 ∷ 107 ∷ 101 ∷ 32 ∷ xs) (pair-in_front u v ids more rest first second),
-  no_newline-both (codes "take ") (decimal u ++ 32 ∷ decimal v) (grind arith) (pair-no_newline u v a b),
-  told_line 116 (97 ∷ 107 ∷ 101 ∷ 32 ∷ (decimal u ++ 32 ∷ decimal v)) (Take u v) refl (omega (arith, pair-short u v a b))
-      (events-read (Take u v) (grind (arith, small u a, small v b))),
-)
+  pub take_line : (u v : ℕ) (text ids more rest : List ℕ) → u < 100 → v < 100 → text ≡ 116 ∷ 97 ∷ 107 ∷ 101 ∷ 32 ∷ ids
+      → ids ≡ decimal u ++ 32 ∷ more → more ≡ decimal v ++ newline ∷ rest
+      → (line : List ℕ) × (text ≡ line ++ newline ∷ rest) × HasNoNewline line × (text_line line ≡ Told (Take u v))
+  take_line u v text ids more rest a b is first second = (
+    116 ∷ 97 ∷ 107 ∷ 101 ∷ 32 ∷ (decimal u ++ 32 ∷ decimal v),
+    is ∙ ap (λ xs. 116 ∷ 97 ∷ 107 ∷ 101 ∷ 32 ∷ xs) (pair-in_front u v ids more rest first second),
+    no_newline-both (codes "take ") (decimal u ++ 32 ∷ decimal v) (grind arith) (pair-no_newline u v a b),
+    told_line 116 (97 ∷ 107 ∷ 101 ∷ 32 ∷ (decimal u ++ 32 ∷ decimal v)) (Take u v) refl (omega (arith, pair-short u v a b))
+        (events-read read (Take u v) (grind (arith, small u a, small v b))),
+  )
 
-pub tick_line : (v : ℕ) (text ids rest : List ℕ) → v < 100 → text ≡ 116 ∷ 105 ∷ 99 ∷ 107 ∷ 32 ∷ ids → ids ≡ decimal v ++ newline ∷ rest
-    → (line : List ℕ) × (text ≡ line ++ newline ∷ rest) × HasNoNewline line × (text_line line ≡ Told (Tick v))
-tick_line v text ids rest b is first = (
-  116 ∷ 105 ∷ 99 ∷ 107 ∷ 32 ∷ decimal v,
-  is ∙ ap (λ xs. 116 ∷ 105 ∷ 99 ∷ 107 ∷ 32 ∷ xs) first,
-  no_newline-both (codes "tick ") (decimal v) (grind arith) (number-no_newline v b),
-  told_line 116 (105 ∷ 99 ∷ 107 ∷ 32 ∷ decimal v) (Tick v) refl (omega (arith, number-short v b)) (events-read (Tick v) (small v b)),
-)
+  pub tick_line : (v : ℕ) (text ids rest : List ℕ) → v < 100 → text ≡ 116 ∷ 105 ∷ 99 ∷ 107 ∷ 32 ∷ ids → ids ≡ decimal v ++ newline ∷ rest
+      → (line : List ℕ) × (text ≡ line ++ newline ∷ rest) × HasNoNewline line × (text_line line ≡ Told (Tick v))
+  tick_line v text ids rest b is first = (
+    116 ∷ 105 ∷ 99 ∷ 107 ∷ 32 ∷ decimal v,
+    is ∙ ap (λ xs. 116 ∷ 105 ∷ 99 ∷ 107 ∷ 32 ∷ xs) first,
+    no_newline-both (codes "tick ") (decimal v) (grind arith) (number-no_newline v b),
+    told_line 116 (105 ∷ 99 ∷ 107 ∷ 32 ∷ decimal v) (Tick v) refl (omega (arith, number-short v b)) (events-read read (Tick v) (small v b)),
+  )

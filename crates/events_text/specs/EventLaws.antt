@@ -1,5 +1,5 @@
--- Laws of the events text: each number, each line and each event has one spelling.
-use Rattle.std.specs.Prelude.{◌≡◌, ℕ, ◌<◌, Bool, true, false, ◌&&◌, nat_lt, List, [], ◌∷◌, Option, Some, None, codes}
+-- Laws of the events text: each event has one spelling.
+use Rattle.std.specs.Prelude.{◌≡◌, ℕ, Bool, true, false, ◌&&◌, nat_lt, List, [], ◌∷◌, Option, Some, None, codes}
 use Rattle.std.specs.Fmt.{decimal}
 use Rattle.std.specs.List.{join_with_byte}
 use Rattle.topology.specs.declared.frame.Payload.{Payload}
@@ -8,19 +8,8 @@ use Rattle.run_model.specs.declared.event.Event.{Event}
 use Rattle.run_model.specs.declared.event.Event.TheVariants.{Send, Take, Lose, Tick, Ask, Leave, Damage}
 use Rattle.run_model.specs.declared.event.Harm.{Harm}
 use Rattle.run_model.specs.declared.event.Harm.TheVariants as harm
-use Rattle.events_text.specs.EventLine.{Word, words, number, line_event}
-
--- a number below 65536 is read from its decimal spelling
-abbrev pub NumbersAreRead : Type 0
-NumbersAreRead = (n : ℕ) → n < 65536 → number (decimal n) ≡ Some n
-
--- and from no other word
-abbrev pub NumbersHaveOneSpelling : Type 0
-NumbersHaveOneSpelling = (word : Word) (n : ℕ) → number word ≡ Some n → (n < 65536) × (word ≡ decimal n)
-
--- the words of a line, with a space between each two, are the line
-abbrev pub WordsMakeTheLine : Type 0
-WordsMakeTheLine = (line : Word) → join_with_byte 32 (words line) ≡ line
+use Rattle.line_words.specs.Words.{Word}
+use Rattle.events_text.specs.EventLine.{line_event}
 
 -- the words that say which number, if any; whether; and a payload
 abbrev pub word_or_none : Option ℕ → Word

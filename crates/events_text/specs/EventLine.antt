@@ -1,83 +1,15 @@
 -- The lines of an events text: which event a line spells.
-use Rattle.std.specs.Prelude.{ℕ, suc, Bool, true, false, ◌&&◌, ◌==◌, if◌then◌else◌, nat_lt, List, [], ◌∷◌, Option, Some, None, codes}
-use Rattle.std.specs.List.{list_all}
+use Rattle.std.specs.Prelude.{ℕ, if◌then◌else◌, List, Option, Some, None, codes}
 use Rattle.std.specs.Option.{option_and_then, option_map}
-use Rattle.std.specs.Char.{is_ascii_digit}
 use Rattle.std.specs.Str.{bytes_eq}
-use Rattle.std.specs.Str.Parse.{digits_value}
+use Rattle.line_words.specs.Words.{Word, words, first_word, other_words, reads, ends}
+use Rattle.line_words.specs.Numbers.{number, number_or_none, yes_or_no}
 use Rattle.topology.specs.declared.frame.Payload.{Payload}
 use Rattle.link_model.specs.declared.item.Item.TheVariants as item
 use Rattle.run_model.specs.declared.event.Event.{Event}
 use Rattle.run_model.specs.declared.event.Event.TheVariants.{Send, Take, Lose, Tick, Ask, Leave, Damage}
 use Rattle.run_model.specs.declared.event.Harm.{Harm}
 use Rattle.run_model.specs.declared.event.Harm.TheVariants as harm
-
-abbrev pub Word : Type 0
-Word = List ℕ
-
--- the byte that parts words
-abbrev pub is_space : ℕ → Bool
-is_space byte = byte == 32
-
--- a byte in front of the first word
-abbrev pub onto_first : ℕ → List Word → List Word
-onto_first byte [] = (byte ∷ []) ∷ []
-onto_first byte (word ∷ words) = (byte ∷ word) ∷ words
-
--- the words of a line: what stands between its spaces, so that two spaces have an empty word
--- between them
-abbrev pub words : List ℕ → List Word
-words [] = [] ∷ []
-words (byte ∷ bytes) = if is_space byte then [] ∷ words bytes else onto_first byte (words bytes)
-
--- how long the first word is
-abbrev pub word_len : List ℕ → ℕ
-word_len [] = 0
-word_len (byte ∷ bytes) = if is_space byte then 0 else suc (word_len bytes)
-
--- at least one byte, each a decimal digit
-abbrev pub are_digits : Word → Bool
-are_digits [] = false
-are_digits (digit ∷ digits) = list_all is_ascii_digit (digit ∷ digits)
-
--- the number below 65536 that decimal digits spell
-abbrev pub small_number : Word → Option ℕ
-small_number word = if are_digits word && nat_lt (digits_value 10 word) 65536 then Some (digits_value 10 word) else None
-
--- a zero in front of other bytes
-abbrev pub has_leading_zero : Word → Bool
-has_leading_zero [] = false
-has_leading_zero (digit ∷ []) = false
-has_leading_zero (digit ∷ other ∷ digits) = digit == 48
-
--- a word is a number where it is digits below 65536 with no leading zero
-abbrev pub number : Word → Option ℕ
-number word = if has_leading_zero word then None else small_number word
-
--- a word is a number or `none`
-abbrev pub number_or_none : Word → Option (Option ℕ)
-number_or_none word = if bytes_eq word (codes "none") then Some None else option_map (λ n. Some n) (number word)
-
--- a word is `yes` or `no`
-abbrev pub yes_or_no : Word → Option Bool
-yes_or_no word = if bytes_eq word (codes "yes") then Some true else if bytes_eq word (codes "no") then Some false else None
-
-abbrev pub first_word : List Word → Option Word
-first_word [] = None
-first_word (word ∷ words) = Some word
-
-abbrev pub other_words : List Word → List Word
-other_words [] = []
-other_words (word ∷ words) = words
-
--- the next word is read, and the others are read with what it says
-abbrev pub reads : {X Y : Type 0} → (Word → Option X) → (X → List Word → Option Y) → List Word → Option Y
-reads read others words = option_and_then (λ x. others x (other_words words)) (option_and_then read (first_word words))
-
--- no word is left
-abbrev pub ends : {Y : Type 0} → Y → List Word → Option Y
-ends y [] = Some y
-ends y (word ∷ words) = None
 
 -- a payload, D P X: a distance, a parent and a ring value
 abbrev pub payload_of : List Word → Option Payload

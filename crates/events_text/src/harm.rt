@@ -4,7 +4,8 @@ ghost use Rattle.events_text.specs.EventLine.{harm_of, own_of, counters_of, stag
 ghost use Rattle.events_text.specs.EventLine.{value_of, desk_of, frame_of, junk_of, empty_of};
 ghost use Rattle.events_text.specs.EventLine.{join_of, part_of};
 
-use super::words::Words;
+use super::payload::payload;
+use line_words::Words;
 use link_model::{Frame, Item};
 use run_model::Harm;
 
@@ -75,7 +76,7 @@ fn staged(words: &mut Words) -> Option<Harm>
 {
     let node = words.number()?;
     let neighbour = words.number()?;
-    let payload = words.payload()?;
+    let payload = payload(words)?;
     words.end(Harm::Staged {
         node,
         neighbour,
@@ -89,7 +90,7 @@ fn copy(words: &mut Words) -> Option<Harm>
 {
     let node = words.number()?;
     let neighbour = words.number()?;
-    let payload = words.payload()?;
+    let payload = payload(words)?;
     words.end(Harm::Copy {
         node,
         neighbour,
@@ -135,7 +136,7 @@ fn frame(words: &mut Words) -> Option<Harm>
     let to = words.number()?;
     let seq = words.number()?;
     let ack = words.number()?;
-    let payload = words.payload()?;
+    let payload = payload(words)?;
     words.end(Harm::Item {
         from,
         to,

@@ -1,16 +1,13 @@
 //! Laws of the events text, each the contract of a function that does nothing.
-ghost use Rattle.events_text.specs.EventLaws.{NumbersAreRead, NumbersHaveOneSpelling};
-ghost use Rattle.events_text.specs.EventLaws.{WordsMakeTheLine, EventsHaveOneSpelling};
-ghost use Rattle.events_text.specs.EventLaws.{EventsAreRead};
+ghost use Rattle.events_text.specs.EventLaws.{EventsHaveOneSpelling, EventsAreRead};
 
 /// Each event whose numbers are below 65536 is read from one line and from no other: its words,
 /// with a space between each two and each number in decimal. So an events text can be written again
-/// from what was read, up to the lines that are passed over or unread; and who doubts the grammar
-/// may read these words in place of it.
+/// from what was read, up to the lines that are passed over or unread; and whoever doubts the
+/// grammar may read these words in place of it.
 pub fn one_spelling()
-    ensures numbers_read { NumbersAreRead }
-    ensures numbers_spelled { NumbersHaveOneSpelling }
-    ensures line { WordsMakeTheLine }
     ensures events_spelled { EventsHaveOneSpelling }
     ensures events_read { EventsAreRead }
-{}
+{
+    line_words::laws::one_spelling();
+}

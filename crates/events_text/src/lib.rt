@@ -29,11 +29,10 @@ mod event_line;
 mod harm;
 pub mod laws;
 mod line;
-pub mod number;
+mod payload;
 mod reader;
 mod text_line;
 mod usual;
-pub mod words;
 
 pub use event_line::EventLine;
 pub use line::parse_line;

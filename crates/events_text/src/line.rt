@@ -4,7 +4,7 @@ ghost use Rattle.events_text.specs.EventLine.{line_event, event_of, damage_of, s
 ghost use Rattle.events_text.specs.EventLine.{lose_of, tick_of, ask_of, leave_of};
 
 use super::harm::harm;
-use super::words::Words;
+use line_words::Words;
 use run_model::Event;
 
 /// The event that a line spells, if any. The line is without its newline. A number is decimal, at

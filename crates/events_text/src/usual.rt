@@ -14,6 +14,7 @@ pub fn usual_line(text: &[u8]) -> Option<(Event, &[u8])>
     ensures { IfSome result (λ front. (line : List ℕ) × (text.now ≡ line ++ newline ∷ front.1.now)
         × HasNoNewline line × (text_line line ≡ Told front.0)) }
 {
+    line_words::laws::one_spelling();
     match text {
         [b's', b'e', b'n', b'd', b' ', ids @ ..] => {
             let (from, ids) = short_number(ids, b' ')?;

@@ -1,16 +1,22 @@
 -- Runs that go on without damage.
-use Rattle.std.proofs.Common.{◌≡◌, ℕ, Bool, true, false, Option, List, [], ◌∷◌, ◌++◌, Result, Ok, Err, OnOk, arith, refl, inl, inr}
+use Rattle.std.proofs.Common.{◌≡◌, ℕ, ◌+◌, ◌*◌, ◌<◌, zero, suc, Bool, true, false, Option, Some, None, List, [], ◌∷◌, ◌++◌, length, Result, Ok, Err, OnOk, arith, refl, inl, inr}
+use Rattle.std.specs.List.{flat_map, range_with_len}
+use Rattle.rand_pcg.specs.Lcg.{Lcg}
 use Rattle.std.specs.Prelude.{◌||◌}
-use Rattle.topology.specs.Network.{Network}
+use Rattle.topology.specs.Network.{Network, IsAcceptedNetwork}
 use Rattle.byte_streams.specs.Streams.{CountsFailures, Rose}
 use Rattle.run_model.specs.World.{World}
 use Rattle.run_model.specs.Step.{step}
-use Rattle.run_model.specs.Run.{is_damage, has_damage, IsUndamaged}
+use Rattle.run_model.specs.Run.{is_damage, has_damage, run, IsUndamaged}
 use Rattle.run_model.specs.declared.event.Event.{Event}
 use Rattle.run_model.specs.declared.event.Event.TheVariants.{Send, Take, Lose, Tick, Ask, Leave, Damage}
-use Rattle.judge.specs.JudgeView.{JudgeView}
-use Rattle.experiments.specs.Watched.{GoesOn, GoesOnUnharmed, goes-nowhere, goes-both}
-use Rattle.experiments.proofs.Steps.{IsStepOf}
+use Rattle.damage_tool.specs.Laws.{DrawsAreBelow}
+use Rattle.schedules.specs.Laws.{RoundIsUndamaged}
+use Rattle.schedules.specs.Random.{draw_step}
+use Rattle.experiments.specs.Scheduled.{plain, plain_steps, stretch_of, lent_at, leave_of, leave_at, leaves, stretches}
+use Rattle.experiments.specs.declared.measured_run.Scheduler.{Scheduler}
+use Rattle.experiments.specs.declared.measured_run.Scheduler.TheVariants.{Rounds, Random}
+use Rattle.experiments.proofs.Steps.{IsStepOf, drawn-step}
 
 later-false : (p q : Bool) → (p || q) ≡ false → q ≡ false
 later-false true q h = absurd (grind arith)
@@ -26,17 +32,6 @@ undamaged-append w (x ∷ xs) ys a b =
     first-false (is_damage w x) (has_damage (step w x) xs) (has_damage (step w x) (xs ++ ys)) a
     (undamaged-append (step w x) xs ys (later-false (is_damage w x) (has_damage (step w x) xs) a) b)
 
-pub unharmed-stays : (judge : JudgeView) (last : Option ℕ) → GoesOnUnharmed judge last judge last
-unharmed-stays judge last = record { events = []; harmless = λ w. refl; goes_on = goes-nowhere judge last }
-
-pub unharmed-both : (a b c : JudgeView) (p q r : Option ℕ) → GoesOnUnharmed a p b q → GoesOnUnharmed b q c r → GoesOnUnharmed a p c r
-unharmed-both a b c p q r one two =
-    record {
-      events = one.events ++ two.events;
-      harmless = λ w. undamaged-append w one.events two.events (one.harmless w) two.harmless;
-      goes_on = goes-both a b c p q r one.events two.events one.goes_on two.goes_on;
-    }
-
 -- a step of a node is no damage
 step-harmless : (net : Network) (e : Event) → IsStepOf net e → (w : World) → IsUndamaged w (e ∷ [])
 step-harmless net (Send u v) s w = refl
@@ -47,11 +42,41 @@ step-harmless net (Ask v t) s w = refl
 step-harmless net (Leave v t) s w = refl
 step-harmless net (Damage h) out w = absurd out
 
-pub one-unharmed : (net : Network) (e : Event) → IsStepOf net e → (a b : JudgeView) (p q : Option ℕ) → GoesOn a p (e ∷ []) b q → GoesOnUnharmed a p b q
-one-unharmed net e s a b p q on = record { events = e ∷ []; harmless = step-harmless net e s; goes_on = on }
+-- steps that are drawn are none
+steps-undamaged : DrawsAreBelow → (net : Network) → IsAcceptedNetwork net → 0 < length net.edges → (n : ℕ) (g : Lcg) (w : World) → IsUndamaged w (plain_steps net n g).0
+steps-undamaged draw_below net ok some zero g w = refl
+steps-undamaged draw_below net ok some (suc n) g w =
+    let before = plain_steps net n g in
+    undamaged-append w before.0 ((draw_step net plain before.1).0 ∷ []) (steps-undamaged draw_below net ok some n g w)
+    (step-harmless net (draw_step net plain before.1).0 (drawn-step draw_below net ok some plain before.1))
 
-pub leave-unharmed : (v t : ℕ) (a b : JudgeView) (p q : Option ℕ) → GoesOn a p (Leave v t ∷ []) b q → GoesOnUnharmed a p b q
-leave-unharmed v t a b p q on = record { events = Leave v t ∷ []; harmless = λ w. refl; goes_on = on }
+stretch-undamaged : DrawsAreBelow → RoundIsUndamaged → (net : Network) → IsAcceptedNetwork net → 0 < length net.edges → (scheduler : Scheduler) (g : Lcg) (w : World)
+    → IsUndamaged w (stretch_of scheduler net g).0
+stretch-undamaged draw_below by_rounds net ok some Rounds g w = by_rounds net w
+stretch-undamaged draw_below by_rounds net ok some Random g w = steps-undamaged draw_below net ok some (net.nodes + 4 * length net.edges) g w
+
+-- nor is what is given back
+leave-undamaged : (v : ℕ) (lent : Option ℕ) (w : World) → IsUndamaged w (leave_of v lent)
+leave-undamaged v None w = refl
+leave-undamaged v (Some t) w = refl
+
+leaves-undamaged : (now : World) (ids : List ℕ) (w : World) → IsUndamaged w (flat_map (leave_at now) ids)
+leaves-undamaged now [] w = refl
+leaves-undamaged now (v ∷ ids) w =
+    undamaged-append w (leave_at now v) (flat_map (leave_at now) ids) (leave-undamaged v (lent_at now v) w) (leaves-undamaged now ids)
+
+-- so the stretches of a measured run are without damage, in whatever world they happen
+pub stretches-undamaged : DrawsAreBelow → RoundIsUndamaged → (net : Network) → IsAcceptedNetwork net → 0 < length net.edges → (scheduler : Scheduler) (start : World) (g : Lcg)
+    (n : ℕ) (w : World) → IsUndamaged w (stretches scheduler net start g n).0
+stretches-undamaged draw_below by_rounds net ok some scheduler start g zero w = refl
+stretches-undamaged draw_below by_rounds net ok some scheduler start g (suc n) w =
+    let before = stretches scheduler net start g n in
+    let stretch = stretch_of scheduler net before.1 in
+    let now = run start (before.0 ++ stretch.0) in
+    undamaged-append w (before.0 ++ stretch.0) (leaves now)
+    (undamaged-append w before.0 stretch.0 (stretches-undamaged draw_below by_rounds net ok some scheduler start g n w)
+    (stretch-undamaged draw_below by_rounds net ok some scheduler before.1))
+    (leaves-undamaged now (range_with_len 0 now.net.nodes))
 
 never : Rose 0 0 → ⊥
 never rose = elim rose [ inl h ↦ omega (arith, h) | inr h ↦ omega (arith, h) ]

@@ -3,4 +3,5 @@ pub mod Harmless
 pub mod Harms
 pub mod Plans
 pub mod Steps
+pub mod Stretches
 pub mod Watching

@@ -14,7 +14,7 @@ use Rattle.serving.specs.Sight.{IsTouchedSight}
 use Rattle.serving.specs.declared.sight.Sight.{Sight}
 use Rattle.experiments.specs.Recovery.{ServesBehindEach, IsLastFailure, FailedLast, IsLastNow}
 
-run-append : (w : World) (xs ys : List Event) → run w (xs ++ ys) ≡ run (run w xs) ys
+pub run-append : (w : World) (xs ys : List Event) → run w (xs ++ ys) ≡ run (run w xs) ys
 run-append w [] ys = refl
 run-append w (x ∷ xs) ys = run-append (step w x) xs ys
 

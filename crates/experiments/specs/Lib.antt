@@ -1,6 +1,7 @@
 pub mod Laws
 pub mod Plan
 pub mod Recovery
+pub mod Scheduled
 pub mod Shown
 pub mod Summary
 pub mod Watched

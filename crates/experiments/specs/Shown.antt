@@ -14,15 +14,16 @@ use Rattle.damage_tool.specs.Harms.{draw_world}
 use Rattle.judge.specs.Judging.{counted_up_to}
 use Rattle.experiments.specs.declared.measured_run.Recovery.{Recovery}
 use Rattle.experiments.specs.Recovery.{FailedLast, counted_from}
+use Rattle.experiments.specs.Scheduled.{HasEnough, stretches}
+use Rattle.experiments.specs.declared.measured_run.Scheduler.{Scheduler}
 
 -- the world to which the harms lead that a scramble draws
 abbrev pub scrambled : Network → Lcg → World
 scrambled net g = run (default_world net) (draw_world net g).0
 
--- Events without damage have happened from the start on: the run had as many sweeps as were seen,
--- and when it last failed to serve it had had one fewer than those behind which it served.
-pub record IsShown (start : World) (r : Recovery) : Type 0 where
-  pub events : List Event
+-- These events, without damage, have happened from the start on: the run had as many sweeps as were
+-- seen, and when it last failed to serve it had had one fewer than those after which it served.
+pub record IsShown (start : World) (events : List Event) (r : Recovery) : Type 0 where
   pub undamaged : IsUndamaged start events
   pub last : Option ℕ
   pub failed : FailedLast start events last
@@ -35,9 +36,12 @@ pub record IsShown (start : World) (r : Recovery) : Type 0 where
 abbrev pub seeded : ℕ → Lcg
 seeded seed = pcg32_of_seed (pcg32_seed 16 seed)
 
--- The run of a seed on a network: it bears the seed, it is shown from the world that this seed
--- scrambles, and it serves behind the sharper bound at the latest.
-pub record IsRunOf (net : Network) (seed : ℕ) (r : Recovery) : Type 0 where
+-- The run of a seed on a network under a scheduler: it bears the seed; from the world that this
+-- seed scrambles, it is shown by the stretches of the scheduler, of which there were enough, drawn
+-- from the generator of this seed; and it serves after the sharper bound at the latest.
+pub record IsRunOf (net : Network) (scheduler : Scheduler) (seed : ℕ) (r : Recovery) : Type 0 where
   pub seed_is : r.seed ≡ seed
-  pub shown : IsShown (scrambled net (seeded seed)) r
+  pub count : ℕ
+  pub enough : HasEnough net r.seen count
+  pub shown : IsShown (scrambled net (seeded seed)) (stretches scheduler net (scrambled net (seeded seed)) (seeded seed) count).0 r
   pub within : r.sweeps ≤ sharp_of net

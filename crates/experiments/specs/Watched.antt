@@ -2,11 +2,15 @@
 use Rattle.std.specs.Prelude.{ℕ, List, [], ◌++◌, Option}
 use Rattle.std.proofs.Common.{sym, subst, append_assoc}
 use Rattle.std.proofs.lemmas.List.{append-nil}
+use Rattle.rand_pcg.specs.Lcg.{Lcg}
+use Rattle.topology.specs.Network.{Network}
 use Rattle.run_model.specs.World.{World}
-use Rattle.run_model.specs.Run.{IsUndamaged}
+use Rattle.run_model.specs.Run.{run}
 use Rattle.run_model.specs.declared.event.Event.{Event}
 use Rattle.judge.specs.JudgeView.{JudgeView}
 use Rattle.experiments.specs.Recovery.{IsWatched}
+use Rattle.experiments.specs.Scheduled.{HasEnough, stretches}
+use Rattle.experiments.specs.declared.measured_run.Scheduler.{Scheduler}
 
 -- whatever run was watched before, that run and then these events is watched after
 abbrev pub GoesOn : JudgeView → Option ℕ → List Event → JudgeView → Option ℕ → Type 0
@@ -22,8 +26,14 @@ pub goes-both : (a b c : JudgeView) (p q r : Option ℕ) (xs ys : List Event) �
 goes-both a b c p q r xs ys one two start before watched =
     subst (λ es. IsWatched start es c r) (append_assoc before xs ys) (two start (before ++ xs) (one start before watched))
 
--- some events that are no damage in whatever world happened between
-pub record GoesOnUnharmed (old : JudgeView) (last : Option ℕ) (new : JudgeView) (now : Option ℕ) : Type 0 where
-  pub events : List Event
-  pub harmless : (w : World) → IsUndamaged w events
-  pub goes_on : GoesOn old last events new now
+-- whatever run was watched before, that run and then what is said of the world to which it has led
+-- is watched after
+abbrev pub GoesOnBy : (World → List Event) → JudgeView → Option ℕ → JudgeView → Option ℕ → Type 0
+GoesOnBy what old last new now =
+    (start : World) (before : List Event) → IsWatched start before old last → IsWatched start (before ++ what (run start before)) new now
+
+-- A measured run goes on by some stretches, of which there were enough.
+pub record GoesOnScheduled (scheduler : Scheduler) (net : Network) (g : Lcg) (old : JudgeView) (last : Option ℕ) (new : JudgeView) (now : Option ℕ) : Type 0 where
+  pub count : ℕ
+  pub enough : HasEnough net new.sweeps count
+  pub goes_on : GoesOnBy (λ w. (stretches scheduler net w g count).0) old last new now

@@ -1,9 +1,11 @@
 //! One run: a scrambled world, and a schedule up to the sharper bound.
-ghost use Rattle.std.specs.Prelude.{◌≡◌, IfOk};
+ghost use Rattle.std.specs.Prelude.{◌≡◌, ◌+◌, ◌*◌, length, IfOk};
 ghost use Rattle.run_model.specs.Run.{run};
 ghost use Rattle.configuration.specs.ConfigurationView.{world_of};
 ghost use Rattle.experiments.specs.Shown.{scrambled, seeded, IsRunOf};
-ghost use Rattle.experiments.specs.Watched.{GoesOnUnharmed};
+ghost use Rattle.schedules.specs.Rounds.{round};
+ghost use Rattle.experiments.specs.Scheduled.{plain_steps, stretch_of, lent_at, leave_at, leaves};
+ghost use Rattle.experiments.specs.Watched.{GoesOn, GoesOnBy, GoesOnScheduled};
 
 use crate::watch::Watch;
 use configuration::Configuration;
@@ -59,9 +61,9 @@ pub fn measure_run<A: Allocator + Copy>(
     scheduler: Scheduler,
     seed: u64,
 ) -> Result<Recovery, AllocError>
-    // What is shown is shown by a run without damage from the world that the seed scrambles, and no
-    // run serves later than the theorem says.
-    ensures { IfOk result (IsRunOf net.now seed) }
+    // What is shown is shown by the scheduler's run, which is without damage, from the world that
+    // the seed scrambles; and no run serves later than the theorem says.
+    ensures { IfOk result (IsRunOf net.now scheduler seed) }
 {
     run_model::laws::runs();
     run_model::laws::start();
@@ -69,6 +71,9 @@ pub fn measure_run<A: Allocator + Copy>(
     run_model::laws::sweep_numbers();
     convergence::laws::sharp();
     damage_tool::laws::scramble();
+    damage_tool::laws::draws();
+    schedules::laws::accepted();
+    schedules::laws::edges();
     let _known_nodes = net.nodes();
     let start = scrambled_world(alloc, net, seed)?;
     let mut watch = Watch::new(start);
@@ -114,7 +119,8 @@ fn give_stretches<A: Allocator + Copy>(
     generator: &mut Lcg64Xsh32,
     watch: &mut Watch<A>,
 )
-    ensures { GoesOnUnharmed watch.old.judge watch.old.last watch.new.judge watch.new.last }
+    ensures { GoesOnScheduled scheduler net.now generator.old watch.old.judge watch.old.last
+        watch.new.judge watch.new.last }
 {
     let bound = u64::from(net.sharp_bound());
     for stretch in 0..bound * STRETCHES_A_SWEEP {
@@ -133,7 +139,9 @@ fn give_stretch<A: Allocator + Copy>(
     generator: &mut Lcg64Xsh32,
     watch: &mut Watch<A>,
 )
-    ensures { GoesOnUnharmed watch.old.judge watch.old.last watch.new.judge watch.new.last }
+    ensures watched { GoesOn watch.old.judge watch.old.last
+        (stretch_of scheduler net.now generator.old).0 watch.new.judge watch.new.last }
+    ensures generator { generator.new ≡ (stretch_of scheduler net.now generator.old).1 }
 {
     match scheduler {
         Scheduler::Rounds => give_one_round(net, watch),
@@ -143,19 +151,21 @@ fn give_stretch<A: Allocator + Copy>(
 
 /// One round.
 fn give_one_round<A: Allocator + Copy>(net: &Net<A>, watch: &mut Watch<A>)
-    ensures { GoesOnUnharmed watch.old.judge watch.old.last watch.new.judge watch.new.last }
+    ensures { GoesOn watch.old.judge watch.old.last (round net.now) watch.new.judge
+        watch.new.last }
 {
-    schedules::laws::accepted();
     // A watch never fails.
     let _given = give_round(net, watch);
 }
 
 /// As many random steps as there are nodes and four times the edges.
 fn give_steps<A: Allocator + Copy>(net: &Net<A>, generator: &mut Lcg64Xsh32, watch: &mut Watch<A>)
-    ensures { GoesOnUnharmed watch.old.judge watch.old.last watch.new.judge watch.new.last }
+    ensures watched { GoesOn watch.old.judge watch.old.last
+        (plain_steps net.now (net.now.nodes + 4 * length net.now.edges) generator.old).0
+        watch.new.judge watch.new.last }
+    ensures generator { generator.new
+        ≡ (plain_steps net.now (net.now.nodes + 4 * length net.now.edges) generator.old).1 }
 {
-    damage_tool::laws::draws();
-    schedules::laws::edges();
     let nodes = u64::from(net.nodes());
     for step in 0..nodes + 4 * net.edges().len() as u64 {
         let event = draw_step(net, PLAIN, generator);
@@ -165,7 +175,7 @@ fn give_steps<A: Allocator + Copy>(net: &Net<A>, generator: &mut Lcg64Xsh32, wat
 
 /// Whoever has the lock gives it back.
 fn leave_all<A: Allocator + Copy>(watch: &mut Watch<A>)
-    ensures { GoesOnUnharmed watch.old.judge watch.old.last watch.new.judge watch.new.last }
+    ensures { GoesOnBy leaves watch.old.judge watch.old.last watch.new.judge watch.new.last }
 {
     for node in 0..watch.configuration().net().nodes() {
         leave(node, watch);
@@ -174,7 +184,8 @@ fn leave_all<A: Allocator + Copy>(watch: &mut Watch<A>)
 
 /// Whoever has the lock at a node gives it back; at no node nothing happens.
 fn leave<A: Allocator + Copy>(node: u16, watch: &mut Watch<A>)
-    ensures { GoesOnUnharmed watch.old.judge watch.old.last watch.new.judge watch.new.last }
+    ensures { GoesOnBy (λ w. leave_at w node) watch.old.judge watch.old.last watch.new.judge
+        watch.new.last }
 {
     if let Some(ticket) = lent_at(watch.configuration(), node) {
         let _taken = watch.take(&Event::Leave { node, ticket });
@@ -182,7 +193,9 @@ fn leave<A: Allocator + Copy>(node: u16, watch: &mut Watch<A>)
 }
 
 /// The ticket that a node lends to, if there is that node and it lends.
-fn lent_at<A: Allocator + Copy>(configuration: &Configuration<A>, node: u16) -> Option<u16> {
+fn lent_at<A: Allocator + Copy>(configuration: &Configuration<A>, node: u16) -> Option<u16>
+    ensures { result ≡ lent_at (world_of configuration.now) node }
+{
     if node < configuration.net().nodes() {
         configuration.node(node).lent()
     } else {

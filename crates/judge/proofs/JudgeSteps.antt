@@ -16,7 +16,9 @@ use Rattle.run_model.specs.declared.event.EventFault.{EventFault}
 use Rattle.run_model.specs.declared.event.EventFault.TheVariants.{NoItem}
 use Rattle.link_model.specs.declared.item.Item.{Item}
 use Rattle.judge.specs.Tallies.{has_place, no_tally, tally_of, tally_behind}
-use Rattle.judge.specs.Stretch.{StretchView, IsRoomFor, has_bit, is_full_tick_of, names_below, names_place, IsComplete, IsKept}
+use Rattle.configuration.specs.ConfigurationView.{world_of}
+use Rattle.judge.specs.JudgeView.{JudgeView, HasSeenSame}
+use Rattle.judge.specs.Stretch.{StretchView, with_looks, IsRoomFor, has_bit, is_full_tick_of, names_below, names_place, IsComplete, IsKept}
 use Rattle.judge.specs.Judging.{IsJudging}
 use Rattle.judge.specs.Below.{Below}
 use Rattle.judge.proofs.Kept.{IsNoted, noted, still-renewed}
@@ -28,6 +30,26 @@ cleared s = record s { tallies = record s.tallies { looked = 0 } }
 
 kept-cleared : (w : World) (es : List Event) (s : StretchView) → IsKept w es s → IsKept w es (cleared s)
 kept-cleared w es s kept = record { nodes = kept.nodes; lacking = kept.lacking; old = kept.old; renewed = kept.renewed; apart = kept.apart }
+
+-- nor does any other count of looks change what was judged
+judging-looked : (start : World) (es : List Event) (now : World) (s : StretchView) (looked sweeps refused : ℕ) → IsJudging start es now s sweeps refused
+    → IsJudging start es now (with_looks s looked) sweeps refused
+judging-looked start es now s looked sweeps refused j = record {
+  in_range = j.in_range;
+  now_is = j.now_is;
+  count = j.count;
+  done = j.done;
+  stretch = j.stretch;
+  since = j.since;
+  counted = j.counted;
+  kept = record { nodes = j.kept.nodes; lacking = j.kept.lacking; old = j.kept.old; renewed = j.kept.renewed; apart = j.kept.apart };
+  sweeps_are = j.sweeps_are;
+  refused_are = j.refused_are;
+}
+
+pub seen-looked : (old : JudgeView) (now : StretchView) (looked : ℕ) → now ≡ with_looks old.stretch looked → HasSeenSame old (record old { stretch = now })
+seen-looked old now looked is_now start es seen =
+    rw is_now (record { judging = judging-looked start es (world_of old.configuration) old.stretch looked old.sweeps old.refused seen.judging; visited = seen.visited })
 
 pub judging-cleared : (start : World) (es : List Event) (now : World) (s : StretchView) (sweeps refused : ℕ) → IsJudging start es now s sweeps refused
     → IsJudging start es now (cleared s) sweeps refused

@@ -31,6 +31,10 @@ pub record HasSeen (j : JudgeView) (start : World) (es : List Event) : Type 0 wh
 abbrev pub HasSeenNext : JudgeView → Event → JudgeView → Type 0
 HasSeenNext old e new = (start : World) (es : List Event) → HasSeen old start es → HasSeen new start (es ++ e ∷ [])
 
+-- whatever the one judge has seen, the other has seen that and no more
+abbrev pub HasSeenSame : JudgeView → JudgeView → Type 0
+HasSeenSame old new = (start : World) (es : List Event) → HasSeen old start es → HasSeen new start es
+
 -- whatever the judge has seen, the event ends a sweep: with it there is one more since the last
 -- damage
 abbrev pub EndsSweep : JudgeView → Event → Type 0

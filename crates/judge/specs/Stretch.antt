@@ -16,6 +16,10 @@ pub record StretchView : Type 0 where
   pub lacking : ℕ
   pub tallies : TalliesView
 
+-- the same with another count of looks
+abbrev pub with_looks : StretchView → ℕ → StretchView
+with_looks s looked = record s { tallies = record s.tallies { looked = looked } }
+
 -- the mask has the bit of v
 abbrev pub has_bit : ℕ → ℕ → Bool
 has_bit mask v = bit_at mask v == 1

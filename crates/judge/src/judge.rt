@@ -8,9 +8,9 @@ ghost use Rattle.run_model.specs.Run.{is_damage};
 ghost use Rattle.configuration.specs.ConfigurationView.{world_of};
 ghost use Rattle.run_model.specs.World.{at_pair};
 ghost use Rattle.judge.specs.Tallies.{has_place, tally_of, first_tally};
-ghost use Rattle.judge.specs.Stretch.{IsRoomFor, IsKept};
-ghost use Rattle.judge.specs.JudgeView.{HasSeen, HasSeenNext, EndsSweep, AreSweepsSeen};
-ghost use Rattle.judge.specs.JudgeView.{AreRefusalsSeen, AreVisitedSeen};
+ghost use Rattle.judge.specs.Stretch.{IsRoomFor, IsKept, with_looks};
+ghost use Rattle.judge.specs.JudgeView.{HasSeen, HasSeenNext, HasSeenSame, EndsSweep};
+ghost use Rattle.judge.specs.JudgeView.{AreSweepsSeen, AreRefusalsSeen, AreVisitedSeen};
 ghost use Rattle.judge.specs.JudgeView.{IsLackingSeen, IsTallySeen};
 
 use crate::laws::below;
@@ -208,14 +208,21 @@ impl<A: Allocator + Copy> Judge<A> {
         self.stretch.lacking()
     }
 
-    /// What has become of the link from one node to another in the unfinished stretch; `None` where
-    /// no edge joins the two. It looks through the edges, and the ids may be any.
-    pub fn tally(&self, from: u16, to: u16) -> Option<Tally>
+    /// What has become of the link from one node to another in the unfinished stretch; `None` if no
+    /// edge joins the two. It looks through the edges, and the ids may be any. Like each look at a
+    /// tally, this one counts: [`looked`](Judge::looked) is then one more.
+    pub fn tally(&mut self, from: u16, to: u16) -> Option<Tally>
         ensures link { IsSome result
-            ↔ IsTrue (are_joined (world_of self.now.configuration).net.edges from to) }
-        ensures value { IfSome result (λ tally. tally ≡ tally_of self.now.stretch.tallies from to) }
+            ↔ IsTrue (are_joined (world_of self.old.configuration).net.edges from to) }
+        ensures value { IfSome result (λ tally. tally ≡ tally_of self.old.stretch.tallies from to) }
         // Whatever it has seen, the tally is that of the link in the unfinished stretch.
-        ensures tally { IfSome result (IsTallySeen self.now from to) }
+        ensures tally { IfSome result (IsTallySeen self.old from to) }
+        // Nothing but the count of looks changes.
+        ensures looked { self.new ≡ record self.old {
+          stretch = with_looks self.old.stretch self.new.stretch.tallies.looked;
+        } }
+        // Whatever it had seen, it has seen that and no more.
+        ensures same { HasSeenSame self.old self.new }
     {
         below();
         let net = self.configuration.net();
@@ -227,7 +234,8 @@ impl<A: Allocator + Copy> Judge<A> {
         }
     }
 
-    /// How many tallies the last step looked at; 0 where there was none.
+    /// How many tallies the last step looked at, and each call of [`tally`](Judge::tally) since
+    /// then; 0 if there was neither.
     pub fn looked(&self) -> u32
         ensures { result ≡ self.now.stretch.tallies.looked }
     {

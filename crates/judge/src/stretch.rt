@@ -1,12 +1,13 @@
 //! What a judge keeps of the unfinished stretch of a run.
-ghost use Rattle.std.specs.Prelude.{◌≡◌, ◌↔◌, ◌+◌, ◌<◌, ◌≤◌, ◌==◌, ◌&&◌, ℕ, not, nat_lt, IfOk};
+ghost use Rattle.std.specs.Prelude.{◌≡◌, ◌↔◌, ◌+◌, ◌-◌, ◌^◌, ◌<◌, ◌≤◌, ◌==◌, ◌&&◌, ℕ, not, min};
+ghost use Rattle.std.specs.Prelude.{nat_lt, IfOk};
 ghost use Rattle.std.specs.Prelude.{IsTrue};
 ghost use Rattle.data_link.specs.Sweep.{Takes, Loses};
 ghost use Rattle.topology.specs.Network.{are_joined};
 ghost use Rattle.run_model.specs.World.{at_pair};
 ghost use Rattle.judge.specs.Tallies.{has_place, no_tally, tally_of, tally_after, tally_behind};
 ghost use Rattle.judge.specs.Stretch.{has_bit, is_full_tick_of, names_below, names_place};
-ghost use Rattle.judge.specs.Stretch.{IsComplete};
+ghost use Rattle.judge.specs.Stretch.{IsComplete, with_looks};
 
 use crate::tallies::{Tallies, Tally};
 use run_model::Happened;
@@ -166,13 +167,16 @@ impl<A: Allocator> Stretch<A> {
         self.lacking
     }
 
-    /// The tally of a link. The look is not counted.
-    pub(crate) fn tally(&self, from: u16, to: u16) -> Tally
-        requires from_in { from < self.now.tallies.table.nodes }
-        requires to_in { to < self.now.tallies.table.nodes }
-        ensures { result ≡ tally_of self.now.tallies from to }
+    /// The tally of a link. The look counts.
+    pub(crate) fn tally(&mut self, from: u16, to: u16) -> Tally
+        requires from_in { from < self.old.tallies.table.nodes }
+        requires to_in { to < self.old.tallies.table.nodes }
+        ensures tally { result ≡ tally_of self.old.tallies from to }
+        // Nothing but the count of looks changes.
+        ensures looked { self.new
+            ≡ with_looks self.old (min (self.old.tallies.looked + 1) (2 ^ 32 - 1)) }
     {
-        self.tallies.shown(from, to)
+        self.tallies.get(from, to)
     }
 
     /// Whether no node lacks a full tick and every link is renewed.

@@ -100,8 +100,8 @@ fn lay_all<A: Allocator, N: Allocator + Copy>(table: &mut PairTable<A>, net: &Ne
 const MOST_TALLIES: usize = 513;
 
 /// The tallies of all links of a network: one each way for each edge, close together, behind one
-/// that stands for every two nodes that no edge joins. A step comes to one by `get` and `set`
-/// alone, which are counted.
+/// that stands for every two nodes that no edge joins. `get` and `set` are the only ways to one, and
+/// each of them counts.
 #[derive(Drop)]
 pub struct Tallies<A: Allocator = Global> {
     table: PairTable<A>,
@@ -176,16 +176,6 @@ impl<A: Allocator> Tallies<A> {
             ≡ record self.old { looked = min (self.old.looked + 1) (2 ^ 32 - 1) } }
     {
         self.looked = self.looked.saturating_add(1);
-        let place = self.place(from, to);
-        self.places[place]
-    }
-
-    /// The tally of a link, for a reader behind a step: this look is not counted.
-    pub fn shown(&self, from: u16, to: u16) -> Tally
-        requires from_in { from < self.now.table.nodes }
-        requires to_in { to < self.now.table.nodes }
-        ensures { result ≡ tally_of self.now from to }
-    {
         let place = self.place(from, to);
         self.places[place]
     }

@@ -1,11 +1,23 @@
--- What the command `threads` does: all turns of all nodes.
-use Rattle.std.specs.Prelude.{ℕ}
+-- What the command `threads` does: all turns of all nodes, and the text of what they lead to.
+use Rattle.std.specs.Prelude.{ℕ, List, Option}
+use Rattle.byte_streams.specs.Streams.{Takes}
 use Rattle.topology.specs.Network.{Network}
+use Rattle.run_model.specs.World.{World}
 use Rattle.run_model.specs.Start.{default_world}
+use Rattle.run_model.specs.Count.{IsSweepCount}
+use Rattle.run_model.specs.declared.event.Event.{Event}
 use Rattle.configuration.specs.ConfigurationView.{world_of}
+use Rattle.judge.specs.Judging.{counted_up_to}
+use Rattle.world.specs.StateText.{state_text}
 use Rattle.thread_net.specs.declared.run.Woven.{Woven}
 use Rattle.thread_net.specs.ThreadRun.{IsThreadRun}
 
 -- each node did `turns` turns, from the network's nodes as they start and empty links on
 abbrev pub AllRan : {A : Type 0} → ℕ → Network → Woven A → Type 0
 AllRan turns net woven = IsThreadRun (λ v. turns) (default_world net) woven.events.items (world_of woven.world)
+
+-- The state text of a world was written, with as many sweeps as the events hold from the start on.
+pub record IsStateWritten (start : World) (events : List Event) (last : World) (before after : Option (List ℕ)) : Type 0 where
+  pub count : ℕ
+  pub counted : IsSweepCount start events count
+  pub text : Takes (state_text last (counted_up_to count)) before after

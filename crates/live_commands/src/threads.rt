@@ -6,8 +6,9 @@ ghost use Rattle.byte_streams.specs.Streams.{CountsFailures, Rose};
 ghost use Rattle.run_model.specs.Start.{default_world};
 ghost use Rattle.configuration.specs.ConfigurationView.{world_of};
 ghost use Rattle.command_parts.specs.EventText.{GrowsByText};
-ghost use Rattle.live_commands.specs.Threads.{AllRan};
+ghost use Rattle.live_commands.specs.Threads.{AllRan, IsStateWritten};
 ghost use Rattle.command_parts.specs.declared.fault.Fault.TheVariants.{EventsUnwritable, Memory};
+ghost use Rattle.command_parts.specs.declared.fault.Fault.TheVariants.{Output};
 
 mod progress;
 
@@ -47,8 +48,7 @@ pub fn run<R: Files + Clock + Print + Eprint + Threads + Wait + Sync + AllocGlob
     let net = read_network(rt, network)?;
     let start = new_world(rt.alloc(), &net)?;
     let woven = run_watched(rt, &net, turns, tells)?;
-    let report = judge(start, woven.events.as_slice());
-    show(rt, &woven, report.sweeps, events)
+    show(rt, start, &woven, events)
 }
 
 /// What the nodes of a network do on threads, with a line that tells how far they are if wanted.
@@ -64,18 +64,18 @@ fn run_watched<R: Clock + Eprint + Threads + Wait + Sync + AllocGlobal>(
     ran
 }
 
-/// Writes what the nodes did to the file `events`, where one is named, and prints the state that it
-/// led to, with its sweeps.
+/// Writes what the nodes did from their start on to the file `events`, if one is named, and prints
+/// the state that it led to.
 fn show<R: Files + Print + AllocGlobal>(
     rt: &R,
+    start: World,
     woven: &Woven,
-    sweeps: u64,
     events: Option<&str>,
 ) -> Result<ExitCode, Fault> {
     if let Some(path) = events {
         write_file(rt, path, woven.events.as_slice())?;
     }
-    print_state(rt, &woven.world, sweeps)?;
+    print_state(rt, start, woven)?;
     Ok(ExitCode::SUCCESS)
 }
 
@@ -159,14 +159,34 @@ fn give_events<S: EventSink>(events: &[Event], sink: &mut S) -> Result<(), Faile
     Ok(())
 }
 
-/// Prints the text that shows a world. Of standard output nothing is known but its failures.
-fn print_state<R: Print + AllocGlobal>(rt: &R, world: &World, sweeps: u64) -> Result<(), Fault> {
+/// Prints the state to which nodes have led a start.
+///
+/// What is unproved: that the text stands in standard output, which tells nothing of its bytes.
+fn print_state<R: Print + AllocGlobal>(rt: &R, start: World, woven: &Woven) -> Result<(), Fault> {
     let Ok(output) = BufWriter::new(rt.alloc(), writer(rt)) else {
         return Err(Fault::Memory);
     };
-    let mut sink = WriteSink::new(output);
-    if state_text(world, sweeps, &mut sink).is_err() || sink.flush().is_err() {
+    write_state(start, woven, &mut WriteSink::new(output))
+}
+
+/// Judges what nodes did from a start on, and writes the state to which it led, with the sweeps that
+/// the judge has counted; all of it.
+///
+/// # Errors
+/// [`Fault::Output`] if the sink fails.
+pub fn write_state<W: Flush>(start: World, woven: &Woven, sink: &mut W) -> Result<(), Fault>
+    ensures text { OnOk result (IsStateWritten (world_of start) woven.now.events.items
+        (world_of woven.now.world) (W.taken sink.old) (W.taken sink.new)) }
+    ensures written { OnOk result (W.unwritten sink.new ≡ []) }
+    ensures err { IfErr result
+        (λ fault. (fault ≡ Output) × Rose (W.failures sink.old) (W.failures sink.new)) }
+{
+    let report = judge(start, woven.events.as_slice());
+    let Ok(()) = state_text(&woven.world, report.sweeps, sink) else {
         return Err(Fault::Output);
+    };
+    match sink.flush() {
+        Ok(()) => Ok(()),
+        Err(_) => Err(Fault::Output),
     }
-    Ok(())
 }

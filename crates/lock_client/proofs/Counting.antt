@@ -1,11 +1,11 @@
--- A command is started, and the lock given back, at most once.
-use Rattle.std.proofs.Common.{◌≤◌, ◌+◌, ℕ, Bool, if◌then◌else◌, List, [], ◌∷◌, length, filter, arith}
+-- A command is started and asked to end, and the lock given back, at most once.
+use Rattle.std.proofs.Common.{◌≡◌, ◌≤◌, true, false, ◌+◌, ℕ, Bool, if◌then◌else◌, List, [], ◌∷◌, length, filter, refl, arith}
 use Rattle.std.proofs.lemmas.Grind.{common_steps}
 use Rattle.lock_client.specs.declared.client.Stage.{Stage}
 use Rattle.lock_client.specs.declared.client.Stage.TheVariants.{Asking, Holding}
 use Rattle.lock_client.specs.declared.client.Event.{Event}
 use Rattle.lock_client.specs.Steps.{stage_after, deed_between, deeds}
-use Rattle.lock_client.specs.Laws.{is_start, is_giving_back}
+use Rattle.lock_client.specs.Laws.{is_start, is_giving_back, is_ending}
 
 -- how many starts are still to come at most
 abbrev starts_left : Stage → ℕ
@@ -41,4 +41,33 @@ gives_back keeps stage [] = omega arith
 gives_back keeps stage (e ∷ es) =
     let one : _ = return-counted keeps e stage in
     let rest : _ = gives_back keeps (stage_after keeps e stage) es in
+    grind (arith, common_steps)
+
+-- how often the command may still be asked to end
+abbrev endings_left : Stage → ℕ
+endings_left Asking = 1
+endings_left Holding = 1
+endings_left _ = 0
+
+ending-counted : (keeps : Bool) (e : Event) (stage : Stage)
+    → (if is_ending (deed_between keeps e stage (stage_after keeps e stage)) then 1 else 0) + endings_left (stage_after keeps e stage)
+    ≤ endings_left stage
+ending-counted keeps e stage = grind (arith, common_steps)
+
+pub endings : (keeps : Bool) (stage : Stage) (events : List Event) → length (filter is_ending (deeds keeps stage events)) ≤ endings_left stage
+endings keeps stage [] = omega arith
+endings keeps stage (e ∷ es) =
+    let one : _ = ending-counted keeps e stage in
+    let rest : _ = endings keeps (stage_after keeps e stage) es in
+    grind (arith, common_steps)
+
+-- a command that may run on is not asked to end
+not-asked : (e : Event) (stage : Stage) → is_ending (deed_between true e stage (stage_after true e stage)) ≡ false
+not-asked e stage = grind (arith, common_steps)
+
+pub kept : (stage : Stage) (events : List Event) → filter is_ending (deeds true stage events) ≡ []
+kept stage [] = refl
+kept stage (e ∷ es) =
+    let one : _ = not-asked e stage in
+    let rest : _ = kept (stage_after true e stage) es in
     grind (arith, common_steps)

@@ -1,4 +1,8 @@
 pub mod Counting
+pub mod GuardRows
+pub mod Guarding
 pub mod Holding
 pub mod LineLemmas
+pub mod Losing
+pub mod NumberLemmas
 pub mod Rows

@@ -1,12 +1,14 @@
 -- Small examples of each definition, and ones that fail.
 use Rattle.std.proofs.Common.{◌≡◌, ◌++◌, true, false, List, [], ◌∷◌, refl, codes, inl, inr, arith}
 use Rattle.lock_client.specs.declared.answer.Answer.TheVariants as answer
-use Rattle.lock_client.specs.declared.outcome.CommandEnd.TheVariants.{Exited, Killed, CannotRun, NotThere}
-use Rattle.lock_client.specs.declared.outcome.Outcome.TheVariants.{Done, Lost, NotInTime, NoService}
+use Rattle.lock_client.specs.declared.outcome.CommandEnd.TheVariants.{Exited, Killed, CannotRun, NotThere, NotGuarded}
+use Rattle.lock_client.specs.declared.signals.Signal.TheVariants.{Interrupt, Terminate}
+use Rattle.lock_client.specs.declared.outcome.Outcome.TheVariants.{Done, Lost, NotInTime, NoService, Stopped}
 use Rattle.lock_client.specs.declared.client.Stage.TheVariants.{Asking, Over}
 use Rattle.lock_client.specs.declared.client.Event.{Event}
-use Rattle.lock_client.specs.declared.client.Event.TheVariants.{Line, Gone, TimeIsUp, Ended}
-use Rattle.lock_client.specs.declared.client.Deed.TheVariants.{Wait, AskAgain, Start, GiveBack, EndCommand, SayLost, Finish}
+use Rattle.lock_client.specs.declared.client.Event.TheVariants.{Line, Gone, Unserved, TimeIsUp, Ended, GuardGone, Signal}
+use Rattle.lock_client.specs.declared.client.Deed.TheVariants.{Wait, AskAgain, ConnectAgain, Start, PassOn}
+use Rattle.lock_client.specs.declared.client.Deed.TheVariants.{GiveBack, EndCommand, SayLost, Finish}
 use Rattle.lock_client.specs.Lines.{answer_line, answer_lines}
 use Rattle.lock_client.specs.Outcome.{outcome_status}
 use Rattle.lock_client.specs.Steps.{stage_after_all, deeds}
@@ -54,7 +56,7 @@ does-one_lock = refl
 
 holds-one_lock : HeldThroughout (Exited 0) one_lock
 unfolding one_lock
-holds-one_lock = inr (inl refl, inl (refl, inr (refl, inl (refl, inl refl))))
+holds-one_lock = inr (record {}, inl (refl, inr (inl refl, inl (refl, inl refl))))
 
 -- the lock is lost under the command: it is ended, and its status counts for nothing
 lost_lock : List Event
@@ -82,8 +84,48 @@ gone_early = refl
 late : deeds false Asking (TimeIsUp ∷ []) ≡ Finish NotInTime ∷ []
 late = refl
 
-no_node : deeds false Asking (Gone ∷ []) ≡ Finish NoService ∷ []
+no_node : deeds false Asking (Gone ∷ Unserved ∷ []) ≡ ConnectAgain ∷ Finish NoService ∷ []
 no_node = refl
+
+-- a node that closed the connection for want of room is connected to again
+no_room : deeds false Asking (Gone ∷ Line answer.Granted ∷ []) ≡ ConnectAgain ∷ Start ∷ []
+no_room = refl
+
+-- the guard is gone while the command runs: the command is ended once, whatever comes then, and its
+-- end counts for nothing, even if the node says that the lock was held
+unguarded : List Event
+unguarded = Line answer.Granted ∷ GuardGone ∷ Line answer.Lost ∷ Ended (Killed 15) ∷ Line answer.Released ∷ []
+
+does-unguarded : deeds false Asking unguarded ≡ Start ∷ EndCommand ∷ Wait ∷ Finish Lost ∷ Finish Lost ∷ []
+unfolding unguarded
+does-unguarded = refl
+
+holds_not-unguarded : HeldThroughout (Killed 15) unguarded → ⊥
+unfolding unguarded
+holds_not-unguarded held = grind arith
+
+-- a guard that is gone once the command has ended had nothing more to hold
+late_guard : stage_after_all false Asking (Line answer.Granted ∷ Ended (Exited 0) ∷ GuardGone ∷ Line answer.Released ∷ []) ≡ Over (Done (Exited 0))
+late_guard = refl
+
+-- Ctrl-C before the lock is granted; while the command runs, which has it too; and SIGTERM then
+stopped : deeds false Asking (Signal Interrupt ∷ []) ≡ Finish (Stopped Interrupt) ∷ []
+stopped = refl
+
+status-stopped : outcome_status (Stopped Terminate) ≡ 143
+status-stopped = refl
+
+heeds : deeds false Asking (Line answer.Granted ∷ Signal Interrupt ∷ Signal Terminate ∷ Ended (Killed 15) ∷ [])
+    ≡ Start ∷ Wait ∷ PassOn ∷ GiveBack ∷ []
+heeds = refl
+
+-- the command has no guard, and is not run
+not_guarded : deeds false Asking (Line answer.Granted ∷ Ended NotGuarded ∷ Line answer.Released ∷ [])
+    ≡ Start ∷ GiveBack ∷ Finish (Done NotGuarded) ∷ []
+not_guarded = refl
+
+status-not_guarded : outcome_status (Done NotGuarded) ≡ 125
+status-not_guarded = refl
 
 wrong_word : deeds false Asking (Line answer.Stranger ∷ []) ≡ Finish NoService ∷ []
 wrong_word = refl

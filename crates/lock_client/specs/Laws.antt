@@ -4,42 +4,62 @@ use Rattle.lock_client.specs.declared.answer.Answer.{Answer}
 use Rattle.lock_client.specs.declared.answer.Answer.TheVariants as answer
 use Rattle.lock_client.specs.declared.outcome.CommandEnd.{CommandEnd}
 use Rattle.lock_client.specs.declared.outcome.Outcome.{Outcome}
-use Rattle.lock_client.specs.declared.outcome.Outcome.TheVariants.{Done, NotInTime, NoService}
+use Rattle.lock_client.specs.declared.outcome.Outcome.TheVariants.{Done, Lost, NotInTime, NoService, Stopped}
+use Rattle.lock_client.specs.declared.signals.Signal.{Signal}
+use Rattle.lock_client.specs.declared.signals.Signal.TheVariants.{Terminate}
 use Rattle.lock_client.specs.declared.client.Stage.TheVariants.{Asking, Holding, Losing, Returning, Over}
 use Rattle.lock_client.specs.declared.client.Event.{Event}
-use Rattle.lock_client.specs.declared.client.Event.TheVariants.{Line, Gone, TimeIsUp, Ended}
+use Rattle.lock_client.specs.declared.client.Event.TheVariants as event
 use Rattle.lock_client.specs.declared.client.Deed.{Deed}
-use Rattle.lock_client.specs.declared.client.Deed.TheVariants.{Start, GiveBack}
-use Rattle.lock_client.specs.Steps.{stage_after, stage_after_all, deeds}
+use Rattle.lock_client.specs.declared.client.Deed.TheVariants.{Start, GiveBack, EndCommand, PassOn}
+use Rattle.lock_client.specs.Steps.{stage_after, stage_after_all, deed_between, deeds}
 
--- the next thing that happened, but for further ends of a command, is that the node said `released`
+-- what puts nothing in doubt once the command has ended: a further end, the end of the guard, a signal
+abbrev pub IsHarmless : Event → Type 0
+IsHarmless (event.Ended end) = Unit {0}
+IsHarmless event.GuardGone = Unit {0}
+IsHarmless (event.Signal signal) = Unit {0}
+IsHarmless _ = ⊥
+
+-- the next thing that happened, but for what is harmless, is that the node said `released`
 abbrev pub IsReleasedNext : List Event → Type 0
 IsReleasedNext [] = ⊥
 IsReleasedNext (e ∷ es) =
-    (e ≡ Line answer.Released) ⊎ (((end : CommandEnd) × (e ≡ Ended end)) × IsReleasedNext es)
+    (e ≡ event.Line answer.Released) ⊎ (IsHarmless e × IsReleasedNext es)
 
--- nothing came from the node until the command ended so, and next it said `released`
+-- nothing came from the node and the guard lived until the command ended so, and next the node said
+-- `released`
 abbrev pub IsHeldToTheEnd : CommandEnd → List Event → Type 0
 IsHeldToTheEnd end [] = ⊥
 IsHeldToTheEnd end (e ∷ es) =
-    ((e ≡ Ended end) × IsReleasedNext es) ⊎ ((e ≡ TimeIsUp) × IsHeldToTheEnd end es)
+    ((e ≡ event.Ended end) × IsReleasedNext es)
+    ⊎ (((e ≡ event.TimeIsUp) ⊎ ((signal : Signal) × (e ≡ event.Signal signal)))
+    × IsHeldToTheEnd end es)
 
--- the lock was held all the while: the node said nothing but `full` until it said `granted`, then
--- nothing until the command ended so, and then `released`
+-- what leaves a client waiting: no room, a connection that closed, and what is of an earlier command
+abbrev pub IsWaiting : Event → Type 0
+IsWaiting (event.Line answer.Full) = Unit {0}
+IsWaiting event.Gone = Unit {0}
+IsWaiting (event.Ended end) = Unit {0}
+IsWaiting event.GuardGone = Unit {0}
+IsWaiting _ = ⊥
+
+-- the lock was held all the while, and the guard lived: the node said nothing but `full` until it
+-- said `granted`, then nothing until the command ended so, and then `released`
 abbrev pub HeldThroughout : CommandEnd → List Event → Type 0
 HeldThroughout end [] = ⊥
 HeldThroughout end (e ∷ es) =
-    ((e ≡ Line answer.Granted) × IsHeldToTheEnd end es)
-    ⊎ (((e ≡ Line answer.Full) ⊎ ((other : CommandEnd) × (e ≡ Ended other)))
-    × HeldThroughout end es)
+    ((e ≡ event.Line answer.Granted) × IsHeldToTheEnd end es)
+    ⊎ (IsWaiting e × HeldThroughout end es)
 
--- the command's own status is answered where the lock was held all the while, and nowhere else
+-- the command's own status is answered if the lock was held all the while and the guard lived, and
+-- else never
 abbrev pub HeldThroughoutLaw : Type 0
 HeldThroughoutLaw =
     (end : CommandEnd) (events : List Event)
     → (stage_after_all false Asking events ≡ Over (Done end)) ↔ HeldThroughout end events
 
--- the command is started; the lock is given back
+-- the command is started; the lock is given back; the command is asked to end
 abbrev pub is_start : Deed → Bool
 is_start Start = true
 is_start _ = false
@@ -47,6 +67,10 @@ is_start _ = false
 abbrev pub is_giving_back : Deed → Bool
 is_giving_back GiveBack = true
 is_giving_back _ = false
+
+abbrev pub is_ending : Deed → Bool
+is_ending EndCommand = true
+is_ending _ = false
 
 -- whatever happens, the command is started at most once
 abbrev pub StartsAtMostOnce : Type 0
@@ -59,19 +83,50 @@ GivesBackOnce =
     (keeps : Bool) (events : List Event)
     → length (filter is_giving_back (deeds keeps Asking events)) ≤ 1
 
--- a client that asks ends when its time is up or the node is gone; one that holds the lock gives it
--- back when its command ends; one that lost it ends then; and one that gave it back ends with the
--- node's next word, when the node is gone, or when the time is up
+-- what takes the lock from a command that runs, or leaves it without its guard
+abbrev pub is_loss : Event → Bool
+is_loss (event.Line answer) = true
+is_loss event.Gone = true
+is_loss event.Unserved = true
+is_loss event.GuardGone = true
+is_loss _ = false
+
+-- if the node's connection or the guard ends first, the command is asked to end, at most once in
+-- all, and 122 is the only status; nobody asks a command that may run on
+pub record EndsWhatLostItsLock : Type 0 where
+  pub asks : (e : Event) → is_loss e ≡ true
+      → deed_between false e Holding (stage_after false e Holding) ≡ EndCommand
+  pub once : (events : List Event) → length (filter is_ending (deeds false Asking events)) ≤ 1
+  pub lost : (e : Event) (events : List Event) (outcome : Outcome) → is_loss e ≡ true
+      → stage_after_all false Holding (e ∷ events) ≡ Over outcome → outcome ≡ Lost
+  pub kept : (events : List Event) → filter is_ending (deeds true Asking events) ≡ []
+
+-- a signal ends a client only if no command was started; to one that runs SIGTERM is handed on, and
+-- no other signal does anything
+pub record SignalsAreHeeded : Type 0 where
+  pub before : (keeps : Bool) (signal : Signal) (events : List Event)
+      → stage_after_all keeps Asking events ≡ Over (Stopped signal)
+      → filter is_start (deeds keeps Asking events) ≡ []
+  pub stays : (keeps : Bool) (signal : Signal)
+      → stage_after keeps (event.Signal signal) Holding ≡ Holding
+  pub handed_on : (keeps : Bool) (signal : Signal)
+      → (deed_between keeps (event.Signal signal) Holding Holding ≡ PassOn) ↔ (signal ≡ Terminate)
+
+-- a client that asks ends when its time is up, nobody serves or a signal comes; one that holds the
+-- lock gives it back when its command ends; one that lost it ends then; and one that gave it back
+-- ends with the node's next word, when the node is gone, or when the time is up
 pub record EndsByItself : Type 0 where
-  pub in_time : (keeps : Bool) → stage_after keeps TimeIsUp Asking ≡ Over NotInTime
-  pub gone : (keeps : Bool) → stage_after keeps Gone Asking ≡ Over NoService
+  pub in_time : (keeps : Bool) → stage_after keeps event.TimeIsUp Asking ≡ Over NotInTime
+  pub unserved : (keeps : Bool) → stage_after keeps event.Unserved Asking ≡ Over NoService
+  pub stopped : (keeps : Bool) (signal : Signal)
+      → stage_after keeps (event.Signal signal) Asking ≡ Over (Stopped signal)
   pub gives_back : (keeps : Bool) (end : CommandEnd)
-      → stage_after keeps (Ended end) Holding ≡ Returning end
+      → stage_after keeps (event.Ended end) Holding ≡ Returning end
   pub lost : (keeps : Bool) (end : CommandEnd) →
-      (outcome : Outcome) × (stage_after keeps (Ended end) Losing ≡ Over outcome)
+      (outcome : Outcome) × (stage_after keeps (event.Ended end) Losing ≡ Over outcome)
   pub heard : (keeps : Bool) (end : CommandEnd) (any : Answer) →
-      (outcome : Outcome) × (stage_after keeps (Line any) (Returning end) ≡ Over outcome)
+      (outcome : Outcome) × (stage_after keeps (event.Line any) (Returning end) ≡ Over outcome)
   pub left_alone : (keeps : Bool) (end : CommandEnd) →
-      (outcome : Outcome) × (stage_after keeps Gone (Returning end) ≡ Over outcome)
+      (outcome : Outcome) × (stage_after keeps event.Gone (Returning end) ≡ Over outcome)
   pub waited : (keeps : Bool) (end : CommandEnd) →
-      (outcome : Outcome) × (stage_after keeps TimeIsUp (Returning end) ≡ Over outcome)
+      (outcome : Outcome) × (stage_after keeps event.TimeIsUp (Returning end) ≡ Over outcome)

@@ -1,5 +1,10 @@
 pub mod Lines
+pub mod Signals
+pub mod StatusLines
 pub mod Outcome
 pub mod Ends
 pub mod Steps
+pub mod Words
+pub mod Guards
+pub mod GuardLaws
 pub mod Laws

@@ -3,34 +3,43 @@ use Rattle.std.specs.Prelude.{Bool, true, false, List, [], ◌∷◌}
 use Rattle.lock_client.specs.declared.answer.Answer.TheVariants as answer
 use Rattle.lock_client.specs.declared.outcome.CommandEnd.{CommandEnd}
 use Rattle.lock_client.specs.declared.outcome.Outcome.{Outcome}
-use Rattle.lock_client.specs.declared.outcome.Outcome.TheVariants.{Done, Lost, NotInTime, NoService}
+use Rattle.lock_client.specs.declared.outcome.Outcome.TheVariants.{Done, Lost, NotInTime, NoService, Stopped}
+use Rattle.lock_client.specs.declared.signals.Signal.TheVariants.{Terminate}
 use Rattle.lock_client.specs.declared.client.Stage.{Stage}
 use Rattle.lock_client.specs.declared.client.Stage.TheVariants.{Asking, Holding, Losing, Returning, Over}
 use Rattle.lock_client.specs.declared.client.Event.{Event}
-use Rattle.lock_client.specs.declared.client.Event.TheVariants.{Line, Gone, TimeIsUp, Ended}
+use Rattle.lock_client.specs.declared.client.Event.TheVariants.{Line, Gone, Unserved, TimeIsUp, Ended, GuardGone, Signal}
 use Rattle.lock_client.specs.declared.client.Deed.{Deed}
-use Rattle.lock_client.specs.declared.client.Deed.TheVariants.{Wait, AskAgain, Start, GiveBack, EndCommand, SayLost, Finish}
+use Rattle.lock_client.specs.declared.client.Deed.TheVariants.{Wait, AskAgain, ConnectAgain, Start, PassOn}
+use Rattle.lock_client.specs.declared.client.Deed.TheVariants.{GiveBack, EndCommand, SayLost, Finish}
 
--- a client that asked holds the lock once that is granted, and asks again where there was no room;
--- any other word, or none in time, ends it
+-- a client that asked holds the lock once that is granted, and asks again if there was no room or
+-- the node closed the connection; any other word, nobody who listens, none in time or a signal ends
+-- it
 abbrev pub asking_after : Event → Stage
 asking_after (Line answer.Granted) = Holding
 asking_after (Line answer.Full) = Asking
 asking_after (Line _) = Over NoService
-asking_after Gone = Over NoService
+asking_after Gone = Asking
+asking_after Unserved = Over NoService
 asking_after TimeIsUp = Over NotInTime
 asking_after (Ended end) = Asking
+asking_after GuardGone = Asking
+asking_after (Signal signal) = Over (Stopped signal)
 
--- a client that holds the lock gives it back when its command ends; any word of the node, and its
--- going away, puts the lock in doubt
+-- a client that holds the lock gives it back when its command ends; any word of the node, its going
+-- away, and the end of the guard put the lock in doubt; signals that are held back do not
 abbrev pub holding_after : Event → Stage
 holding_after (Line _) = Losing
 holding_after Gone = Losing
+holding_after Unserved = Losing
 holding_after TimeIsUp = Holding
 holding_after (Ended end) = Returning end
+holding_after GuardGone = Losing
+holding_after (Signal signal) = Holding
 
--- where the lock may have been lost under the command, that is how it ends, save where the client
--- was told to let the command run on
+-- if the lock may have been lost under the command, that is how it ends, unless the client was asked
+-- to let the command run on
 abbrev pub in_doubt : Bool → CommandEnd → Outcome
 in_doubt true end = Done end
 in_doubt false end = Lost
@@ -40,11 +49,13 @@ abbrev pub losing_after : Bool → Event → Stage
 losing_after keeps (Ended end) = Over (in_doubt keeps end)
 losing_after keeps _ = Losing
 
--- once the command has ended, the node's word that the lock was given back makes all well, and
--- anything else puts it in doubt
+-- once the command has ended, the node's word that the lock was given back makes all well; the
+-- guard has nothing more to hold, and a signal comes too late; anything else puts it in doubt
 abbrev pub returning_after : Bool → Event → CommandEnd → Stage
 returning_after keeps (Line answer.Released) end = Over (Done end)
 returning_after keeps (Ended again) end = Returning end
+returning_after keeps GuardGone end = Returning end
+returning_after keeps (Signal signal) end = Returning end
 returning_after keeps _ end = Over (in_doubt keeps end)
 
 -- the stage after an event
@@ -60,19 +71,32 @@ abbrev pub losing_deed : Bool → Deed
 losing_deed true = SayLost
 losing_deed false = EndCommand
 
--- where the desk was full the client asks again
+-- where the desk was full the client asks again, and connects again if the node closed the connection
 abbrev pub asking_deed : Event → Deed
 asking_deed (Line answer.Full) = AskAgain
+asking_deed Gone = ConnectAgain
 asking_deed _ = Wait
+
+-- SIGTERM is handed on to a command that runs
+abbrev pub running_deed : Event → Deed
+running_deed (Signal Terminate) = PassOn
+running_deed _ = Wait
+
+-- a command that lost the lock was asked to end, unless it may run on
+abbrev pub lost_deed : Bool → Event → Deed
+lost_deed true event = running_deed event
+lost_deed false event = Wait
 
 -- what is to be done between one stage and the next
 abbrev pub deed_between : Bool → Event → Stage → Stage → Deed
 deed_between keeps event _ (Over outcome) = Finish outcome
 deed_between keeps event _ Asking = asking_deed event
 deed_between keeps event Asking Holding = Start
+deed_between keeps event _ Holding = running_deed event
 deed_between keeps event Holding (Returning end) = GiveBack
+deed_between keeps event _ (Returning end) = Wait
 deed_between keeps event Holding Losing = losing_deed keeps
-deed_between keeps event _ _ = Wait
+deed_between keeps event _ Losing = lost_deed keeps event
 
 -- the stage after a list of events
 abbrev pub stage_after_all : Bool → Stage → List Event → Stage

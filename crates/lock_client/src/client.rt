@@ -2,9 +2,10 @@
 ghost use Rattle.std.specs.Prelude.{◌≡◌};
 ghost use Rattle.lock_client.specs.Steps.{stage_after, asking_after, holding_after, losing_after};
 ghost use Rattle.lock_client.specs.Steps.{returning_after, in_doubt};
-ghost use Rattle.lock_client.specs.Steps.{deed_between, asking_deed, losing_deed};
+ghost use Rattle.lock_client.specs.Steps.{deed_between, asking_deed, running_deed, losing_deed};
+ghost use Rattle.lock_client.specs.Steps.{lost_deed};
 
-use crate::{Answer, CommandEnd, Outcome};
+use crate::{Answer, CommandEnd, Outcome, Signal};
 
 /// How far a client is.
 #[derive(Clone, Copy, Debug, PartialEq, Eq)]
@@ -26,12 +27,18 @@ pub enum Stage {
 pub enum Event {
     /// The desk answered this line.
     Line(Answer),
-    /// The connection closed or failed, or there was none.
+    /// The connection closed or failed.
     Gone,
+    /// There is no connection to be had: nobody listens at the node any more.
+    Unserved,
     /// The time that the client was ready to wait for an answer is over.
     TimeIsUp,
     /// The command ended, or could not be started.
     Ended(CommandEnd),
+    /// The guard of the command is gone, which would hold the lock if this client were killed.
+    GuardGone,
+    /// This signal came to the client, which had it held back.
+    Signal(Signal),
 }
 
 /// What is to be done now.
@@ -41,8 +48,13 @@ pub enum Deed {
     Wait,
     /// Write `lock` again, after a rest: there was no room at the desk.
     AskAgain,
-    /// Start the command.
+    /// Connect again, after a rest, and write `lock`: the node closed the connection, as one does
+    /// that has no room for a client.
+    ConnectAgain,
+    /// Start the guard and the command.
     Start,
+    /// Hand SIGTERM on to the command.
+    PassOn,
     /// Write `unlock`.
     GiveBack,
     /// Say that the lock is lost, and end the command.
@@ -119,7 +131,7 @@ impl LockClient {
     {
         match event {
             Event::Line(Answer::Released) => Stage::Over(Outcome::Done(end)),
-            Event::Ended(_) => Stage::Returning(end),
+            Event::Ended(_) | Event::GuardGone | Event::Signal(_) => Stage::Returning(end),
             _ => Stage::Over(self.in_doubt(end)),
         }
     }
@@ -143,9 +155,22 @@ impl LockClient {
             Stage::Over(outcome) => Deed::Finish(outcome),
             Stage::Asking => asking_deed(event),
             Stage::Holding if before == Stage::Asking => Deed::Start,
+            Stage::Holding => running_deed(event),
             Stage::Returning(_) if before == Stage::Holding => Deed::GiveBack,
             Stage::Losing if before == Stage::Holding => self.losing_deed(),
-            _ => Deed::Wait,
+            Stage::Losing => self.lost_deed(event),
+            Stage::Returning(_) => Deed::Wait,
+        }
+    }
+
+    /// What is to be done while the command runs without the lock.
+    fn lost_deed(&self, event: Event) -> Deed
+        ensures { result ≡ lost_deed self.now.keeps_running event }
+    {
+        if self.keeps_running {
+            running_deed(event)
+        } else {
+            Deed::Wait
         }
     }
 
@@ -167,6 +192,18 @@ fn asking_deed(event: Event) -> Deed
 {
     match event {
         Event::Line(Answer::Full) => Deed::AskAgain,
+        Event::Gone => Deed::ConnectAgain,
+        _ => Deed::Wait,
+    }
+}
+
+/// What is to be done while the command runs. Of the signals that are held back, those of a
+/// terminal came to the command too.
+fn running_deed(event: Event) -> Deed
+    ensures { result ≡ running_deed event }
+{
+    match event {
+        Event::Signal(Signal::Terminate) => Deed::PassOn,
         _ => Deed::Wait,
     }
 }
@@ -178,21 +215,21 @@ fn while_asking(event: Event) -> Stage
     match event {
         Event::Line(Answer::Granted) => Stage::Holding,
         Event::Line(Answer::Full) => Stage::Asking,
-        Event::Line(_) => Stage::Over(Outcome::NoService),
-        Event::Gone => Stage::Over(Outcome::NoService),
+        Event::Line(_) | Event::Unserved => Stage::Over(Outcome::NoService),
         Event::TimeIsUp => Stage::Over(Outcome::NotInTime),
-        Event::Ended(_) => Stage::Asking,
+        Event::Signal(signal) => Stage::Over(Outcome::Stopped(signal)),
+        Event::Gone | Event::Ended(_) | Event::GuardGone => Stage::Asking,
     }
 }
 
-/// It has the lock. Whatever the node says now, the lock is lost or in doubt.
+/// It has the lock. Whatever the node says now, the lock is lost or in doubt; and a command without
+/// its guard would keep running without the lock if this client were killed.
 fn while_holding(event: Event) -> Stage
     ensures { result ≡ holding_after event }
 {
     match event {
-        Event::Line(_) => Stage::Losing,
-        Event::Gone => Stage::Losing,
-        Event::TimeIsUp => Stage::Holding,
+        Event::Line(_) | Event::Gone | Event::Unserved | Event::GuardGone => Stage::Losing,
+        Event::TimeIsUp | Event::Signal(_) => Stage::Holding,
         Event::Ended(end) => Stage::Returning(end),
     }
 }

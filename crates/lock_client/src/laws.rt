@@ -1,11 +1,14 @@
 //! Laws of a client, over whatever happens to it, each the contract of a function that does
 //! nothing.
 ghost use Rattle.lock_client.specs.Laws.{HeldThroughoutLaw, StartsAtMostOnce, GivesBackOnce};
-ghost use Rattle.lock_client.specs.Laws.{EndsByItself};
+ghost use Rattle.lock_client.specs.Laws.{EndsByItself, EndsWhatLostItsLock, SignalsAreHeeded};
+ghost use Rattle.lock_client.specs.GuardLaws.{GivesBackRightly, AsksAtMostOnce, KillsAfterAsking};
+ghost use Rattle.lock_client.specs.GuardLaws.{LeavesAlone, GuardEnds};
 ghost use Rattle.lock_client.specs.Lines.{AnswersAreRead};
 
-/// The command's own status is answered only where the lock was held while it ran. Whoever lets a
-/// build, a migration or a backup run under the lock relies on it.
+/// The command's own status is answered exactly if the lock was held while it ran, and the command
+/// had a guard all the while. Whoever runs a build, a migration or a backup under the lock relies on
+/// it.
 pub fn a_command_that_is_done_held_the_lock()
     ensures { HeldThroughoutLaw }
 {}
@@ -17,8 +20,20 @@ pub fn one_lock_is_taken()
     ensures gives_back { GivesBackOnce }
 {}
 
-/// A client ends: before the lock is granted when its time is up or the node is gone, and once its
-/// command has ended when anything more comes. So no client waits for ever that has a limit.
+/// If the node or the guard is gone first, the command is asked to end, at most once, and the status
+/// is 122. So no command runs on for long without the lock, and no status says that it was held.
+pub fn what_lost_its_lock_is_ended()
+    ensures { EndsWhatLostItsLock }
+{}
+
+/// A signal that is held back ends a client before its command was started, and never later.
+pub fn signals_are_heeded()
+    ensures { SignalsAreHeeded }
+{}
+
+/// A client ends: before the lock is granted when its time is up, nobody serves or a signal comes,
+/// and once its command has ended when anything more comes. So no client waits for ever that has a
+/// limit.
 pub fn a_client_ends()
     ensures { EndsByItself }
 {}
@@ -26,4 +41,21 @@ pub fn a_client_ends()
 /// Each answer is read as what it is.
 pub fn answers_are_read()
     ensures { AnswersAreRead }
+{}
+
+/// A guard gives the lock back only if its client said that it is done, or was gone before it
+/// announced a command, or nobody of the command is left. So nobody else gets the lock while a
+/// command runs whose `lock` was killed.
+pub fn a_guard_holds_the_lock()
+    ensures { GivesBackRightly }
+{}
+
+/// A guard asks the command to end at most once, and kills it only after that; with `--keep`, and if
+/// the command has had the signal that ended its client, it does neither. It ends when its client is
+/// done.
+pub fn a_guard_is_gentle()
+    ensures once { AsksAtMostOnce }
+    ensures kills { KillsAfterAsking }
+    ensures alone { LeavesAlone }
+    ensures ends { GuardEnds }
 {}

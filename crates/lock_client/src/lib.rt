@@ -22,12 +22,22 @@
 mod answer;
 mod client;
 mod ends;
+mod guard;
 pub mod laws;
 mod lines;
 mod outcome;
+mod processes;
+mod signals;
+mod status_lines;
+mod words;
 
 pub use answer::Answer;
 pub use client::{Deed, Event, LockClient, Stage};
 pub use ends::{UNKNOWN_STATUS, command_end, spawn_end};
+pub use guard::{Guard, GuardDeed, GuardEvent, GuardStage, QUIET_LOOKS, Sight};
 pub use lines::{AnswerReader, spelled};
 pub use outcome::{CommandEnd, Outcome};
+pub use processes::has_entry;
+pub use signals::{Signal, Signals};
+pub use status_lines::{SignalState, StatusEntry, StatusReader};
+pub use words::{GuardWord, WordReader};

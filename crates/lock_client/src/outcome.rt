@@ -2,6 +2,8 @@
 ghost use Rattle.std.specs.Prelude.{◌≡◌};
 ghost use Rattle.lock_client.specs.Outcome.{end_status, outcome_status};
 
+use crate::signals::Signal;
+
 /// How a command ended.
 #[derive(Clone, Copy, Debug, PartialEq, Eq)]
 pub enum CommandEnd {
@@ -13,11 +15,14 @@ pub enum CommandEnd {
     CannotRun,
     /// It is not there.
     NotThere,
+    /// It was not run, since no guard could be started that holds the lock if this program is
+    /// killed.
+    NotGuarded,
 }
 
 impl CommandEnd {
     /// The status that stands for it: the command's own; 128 and the signal's number, at most 255;
-    /// 126; 127.
+    /// 126; 127; 125.
     fn status(self) -> u8
         ensures { result ≡ end_status self }
     {
@@ -26,6 +31,7 @@ impl CommandEnd {
             CommandEnd::Killed(signal) => signal.saturating_add(128),
             CommandEnd::CannotRun => 126,
             CommandEnd::NotThere => 127,
+            CommandEnd::NotGuarded => 125,
         }
     }
 }
@@ -41,11 +47,14 @@ pub enum Outcome {
     NotInTime,
     /// There is no lock service, or it failed before the lock was granted.
     NoService,
+    /// This signal came before the lock was granted.
+    Stopped(Signal),
 }
 
 impl Outcome {
-    /// The status of the program: the command's; 122 for a lost lock; 124, as `timeout` has it; and
-    /// 125, as `env` has it for a failure of its own.
+    /// The status of the program: the command's; 122 for a lost lock; 124, as `timeout` has it; 125,
+    /// as `env` has it for a failure of its own; and 128 and the number of the signal that came, as
+    /// a shell has it.
     pub fn status(self) -> u8
         ensures { result ≡ outcome_status self }
     {
@@ -54,6 +63,7 @@ impl Outcome {
             Outcome::Lost => 122,
             Outcome::NotInTime => 124,
             Outcome::NoService => 125,
+            Outcome::Stopped(signal) => 128 + signal.number(),
         }
     }
 }

@@ -1,2 +1,4 @@
 pub mod Rest
 pub mod NoticeText
+pub mod Notices
+pub mod Driving

@@ -8,7 +8,7 @@ use Rattle.lock_command.specs.declared.notice.Notice.{Notice}
 use Rattle.lock_command.specs.declared.notice.Notice.TheVariants.{NoFolder, Forbidden, NoSockets}
 use Rattle.lock_command.specs.declared.notice.Notice.TheVariants.{NoNode, TooLong, WentAway}
 use Rattle.lock_command.specs.declared.notice.Notice.TheVariants.{NoService, NotInTime, Lost}
-use Rattle.lock_command.specs.declared.notice.Notice.TheVariants.{InDoubt, NoCommand, CannotRun, UnknownEnd}
+use Rattle.lock_command.specs.declared.notice.Notice.TheVariants.{GuardGone, ClientGone, NoGuard, InDoubt, NoCommand, CannotRun, UnknownEnd}
 use Rattle.lock_command.specs.declared.notice.Notice.TheVariants.{System, Memory, Output}
 
 abbrev pub cause_text : Cause → List ℕ
@@ -42,6 +42,12 @@ notice_text (NotInTime node seconds) =
 notice_text (Lost node cause command) =
     codes "the lock is lost, since node " ++ (decimal node ++ (codes " "
     ++ (cause_text cause ++ (codes ": " ++ fate_text command))))
+notice_text (GuardGone command) =
+    codes "the second process of this lock is gone, which guards the command: " ++ fate_text command
+notice_text ClientGone =
+    codes "the first process of this lock is gone, which ran the command: the command is ended"
+notice_text NoGuard =
+    codes "no second process can be started to guard the command, which was not run"
 notice_text (InDoubt node) =
     codes "the lock may have been lost: node "
     ++ (decimal node ++ codes " did not say that it was held to the end")

@@ -4,7 +4,8 @@
 //! [`lock::run`] connects to a node's desk, asks for the lock, runs a command while the node lends
 //! it, and gives it back. What it does next, whatever happens, is decided by a
 //! [`LockClient`](lock_client::LockClient); here are the socket, the command, the clock and the
-//! lines on standard error. [`status::run`] asks nodes for their status lines, which
+//! lines on standard error. While the command runs, [`guard::run`] holds the lock in a second
+//! process, which takes over if the first one is killed. [`status::run`] asks nodes for their status lines, which
 //! [`StatusLine::read`](node_texts::StatusLine::read) reads.
 //!
 //! ```
@@ -18,15 +19,22 @@
 #![tactic(auto)]
 
 mod desk;
+mod driver;
+mod family;
 pub mod guard;
+mod guard_link;
+mod instants;
 pub mod lock;
 mod notice;
 mod reach;
 mod rest;
 mod session;
+mod signals;
 pub mod status;
 mod waiter;
 mod work;
 
+pub use driver::{Surroundings, drive};
+pub use guard_link::GUARDED;
 pub use lock::Request;
 pub use notice::{Cause, Fate, Notice, NoticeLine};

@@ -1,4 +1,8 @@
-//! What is told on standard error.
+//! What is reported on standard error.
+ghost use Rattle.std.specs.Prelude.{◌≡◌};
+ghost use Rattle.lock_command.specs.Notices.{loss_notice, end_notice, why_unserved};
+
+use lock_client::{Event, Outcome};
 use std::fmt;
 
 /// Why a lock is lost.
@@ -50,6 +54,12 @@ pub enum Notice<'a> {
         node: u16,
         seconds: u16,
     },
+    /// The guard of the command is gone while the command runs.
+    GuardGone(Fate),
+    /// The process that ran the command is gone, says its guard.
+    ClientGone,
+    /// No guard of the command could be started.
+    NoGuard,
     /// The lock is lost while the command runs.
     Lost {
         node: u16,
@@ -156,6 +166,20 @@ impl fmt::Display for Notice<'_> {
                 cause,
                 command,
             } => write!(f, "the lock is lost, since node {node} {cause}: {command}"),
+            Notice::GuardGone(command) => {
+                write!(
+                    f,
+                    "the second process of this lock is gone, which guards the command: {command}"
+                )
+            }
+            Notice::ClientGone => f.write_str(
+                "the first process of this lock is gone, which ran the command: the command is ended",
+            ),
+            Notice::NoGuard => {
+                f.write_str(
+                    "no second process can be started to guard the command, which was not run",
+                )
+            }
             Notice::InDoubt(node) => write!(
                 f,
                 "the lock may have been lost: node {node} did not say that it was held to the end"
@@ -169,5 +193,49 @@ impl fmt::Display for Notice<'_> {
             Notice::Memory => f.write_str("memory Refused"),
             Notice::Output => f.write_str("output Refused"),
         }
+    }
+}
+
+/// What is reported of a lock that is lost by this, and of its command.
+pub fn loss_notice<'a>(node: u16, event: Event, command: Fate) -> Notice<'a>
+    ensures { result ≡ loss_notice node event command }
+{
+    match event {
+        Event::GuardGone => Notice::GuardGone(command),
+        Event::Gone => Notice::Lost {
+            node,
+            cause: Cause::WentAway,
+            command,
+        },
+        _ => Notice::Lost {
+            node,
+            cause: Cause::Ended,
+            command,
+        },
+    }
+}
+
+/// What is reported when all ended so, by this: nothing if the command shows it, or it was reported
+/// before.
+pub fn end_notice<'a>(node: u16, seconds: u16, event: Event, outcome: Outcome) -> Option<Notice<'a>>
+    ensures { result ≡ end_notice node seconds event outcome }
+{
+    match (outcome, event) {
+        (Outcome::NoService, Event::Unserved) => None,
+        (Outcome::NoService, _) => Some(Notice::NoService(node)),
+        (Outcome::NotInTime, _) => Some(Notice::NotInTime { node, seconds }),
+        (Outcome::Lost, Event::Ended(_)) | (Outcome::Done(_) | Outcome::Stopped(_), _) => None,
+        (Outcome::Lost, _) => Some(Notice::InDoubt(node)),
+    }
+}
+
+/// What is reported of a node that closed a connection and then could not be reached for this: if
+/// nobody listens there any more, it went away.
+pub fn why_unserved(notice: Notice<'_>) -> Notice<'_>
+    ensures { result ≡ why_unserved notice.entry }
+{
+    match notice {
+        Notice::NoNode { node, .. } => Notice::WentAway(node),
+        _ => notice,
     }
 }

@@ -1,28 +1,38 @@
 //! How long to wait for what happens next.
 ghost use Rattle.std.specs.Prelude.{◌≡◌, ◌≤◌};
-ghost use Rattle.lock_command.specs.Rest.{rest_of, child_rest};
+ghost use Rattle.lock_command.specs.Rest.{rest_of, longest_of, child_rest};
 
 /// The least and the most milliseconds between two looks at a command that runs.
 const LEAST: u64 = 1;
 
 const MOST: u64 = 25;
 
-/// The most milliseconds of any rest.
+/// The most milliseconds of any rest, and of one between two looks at the signals that are held back.
 const LONGEST: u64 = 1000;
 
-/// For how many milliseconds to wait where the command has run for `age` (none where no command is
-/// looked at) and something is due in `left` (none where nothing is): a socket wakes at once, the
-/// end of a command does not.
-pub fn rest(age: Option<u64>, left: Option<u64>) -> u64
-    ensures { result ≡ rest_of age left }
+const SIGNALS: u64 = 100;
+
+/// For how many milliseconds to wait if the command has run for `age` (none if no command is looked
+/// at), something is due in `left` (none if nothing is), and signals are held back or not: a socket
+/// wakes at once, the end of a command and such a signal do not.
+pub fn rest(age: Option<u64>, left: Option<u64>, holds_signals_back: bool) -> u64
+    ensures { result ≡ rest_of age left holds_signals_back }
 {
-    let longest = match age {
-        Some(age) => child_rest(age),
-        None => LONGEST,
-    };
+    let longest = longest(age, holds_signals_back);
     match left {
         Some(left) => left.min(longest),
         None => longest,
+    }
+}
+
+/// The same if nothing is due.
+fn longest(age: Option<u64>, holds_signals_back: bool) -> u64
+    ensures { result ≡ longest_of age holds_signals_back }
+{
+    match age {
+        Some(age) => child_rest(age),
+        None if holds_signals_back => SIGNALS,
+        None => LONGEST,
     }
 }
 

@@ -1,62 +1,104 @@
 //! One time that the lock is taken.
+ghost use Rattle.std.specs.Prelude.{None};
+
 use crate::desk::{Desk, Heard};
-use crate::guard::parent_line;
-use crate::lock::Request;
-use crate::notice::{Cause, Fate, Notice, NoticeLine};
+use crate::driver::Surroundings;
+use crate::family::{new_mark, with_marks_before};
+use crate::guard::GRACE;
+use crate::guard_link::GuardLink;
+use crate::instants::{after, is_past, millis};
+use crate::lock::{Request, desk_of};
+use crate::notice::{Fate, Notice, NoticeLine, end_notice, loss_notice, why_unserved};
 use crate::rest::rest;
+use crate::signals::signal_state;
 use crate::waiter::Waiter;
 use crate::work::{Work, start};
-use lock_client::{CommandEnd, Deed, Event, LockClient, Outcome, Stage, spawn_end};
+use lock_client::{CommandEnd, Deed, Event, Outcome, Signal, Signals, spawn_end};
 use lock_desk::ClientLine;
-use std::alloc::Global;
 use std::io::{ErrorKind, Input};
 use std::net::Net;
+use std::os::fd::AsFd;
 use std::process::{OpenProcess, Processes};
-use std::rt::Files;
+use std::rt::{Env, Files};
 use std::sync::Wait;
-use std::thread;
 use std::time::{Clock, Duration, Instant};
+use std::{io, thread};
 
-/// For how many milliseconds a client rests that was told that the desk is full, before it asks
-/// again.
+/// For how many milliseconds a client rests that was told that the desk is full, or was closed,
+/// before it asks again.
 const FULL_REST: u64 = 100;
 
 /// For how many seconds the node's word is awaited that it took the lock back.
 const WORD: u64 = 10;
 
-/// For how many seconds a command may run on that was asked to end; then it is killed.
-const GRACE: u64 = 3;
+/// After how many seconds whoever is left is killed again: it may have started somebody meanwhile.
+const KILL_AGAIN: u64 = 1;
 
-/// One time that the lock is taken: the connection, the command, what is due, and the machine that
-/// decides.
+/// For how many milliseconds is rested between two looks for what a command started.
+const FAMILY_REST: u64 = 100;
+
+/// One time that the lock is taken: the connection, the command and its guard, and what is due.
 #[derive(Drop)]
 pub struct Session<'a, P: OpenProcess> {
     request: Request<'a>,
-    client: LockClient,
     /// The connection; none once it is gone.
     desk: Option<Desk>,
-    /// Whether the connection failed in a write, and the machine was not told yet.
+    /// Whether the connection failed in a write, and nobody was told yet.
     has_failed: bool,
+    /// Whether no connection could be had again, and nobody was told yet.
+    is_unserved: bool,
     waiter: Waiter,
     work: Work<P>,
+    /// The guard of the command; none before it is started and once the command has ended.
+    guard: Option<GuardLink>,
+    /// The mark of the command and of whatever it starts.
+    mark: String,
+    /// Whether whatever the command started is awaited to end too.
+    awaits_family: bool,
+    /// Whether signals are held back, so that they must be looked for.
+    holds_signals_back: bool,
+    /// The signals that were looked at.
+    seen: Signals,
     /// What time it is, as far as the clock could be read.
     now: Instant,
     /// When the command was started.
     started: Instant,
-    /// When the machine's time is up.
+    /// When the time of the client is up.
     due: Option<Instant>,
     /// When a command that was asked to end is killed.
     kill_due: Option<Instant>,
-    /// The line that names the process that started this one; none where its end means nothing.
-    parent: Option<String>,
+}
+
+/// A session and the system that it stands on.
+#[derive(Drop)]
+pub struct Live<'a, R, S> {
+    /// The system.
+    pub rt: &'a R,
+    /// The session.
+    pub session: S,
+}
+
+impl<
+    'a,
+    R: Env + Net + Files + Processes + Clock + Input + Print + Eprint + AllocGlobal + Wait,
+> Surroundings for Live<'_, R, Session<'a, R::Started>> {
+    ghost told = { λ _. None };
+
+    fn next_event(&mut self) -> Event {
+        self.session.next_event(self.rt)
+    }
+
+    fn act(&mut self, event: Event, deed: Deed) {
+        self.session.act(self.rt, event, deed)
+    }
 }
 
 impl<'a, P: OpenProcess + Drop> Session<'a, P> {
     /// Asks for the lock on this connection.
     ///
     /// # Errors
-    /// Where the connection or the system fails at once, or memory runs out.
-    pub fn new<R: Net + Files + Clock + AllocGlobal>(
+    /// If the connection or the system fails at once, or memory runs out.
+    pub fn new<R: Env + Net + Files + Clock + AllocGlobal>(
         rt: &R,
         request: Request<'a>,
         mut desk: Desk,
@@ -64,101 +106,69 @@ impl<'a, P: OpenProcess + Drop> Session<'a, P> {
         let Ok(now) = Instant::now(rt) else {
             return Err(Notice::System);
         };
+        let Ok(mark) = new_mark(rt) else {
+            return Err(Notice::Memory);
+        };
         let waiter = match Waiter::new(rt, rt.alloc(), desk.stream()) {
             Ok(waiter) => waiter,
             Err(error) => return Err(why_no_wait(error.kind())),
         };
         let has_failed = desk.write(ClientLine::Lock).is_err();
-        let due = match request.seconds {
-            Some(seconds) => now.checked_add(Duration::from_secs(u64::from(seconds))),
-            None => None,
-        };
         Ok(Session {
             request,
-            client: LockClient::new(request.keeps_running),
             desk: Some(desk),
             has_failed,
+            is_unserved: false,
             waiter,
             work: Work::None,
+            guard: None,
+            mark,
+            awaits_family: request.waits_for_children,
+            holds_signals_back: signal_state(rt).blocked.any(),
+            seen: Signals::none(),
             now,
             started: now,
-            due,
+            due: after(now, request.seconds),
             kill_due: None,
-            parent: if request.guarded {
-                parent_line(rt)
-            } else {
-                None
-            },
         })
     }
 
-    /// Lets happen what happens, until all is over.
-    pub fn run<
-        R: Net
-            + Files
-            + Processes<Started = P>
-            + Clock
-            + Input
-            + Print
-            + Eprint
-            + AllocGlobal
-            + Wait,
-    >(&mut self, rt: &R) -> Outcome {
-        let alloc = rt.alloc();
+    /// Waits for what happens next: the node's word goes first.
+    fn next_event<R: Files + Processes + Clock + Input + Eprint + AllocGlobal + Wait>(
+        &mut self,
+        rt: &R,
+    ) -> Event {
         for _ in rt.forever() {
             self.look_at_the_clock(rt);
-            if self.lost_its_parent(rt) {
-                if self.client.stage() == Stage::Asking {
-                    return Outcome::NoService;
-                }
-                self.end_command(rt, alloc);
+            if let Some(event) = self.from_others() {
+                return event;
             }
-            match self.next_event(rt) {
-                Some(event) => {
-                    if let Some(outcome) = self.take(rt, alloc, event) {
-                        return outcome;
-                    }
-                }
-                None => self.rest(),
+            if let Some(event) = self.from_here(rt) {
+                return event;
             }
+            self.rest();
         }
         unreachable!()
     }
 
     /// Notes what time it is, and kills a command that has had its grace. A clock that cannot be
     /// read stands still.
-    fn look_at_the_clock<R: Clock>(&mut self, rt: &R) {
+    fn look_at_the_clock<R: Files + Processes + Clock + AllocGlobal>(&mut self, rt: &R) {
         if let Ok(now) = Instant::now(rt) {
             self.now = now;
         }
         if is_past(self.kill_due, self.now) {
-            self.kill_due = None;
-            self.work.kill();
+            self.kill_due = self.now.checked_add(Duration::from_secs(KILL_AGAIN));
+            self.work.kill(rt, self.mark.as_str());
         }
     }
 
-    /// Whether the process that started this one is gone, the first time that this is seen. Where the
-    /// system does not tell which process that is, it counts as there.
-    fn lost_its_parent<R: Files + AllocGlobal>(&mut self, rt: &R) -> bool {
-        if self.parent.is_none() {
-            return false;
+    /// What the node or the guard lets happen.
+    fn from_others(&mut self) -> Option<Event> {
+        if self.is_unserved {
+            self.is_unserved = false;
+            return Some(Event::Unserved);
         }
-        let line = parent_line(rt);
-        if line.is_none() || line == self.parent {
-            return false;
-        }
-        self.parent = None;
-        true
-    }
-
-    /// Asks the command to end, and has it killed later.
-    fn end_command<R: Processes<Started = P>>(&mut self, rt: &R, alloc: Global) {
-        self.kill_due = self.now.checked_add(Duration::from_secs(GRACE));
-        self.work.end(rt, alloc);
-    }
-
-    /// What happened, if anything did: the node's word goes first.
-    fn next_event<R: Input + Eprint>(&mut self, rt: &R) -> Option<Event> {
         match self.hear() {
             Heard::Line(answer) => return Some(Event::Line(answer)),
             Heard::Gone => {
@@ -168,13 +178,9 @@ impl<'a, P: OpenProcess + Drop> Session<'a, P> {
             }
             Heard::Nothing => {}
         }
-        let has_input = self.waiter.takes_input();
-        if let Some(end) = self.work.ended(rt, has_input) {
-            return Some(Event::Ended(end));
-        }
-        if is_past(self.due, self.now) {
-            self.due = None;
-            return Some(Event::TimeIsUp);
+        if self.has_lost_its_guard() {
+            self.guard = None;
+            return Some(Event::GuardGone);
         }
         None
     }
@@ -188,35 +194,100 @@ impl<'a, P: OpenProcess + Drop> Session<'a, P> {
         }
     }
 
-    /// Does what is to be done now that this happened; how all ends, where that ends it.
-    fn take<R: Net + Processes<Started = P> + Clock + Print + Eprint>(
+    /// Whether there was a guard, which has ended.
+    fn has_lost_its_guard(&mut self) -> bool {
+        match &mut self.guard {
+            Some(guard) => guard.is_gone(),
+            None => false,
+        }
+    }
+
+    /// What the user, the command or the clock lets happen.
+    fn from_here<R: Files + Input + Eprint + AllocGlobal>(&mut self, rt: &R) -> Option<Event> {
+        if let Some(signal) = self.new_signal(rt) {
+            return Some(self.signalled(signal));
+        }
+        let has_input = self.waiter.takes_input();
+        if let Some(end) = self.command_end(rt, has_input) {
+            return Some(Event::Ended(end));
+        }
+        if is_past(self.due, self.now) {
+            self.due = None;
+            return Some(Event::TimeIsUp);
+        }
+        None
+    }
+
+    /// A signal that came and is held back, the first time that it is seen.
+    fn new_signal<R: Files + AllocGlobal>(&mut self, rt: &R) -> Option<Signal> {
+        if !self.holds_signals_back {
+            return None;
+        }
+        let signal = signal_state(rt).pending.first_besides(self.seen)?;
+        self.seen = self.seen.including(signal);
+        Some(signal)
+    }
+
+    /// What a signal lets happen: without a command, it ends the time for which the lock is held.
+    fn signalled(&mut self, signal: Signal) -> Event {
+        match self.work {
+            Work::Input => {
+                self.work = Work::None;
+                Event::Ended(CommandEnd::Killed(signal.number()))
+            }
+            _ => Event::Signal(signal),
+        }
+    }
+
+    /// How the command ended, once it has, and whatever else is awaited; then the guard may go.
+    fn command_end<R: Files + Input + Eprint + AllocGlobal>(
         &mut self,
         rt: &R,
-        alloc: Global,
+        has_input: bool,
+    ) -> Option<CommandEnd> {
+        if let Some(end) = self.work.ended(rt, has_input) {
+            if !self.awaits_family {
+                return Some(self.dismiss_guard(end));
+            }
+            self.work = Work::Family(end);
+        }
+        let end = self.work.family_ended(rt, self.mark.as_str())?;
+        Some(self.dismiss_guard(end))
+    }
+
+    /// Says to the guard that the command has ended so.
+    fn dismiss_guard(&mut self, end: CommandEnd) -> CommandEnd {
+        if let Some(guard) = &mut self.guard {
+            guard.say("done\n");
+        }
+        self.guard = None;
+        end
+    }
+
+    /// Does what is to be done now that this happened.
+    fn act<R: Env + Net + Files + Processes<Started = P> + Clock + Print + Eprint + AllocGlobal>(
+        &mut self,
+        rt: &R,
         event: Event,
-    ) -> Option<Outcome> {
-        match self.client.step(event) {
+        deed: Deed,
+    ) {
+        match deed {
             Deed::Wait => {}
             Deed::AskAgain => {
                 thread::sleep(rt, Duration::from_millis(FULL_REST));
                 self.write(ClientLine::Lock);
             }
-            Deed::Start => self.start(rt, alloc),
+            Deed::ConnectAgain => self.connect_again(rt),
+            Deed::Start => self.start(rt),
+            Deed::PassOn => self.work.pass_on(rt),
             Deed::GiveBack => {
                 self.due = self.now.checked_add(Duration::from_secs(WORD));
                 self.write(ClientLine::Unlock);
             }
-            Deed::EndCommand => {
-                self.tell_lost(rt, event, Fate::Ended);
-                self.end_command(rt, alloc);
-            }
-            Deed::SayLost => self.tell_lost(rt, event, Fate::RunsOn),
-            Deed::Finish(outcome) => {
-                self.tell_end(rt, event, outcome);
-                return Some(outcome);
-            }
+            Deed::EndCommand => self.end_command(rt, event),
+            Deed::SayLost => self.report_loss(rt, event, Fate::RunsOn),
+            Deed::Finish(outcome) => self.report_end(rt, event, outcome),
         }
-        None
     }
 
     /// Writes a line to the node.
@@ -226,25 +297,88 @@ impl<'a, P: OpenProcess + Drop> Session<'a, P> {
         }
     }
 
-    /// Starts the command, or prints that the lock is granted.
-    fn start<R: Processes<Started = P> + Print + Eprint>(&mut self, rt: &R, alloc: Global) {
+    /// Connects again, after a rest, and asks for the lock.
+    fn connect_again<R: Net + Files + Clock + Eprint + AllocGlobal>(&mut self, rt: &R) {
+        thread::sleep(rt, Duration::from_millis(FULL_REST));
+        match desk_of(rt, &self.request) {
+            Ok(mut desk) => {
+                self.has_failed = self.waiter.watch(desk.stream()).is_err()
+                    || desk.write(ClientLine::Lock).is_err();
+                self.desk = Some(desk);
+            }
+            Err(notice) => {
+                let _ = rt.eprintln(NoticeLine(why_unserved(notice)));
+                self.is_unserved = true;
+            }
+        }
+    }
+
+    /// Starts the command and its guard, or prints that the lock is granted.
+    fn start<R: Env + Net + Files + Processes<Started = P> + Print + Eprint + AllocGlobal>(
+        &mut self,
+        rt: &R,
+    ) {
         self.due = None;
         self.started = self.now;
-        let Some(name) = self.request.command.first() else {
+        if self.request.command.is_empty() {
             return self.start_waiting(rt);
-        };
-        self.work = match start(rt, alloc, self.request.command) {
-            Ok(child) => Work::Running(child),
-            Err(error) => {
-                let end = spawn_end(error.kind());
-                let notice = match end {
-                    CommandEnd::NotThere => Notice::NoCommand(name),
-                    _ => Notice::CannotRun(name),
-                };
-                let _ = rt.eprintln(NoticeLine(notice));
-                Work::Done(end)
+        }
+        match self.start_guard(rt) {
+            Ok(()) => self.start_command(rt),
+            Err(_) => {
+                let _ = rt.eprintln(NoticeLine(Notice::NoGuard));
+                self.work = Work::Done(CommandEnd::NotGuarded);
             }
+        }
+    }
+
+    /// Starts the guard, and announces the command to it.
+    fn start_guard<R: Net + Files + Processes + AllocGlobal>(&mut self, rt: &R) -> io::Result<()> {
+        let Some(desk) = &mut self.desk else {
+            return Err(io::Error::from(ErrorKind::NotConnected));
         };
+        let connection = desk.stream().as_fd().try_clone_to_owned()?;
+        let words = self.request.guard;
+        let mut guard = GuardLink::start(rt, words, self.mark.as_str(), connection)?;
+        self.waiter.watch_guard(guard.stream())?;
+        guard.say("start\n");
+        self.guard = Some(guard);
+        Ok(())
+    }
+
+    /// Starts the command, and says to the guard which process it is.
+    fn start_command<R: Env + Processes<Started = P> + Eprint + AllocGlobal>(&mut self, rt: &R) {
+        let started = match with_marks_before(rt, self.mark.as_str()) {
+            Ok(marks) => start(rt, rt.alloc(), self.request.command, marks.as_str()),
+            Err(error) => Err(io::Error::from(error)),
+        };
+        self.work = match started {
+            Ok(child) => {
+                self.announce(rt, child.id());
+                Work::Running(child)
+            }
+            Err(error) => Work::Done(self.report_no_start(rt, error.kind())),
+        };
+    }
+
+    /// Says to the guard which process the command is.
+    fn announce<R: AllocGlobal>(&mut self, rt: &R, process: u32) {
+        if let Ok(line) = format!(in rt.alloc(); "runs {process}\n")
+            && let Some(guard) = &mut self.guard
+        {
+            guard.say(line.as_str());
+        }
+    }
+
+    /// Reports that the command could not be started for this reason.
+    fn report_no_start<R: Eprint>(&self, rt: &R, kind: ErrorKind) -> CommandEnd {
+        let name = self.request.command.first().copied().unwrap_or("");
+        let end = spawn_end(kind);
+        let _ = rt.eprintln(NoticeLine(match end {
+            CommandEnd::NotThere => Notice::NoCommand(name),
+            _ => Notice::CannotRun(name),
+        }));
+        end
     }
 
     /// Says that the lock is granted, and waits for the end of standard input from now on.
@@ -261,56 +395,48 @@ impl<'a, P: OpenProcess + Drop> Session<'a, P> {
         };
     }
 
-    /// Tells that the lock is lost, by what happened, and what becomes of the command.
-    fn tell_lost<R: Eprint>(&self, rt: &R, event: Event, fate: Fate) {
-        let command = if self.request.command.is_empty() {
-            Fate::NoCommand
-        } else {
-            fate
-        };
-        let _ = rt.eprintln(NoticeLine(Notice::Lost {
-            node: self.request.node,
-            cause: cause(event),
-            command,
-        }));
+    /// Asks the command to end, and has it killed later.
+    fn end_command<R: Files + Processes + Eprint + AllocGlobal>(&mut self, rt: &R, event: Event) {
+        self.report_loss(rt, event, Fate::Ended);
+        self.awaits_family = true;
+        self.kill_due = self.now.checked_add(Duration::from_secs(GRACE));
+        self.work.end(rt, self.mark.as_str());
     }
 
-    /// Tells why all ended so, where it was not told before and the command does not tell itself.
-    fn tell_end<R: Eprint>(&self, rt: &R, event: Event, outcome: Outcome) {
+    /// Reports that the lock is lost, by what happened, and what becomes of the command.
+    fn report_loss<R: Eprint>(&self, rt: &R, event: Event, fate: Fate) {
+        let has_command = !self.request.command.is_empty();
+        let command = if has_command { fate } else { Fate::NoCommand };
         let node = self.request.node;
-        let notice = match (outcome, event) {
-            (Outcome::NoService, Event::Gone) => Notice::WentAway(node),
-            (Outcome::NoService, _) => Notice::NoService(node),
-            (Outcome::NotInTime, _) => Notice::NotInTime {
-                node,
-                seconds: self.request.seconds.unwrap_or(0),
-            },
-            (Outcome::Lost, Event::Ended(_)) | (Outcome::Done(_), _) => return,
-            (Outcome::Lost, _) => Notice::InDoubt(node),
-        };
-        let _ = rt.eprintln(NoticeLine(notice));
+        let _ = rt.eprintln(NoticeLine(loss_notice(node, event, command)));
+    }
+
+    /// Reports why all ended so, if it was not reported before and the command does not show it.
+    fn report_end<R: Eprint>(&self, rt: &R, event: Event, outcome: Outcome) {
+        let seconds = self.request.seconds.unwrap_or(0);
+        if let Some(notice) = end_notice(self.request.node, seconds, event, outcome) {
+            let _ = rt.eprintln(NoticeLine(notice));
+        }
     }
 
     /// Waits for what happens next.
     fn rest(&mut self) {
-        let age = if self.work.is_looked_at() {
+        let age = if self.work.is_running() {
             Some(millis(self.now.duration_since(self.started)))
         } else {
             None
         };
-        let left = match self.due {
-            Some(due) => Some(millis(due.duration_since(self.now)).saturating_add(1)),
-            None => None,
-        };
-        self.waiter.wait(rest(age, left));
+        let rest = rest(age, self.left(), self.holds_signals_back);
+        self.waiter.wait(rest);
     }
-}
 
-/// Why a lock is lost that is lost by this.
-fn cause(event: Event) -> Cause {
-    match event {
-        Event::Gone => Cause::WentAway,
-        _ => Cause::Ended,
+    /// In how many milliseconds something is due.
+    fn left(&self) -> Option<u64> {
+        if self.work.is_family() {
+            return Some(FAMILY_REST);
+        }
+        let due = self.due?;
+        Some(millis(due.duration_since(self.now)).saturating_add(1))
     }
 }
 
@@ -320,14 +446,4 @@ fn why_no_wait<'a>(kind: ErrorKind) -> Notice<'a> {
         ErrorKind::OutOfMemory => Notice::Memory,
         _ => Notice::System,
     }
-}
-
-/// Whether something is due.
-fn is_past(due: Option<Instant>, now: Instant) -> bool {
-    due.is_some_and(|due| due <= now)
-}
-
-/// A time in whole milliseconds.
-fn millis(time: Duration) -> u64 {
-    u64::try_from(time.as_millis()).unwrap_or(u64::MAX)
 }

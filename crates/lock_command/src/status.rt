@@ -19,6 +19,10 @@ const LOOKS: u32 = 1000;
 
 const BETWEEN_LOOKS: u64 = 1;
 
+/// At every how many looks a node is asked again that closed the connection, as one does that has no
+/// room for a client.
+const LOOKS_AGAIN: u32 = 100;
+
 /// The status where a node gave no answer.
 const NO_ANSWER: u8 = 1;
 
@@ -26,15 +30,20 @@ const NO_ANSWER: u8 = 1;
 #[derive(Drop)]
 struct Asked {
     node: u16,
-    /// The connection; none where there is none, or the line has come.
+    /// The path of its socket.
+    path: String,
+    /// The connection; none if there is none, or the line has come.
     stream: Option<UnixStream>,
+    /// Whether it closed the connection and gave no line.
+    is_closed: bool,
     half: HalfLine<MOST_STATUS_BYTES>,
     line: Option<StatusLine>,
 }
 
 /// Prints the status line of each of these nodes, or of each that has a socket in the folder where
-/// none is named, by ascending id; and how many of them are privileged, and lend. A node that gives
-/// no line within a second is told to have given none. Answers the status to end with: 1 where a
+/// none is named, by ascending id; and how many of them are privileged, and lend. A node that closes the
+/// connection, as one does that has no room, is asked again. One that gives no line within a second
+/// is reported to have given none. Answers the status to end with: 1 where a
 /// node gave none, or there is none.
 ///
 /// What the nodes answer no contract can say; how their lines are read, and what is printed of
@@ -137,12 +146,12 @@ fn ask_all<R: Net + Clock>(
     for node in nodes {
         all.push(ask(rt, alloc, folder, *node)?)?;
     }
-    for _ in 0..LOOKS {
-        let mut waits = false;
-        for asked in all.iter_mut() {
-            waits |= asked.look();
-        }
-        if !waits {
+    for look in 0..LOOKS {
+        if !look_at_all(
+            rt,
+            all.as_mut_slice(),
+            look % LOOKS_AGAIN == LOOKS_AGAIN - 1,
+        ) {
             break;
         }
         thread::sleep(rt, Duration::from_millis(BETWEEN_LOOKS));
@@ -157,43 +166,78 @@ fn ask_all<R: Net + Clock>(
     Ok(answers)
 }
 
+/// Looks at what came of each, and asks those again that closed the connection, if it is time to.
+/// Whether a line is still waited for.
+fn look_at_all<R: Net>(rt: &R, all: &mut [Asked], is_time: bool) -> bool {
+    let mut waits = false;
+    for asked in all {
+        if is_time && asked.is_closed {
+            asked.ask_again(rt);
+        }
+        waits |= asked.look();
+    }
+    waits
+}
+
 /// Asks one node. What the system or memory has not to give is no node's silence, and is answered.
 fn ask<R: Net>(rt: &R, alloc: Global, folder: &str, node: u16) -> io::Result<Asked> {
     let path = desk_path(alloc, folder, node)?;
-    let stream = match UnixStream::connect(rt, path.as_str()) {
-        Ok(mut stream) => match stream.write_all(spelled(ClientLine::Status)) {
-            Ok(()) => Some(stream),
-            Err(_) => None,
-        },
-        Err(error) => match error.kind() {
-            ErrorKind::Uncategorized | ErrorKind::OutOfMemory => return Err(error),
-            _ => None,
-        },
-    };
+    let stream = connect(rt, path.as_str())?;
     Ok(Asked {
         node,
+        path,
         stream,
+        is_closed: false,
         half: HalfLine::new(),
         line: None,
     })
 }
 
+/// A connection that has asked for a status line; none if nobody takes it.
+fn connect<R: Net>(rt: &R, path: &str) -> io::Result<Option<UnixStream>> {
+    match UnixStream::connect(rt, path) {
+        Ok(mut stream) => match stream.write_all(spelled(ClientLine::Status)) {
+            Ok(()) => Ok(Some(stream)),
+            Err(_) => Ok(None),
+        },
+        Err(error) => match error.kind() {
+            ErrorKind::Uncategorized | ErrorKind::OutOfMemory => Err(error),
+            _ => Ok(None),
+        },
+    }
+}
+
 impl Asked {
+    /// Connects once more. If nobody listens any more, no line is waited for.
+    fn ask_again<R: Net>(&mut self, rt: &R) {
+        self.is_closed = false;
+        self.half = HalfLine::new();
+        if let Ok(stream) = connect(rt, self.path.as_str()) {
+            self.stream = stream;
+        }
+    }
+
     /// Reads what came; whether the line is still waited for.
     fn look(&mut self) -> bool {
         let mut piece = [0u8; MOST_STATUS_BYTES];
         let Some(stream) = &mut self.stream else {
-            return false;
+            return self.is_closed;
         };
         match stream.read(&mut piece) {
-            Ok(0) => self.stream = None,
+            Ok(0) => self.close(),
             Ok(count) => self.take(&piece[..count.min(MOST_STATUS_BYTES)]),
             Err(error) => match error.kind() {
                 ErrorKind::WouldBlock | ErrorKind::Interrupted => {}
-                _ => self.stream = None,
+                _ => self.close(),
             },
         }
-        self.stream.is_some()
+        self.stream.is_some() || self.is_closed
+    }
+
+    /// Takes note that the node closed the connection.
+    fn close(&mut self) {
+        self.stream = None;
+        self.is_closed = true;
     }
 
     /// Takes these bytes. The first line is the answer, where it is a status line of this node.

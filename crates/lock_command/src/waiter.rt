@@ -1,4 +1,4 @@
-//! Waiting for a socket and for standard input at once.
+//! Waiting for sockets and for standard input at once.
 use mio::event::Source;
 use mio::net::UnixStream;
 use mio::unix::SourceFd;
@@ -11,13 +11,15 @@ use std::time::Duration;
 /// The descriptor of standard input.
 const INPUT: i32 = 0;
 
-/// Under which tokens the two are waited for.
+/// Under which tokens they are waited for.
 const DESK: Token = Token(0);
 
 const STANDARD_INPUT: Token = Token(1);
 
-/// Waits for a desk's connection and, once it is told to, for standard input. What the system says
-/// of either is in no contract.
+const GUARD: Token = Token(2);
+
+/// Waits for a desk's connection and, once it is asked to, for a guard and for standard input. What
+/// the system says of them is in no contract.
 #[derive(Drop)]
 pub struct Waiter {
     poll: Poll,
@@ -44,13 +46,33 @@ impl Waiter {
     /// # Errors
     /// What the system answers; `OutOfMemory`.
     pub fn new<R: Net>(rt: &R, alloc: Global, desk: &mut UnixStream) -> io::Result<Waiter> {
-        let poll = Poll::new(rt)?;
-        poll.registry().register(desk, DESK, Interest::READABLE)?;
-        Ok(Waiter {
-            poll,
+        let waiter = Waiter {
+            poll: Poll::new(rt)?,
             events: Events::with_capacity(alloc, 4)?,
             input: Watch::Not,
-        })
+        };
+        waiter.watch(desk)?;
+        Ok(waiter)
+    }
+
+    /// Waits for this connection too, as that of the desk.
+    ///
+    /// # Errors
+    /// What the system answers.
+    pub fn watch(&self, desk: &mut UnixStream) -> io::Result<()> {
+        self.poll
+            .registry()
+            .register(desk, DESK, Interest::READABLE)
+    }
+
+    /// Waits for a guard too, from now on.
+    ///
+    /// # Errors
+    /// What the system answers.
+    pub fn watch_guard(&self, guard: &mut UnixStream) -> io::Result<()> {
+        self.poll
+            .registry()
+            .register(guard, GUARD, Interest::READABLE)
     }
 
     /// Waits for standard input too, from now on.

@@ -1,10 +1,12 @@
 //! What is done under the lock: a command, or waiting for the end of standard input.
+use crate::family::{MARKS, members, send};
 use crate::notice::{Notice, NoticeLine};
 use lock_client::{CommandEnd, UNKNOWN_STATUS, command_end};
 use std::alloc::Global;
 use std::io;
 use std::io::{ErrorKind, Input, Read};
-use std::process::{Child, Command, OpenProcess, Processes, Stdio};
+use std::process::{Child, Command, OpenProcess, Processes};
+use std::rt::Files;
 
 /// What is done under the lock.
 #[derive(Drop)]
@@ -13,37 +15,50 @@ pub enum Work<P: OpenProcess> {
     None,
     /// A command runs.
     Running(Child<P>),
+    /// The command ended so; what it started is awaited to end.
+    Family(CommandEnd),
     /// Standard input is awaited to end.
     Input,
     /// It is done, so, and nobody was told.
     Done(CommandEnd),
 }
 
-/// Starts a command with our standard streams. The first word is its name, or its path where it has
-/// a slash.
+/// Starts a command with our standard streams and these marks. The first word is its name, or its
+/// path if it has a slash.
 ///
 /// # Errors
-/// What the system answers where it is not there or cannot be run; `OutOfMemory`.
-pub fn start<R: Processes>(rt: &R, alloc: Global, words: &[&str]) -> io::Result<Child<R::Started>> {
+/// What the system answers if it is not there or cannot be run; `OutOfMemory`.
+pub fn start<R: Processes>(
+    rt: &R,
+    alloc: Global,
+    words: &[&str],
+    marks: &str,
+) -> io::Result<Child<R::Started>> {
     let [name, arguments @ ..] = words else {
         return Err(io::Error::from(ErrorKind::NotFound));
     };
     let mut command = Command::new(alloc, *name)?;
     command.args(arguments.iter().copied())?;
+    command.env(MARKS, marks)?;
     command.spawn(rt)
 }
 
 impl<P: OpenProcess + Drop> Work<P> {
-    /// Whether its end is seen only by looking.
-    pub fn is_looked_at(&self) -> bool {
+    /// Whether a command runs, whose end is seen only by looking.
+    pub fn is_running(&self) -> bool {
         matches!(self, Work::Running(_))
     }
 
-    /// How it ended, the first time that this is known. Standard input is read where it has
-    /// something to read, and what it holds is dropped.
+    /// Whether what a command started is awaited.
+    pub fn is_family(&self) -> bool {
+        matches!(self, Work::Family(_))
+    }
+
+    /// How it ended, the first time that this is known. Standard input is read if it has something to
+    /// read, and what it holds is dropped.
     pub fn ended<R: Input + Eprint>(&mut self, rt: &R, has_input: bool) -> Option<CommandEnd> {
         let end = match self {
-            Work::None => None,
+            Work::None | Work::Family(_) => None,
             Work::Running(child) => look(rt, child),
             Work::Input if has_input => read_input(rt),
             Work::Input => None,
@@ -55,29 +70,72 @@ impl<P: OpenProcess + Drop> Work<P> {
         end
     }
 
-    /// Asks a command to end, by SIGTERM, or kills it where it cannot be asked. Standard input is
-    /// awaited no more.
-    pub fn end<R: Processes>(&mut self, rt: &R, alloc: Global) {
+    /// How the command ended, once nobody with this mark is left.
+    pub fn family_ended<R: Files + AllocGlobal>(
+        &mut self,
+        rt: &R,
+        mark: &str,
+    ) -> Option<CommandEnd> {
+        let Work::Family(end) = *self else {
+            return None;
+        };
+        if members(rt, mark).is_ok_and(|left| !left.is_empty()) {
+            return None;
+        }
+        *self = Work::None;
+        Some(end)
+    }
+
+    /// Asks the command, and whatever it started and has this mark, to end, by SIGTERM; kills the
+    /// command if nobody can be asked. Standard input is awaited no more.
+    pub fn end<R: Files + Processes + AllocGlobal>(&mut self, rt: &R, mark: &str) {
         match self {
             Work::Running(child) => {
-                if ask_to_end(rt, alloc, child.id()).is_err() {
+                let family = family_of(rt, child.id(), mark);
+                if send(rt, "TERM", family.as_slice()).is_err() {
                     let _ = child.kill();
                 }
             }
             Work::Input => *self = Work::Done(CommandEnd::Exited(0)),
-            Work::None | Work::Done(_) => {}
+            Work::None | Work::Family(_) | Work::Done(_) => {}
         }
     }
 
-    /// Kills a command, by SIGKILL.
-    pub fn kill(&mut self) {
+    /// Hands SIGTERM on to the command alone.
+    pub fn pass_on<R: Processes + AllocGlobal>(&mut self, rt: &R) {
+        match self {
+            Work::Running(child) => {
+                let _ = send(rt, "TERM", &[child.id()]);
+            }
+            Work::Input => *self = Work::Done(CommandEnd::Killed(15)),
+            Work::None | Work::Family(_) | Work::Done(_) => {}
+        }
+    }
+
+    /// Kills the command, and whatever it started and has this mark, by SIGKILL.
+    pub fn kill<R: Files + Processes + AllocGlobal>(&mut self, rt: &R, mark: &str) {
         if let Work::Running(child) = self {
             let _ = child.kill();
+        }
+        if let Ok(family) = members(rt, mark) {
+            let _ = send(rt, "KILL", family.as_slice());
         }
     }
 }
 
-/// How a command ended, if it did; it is told where the system does not say how.
+/// The command's process, and those that have this mark. If `/proc` cannot be read, the first alone.
+fn family_of<R: Files + AllocGlobal>(rt: &R, command: u32, mark: &str) -> Vec<u32> {
+    let mut family = match members(rt, mark) {
+        Ok(family) => family,
+        Err(_) => Vec::new(rt.alloc()),
+    };
+    if !family.as_slice().contains(&command) {
+        let _ = family.push(command);
+    }
+    family
+}
+
+/// How a command ended, if it did; it is reported if the system does not say how.
 fn look<R: Eprint, P: OpenProcess>(rt: &R, child: &mut Child<P>) -> Option<CommandEnd> {
     match child.try_wait() {
         Ok(Some(status)) => Some(command_end(status)),
@@ -99,26 +157,4 @@ fn read_input<R: Input>(rt: &R) -> Option<CommandEnd> {
         Err(error) if error.kind() == ErrorKind::Interrupted => None,
         Err(_) => Some(CommandEnd::Exited(0)),
     }
-}
-
-/// Sends SIGTERM to a process, by the shell's own `kill`, since the library has SIGKILL alone.
-fn ask_to_end<R: Processes>(rt: &R, alloc: Global, process: u32) -> io::Result<()> {
-    let number = format!(in alloc; "{process}")?;
-    let mut command = shell(alloc)?;
-    command.args(["-c", "kill -TERM \"$0\"", number.as_str()])?;
-    if command.status(rt)?.success() {
-        Ok(())
-    } else {
-        Err(io::Error::from(ErrorKind::Other))
-    }
-}
-
-/// The shell, which reads nothing and whose output goes nowhere.
-fn shell(alloc: Global) -> io::Result<Command> {
-    let mut command = Command::new(alloc, "/bin/sh")?;
-    command
-        .stdin(Stdio::null())
-        .stdout(Stdio::null())
-        .stderr(Stdio::null());
-    Ok(command)
 }

@@ -4,3 +4,4 @@ mod LinkMoves
 mod LinkPlaces
 mod PairTables
 mod JoinedPairs
+mod RowsLinks

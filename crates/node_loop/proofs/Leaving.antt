@@ -26,6 +26,10 @@ strangers-stay t u d s = grind (arith, common_steps, nat_tests, not-more-without
 pub strangers-tick : (lease : ℕ) (privileged : Bool) (u : ℕ) (d : DeskState) → is_stranger u d ≡ true → is_stranger u (desk_ticked lease privileged d) ≡ true
 strangers-tick lease privileged u d s = grind (arith, common_steps, nat_tests)
 
+-- so whoever is known after a tick was known before it
+pub known-tick : (lease : ℕ) (privileged : Bool) (u : ℕ) (d : DeskState) → is_stranger u (desk_ticked lease privileged d) ≡ false → is_stranger u d ≡ false
+known-tick lease privileged u d k = grind (arith, common_steps, strangers-tick lease privileged u d, k)
+
 -- a list without a ticket is no longer
 length-without : (t : ℕ) (xs : List ℕ) → length (without t xs) ≤ length xs
 length-without t [] = omega arith

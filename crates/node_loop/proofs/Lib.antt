@@ -3,3 +3,8 @@ pub mod Leaving
 pub mod Sights
 pub mod Pushing
 pub mod Speaking
+pub mod Hearing
+pub mod Turning
+pub mod Loose
+pub mod Accounts
+mod Rows

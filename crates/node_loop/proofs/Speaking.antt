@@ -1,12 +1,20 @@
 -- Speaking to the neighbours, one after the other.
-use Rattle.std.proofs.Common.{◌≡◌, ◌≢◌, ◌⊎◌, ◌<◌, ◌≤◌, ◌+◌, ℕ, Bool, false, List, Option, Contains, slice_get, slice_index_or, refl, inl, inr, sym, arith, ◌∙◌, subst}
+use Rattle.std.proofs.Common.{◌≡◌, ◌≢◌, ◌⊎◌, ◌<◌, ◌≤◌, ◌+◌, ℕ, Bool, true, false, List, [], ◌∷◌, ◌++◌, All, Option, Contains, slice_get, slice_index_or, refl, inl, inr, sym, ap, arith, ◌∙◌, subst, append-nil}
+use Rattle.std.proofs.lemmas.Grind.{common_steps}
+use Rattle.std.proofs.lemmas.List.Elements.{All-append, All-cons, All-nil}
+use Rattle.topology.specs.declared.frame.Frame.{Frame}
 use Rattle.data_link.specs.Port.{frame_of}
 use Rattle.node_core.specs.View.{site_in, state_of}
 use Rattle.pace.specs.Plans.{port_of}
 use Rattle.socket_links.specs.Counts.{Counts}
-use Rattle.node_loop.specs.Speaking.{AtBoth, Moment, Speaks, SpeaksTo}
+use Rattle.node_core.specs.Site.{Site}
+use Rattle.node_core.specs.State.{LocalState}
+use Rattle.node_loop.specs.Deeds.{Deed, IsSend, Leads, Sends, sent_to}
+use Rattle.node_loop.specs.Moments.{AtBoth, Moment}
+use Rattle.node_loop.specs.Speaking.{Speaks, SpeaksTo, sent_if}
+use Rattle.node_loop.proofs.Became.{leads-join, sent-join}
 
-below-or-from : (w i : ℕ) → (w < i) ⊎ (i ≤ w)
+pub below-or-from : (w i : ℕ) → (w < i) ⊎ (i ≤ w)
 below-or-from w i = grind arith
 
 pub below-or-last : (w i : ℕ) → w < i + 1 → (w < i) ⊎ (w ≡ i)
@@ -15,7 +23,7 @@ below-or-last w i below = grind arith
 pub apart : (w i : ℕ) → w < i → w ≡ i → ⊥
 apart w i less same = omega arith
 
-past : (w i : ℕ) → i + 1 ≤ w → w ≡ i → ⊥
+pub past : (w i : ℕ) → i + 1 ≤ w → w ≡ i → ⊥
 past w i from same = omega arith
 
 pub none-below : (w : ℕ) → w < 0 → ⊥
@@ -26,18 +34,43 @@ abbrev pub StaysAt : {P : Type 0} → Moment P → Moment P → ℕ → Type 0
 StaysAt old new w =
     (slice_get new.ports w ≡ slice_get old.ports w) × (port_of new.pace.ports w ≡ port_of old.pace.ports w)
 
--- what a neighbour is told
-abbrev pub TellsAt : {P : Type 0} → (P → Option (List ℕ)) → (P → Option (List ℕ)) → (P → Counts) → List Bool → ℕ → Moment P → Moment P → ℕ → Type 0
-TellsAt gave took counts offers now old new w =
-    AtBoth (SpeaksTo gave took counts (frame_of ((state_of old.node).port w)) (slice_index_or offers w false) now (port_of old.pace.ports w) (port_of new.pace.ports w))
+-- what a neighbour is told, of which these frames were accepted
+abbrev pub TellsAt : {P : Type 0} → (P → Option (List ℕ)) → (P → Option (List ℕ)) → (P → Counts) → List Bool → ℕ → Moment P → Moment P → List Frame → ℕ → Type 0
+TellsAt gave took counts offers now old new sent w =
+    AtBoth (SpeaksTo gave took counts (frame_of ((state_of old.node).port w)) (slice_index_or offers w false) now (port_of old.pace.ports w) (port_of new.pace.ports w) sent)
     (slice_get old.ports w) (slice_get new.ports w)
+
+-- one frame that was accepted, or none
+abbrev pub sends_if : Bool → ℕ → Frame → List Deed
+sends_if true w frame = Sends w frame ∷ []
+sends_if false w frame = []
+
+sends-kinds : (is_taken : Bool) (w : ℕ) (frame : Frame) → All IsSend (sends_if is_taken w frame)
+sends-kinds true w frame = All-cons IsSend (Sends w frame) [] tt (All-nil IsSend)
+sends-kinds false w frame = All-nil IsSend
+
+sends-lead : (is_taken : Bool) (site : Site) (s : LocalState) (w : ℕ) → (is_taken ≡ true → Contains site.neighbours w) → Leads site (sends_if is_taken w (frame_of (s.port w))) s s
+sends-lead true site s w has = (has refl, refl, refl)
+sends-lead false site s w has = refl
+
+sent-same : (is_taken : Bool) (w : ℕ) (frame : Frame) → sent_to w (sends_if is_taken w frame) ≡ sent_if is_taken frame
+sent-same true w frame = grind (arith, common_steps)
+sent-same false w frame = refl
+
+sent-other : (is_taken : Bool) (i w : ℕ) (frame : Frame) → w ≢ i → sent_to w (sends_if is_taken i frame) ≡ []
+sent-other true i w frame n = grind (arith, common_steps)
+sent-other false i w frame n = refl
 
 -- the nodes below i were spoken to, where they are neighbours; all else is as before
 pub record SpokenTo {P : Type 0} (gave took : P → Option (List ℕ)) (counts : P → Counts) (offers : List Bool) (now : ℕ)
     (old new : Moment P) (i : ℕ) : Type 0 where
   pub node : new.node ≡ old.node
   pub let_go : new.let_go ≡ old.let_go
-  pub below : (w : ℕ) → w < i → Contains (site_in old.node).neighbours w → TellsAt gave took counts offers now old new w
+  pub sends : List Deed
+  pub kinds : All IsSend sends
+  pub leads : Leads (site_in old.node) sends (state_of old.node) (state_of old.node)
+  pub unsent : (w : ℕ) → i ≤ w → sent_to w sends ≡ []
+  pub below : (w : ℕ) → w < i → Contains (site_in old.node).neighbours w → TellsAt gave took counts offers now old new (sent_to w sends) w
   pub others : (w : ℕ) → w < i → ¬ Contains (site_in old.node).neighbours w → StaysAt old new w
   pub above : (w : ℕ) → i ≤ w → StaysAt old new w
   pub rest : (new.pace.node ≡ old.pace.node) × (new.pace.manner ≡ old.pace.manner)
@@ -47,6 +80,10 @@ module _ {P : Type 0} (gave took : P → Option (List ℕ)) (counts : P → Coun
   spoken-start m = record {
     node = refl;
     let_go = refl;
+    sends = [];
+    kinds = All-nil IsSend;
+    leads = refl;
+    unsent = λ w from. refl;
     below = λ w below. elim (none-below w below) [ ];
     others = λ w below. elim (none-below w below) [ ];
     above = λ w from. (refl, refl);
@@ -54,45 +91,61 @@ module _ {P : Type 0} (gave took : P → Option (List ℕ)) (counts : P → Coun
   }
 
   -- the same is told where the port and what is kept of it stand as before the call, and as behind it
-  told-moves : (old mid new : Moment P) (w : ℕ) → StaysAt mid new w → TellsAt gave took counts offers now old mid w → TellsAt gave took counts offers now old new w
-  told-moves old mid new w stays told = rw (stays.0, stays.1) told
+  told-moves : (old mid new : Moment P) (sent : List Frame) (w : ℕ) → StaysAt mid new w → TellsAt gave took counts offers now old mid sent w → TellsAt gave took counts offers now old new sent w
+  told-moves old mid new sent w stays told = rw (stays.0, stays.1) told
 
-  told-from : (old mid new : Moment P) (w : ℕ) → mid.node ≡ old.node → StaysAt old mid w → TellsAt gave took counts offers now mid new w
-      → TellsAt gave took counts offers now old new w
-  told-from old mid new w node stays told = rw (node, stays.0, stays.1) at told
+  told-from : (old mid new : Moment P) (sent : List Frame) (w : ℕ) → mid.node ≡ old.node → StaysAt old mid w → TellsAt gave took counts offers now mid new sent w
+      → TellsAt gave took counts offers now old new sent w
+  told-from old mid new sent w node stays told = rw (node, stays.0, stays.1) at told
 
-  pub spoken-next : (old mid new : Moment P) (i : ℕ) → SpokenTo gave took counts offers now old mid i → new.node ≡ mid.node → new.let_go ≡ mid.let_go
-      → (Contains (site_in mid.node).neighbours i → TellsAt gave took counts offers now mid new i)
-      → ((¬ Contains (site_in mid.node).neighbours i) → StaysAt mid new i)
+  pub spoken-next : (old mid new : Moment P) (i : ℕ) (is_taken : Bool) → SpokenTo gave took counts offers now old mid i → new.node ≡ mid.node → new.let_go ≡ mid.let_go
+      → (Contains (site_in mid.node).neighbours i → TellsAt gave took counts offers now mid new (sent_if is_taken (frame_of ((state_of mid.node).port i))) i)
+      → ((¬ Contains (site_in mid.node).neighbours i) → StaysAt mid new i) → (is_taken ≡ true → Contains (site_in mid.node).neighbours i)
       → ((w : ℕ) → w ≢ i → StaysAt mid new w) → (new.pace.node ≡ mid.pace.node) × (new.pace.manner ≡ mid.pace.manner)
       → SpokenTo gave took counts offers now old new (i + 1)
-  spoken-next old mid new i so node let_go tells silent others pace = record {
-    node = node ∙ so.node;
-    let_go = let_go ∙ so.let_go;
-    below = λ w below has.
-        elim (below-or-last w i below) [
-          | inl less ↦ told-moves old mid new w (others w (λ same. elim (apart w i less same) [ ])) (so.below w less has)
-          | inr same ↦ rw same (told-from old mid new i so.node (so.above i (omega arith))
-              (tells (subst (λ x. Contains (site_in x).neighbours i) (sym so.node) (subst (λ x. Contains (site_in old.node).neighbours x) same has))))
-        ];
-    others = λ w below not.
-        elim (below-or-last w i below) [
-          | inl less ↦ (let stays : StaysAt mid new w = others w (λ same. elim (apart w i less same) [ ]) in
-              (stays.0 ∙ (so.others w less not).0, stays.1 ∙ (so.others w less not).1))
-          | inr same ↦ (let stays : StaysAt mid new w =
-              rw same (silent (λ has. not (subst (λ x. Contains (site_in old.node).neighbours x) (sym same) (subst (λ x. Contains (site_in x).neighbours i) so.node has)))) in
-              let before : StaysAt old mid w = so.above w (omega arith) in (stays.0 ∙ before.0, stays.1 ∙ before.1))
-        ];
-    above = λ w from.
-        let stays : StaysAt mid new w = others w (λ same. elim (past w i from same) [ ]) in
-        let before : StaysAt old mid w = so.above w (omega arith) in (stays.0 ∙ before.0, stays.1 ∙ before.1);
-    rest = (pace.0 ∙ so.rest.0, pace.1 ∙ so.rest.1);
-  }
+  spoken-next old mid new i is_taken so node let_go tells silent taken others pace =
+      let frame = frame_of ((state_of old.node).port i) in
+      let last = sends_if is_taken i frame in
+      let sent : (w : ℕ) → sent_to w (so.sends ++ last) ≡ sent_to w so.sends ++ sent_to w last = λ w. sent-join w so.sends last in
+      record {
+        node = node ∙ so.node;
+        let_go = let_go ∙ so.let_go;
+        sends = so.sends ++ last;
+        kinds = All-append IsSend so.sends last so.kinds (sends-kinds is_taken i frame);
+        leads = leads-join (site_in old.node) so.sends last (state_of old.node) (state_of old.node) (state_of old.node) so.leads
+            (sends-lead is_taken (site_in old.node) (state_of old.node) i (λ e. subst (λ x. Contains (site_in x).neighbours i) so.node (taken e)));
+        unsent = λ w from. sent w ∙ (ap (λ zs. zs ++ sent_to w last) (so.unsent w (omega arith)) ∙ sent-other is_taken i w frame (λ same. elim (past w i from same) [ ]));
+        below = λ w below has.
+            elim (below-or-last w i below) [
+              | inl less ↦ (let other : w ≢ i = λ same. elim (apart w i less same) [ ] in
+                  rw (sent w, sent-other is_taken i w frame other, append-nil (sent_to w so.sends)) (told-moves old mid new (sent_to w so.sends) w (others w other) (so.below w less has)))
+              | inr same ↦ (let there : TellsAt gave took counts offers now mid new (sent_if is_taken (frame_of ((state_of mid.node).port i))) i =
+                  tells (subst (λ x. Contains (site_in x).neighbours i) (sym so.node) (subst (λ x. Contains (site_in old.node).neighbours x) same has)) in
+                  let all : sent_to i (so.sends ++ last) ≡ sent_if is_taken frame = sent i ∙ (ap (λ zs. zs ++ sent_to i last) (so.unsent i (omega arith)) ∙ sent-same is_taken i frame) in
+                  rw (same, all) (told-from old mid new (sent_if is_taken frame) i so.node (so.above i (omega arith))
+                  (subst (λ x. TellsAt gave took counts offers now mid new (sent_if is_taken (frame_of ((state_of x).port i))) i) so.node there)))
+            ];
+        others = λ w below not.
+            elim (below-or-last w i below) [
+              | inl less ↦ (let stays : StaysAt mid new w = others w (λ same. elim (apart w i less same) [ ]) in
+                  (stays.0 ∙ (so.others w less not).0, stays.1 ∙ (so.others w less not).1))
+              | inr same ↦ (let stays : StaysAt mid new w =
+                  rw same (silent (λ has. not (subst (λ x. Contains (site_in old.node).neighbours x) (sym same) (subst (λ x. Contains (site_in x).neighbours i) so.node has)))) in
+                  let before : StaysAt old mid w = so.above w (omega arith) in (stays.0 ∙ before.0, stays.1 ∙ before.1))
+            ];
+        above = λ w from.
+            let stays : StaysAt mid new w = others w (λ same. elim (past w i from same) [ ]) in
+            let before : StaysAt old mid w = so.above w (omega arith) in (stays.0 ∙ before.0, stays.1 ∙ before.1);
+        rest = (pace.0 ∙ so.rest.0, pace.1 ∙ so.rest.1);
+      }
 
   -- all were spoken to
   pub spoken-end : (old mid new : Moment P) (i : ℕ) → (site_in old.node).ranges.nodes ≤ i → SpokenTo gave took counts offers now old mid i
       → new.ports ≡ mid.ports → new.pace ≡ mid.pace → Speaks gave took counts offers now old new
   spoken-end old mid new i all so ports pace = rw (ports, pace) record {
+    sends = so.sends;
+    kinds = so.kinds;
+    leads = so.leads;
     neighbours = λ w node has. so.below w (omega arith) has;
     others = λ w not.
         elim (below-or-from w i) [

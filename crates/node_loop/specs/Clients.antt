@@ -1,8 +1,10 @@
 -- Who is connected to a node.
-use Rattle.std.specs.Prelude.{◌≡◌, ℕ, ◌≤◌, Bool, true, false, is_some, ⊤, List, [], ◌-◌, length, slice_index_or}
+use Rattle.std.specs.Prelude.{◌≡◌, ◌≢◌, ◌⊎◌, ℕ, ◌<◌, ◌≤◌, Bool, true, false, is_some, ⊤, List, [], ◌++◌, ◌-◌, length, slice_index_or, codes}
 use Rattle.circular_buffer.specs.Buffer.{buffer}
 use Rattle.slab.specs.Slab.{get}
 use Rattle.lock_desk.specs.Desk.{is_stranger}
+use Rattle.lock_desk.specs.declared.act.DeskAct.{DeskAct}
+use Rattle.lock_desk.specs.declared.act.DeskAct.TheVariants as act
 use Rattle.node_core.specs.View.{NodeView, state_of}
 use Rattle.socket_links.specs.declared.pipe.ReadAnswer.{ReadAnswer}
 use Rattle.socket_links.specs.declared.pipe.ReadAnswer.TheVariants as read
@@ -38,3 +40,18 @@ module _ {P A : Type 0} where
   room_of clients t =
       (slice_index_or clients.answers.items t (buffer [] 0)).capacity
       - length (answers_of clients t)
+
+  -- The answer waits behind what waited for the client; or there was no room for it, and the client
+  -- is closed. Nothing else has changed.
+  abbrev pub Tells : List ℕ → ℕ → Clients P A → Clients P A → Type 0
+  Tells text t old new =
+      (((answers_of new t ≡ answers_of old t ++ text) × (is_connected new t ≡ is_connected old t))
+      ⊎ ((t < 128 → room_of old t < length text) × (is_connected new t ≡ false)))
+      × ((u : ℕ) → u ≢ t
+      → (answers_of new u ≡ answers_of old u) × (is_connected new u ≡ is_connected old u))
+
+  -- who is told what by a tick: the client whose loan it began, and the one whose loan it ended
+  abbrev pub IsTold : DeskAct → Clients P A → Clients P A → Type 0
+  IsTold act.Quiet old new = new ≡ old
+  IsTold (act.Granted t) old new = Tells (codes "granted\n") t old new
+  IsTold (act.Lost t) old new = Tells (codes "lost\n") t old new

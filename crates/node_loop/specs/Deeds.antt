@@ -1,76 +1,66 @@
--- What a turn does with a node: it takes frames, its clients ask and leave, and it ticks once.
-use Rattle.std.specs.Prelude.{◌≡◌, ℕ, Bool, List, [], ◌∷◌, All, Contains, ⊤, if◌then◌else◌, is_none}
-use Rattle.topology.specs.declared.frame.Frame.{Frame}
-use Rattle.link_model.specs.declared.item.Item.TheVariants as item
-use Rattle.lock_desk.specs.Desk.{DeskState, ask_fault, asked, after_leave}
-use Rattle.node_core.specs.Site.{Site}
-use Rattle.node_core.specs.State.{LocalState}
-use Rattle.node_core.specs.Step.{taken, ticked}
+-- What a node does by itself: it takes frames, its clients ask and leave, it ticks, and it sends.
+use Rattle.std.specs.Prelude.{◌≡◌, ℕ, ◌+◌, List, [], ◌∷◌, All, ⊤, is_none}
+use Rattle.lock_desk.specs.Act.{desk_act}
+use Rattle.node_core.specs.Step.{ticked}
 use Rattle.node_core.specs.View.{NodeView, site_in, state_of}
+use Rattle.node_core.specs.declared.ticked.Ticked.{Ticked}
+pub use Rattle.accounts.specs.Deeds.{Deed, after_ask, Leads, taken_from, sent_to}
+pub use Rattle.accounts.specs.Deeds.{Takes, Asks, Leaves, Ticks, Sends}
 
--- a frame of a neighbour is taken; a ticket asks; a ticket leaves
-pub data Deed : Type 0 where
-  Takes : ℕ → Frame → Deed
-  Asks : ℕ → Deed
-  Leaves : ℕ → Deed
-
--- a ticket that asks waits behind all others; one that is refused changes nothing
-abbrev pub after_ask : ℕ → DeskState → DeskState
-after_ask t d = if is_none (ask_fault t d) then asked t d else d
-
--- what a deed makes of a node
-abbrev pub after_deed : Site → Deed → LocalState → LocalState
-after_deed site (Takes w f) s = taken site w (item.Frame f) s
-after_deed site (Asks t) s = record s { desk = after_ask t s.desk }
-after_deed site (Leaves t) s = record s { desk = after_leave t s.desk }
-
--- what deeds make of a node, one after the other
-abbrev pub after_deeds : Site → List Deed → LocalState → LocalState
-after_deeds site [] s = s
-after_deeds site (deed ∷ deeds) s = after_deeds site deeds (after_deed site deed s)
+-- how many ticks there are among the deeds
+abbrev pub ticks_in : List Deed → ℕ
+ticks_in [] = 0
+ticks_in (Takes w f ∷ ds) = ticks_in ds
+ticks_in (Asks t ∷ ds) = ticks_in ds
+ticks_in (Leaves t ∷ ds) = ticks_in ds
+ticks_in (Ticks ∷ ds) = 1 + ticks_in ds
+ticks_in (Sends w f ∷ ds) = ticks_in ds
 
 -- the deed is a neighbour's frame
-abbrev pub IsTake : Site → Deed → Type 0
-IsTake site (Takes w f) = Contains site.neighbours w
-IsTake site (Asks t) = ⊥
-IsTake site (Leaves t) = ⊥
+abbrev pub IsTake : Deed → Type 0
+IsTake (Takes w f) = ⊤
+IsTake (Asks t) = ⊥
+IsTake (Leaves t) = ⊥
+IsTake Ticks = ⊥
+IsTake (Sends w f) = ⊥
 
 -- the deed is a client's
-abbrev pub IsOfClient : Site → Deed → Type 0
-IsOfClient site (Takes w f) = ⊥
-IsOfClient site (Asks t) = ⊤
-IsOfClient site (Leaves t) = ⊤
+abbrev pub IsOfClient : Deed → Type 0
+IsOfClient (Takes w f) = ⊥
+IsOfClient (Asks t) = ⊤
+IsOfClient (Leaves t) = ⊤
+IsOfClient Ticks = ⊥
+IsOfClient (Sends w f) = ⊥
 
 -- the deed is a ticket's leave
-abbrev pub IsLeave : Site → Deed → Type 0
-IsLeave site (Takes w f) = ⊥
-IsLeave site (Asks t) = ⊥
-IsLeave site (Leaves t) = ⊤
+abbrev pub IsLeave : Deed → Type 0
+IsLeave (Takes w f) = ⊥
+IsLeave (Asks t) = ⊥
+IsLeave (Leaves t) = ⊤
+IsLeave Ticks = ⊥
+IsLeave (Sends w f) = ⊥
 
--- the node became what some deeds of this kind make of it; what it knows of its network stayed
-pub record Became (kind : Site → Deed → Type 0) (old new : NodeView) : Type 0 where
+-- the deed is a frame for a neighbour
+abbrev pub IsSend : Deed → Type 0
+IsSend (Takes w f) = ⊥
+IsSend (Asks t) = ⊥
+IsSend (Leaves t) = ⊥
+IsSend Ticks = ⊥
+IsSend (Sends w f) = ⊤
+
+-- some deeds of this kind led the node to what it became; what it knows of its network stayed
+pub record Became (kind : Deed → Type 0) (old new : NodeView) : Type 0 where
   pub site : site_in new ≡ site_in old
   pub deeds : List Deed
-  pub kinds : All (kind (site_in old)) deeds
-  pub state : state_of new ≡ after_deeds (site_in old) deeds (state_of old)
+  pub kinds : All kind deeds
+  pub leads : Leads (site_in old) deeds (state_of old) (state_of new)
 
--- The node ticked once, if it was to, and else stayed; and then some tickets left.
-pub record Acts (ticks : Bool) (old new : NodeView) : Type 0 where
+-- The node ticked once, which says what became of the loan and whether the tick was a full one; and
+-- then some tickets left.
+pub record Acts (says : Ticked) (old new : NodeView) : Type 0 where
   pub acted : NodeView
+  pub act : says.act ≡ desk_act (state_of old).desk (state_of acted).desk
+  pub full : says.full ≡ is_none (state_of acted).desk.lent
   pub site : site_in acted ≡ site_in old
-  pub state : state_of acted
-      ≡ (if ticks then ticked (site_in old) (state_of old) else state_of old)
+  pub state : state_of acted ≡ ticked (site_in old) (state_of old)
   pub leaves : Became IsLeave acted new
-
--- The node took frames; and then its clients asked and left.
-pub record Listens (old new : NodeView) : Type 0 where
-  pub heard : NodeView
-  pub hears : Became IsTake old heard
-  pub serves : Became IsOfClient heard new
-
--- A turn: the node took frames, and its clients asked and left; then it ticked once, if the plan
--- had it so; and then some tickets left.
-pub record Turns (ticks : Bool) (old new : NodeView) : Type 0 where
-  pub served : NodeView
-  pub listens : Listens old served
-  pub acts : Acts ticks served new

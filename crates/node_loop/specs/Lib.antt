@@ -4,4 +4,8 @@ pub mod Deeds
 pub mod Answers
 pub mod Clients
 pub mod Arrivals
+pub mod Moments
+pub mod Hearing
 pub mod Speaking
+pub mod Turns
+pub mod Loose

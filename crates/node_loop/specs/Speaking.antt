@@ -1,6 +1,6 @@
--- What a turn says to neighbours: where a frame is offered, what becomes of it, and which plan a
--- turn goes by.
-use Rattle.std.specs.Prelude.{◌≡◌, ℕ, ◌<◌, Bool, true, false, nat_lt, is_some, not, ◌&&◌, List, ◌++◌, ◌∷◌, [], length, slice_get, slice_index_or, Option, None, Some, Contains, ⊤, if◌then◌else◌}
+-- What a node says to neighbours: where a frame is offered, what becomes of it, and which plan it
+-- goes by.
+use Rattle.std.specs.Prelude.{◌≡◌, ℕ, ◌<◌, Bool, true, false, nat_lt, is_some, not, ◌&&◌, List, ◌++◌, ◌∷◌, [], length, slice_get, slice_index_or, Option, None, Some, All, Contains, if◌then◌else◌}
 use Rattle.topology.specs.declared.frame.Frame.{Frame}
 use Rattle.byte_lines.specs.Lines.{newline}
 use Rattle.frame_codec.specs.Spelling.{spelling}
@@ -11,7 +11,6 @@ use Rattle.pace.specs.Ports.{given_port, is_due}
 use Rattle.pace.specs.Nodes.{holds, may_tick}
 use Rattle.pace.specs.Plans.{port_of}
 use Rattle.pace.specs.declared.node.Outlook.{Outlook}
-use Rattle.pace.specs.declared.pace.Pace.{Pace}
 use Rattle.pace.specs.declared.pace.Plan.{Plan}
 use Rattle.pace.specs.declared.port.PortPace.{PortPace}
 use Rattle.pace.specs.declared.port.PortSight.{PortSight}
@@ -21,7 +20,8 @@ use Rattle.socket_links.specs.declared.writing.Flow.{Flow}
 use Rattle.socket_links.specs.declared.writing.Flow.TheVariants as flow
 use Rattle.socket_links.specs.declared.link.Offer.{Offer}
 use Rattle.socket_links.specs.declared.link.Offer.TheVariants as offer
-use Rattle.node_loop.specs.Deeds.{Acts, Became, IsLeave, Listens}
+use Rattle.node_loop.specs.Deeds.{Deed, IsSend, Leads, sent_to}
+use Rattle.node_loop.specs.Moments.{AtBoth, Moment}
 use Rattle.node_loop.specs.declared.port.NodePort.{NodePort}
 
 -- some of the line that was accepted last is left, since the pipe takes no more now
@@ -72,39 +72,33 @@ pub record PortSpeaks {P : Type 0} (gave took : P → Option (List ℕ)) (counts
   pub pushes : PushesOut gave took counts old pushed
   pub offers : OffersIf gave took counts is_offered line pushed new is_taken
 
+-- what is sent of a frame: that frame where it was accepted, and else nothing
+abbrev pub sent_if : Bool → Frame → List Frame
+sent_if is_taken frame = if is_taken then frame ∷ [] else []
+
 -- The same of a frame, by its line; the pace is told of a frame that was accepted, and of nothing
--- else.
+-- else. These frames are sent by that: the frame where it was accepted, and else nothing.
 pub record SpeaksTo {P : Type 0} (gave took : P → Option (List ℕ)) (counts : P → Counts)
-    (frame : Frame) (is_offered : Bool) (now : ℕ) (was is : PortPace) (old new : NodePort P)
-    : Type 0 where
+    (frame : Frame) (is_offered : Bool) (now : ℕ) (was is : PortPace) (sent : List Frame)
+    (old new : NodePort P) : Type 0 where
   pub is_taken : Bool
   pub port : PortSpeaks gave took counts (spelling frame ++ newline ∷ []) is_offered old new
       is_taken
   pub told : is ≡ (if is_taken then given_port frame now was else was)
-
--- both places of two lists have a port, and these are so related; or neither has one
-abbrev pub AtBoth : {P : Type 0} → (NodePort P → NodePort P → Type 0) → Option (NodePort P)
-    → Option (NodePort P) → Type 0
-AtBoth R None None = ⊤
-AtBoth R None (Some new) = ⊥
-AtBoth R (Some old) None = ⊥
-AtBoth R (Some old) (Some new) = R old new
-
--- how a node that runs stands at a moment of its turn
-pub record Moment (P : Type 0) : Type 0 where
-  pub node : NodeView
-  pub ports : List (NodePort P)
-  pub pace : Pace
-  pub let_go : Bool
+  pub sends : sent ≡ sent_if is_taken frame
 
 -- The node spoke to each neighbour, and offered its frame on those ports that the plan names; no
--- other port has changed.
+-- other port has changed. What it sent are the frames that were accepted, and no others.
 pub record Speaks {P : Type 0} (gave took : P → Option (List ℕ)) (counts : P → Counts)
     (offers : List Bool) (now : ℕ) (old new : Moment P) : Type 0 where
+  pub sends : List Deed
+  pub kinds : All IsSend sends
+  pub leads : Leads (site_in old.node) sends (state_of old.node) (state_of old.node)
   pub neighbours : (w : ℕ) → w < (site_in old.node).ranges.nodes
       → Contains (site_in old.node).neighbours w
       → AtBoth (SpeaksTo gave took counts (frame_of ((state_of old.node).port w))
-      (slice_index_or offers w false) now (port_of old.pace.ports w) (port_of new.pace.ports w))
+      (slice_index_or offers w false) now (port_of old.pace.ports w) (port_of new.pace.ports w)
+      (sent_to w sends))
       (slice_get old.ports w) (slice_get new.ports w)
   pub others : (w : ℕ) → ¬ Contains (site_in old.node).neighbours w
       → (slice_get new.ports w ≡ slice_get old.ports w)
@@ -142,26 +136,3 @@ pub record IsPlanOf {P : Type 0} (now : ℕ) (m : Moment P) (plan : Plan) : Type
       ≡ is_due (sight_at m.node m.ports w)
       (holds (outlook_of m.node m.let_go) m.pace.manner now m.pace.node)
       m.pace.manner.repeat now (port_of m.pace.ports w)
-
--- A turn by a plan: all that came was taken; then the node ticked, if it was to; then it spoke to
--- its neighbours by these offers, and at the end some tickets left.
-pub record TurnsBy {P : Type 0} (gave took : P → Option (List ℕ)) (counts : P → Counts)
-    (ticks : Bool) (offers : List Bool) (now : ℕ) (old new : Moment P) : Type 0 where
-  pub heard : Moment P
-  pub acted : Moment P
-  pub listens : Listens old.node heard.node
-  pub acts : Acts ticks heard.node acted.node
-  pub ports : acted.ports ≡ heard.ports
-  pub speaks : Speaks gave took counts offers now acted new
-  pub leaves : Became IsLeave acted.node new.node
-
--- A turn by the plans of the pace: it ticks as the pace has it once all that came was taken, and it
--- offers frames as the pace has it once the node has ticked.
-pub record TurnsAtPace {P : Type 0} (gave took : P → Option (List ℕ)) (counts : P → Counts)
-    (ticks : Bool) (now : ℕ) (old new : Moment P) : Type 0 where
-  pub before : Plan
-  pub behind : Plan
-  pub turn : TurnsBy gave took counts ticks behind.offers now old new
-  pub ticks_are : before.ticks ≡ ticks
-  pub plans_tick : IsPlanOf now turn.heard before
-  pub plans_offers : IsPlanOf now turn.acted behind

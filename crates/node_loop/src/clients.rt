@@ -88,8 +88,9 @@ impl<P: Pipe, A: Allocator + Copy> Clients<P, A> {
 
     /// Closes the connection of a client, if it is there. What waits for it is dropped.
     pub fn close(&mut self, ticket: u16)
-        ensures { (t : ℕ) → is_connected self.new t
+        ensures closed { (t : ℕ) → is_connected self.new t
             ≡ (is_connected self.old t && not (t == ticket)) }
+        ensures answers { self.new.answers ≡ self.old.answers }
     {
         let _client = self.table.try_remove(ticket as usize);
     }

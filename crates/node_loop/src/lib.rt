@@ -7,14 +7,27 @@
 //! ```
 //! let mut run = NodeRun::new(alloc, net, node, doors, store, Manner::usual())?;
 //! run.wait(clock.microseconds());                     // at most 2 milliseconds
-//! let turned = run.turn(clock.microseconds());
-//! if turned.saved.is_some() { /* each 256th turn */ }
+//! let now = clock.microseconds();
+//! if run.is_turn_due(now) {
+//!     let turned = run.turn(now);
+//!     if turned.saved.is_some() { /* each 256th turn */ }
+//! } else {
+//!     run.attend(now);                                // while a loan with a lease runs
+//! }
 //! ```
 //!
 //! A turn takes what came, in this order: connections, hellos, frames of neighbours, lines of
-//! clients; whoever is gone leaves; then the node ticks, frames go out on the ports of the plan,
-//! answers to clients; and each 256th turn the state is saved. No door, connection or store that
-//! fails ends it: what failed is tried again in the next turn. It takes no memory.
+//! clients; whoever is gone leaves; then the node ticks once, frames go out on the ports of the
+//! plan, answers to clients; and each 256th turn the state is saved. No door, connection or store
+//! that fails ends it: what failed is tried again in the next turn. It takes no memory.
+//!
+//! The contract of a turn names its account: one list of all that the node did, in order. At each
+//! port it took exactly the frames that were pulled there, and it sent exactly the frames that the
+//! link accepted.
+//!
+//! A tick uses up a part of a loan's lease, so that a lease means a time only if ticks are not too
+//! dense. While such a loan runs, the loop calls `attend` in place of a turn for 2 milliseconds
+//! after each tick.
 //!
 //! The trap: a turn does not wait, and never says that there was nothing to do. Who calls it again
 //! and again without `wait` burns a core.

@@ -3,6 +3,7 @@ ghost use Rattle.std.specs.Prelude.{◌≡◌, ◌&&◌, not, true, false, None,
 ghost use Rattle.std.specs.Prelude.{IfSome, if◌then◌else◌, [], ◌∷◌, ◌++◌};
 ghost use Rattle.byte_lines.specs.Lines.{newline};
 ghost use Rattle.frame_codec.specs.Spelling.{spelling};
+ghost use Rattle.topology.specs.Ranges.{ranges_of};
 
 use crate::greeting::{Greeted, Greeting};
 use socket_links::{Flow, Offer, Pipe, Pull, SocketLink};
@@ -19,7 +20,9 @@ pub(crate) struct NodePort<P> {
 }
 
 impl<P: Pipe> NodePort<P> {
-    ghost use Rattle.socket_links.specs.Links.{PushesOn};
+    ghost use Rattle.socket_links.specs.Links.{IsBare, Pulled, PushesOn};
+    ghost use Rattle.socket_links.specs.declared.link.Pull.TheVariants.{Later};
+    ghost use Rattle.node_loop.specs.Hearing.{Wires};
     ghost use Rattle.node_loop.specs.Speaking.{OffersLine, PortSpeaks, PushesOut};
 
     /// A port without a connection.
@@ -49,8 +52,10 @@ impl<P: Pipe> NodePort<P> {
 
     /// From now on this pipe is the connection; the one that stood there is closed.
     pub fn attach(&mut self, pipe: P)
-        ensures { (self.new.link.pipe ≡ Some pipe) × (self.new.greeting ≡ None)
+        ensures stands { (self.new.link.pipe ≡ Some pipe) × (self.new.greeting ≡ None)
             × (self.new.is_stuck ≡ false) }
+        // Of the new one nothing is kept yet.
+        ensures bare { IsBare self.new.link }
     {
         let _older = self.link.attach(pipe);
         self.greeting = None;
@@ -68,15 +73,21 @@ impl<P: Pipe> NodePort<P> {
 
     /// A new connection, on which the hello is to go out first.
     pub fn greet(&mut self, pipe: P)
-        ensures { (self.new.link ≡ self.old.link) × IfSome self.new.greeting
+        ensures hello { IfSome self.new.greeting
             (λ greeting. (greeting.pipe ≡ pipe) × (greeting.sent ≡ 0)) }
+        ensures link { (self.new.link ≡ self.old.link) × (self.new.is_stuck ≡ self.old.is_stuck) }
     {
         self.greeting = Some(Greeting::new(pipe));
     }
 
     /// Writes what is left of the hello of node `id`, if there is one, and says whether the
     /// connection stands with that.
-    pub fn go_on_greeting(&mut self, id: u16) -> bool {
+    pub fn go_on_greeting(&mut self, id: u16) -> bool
+        // The connection stands as before, or it is a new one.
+        ensures wires { Wires self.old self.new }
+        // Without a hello nothing is done.
+        ensures none { self.old.greeting ≡ None → (self.new ≡ self.old) × (result ≡ false) }
+    {
         let Some(greeting) = self.greeting.take() else {
             return false;
         };
@@ -94,7 +105,13 @@ impl<P: Pipe> NodePort<P> {
     }
 
     /// The next frame that has come.
-    pub fn pull(&mut self, net: &Net) -> Pull {
+    pub fn pull(&mut self, net: &Net) -> Pull
+        ensures pulled { Pulled (ranges_of net.now) P.gave P.took P.counts
+            self.old.link self.new.link result }
+        ensures loose { self.old.link.pipe ≡ None → result ≡ Later }
+        ensures rest { (self.new.greeting ≡ self.old.greeting)
+            × (self.new.is_stuck ≡ self.old.is_stuck) }
+    {
         self.link.pull(net)
     }
 

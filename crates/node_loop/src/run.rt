@@ -3,6 +3,7 @@ ghost use Rattle.std.specs.Prelude.{◌≡◌, ◌↔◌, ◌<◌, ◌≤◌, �
 ghost use Rattle.std.specs.Prelude.{IfOk, IfErr, IfSome, IsSome, IsTrue, Some, Contains, slice_get};
 ghost use Rattle.std.specs.Prelude.{◌≢◌, ℕ};
 ghost use Rattle.data_link.specs.Port.{frame_of};
+ghost use Rattle.pace.specs.Nodes.{may_tick};
 ghost use Rattle.pace.specs.Plans.{port_of};
 ghost use Rattle.topology.specs.Change.{is_same_frame};
 ghost use Rattle.topology.specs.Network.{neighbours_of};
@@ -55,9 +56,11 @@ pub struct NodeRun<D: Doors, S: Store + Drop, A: Allocator + Copy = Global> {
     clients: Clients<D::P, A>,
     /// The turns since the last save, 0 to 255.
     turns: u8,
-    /// In this turn a client let the lock go.
+    /// Since the last tick, or in the turn of it, a client let the lock go.
     let_go: bool,
-    /// Something that came in the last turn may wait to be read.
+    /// Nothing was taken since the last tick.
+    has_ticked: bool,
+    /// The next turn is not to wait: something that came may wait to be read, or a tick is due.
     has_more: bool,
     ghost site: { (site_in node).id < net.nodes },
     ghost wired: { site_in node ≡ site_of net (site_in node).id },
@@ -65,10 +68,13 @@ pub struct NodeRun<D: Doors, S: Store + Drop, A: Allocator + Copy = Global> {
 }
 
 impl<D: Doors, S: Store + Drop, A: Allocator + Copy> NodeRun<D, S, A> {
-    ghost use Rattle.node_loop.specs.Clients.{AreConnected};
-    ghost use Rattle.node_loop.specs.Deeds.{Acts, Became, IsLeave, IsTake, Listens, Turns};
-    ghost use Rattle.node_loop.specs.Speaking.{AtBoth, IsPlanOf, Speaks, SpeaksTo};
-    ghost use Rattle.node_loop.specs.Speaking.{TurnsAtPace, TurnsBy};
+    ghost use Rattle.node_loop.specs.Clients.{AreConnected, IsTold};
+    ghost use Rattle.node_loop.specs.Loose.{AreKept, AreLoose};
+    ghost use Rattle.node_loop.specs.Deeds.{Acts, Became, IsLeave};
+    ghost use Rattle.node_loop.specs.Hearing.{AreWired, Comes, Hears, Listens, Pulls, TakesAt, Wires};
+    ghost use Rattle.node_loop.specs.Moments.{AtBoth};
+    ghost use Rattle.node_loop.specs.Speaking.{IsPlanOf, outlook_of, Speaks, SpeaksTo, sent_if};
+    ghost use Rattle.node_loop.specs.Turns.{Attends, Turns};
 
     /// A node of this network that runs over these doors. All memory that turns ever need is
     /// reserved here; all four come back only where that is refused.
@@ -98,6 +104,7 @@ impl<D: Doors, S: Store + Drop, A: Allocator + Copy> NodeRun<D, S, A> {
                 clients,
                 turns: 0,
                 let_go: false,
+                has_ticked: false,
                 has_more: false,
             }),
             Err(AllocError) => Err(Unmade {
@@ -126,14 +133,11 @@ impl<D: Doors, S: Store + Drop, A: Allocator + Copy> NodeRun<D, S, A> {
         self.doors.wait(rest);
     }
 
-    /// One turn, by the plan that the pace makes in it: whether to tick once all that came was
-    /// taken, and where to offer frames once the node has ticked. `now` is microseconds of a clock
-    /// that never goes back.
+    /// One turn: all that came is taken, the node ticks once, and it speaks, by the plan that the
+    /// pace makes then. `now` is microseconds of a clock that never goes back.
     pub fn turn(&mut self, now: u64) -> Turned
-        // It is a turn by some plan.
-        ensures node { Turns (is_some result.ticked) self.old.node self.new.node }
-        // The plan is the pace's.
-        ensures paced { TurnsAtPace D.P.gave D.P.took D.P.counts (is_some result.ticked) now
+        // All that it did is one list of deeds, which are the node's own steps.
+        ensures turns { Turns D.P.gave D.P.took D.P.counts result.ticked now
             (record {
               node = self.old.node;
               ports = self.old.ports.items;
@@ -164,13 +168,39 @@ impl<D: Doors, S: Store + Drop, A: Allocator + Copy> NodeRun<D, S, A> {
         }
     }
 
-    /// One turn by a plan that was made before it. Its offers are by the neighbour's id; `now` is as
-    /// for [`NodeRun::turn`].
-    pub fn turn_by(&mut self, plan: &Plan, now: u64) -> Turned
-        ensures node { Turns plan.now.ticks self.old.node self.new.node }
-        ensures ticked { is_some result.ticked ≡ plan.now.ticks }
-        // On each port of the plan the node's frame is offered, and on no other.
-        ensures offered { TurnsBy D.P.gave D.P.took D.P.counts plan.now.ticks plan.now.offers now
+    /// A turn but for its save.
+    fn act(&mut self, now: u64) -> Ticked
+        ensures turns { Turns D.P.gave D.P.took D.P.counts result now
+            (record {
+              node = self.old.node;
+              ports = self.old.ports.items;
+              pace = self.old.pace;
+              let_go = self.old.let_go;
+            })
+            (record {
+              node = self.new.node;
+              ports = self.new.ports.items;
+              pace = self.new.pace;
+              let_go = self.new.let_go;
+            }) }
+        ensures connected { AreConnected self.new.clients self.new.node }
+        ensures rest { (self.new.net ≡ self.old.net) × (self.new.turns ≡ self.old.turns)
+            × (self.new.store ≡ self.old.store) }
+    {
+        self.listen(now);
+        let ticked = self.tick(now);
+        let plan = self.plan(now);
+        self.speak(&plan.offers, now);
+        ticked
+    }
+
+    /// Between two turns, while a loan with a lease runs and no tick is due: all that came is
+    /// taken, and the node speaks, by the plan that the pace makes then. It does not tick, and it
+    /// counts as no turn. `now` is as for [`NodeRun::turn`].
+    pub fn attend(&mut self, now: u64)
+        // All that it did is one list of deeds, which are the node's own steps; no tick is among
+        // them.
+        ensures attends { Attends D.P.gave D.P.took D.P.counts now
             (record {
               node = self.old.node;
               ports = self.old.ports.items;
@@ -185,74 +215,23 @@ impl<D: Doors, S: Store + Drop, A: Allocator + Copy> NodeRun<D, S, A> {
             }) }
         // Each ticket that waits or borrows is a connected client's.
         ensures connected { AreConnected self.new.clients self.new.node }
-        // In each 256th turn, and in no other, the state is stored as it is at the turn's end.
-        ensures saves { IsSome result.saved ↔ (self.old.turns ≡ 255) }
-        ensures counts { self.new.turns ≡ (self.old.turns + 1) % 256 }
-        ensures stores { IfSome result.saved (λ saved.
-            Saves saved (file_of self.old.net (site_in self.new.node).id (state_of self.new.node))
-            (S.stored self.old.store) (S.stored self.new.store)
-            (S.failures self.old.store) (S.failures self.new.store)) }
-        ensures net { self.new.net ≡ self.old.net }
-    {
-        let ticked = self.act_by(plan, now);
-        Turned {
-            ticked,
-            saved: self.save(),
-        }
-    }
-
-    /// A turn but for its save, by the plans of the pace.
-    fn act(&mut self, now: u64) -> Option<Ticked>
-        ensures node { Turns (is_some result) self.old.node self.new.node }
-        ensures paced { TurnsAtPace D.P.gave D.P.took D.P.counts (is_some result) now
-            (record {
-              node = self.old.node;
-              ports = self.old.ports.items;
-              pace = self.old.pace;
-              let_go = self.old.let_go;
-            })
-            (record {
-              node = self.new.node;
-              ports = self.new.ports.items;
-              pace = self.new.pace;
-              let_go = self.new.let_go;
-            }) }
-        ensures connected { AreConnected self.new.clients self.new.node }
         ensures rest { (self.new.net ≡ self.old.net) × (self.new.turns ≡ self.old.turns)
             × (self.new.store ≡ self.old.store) }
     {
         self.listen(now);
-        let ticked = self.tick_if(self.plan(now).ticks, now);
         let plan = self.plan(now);
         self.speak(&plan.offers, now);
-        ticked
+        self.has_more |= plan.ticks;
     }
 
-    /// A turn but for its save, by a plan that was made before it.
-    fn act_by(&mut self, plan: &Plan, now: u64) -> Option<Ticked>
-        ensures node { Turns plan.now.ticks self.old.node self.new.node }
-        ensures ticked { is_some result ≡ plan.now.ticks }
-        ensures offered { TurnsBy D.P.gave D.P.took D.P.counts plan.now.ticks plan.now.offers now
-            (record {
-              node = self.old.node;
-              ports = self.old.ports.items;
-              pace = self.old.pace;
-              let_go = self.old.let_go;
-            })
-            (record {
-              node = self.new.node;
-              ports = self.new.ports.items;
-              pace = self.new.pace;
-              let_go = self.new.let_go;
-            }) }
-        ensures connected { AreConnected self.new.clients self.new.node }
-        ensures rest { (self.new.net ≡ self.old.net) × (self.new.turns ≡ self.old.turns)
-            × (self.new.store ≡ self.old.store) }
+    /// Whether a turn is due: always, but while a loan with a lease runs once in 2 milliseconds.
+    /// `now` is as for [`NodeRun::turn`].
+    pub fn is_turn_due(&self, now: u64) -> bool
+        ensures { result ≡ may_tick (outlook_of self.now.node self.now.let_go) now
+            self.now.pace.node }
     {
-        self.listen(now);
-        let ticked = self.tick_if(plan.ticks, now);
-        self.speak(&plan.offers, now);
-        ticked
+        let outlook = sight::outlook(&self.node, self.let_go);
+        self.pace.plan(&[], &outlook, now).ticks
     }
 
     /// What the pace would do now, in microseconds as for [`NodeRun::turn`].
@@ -283,7 +262,19 @@ impl<D: Doors, S: Store + Drop, A: Allocator + Copy> NodeRun<D, S, A> {
 
     /// First part of a turn: all that came is taken, and whoever is gone leaves.
     fn listen(&mut self, now: u64)
-        ensures node { Listens self.old.node self.new.node }
+        ensures listens { Listens D.P.gave D.P.took D.P.counts
+            (record {
+              node = self.old.node;
+              ports = self.old.ports.items;
+              pace = self.old.pace;
+              let_go = self.old.let_go;
+            })
+            (record {
+              node = self.new.node;
+              ports = self.new.ports.items;
+              pace = self.new.pace;
+              let_go = self.new.let_go;
+            }) }
         ensures connected { AreConnected self.new.clients self.new.node }
         ensures rest { (self.new.net ≡ self.old.net) × (self.new.turns ≡ self.old.turns)
             × (self.new.store ≡ self.old.store) }
@@ -297,12 +288,16 @@ impl<D: Doors, S: Store + Drop, A: Allocator + Copy> NodeRun<D, S, A> {
         let was_lent = self.node.lent().is_some();
         self.has_more |= service::serve_all(&mut self.node, &mut self.clients);
         service::leave_absent(&mut self.node, &self.clients);
-        self.let_go = was_lent && self.node.lent().is_none();
+        let lets_go = was_lent && self.node.lent().is_none();
+        self.let_go = lets_go || (self.let_go && !self.has_ticked);
+        self.has_ticked = false;
     }
 
     /// Lets neighbours in until none comes.
     fn accept_links(&mut self)
         ensures node { self.new.node ≡ self.old.node }
+        // No port changes, whatever the door answers.
+        ensures ports { self.new.ports ≡ self.old.ports }
         ensures rest { (self.new.net ≡ self.old.net) × (self.new.turns ≡ self.old.turns)
             × (self.new.store ≡ self.old.store) }
     {
@@ -317,6 +312,8 @@ impl<D: Doors, S: Store + Drop, A: Allocator + Copy> NodeRun<D, S, A> {
     /// Lets clients in until none comes.
     fn accept_clients(&mut self)
         ensures node { self.new.node ≡ self.old.node }
+        // No port changes, whatever the door answers.
+        ensures ports { self.new.ports ≡ self.old.ports }
         ensures rest { (self.new.net ≡ self.old.net) × (self.new.turns ≡ self.old.turns)
             × (self.new.store ≡ self.old.store) }
     {
@@ -331,6 +328,7 @@ impl<D: Doors, S: Store + Drop, A: Allocator + Copy> NodeRun<D, S, A> {
     /// Listens to all who have not said who they are.
     fn hear_hellos(&mut self)
         ensures node { self.new.node ≡ self.old.node }
+        ensures wires { AreWired self.old.ports.items self.new.ports.items }
         ensures rest { (self.new.net ≡ self.old.net) × (self.new.turns ≡ self.old.turns)
             × (self.new.store ≡ self.old.store) }
     {
@@ -350,6 +348,10 @@ impl<D: Doors, S: Store + Drop, A: Allocator + Copy> NodeRun<D, S, A> {
             → IfSome (slice_get self.new.ports.items id) (λ port. port.link.pipe ≡ Some pipe) }
         ensures unwelcome { ¬ ((site_in self.old.node).id < id
             × Contains (site_in self.old.node).neighbours id) → self.new.ports ≡ self.old.ports }
+        ensures wires { AtBoth Wires (slice_get self.old.ports.items id)
+            (slice_get self.new.ports.items id) }
+        ensures others { (w : ℕ) → w ≢ id
+            → slice_get self.new.ports.items w ≡ slice_get self.old.ports.items w }
         ensures rest { (self.new.net ≡ self.old.net) × (self.new.turns ≡ self.old.turns)
             × (self.new.store ≡ self.old.store) }
     {
@@ -362,6 +364,7 @@ impl<D: Doors, S: Store + Drop, A: Allocator + Copy> NodeRun<D, S, A> {
     /// Connects loose ports to lower neighbours, and goes on with hellos that are not out.
     fn connect(&mut self)
         ensures node { self.new.node ≡ self.old.node }
+        ensures wires { AreWired self.old.ports.items self.new.ports.items }
         ensures rest { (self.new.net ≡ self.old.net) × (self.new.turns ≡ self.old.turns)
             × (self.new.store ≡ self.old.store) }
     {
@@ -373,27 +376,61 @@ impl<D: Doors, S: Store + Drop, A: Allocator + Copy> NodeRun<D, S, A> {
     /// Connects the port to a lower neighbour, if it is loose, and goes on with its hello.
     fn connect_to(&mut self, id: u16)
         ensures node { self.new.node ≡ self.old.node }
+        ensures wires { AtBoth Wires (slice_get self.old.ports.items id)
+            (slice_get self.new.ports.items id) }
+        ensures others { (w : ℕ) → w ≢ id
+            → slice_get self.new.ports.items w ≡ slice_get self.old.ports.items w }
         ensures rest { (self.new.net ≡ self.old.net) × (self.new.turns ≡ self.old.turns)
             × (self.new.store ≡ self.old.store) }
     {
         if !self.node.is_neighbour(id) {
             return;
         }
-        let own = self.node.id();
-        let port = &mut self.ports[id as usize];
-        if port.is_loose()
-            && let Door::Came(pipe) = self.doors.connect(id)
-        {
-            port.greet(pipe);
+        self.call_on(id);
+        self.go_on_greeting(id);
+    }
+
+    /// Makes a connection to a lower neighbour, if its port is loose. Unless one came, no port
+    /// changes.
+    fn call_on(&mut self, id: u16)
+        requires { id < self.old.net.nodes }
+        ensures node { self.new.node ≡ self.old.node }
+        ensures wires { AtBoth Wires (slice_get self.old.ports.items id)
+            (slice_get self.new.ports.items id) }
+        ensures others { (w : ℕ) → w ≢ id
+            → slice_get self.new.ports.items w ≡ slice_get self.old.ports.items w }
+        ensures rest { (self.new.net ≡ self.old.net) × (self.new.turns ≡ self.old.turns)
+            × (self.new.store ≡ self.old.store) }
+    {
+        if !self.ports[id as usize].is_loose() {
+            return;
         }
-        if port.go_on_greeting(own) {
+        if let Door::Came(pipe) = self.doors.connect(id) {
+            self.ports[id as usize].greet(pipe);
+        }
+    }
+
+    /// Goes on with the hello to a lower neighbour, if there is one.
+    fn go_on_greeting(&mut self, id: u16)
+        requires { id < self.old.net.nodes }
+        ensures node { self.new.node ≡ self.old.node }
+        ensures wires { AtBoth Wires (slice_get self.old.ports.items id)
+            (slice_get self.new.ports.items id) }
+        ensures others { (w : ℕ) → w ≢ id
+            → slice_get self.new.ports.items w ≡ slice_get self.old.ports.items w }
+        ensures rest { (self.new.net ≡ self.old.net) × (self.new.turns ≡ self.old.turns)
+            × (self.new.store ≡ self.old.store) }
+    {
+        let own = self.node.id();
+        if self.ports[id as usize].go_on_greeting(own) {
             self.pace.attached(id as usize);
         }
     }
 
     /// Takes the frames that neighbours sent.
     fn pull_all(&mut self, now: u64)
-        ensures node { Became IsTake self.old.node self.new.node }
+        ensures hears { Hears D.P.gave D.P.took D.P.counts self.old.node self.new.node
+            self.old.ports.items self.new.ports.items }
         ensures rest { (self.new.net ≡ self.old.net) × (self.new.turns ≡ self.old.turns)
             × (self.new.store ≡ self.old.store) }
     {
@@ -404,7 +441,8 @@ impl<D: Doors, S: Store + Drop, A: Allocator + Copy> NodeRun<D, S, A> {
 
     /// Takes the frames that one neighbour sent.
     fn pull(&mut self, id: u16, now: u64)
-        ensures node { Became IsTake self.old.node self.new.node }
+        ensures takes { TakesAt (Pulls (site_in self.old.node).ranges D.P.gave D.P.took D.P.counts)
+            id self.old.node self.new.node self.old.ports.items self.new.ports.items }
         ensures rest { (self.new.net ≡ self.old.net) × (self.new.turns ≡ self.old.turns)
             × (self.new.store ≡ self.old.store) }
     {
@@ -418,15 +456,22 @@ impl<D: Doors, S: Store + Drop, A: Allocator + Copy> NodeRun<D, S, A> {
 
     /// Takes the next frame that a neighbour sent; no where there is none.
     fn pull_one(&mut self, id: u16, now: u64) -> bool
-        ensures node { Became IsTake self.old.node self.new.node }
+        ensures came { IsTrue result
+            → TakesAt (Comes (site_in self.old.node).ranges D.P.gave D.P.took)
+            id self.old.node self.new.node self.old.ports.items self.new.ports.items }
+        ensures ended { result ≡ false
+            → TakesAt (Pulls (site_in self.old.node).ranges D.P.gave D.P.took D.P.counts)
+            id self.old.node self.new.node self.old.ports.items self.new.ports.items }
         ensures rest { (self.new.net ≡ self.old.net) × (self.new.turns ≡ self.old.turns)
             × (self.new.store ≡ self.old.store) }
     {
         if !self.node.is_neighbour(id) {
             return false;
         }
-        let Pull::Frame(frame) = self.ports[id as usize].pull(&self.net) else {
-            return false;
+        let frame = match self.ports[id as usize].pull(&self.net) {
+            Pull::Frame(frame) => frame,
+            Pull::Later => return false,
+            Pull::Broken => return false,
         };
         self.node.take(id, &Item::Frame(frame));
         let trees = sight::trees(&self.node, &self.net);
@@ -434,22 +479,11 @@ impl<D: Doors, S: Store + Drop, A: Allocator + Copy> NodeRun<D, S, A> {
         true
     }
 
-    /// Second part of a turn: one tick, if the plan has one.
-    fn tick_if(&mut self, ticks: bool, now: u64) -> Option<Ticked>
-        ensures node { Acts ticks self.old.node self.new.node }
-        ensures ports { (self.new.ports ≡ self.old.ports) × (self.new.let_go ≡ self.old.let_go) }
-        ensures ticked { is_some result ≡ ticks }
-        ensures connected { AreConnected self.old.clients self.old.node
-            → AreConnected self.new.clients self.new.node }
-        ensures rest { (self.new.net ≡ self.old.net) × (self.new.turns ≡ self.old.turns)
-            × (self.new.store ≡ self.old.store) }
-    {
-        if ticks { Some(self.tick(now)) } else { None }
-    }
-
-    /// One tick.
+    /// Second part of a turn: one tick.
     fn tick(&mut self, now: u64) -> Ticked
-        ensures node { Acts true self.old.node self.new.node }
+        ensures node { Acts result self.old.node self.new.node }
+        // The client whose loan it began or ended is told.
+        ensures told { IsTold result.act self.old.clients self.new.clients }
         ensures ports { (self.new.ports ≡ self.old.ports) × (self.new.let_go ≡ self.old.let_go) }
         ensures connected { AreConnected self.old.clients self.old.node
             → AreConnected self.new.clients self.new.node }
@@ -462,6 +496,7 @@ impl<D: Doors, S: Store + Drop, A: Allocator + Copy> NodeRun<D, S, A> {
         let outlook = sight::outlook(&self.node, self.let_go);
         let trees = sight::trees(&self.node, &self.net);
         self.pace.ticked(&outlook, moved, &trees, now);
+        self.has_ticked = true;
         ticked
     }
 
@@ -487,21 +522,24 @@ impl<D: Doors, S: Store + Drop, A: Allocator + Copy> NodeRun<D, S, A> {
             × (self.new.store ≡ self.old.store) }
     {
         for id in 0..self.net.nodes() {
-            self.speak_to(id, offers[id as usize], now);
+            let _accepted = self.speak_to(id, offers[id as usize], now);
         }
         service::write_all(&mut self.node, &mut self.clients);
     }
 
     /// Writes what is left of the last line to a neighbour, and then a frame, if one is offered.
-    fn speak_to(&mut self, id: u16, offered: bool, now: u64)
+    /// The answer is whether it was accepted.
+    fn speak_to(&mut self, id: u16, offered: bool, now: u64) -> bool
         ensures spoken { Contains (site_in self.old.node).neighbours id
             → AtBoth (SpeaksTo D.P.gave D.P.took D.P.counts
             (frame_of ((state_of self.old.node).port id)) offered now
-            (port_of self.old.pace.ports id) (port_of self.new.pace.ports id))
+            (port_of self.old.pace.ports id) (port_of self.new.pace.ports id)
+            (sent_if result (frame_of ((state_of self.old.node).port id))))
             (slice_get self.old.ports.items id) (slice_get self.new.ports.items id) }
         ensures silent { ¬ Contains (site_in self.old.node).neighbours id
             → (slice_get self.new.ports.items id ≡ slice_get self.old.ports.items id)
             × (port_of self.new.pace.ports id ≡ port_of self.old.pace.ports id) }
+        ensures known { IsTrue result → Contains (site_in self.old.node).neighbours id }
         ensures others { (w : ℕ) → w ≢ id
             → (slice_get self.new.ports.items w ≡ slice_get self.old.ports.items w)
             × (port_of self.new.pace.ports w ≡ port_of self.old.pace.ports w) }
@@ -514,12 +552,14 @@ impl<D: Doors, S: Store + Drop, A: Allocator + Copy> NodeRun<D, S, A> {
             × (self.new.store ≡ self.old.store) }
     {
         if !self.node.is_neighbour(id) {
-            return;
+            return false;
         }
         let frame = self.node.frame_for(id);
-        if self.ports[id as usize].speak(&frame, offered) {
+        let is_accepted = self.ports[id as usize].speak(&frame, offered);
+        if is_accepted {
             self.pace.gave(id as usize, &frame, now);
         }
+        is_accepted
     }
 
     /// Last part of a turn: each 256th time, the state is saved.
@@ -553,6 +593,15 @@ impl<D: Doors, S: Store + Drop, A: Allocator + Copy> NodeRun<D, S, A> {
         ensures node { IsTrue result → state_of self.new.node
             ≡ rewired (site_in self.old.node).ranges (site_in self.old.node).neighbours
             (neighbours_of net.now (site_in self.old.node).id) (state_of self.old.node) }
+        // The ports of those who are neighbours then stay, and all others have no connection.
+        ensures kept { IsTrue result
+            → AreKept (neighbours_of net.now (site_in self.old.node).id)
+            self.old.ports.items self.new.ports.items }
+        ensures closed { IsTrue result
+            → AreLoose (neighbours_of net.now (site_in self.old.node).id) self.new.ports.items }
+        ensures rest { (self.new.clients ≡ self.old.clients) × (self.new.turns ≡ self.old.turns)
+            × (self.new.pace ≡ self.old.pace) × (self.new.let_go ≡ self.old.let_go)
+            × (self.new.store ≡ self.old.store) }
         ensures refused { result ≡ false → self.new ≡ self.old }
     {
         if !self.net.same_frame(net) {

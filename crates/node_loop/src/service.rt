@@ -1,9 +1,9 @@
 //! What a node does with its clients in a turn.
-ghost use Rattle.std.specs.Prelude.{◌≡◌, ℕ, true};
+ghost use Rattle.std.specs.Prelude.{◌≡◌, ◌&&◌, ◌==◌, ℕ, not, true};
 ghost use Rattle.lock_desk.specs.Desk.{after_leave, is_ticket};
 ghost use Rattle.node_core.specs.Step.{ticked};
 ghost use Rattle.node_core.specs.View.{site_in, state_of};
-ghost use Rattle.node_loop.specs.Clients.{AreConnected, is_connected};
+ghost use Rattle.node_loop.specs.Clients.{AreConnected, is_connected, IsTold, Tells};
 ghost use Rattle.node_loop.specs.Deeds.{Became, IsLeave, IsOfClient, Acts};
 
 use crate::answer::{ANSWER, answer};
@@ -31,6 +31,9 @@ fn dismiss<P: Pipe, A: Allocator + Copy>(
 )
     ensures node { Became IsLeave node.old node.new }
     ensures connected { AreConnected clients.old node.old → AreConnected clients.new node.new }
+    ensures closed { (t : ℕ) → is_connected clients.new t
+        ≡ (is_connected clients.old t && not (t == ticket)) }
+    ensures answers { clients.new.answers ≡ clients.old.answers }
 {
     // The desk is in range, which the prover needs: a borrower does not wait.
     let _known_ranges = node.ranges();
@@ -47,6 +50,7 @@ fn tell<P: Pipe, A: Allocator + Copy>(
 )
     ensures node { Became IsLeave node.old node.new }
     ensures connected { AreConnected clients.old node.old → AreConnected clients.new node.new }
+    ensures told { Tells text.now ticket clients.old clients.new }
 {
     if !clients.say(ticket, text) {
         dismiss(node, clients, ticket);
@@ -181,7 +185,8 @@ pub(crate) fn tick<P: Pipe, A: Allocator + Copy>(
     clients: &mut Clients<P, A>,
 ) -> Ticked
     // One tick, and then nothing but leaves.
-    ensures node { Acts true node.old node.new }
+    ensures node { Acts result node.old node.new }
+    ensures told { IsTold result.act clients.old clients.new }
     ensures connected { AreConnected clients.old node.old → AreConnected clients.new node.new }
 {
     let ticked = node.tick();

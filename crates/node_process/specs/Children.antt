@@ -1,6 +1,10 @@
--- The command lines of the nodes that `up` keeps running.
-use Rattle.std.specs.Prelude.{ℕ, List, [], ◌∷◌, codes, decimal}
+-- The command lines of the nodes that `up` keeps running, and how they end.
+use Rattle.std.specs.Prelude.{ℕ, ◌/◌, ◌%◌, ◌==◌, if◌then◌else◌, List, [], ◌∷◌, codes, decimal}
+use Rattle.std.specs.Process.{status_bits}
+use Rattle.std.specs.declared.process.status.ExitStatus.{ExitStatus}
 use Rattle.pace.specs.declared.pace.Manner.{Manner}
+use Rattle.node_texts.specs.declared.lines.End.{End}
+use Rattle.node_texts.specs.declared.lines.End.TheVariants.{Status, Signal, Unknown}
 
 -- the words by which this program is node `id` of a network, in this manner, as a child that names
 -- itself and ends with its input; behind `--` a FILE or DIR that begins with a hyphen is one too
@@ -10,3 +14,11 @@ child_words manner file id dir =
     ∷ codes "--hold" ∷ decimal manner.hold
     ∷ codes "--repeat" ∷ decimal manner.repeat
     ∷ codes "--" ∷ file ∷ decimal id ∷ dir ∷ []
+
+-- how a process ended, by POSIX's wait status: the low seven bits are 0 if it ended by itself, with
+-- the status in the next byte, and else the signal that ended it; 127 there is no end
+abbrev pub end_of : ExitStatus → End
+end_of s =
+    if status_bits s % 128 == 0 then Status (status_bits s / 256 % 256)
+    else if status_bits s % 128 == 127 then Unknown
+    else Signal (status_bits s % 128)

@@ -1,2 +1,4 @@
 pub mod Children
 pub mod Texts
+pub mod Start
+pub mod Ends

@@ -1,15 +1,18 @@
 -- What a node's process, and the process that keeps nodes running, say where they do not run.
 use Rattle.std.specs.Prelude.{ℕ, List, ◌++◌, codes, decimal}
-use Rattle.command_parts.specs.FaultText.{fault_text}
+use Rattle.network_file.specs.FaultText.{network_fault_text}
 use Rattle.node_process.specs.declared.fault.NodeFault.{NodeFault}
 use Rattle.node_process.specs.declared.fault.NodeFault.TheVariants.{Network, NoNode, LongName}
 use Rattle.node_process.specs.declared.fault.NodeFault.TheVariants.{Folder, Lock, Running, Links}
 use Rattle.node_process.specs.declared.fault.NodeFault.TheVariants.{Clients, System, Input, Memory}
 use Rattle.node_process.specs.declared.fault.NodeFault.TheVariants.{UpLock, UpRunning}
+use Rattle.node_process.specs.declared.fault.NodeFault.TheVariants.{Displaced, StopStays, NoneStays}
+use Rattle.node_texts.specs.declared.lines.End.{End}
+use Rattle.node_texts.specs.declared.lines.End.TheVariants.{Status, Signal, Unknown, Unstarted}
 
 -- why a node does not run: which file, and what to do
 abbrev pub refusal_text : List ℕ → List ℕ → ℕ → NodeFault → List ℕ
-refusal_text file dir id (Network fault) = fault_text fault
+refusal_text file dir id (Network fault) = network_fault_text fault
 refusal_text file dir id (NoNode nodes) =
     codes "no node " ++ (decimal id ++ (codes " is in " ++ (file ++ (codes ": its "
     ++ (decimal nodes ++ codes " nodes are numbered from 0")))))
@@ -36,3 +39,30 @@ refusal_text file dir id System =
 refusal_text file dir id Input =
     codes "standard input is a file or nothing; give a pipe or a terminal"
 refusal_text file dir id Memory = codes "memory Refused"
+refusal_text file dir id Displaced =
+    dir ++ (codes "/lock-" ++ (decimal id
+    ++ codes ": is another file now, or gone; the node ends, start it again"))
+refusal_text file dir id StopStays =
+    dir ++ (codes "/stop-" ++ (decimal id
+    ++ codes ": cannot be removed; remove it, and start the node again"))
+refusal_text file dir id NoneStays =
+    dir ++ codes ": no node stays up there; see what each said, and start up again"
+
+-- the name of a running node's socket leads elsewhere, and cannot be taken back
+abbrev pub blocked_line : List ℕ → List ℕ
+blocked_line path =
+    codes "tokentree: " ++ (path
+    ++ codes ": cannot be made again; remove what stands there: the node runs on, and tries again")
+
+-- how a node ended that is left alone
+abbrev pub last_end : End → List ℕ
+last_end (Status status) = codes "ended with status " ++ decimal status
+last_end (Signal signal) = codes "was ended by signal " ++ decimal signal
+last_end Unknown = codes "ended"
+last_end Unstarted = codes "cannot be started"
+
+-- a node that failed at its start three times in a row is left alone
+abbrev pub left_line : ℕ → End → List ℕ
+left_line id end =
+    codes "node " ++ (decimal id ++ (codes " " ++ (last_end end
+    ++ codes " for the third time at its start, and is left alone; mend what it says, and start up again")))

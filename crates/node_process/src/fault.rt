@@ -3,16 +3,16 @@ ghost use Rattle.std.specs.Prelude.{◌≡◌, ◌≢◌};
 ghost use Rattle.std.specs.declared.io.ErrorKind.TheVariants.{OutOfMemory};
 ghost use Rattle.node_process.specs.declared.fault.NodeFault.TheVariants.{Memory, System};
 
-use command_parts::Fault;
+use network_file::NetworkFault;
 use std::alloc::AllocError;
 use std::fmt;
 use std::io::ErrorKind;
 
-/// Why a node does not run. Printed within a [`Refusal`].
+/// Why a node does not run, or ends. Printed within a [`Refusal`].
 #[derive(Clone, Copy, Debug, PartialEq, Eq, Drop)]
 pub enum NodeFault {
     /// The network file is refused.
-    Network(Fault),
+    Network(NetworkFault),
     /// There is no such node; the network has this many.
     NoNode(u16),
     /// The sockets' names would have more bytes than such a name may have.
@@ -35,6 +35,13 @@ pub enum NodeFault {
     System,
     /// Standard input, whose end is to be waited for, is a file or nothing.
     Input,
+    /// The file by which a node says that it runs is not the node's own any more: its folder was
+    /// removed or made again.
+    Displaced,
+    /// The file that stops a node is there, and cannot be removed.
+    StopStays,
+    /// Each node failed at its start again and again, and is left alone.
+    NoneStays,
     /// Memory ran out.
     Memory,
 }
@@ -136,6 +143,18 @@ impl fmt::Display for Refusal<'_> {
             NodeFault::Input => {
                 f.write_str("standard input is a file or nothing; give a pipe or a terminal")
             }
+            NodeFault::Displaced => write!(
+                f,
+                "{dir}/lock-{id}: is another file now, or gone; the node ends, start it again"
+            ),
+            NodeFault::StopStays => write!(
+                f,
+                "{dir}/stop-{id}: cannot be removed; remove it, and start the node again"
+            ),
+            NodeFault::NoneStays => write!(
+                f,
+                "{dir}: no node stays up there; see what each said, and start up again"
+            ),
             NodeFault::Memory => f.write_str("memory Refused"),
         }
     }

@@ -1,16 +1,22 @@
-//! The folder of a network: it is made where it is missing, and a node takes its place in it.
+//! The folder of a network: it is made if it is missing, and a node takes its place in it.
 ghost use Rattle.std.specs.Prelude.{◌≡◌, ◌<◌, ◌≤◌, ◌⊎◌, IfOk, IfErr, length};
 ghost use Rattle.node_texts.specs.Names.{longest_socket_name};
 ghost use Rattle.node_process.specs.declared.fault.NodeFault.TheVariants.{LongName, Memory};
+ghost use Rattle.node_process.specs.declared.fault.NodeFault.TheVariants.{Folder, Lock, Running};
+ghost use Rattle.node_process.specs.declared.fault.NodeFault.TheVariants.{Links, Clients};
+ghost use Rattle.node_process.specs.declared.start.Stage.TheVariants.{Checked, Entered, Held};
+ghost use Rattle.node_process.specs.declared.start.Stage.TheVariants.{Listening};
 
 use crate::fault::NodeFault;
+use crate::start::Stage;
 use mio::net::UnixListener;
+use node_keeping::{FileId, FileSight, sight_of};
 use node_texts::{LONGEST_SOCKET_NAME, NodePaths, links_name, longest_socket_name};
 use std::alloc::Global;
-use std::fs::{DirBuilder, File, OpenOptions};
+use std::fs::{DirBuilder, File, Metadata, OpenOptions};
 use std::io::ErrorKind;
 use std::net::Net;
-use std::os::unix::fs::{DirBuilderExt, OpenOptionsExt};
+use std::os::unix::fs::{DirBuilderExt, MetadataExt, OpenOptionsExt};
 use std::os::unix::net::SocketAddr;
 use std::rt::Files;
 use std::{fs, io};
@@ -36,17 +42,21 @@ pub fn check_names(alloc: Global, dir: &str, nodes: u16) -> Result<(), NodeFault
     Ok(())
 }
 
-/// Makes the folder where it is missing, but none above it. Only its owner can enter it then.
+/// Makes the folder if it is missing, but none above it. Only its owner can enter it then.
 ///
 /// # Errors
-/// `Folder` where there is none and none can be made.
-pub fn make_folder<F: Files>(files: &F, dir: &str) -> Result<(), NodeFault> {
+/// `Folder` if there is none and none can be made.
+pub fn make_folder<F: Files>(files: &F, dir: &str, stage: &mut Stage) -> Result<(), NodeFault>
+    requires { stage.old ≡ Checked }
+    ensures ok { IfOk result (λ _. stage.new ≡ Entered) }
+    ensures err { IfErr result (λ fault. (fault ≡ Folder) × (stage.new ≡ Checked)) }
+{
     let made = DirBuilder::new().mode(FOLDER_MODE).create(files, dir);
-    match made {
-        Ok(()) => Ok(()),
-        Err(_) if is_folder(files, dir) => Ok(()),
-        Err(_) => Err(NodeFault::Folder),
+    if made.is_err() && !is_folder(files, dir) {
+        return Err(NodeFault::Folder);
     }
+    *stage = Stage::Entered;
+    Ok(())
 }
 
 /// Whether a folder stands there.
@@ -57,47 +67,128 @@ fn is_folder<F: Files>(files: &F, dir: &str) -> bool {
     }
 }
 
-/// Locks a file, which is made where it is missing, for as long as what comes back is kept: the
-/// system lets it go where the process ends, whichever way.
-///
-/// # Errors
-/// `Running` where another process holds it, `Lock` where it cannot be opened or locked.
-pub fn hold_place<F: Files<File = File>>(files: &F, path: &str) -> Result<File, NodeFault> {
-    let opened = OpenOptions::new()
-        .write(true)
-        .create(true)
-        .mode(FILE_MODE)
-        .open(files, path);
-    let Ok(file) = opened else {
-        return Err(NodeFault::Lock);
-    };
-    match file.try_lock() {
-        Ok(()) => Ok(file),
-        Err(fs::TryLockError::WouldBlock) => Err(NodeFault::Running),
-        Err(_) => Err(NodeFault::Lock),
+/// A process's place in a folder: a file that is locked for as long as this is kept. The system lets
+/// it go when the process ends, whichever way.
+#[derive(Drop)]
+pub struct Place {
+    _file: File,
+    id: FileId,
+}
+
+impl Place {
+    /// Whether the name of the place still leads to it. If not, another process may hold the place
+    /// of this name.
+    pub fn sight<F: Files>(&self, files: &F, path: &str) -> FileSight {
+        sight(self.id, fs::metadata(files, path))
     }
 }
 
-/// Makes the sockets of a node, in place of files that were left there.
+/// Takes the place of this name, whose file is made if it is missing.
+///
+/// # Errors
+/// `Running` if another process holds it, `Lock` if it cannot be opened or locked.
+pub fn hold_place<F: Files<File = File>>(
+    files: &F,
+    path: &str,
+    stage: &mut Stage,
+) -> Result<Place, NodeFault>
+    requires { stage.old ≡ Entered }
+    ensures ok { IfOk result (λ _. stage.new ≡ Held) }
+    ensures err { IfErr result (λ fault. ((fault ≡ Lock) ⊎ (fault ≡ Running))
+        × (stage.new ≡ Entered)) }
+{
+    let Ok(file) = open_place(files, path) else {
+        return Err(NodeFault::Lock);
+    };
+    let Ok(found) = file.metadata() else {
+        return Err(NodeFault::Lock);
+    };
+    match file.try_lock() {
+        Ok(()) => {}
+        Err(fs::TryLockError::WouldBlock) => return Err(NodeFault::Running),
+        Err(_) => return Err(NodeFault::Lock),
+    }
+    *stage = Stage::Held;
+    let id = id_of(&found);
+    Ok(Place { _file: file, id })
+}
+
+/// Opens the file of a place, or makes it.
+fn open_place<F: Files<File = File>>(files: &F, path: &str) -> io::Result<File> {
+    OpenOptions::new()
+        .write(true)
+        .create(true)
+        .mode(FILE_MODE)
+        .open(files, path)
+}
+
+/// Which file it is.
+fn id_of(found: &Metadata) -> FileId {
+    FileId {
+        device: found.dev(),
+        inode: found.ino(),
+    }
+}
+
+/// What a socket's name leads to. A symbolic link is no socket.
+pub fn sight_at<F: Files>(files: &F, path: &str, own: FileId) -> FileSight {
+    sight(own, fs::symlink_metadata(files, path))
+}
+
+/// What a name leads to, by what the system says of it.
+fn sight(own: FileId, found: io::Result<Metadata>) -> FileSight {
+    match found {
+        Ok(found) => sight_of(own, Ok(id_of(&found))),
+        Err(error) => sight_of(own, Err(error.kind())),
+    }
+}
+
+/// A socket that listens, and which file its name led to then.
+#[derive(Drop)]
+pub struct Listener {
+    /// The socket.
+    pub socket: UnixListener,
+    /// Its file.
+    pub file: FileId,
+}
+
+/// Makes the sockets of a node whose place is held, for neighbours and for clients, in place of
+/// files that were left there.
 ///
 /// # Errors
 /// `Links` or `Clients`.
 pub fn make_sockets<R: Files + Net>(
     rt: &R,
     paths: &NodePaths,
-) -> Result<(UnixListener, UnixListener), NodeFault> {
-    let links = bind_anew(rt, paths.links.as_str()).map_err(|_| NodeFault::Links)?;
-    let clients = bind_anew(rt, paths.clients.as_str()).map_err(|_| NodeFault::Clients)?;
+    stage: &mut Stage,
+) -> Result<(Listener, Listener), NodeFault>
+    requires { stage.old ≡ Held }
+    ensures ok { IfOk result (λ _. stage.new ≡ Listening) }
+    ensures err { IfErr result (λ fault. ((fault ≡ Links) ⊎ (fault ≡ Clients))
+        × (stage.new ≡ Held)) }
+{
+    let Ok(links) = bind_again(rt, paths.links.as_str()) else {
+        return Err(NodeFault::Links);
+    };
+    let Ok(clients) = bind_again(rt, paths.clients.as_str()) else {
+        return Err(NodeFault::Clients);
+    };
+    *stage = Stage::Listening;
     Ok((links, clients))
 }
 
-/// A socket of this name, in place of a file that was left there.
-fn bind_anew<R: Files + Net>(rt: &R, path: &str) -> io::Result<UnixListener> {
+/// A socket of this name, in place of a file that stands there.
+///
+/// # Errors
+/// If what stands there cannot be removed, as a folder, or the system makes none.
+pub fn bind_again<R: Files + Net>(rt: &R, path: &str) -> io::Result<Listener> {
     remove(rt, path)?;
-    UnixListener::bind(rt, path)
+    let socket = UnixListener::bind(rt, path)?;
+    let file = id_of(&fs::symlink_metadata(rt, path)?);
+    Ok(Listener { socket, file })
 }
 
-/// Removes a file, where it is there.
+/// Removes a file, if it is there.
 pub fn remove<F: Files>(files: &F, path: &str) -> io::Result<()> {
     match fs::remove_file(files, path) {
         Err(error) if error.kind() != ErrorKind::NotFound => Err(error),
@@ -109,12 +200,23 @@ pub fn remove<F: Files>(files: &F, path: &str) -> io::Result<()> {
 ///
 /// # Errors
 /// `LongName`, or `Memory`.
-pub fn addresses_of(alloc: Global, dir: &str, nodes: u16) -> Result<Vec<SocketAddr>, NodeFault> {
+pub fn addresses_of(alloc: Global, dir: &str, nodes: u16) -> Result<Vec<SocketAddr>, NodeFault>
+    ensures count { IfOk result (λ addresses. length addresses.items ≡ nodes) }
+    ensures err { IfErr result (λ fault. (fault ≡ LongName) ⊎ (fault ≡ Memory)) }
+{
     let mut addresses = Vec::with_capacity(alloc, usize::from(nodes))?;
     for id in 0..nodes {
-        let name = links_name(alloc, dir, id)?;
-        let address = SocketAddr::from_pathname(name.as_str()).map_err(|_| NodeFault::LongName)?;
-        addresses.push(address).map_err(|_| NodeFault::Memory)?;
+        addresses
+            .push(address_of(alloc, dir, id)?)
+            .map_err(|_| NodeFault::Memory)?;
     }
     Ok(addresses)
+}
+
+/// The address of node `id`.
+fn address_of(alloc: Global, dir: &str, id: u16) -> Result<SocketAddr, NodeFault>
+    ensures { IfErr result (λ fault. (fault ≡ LongName) ⊎ (fault ≡ Memory)) }
+{
+    let name = links_name(alloc, dir, id)?;
+    SocketAddr::from_pathname(name.as_str()).map_err(|_| NodeFault::LongName)
 }

@@ -14,10 +14,10 @@
 //! process is node U there).
 //!
 //! What a turn of a node does stands in the crate `node_loop`, over doors; those over Unix sockets
-//! stand in `unix_doors`, the names of files and the lines that are printed in `node_texts`. What
-//! the system answers is not known to contracts, so the functions that call it say little; which
-//! refusal is told, which words a child is given, and when a network file means new edges are
-//! exact.
+//! stand in `unix_doors`, the names of files and the lines that are printed in `node_texts`. What a
+//! node does after each 256th turn, and what `up` makes of a node that ended, `node_keeping`
+//! decides. What the system answers is not known to contracts, so the functions that call it say
+//! little: in which order a start goes, which fault ends it, and which words a child is given.
 //!
 //! The trap: whoever can open the sockets can take the lock. The folder is made so that only its
 //! owner can enter it.
@@ -25,9 +25,13 @@
 
 mod fault;
 mod folder;
+mod left;
+mod names;
 pub mod node;
+mod start;
 pub mod up;
 
 pub use fault::{NodeFault, Refusal};
+pub use left::LeftLine;
 pub use node::NodeWords;
 pub use up::{NodeProgram, OwnProgram};

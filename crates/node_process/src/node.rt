@@ -1,10 +1,22 @@
 //! `node FILE ID DIR`: a node of a network as a process.
-ghost use Rattle.std.specs.Prelude.{◌≡◌, ◌<◌, ◌≤◌, IfOk, IfErr};
-ghost use Rattle.node_process.specs.declared.fault.NodeFault.TheVariants.{NoNode};
+ghost use Rattle.std.specs.Prelude.{◌≡◌, ◌<◌, ◌≤◌, ◌⊎◌, true, false, Some, None, IfOk, IfErr, IsTrue};
+ghost use Rattle.node_keeping.specs.AfterSave.{looks_for_stop};
+ghost use Rattle.node_keeping.specs.declared.saved.StopSight.TheVariants.{Absent};
+ghost use Rattle.node_process.specs.Start.{may_end};
+ghost use Rattle.node_process.specs.Ends.{end_fault, ends_by};
+ghost use Rattle.node_process.specs.declared.fault.NodeFault.TheVariants.{NoNode, Memory, System};
+ghost use Rattle.node_process.specs.declared.start.Stage.TheVariants.{Begun, Checked, Held};
+ghost use Rattle.node_process.specs.declared.start.Stage.TheVariants.{Listening, Ready};
 
 use crate::fault::{NodeFault, fault_of};
-use crate::folder::{addresses_of, check_names, hold_place, make_folder, make_sockets, remove};
-use command_parts::read_network;
+use crate::folder::{
+    Place, addresses_of, check_names, hold_place, make_folder, make_sockets, remove,
+};
+use crate::names::{Name, Names};
+use crate::start::Stage;
+use mio::net::UnixListener;
+use network_file::read_network;
+use node_keeping::{AfterSave, Sights, StopSight, after_save, looks_for_stop};
 use node_loop::NodeRun;
 use node_state_file::{FileStore, start};
 use node_texts::{CapacityLine, NodePaths, Note, NoteLine, SOCKET_FRAMES};
@@ -14,6 +26,7 @@ use std::fs;
 use std::fs::File;
 use std::io::Input;
 use std::net::Net as Sockets;
+use std::os::unix::net::SocketAddr;
 use std::rt::{Clock, Files};
 use topology::Net;
 use unix_doors::{Stopwatch, UnixDoors};
@@ -38,43 +51,47 @@ type Run<'a, R> = NodeRun<UnixDoors<'a, R>, FileStore<'a, R>>;
 
 /// Runs node ID of the network of FILE in DIR, until its stop file is there.
 ///
-/// It prints `start loaded` or `start default NAME`, then `ready` once both sockets listen. Behind
-/// each 256th turn it has saved its state, looks for the stop file, and reads FILE again.
+/// It prints `start loaded` or `start default NAME`, then `ready` once both sockets listen. After
+/// each 256th turn it has saved its state, looks whether its names in DIR still lead to its own
+/// files, looks for the stop file, and reads FILE again.
 ///
 /// # Errors
 /// Why it does not run; nothing is made before the network, the id and the folder's name are right.
+/// Or why it ends: its stop file cannot be removed, or its place in DIR is not its own any more.
 pub fn run<R>(rt: &R, words: &NodeWords<'_>) -> Result<(), NodeFault>
 where
     R: Files<File = File> + Sockets + Clock + Input + Print + Eprint + AllocGlobal,
 {
-    let alloc: Global = rt.alloc();
-    let net = read_network(rt, words.file).map_err(NodeFault::Network)?;
-    check_id(words.id, &net)?;
-    check_names(alloc, words.dir, net.nodes())?;
-    make_folder(rt, words.dir)?;
-    let paths = NodePaths::new(alloc, words.dir, words.id)?;
+    let mut stage = Stage::Begun;
+    let net = check_words(rt, words, &mut stage)?;
+    make_folder(rt, words.dir, &mut stage)?;
+    let paths = NodePaths::new(rt.alloc(), words.dir, words.id)?;
     // Held until the node ends.
-    let _place = hold_place(rt, paths.lock.as_str())?;
-    run_in_place(rt, words, &paths, net)
+    let place = hold_place(rt, paths.lock.as_str(), &mut stage)?;
+    run_in_place(rt, words, &paths, &place, net, stage)
 }
 
-/// Runs the node whose place in the folder is held.
-fn run_in_place<R>(
+/// Reads the network, and refuses it, an id that is no node's, and a folder whose name is too long.
+///
+/// # Errors
+/// Which of these it is; nothing is made then.
+fn check_words<R: Files + AllocGlobal>(
     rt: &R,
     words: &NodeWords<'_>,
-    paths: &NodePaths,
-    net: Net,
-) -> Result<(), NodeFault>
-where
-    R: Files<File = File> + Sockets + Clock + Input + Print + Eprint + AllocGlobal,
-    requires { words.now.id < net.nodes }
+    stage: &mut Stage,
+) -> Result<Net, NodeFault>
+    requires { stage.old ≡ Begun }
+    ensures ok { IfOk result (λ net. (words.now.id < net.nodes) × (stage.new ≡ Checked)) }
+    ensures err { IfErr result (λ fault. (may_end Begun fault ≡ true) × (stage.new ≡ Begun)) }
 {
-    let mut run = start_node(rt, words, paths, net)?;
-    run_turns(rt, words, paths, &mut run)?;
-    // A file that cannot be removed is removed by the next start.
-    let _ = remove(rt, paths.links.as_str());
-    let _ = remove(rt, paths.clients.as_str());
-    Ok(())
+    let net = match read_network(rt, words.file) {
+        Ok(net) => net,
+        Err(fault) => return Err(NodeFault::Network(fault)),
+    };
+    check_id(words.id, &net)?;
+    check_names(rt.alloc(), words.dir, net.nodes())?;
+    *stage = Stage::Checked;
+    Ok(net)
 }
 
 /// Refuses an id that is no node's.
@@ -89,27 +106,75 @@ fn check_id(id: u16, net: &Net) -> Result<(), NodeFault>
     }
 }
 
-/// Loads the state, opens the doors, and tells both.
+/// Runs the node whose place in the folder is held.
+fn run_in_place<'a, R>(
+    rt: &'a R,
+    words: &NodeWords<'_>,
+    paths: &'a NodePaths,
+    place: &'a Place,
+    net: Net,
+    mut stage: Stage,
+) -> Result<(), NodeFault>
+where
+    R: Files<File = File> + Sockets + Clock + Input + Print + Eprint + AllocGlobal,
+    requires node { words.now.id < net.nodes }
+    requires held { stage ≡ Held }
+{
+    let (mut run, mut names) = start_node(rt, words, paths, place, net, &mut stage)?;
+    let end = match Stopwatch::start(rt) {
+        Ok(mut watch) => run_turns(rt, words, &mut watch, &mut names, &mut run),
+        Err(_) => return Err(NodeFault::System),
+    };
+    if end != AfterSave::Displaced {
+        // A file that cannot be removed is removed by the next start.
+        let _ = remove(rt, paths.links.as_str());
+        let _ = remove(rt, paths.clients.as_str());
+    }
+    fault_of_end(end)
+}
+
+/// The fault with which a node ends that ends so.
+fn fault_of_end(end: AfterSave) -> Result<(), NodeFault>
+    ensures ok { IfOk result (λ _. end_fault end ≡ None) }
+    ensures err { IfErr result (λ fault. end_fault end ≡ Some fault) }
+{
+    match end {
+        AfterSave::Displaced => Err(NodeFault::Displaced),
+        AfterSave::StopStays => Err(NodeFault::StopStays),
+        AfterSave::Stop
+        | AfterSave::GoOn {
+            renews_links: _,
+            renews_clients: _,
+        } => Ok(()),
+    }
+}
+
+/// Loads the state, opens the doors, and says both.
 fn start_node<'a, R>(
     rt: &'a R,
     words: &NodeWords<'_>,
     paths: &'a NodePaths,
+    place: &'a Place,
     net: Net,
-) -> Result<Run<'a, R>, NodeFault>
+    stage: &mut Stage,
+) -> Result<(Run<'a, R>, Names<'a>), NodeFault>
 where
     R: Files + Sockets + Print + Eprint + AllocGlobal,
-    requires { words.now.id < net.nodes }
+    requires node { words.now.id < net.nodes }
+    requires held { stage.old ≡ Held }
+    ensures ok { IfOk result (λ _. stage.new ≡ Ready) }
+    ensures err { IfErr result (λ fault. may_end stage.new fault ≡ true) }
 {
     let alloc: Global = rt.alloc();
     let mut store = FileStore::new(rt, paths.state.as_str());
     let started = start(alloc, &mut store, &net, words.id)?;
-    let doors = open_doors(rt, words, paths, &net)?;
-    let run = NodeRun::new(alloc, net, started.state, doors, store, words.manner).map_err(
-        |_| NodeFault::Memory,
-    )?;
-    tell(rt, words, Note::Started(started.fault));
-    tell(rt, words, Note::Ready);
-    Ok(run)
+    let (doors, names) = open_doors(rt, words, paths, place, &net, stage)?;
+    let Ok(run) = NodeRun::new(alloc, net, started.state, doors, store, words.manner) else {
+        return Err(NodeFault::Memory);
+    };
+    say(rt, words, Note::Started(started.fault));
+    say_ready(rt, words, stage);
+    Ok((run, names))
 }
 
 /// Makes the node's sockets, and has a child watch its input; any other node says here what its
@@ -118,72 +183,143 @@ fn open_doors<'a, R>(
     rt: &'a R,
     words: &NodeWords<'_>,
     paths: &'a NodePaths,
+    place: &'a Place,
     net: &Net,
-) -> Result<UnixDoors<'a, R>, NodeFault>
+    stage: &mut Stage,
+) -> Result<(UnixDoors<'a, R>, Names<'a>), NodeFault>
 where
     R: Files + Sockets + Eprint + AllocGlobal,
+    requires { stage.old ≡ Held }
+    ensures ok { IfOk result (λ _. stage.new ≡ Listening) }
+    ensures err { IfErr result (λ fault. may_end stage.new fault ≡ true) }
 {
-    let mut doors = make_doors(rt, words.dir, paths, net.nodes())?;
-    if words.is_child {
-        doors.watch_input().map_err(|_| NodeFault::Input)?;
-    } else {
+    let addresses = addresses_of(rt.alloc(), words.dir, net.nodes())?;
+    let (links, clients) = make_sockets(rt, paths, stage)?;
+    let names = Names {
+        paths,
+        place,
+        links: Name::new(paths.links.as_str(), links.file),
+        clients: Name::new(paths.clients.as_str(), clients.file),
+    };
+    let mut doors = make_doors(rt, links.socket, clients.socket, addresses)?;
+    if !words.is_child {
         warn_of_capacity(rt, net.capacity());
+    } else if doors.watch_input().is_err() {
+        return Err(NodeFault::Input);
     }
-    Ok(doors)
+    Ok((doors, names))
 }
 
-/// Makes the node's sockets in its folder, in a network of as many nodes.
-fn make_doors<'a, R: Files + Sockets + AllocGlobal>(
+/// Doors over sockets that listen.
+fn make_doors<'a, R: Sockets + AllocGlobal>(
     rt: &'a R,
-    dir: &str,
-    paths: &'a NodePaths,
-    nodes: u16,
-) -> Result<UnixDoors<'a, R>, NodeFault> {
-    let alloc: Global = rt.alloc();
-    let addresses = addresses_of(alloc, dir, nodes)?;
-    let (links, clients) = make_sockets(rt, paths)?;
-    UnixDoors::new(rt, alloc, links, clients, addresses).map_err(|error| fault_of(error.kind()))
+    links: UnixListener,
+    clients: UnixListener,
+    addresses: Vec<SocketAddr>,
+) -> Result<UnixDoors<'a, R>, NodeFault>
+    ensures { IfErr result (λ fault. (fault ≡ Memory) ⊎ (fault ≡ System)) }
+{
+    match UnixDoors::new(rt, rt.alloc(), links, clients, addresses) {
+        Ok(doors) => Ok(doors),
+        Err(error) => Err(fault_of(error.kind())),
+    }
 }
 
-/// Takes turns until the node is to end.
+/// Takes turns until the node is to end, and says how it is to.
 fn run_turns<'a, R>(
     rt: &'a R,
     words: &NodeWords<'_>,
-    paths: &NodePaths,
+    watch: &mut Stopwatch<'a, R>,
+    names: &mut Names<'a>,
     run: &mut Run<'a, R>,
-) -> Result<(), NodeFault>
+) -> AfterSave
 where
-    R: Files + Sockets + Clock + Input + AllocGlobal,
+    R: Files + Sockets + Clock + Input + Eprint + AllocGlobal,
 {
-    let mut watch = Stopwatch::start(rt).map_err(|_| NodeFault::System)?;
     for _ in 0..u64::MAX {
         run.wait(watch.now());
-        let turned = run.turn(watch.now());
-        if turned.saved.is_some() && !goes_on(rt, words, paths, run) {
-            break;
+        let now = watch.now();
+        if !run.is_turn_due(now) {
+            run.attend(now);
+        } else if run.turn(now).saved.is_some() {
+            let next = look(rt, words, names, run);
+            if ends(next) {
+                return next;
+            }
         }
     }
-    Ok(())
+    AfterSave::Stop
 }
 
-/// What is done behind a turn that saved. Whether the node goes on.
-fn goes_on<'a, R>(rt: &'a R, words: &NodeWords<'_>, paths: &NodePaths, run: &mut Run<'a, R>) -> bool
-where
-    R: Files + Sockets + Input + AllocGlobal,
+/// Whether a node ends that is to do this.
+fn ends(next: AfterSave) -> bool
+    ensures { result ≡ ends_by next }
 {
-    if is_told_to_stop(rt, paths.stop.as_str()) || run.doors().has_input_ended(rt) {
-        return false;
-    }
-    rewire_by_file(rt, words.file, run);
-    listen_again(rt, paths, run.doors());
-    true
+    !matches!(
+        next,
+        AfterSave::GoOn {
+            renews_links: _,
+            renews_clients: _,
+        }
+    )
 }
 
-/// Whether the stop file is there. It is removed.
-fn is_told_to_stop<F: Files>(files: &F, stop: &str) -> bool {
+/// Looks at the node's files after a turn that saved, and does what is to be done if it runs on. What
+/// it does next.
+fn look<'a, R>(
+    rt: &'a R,
+    words: &NodeWords<'_>,
+    names: &mut Names<'a>,
+    run: &mut Run<'a, R>,
+) -> AfterSave
+where
+    R: Files + Sockets + Clock + Input + Eprint + AllocGlobal,
+    ensures { IsTrue (ends_by result) → names.new ≡ names.old }
+{
+    let next = after_save(see(rt, words, names, run.doors()));
+    if let AfterSave::GoOn {
+        renews_links,
+        renews_clients,
+    } = next
+    {
+        rewire_by_file(rt, words.file, run);
+        names.take_back(rt, run.doors(), renews_links, renews_clients);
+    }
+    next
+}
+
+/// What a node sees after a turn that saved. In a folder that is another's no file is touched.
+fn see<'a, R>(
+    rt: &'a R,
+    words: &NodeWords<'_>,
+    names: &Names<'a>,
+    doors: &mut UnixDoors<'a, R>,
+) -> Sights
+where
+    R: Files + Sockets + Input,
+    ensures { looks_for_stop result.place ≡ false → result.stop ≡ Absent }
+{
+    let place = names.place.sight(rt, names.paths.lock.as_str());
+    let stop = if looks_for_stop(place) {
+        look_for_stop(rt, names.paths.stop.as_str())
+    } else {
+        StopSight::Absent
+    };
+    Sights {
+        place,
+        stop,
+        has_input_ended: words.is_child && doors.has_input_ended(rt),
+        links: names.links.sight(rt),
+        clients: names.clients.sight(rt),
+    }
+}
+
+/// Looks for the stop file, and removes it.
+fn look_for_stop<F: Files>(files: &F, stop: &str) -> StopSight {
     match fs::remove_file(files, stop) {
-        Ok(()) => true,
-        Err(_) => fs::exists(files, stop).unwrap_or(false),
+        Ok(()) => StopSight::Removed,
+        Err(_) if fs::symlink_metadata(files, stop).is_ok() => StopSight::Stays,
+        Err(_) => StopSight::Absent,
     }
 }
 
@@ -195,19 +331,17 @@ fn rewire_by_file<'a, R: Files + Sockets + AllocGlobal>(rt: &R, file: &str, run:
     }
 }
 
-/// Makes the sockets anew where the file of one is gone. Where that fails, it is tried again.
-fn listen_again<'a, R: Files + Sockets>(rt: &R, paths: &NodePaths, doors: &mut UnixDoors<'a, R>) {
-    let stands = |path: &str| fs::exists(rt, path).unwrap_or(true);
-    if stands(paths.links.as_str()) && stands(paths.clients.as_str()) {
-        return;
-    }
-    if let Ok((links, clients)) = make_sockets(rt, paths) {
-        let _ = doors.listen_at(links, clients);
-    }
+/// Says that the node is ready, whose sockets listen both.
+fn say_ready<R: Print + AllocGlobal>(rt: &R, words: &NodeWords<'_>, stage: &mut Stage)
+    requires { stage.old ≡ Listening }
+    ensures { stage.new ≡ Ready }
+{
+    say(rt, words, Note::Ready);
+    *stage = Stage::Ready;
 }
 
 /// Prints a note as one line, in one write. A node whose output is closed runs on.
-fn tell<R: Print + AllocGlobal>(rt: &R, words: &NodeWords<'_>, note: Note) {
+fn say<R: Print + AllocGlobal>(rt: &R, words: &NodeWords<'_>, note: Note) {
     let named = words.is_child.then_some(words.id);
     let line = NoteLine { named, note };
     if let Ok(text) = format!(in rt.alloc(); "{line}\n") {
@@ -215,7 +349,7 @@ fn tell<R: Print + AllocGlobal>(rt: &R, words: &NodeWords<'_>, note: Note) {
     }
 }
 
-/// Says so where links hold fewer frames than a socket may.
+/// Says so if links hold fewer frames than a socket may.
 pub fn warn_of_capacity<R: Eprint>(rt: &R, capacity: u16) {
     if capacity < SOCKET_FRAMES {
         let _ = rt.eprintln(CapacityLine(capacity));

@@ -1,18 +1,31 @@
 //! `up FILE DIR`: all nodes of a network as processes, for as long as standard input lasts.
-ghost use Rattle.std.specs.Prelude.{◌≡◌, ◌++◌, ◌∷◌, [], OnOk, codes, decimal};
+ghost use Rattle.std.specs.Prelude.{◌≡◌, ◌≢◌, ◌⊎◌, ◌++◌, ◌∷◌, [], true, None};
+ghost use Rattle.std.specs.Prelude.{OnOk, IfOk, IfErr};
+ghost use Rattle.std.specs.Prelude.{codes, decimal, length};
 ghost use Rattle.std.specs.Process.{command_args};
-ghost use Rattle.node_process.specs.Children.{child_words};
+ghost use Rattle.node_keeping.specs.Steps.{new_keeper, stage_after, deed_at};
+ghost use Rattle.node_keeping.specs.declared.keeper.Stage.TheVariants.{Runs, Waits, Starts};
+ghost use Rattle.node_keeping.specs.declared.keeper.Seen.TheVariants.{Nothing};
+ghost use Rattle.node_keeping.specs.declared.keeper.Deed.TheVariants.{Start};
+ghost use Rattle.node_process.specs.Children.{child_words, end_of};
+ghost use Rattle.node_process.specs.Start.{may_end};
 ghost use Rattle.node_process.specs.declared.fault.NodeFault.TheVariants.{Lock, Running};
 ghost use Rattle.node_process.specs.declared.fault.NodeFault.TheVariants.{UpLock, UpRunning};
+ghost use Rattle.node_process.specs.declared.fault.NodeFault.TheVariants.{System};
+ghost use Rattle.node_process.specs.declared.start.Stage.TheVariants.{Begun, Checked};
 
 use crate::fault::NodeFault;
 use crate::folder::{check_names, hold_place, make_folder};
+use crate::left::LeftLine;
 use crate::node::warn_of_capacity;
-use command_parts::read_network;
+use crate::start::Stage;
 use mio::{Events, Poll, Token};
+use network_file::read_network;
+use node_keeping::{Deed, Keeper, Seen};
 use node_texts::{End, EndLine};
 use pace::Manner;
 use std::alloc::{AllocError, Global};
+use std::fmt::Display;
 use std::fs::File;
 use std::io::Input;
 use std::net::Net as Sockets;
@@ -28,11 +41,8 @@ use unix_doors::{has_input_ended, watch_input};
 /// How long one look at the processes takes at most, in milliseconds.
 const LOOK: u64 = 50;
 
-/// In how many looks a process that ended is started again.
-const LOOKS_BEFORE_START: u32 = 10;
-
-/// How often, each 10 milliseconds, the end of the processes is looked for before they are killed.
-const LOOKS_BEFORE_KILL: u32 = 500;
+/// How long one look takes while the processes are to end, in milliseconds.
+const LOOK_AT_END: u64 = 10;
 
 /// Standard input in a poll.
 const INPUT: Token = Token(0);
@@ -67,7 +77,11 @@ impl<'a> OwnProgram<'a> {
         file: &'a str,
         dir: &'a str,
         manner: Manner,
-    ) -> Result<OwnProgram<'a>, NodeFault> {
+    ) -> Result<OwnProgram<'a>, NodeFault>
+        ensures words { IfOk result (λ own. (own.file ≡ file.entry) × (own.dir ≡ dir.entry)
+            × (own.manner ≡ manner)) }
+        ensures fault { IfErr result (λ fault. fault ≡ System) }
+    {
         match env::current_exe(rt) {
             Ok(program) => Ok(OwnProgram {
                 program,
@@ -147,33 +161,97 @@ fn add_two(command: &mut Command, first: &str, second: &str) -> io::Result<()>
 #[derive(Drop)]
 struct Kept<P: OpenProcess + Drop> {
     id: u16,
-    process: Process<P>,
+    keeper: Keeper,
+    /// Its process, from its start until it is seen to have ended.
+    child: Option<Child<P>>,
 }
 
-/// A node's process, or when it is started again.
-#[derive(Drop)]
-enum Process<P: OpenProcess + Drop> {
-    /// It runs.
-    Runs(Child<P>),
-    /// It is started after this many looks.
-    Waits(u32),
+impl<P: OpenProcess + Drop> Kept<P> {
+    /// A node that is started at the first look.
+    fn new(id: u16) -> Kept<P>
+        ensures { (result.id ≡ id) × (result.keeper ≡ new_keeper) × (result.child ≡ None) }
+    {
+        Kept {
+            id,
+            keeper: Keeper::new(),
+            child: None,
+        }
+    }
+
+    /// What a look at its process shows.
+    fn sight(&mut self) -> Seen
+        ensures none { self.old.child ≡ None → result ≡ Nothing }
+        ensures stays { (self.new.id ≡ self.old.id) × (self.new.keeper ≡ self.old.keeper) }
+    {
+        match &mut self.child {
+            Some(child) => match child.try_wait() {
+                Ok(Some(status)) => Seen::Ended(end_of(status)),
+                // Nothing is known of it: it is asked again.
+                Ok(None) | Err(_) => Seen::Nothing,
+            },
+            None => Seen::Nothing,
+        }
+    }
+
+    /// Has its process end by its input.
+    fn close_input(&mut self)
+        ensures { (self.new.id ≡ self.old.id) × (self.new.keeper ≡ self.old.keeper) }
+    {
+        if let Some(child) = &mut self.child {
+            drop(child.stdin.take());
+        }
+    }
+
+    /// Kills its process.
+    fn kill(&mut self)
+        ensures { (self.new.id ≡ self.old.id) × (self.new.keeper ≡ self.old.keeper) }
+    {
+        if let Some(child) = &mut self.child {
+            let _ = child.kill();
+            let _ = child.wait();
+        }
+    }
 }
 
 /// Keeps all nodes of the network of FILE running in DIR until standard input is at its end.
 ///
 /// # Errors
-/// Why it does not begin. Once it has begun, all processes that it started have ended when it ends.
+/// Why it does not begin, or that no node stays up. Once it has begun, all processes that it started
+/// have ended when it ends.
 pub fn run<R, C: NodeProgram>(rt: &R, program: &C, file: &str, dir: &str) -> Result<(), NodeFault>
 where
     R: Files<File = File> + Sockets + Clock + Input + Print + Eprint + Processes + AllocGlobal,
 {
-    let net = read_network(rt, file).map_err(NodeFault::Network)?;
-    check_names(rt.alloc(), dir, net.nodes())?;
-    make_folder(rt, dir)?;
+    let mut stage = Stage::Begun;
+    let net = check_network(rt, file, dir, &mut stage)?;
+    make_folder(rt, dir, &mut stage)?;
     let lock = format!(in rt.alloc(); "{dir}/lock-up")?;
     // Held until it ends.
-    let _place = hold_place(rt, lock.as_str()).map_err(fault_of_up)?;
+    let _place = hold_place(rt, lock.as_str(), &mut stage).map_err(fault_of_up)?;
     run_in_place(rt, program, &net)
+}
+
+/// Reads the network, and refuses it, and a folder whose name is too long.
+///
+/// # Errors
+/// Which of these it is; nothing is made then.
+fn check_network<R: Files + AllocGlobal>(
+    rt: &R,
+    file: &str,
+    dir: &str,
+    stage: &mut Stage,
+) -> Result<Net, NodeFault>
+    requires { stage.old ≡ Begun }
+    ensures ok { IfOk result (λ _. stage.new ≡ Checked) }
+    ensures err { IfErr result (λ fault. (may_end Begun fault ≡ true) × (stage.new ≡ Begun)) }
+{
+    let net = match read_network(rt, file) {
+        Ok(net) => net,
+        Err(fault) => return Err(NodeFault::Network(fault)),
+    };
+    check_names(rt.alloc(), dir, net.nodes())?;
+    *stage = Stage::Checked;
+    Ok(net)
 }
 
 /// Keeps all nodes of a network running in the folder whose place is held.
@@ -185,26 +263,33 @@ where
     watch_input(poll.registry(), INPUT, true).map_err(|_| NodeFault::Input)?;
     let mut events = Events::with_capacity(rt.alloc(), 1)?;
     warn_of_capacity(rt, net.capacity());
-    let mut kept = all_waiting(rt.alloc(), net.nodes())?;
+    let mut kept = all_new(rt.alloc(), net.nodes())?;
     keep_running(rt, program, &mut poll, &mut events, &mut kept);
-    end_all(rt, &mut kept);
+    let is_left = !any_is_kept(&kept);
+    end_all(rt, program, &mut kept);
+    if is_left {
+        return Err(NodeFault::NoneStays);
+    }
     Ok(())
 }
 
 /// All nodes of a network of `nodes` nodes, none of which was started.
-fn all_waiting<P: OpenProcess + Drop>(
-    alloc: Global,
-    nodes: u16,
-) -> Result<Vec<Kept<P>>, AllocError> {
+fn all_new<P: OpenProcess + Drop>(alloc: Global, nodes: u16) -> Result<Vec<Kept<P>>, AllocError>
+    ensures { IfOk result (λ kept. length kept.items ≡ nodes) }
+{
     let mut kept = Vec::with_capacity(alloc, usize::from(nodes))?;
     for id in 0..nodes {
-        let process = Process::Waits(0);
-        kept.push(Kept { id, process })?;
+        kept.push(Kept::new(id))?;
     }
     Ok(kept)
 }
 
-/// Looks at each node again and again, until standard input is at its end.
+/// Whether there is more to do with any node.
+fn any_is_kept<P: OpenProcess + Drop>(kept: &[Kept<P>]) -> bool {
+    kept.iter().any(|one| one.keeper.is_kept())
+}
+
+/// Looks at each node again and again, until standard input is at its end, or no node is kept.
 fn keep_running<R, C: NodeProgram>(
     rt: &R,
     program: &C,
@@ -216,8 +301,9 @@ where
     R: Input + Print + Processes + AllocGlobal,
 {
     for _ in 0..u64::MAX {
-        for one in kept.iter_mut() {
-            look_at(rt, program, one);
+        look_at_all(rt, program, kept);
+        if !any_is_kept(kept) {
+            return;
         }
         let waited = poll.poll(events, Some(Duration::from_millis(LOOK)));
         if waited.is_err() || (!events.is_empty() && is_at_end(rt, poll)) {
@@ -226,7 +312,35 @@ where
     }
 }
 
-/// What stands in the way of `up` where it takes its place in a folder as a node does.
+/// Looks at each node once.
+fn look_at_all<R, C: NodeProgram>(rt: &R, program: &C, kept: &mut Vec<Kept<R::Started>>)
+where
+    R: Print + Processes + AllocGlobal,
+{
+    for one in kept.iter_mut() {
+        let seen = one.sight();
+        take_note(rt, program, one, seen);
+    }
+}
+
+/// Ends all processes: their inputs end, so that they save and go, and what is left is killed.
+fn end_all<R, C: NodeProgram>(rt: &R, program: &C, kept: &mut Vec<Kept<R::Started>>)
+where
+    R: Clock + Print + Processes + AllocGlobal,
+{
+    for one in kept.iter_mut() {
+        take_note(rt, program, one, Seen::InputEnded);
+    }
+    for _ in 0..u64::MAX {
+        look_at_all(rt, program, kept);
+        if !any_is_kept(kept) {
+            return;
+        }
+        thread::sleep(rt, Duration::from_millis(LOOK_AT_END));
+    }
+}
+
+/// What stands in the way of `up` if it takes its place in a folder as a node does.
 fn fault_of_up(fault: NodeFault) -> NodeFault
     ensures lock { fault ≡ Lock → result ≡ UpLock }
     ensures running { fault ≡ Running → result ≡ UpRunning }
@@ -238,39 +352,53 @@ fn fault_of_up(fault: NodeFault) -> NodeFault
     }
 }
 
-/// Reads what standard input has, and says whether it is at its end. A poll tells of it again.
+/// Reads what standard input has, and says whether it is at its end. A poll says it again.
 fn is_at_end<R: Input>(rt: &R, poll: &Poll) -> bool {
     has_input_ended(rt) || watch_input(poll.registry(), INPUT, false).is_err()
 }
 
-/// Starts the process of a node where it is due, or tells that it has ended.
-fn look_at<R, C: NodeProgram>(rt: &R, program: &C, kept: &mut Kept<R::Started>)
+/// Does what is to be done with a node of which this was seen.
+fn take_note<R, C: NodeProgram>(rt: &R, program: &C, kept: &mut Kept<R::Started>, seen: Seen)
 where
     R: Print + Processes + AllocGlobal,
+    ensures id { kept.new.id ≡ kept.old.id }
+    // What the keeper made of it; and a start shows at once whether it went well.
+    ensures noted { deed_at seen kept.old.keeper.failures kept.old.keeper.stage ≢ Start
+        → kept.new.keeper.stage ≡ stage_after seen kept.old.keeper.failures kept.old.keeper.stage }
+    ensures started { deed_at seen kept.old.keeper.failures kept.old.keeper.stage ≡ Start
+        → (kept.new.keeper.stage ≡ Runs 0) ⊎ (kept.new.keeper.stage ≡ Waits 10) }
 {
-    let end = match &mut kept.process {
-        Process::Waits(0) => match start(rt, program, kept.id) {
-            Ok(child) => {
-                kept.process = Process::Runs(child);
-                return;
-            }
-            Err(_) => End::Unstarted,
-        },
-        Process::Waits(looks) => {
-            *looks -= 1;
-            return;
-        }
-        Process::Runs(child) => match child.try_wait() {
-            Ok(Some(status)) => end_of(status),
-            // Nothing is known of it: it is asked again.
-            Ok(None) | Err(_) => return,
-        },
-    };
-    tell_end(rt, kept.id, end);
-    kept.process = Process::Waits(LOOKS_BEFORE_START);
+    match kept.keeper.step(seen) {
+        Deed::Rest => {}
+        Deed::Start => try_start(rt, program, kept),
+        Deed::SayAgain(end) => say_again(rt, kept, end),
+        Deed::SayLeft(end) => say_left(rt, kept, end),
+        Deed::CloseInput => kept.close_input(),
+        Deed::Kill => kept.kill(),
+    }
 }
 
-/// Starts the process of a node. It ends, by its input, where this process ends in whatever way.
+/// Starts the process of a node, and says so if it cannot be started.
+fn try_start<R, C: NodeProgram>(rt: &R, program: &C, kept: &mut Kept<R::Started>)
+where
+    R: Print + Processes + AllocGlobal,
+    requires { kept.old.keeper.stage ≡ Starts }
+    ensures id { kept.new.id ≡ kept.old.id }
+    ensures started { (kept.new.keeper.stage ≡ Runs 0) ⊎ (kept.new.keeper.stage ≡ Waits 10) }
+{
+    match start(rt, program, kept.id) {
+        Ok(child) => {
+            kept.child = Some(child);
+            kept.keeper.step(Seen::Started);
+        }
+        Err(_) => {
+            kept.keeper.step(Seen::Ended(End::Unstarted));
+            say_again(rt, kept, End::Unstarted);
+        }
+    }
+}
+
+/// Starts the process of a node. It ends, by its input, when this process ends in whatever way.
 fn start<R, C: NodeProgram>(rt: &R, program: &C, id: u16) -> io::Result<Child<R::Started>>
 where
     R: Processes + AllocGlobal,
@@ -281,7 +409,9 @@ where
 }
 
 /// How a process ended.
-fn end_of(status: ExitStatus) -> End {
+fn end_of(status: ExitStatus) -> End
+    ensures { result ≡ end_of status }
+{
     match (status.code(), status.signal()) {
         (Some(code), _) => End::Status(code.unsigned_abs()),
         (None, Some(signal)) => End::Signal(signal.unsigned_abs()),
@@ -289,39 +419,33 @@ fn end_of(status: ExitStatus) -> End {
     }
 }
 
-/// Prints how a process ended, as one line in one write.
-fn tell_end<R: Print + AllocGlobal>(rt: &R, id: u16, end: End) {
-    let line = EndLine { id, end };
+/// Says how the process of a node ended, which is started again.
+fn say_again<R, P: OpenProcess + Drop>(rt: &R, kept: &mut Kept<P>, end: End)
+where
+    R: Print + AllocGlobal,
+    ensures stays { (kept.new.id ≡ kept.old.id) × (kept.new.keeper ≡ kept.old.keeper) }
+    ensures gone { kept.new.child ≡ None }
+{
+    kept.child = None;
+    let line = EndLine { id: kept.id, end };
+    print_line(rt, &line);
+}
+
+/// Says how the process of a node ended, which is left alone.
+fn say_left<R, P: OpenProcess + Drop>(rt: &R, kept: &mut Kept<P>, end: End)
+where
+    R: Print + AllocGlobal,
+    ensures stays { (kept.new.id ≡ kept.old.id) × (kept.new.keeper ≡ kept.old.keeper) }
+    ensures gone { kept.new.child ≡ None }
+{
+    kept.child = None;
+    let line = LeftLine { id: kept.id, end };
+    print_line(rt, &line);
+}
+
+/// Prints a line in one write.
+fn print_line<R: Print + AllocGlobal, D: Display>(rt: &R, line: &D) {
     if let Ok(text) = format!(in rt.alloc(); "{line}\n") {
         let _ = rt.print(text.as_str());
-    }
-}
-
-/// Ends all processes: their inputs end, so they save and go, and what is left is killed.
-fn end_all<R: Clock + Processes>(rt: &R, kept: &mut Vec<Kept<R::Started>>) {
-    for one in kept.iter_mut() {
-        if let Process::Runs(child) = &mut one.process {
-            drop(child.stdin.take());
-        }
-    }
-    for _ in 0..LOOKS_BEFORE_KILL {
-        if !kept.iter_mut().any(|one| is_running(one)) {
-            return;
-        }
-        thread::sleep(rt, Duration::from_millis(10));
-    }
-    for one in kept.iter_mut() {
-        if let Process::Runs(child) = &mut one.process {
-            let _ = child.kill();
-            let _ = child.wait();
-        }
-    }
-}
-
-/// Whether a process runs.
-fn is_running<P: OpenProcess + Drop>(kept: &mut Kept<P>) -> bool {
-    match &mut kept.process {
-        Process::Runs(child) => !matches!(child.try_wait(), Ok(Some(_))),
-        Process::Waits(_) => false,
     }
 }

@@ -50,6 +50,10 @@ newer_not-other_word = refl
 older_not-ring : decoded two 1 (84 ∷ 75 ∷ 84 ∷ 49 ∷ 0 ∷ 2 ∷ 0 ∷ 1 ∷ 0 ∷ 1 ∷ 0 ∷ 2 ∷ 255 ∷ 255 ∷ 0 ∷ 0 ∷ 0 ∷ 0 ∷ 0 ∷ 0 ∷ 0 ∷ 2 ∷ 255 ∷ 255 ∷ 0 ∷ 0 ∷ 0 ∷ 2 ∷ 255 ∷ 255 ∷ 0 ∷ 0 ∷ 0 ∷ 7 ∷ []) ≡ Err Range
 older_not-ring = refl
 
+-- a value out of range is found before a byte too many
+older_not-ring_before_longer : decoded two 1 (84 ∷ 75 ∷ 84 ∷ 49 ∷ 0 ∷ 2 ∷ 0 ∷ 1 ∷ 0 ∷ 1 ∷ 0 ∷ 2 ∷ 255 ∷ 255 ∷ 0 ∷ 0 ∷ 0 ∷ 0 ∷ 0 ∷ 0 ∷ 0 ∷ 2 ∷ 255 ∷ 255 ∷ 0 ∷ 0 ∷ 0 ∷ 2 ∷ 255 ∷ 255 ∷ 0 ∷ 0 ∷ 0 ∷ 7 ∷ 0 ∷ []) ≡ Err Range
+older_not-ring_before_longer = refl
+
 -- cut to whatever length it is short
 abbrev is_short : Result LocalState FileFault → Bool
 is_short (Err Short) = true

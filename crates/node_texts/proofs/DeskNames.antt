@@ -5,8 +5,8 @@ use Rattle.std.specs.Str.{bytes_eq}
 use Rattle.std.specs.Fmt.{decimal}
 use Rattle.std.proofs.lemmas.List.{take-append-drop, append_cancel_right}
 use Rattle.std.proofs.lemmas.Slice.Eq.{bytes_eq-Decides}
-use Rattle.events_text.specs.EventLine.{number}
-use Rattle.events_text.specs.EventLaws.{NumbersAreRead, NumbersHaveOneSpelling}
+use Rattle.line_words.specs.Numbers.{number}
+use Rattle.line_words.specs.Laws.{NumbersAreRead, NumbersHaveOneSpelling}
 use Rattle.node_texts.specs.DeskFile.{desk_name}
 
 are-bytes : (w v : List ℕ) → bytes_eq w v ≡ true → w ≡ v

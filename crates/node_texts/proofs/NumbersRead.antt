@@ -7,8 +7,9 @@ use Rattle.std.specs.Fmt.{decimal}
 use Rattle.std.proofs.lemmas.Bool.Decides.{nat_tests}
 use Rattle.std.proofs.lemmas.Fmt.{digits_decimal}
 use Rattle.std.proofs.lemmas.Str.Parse.{tells_all_ascii_digits, numerals_by_value}
-use Rattle.events_text.specs.EventLine.{Word, is_space, words, number_or_none, yes_or_no}
-use Rattle.events_text.specs.EventLaws.{NumbersAreRead}
+use Rattle.line_words.specs.Words.{Word, is_space, words}
+use Rattle.line_words.specs.Numbers.{number_or_none, yes_or_no}
+use Rattle.line_words.specs.Laws.{NumbersAreRead}
 use Rattle.node_texts.specs.declared.status_line.StatusLine.{StatusLine}
 use Rattle.node_texts.specs.StatusText.{or_none_text, yes_or_no_text, status_text, status_of}
 use Rattle.node_texts.specs.StatusText.{line_status}

@@ -7,8 +7,9 @@ use Rattle.std.specs.Str.{bytes_eq}
 use Rattle.std.specs.Fmt.{decimal}
 use Rattle.std.specs.List.{join_with_byte}
 use Rattle.std.proofs.lemmas.Slice.Eq.{bytes_eq-Decides}
-use Rattle.events_text.specs.EventLine.{Word, words, number, number_or_none, yes_or_no, reads, ends}
-use Rattle.events_text.specs.EventLaws.{NumbersHaveOneSpelling, WordsMakeTheLine}
+use Rattle.line_words.specs.Words.{Word, words, reads, ends}
+use Rattle.line_words.specs.Numbers.{number, number_or_none, yes_or_no}
+use Rattle.line_words.specs.Laws.{NumbersHaveOneSpelling, WordsMakeTheLine}
 use Rattle.node_texts.specs.declared.status_line.StatusLine.{StatusLine}
 use Rattle.node_texts.specs.StatusText.{or_none_text, yes_or_no_text, status_text, field}
 use Rattle.node_texts.specs.StatusText.{status_of, line_status}

@@ -2,8 +2,8 @@
 use Rattle.std.specs.Prelude.{ℕ, Bool, true, false, if◌then◌else◌, List, [], ◌∷◌, ◌++◌, length}
 use Rattle.std.specs.Prelude.{nat_lt, Option, Some, None, codes, decimal}
 use Rattle.std.specs.Str.{bytes_eq}
-use Rattle.events_text.specs.EventLine.{Word, words, number, number_or_none, yes_or_no, other_words}
-use Rattle.events_text.specs.EventLine.{reads, ends}
+use Rattle.line_words.specs.Words.{Word, words, other_words, reads, ends}
+use Rattle.line_words.specs.Numbers.{number, number_or_none, yes_or_no}
 use Rattle.node_texts.specs.declared.status_line.StatusLine.{StatusLine}
 
 -- an id or a ticket in decimal, or `none`

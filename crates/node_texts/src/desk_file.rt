@@ -2,7 +2,7 @@
 ghost use Rattle.std.specs.Prelude.{◌≡◌, ◌↔◌, ◌<◌, ℕ, IfOk, Some, string_bytes};
 ghost use Rattle.node_texts.specs.DeskFile.{desk_path, desk_name};
 
-use events_text::number::number;
+use line_words::number;
 use std::alloc::{AllocError, Global};
 
 /// The path of a node's desk in a folder, `FOLDER/desk-ID.sock`.
@@ -19,6 +19,6 @@ pub fn desk_path(alloc: Global, folder: &str, node: u16) -> Result<String, Alloc
 pub fn node_of(name: &[u8]) -> Option<u16>
     ensures { (node : ℕ) → (result ≡ Some node) ↔ ((node < 65536) × (name.now ≡ desk_name node)) }
 {
-    events_text::laws::one_spelling();
+    line_words::laws::one_spelling();
     number(name.strip_prefix(b"desk-")?.strip_suffix(b".sock")?)
 }

@@ -8,7 +8,7 @@ pub fn one_spelling()
     ensures read { LinesAreRead }
     ensures spelled { LinesHaveOneSpelling }
 {
-    events_text::laws::one_spelling();
+    line_words::laws::one_spelling();
 }
 
 /// What a node writes of itself is the text of a status line, so that `status` shows what it wrote.

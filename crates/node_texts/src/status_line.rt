@@ -1,10 +1,10 @@
 //! The line by which a node says how it stands.
 ghost use Rattle.std.specs.Prelude.{◌≡◌, is_some, OnSome};
-ghost use Rattle.events_text.specs.EventLine.{other_words};
+ghost use Rattle.line_words.specs.Words.{other_words};
 ghost use Rattle.node_texts.specs.StatusText.{line_status, first_is, short_line_status};
 
 use byte_lines::LineReading;
-use events_text::words::Words;
+use line_words::Words;
 use std::fmt;
 
 /// The most bytes of a line that is read as a status line. No status line has more than 73.

@@ -1,7 +1,9 @@
-//! How the program `tokentree` ends: with which status, and with which line on standard error.
+//! How the program `tokentree` begins and ends: with which words and streams, with which status, and
+//! with which line on standard error.
 //!
 //! ```
-//! let status = fails(rt, Fault::NetworkUnreadable, 1); // prints `tokentree: network Unreadable`
+//! fill_standard_streams(rt);                           // before anything is opened
+//! let status = fails(rt, Fault::NoNode, 1);            // prints `tokentree: id NoNode`
 //! let status = fault_status(true);                     // 125: `lock` keeps 1 for its command
 //! let status = shows(rt, &error, false);               // 0 for help, 2 for a refused line
 //! ```
@@ -13,8 +15,10 @@ mod arguments;
 mod ends;
 mod fault_line;
 mod path_fault_line;
+mod streams;
 
 pub use arguments::own_words;
 pub use ends::{LINE_REFUSED, fails, fault_status, shows};
 pub use fault_line::FaultLine;
 pub use path_fault_line::PathFaultLine;
+pub use streams::fill_standard_streams;

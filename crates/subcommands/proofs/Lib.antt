@@ -1,3 +1,4 @@
 pub mod JunkLines
 pub mod FourParts
 pub mod Spaced
+pub mod Runs

@@ -1,11 +1,14 @@
 -- The text of measured runs.
-use Rattle.std.specs.Prelude.{◌≡◌, ℕ, Bool, ◌||◌, ◌&&◌, not, nat_le, if◌then◌else◌, List, [], ◌∷◌, ◌++◌, length, Option, Some, None, codes, decimal}
+use Rattle.std.specs.Prelude.{◌≡◌, ℕ, Bool, ◌||◌, ◌&&◌, not, nat_le, if◌then◌else◌, List, [], ◌∷◌, ◌++◌, ◌+◌, length, All, IsTrue, ◌↔◌, Option, Some, None, codes, decimal}
 use Rattle.topology.specs.Network.{Network, bound_of}
 use Rattle.topology.specs.Eccentricity.{sharp_of}
 use Rattle.experiments.specs.declared.measured_run.Recovery.{Recovery}
+use Rattle.experiments.specs.declared.measured_run.Scheduler.{Scheduler}
 use Rattle.experiments.specs.declared.summary.Summary.{Summary}
+use Rattle.experiments.specs.Shown.{IsRunOf}
 use Rattle.experiments.specs.Summary.{IsSummaryOf}
 use Rattle.subcommands.specs.Bound.{number_line}
+use Rattle.subcommands.specs.declared.measure.Plan.{Plan}
 
 -- a run had as many sweeps as the bound says, and served behind that many of them
 abbrev pub has_served : Recovery → ℕ → Bool
@@ -50,3 +53,24 @@ pub record IsMeasured (net : Network) (runs : List Recovery) (table : Bool) (tex
   pub summary : Option Summary
   pub sums_up : IsSummaryOf (served_sweeps runs (sharp_of net)) summary
   pub text_is : text ≡ run_lines (sharp_of net) table runs ++ totals net (length runs) summary
+
+-- runs of successive seeds under a scheduler, the first of this seed
+abbrev pub AreRunsFrom : Network → Scheduler → ℕ → List Recovery → Type 0
+AreRunsFrom net scheduler seed [] = Unit {0}
+AreRunsFrom net scheduler seed (r ∷ rs) = IsRunOf net scheduler seed r × AreRunsFrom net scheduler (seed + 1) rs
+
+-- all runs of a plan: as many as it says, of its first seed and those that follow
+pub record AreRunsOf (net : Network) (plan : Plan) (runs : List Recovery) : Type 0 where
+  pub all : length runs ≡ plan.runs
+  pub each : AreRunsFrom net plan.scheduler plan.seed runs
+
+-- each run has served
+abbrev pub HaveServed : List Recovery → ℕ → Type 0
+HaveServed runs bound = All (λ r. IsTrue (has_served r bound)) runs
+
+-- the text is that of the runs of a plan on a network, and the flag says whether each has served
+pub record IsPlanMeasured (net : Network) (plan : Plan) (text : List ℕ) (served : Bool) : Type 0 where
+  pub runs : List Recovery
+  pub are_runs : AreRunsOf net plan runs
+  pub measured : IsMeasured net runs plan.table text
+  pub served_is : IsTrue served ↔ HaveServed runs (sharp_of net)

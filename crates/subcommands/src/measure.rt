@@ -1,9 +1,10 @@
 //! `measure FILE`: behind how many sweeps scrambled worlds served.
-ghost use Rattle.std.specs.Prelude.{◌≡◌, ◌↔◌, ◌+◌, ◌++◌, OnOk, IfOk, IfErr, IsOk};
+ghost use Rattle.std.specs.Prelude.{◌≡◌, ◌↔◌, ◌+◌, ◌++◌, OnOk, IfOk, IfErr, IsOk, IsTrue};
 ghost use Rattle.std.specs.Prelude.{string_bytes, if◌then◌else◌};
 ghost use Rattle.std.specs.Process.{exit_status};
 ghost use Rattle.subcommands.specs.Measured.{has_served, run_line, served_sweeps, summary_line};
 ghost use Rattle.subcommands.specs.Measured.{shown_line, run_lines, totals, IsMeasured};
+ghost use Rattle.subcommands.specs.Measured.{AreRunsOf, IsPlanMeasured, HaveServed};
 ghost use Rattle.command_parts.specs.declared.fault.Fault.TheVariants.{Output};
 ghost use Rattle.experiments.specs.Shown.{IsRunOf};
 
@@ -45,13 +46,25 @@ pub fn run<R: Files + Print + Eprint + Clock + AllocGlobal + Threads + Sync>(
     plan: Plan,
 ) -> Result<ExitCode, Fault> {
     let net = read_network(rt, network)?;
-    let runs = measured(rt, rt.alloc(), &net, plan).map_err(|_| Fault::Memory)?;
-    let text = measured_text(rt.alloc(), &net, runs.as_slice(), plan.table).map_err(
-        |_| Fault::Memory,
-    )?;
-    let bound = net.sharp_bound();
-    let all_served = runs.iter().all(|run| has_served(run, bound));
-    ending(rt.print(text.as_str()), all_served)
+    match plan_text(rt, rt.alloc(), &net, plan) {
+        Ok((text, all_served)) => ending(rt.print(text.as_str()), all_served),
+        Err(_) => Err(Fault::Memory),
+    }
+}
+
+/// Makes the runs of a plan. Their text, and whether each has served.
+fn plan_text<R: Eprint + Clock + Threads + Sync>(
+    rt: &R,
+    alloc: Global,
+    net: &Net,
+    plan: Plan,
+) -> Result<(String, bool), AllocError>
+    ensures { IfOk result (λ told. IsPlanMeasured net.now plan (string_bytes told.0) told.1) }
+{
+    let runs = measured(rt, alloc, net, plan)?;
+    let text = measured_text(alloc, net, runs.as_slice(), plan.table)?;
+    let served = have_served(runs.as_slice(), net.sharp_bound());
+    Ok((text, served))
 }
 
 /// How the command ends where all runs were made, by what printing their text answered.
@@ -70,42 +83,54 @@ pub fn ending<E: Drop>(printed: Result<(), E>, all_served: bool) -> Result<ExitC
     }
 }
 
-/// Makes the runs, over as many threads as there are processors.
+/// Makes the runs of a plan, over as many threads as there are processors: run i is that of the
+/// first seed and i.
 fn measured<R: Eprint + Clock + Threads + Sync>(
     rt: &R,
     alloc: Global,
     net: &Net,
     plan: Plan,
-) -> Result<Vec<Recovery>, AllocError> {
+) -> Result<Vec<Recovery>, AllocError>
+    ensures { IfOk result (λ runs. AreRunsOf net.now plan runs.items) }
+{
     let progress = if plan.progress {
         Progress::begin(rt, "runs", plan.runs)
     } else {
         None
     };
-    let answers: Vec<Result<Recovery, AllocError>> = (0..plan.runs)
+    let runs = make_runs(rt, alloc, net, plan, &progress);
+    if let Some(progress) = &progress {
+        progress.end(rt);
+    }
+    runs
+}
+
+/// Makes the runs of a plan, and shows meanwhile how many are done.
+fn make_runs<R: Eprint + Clock + Threads + Sync>(
+    rt: &R,
+    alloc: Global,
+    net: &Net,
+    plan: Plan,
+    progress: &Option<Progress>,
+) -> Result<Vec<Recovery>, AllocError>
+    ensures { IfOk result (λ runs. AreRunsOf net.now plan runs.items) }
+{
+    (0..plan.runs)
         .into_par_iter()
         .map(
             // Run i is that of its own seed, shown from the world which that seed scrambles.
             |i: u32| -> Result<Recovery, AllocError>
-                ensures { IfOk result (IsRunOf net.entry.now (plan.seed + i)) }
+                ensures { IfOk result (IsRunOf net.entry.now plan.scheduler (plan.seed + i)) }
             {
                 let seed = u64::from(plan.seed) + u64::from(i);
                 let run = measure_run(alloc, net, plan.scheduler, seed);
-                if let Some(progress) = &progress {
+                if let Some(progress) = progress {
                     progress.advance(rt);
                 }
                 run
             },
         )
-        .collect(rt, alloc)?;
-    if let Some(progress) = &progress {
-        progress.end(rt);
-    }
-    let mut runs = Vec::new(alloc);
-    for answer in answers {
-        runs.push(answer?)?;
-    }
-    Ok(runs)
+        .collect(rt, alloc)?
 }
 
 /// Whether a run had as many sweeps as the sharper bound says, and served behind that many of them.
@@ -113,6 +138,13 @@ pub fn has_served(run: &Recovery, bound: u32) -> bool
     ensures { result ≡ has_served run.now bound }
 {
     run.seen >= u64::from(bound) && run.sweeps <= u64::from(bound)
+}
+
+/// Whether each of these runs has served.
+fn have_served(runs: &[Recovery], bound: u32) -> bool
+    ensures { IsTrue result ↔ HaveServed runs.now bound }
+{
+    runs.iter().all(|run| has_served(run, bound))
 }
 
 /// The lines of the runs, all of them or those alone that have not served, and the lines that sum

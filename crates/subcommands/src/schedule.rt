@@ -1,5 +1,5 @@
 //! `schedule FILE`: the events of a schedule for a network.
-ghost use Rattle.std.specs.Prelude.{◌≡◌, ◌⊎◌, [], Err, IfErr, OnOk};
+ghost use Rattle.std.specs.Prelude.{◌≡◌, ◌⊎◌, [], Err, IfErr, OnOk, option_map};
 ghost use Rattle.std.specs.Io.Buffered.{writer_buffer, writer_contents};
 ghost use Rattle.byte_streams.specs.Streams.{Rose};
 ghost use Rattle.experiments.specs.Plan.{planned};
@@ -94,37 +94,33 @@ pub fn run<R: Files + Print + AllocGlobal>(
         return Err(Fault::Memory);
     };
     let mut text = EventText::new(output);
-    write_plan(
-        rt.alloc(),
-        &net,
-        scramble.map(seeded),
-        turns.order(),
-        &mut text,
-    )?;
+    write_plan(rt.alloc(), &net, scramble, turns, &mut text)?;
     Ok(ExitCode::SUCCESS)
 }
 
-/// Writes the lines of a schedule's events, and sees to it that all of them are written: after a
-/// fault too, as far as it had come.
+/// Writes the lines of a schedule's events, the harms of a scramble by a seed, if one is given, and
+/// then its turns; and sees to it that all of them are written: after a fault too, as far as it had
+/// come.
 ///
 /// # Errors
 /// Where memory runs out, or the writer fails.
 pub fn write_plan<W: Write + Drop>(
     alloc: Global,
     net: &Net,
-    scramble: Option<Lcg64Xsh32>,
-    order: Order,
+    scramble: Option<u32>,
+    turns: Turns,
     text: &mut EventText<W>,
 ) -> Result<(), Fault>
     // Where the writer tells its bytes, they are the text.
     ensures text { OnOk result (GrowsByText (writer_contents W.contents text.old.writer)
-        (planned net.now scramble order) (writer_contents W.contents text.new.writer)) }
+        (planned net.now (option_map seeded scramble) (order_of turns))
+        (writer_contents W.contents text.new.writer)) }
     ensures written { OnOk result (writer_buffer text.new.writer ≡ []) }
     // A fault is one of memory or of the output, and of the output only where the writer failed.
     ensures fault { IfErr result (λ fault. (fault ≡ Memory) ⊎ (fault ≡ Output)) }
     ensures cause { result ≡ Err Output → Rose text.old.failures text.new.failures }
 {
-    let given = give_plan(alloc, net, scramble, order, text);
+    let given = give_plan(alloc, net, scramble.map(seeded), turns.order(), text);
     let flushed = text.flush();
     match (given, flushed) {
         (Err(fault), _) => Err(fault_of(fault)),

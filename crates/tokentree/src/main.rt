@@ -21,16 +21,18 @@
 //! Statuses: 0 done, help too; 1 a file, memory or the output refused, with one line `tokentree:
 //! ..` on standard error; 2 the command line refused; 3 `simulate` is done, and refused some lines.
 //! `lock` has its command's, and 122 to 127 (`help lock`).
+//! A standard stream that is closed is the null device, so that no file is written to in its place.
 //! Faults are looked for in this order: the command line, the network, a node's id, the command's
 //! own files.
 #![tactic(auto)]
 
 use command_line::run_words;
-use program_ends::own_words;
+use program_ends::{fill_standard_streams, own_words};
 use std::io::IsTerminal;
 use std::process::ExitCode;
 
 fn main(rt: HostRuntime) -> ExitCode {
+    fill_standard_streams(&rt);
     match own_words(&rt) {
         Ok(words) => run_words(&rt, words.as_slice(), rt.stderr().is_terminal()),
         Err(status) => status,

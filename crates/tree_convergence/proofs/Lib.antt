@@ -5,3 +5,4 @@ mod Stages
 pub mod SameParent
 mod Parents
 mod Sums
+mod RowsPresent

@@ -1,5 +1,5 @@
 //! Microseconds of a clock that never goes back.
-ghost use Rattle.std.specs.Prelude.{◌≡◌, ◌≤◌};
+ghost use Rattle.std.specs.Prelude.{◌≡◌, ◌≤◌, IfOk};
 
 use std::io;
 use std::rt::Clock;
@@ -19,7 +19,9 @@ impl<'a, C: Clock> Stopwatch<'a, C> {
     ///
     /// # Errors
     /// Where the system gives no time.
-    pub fn start(clock: &'a C) -> io::Result<Stopwatch<'a, C>> {
+    pub fn start(clock: &'a C) -> io::Result<Stopwatch<'a, C>>
+        ensures { IfOk result (λ watch. watch.last ≡ 0) }
+    {
         Ok(Stopwatch {
             clock,
             start: Instant::now(clock)?,

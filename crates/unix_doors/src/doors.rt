@@ -1,5 +1,5 @@
 //! Doors over Unix sockets.
-ghost use Rattle.std.specs.Prelude.{◌≡◌};
+ghost use Rattle.std.specs.Prelude.{◌≡◌, true, false, IfOk, OnOk, IsErr};
 ghost use Rattle.node_loop.specs.Doors.{Opens};
 
 use crate::input::{has_input_ended, watch_input};
@@ -59,7 +59,10 @@ impl<'a, N: Net> UnixDoors<'a, N> {
         mut links: UnixListener,
         mut clients: UnixListener,
         addresses: Vec<SocketAddr>,
-    ) -> io::Result<UnixDoors<'a, N>> {
+    ) -> io::Result<UnixDoors<'a, N>>
+        ensures fresh { IfOk result (λ doors. (doors.failures ≡ 0) × (doors.links_may_come ≡ true)
+            × (doors.clients_may_come ≡ true)) }
+    {
         let poll = Poll::new(net)?;
         let events = Events::with_capacity(alloc, EVENTS)?;
         poll.registry()
@@ -84,12 +87,18 @@ impl<'a, N: Net> UnixDoors<'a, N> {
     ///
     /// # Errors
     /// Where no poll waits for standard input: it is closed, a file, or `/dev/null`.
-    pub fn watch_input(&mut self) -> io::Result<()> {
+    pub fn watch_input(&mut self) -> io::Result<()>
+        ensures { self.new.failures ≡ self.old.failures }
+    {
         watch_input(self.poll.registry(), INPUT, true)
     }
 
     /// Whether standard input, where it is watched, is at its end.
-    pub fn has_input_ended<R: io::Input>(&mut self, rt: &R) -> bool {
+    pub fn has_input_ended<R: io::Input>(&mut self, rt: &R) -> bool
+        ensures failures { self.new.failures ≡ self.old.failures }
+        ensures no_news { self.old.input_has_news ≡ false → result ≡ false }
+        ensures read { self.new.input_has_news ≡ false }
+    {
         if !self.input_has_news {
             return false;
         }
@@ -97,21 +106,36 @@ impl<'a, N: Net> UnixDoors<'a, N> {
         has_input_ended(rt) || watch_input(self.poll.registry(), INPUT, false).is_err()
     }
 
-    /// Listens at these sockets from now on, in place of those before.
+    /// Listens for neighbours at this socket from now on, in place of that before.
     ///
     /// # Errors
-    /// Where the system does not watch them; then the sockets stay as they were.
-    pub fn listen_at(
-        &mut self,
-        mut links: UnixListener,
-        mut clients: UnixListener,
-    ) -> io::Result<()> {
-        let registry = self.poll.registry();
-        registry.register(&mut links, LINKS, Interest::READABLE)?;
-        registry.register(&mut clients, CLIENTS, Interest::READABLE)?;
+    /// If the system does not watch it; then all stays as it was.
+    pub fn listen_for_links(&mut self, mut links: UnixListener) -> io::Result<()>
+        ensures failures { self.new.failures ≡ self.old.failures }
+        ensures listens { OnOk result (self.new.links_may_come ≡ true) }
+        ensures stays { IsErr result → self.new.links_may_come ≡ self.old.links_may_come }
+    {
+        self.poll
+            .registry()
+            .register(&mut links, LINKS, Interest::READABLE)?;
         self.links = links;
-        self.clients = clients;
         self.links_may_come = true;
+        Ok(())
+    }
+
+    /// Listens for clients at this socket from now on, in place of that before.
+    ///
+    /// # Errors
+    /// If the system does not watch it; then all stays as it was.
+    pub fn listen_for_clients(&mut self, mut clients: UnixListener) -> io::Result<()>
+        ensures failures { self.new.failures ≡ self.old.failures }
+        ensures listens { OnOk result (self.new.clients_may_come ≡ true) }
+        ensures stays { IsErr result → self.new.clients_may_come ≡ self.old.clients_may_come }
+    {
+        self.poll
+            .registry()
+            .register(&mut clients, CLIENTS, Interest::READABLE)?;
+        self.clients = clients;
         self.clients_may_come = true;
         Ok(())
     }

@@ -1,5 +1,6 @@
 //! A Unix socket as a pipe.
-ghost use Rattle.std.specs.Prelude.{◌≡◌};
+ghost use Rattle.std.specs.Prelude.{◌≡◌, ◌↔◌, ◌⊎◌, IsTrue};
+ghost use Rattle.std.specs.declared.io.ErrorKind.TheVariants.{WouldBlock, Interrupted};
 ghost use Rattle.socket_links.specs.Counts.{Counts};
 
 use libc::net::{SO_SNDBUF, SOL_SOCKET, setsockopt};
@@ -90,6 +91,8 @@ pub fn hold_few(stream: UnixStream) -> io::Result<UnixStream> {
 }
 
 /// Whether the same call may succeed a moment later: a socket that is empty or full, and a signal.
-pub fn is_passing(kind: ErrorKind) -> bool {
+pub fn is_passing(kind: ErrorKind) -> bool
+    ensures { IsTrue result ↔ ((kind ≡ WouldBlock) ⊎ (kind ≡ Interrupted)) }
+{
     matches!(kind, ErrorKind::WouldBlock | ErrorKind::Interrupted)
 }

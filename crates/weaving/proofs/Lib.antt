@@ -3,6 +3,7 @@ pub mod Changed
 pub mod LinkSteps
 pub mod OneWoven
 mod Rows
+mod RowsRun
 pub mod Steps
 pub mod Weaving
 pub mod FirstOf

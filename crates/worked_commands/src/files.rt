@@ -1,6 +1,6 @@
 //! What files are refused for, which fault is met first, and how numbers are spelled.
 use crate::nets::{TWO_NODES, remove_files, write_files};
-use command_parts::{Fault, decimal_number, network_of, read_network};
+use command_parts::{Fault, NetworkFault, decimal_number, network_of, read_network};
 use std::alloc::{AllocError, Global};
 use std::test::Fail;
 use std::{fs, io};
@@ -27,7 +27,7 @@ fn is_named(alloc: Global, fault: Fault, want: &str) -> Result<bool, AllocError>
 
 /// The fault of a network file, if it has one.
 fn fault_of(alloc: Global, bytes: &[u8]) -> Option<Fault> {
-    network_of(alloc, bytes).err()
+    network_of(alloc, bytes).err().map(Fault::Network)
 }
 
 /// Whether a file has this fault line.
@@ -72,7 +72,7 @@ fn names_the_fault_of_memory(rt: HostRuntime) -> Result<(), Fail> {
     is_told(
         &is_named(
             rt.alloc(),
-            Fault::Network(NetFault::Memory),
+            Fault::Network(NetworkFault::Refused(NetFault::Memory)),
             "network Memory",
         )?,
         &true,
@@ -80,17 +80,17 @@ fn names_the_fault_of_memory(rt: HostRuntime) -> Result<(), Fail> {
 }
 
 /// Paths, and the faults of what is read there.
-const PATHS: [(&str, Option<Fault>); 6] = [
+const PATHS: [(&str, Option<NetworkFault>); 6] = [
     ("read.toml", None),
-    ("long.toml", Some(Fault::NetworkUnreadable)),
-    ("absent.toml", Some(Fault::NetworkUnreadable)),
-    (".", Some(Fault::NetworkUnreadable)),
-    ("", Some(Fault::NetworkUnreadable)),
-    ("/dev/null", Some(Fault::NetworkUnreadable)),
+    ("long.toml", Some(NetworkFault::Unreadable)),
+    ("absent.toml", Some(NetworkFault::Unreadable)),
+    (".", Some(NetworkFault::Unreadable)),
+    ("", Some(NetworkFault::Unreadable)),
+    ("/dev/null", Some(NetworkFault::Unreadable)),
 ];
 
 /// The place of the first row whose path is read otherwise.
-fn first_read_otherwise(rt: &HostRuntime, rows: &[(&str, Option<Fault>)]) -> Option<usize> {
+fn first_read_otherwise(rt: &HostRuntime, rows: &[(&str, Option<NetworkFault>)]) -> Option<usize> {
     for (at, (path, want)) in rows.iter().enumerate() {
         if read_network(rt, path).err() != *want {
             return Some(at);
@@ -159,9 +159,13 @@ const SIMULATIONS: [(&str, &str, Option<Fault>); 6] = [
     (
         "no-net.toml",
         "absent",
-        Some(Fault::Network(NetFault::NotToml)),
+        Some(Fault::Network(NetworkFault::Refused(NetFault::NotToml))),
     ),
-    ("absent", "absent", Some(Fault::NetworkUnreadable)),
+    (
+        "absent",
+        "absent",
+        Some(Fault::Network(NetworkFault::Unreadable)),
+    ),
 ];
 
 /// The place of the first row whose simulation ends otherwise.

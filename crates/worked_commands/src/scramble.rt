@@ -1,7 +1,7 @@
 //! The state files of scrambled nodes, and files that cannot be written. The expected bytes are
 //! those of another program, written from the definitions of the draws and of the generator.
 use crate::nets::{TWO_NODES, remove_files, two_nodes, write_files};
-use command_parts::{Fault, PathFault};
+use command_parts::{Fault, NetworkFault, PathFault};
 use node_state_file::{FusedStore, MemoryStore, Store, StoreFault};
 use std::alloc::{AllocError, Global};
 use std::process::ExitCode;
@@ -63,13 +63,13 @@ static FAULTS: [Row<'static>; 8] = [
         "absent.toml",
         2,
         ".",
-        PathFault::Fault(Fault::NetworkUnreadable),
+        PathFault::Fault(Fault::Network(NetworkFault::Unreadable)),
     ),
     (
         "no-net.toml",
         2,
         ".",
-        PathFault::Fault(Fault::Network(NetFault::NotToml)),
+        PathFault::Fault(Fault::Network(NetworkFault::Refused(NetFault::NotToml))),
     ),
     ("net.toml", 2, ".", PathFault::Fault(Fault::NoNode)),
     ("net.toml", 65535, ".", PathFault::Fault(Fault::NoNode)),

@@ -1,9 +1,11 @@
 //! Copies of this test program on networks of three processes: the lock as its users take it.
 use command_line::run_words;
+use program_ends::fill_standard_streams;
 use std::alloc::{AllocError, Global};
 use std::io::{Read, Write};
 use std::os::unix::net::UnixStream;
-use std::process::{Child, Command, ExitCode, Stdio};
+use std::path::AsPath;
+use std::process::{Abort, Child, Command, ExitCode, Stdio};
 use std::test::Fail;
 use std::time::Duration;
 use std::{env, fs, str, thread};
@@ -30,6 +32,7 @@ const WITNESS: &str =
 /// it tells the status.
 #[test]
 fn acts_as_the_program(rt: HostRuntime) -> Result<(), Fail> {
+    fill_standard_streams(&rt);
     let Ok(text) = env::var(&rt, "TOKENTREE_WORDS") else {
         return Ok(());
     };
@@ -39,6 +42,20 @@ fn acts_as_the_program(rt: HostRuntime) -> Result<(), Fail> {
         let ended = run_words(&rt, words.as_slice(), false);
         let status = (0..=255u8).find(|status| ExitCode::from(*status) == ended);
         println!(rt; "status {}", status.unwrap_or(0))?;
+    }
+    Ok(())
+}
+
+/// The test by which a copy of this program is the guard of a command.
+const GUARD: &str = "network::acts_as_a_guard";
+
+/// What a copy does that is started as a guard. It ends at once then: its standard output is the
+/// connection to a desk.
+#[test]
+fn acts_as_a_guard(rt: HostRuntime) -> Result<(), Fail> {
+    if env::var(&rt, "TOKENTREE_GUARD").is_ok() {
+        run_words(&rt, &["tokentree", "lock", "--guard", ".", "0"], false);
+        rt.exit(0);
     }
     Ok(())
 }
@@ -73,7 +90,7 @@ fn copy(rt: &HostRuntime, words: &str, times: &str) -> Result<Child, Fail> {
 /// Starts `lock` at a node, as a user's own process does, on a script whose first word is the folder.
 fn locker(rt: &HostRuntime, dir: &str, id: u16, script: &str, times: &str) -> Result<Child, Fail> {
     let words = format!(in rt.alloc();
-        "tokentree\nlock\n--guarded\n{dir}\n{id}\n--\n/bin/sh\n-c\n{script}\n{dir}"
+        "tokentree\nlock\n--guard-as\n{GUARD}\n{dir}\n{id}\n--\n/bin/sh\n-c\n{script}\n{dir}"
     )?;
     copy(rt, words.as_str(), times)
 }
@@ -186,7 +203,7 @@ fn all_stop(rt: &HostRuntime, nodes: Nodes, told: &str) -> Result<bool, Fail> {
 /// The next line, without its newline.
 fn read_line<R: Read>(alloc: Global, reader: &mut R) -> Result<String, Fail> {
     let mut line = String::new(alloc);
-    for _ in 0..200u32 {
+    for _ in 0..500u32 {
         let mut byte = [0u8; 1];
         reader.read_exact(&mut byte)?;
         if byte[0] == b'\n' {
@@ -317,7 +334,7 @@ fn is_there_once(rt: &HostRuntime, dir: &str) -> Result<bool, Fail> {
 fn is_waited_for_in_vain(rt: &HostRuntime, dir: &str) -> Result<bool, Fail> {
     let mut holder = client(rt, dir, 0)?;
     let is_held = ask(rt, &mut holder, "lock\n")?.as_str() == "granted";
-    let words = format!(in rt.alloc(); "tokentree\nlock\n--guarded\n--timeout\n1\n{dir}\n2\ntrue")?;
+    let words = format!(in rt.alloc(); "tokentree\nlock\n--timeout\n1\n{dir}\n2\ntrue")?;
     let told = "tokentree: node 2 did not lend the lock within 1 s\n";
     Ok(ends(rt, copy(rt, words.as_str(), "1")?, "status 124", told)? && is_held)
 }
@@ -401,4 +418,140 @@ fn a_lease_ends_and_a_small_capacity_is_told(rt: HostRuntime) -> Result<(), Fail
         give the network capacity 64 or more\n";
     as_told(all_stop(&rt, nodes, told), &true)?;
     is_told(&is_lost, &true)
+}
+
+/// The node's file of this name in a folder.
+fn file_of(alloc: Global, dir: &str, name: &str) -> Result<String, AllocError> {
+    format!(in alloc; "{dir}/{name}")
+}
+
+/// Starts node 0 of the network beside a folder with closed streams.
+fn deaf_node(rt: &HostRuntime, dir: &str) -> Result<Child, Fail> {
+    let words = format!(in rt.alloc(); "tokentree\nnode\n{dir}.toml\n0\n{dir}")?;
+    let program = env::current_exe(rt)?;
+    let mut command = Command::new(rt.alloc(), "/bin/sh")?;
+    command
+        .arg("-c")?
+        .arg("exec \"$0\" \"$1\" >&- 2>&-")?
+        .arg(program.path_text())?;
+    tell_words(&mut command, words.as_str(), "1")?;
+    command.stdin(Stdio::null());
+    Ok(command.spawn(rt)?)
+}
+
+/// Makes the stop file of node 0. Whether it goes away.
+fn is_stopped(rt: &HostRuntime, dir: &str) -> Result<bool, Fail> {
+    let stop = file_of(rt.alloc(), dir, "stop-0")?;
+    fs::write(rt, stop.as_str(), "")?;
+    disappears(rt, stop.as_str())
+}
+
+/// Waits until a file is gone, for a minute at most.
+fn disappears(rt: &HostRuntime, path: &str) -> Result<bool, Fail> {
+    for _ in 0..6_000u32 {
+        if !fs::exists(rt, path)? {
+            return Ok(true);
+        }
+        thread::sleep(rt, Duration::from_millis(10));
+    }
+    Ok(false)
+}
+
+/// Whether node 0 comes up and stops, and has written nothing into its lock file.
+fn keeps_its_lock_file_empty(rt: &HostRuntime, dir: &str) -> Result<bool, Fail> {
+    let desk = file_of(rt.alloc(), dir, "desk-0.sock")?;
+    let lock = file_of(rt.alloc(), dir, "lock-0")?;
+    let comes_up = appears(rt, desk.as_str())?;
+    let stops = is_stopped(rt, dir)?;
+    Ok(comes_up && stops && fs::metadata(rt, lock.as_str())?.len() == 0)
+}
+
+/// A node with closed streams writes nothing into its lock file.
+fn takes_no_file_for_a_stream(rt: &HostRuntime) -> Result<bool, Fail> {
+    let dir = fresh_folder(rt, "deaf", RING)?;
+    let mut child = deaf_node(rt, dir.as_str())?;
+    let held = keeps_its_lock_file_empty(rt, dir.as_str())?;
+    child.wait()?;
+    clean(rt, dir.as_str())?;
+    Ok(held)
+}
+
+/// A node ends with status 1 whose folder is another's.
+fn ends_elsewhere(rt: &HostRuntime) -> Result<bool, Fail> {
+    let dir = fresh_folder(rt, "moved", RING)?;
+    let child = node(rt, dir.as_str(), 0)?;
+    let told = format!(in rt.alloc();
+        "tokentree: {dir}/lock-0: is another file now, or gone; the node ends, start it again\n"
+    )?;
+    let old = format!(in rt.alloc(); "{dir}-old")?;
+    fs::rename(rt, dir.as_str(), old.as_str())?;
+    fs::create_dir(rt, dir.as_str())?;
+    let held = ends(rt, child, "status 1", told.as_str())?;
+    fs::remove_dir_all(rt, old.as_str())?;
+    clean(rt, dir.as_str())?;
+    Ok(held)
+}
+
+/// A node ends with status 1 whose stop file is a folder.
+fn ends_by_what_stays(rt: &HostRuntime) -> Result<bool, Fail> {
+    let dir = fresh_folder(rt, "stays", RING)?;
+    let stop = file_of(rt.alloc(), dir.as_str(), "stop-0")?;
+    fs::create_dir_all(rt, stop.as_str())?;
+    let child = node(rt, dir.as_str(), 0)?;
+    let told = format!(in rt.alloc();
+        "tokentree: {dir}/stop-0: cannot be removed; remove it, and start the node again\n"
+    )?;
+    let held = ends(rt, child, "status 1", told.as_str())?;
+    clean(rt, dir.as_str())?;
+    Ok(held)
+}
+
+/// The next line that a copy writes on standard error, if it is piped.
+fn next_error(rt: &HostRuntime, child: &mut Child) -> Result<String, Fail> {
+    match &mut child.stderr {
+        Some(errors) => read_line(rt.alloc(), errors),
+        None => Ok(String::new(rt.alloc())),
+    }
+}
+
+/// Puts a folder in the place of the socket for clients until a second after the node has said so.
+/// Whether it says this.
+fn says_that_it_is_blocked(
+    rt: &HostRuntime,
+    desk: &str,
+    child: &mut Child,
+    told: &str,
+) -> Result<bool, Fail> {
+    fs::remove_file(rt, desk)?;
+    fs::create_dir(rt, desk)?;
+    let said = next_error(rt, child)?;
+    thread::sleep(rt, Duration::from_millis(1_000));
+    fs::remove_dir(rt, desk)?;
+    Ok(said.as_str() == told)
+}
+
+/// A node runs on whose socket for clients cannot be made again, says so once, and takes it back.
+fn takes_its_name_back(rt: &HostRuntime) -> Result<bool, Fail> {
+    let dir = fresh_folder(rt, "blocked", RING)?;
+    let mut child = node(rt, dir.as_str(), 0)?;
+    let desk = file_of(rt.alloc(), dir.as_str(), "desk-0.sock")?;
+    let told = format!(in rt.alloc();
+        "tokentree: {desk}: cannot be made again; remove what stands there: the node runs on, and tries again"
+    )?;
+    let says = says_that_it_is_blocked(rt, desk.as_str(), &mut child, told.as_str())?;
+    let is_back = appears(rt, desk.as_str())?;
+    let stops = stops(rt, dir.as_str(), 0, child, "")?;
+    clean(rt, dir.as_str())?;
+    Ok(says && is_back && stops)
+}
+
+#[test]
+fn nodes_look_after_their_folder(rt: HostRuntime) -> Result<(), Fail> {
+    let held = [
+        takes_no_file_for_a_stream(&rt)?,
+        ends_elsewhere(&rt)?,
+        ends_by_what_stays(&rt)?,
+        takes_its_name_back(&rt)?,
+    ];
+    is_told(&held, &[true; 4])
 }

@@ -1,8 +1,7 @@
 //! What happens between a node and those at the other ends of its connections, as rows tell it.
-use crate::stage::{Run, idle, turn_once, whole};
+use crate::stage::{Run, attend_once, turn_once};
 use crate::wires::{Pair, Queue};
 use node_core::Node;
-use pace::Plan;
 
 /// What the other end of a connection does, or what is to be seen there.
 #[derive(Clone, Copy)]
@@ -30,10 +29,10 @@ pub enum Deed<'a> {
 pub enum Act<'a> {
     /// The next connection comes.
     Comes,
-    /// A turn by a whole plan.
+    /// A turn.
     Turns,
-    /// A turn by a plan of nothing.
-    Idles,
+    /// What the node does between two turns.
+    Attends,
     /// Nothing is done: this is the number of tickets that wait, and this one has the loan.
     Has(usize, Option<u16>),
     /// Nothing is done: these tickets wait.
@@ -85,9 +84,15 @@ fn is_seen(node: &Node, act: Act<'_>) -> bool {
     }
 }
 
-/// Makes a turn by this plan, which is as told.
-fn is_turned(run: &mut Run<'_>, plan: &Plan) -> bool {
-    turn_once(run, plan);
+/// Makes a turn, which is as told.
+fn is_turned(run: &mut Run<'_>) -> bool {
+    turn_once(run);
+    true
+}
+
+/// Lets the node attend to what came, which is as told.
+fn is_attended(run: &mut Run<'_>) -> bool {
+    attend_once(run);
     true
 }
 
@@ -95,8 +100,8 @@ fn is_turned(run: &mut Run<'_>, plan: &Plan) -> bool {
 fn is_done(run: &mut Run<'_>, door: &Queue<'_>, pairs: &[Pair], act: Act<'_>) -> bool {
     match act {
         Act::Comes => door.knock().is_some(),
-        Act::Turns => is_turned(run, &whole()),
-        Act::Idles => is_turned(run, &idle()),
+        Act::Turns => is_turned(run),
+        Act::Attends => is_attended(run),
         Act::At(place, deed) => is_done_among(pairs, place, deed),
         _ => is_seen(run.node(), act),
     }

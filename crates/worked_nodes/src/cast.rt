@@ -1,6 +1,6 @@
 //! A node, and those who come to it over new connections.
 use crate::acts::{Act, first_wrong};
-use crate::stage::{Run, connections, doors, doors_to, in_a_row, run_of, with_token};
+use crate::stage::{Run, connections, doors, doors_to, in_a_row, run_of, with_lease, with_token};
 use crate::wires::{MemoryDoors, Pair, Queue, Trip};
 use node_core::Node;
 use std::alloc::{AllocError, Global};
@@ -12,6 +12,8 @@ use topology::Net;
 pub enum Cast {
     /// The root of two nodes, which has the token, and clients.
     Token,
+    /// The same where a loan's lease is one tick.
+    Leased,
     /// The root of two nodes, as it is at the start, and clients.
     New,
     /// The root of two nodes, at whose desk tickets wait that no client has, and clients.
@@ -47,6 +49,7 @@ fn begun<'a>(
 ) -> Result<Run<'a>, Fail> {
     match cast {
         Cast::Token => with_token(alloc, doors(nobody, comers, trip)),
+        Cast::Leased => with_lease(alloc, 1, doors(nobody, comers, trip)),
         Cast::New => in_a_row(alloc, 2, 0, doors(nobody, comers, trip)),
         Cast::Strangers => with_strangers(alloc, doors(nobody, comers, trip)),
         Cast::Row(id) => in_a_row(alloc, 3, id, doors(comers, nobody, trip)),

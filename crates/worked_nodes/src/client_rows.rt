@@ -1,9 +1,9 @@
 //! What clients write, and what becomes of them.
 use crate::acts::Act;
-use crate::acts::Act::{At, Comes, Has, Idles, Queues, Turns};
+use crate::acts::Act::{At, Attends, Comes, Has, Queues, Turns};
 use crate::acts::Deed::{Closes, Cuts, Hears, IsClosed, Writes};
 use crate::cast::{Cast, on_stage, wrong_act};
-use crate::stage::{Run, turn_once, whole};
+use crate::stage::{Run, turn_once};
 use crate::wires::{Pair, Queue};
 use std::alloc::Global;
 use std::test::Fail;
@@ -30,6 +30,29 @@ const CLOSING: [Act<'static>; 11] = [
 #[test]
 fn a_client_that_closes_gives_the_lock_back(rt: HostRuntime) -> Result<(), Fail> {
     as_told(wrong_act(rt.alloc(), Cast::Token, &CLOSING), &None)
+}
+
+/// A client keeps the lock beyond its lease, which is one tick: it begins in the first turn, one
+/// tick of it is left until the second, and it ends in the third. Between turns it goes on.
+const LATE: [Act<'static>; 13] = [
+    Comes,
+    At(0, Writes(b"lock\n")),
+    Turns,
+    At(0, Hears(b"granted\n")),
+    Attends,
+    Turns,
+    Attends,
+    At(0, Hears(b"")),
+    Has(0, Some(0)),
+    Turns,
+    At(0, Hears(b"lost\n")),
+    Has(0, None),
+    At(0, IsClosed(false)),
+];
+
+#[test]
+fn a_client_whose_lease_is_over_is_told(rt: HostRuntime) -> Result<(), Fail> {
+    as_told(wrong_act(rt.alloc(), Cast::Leased, &LATE), &None)
 }
 
 /// A client asks for the lock, and each write to it fails.
@@ -102,14 +125,14 @@ fn each_line_has_its_answer(rt: HostRuntime) -> Result<(), Fail> {
 const IN_PARTS: [Act<'static>; 11] = [
     Comes,
     At(0, Writes(b"stran")),
-    Idles,
+    Attends,
     At(0, Hears(b"")),
     At(0, Writes(b"ge\nunlock\n")),
     At(0, Closes),
-    Idles,
+    Attends,
     At(0, Hears(b"unknown\nstranger\n")),
     At(0, IsClosed(false)),
-    Idles,
+    Attends,
     At(0, IsClosed(true)),
 ];
 
@@ -122,11 +145,11 @@ fn a_line_comes_in_parts_and_the_sending_half_may_close(rt: HostRuntime) -> Resu
 const TOO_MUCH: [Act<'static>; 9] = [
     Comes,
     At(0, Writes(b"lock\nstatus\nstatus\nstatus\nstatus\n")),
-    Idles,
+    Attends,
     Has(1, None),
     At(0, IsClosed(false)),
     At(0, Writes(b"status\nstatus\nstatus\nstatus\nstatus\n")),
-    Idles,
+    Attends,
     Has(0, None),
     At(0, IsClosed(true)),
 ];
@@ -160,7 +183,7 @@ fn crowd(run: &mut Run<'_>, clients: &Queue<'_>, pairs: &[Pair]) -> (usize, Opti
         pair.up.write(b"lock\n");
     }
     for _ in 0..3 {
-        turn_once(run, &whole());
+        turn_once(run);
     }
     (run.node().waiting(), first_wrong_answer(pairs))
 }
@@ -179,7 +202,7 @@ fn the_hundred_and_twenty_ninth_client_is_closed(rt: HostRuntime) -> Result<(), 
 
 /// A client comes to a node with the tickets of strangers: ticket 0 alone waits then, and nobody
 /// borrows.
-const STRANGERS: [Act<'static>; 4] = [Comes, Idles, Has(1, None), Queues(&[0])];
+const STRANGERS: [Act<'static>; 4] = [Comes, Attends, Has(1, None), Queues(&[0])];
 
 #[test]
 fn tickets_that_no_client_has_leave(rt: HostRuntime) -> Result<(), Fail> {

@@ -1,7 +1,6 @@
 //! Doors, connections and stores that fail.
 use crate::stage::{
-    Run, doors, doors_to, idle, in_a_row, over_new, run_with, turn_once, whole, with_made,
-    with_token,
+    Run, doors, doors_to, in_a_row, over_new, run_with, turn_once, with_made, with_token,
 };
 use crate::wires::{MemoryDoors, Pair, Queue, Trip};
 use node_core::Node;
@@ -27,8 +26,8 @@ fn ask(clients: &Queue<'_>) {
 /// Sixteen turns of each.
 fn turn_both(near: &mut Run<'_>, far: &mut Run<'_>) {
     for _ in 0..16 {
-        turn_once(near, &whole());
-        turn_once(far, &whole());
+        turn_once(near);
+        turn_once(far);
     }
 }
 
@@ -114,8 +113,8 @@ fn with_fused_store<'a>(alloc: Global, doors: MemoryDoors<'a>) -> Result<Fused<'
     run_with(alloc, net, node, doors, store)
 }
 
-/// Turns a node 512 times, and lets it tick in the last turn. The first turn that did not save, or
-/// saved, as it should: the 256th fails to, the 512th does.
+/// Turns a node 512 times, and lets it attend before each of them. The first turn that did not save,
+/// or saved, as it should: the 256th fails to, the 512th does.
 fn first_wrong_turn(run: &mut Fused<'_>) -> Option<u32> {
     for turn in 1..=512 {
         let want = match turn {
@@ -123,16 +122,15 @@ fn first_wrong_turn(run: &mut Fused<'_>) -> Option<u32> {
             512 => Some(Ok(())),
             _ => None,
         };
-        let plan = if turn == 512 { whole() } else { idle() };
-        if run.turn_by(&plan, 0).saved != want {
+        run.attend(0);
+        if run.turn(0).saved != want {
             return Some(turn);
         }
     }
     None
 }
 
-/// What node 1 is to have stored in the last turn: the tick of that very turn made node 0 the
-/// parent.
+/// What node 1 has stored after the last turn: its ticks made node 0 the parent.
 const TICKED: [u8; 36] = *b"TKT2\x00\x02\x00\x01\x00\x01\x00\x01\x00\x02\x00\x00\
 \x00\x00\x00\x00\x00\x00\x00\x02\xff\xff\x00\x00\x00\x02\xff\xff\x00\x00\x00\x00";
 

@@ -1,9 +1,9 @@
 //! Connections of neighbours, and the first lines on them.
 use crate::acts::Act;
-use crate::acts::Act::{At, Comes, Idles, IsNumbered, Turns};
+use crate::acts::Act::{At, Attends, Comes, IsNumbered, Turns};
 use crate::acts::Deed::{Hears, IsClosed, IsLeft, IsSent, Shuts, Writes};
 use crate::cast::{Cast, on_stage, wrong_act};
-use crate::stage::{Run, idle, turn_once, whole};
+use crate::stage::{Run, attend_once, turn_once};
 use crate::wires::{Pair, Queue};
 use std::alloc::Global;
 use std::test::Fail;
@@ -56,10 +56,10 @@ fn a_hello_of_a_higher_neighbour_alone_is_welcome(rt: HostRuntime) -> Result<(),
 const IN_PARTS: [Act<'static>; 7] = [
     Comes,
     At(0, Writes(b"H00")),
-    Idles,
+    Attends,
     At(0, IsClosed(false)),
     At(0, Writes(b"01\nF000000000003ffff0000\n")),
-    Idles,
+    Attends,
     IsNumbered(1),
 ];
 
@@ -88,8 +88,8 @@ fn a_newer_hello_replaces_the_older_connection(rt: HostRuntime) -> Result<(), Fa
     as_told(wrong_act(rt.alloc(), Cast::Row(0), &TWICE), &None)
 }
 
-/// Turns a node 256 times. The first turn before which another connection than the 65th was closed
-/// by it, or that one was not closed behind the second turn, and that connection.
+/// Lets a node attend 256 times. The first time before which another connection than the 65th was
+/// closed by it, or that one was not closed after the second time, and that connection.
 fn first_wrong_turn(run: &mut Run<'_>, pairs: &[Pair]) -> Option<(u32, usize)> {
     for turn in 1..=256 {
         for (place, pair) in pairs.iter().enumerate() {
@@ -97,7 +97,7 @@ fn first_wrong_turn(run: &mut Run<'_>, pairs: &[Pair]) -> Option<(u32, usize)> {
                 return Some((turn, place));
             }
         }
-        turn_once(run, &idle());
+        attend_once(run);
     }
     None
 }
@@ -113,11 +113,11 @@ fn is_welcome(run: &mut Run<'_>, links: &Queue<'_>) -> bool {
         return false;
     };
     last.up.write(b"H0001\n");
-    turn_once(run, &whole());
+    turn_once(run);
     last.says(FIRST_FRAME)
 }
 
-/// What was wrong while all but the last of some connections said nothing for 256 turns, how many
+/// What was wrong while all but the last of some connections said nothing 256 times, how many
 /// were closed then, and whether the last one was welcome.
 type Silence = (Option<(u32, usize)>, usize, bool);
 
@@ -143,13 +143,12 @@ fn silent_connections_are_few_and_go(rt: HostRuntime) -> Result<(), Fail> {
 }
 
 /// A node comes to its lower neighbour, and once more as that one closes.
-const BELOW: [Act<'static>; 9] = [
-    Idles,
-    Idles,
-    At(0, IsSent(b"H0002\n")),
+const BELOW: [Act<'static>; 8] = [
+    Attends,
+    At(0, IsSent(b"H0002\nF000000000003ffff0000\n")),
     At(1, IsSent(b"")),
     At(0, Shuts),
-    Idles,
+    Attends,
     At(0, IsLeft),
     Turns,
     At(1, IsSent(b"H0002\nF000000000003ffff0000\n")),
@@ -174,7 +173,7 @@ fn rewired(run: &mut Run<'_>, net: &Net, links: &Queue<'_>) -> Rewired {
     let pair = links.knock()?;
     pair.up.write(b"H0002\n");
     let is_taken = is_taken_up(run, net);
-    turn_once(run, &whole());
+    turn_once(run);
     Some((is_taken, pair.says(FIRST_FRAME), pair.down.is_closed()))
 }
 

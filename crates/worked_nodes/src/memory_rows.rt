@@ -3,7 +3,7 @@ ghost use Rattle.std.specs.Prelude.{◌≡◌};
 ghost use Rattle.node_core.specs.Site.{site_of};
 ghost use Rattle.node_core.specs.View.{site_in};
 
-use crate::stage::{doors, over_new, whole, with_made};
+use crate::stage::{doors, over_new, with_made};
 use crate::wires::{MemoryDoors, Pair, Queue, Trip};
 use linked_list_allocator::LocalHeap;
 use node_core::Node;
@@ -104,24 +104,17 @@ fn comes(queue: &Queue<'_>, bytes: &[u8]) {
     }
 }
 
-/// One turn by a whole plan.
-fn turn_whole(run: &mut RunOn<'_, '_>) {
-    run.turn_by(&whole(), 0);
-}
-
-/// One turn at the node's own pace.
+/// One turn at the node's own pace, and what it does before the next one.
 fn turn_at(run: &mut RunOn<'_, '_>, now: u64) {
     run.wait(now);
     run.turn(now);
+    run.attend(now);
 }
 
-/// This number of `turns` by a whole plan, and then as many at the node's own pace.
+/// This number of `turns` at the node's own pace, 10 milliseconds apart.
 fn turn_often(run: &mut RunOn<'_, '_>, turns: u64) {
-    for _ in 0..turns {
-        turn_whole(run);
-    }
-    for now in 0..turns {
-        turn_at(run, now);
+    for turn in 0..turns {
+        turn_at(run, turn.saturating_mul(10_000));
     }
 }
 
@@ -223,7 +216,7 @@ fn rewired(run: &mut RunOn<'_, '_>, net: &Net, links: &Queue<'_>, heap: &LocalHe
     let pair = links.knock()?;
     pair.up.write(b"H0002\n");
     let is_taken = is_taken_up(run, net);
-    turn_whole(run);
+    turn_at(run, 0);
     Some((is_taken, !pair.down.is_closed(), heap.free()))
 }
 

@@ -136,6 +136,8 @@ fn grants_of(
 /// The first stretch in which a client is not granted the lock.
 fn first_starved(near: &mut Run<'_>, far: &mut Run<'_>, clients: [&Pair; 2]) -> Option<u64> {
     let mut draws = Draws(7);
+    near.set_pace(Pace::new(Manner::usual()));
+    far.set_pace(Pace::new(Manner::usual()));
     for stretch in 0..8 {
         let begin = stretch * TURNS * 100;
         let grants = grants_of(near, far, &mut draws, clients, begin);

@@ -1,7 +1,5 @@
 //! A node that starts again from a state that means nothing, among nodes that run.
-use crate::stage::{
-    Run, doors, doors_between, doors_to, over_new, run_with, turn_once, whole, with_made,
-};
+use crate::stage::{Run, doors, doors_between, doors_to, over_new, run_with, turn_once, with_made};
 use crate::wires::{MemoryDoors, Pair, Queue, Trip};
 use node_state_file::{FileFault, MemoryStore, StartFault, Store, start};
 use std::alloc::{AllocError, Global};
@@ -63,9 +61,9 @@ fn started<'a>(
 
 /// One turn of each node.
 fn turn_all(first: &mut Run<'_>, second: &mut Run<'_>, third: &mut Run<'_>) {
-    turn_once(first, &whole());
-    turn_once(second, &whole());
-    turn_once(third, &whole());
+    turn_once(first);
+    turn_once(second);
+    turn_once(third);
 }
 
 /// Asks a node by this client how it stands, again and again. Whether the answer begins so at last.

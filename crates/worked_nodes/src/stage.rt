@@ -7,7 +7,7 @@ use crate::wires::{MemoryDoors, Pair, Queue, Trip};
 use node_core::Node;
 use node_loop::NodeRun;
 use node_state_file::{MemoryStore, Store, decode};
-use pace::{Manner, Plan};
+use pace::Manner;
 use std::alloc::{AllocError, Global};
 use std::test::Fail;
 use topology::Net;
@@ -19,20 +19,9 @@ pub type Run<'a> = NodeRun<MemoryDoors<'a>, MemoryStore>;
 const WITH_TOKEN: [u8; 34] = *b"TKT1\x00\x02\x00\x00\x00\x01\x00\x00\xff\xff\
 \x00\x01\x00\x00\x00\x00\x00\x02\xff\xff\x00\x00\x00\x01\x00\x00\x00\x00\x00\x00";
 
-/// The plan of a tick, and a frame on each port.
-pub fn whole() -> Plan {
-    Plan {
-        ticks: true,
-        offers: [true; 64],
-    }
-}
-
-/// The plan of neither.
-pub fn idle() -> Plan {
-    Plan {
-        ticks: false,
-        offers: [false; 64],
-    }
+/// The manner of a node that offers a frame on each port, whatever the time is.
+pub fn eager() -> Manner {
+    Manner { hold: 0, repeat: 0 }
 }
 
 /// Does something with what was made, a node that runs say, and drops it then. What came of it.
@@ -70,9 +59,14 @@ pub fn over_new<T, F: FnOnce(&[Pair]) -> Result<T, Fail>>(
     deed(pairs.as_slice())
 }
 
-/// One turn by this plan, without the contract of a turn, which would else stand in each test.
-pub fn turn_once(run: &mut Run<'_>, plan: &Plan) {
-    run.turn_by(plan, 0);
+/// One turn, without the contract of a turn, which would else stand in each test.
+pub fn turn_once(run: &mut Run<'_>) {
+    run.turn(0);
+}
+
+/// What a node does between two turns.
+pub fn attend_once(run: &mut Run<'_>) {
+    run.attend(0);
 }
 
 /// Doors at which higher neighbours and clients come, of a node that has no lower neighbour.
@@ -134,9 +128,14 @@ pub fn in_a_row<'a>(
     run_of(alloc, net, node, doors)
 }
 
-/// The root of two nodes, which has the token.
+/// The root of two nodes, which has the token; loans have no lease.
 pub fn with_token<'a>(alloc: Global, doors: MemoryDoors<'a>) -> Result<Run<'a>, Fail> {
-    let net = Net::make(alloc, 2, 0, 1, 0, &[(0, 1)])?;
+    with_lease(alloc, 0, doors)
+}
+
+/// The root of two nodes, which has the token, where loans have this lease in ticks.
+pub fn with_lease<'a>(alloc: Global, lease: i64, doors: MemoryDoors<'a>) -> Result<Run<'a>, Fail> {
+    let net = Net::make(alloc, 2, 0, 1, lease, &[(0, 1)])?;
     if net.nodes() == 0 {
         return Err(Fail::from(AllocError));
     }
@@ -144,7 +143,7 @@ pub fn with_token<'a>(alloc: Global, doors: MemoryDoors<'a>) -> Result<Run<'a>, 
     run_of(alloc, net, node, doors)
 }
 
-/// This node, with this store.
+/// This node, with this store. It offers a frame on each port in each turn.
 pub fn run_with<'a, S: Store + Drop>(
     alloc: Global,
     net: Net,
@@ -154,7 +153,7 @@ pub fn run_with<'a, S: Store + Drop>(
 ) -> Result<NodeRun<MemoryDoors<'a>, S>, Fail>
     requires { site_in node ≡ site_of net (site_in node).id }
 {
-    match NodeRun::new(alloc, net, node, doors, store, Manner::usual()) {
+    match NodeRun::new(alloc, net, node, doors, store, eager()) {
         Ok(run) => Ok(run),
         Err(_unmade) => Err(Fail::from(AllocError)),
     }

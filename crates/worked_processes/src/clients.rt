@@ -1,7 +1,7 @@
 //! Copies of the test program as clients, against desks that follow a script.
 use crate::copies::{copy, prints, prints_and_tells, shell, started};
 use crate::hold::hold;
-use lock_command::{Request, lock, status};
+use lock_command::{GUARDED, Request, guard, lock, status};
 use std::alloc::{AllocError, Global};
 use std::io::{Input, Read, Write};
 use std::net::Net;
@@ -62,14 +62,43 @@ fn take_lock<
     let words: Vec<&str> = lines.split('\n').collect(rt.alloc())?;
     match request_of(words.as_slice()) {
         Some(request) => print_status(rt, lock::run(rt, &request)),
-        None => Err(Fail::new("fewer than four lines")),
+        None => Err(Fail::new("fewer than three lines")),
     }
 }
 
-/// What lines ask for: the folder, the seconds, whether the command runs on, whether somebody looks
-/// after the client, and up to three words.
+/// The test by which a copy of this program is the guard of a command.
+const GUARD: [&str; 1] = ["clients::acts_as_a_guard"];
+
+/// A copy that is started as a guard acts as one, for a command that runs on if its client was asked
+/// for that. It ends without a word then: its standard output is the connection to a desk.
+#[test]
+fn acts_as_a_guard(rt: HostRuntime) -> Result<(), Fail> {
+    if env::var(&rt, GUARDED).is_ok() {
+        let lines = env::var(&rt, "LOCK_LINES")?;
+        let keeps = lines
+            .as_str()
+            .split('\n')
+            .nth(2)
+            .is_some_and(|word| !word.is_empty());
+        guard::run(&rt, keeps);
+        vanish(&rt)?;
+    }
+    Ok(())
+}
+
+/// Ends this process without a word on standard output, to which the runner of tests writes at any
+/// other end.
+fn vanish(rt: &HostRuntime) -> Result<(), Fail> {
+    let mut command = Command::new(rt.alloc(), "/bin/sh")?;
+    command.arg("-c")?.arg("kill -KILL $PPID")?;
+    command.stdin(Stdio::null()).stdout(Stdio::null());
+    command.status(rt)?;
+    Ok(())
+}
+
+/// What lines ask for: the folder, the seconds, whether the command runs on, and up to three words.
 fn request_of<'a>(words: &'a [&'a str]) -> Option<Request<'a>> {
-    let [folder, seconds, keeps, guarded, command @ ..] = words else {
+    let [folder, seconds, keeps, command @ ..] = words else {
         return None;
     };
     Some(Request {
@@ -77,7 +106,8 @@ fn request_of<'a>(words: &'a [&'a str]) -> Option<Request<'a>> {
         node: 0,
         seconds: seconds.parse().ok(),
         keeps_running: !keeps.is_empty(),
-        guarded: !guarded.is_empty(),
+        waits_for_children: false,
+        guard: &GUARD,
         command: until_empty(command),
     })
 }
@@ -112,7 +142,7 @@ fn lines_of(alloc: Global, folder: &str, asked: Asked) -> Result<String, AllocEr
         script,
     } = asked;
     let flag = if script.is_empty() { "" } else { "-c" };
-    format!(in alloc; "{folder}\n{seconds}\n{keeps}\n\n{program}\n{flag}\n{script}")
+    format!(in alloc; "{folder}\n{seconds}\n{keeps}\n{program}\n{flag}\n{script}")
 }
 
 /// Starts a copy as a client that is told these lines.
@@ -306,7 +336,7 @@ fn ends_as_its_command_does(rt: HostRuntime) -> Result<(), Fail> {
 }
 
 /// Clients that do not hold the lock, or not to the end.
-const NOT_HELD: [Row; 6] = [
+const NOT_HELD: [Row; 8] = [
     Row {
         asked: Asked {
             seconds: "1",
@@ -353,14 +383,39 @@ const NOT_HELD: [Row; 6] = [
         told: "tokentree: the lock may have been lost: \
                    node 0 did not say that it was held to the end\n",
     },
+    // The guard is killed, by the command that it guards.
     Row {
         asked: Asked {
-            script: "exit 0",
+            script: "for process in $(cat /proc/$PPID/task/$PPID/children); do \
+                     [ $process = $$ ] || kill -KILL $process; done; exec sleep 30",
             ..SHELL
         },
-        steps: &[LOCK],
-        status: "status 125\n",
-        told: "tokentree: node 0 went away before it lent the lock\n",
+        steps: &[LOCK, GRANTED, Step::SeesOff],
+        status: "status 122\n",
+        told: "tokentree: the second process of this lock is gone, which guards the command: \
+                   the command is ended\n",
+    },
+    // The client is killed, by its command: its guard ends the command, and says so.
+    Row {
+        asked: Asked {
+            script: "kill -KILL $PPID; exec sleep 30",
+            ..SHELL
+        },
+        steps: &[LOCK, GRANTED, Step::SeesOff],
+        status: "",
+        told: "tokentree: the first process of this lock is gone, which ran the command: \
+                   the command is ended\n",
+    },
+    // The same of a command that may run on: it ends by itself, and nobody asked it to.
+    Row {
+        asked: Asked {
+            keeps: "yes",
+            script: "kill -KILL $PPID; trap 'exit 1' TERM; sleep 0.5; echo ends by itself",
+            ..SHELL
+        },
+        steps: &[LOCK, GRANTED, Step::SeesOff],
+        status: "ends by itself\n",
+        told: "",
     },
     Row {
         asked: Asked {
@@ -461,72 +516,58 @@ fn holds_the_lock_until_its_input_ends(rt: HostRuntime) -> Result<(), Fail> {
     Ok(())
 }
 
-/// The lines of a client that a copy of its program looks after, of a command that makes a file and
-/// runs for long.
-const GUARDED: &str = "lock-guarded\n\n\nyes\n/bin/sh\n-c\n>lock-guarded/held; exec sleep 50";
-
-/// A shell that starts such a client, and does not become it, since it has more to do.
-fn guarded_by_shell(rt: &HostRuntime) -> Result<Command, Fail> {
-    let program = env::current_exe(rt)?;
-    let script = "\"$0\" clients::acts_as_a_client; exit 1";
-    let lines = [("LOCK_LINES", GUARDED)];
-    Ok(shell(rt.alloc(), script, program.path_text(), &lines)?)
+/// Has a client no room at first: its connection is closed. At the next one it is lent the lock.
+fn lend_at_second(desk: &UnixListener) -> Result<(), Fail> {
+    serve_one(desk, &[LOCK])?;
+    serve_one(desk, &WHOLE)
 }
 
-/// Starts such a shell.
-fn guard(rt: &HostRuntime) -> Result<Child, Fail> {
-    let mut command = guarded_by_shell(rt)?;
-    command.stdin(Stdio::null()).stdout(Stdio::null());
-    Ok(command.spawn(rt)?)
-}
-
-/// Waits for a file, for a minute at most.
-fn appears(rt: &HostRuntime, path: &str) -> Result<bool, Fail> {
-    for _ in 0..6_000u32 {
-        if fs::exists(rt, path)? {
-            return Ok(true);
-        }
-        thread::sleep(rt, Duration::from_millis(10));
-    }
-    Ok(false)
-}
-
-/// Lends the lock to the client of a shell, and kills the shell once the command runs: a client
-/// that is alone before that leaves without the lock.
-fn lend_and_kill(rt: &HostRuntime, stream: &mut UnixStream, shell: &mut Child) -> Result<(), Fail> {
-    serve(stream, &[LOCK, GRANTED])?;
-    hold(
-        appears(rt, "lock-guarded/held")?,
-        "the command does not run",
-    )?;
-    shell.kill()?;
-    // Its command would run on for long: it is ended, and then the lock is given back.
-    serve(stream, &[UNLOCK, RELEASED, Step::SeesOff])?;
-    shell.wait()?;
-    Ok(())
-}
-
-/// The same over the next connection to a desk.
-fn lend_at(rt: &HostRuntime, desk: &UnixListener, shell: &mut Child) -> Result<(), Fail> {
-    let mut stream = accepted(desk)?;
-    lend_and_kill(rt, &mut stream, shell)
-}
-
-/// The same of a shell of its own.
-fn lend_to_shell(rt: &HostRuntime, desk: &UnixListener) -> Result<(), Fail> {
-    let mut shell = guard(rt)?;
-    lend_at(rt, desk, &mut shell)
+/// Whether a client that was closed before it was lent the lock asks again, and ends as its command.
+fn asks_again(rt: &HostRuntime, desk: &UnixListener) -> Result<bool, Fail> {
+    let asked = Asked {
+        script: "exit 5",
+        ..SHELL
+    };
+    let client = client(rt, "lock-room", asked, Stdio::null())?;
+    lend_at_second(desk)?;
+    prints_and_tells(rt, client, "status 5\n", "")
 }
 
 #[test]
-fn outlives_who_started_it(rt: HostRuntime) -> Result<(), Fail> {
-    fs::create_dir_all(&rt, "lock-guarded")?;
-    at_desk(
-        &rt,
-        "lock-guarded/desk-0.sock",
-        |desk| lend_to_shell(&rt, desk),
+fn asks_again_where_there_is_no_room(rt: HostRuntime) -> Result<(), Fail> {
+    fs::create_dir_all(&rt, "lock-room")?;
+    as_told(
+        at_desk(&rt, "lock-room/desk-0.sock", |desk| asks_again(&rt, desk)),
+        &true,
     )?;
-    fs::remove_dir_all(&rt, "lock-guarded")?;
+    fs::remove_dir_all(&rt, "lock-room")?;
+    Ok(())
+}
+
+/// A client that has asked for the lock at a desk, and its connection.
+fn asked_for(rt: &HostRuntime, desk: &UnixListener) -> Result<(Child, UnixStream), Fail> {
+    let client = client(rt, "lock-away", PLAIN, Stdio::null())?;
+    let mut stream = accepted(desk)?;
+    hears(&mut stream, b"lock\n")?;
+    Ok((client, stream))
+}
+
+/// A client whose desk is gone, and then its connection.
+fn left_alone(rt: &HostRuntime) -> Result<Child, Fail> {
+    let path = "lock-away/desk-0.sock";
+    let (client, _stream) = at_desk(rt, path, |desk| asked_for(rt, desk))?;
+    Ok(client)
+}
+
+#[test]
+fn misses_a_node_that_went_away(rt: HostRuntime) -> Result<(), Fail> {
+    fs::create_dir_all(&rt, "lock-away")?;
+    let told = "tokentree: node 0 went away before it lent the lock\n";
+    as_told(
+        prints_and_tells(&rt, left_alone(&rt)?, "status 125\n", told),
+        &true,
+    )?;
+    fs::remove_dir_all(&rt, "lock-away")?;
     Ok(())
 }
 

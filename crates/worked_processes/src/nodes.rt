@@ -753,6 +753,61 @@ fn up_starts_again_what_ends_and_leaves_nothing(rt: HostRuntime) -> Result<(), F
     in_folder(&rt, "up", LINE, |dir| keep_running(&rt, dir))
 }
 
+/// A program that ends with status 1 at once, whichever node it is to be.
+#[derive(Drop)]
+struct NoNode;
+
+impl NodeProgram for NoNode {
+    fn command(&self, alloc: Global, _: u16) -> io::Result<Command> {
+        Ok(Command::new(alloc, "/bin/false")?)
+    }
+}
+
+/// Keeps nodes running in a folder that end at once. What becomes of it.
+fn run_up_in_vain(rt: &HostRuntime, dir: &str) -> Result<Result<(), NodeFault>, Fail> {
+    let file = network_file(rt.alloc(), dir)?;
+    Ok(up::run(rt, &NoNode, file.as_str(), dir))
+}
+
+/// The same in the folder that the environment says, if it says one.
+fn run_told_up_in_vain(rt: &HostRuntime) -> Result<Result<(), NodeFault>, Fail> {
+    match env::var(rt, "TOKENTREE_VAIN") {
+        Ok(dir) => run_up_in_vain(rt, dir.as_str()),
+        Err(_) => Ok(Err(NodeFault::NoneStays)),
+    }
+}
+
+/// What a copy of this program does, if the environment says in which folder.
+#[test]
+fn acts_as_up_in_vain(rt: HostRuntime) -> Result<(), Fail> {
+    as_told(run_told_up_in_vain(&rt), &Err(NodeFault::NoneStays))
+}
+
+/// What `up` says of a node that fails at its start, and of the third time.
+const IN_VAIN: [&str; 3] = [
+    "node 2 ended with status 1, and is started again",
+    "node 2 ended with status 1, and is started again",
+    "node 2 ended with status 1 for the third time at its start, and is left alone; mend what it says, \
+    and start up again",
+];
+
+/// A copy starts what ends at once three times, says so, and ends, though its input does not.
+fn give_up(rt: &HostRuntime, dir: &str) -> Result<(), Fail> {
+    let mut command = copy(rt, "nodes::acts_as_up_in_vain", &[("TOKENTREE_VAIN", dir)])?;
+    command.stdin(Stdio::piped()).stdout(Stdio::piped());
+    let mut up = command.spawn(rt)?;
+    hold(
+        all_come(rt, &mut up, &IN_VAIN)?,
+        "up does not say how often a node fails",
+    )?;
+    hold(ends_well(&mut up)?, "up does not give up")
+}
+
+#[test]
+fn up_gives_up_what_ends_at_once(rt: HostRuntime) -> Result<(), Fail> {
+    in_folder(&rt, "vain", LINE, |dir| give_up(&rt, dir))
+}
+
 /// Whether the next line is that a node is ready.
 fn is_ready_next<R: Read>(alloc: Global, reader: &mut R) -> Result<bool, Fail> {
     Ok(read_line(alloc, reader)?.as_str().ends_with(" ready"))
@@ -816,7 +871,19 @@ fn is_fault_line(alloc: Global, fault: NodeFault, want: &str) -> Result<bool, Al
 }
 
 /// Why a node does not run, and how it is told.
-const FAULTS: [(NodeFault, &str); 6] = [
+const FAULTS: [(NodeFault, &str); 9] = [
+    (
+        NodeFault::Displaced,
+        "run/lock-7: is another file now, or gone; the node ends, start it again",
+    ),
+    (
+        NodeFault::StopStays,
+        "run/stop-7: cannot be removed; remove it, and start the node again",
+    ),
+    (
+        NodeFault::NoneStays,
+        "run: no node stays up there; see what each said, and start up again",
+    ),
     (
         NodeFault::NoNode(3),
         "no node 7 is in a.toml: its 3 nodes are numbered from 0",

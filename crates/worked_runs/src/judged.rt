@@ -96,12 +96,14 @@ fn first_miscounted(alloc: Global, rows: &[(usize, &str, Counts)]) -> Result<Opt
 }
 
 /// Rounds alone, of ten events each.
-const ROUNDS: [(usize, &str, Counts); 6] = [
+const ROUNDS: [(usize, &str, Counts); 8] = [
     (0, "", (0, 0, 0, 0)),
     (1, "", (10, 1, 0, 1)),
     (2, "", (20, 2, 0, 1)),
     (3, "", (30, 3, 0, 3)),
     (69, "", (690, 69, 0, 3)),
+    (70, "", (700, 70, 0, 3)),
+    (71, "", (710, 71, 0, 3)),
     (72, "", (720, 72, 0, 3)),
 ];
 

@@ -171,7 +171,7 @@ fn rounds_with_gaps(alloc: Global, round: &str, count: usize) -> Result<Vec<Even
 }
 
 /// Whether a judge keeps of its stretch what the plain count does, for each node and each link.
-fn agree(judge: &Judge, plain: &Plain) -> bool {
+fn agree(judge: &mut Judge, plain: &Plain) -> bool {
     for from in 0..4 {
         for to in 0..4 {
             if judge.tally(from, to) != plain.tally(from, to) {

@@ -1,16 +1,18 @@
-use Rattle.std.proofs.Common.{ap, subst, sym, false}
-use Rattle.rand_pcg.specs.Lcg.{Lcg}
-use Rattle.run_model.specs.declared.event.Event.{Event}
-use Rattle.schedules.specs.declared.random.Chances.{Chances}
-use Rattle.experiments.proofs.Steps.{IsStepOf, drawn-step}
-use Rattle.experiments.proofs.Harmless.{unharmed-both, one-unharmed}
+use Rattle.std.proofs.Common.{◌≡◌, ◌+◌, ◌*◌, length, subst, rules}
+use Rattle.experiments.specs.Scheduled.{plain_steps}
+use Rattle.experiments.specs.Watched.{GoesOn}
+use Rattle.experiments.proofs.Stretches.{steps-more}
 use Rattle.experiments.proofs.measured_run.give_steps.Goals as goal
 
 pub loop-step-preserved : goal.loop-step-preserved
 loop-step-preserved g c =
-    let net = c.args.net.now in
-    let ok = c.nodes.ensures.network in
-    let plain : Chances = record { loss = 0; clients = false } in
-    let step : IsStepOf net c.draw_step-event.result =
-    subst (IsStepOf net) (sym (ap (λ (p : Event × Lcg). p.0) c.draw_step-event.ensures)) (drawn-step c.draws.ensures net ok (c.edges.ensures net ok) plain c.loop-step.generator) in
-    unharmed-both _ _ _ _ _ _ c.loop-step.invariant (one-unharmed net c.draw_step-event.result step _ _ _ _ c.take-taken.ensures.taken)
+    let so_far = c.loop-step.invariant in
+    let more = steps-more c.args.net.now c.loop-step.step c.args.generator.now c.loop-step.generator (c.draw_step-event.result, c.draw_step-event.new.generator) _ _ _ _ _ _
+    so_far.watched so_far.generator c.draw_step-event.ensures c.take-taken.ensures.taken in
+    record { watched = more.0; generator = more.1 }
+
+pub returns-clause-watched : goal.returns-clause-watched
+returns-clause-watched g c =
+    let all : c.loop-step.step ≡ c.args.net.now.nodes + 4 * length c.args.net.now.edges = search rules in
+    subst (λ n. GoesOn c.args.watch.now.judge c.args.watch.now.last (plain_steps c.args.net.now n c.args.generator.now).0 c.loop-step.watch.judge c.loop-step.watch.last) all
+    c.loop-step.invariant.watched

@@ -12,5 +12,5 @@ returns-clause-node g c = one IsLeave (Leaves c.args.ticket) c.args.node.now c.l
 pub returns-clause-connected : goal.returns-clause-connected
 returns-clause-connected g c were t known =
     dismissed (is_connected c.args.clients.now) (is_connected c.close.new.self) c.args.node.now.desk.lease c.args.ticket c.args.node.now.desk.state
-    c.ranges-known_ranges.ensures.in_range.desk c.close.ensures were t
+    c.ranges-known_ranges.ensures.in_range.desk c.close.ensures.closed were t
     (subst (λ d. is_stranger t d ≡ false) (ap (λ s. s.desk) c.leave.ensures.state) known)

@@ -1,4 +1,6 @@
-use Rattle.std.proofs.Common.{◌≡◌}
+use Rattle.std.specs.Prelude.{IsTrue}
+use Rattle.std.proofs.Common.{◌≡◌, ℕ, rules}
+use Rattle.lock_desk.specs.Desk.{is_number}
 use Rattle.node_core.specs.View.{NodeView, site_in, state_of}
 use Rattle.lock_desk.specs.declared.client_line.ClientLine.{ClientLine}
 use Rattle.lock_desk.specs.declared.client_line.ClientLine.TheVariants.{Lock, Unlock, Status, Unknown}
@@ -8,18 +10,20 @@ use Rattle.node_loop.proofs.Became.{one, same, joins, leaves-are-clients}
 use Rattle.node_loop.proofs.service.serve_line.Goals as goal
 
 -- a line is an ask, a leave, or neither
-line-did : (t : _) (line : ClientLine) (x y : NodeView) → site_in y ≡ site_in x → state_of y ≡ after_line t line (state_of x) → Became IsOfClient x y
-line-did t Lock x y site state = one IsOfClient (Asks t) x y tt site state
-line-did t Unlock x y site state = one IsOfClient (Leaves t) x y tt site state
-line-did t Status x y site state = same IsOfClient x y site state
-line-did t Unknown x y site state = same IsOfClient x y site state
+line-did : (t : ℕ) (line : ClientLine) (x y : NodeView) → IsTrue (is_number t) → site_in y ≡ site_in x → state_of y ≡ after_line t line (state_of x) → Became IsOfClient x y
+line-did t Lock x y number site state = one IsOfClient (Asks t) x y tt site (number, state)
+line-did t Unlock x y number site state = one IsOfClient (Leaves t) x y tt site state
+line-did t Status x y number site state = same IsOfClient x y site state
+line-did t Unknown x y number site state = same IsOfClient x y site state
 
 pub returns-then-count-gt0 : goal.returns-then-count-gt0
 returns-then-count-gt0 g c =
+    let number : IsTrue (is_number c.args.ticket) = search rules in
     joins IsOfClient c.args.node.now c.answer-count.new.node c.tell.new.node
-    (line-did c.args.ticket c.args.line c.args.node.now c.answer-count.new.node c.answer-count.ensures.site c.answer-count.ensures.state)
+    (line-did c.args.ticket c.args.line c.args.node.now c.answer-count.new.node number c.answer-count.ensures.site c.answer-count.ensures.state)
     (leaves-are-clients c.answer-count.new.node c.tell.new.node c.tell.ensures.node)
 
 pub returns-else-count-gt0 : goal.returns-else-count-gt0
 returns-else-count-gt0 g c =
-    line-did c.args.ticket c.args.line c.args.node.now c.answer-count.new.node c.answer-count.ensures.site c.answer-count.ensures.state
+    let number : IsTrue (is_number c.args.ticket) = search rules in
+    line-did c.args.ticket c.args.line c.args.node.now c.answer-count.new.node number c.answer-count.ensures.site c.answer-count.ensures.state

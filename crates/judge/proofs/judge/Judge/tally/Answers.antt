@@ -3,6 +3,7 @@ use Rattle.topology.specs.Network.{are_joined}
 use Rattle.configuration.specs.ConfigurationView.{world_of}
 use Rattle.run_model.specs.declared.event.Event.TheVariants.{Tick}
 use Rattle.judge.proofs.Judging.{joined-then}
+use Rattle.judge.proofs.JudgeSteps.{seen-looked}
 use Rattle.judge.proofs.judge.Judge.tally.Goals as goal
 
 pub returns-then-are_joined-clause-tally : goal.returns-then-are_joined-clause-tally
@@ -19,7 +20,10 @@ returns-then-are_joined-clause-tally g c =
       j.since,
       j.counted,
       (
-        ap (λ t. t.old) c.tally.ensures ∙ j.kept.old c.args.from c.args.to then,
-        ap (λ t. t.renewed) c.tally.ensures ∙ j.kept.renewed c.args.from c.args.to then,
+        ap (λ t. t.old) c.tally.ensures.tally ∙ j.kept.old c.args.from c.args.to then,
+        ap (λ t. t.renewed) c.tally.ensures.tally ∙ j.kept.renewed c.args.from c.args.to then,
       ),
     ))
+
+pub returns-then-are_joined-clause-same : goal.returns-then-are_joined-clause-same
+returns-then-are_joined-clause-same g c = rw (← c.self.view_is) (seen-looked _ c.tally.new.self _ c.tally.ensures.looked)

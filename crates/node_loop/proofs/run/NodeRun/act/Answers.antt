@@ -1,42 +1,34 @@
-use Rattle.std.proofs.Common.{ap, subst, sym, is_some}
-use Rattle.node_loop.specs.Deeds.{Acts}
-use Rattle.node_loop.proofs.Became.{act-more}
+use Rattle.std.proofs.Common.{ap, refl}
+use Rattle.node_loop.proofs.Turning.{turn-leads}
 use Rattle.node_loop.proofs.run.NodeRun.act.Goals as goal
 
-pub returns-clause-node : goal.returns-clause-node
-returns-clause-node g c =
-    let ticks = is_some c.tick_if-ticked.result in
-    let acts = subst (λ b. Acts b c.listen.new.self.node c.tick_if-ticked.new.self.node) (sym c.tick_if-ticked.ensures.ticked) c.tick_if-ticked.ensures.node in
+pub returns-clause-turns : goal.returns-clause-turns
+returns-clause-turns g c =
+    let listens = c.listen.ensures.listens in
+    let acts = c.tick-ticked.ensures.node in
+    let speaks = c.speak.ensures.spoken in
     record {
-      served = c.listen.new.self.node;
-      listens = c.listen.ensures.node;
-      acts = act-more ticks c.listen.new.self.node c.tick_if-ticked.new.self.node c.speak.new.self.node acts c.speak.ensures.node;
+      heard = record {
+        node = c.listen.new.self.node;
+        ports = c.listen.new.self.ports.items;
+        pace = c.listen.new.self.pace;
+        let_go = c.listen.new.self.let_go;
+      };
+      acted = record {
+        node = c.tick-ticked.new.self.node;
+        ports = c.tick-ticked.new.self.ports.items;
+        pace = c.tick-ticked.new.self.pace;
+        let_go = c.tick-ticked.new.self.let_go;
+      };
+      plan = c.plan-plan.result;
+      listens = listens;
+      acts = acts;
+      ports = ap (λ ports. ports.items) c.tick-ticked.ensures.ports.0;
+      plans = c.plan-plan.ensures;
+      speaks = speaks;
+      leaves = c.speak.ensures.node;
+      account = _;
+      account_is = refl;
+      leads = turn-leads c.tick-ticked.result c.args.self.now.node listens.heard c.listen.new.self.node c.tick-ticked.new.self.node c.speak.new.self.node speaks.sends listens.hears.takes listens.serves acts
+          speaks.leads c.speak.ensures.node;
     }
-
-pub returns-clause-paced : goal.returns-clause-paced
-returns-clause-paced g c = record {
-  before = c.plan.result;
-  behind = c.plan-plan.result;
-  turn = record {
-    heard = record {
-      node = c.listen.new.self.node;
-      ports = c.listen.new.self.ports.items;
-      pace = c.listen.new.self.pace;
-      let_go = c.listen.new.self.let_go;
-    };
-    acted = record {
-      node = c.tick_if-ticked.new.self.node;
-      ports = c.tick_if-ticked.new.self.ports.items;
-      pace = c.tick_if-ticked.new.self.pace;
-      let_go = c.tick_if-ticked.new.self.let_go;
-    };
-    listens = c.listen.ensures.node;
-    acts = subst (λ b. Acts b c.listen.new.self.node c.tick_if-ticked.new.self.node) (sym c.tick_if-ticked.ensures.ticked) c.tick_if-ticked.ensures.node;
-    ports = ap (λ ports. ports.items) c.tick_if-ticked.ensures.ports.0;
-    speaks = c.speak.ensures.spoken;
-    leaves = c.speak.ensures.node;
-  };
-  ticks_are = sym c.tick_if-ticked.ensures.ticked;
-  plans_tick = c.plan.ensures;
-  plans_offers = c.plan-plan.ensures;
-}

@@ -1,15 +1,23 @@
-use Rattle.std.proofs.Common.{◌∙◌, subst}
-use Rattle.node_loop.specs.Deeds.{Became, IsTake, IsOfClient}
+use Rattle.std.proofs.Common.{◌∙◌, ap, subst}
+use Rattle.node_loop.specs.Deeds.{IsOfClient}
+use Rattle.node_loop.specs.Hearing.{AreWired, Hears}
 use Rattle.node_loop.proofs.Became.{joins, leaves-are-clients}
+use Rattle.node_loop.proofs.Hearing.{wired-join}
 use Rattle.node_loop.proofs.run.NodeRun.listen.Goals as goal
 
-pub returns-clause-node : goal.returns-clause-node
-returns-clause-node g c =
+pub returns-clause-listens : goal.returns-clause-listens
+returns-clause-listens g c =
+    let start = c.args.self.now in
     let heard = c.pull_all.new.self.node in
     let served = c.serve_all.new.node in
+    let wired = c.connect.new.self.ports.items in
     let before = c.connect.ensures.node ∙ (c.hear_hellos.ensures.node ∙ (c.accept_clients.ensures.node ∙ c.accept_links.ensures.node)) in
+    let come = c.accept_clients.ensures.ports ∙ c.accept_links.ensures.ports in
     record {
+      wired = wired;
       heard = heard;
-      hears = subst (λ x. Became IsTake x heard) before c.pull_all.ensures.node;
+      wires = wired-join start.ports.items c.hear_hellos.new.self.ports.items wired
+          (subst (λ ports. AreWired ports.items c.hear_hellos.new.self.ports.items) come c.hear_hellos.ensures.wires) c.connect.ensures.wires;
+      hears = subst (λ x. Hears g.D.P.Pipe.gave g.D.P.Pipe.took g.D.P.Pipe.counts x heard wired c.pull_all.new.self.ports.items) before c.pull_all.ensures.hears;
       serves = joins IsOfClient heard served c.leave_absent.new.node c.serve_all.ensures (leaves-are-clients served c.leave_absent.new.node c.leave_absent.ensures.node);
     }

@@ -1,18 +1,53 @@
-use Rattle.std.proofs.Common.{◌∙◌}
-use Rattle.node_loop.specs.Deeds.{IsTake}
-use Rattle.node_loop.proofs.Became.{joins}
+use Rattle.std.specs.Prelude.{IsTrue}
+use Rattle.std.proofs.Common.{◌≡◌, ◌∙◌, ap, refl, rules, subst}
+use Rattle.topology.specs.declared.frame.Ranges.{Ranges}
+use Rattle.node_core.specs.View.{site_in}
+use Rattle.node_loop.specs.Hearing.{Comes, Pulls, TakesAt}
+use Rattle.node_loop.proofs.Hearing.{takes-none, takes-join, comes-none, comes-join, comes-then, comes-end, takes-end}
 use Rattle.node_loop.proofs.run.NodeRun.pull.Goals as goal
 
-pub returns-then-not-pull_one-clause-node : goal.returns-then-not-pull_one-clause-node
-returns-then-not-pull_one-clause-node g c =
-    joins IsTake c.args.self.now.node c.loop.self.node c.pull_one.new.self.node c.loop.invariant.0 c.pull_one.ensures.node
+pub loop-init : goal.loop-init
+loop-init g c =
+    let self = c.args.self.now in
+    let r = self.node.registers.ranges in (
+      takes-none (Comes r g.D.P.Pipe.gave g.D.P.Pipe.took) (comes-none r g.D.P.Pipe.gave g.D.P.Pipe.took g.D.P.Pipe.counts) c.args.id self.node self.ports.items,
+      refl,
+      refl,
+      refl,
+    )
 
 pub loop-preserved : goal.loop-preserved
 loop-preserved g c =
+    let self = c.args.self.now in
+    let r = self.node.registers.ranges in
+    let comes = Comes r g.D.P.Pipe.gave g.D.P.Pipe.took in
     let before = c.loop.invariant in
+    let mid = c.loop.self in
+    let new = c.pull_one.new.self in
+    let same = ap (λ s. s.ranges) before.0.takes.site in
+    let more : IsTrue c.pull_one.result = search rules in
     let rest = c.pull_one.ensures.rest in (
-      joins IsTake c.args.self.now.node c.loop.self.node c.pull_one.new.self.node before.0 c.pull_one.ensures.node,
+      takes-join comes comes comes (comes-join r g.D.P.Pipe.gave g.D.P.Pipe.took g.D.P.Pipe.counts) c.args.id self.node mid.node new.node self.ports.items mid.ports.items new.ports.items before.0
+          (subst (λ x. TakesAt (Comes x g.D.P.Pipe.gave g.D.P.Pipe.took) c.args.id mid.node new.node mid.ports.items new.ports.items) same (c.pull_one.ensures.came more)),
       rest.0 ∙ before.1,
       rest.1 ∙ before.2,
       rest.2 ∙ before.3,
     )
+
+pub returns-then-not-pull_one-clause-takes : goal.returns-then-not-pull_one-clause-takes
+returns-then-not-pull_one-clause-takes g c =
+    let self = c.args.self.now in
+    let r = self.node.registers.ranges in
+    let comes = Comes r g.D.P.Pipe.gave g.D.P.Pipe.took in
+    let pulls = Pulls r g.D.P.Pipe.gave g.D.P.Pipe.took g.D.P.Pipe.counts in
+    let before = c.loop.invariant in
+    let mid = c.loop.self in
+    let new = c.pull_one.new.self in
+    let same = ap (λ s. s.ranges) before.0.takes.site in
+    takes-join comes pulls pulls (comes-then r g.D.P.Pipe.gave g.D.P.Pipe.took g.D.P.Pipe.counts) c.args.id self.node mid.node new.node self.ports.items mid.ports.items new.ports.items before.0
+    (subst (λ x. TakesAt (Pulls x g.D.P.Pipe.gave g.D.P.Pipe.took g.D.P.Pipe.counts) c.args.id mid.node new.node mid.ports.items new.ports.items) same (c.pull_one.ensures.ended c.if-not-pull_one.true))
+
+pub returns-clause-takes : goal.returns-clause-takes
+returns-clause-takes g c =
+    let r = c.args.self.now.node.registers.ranges in
+    takes-end r g.D.P.Pipe.gave g.D.P.Pipe.took g.D.P.Pipe.counts c.args.id c.args.self.now.node c.loop.self.node c.args.self.now.ports.items c.loop.self.ports.items c.loop.invariant.0

@@ -1,14 +1,28 @@
-use Rattle.std.proofs.Common.{◌∙◌}
-use Rattle.node_loop.specs.Deeds.{IsTake}
-use Rattle.node_loop.proofs.Became.{joins}
+use Rattle.std.proofs.Common.{◌≡◌, ◌∙◌, ap, refl, subst}
+use Rattle.node_loop.specs.Hearing.{Pulls, TakesAt}
+use Rattle.node_loop.proofs.Hearing.{heard-start, heard-next, heard-all}
 use Rattle.node_loop.proofs.run.NodeRun.pull_all.Goals as goal
+
+pub loop-id-init : goal.loop-id-init
+loop-id-init g c =
+    let self = c.args.self.now in
+    (heard-start (Pulls self.node.registers.ranges g.D.P.Pipe.gave g.D.P.Pipe.took g.D.P.Pipe.counts) self.node self.ports.items, refl, refl, refl)
 
 pub loop-id-preserved : goal.loop-id-preserved
 loop-id-preserved g c =
+    let self = c.args.self.now in
     let before = c.loop-id.invariant in
+    let mid = c.loop-id.self in
+    let new = c.pull.new.self in
+    let same = ap (λ s. s.ranges) before.0.takes.site in
     let rest = c.pull.ensures.rest in (
-      joins IsTake c.args.self.now.node c.loop-id.self.node c.pull.new.self.node before.0 c.pull.ensures.node,
+      heard-next (Pulls self.node.registers.ranges g.D.P.Pipe.gave g.D.P.Pipe.took g.D.P.Pipe.counts) self.node mid.node new.node self.ports.items mid.ports.items new.ports.items c.loop-id.id before.0
+          (subst (λ x. TakesAt (Pulls x g.D.P.Pipe.gave g.D.P.Pipe.took g.D.P.Pipe.counts) c.loop-id.id mid.node new.node mid.ports.items new.ports.items) same c.pull.ensures.takes),
       rest.0 ∙ before.1,
       rest.1 ∙ before.2,
       rest.2 ∙ before.3,
     )
+
+pub returns-clause-hears : goal.returns-clause-hears
+returns-clause-hears g c =
+    heard-all g.D.P.Pipe.gave g.D.P.Pipe.took g.D.P.Pipe.counts c.args.self.now.node c.loop-id.self.node c.args.self.now.ports.items c.loop-id.self.ports.items c.loop-id.id c.loop-id.invariant.0

@@ -1,7 +1,10 @@
 use Rattle.std.proofs.Common.{◌≡◌}
-use Rattle.node_loop.specs.Deeds.{Became, IsTake}
+use Rattle.node_core.specs.View.{site_in}
+use Rattle.node_loop.specs.Hearing.{Pulls}
+use Rattle.node_loop.proofs.Hearing.{HeardBelow}
 use Rattle.node_loop.proofs.run.NodeRun.pull_all.Given as goal
 
 abbrev pub invariant-loop-id : goal.invariant-loop-id
 invariant-loop-id g l =
-    Became IsTake l.fn.self.node l.self.node × (l.self.net ≡ l.fn.self.net) × (l.self.turns ≡ l.fn.self.turns) × (l.self.store ≡ l.fn.self.store)
+    HeardBelow (Pulls (site_in l.fn.self.node).ranges g.D.P.Pipe.gave g.D.P.Pipe.took g.D.P.Pipe.counts) l.fn.self.node l.self.node l.fn.self.ports.items l.self.ports.items l.id
+    × (l.self.net ≡ l.fn.self.net) × (l.self.turns ≡ l.fn.self.turns) × (l.self.store ≡ l.fn.self.store)

@@ -1,9 +1,61 @@
-use Rattle.std.proofs.Common.{Contains, rules}
-use Rattle.node_loop.specs.Deeds.{IsTake, Takes}
-use Rattle.node_loop.proofs.Became.{one}
+use Rattle.std.proofs.Common.{◌≡◌, ◌<◌, ◌∷◌, [], Contains, List, length, slice_get, ap, rules}
+use Rattle.topology.specs.declared.frame.Ranges.{Ranges}
+use Rattle.topology.specs.Ranges.{ranges_of}
+use Rattle.socket_links.specs.Links.{Pulled}
+use Rattle.socket_links.specs.declared.link.Pull.{Pull}
+use Rattle.socket_links.specs.declared.link.Pull.TheVariants as pull
+use Rattle.node_loop.specs.Hearing.{Comes, Pulls}
+use Rattle.node_loop.proofs.Hearing.{both-set, others-set, frame-came, later-came, broken-came, takes-none, takes-nothing, takes-one, pulls-same}
 use Rattle.node_loop.proofs.run.NodeRun.pull_one.Goals as goal
 
-pub returns-clause-node : goal.returns-clause-node
-returns-clause-node g c =
-    let has : Contains c.args.self.now.node.registers.neighbours c.args.id = search rules in
-    one IsTake (Takes c.args.id c.in-Frame.frame) c.args.self.now.node c.take.new.self has c.take.ensures.site c.take.ensures.state
+pub returns-then-not-is_neighbour-clause-ended : goal.returns-then-not-is_neighbour-clause-ended
+returns-then-not-is_neighbour-clause-ended g c _ =
+    let self = c.args.self.now in
+    let r = self.node.registers.ranges in
+    takes-none (Pulls r g.D.P.Pipe.gave g.D.P.Pipe.took g.D.P.Pipe.counts) (pulls-same r g.D.P.Pipe.gave g.D.P.Pipe.took g.D.P.Pipe.counts) c.args.id self.node self.ports.items
+
+pub returns-in-Later-clause-ended : goal.returns-in-Later-clause-ended
+returns-in-Later-clause-ended g c _ =
+    let self = c.args.self.now in
+    let r = self.node.registers.ranges in
+    let id = c.args.id in
+    let old = c.index_mut.result.now in
+    let new = c.pull.new.self in
+    let ranges : r ≡ ranges_of self.net = ap (λ s. s.ranges) self.wired in
+    let within : id < length self.ports.items = search rules in
+    let pulled : Pulled r g.D.P.Pipe.gave g.D.P.Pipe.took g.D.P.Pipe.counts old.link new.link pull.Later = rw ranges (rw c.in-Later.is at c.pull.ensures.pulled) in
+    takes-nothing (Pulls r g.D.P.Pipe.gave g.D.P.Pipe.took g.D.P.Pipe.counts) id self.node self.ports.items _
+    (both-set (Pulls r g.D.P.Pipe.gave g.D.P.Pipe.took g.D.P.Pipe.counts []) self.ports.items id old new within c.index_mut.ensures.value
+    (later-came r g.D.P.Pipe.gave g.D.P.Pipe.took g.D.P.Pipe.counts old new pulled c.pull.ensures.rest))
+    (others-set self.ports.items id new)
+
+pub returns-in-Broken-clause-ended : goal.returns-in-Broken-clause-ended
+returns-in-Broken-clause-ended g c _ =
+    let self = c.args.self.now in
+    let r = self.node.registers.ranges in
+    let id = c.args.id in
+    let old = c.index_mut.result.now in
+    let new = c.pull.new.self in
+    let within : id < length self.ports.items = search rules in
+    let pulled : Pulled r g.D.P.Pipe.gave g.D.P.Pipe.took g.D.P.Pipe.counts old.link new.link pull.Broken = rw c.in-Broken.is at c.pull.ensures.pulled in
+    takes-nothing (Pulls r g.D.P.Pipe.gave g.D.P.Pipe.took g.D.P.Pipe.counts) id self.node self.ports.items _
+    (both-set (Pulls r g.D.P.Pipe.gave g.D.P.Pipe.took g.D.P.Pipe.counts []) self.ports.items id old new within c.index_mut.ensures.value
+    (broken-came r g.D.P.Pipe.gave g.D.P.Pipe.took g.D.P.Pipe.counts old new pulled c.pull.ensures.rest))
+    (others-set self.ports.items id new)
+
+pub returns-clause-came : goal.returns-clause-came
+returns-clause-came g c _ =
+    let self = c.args.self.now in
+    let r = self.node.registers.ranges in
+    let id = c.args.id in
+    let old = c.index_mut.result.now in
+    let new = c.pull.new.self in
+    let frame = c.in-Frame.frame in
+    let ranges : r ≡ ranges_of self.net = ap (λ s. s.ranges) self.wired in
+    let has : Contains self.node.registers.neighbours id = search rules in
+    let within : id < length self.ports.items = search rules in
+    let pulled : Pulled r g.D.P.Pipe.gave g.D.P.Pipe.took g.D.P.Pipe.counts old.link new.link (pull.Frame frame) = rw ranges (rw c.in-Frame.is at c.pull.ensures.pulled) in
+    takes-one (Comes r g.D.P.Pipe.gave g.D.P.Pipe.took) id frame self.node c.take.new.self self.ports.items _ has c.take.ensures.site c.take.ensures.state
+    (both-set (Comes r g.D.P.Pipe.gave g.D.P.Pipe.took (frame ∷ [])) self.ports.items id old new within c.index_mut.ensures.value
+    (frame-came r g.D.P.Pipe.gave g.D.P.Pipe.took g.D.P.Pipe.counts frame old new pulled (rw c.in-Frame.is at c.pull.ensures.loose) c.pull.ensures.rest))
+    (others-set self.ports.items id new)

@@ -15,13 +15,13 @@ loop-id-init g c = (
 pub loop-id-preserved : goal.loop-id-preserved
 loop-id-preserved g c =
     let before = c.loop-id.invariant in
-    let told = c.speak_to.ensures in (
+    let told = c.speak_to-accepted.ensures in (
       told.node ∙ before.0,
       told.rest.0 ∙ before.1,
       told.rest.1 ∙ before.2,
       told.rest.2 ∙ before.3,
       told.clients ∙ before.4,
-      spoken-next g.D.P.Pipe.gave g.D.P.Pipe.took g.D.P.Pipe.counts c.args.offers.now c.args.now _ _ _ c.loop-id.id before.5 told.node told.let_go told.spoken told.silent told.others told.pace,
+      spoken-next g.D.P.Pipe.gave g.D.P.Pipe.took g.D.P.Pipe.counts c.args.offers.now c.args.now _ _ _ c.loop-id.id c.speak_to-accepted.result before.5 told.node told.let_go told.spoken told.silent told.known told.others told.pace,
     )
 
 pub returns-clause-spoken : goal.returns-clause-spoken

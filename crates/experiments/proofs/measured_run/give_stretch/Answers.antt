@@ -1,0 +1,14 @@
+use Rattle.std.proofs.Common.{subst, sym}
+use Rattle.experiments.specs.Scheduled.{stretch_of}
+use Rattle.experiments.specs.Watched.{GoesOn}
+use Rattle.experiments.proofs.measured_run.give_stretch.Goals as goal
+
+pub returns-in-Rounds-clause-watched : goal.returns-in-Rounds-clause-watched
+returns-in-Rounds-clause-watched g c =
+    subst (λ s. GoesOn c.args.watch.now.judge c.args.watch.now.last (stretch_of s c.args.net.now c.args.generator.now).0 c.give_one_round.new.watch.judge c.give_one_round.new.watch.last)
+    (sym c.in-Rounds.is) c.give_one_round.ensures
+
+pub returns-in-Random-clause-watched : goal.returns-in-Random-clause-watched
+returns-in-Random-clause-watched g c =
+    subst (λ s. GoesOn c.args.watch.now.judge c.args.watch.now.last (stretch_of s c.args.net.now c.args.generator.now).0 c.give_steps.new.watch.judge c.give_steps.new.watch.last)
+    (sym c.in-Random.is) c.give_steps.ensures.watched

@@ -1,0 +1,4 @@
+pub mod FirstWords
+pub mod MoreDigits
+pub mod Spelling
+pub mod Rows

@@ -1,0 +1,138 @@
+-- Small examples of what a guard does, of its words and of masks of signals, and ones that fail.
+use Rattle.std.proofs.Common.{◌≡◌, ◌++◌, true, false, [], ◌∷◌, Some, None, refl, codes, arith}
+use Rattle.lock_client.specs.declared.guard.GuardStage.TheVariants.{Idle, Searching, Waiting, Over}
+use Rattle.lock_client.specs.declared.guard.GuardEvent.{GuardEvent}
+use Rattle.lock_client.specs.declared.guard.GuardEvent.TheVariants.{Said, Closed, Looked, GraceIsOver}
+use Rattle.lock_client.specs.declared.guard.GuardDeed.TheVariants.{Listen, Look, Ask, Kill, End}
+use Rattle.lock_client.specs.declared.words.GuardWord.TheVariants.{Start, Runs, Done, Other}
+use Rattle.lock_client.specs.declared.signals.Signal.TheVariants.{Interrupt, Terminate}
+use Rattle.lock_client.specs.declared.status_lines.StatusEntry.TheVariants as entry
+use Rattle.lock_client.specs.Guards.{guard_after_all, guard_deeds}
+use Rattle.lock_client.specs.GuardLaws.{quiet_looks, IsUnannounced, AsksFirst}
+use Rattle.lock_client.specs.Words.{guard_word, guard_words}
+use Rattle.lock_client.specs.Signals.{signals_of, holds, has_any, no_signals, first_besides, including}
+use Rattle.lock_client.specs.StatusLines.{status_entry, signal_state}
+
+somebody : GuardEvent
+somebody = Looked (record { somebody = true; signalled = false })
+
+nobody : GuardEvent
+nobody = Looked (record { somebody = false; signalled = false })
+
+signalled : GuardEvent
+signalled = Looked (record { somebody = true; signalled = true })
+
+-- the usual way: the client says that it starts a command, which one, and that it is done
+usual : guard_deeds false Idle (Said Start ∷ Said (Runs 71) ∷ Said Done ∷ []) ≡ Listen ∷ Listen ∷ End ∷ []
+usual = refl
+
+-- the client is killed before it announced a command
+unused : guard_deeds false Idle (Closed ∷ []) ≡ End ∷ []
+unused = refl
+
+-- it is killed while the command runs, which is asked to end, and killed; and whoever is found after
+-- that is killed too
+ends_it : guard_deeds false Idle (Said Start ∷ Closed ∷ somebody ∷ somebody ∷ GraceIsOver ∷ nobody ∷ somebody ∷ [])
+    ≡ Listen ∷ Look ∷ Ask ∷ Look ∷ Kill ∷ Look ∷ Kill ∷ []
+unfolding somebody nobody
+ends_it = refl
+
+-- the lock goes back when four looks in a row have found nobody, and not before
+goes_back : guard_after_all false Idle (Said Start ∷ Closed ∷ somebody ∷ nobody ∷ nobody ∷ nobody ∷ nobody ∷ []) ≡ Over
+unfolding somebody nobody
+goes_back = refl
+
+not_yet : guard_after_all false Idle (Said Start ∷ Closed ∷ nobody ∷ nobody ∷ nobody ∷ []) ≡ Searching 3
+unfolding nobody
+not_yet = refl
+
+again : guard_after_all true Idle (Said Start ∷ Closed ∷ nobody ∷ nobody ∷ nobody ∷ somebody ∷ nobody ∷ []) ≡ Waiting 1
+unfolding somebody nobody
+again = refl
+
+-- with --keep, and if the command has had the signal too, nobody is asked
+keeps : guard_deeds true Idle (Said Start ∷ Closed ∷ somebody ∷ GraceIsOver ∷ somebody ∷ []) ≡ Listen ∷ Look ∷ Look ∷ Look ∷ Look ∷ []
+unfolding somebody
+keeps = refl
+
+has_had_it : guard_deeds false Idle (Said Start ∷ Closed ∷ signalled ∷ somebody ∷ []) ≡ Listen ∷ Look ∷ Look ∷ Look ∷ []
+unfolding somebody signalled
+has_had_it = refl
+
+-- the words of the laws: looks that find nobody count in a row alone, `done` announces nothing, and a
+-- deed that kills comes after one that asks
+counts-row : quiet_looks 2 (nobody ∷ Closed ∷ nobody ∷ []) ≡ 4
+unfolding nobody
+counts-row = refl
+
+counts_not-over : quiet_looks 3 (somebody ∷ nobody ∷ []) ≡ 1
+unfolding somebody nobody
+counts_not-over = refl
+
+unannounced : IsUnannounced (Said Other ∷ Said Done ∷ [])
+unannounced = (λ same. grind arith, (λ same. grind arith, tt))
+
+unannounced_not-started : IsUnannounced (Said Start ∷ []) → ⊥
+unannounced_not-started none = none.0 refl
+
+asks_first : AsksFirst (Listen ∷ Look ∷ Ask ∷ Kill ∷ [])
+asks_first = tt
+
+asks_first_not-killed : AsksFirst (Look ∷ Kill ∷ Ask ∷ []) → ⊥
+asks_first_not-killed none = none
+
+-- words are read byte for byte, and a process by its decimal number
+reads-words : guard_words (codes "start" ++ 10 ∷ codes "runs 4194304" ++ 10 ∷ codes "done" ++ 10 ∷ codes "do") ≡ Start ∷ Runs 4194304 ∷ Done ∷ []
+reads-words = refl
+
+reads_not-great : guard_word (codes "runs 4194305") ≡ Other
+reads_not-great = refl
+
+reads_not-none : guard_word (codes "runs ") ≡ Other
+reads_not-none = refl
+
+reads_not-sign : guard_word (codes "runs -1") ≡ Other
+reads_not-sign = refl
+
+reads_not-upper : guard_word (codes "Done") ≡ Other
+reads_not-upper = refl
+
+-- SIGINT is the second bit, SIGTERM the fifteenth
+has-interrupt : holds Interrupt (signals_of (codes "0000000000000002")) ≡ true
+has-interrupt = refl
+
+has-terminate : holds Terminate (signals_of (codes "000000000000400a")) ≡ true
+has-terminate = refl
+
+has_not-terminate : holds Terminate (signals_of (codes "ffffffffffffbfff")) ≡ false
+has_not-terminate = refl
+
+has-none : has_any (signals_of (codes "fffffffffff8bff8")) ≡ false
+has-none = refl
+
+has_not-empty : signals_of [] ≡ no_signals
+has_not-empty = refl
+
+-- the lines of a process that holds SIGINT back, which has come
+held_back : signal_state (status_entry (codes "SigPnd:" ++ 9 ∷ codes "0000000000000000")
+    ∷ status_entry (codes "ShdPnd:" ++ 9 ∷ codes "0000000000000002")
+    ∷ status_entry (codes "SigBlk:" ++ 9 ∷ codes "0000000000004006")
+    ∷ status_entry (codes "SigIgn:" ++ 9 ∷ codes "0000000000004007") ∷ [])
+    ≡ record {
+      pending = record { hang_up = false; interrupt = true; quit = false; terminate = false };
+      blocked = record { hang_up = false; interrupt = true; quit = true; terminate = true };
+    }
+held_back = refl
+
+other-line : status_entry (codes "SigPnd: 0000000000000002") ≡ entry.Other
+other-line = refl
+
+-- a signal is answered once
+fresh : first_besides no_signals (signals_of (codes "4002")) ≡ Some Terminate
+fresh = refl
+
+fresh-next : first_besides (including Terminate no_signals) (signals_of (codes "4002")) ≡ Some Interrupt
+fresh-next = refl
+
+fresh_not-seen : first_besides (signals_of (codes "4002")) (signals_of (codes "4002")) ≡ None
+fresh_not-seen = refl

@@ -1,0 +1,74 @@
+-- Laws of the guard of a command: what those who run a command under the lock may rest on if its
+-- client is killed.
+use Rattle.std.specs.Prelude.{◌≡◌, ◌⊎◌, ⊤, ℕ, ◌+◌, ◌≤◌, Bool, true, false, if◌then◌else◌, List, [], ◌∷◌, ◌++◌, filter, length}
+use Rattle.std.specs.List.{AllByRecursion}
+use Rattle.lock_client.specs.declared.guard.GuardStage.TheVariants.{Idle, Watching, Searching, Over}
+use Rattle.lock_client.specs.declared.guard.Sight.{Sight}
+use Rattle.lock_client.specs.declared.guard.GuardEvent.{GuardEvent}
+use Rattle.lock_client.specs.declared.guard.GuardEvent.TheVariants.{Said, Closed, Looked}
+use Rattle.lock_client.specs.declared.guard.GuardDeed.{GuardDeed}
+use Rattle.lock_client.specs.declared.guard.GuardDeed.TheVariants.{Ask, Kill}
+use Rattle.lock_client.specs.declared.words.GuardWord.TheVariants as word
+use Rattle.lock_client.specs.Guards.{guard_after, guard_after_all, guard_deed, guard_deeds}
+
+-- how many looks in a row found nobody when these things had happened, after so many before them
+abbrev pub quiet_looks : ℕ → List GuardEvent → ℕ
+quiet_looks quiet [] = quiet
+quiet_looks quiet (Looked sight ∷ es) = quiet_looks (if sight.somebody then 0 else quiet + 1) es
+quiet_looks quiet (e ∷ es) = quiet_looks quiet es
+
+-- the client did not announce a command
+abbrev pub IsUnannounced : List GuardEvent → Type 0
+IsUnannounced events = AllByRecursion (λ e. e ≡ Said word.Start → ⊥) events
+
+-- A guard gives the lock back with its next event only if the client says that it is done, or is
+-- gone and never announced a command, or four looks in a row found nobody of it.
+abbrev pub GivesBackRightly : Type 0
+GivesBackRightly =
+    (keeps : Bool) (events : List GuardEvent) (next : GuardEvent)
+    → (guard_after_all keeps Idle events ≡ Over → ⊥)
+    → guard_after keeps next (guard_after_all keeps Idle events) ≡ Over
+    → (next ≡ Said word.Done) ⊎ ((next ≡ Closed) × IsUnannounced events)
+    ⊎ (4 ≤ quiet_looks 0 (events ++ next ∷ []))
+
+-- the command is asked to end; it is killed
+abbrev pub is_asking : GuardDeed → Bool
+is_asking Ask = true
+is_asking _ = false
+
+abbrev pub is_killing : GuardDeed → Bool
+is_killing Kill = true
+is_killing _ = false
+
+-- whatever happens, it asks the command to end at most once
+abbrev pub AsksAtMostOnce : Type 0
+AsksAtMostOnce =
+    (keeps : Bool) (events : List GuardEvent)
+    → length (filter is_asking (guard_deeds keeps Idle events)) ≤ 1
+
+-- no deed kills before one asks
+abbrev pub AsksFirst : List GuardDeed → Type 0
+AsksFirst [] = ⊤
+AsksFirst (Ask ∷ deeds) = ⊤
+AsksFirst (Kill ∷ deeds) = ⊥
+AsksFirst (_ ∷ deeds) = AsksFirst deeds
+
+abbrev pub KillsAfterAsking : Type 0
+KillsAfterAsking =
+    (keeps : Bool) (events : List GuardEvent) → AsksFirst (guard_deeds keeps Idle events)
+
+-- nobody is asked who may run on, or has had the signal that ended the client
+pub record LeavesAlone : Type 0 where
+  pub keeps : (events : List GuardEvent)
+      → filter is_asking (guard_deeds true Idle events) ≡ []
+  pub signalled : (quiet : ℕ) (sight : Sight) (events : List GuardEvent) → sight.signalled ≡ true
+      → filter is_asking (guard_deeds false (Searching quiet) (Looked sight ∷ events)) ≡ []
+
+-- a guard ends when its client is done, or is gone and announced no command; one whose client is gone
+-- looks for the command, and asks it when it is found
+pub record GuardEnds : Type 0 where
+  pub done : (keeps : Bool) → guard_after keeps (Said word.Done) Watching ≡ Over
+  pub unused : (keeps : Bool) → guard_after keeps Closed Idle ≡ Over
+  pub looks : (keeps : Bool) → guard_after keeps Closed Watching ≡ Searching 0
+  pub asks : (quiet : ℕ) (sight : Sight) → sight.somebody ≡ true → sight.signalled ≡ false
+      → guard_deed (Searching quiet) (guard_after false (Looked sight) (Searching quiet)) ≡ Ask

@@ -1,0 +1,94 @@
+-- What the guard of a command makes of what happens to it.
+use Rattle.std.specs.Prelude.{ℕ, zero, ◌+◌, Bool, ◌||◌, if◌then◌else◌, nat_lt, Option, Some, None}
+use Rattle.std.specs.Prelude.{List, [], ◌∷◌}
+use Rattle.std.specs.Option.{option_map_or}
+use Rattle.lock_client.specs.declared.guard.GuardStage.{GuardStage}
+use Rattle.lock_client.specs.declared.guard.GuardStage.TheVariants.{Idle, Watching, Searching, Asked, Killed, Waiting, Over}
+use Rattle.lock_client.specs.declared.guard.Sight.{Sight}
+use Rattle.lock_client.specs.declared.guard.GuardEvent.{GuardEvent}
+use Rattle.lock_client.specs.declared.guard.GuardEvent.TheVariants.{Said, Closed, Looked, GraceIsOver}
+use Rattle.lock_client.specs.declared.guard.GuardDeed.{GuardDeed}
+use Rattle.lock_client.specs.declared.guard.GuardDeed.TheVariants.{Listen, Look, Ask, Kill, End}
+use Rattle.lock_client.specs.declared.words.GuardWord.TheVariants as word
+
+-- a guard to which no command was announced gives the lock back when its client is done or gone
+abbrev pub idle_after : GuardEvent → GuardStage
+idle_after (Said word.Start) = Watching
+idle_after (Said word.Done) = Over
+idle_after Closed = Over
+idle_after _ = Idle
+
+-- once a command was announced, it looks for the command when its client is gone
+abbrev pub watching_after : GuardEvent → GuardStage
+watching_after (Said word.Done) = Over
+watching_after Closed = Searching 0
+watching_after _ = Watching
+
+-- the fourth look in a row that finds nobody is enough
+abbrev pub unseen : ℕ → Option ℕ
+unseen quiet = if nat_lt quiet 3 then Some (quiet + 1) else None
+
+-- a look that finds somebody begins the count again
+abbrev pub looked : (ℕ → GuardStage) → Sight → ℕ → GuardStage
+looked stage sight quiet =
+    if sight.somebody then stage 0 else option_map_or stage (unseen quiet) Over
+
+-- a command that may run on, or has had the signal itself, is left to end; any other is asked to end
+-- when it is found
+abbrev pub searching_after : Bool → GuardEvent → ℕ → GuardStage
+searching_after keeps (Looked sight) quiet =
+    if keeps || sight.signalled then looked Waiting sight quiet
+    else if sight.somebody then Asked 0
+    else option_map_or Searching (unseen quiet) Over
+searching_after keeps _ quiet = Searching quiet
+
+-- one that was asked is killed when its time is over
+abbrev pub asked_after : GuardEvent → ℕ → GuardStage
+asked_after (Looked sight) quiet = looked Asked sight quiet
+asked_after GraceIsOver quiet = Killed 0
+asked_after _ quiet = Asked quiet
+
+abbrev pub killed_after : GuardEvent → ℕ → GuardStage
+killed_after (Looked sight) quiet = looked Killed sight quiet
+killed_after _ quiet = Killed quiet
+
+abbrev pub waiting_after : GuardEvent → ℕ → GuardStage
+waiting_after (Looked sight) quiet = looked Waiting sight quiet
+waiting_after _ quiet = Waiting quiet
+
+-- the stage after an event
+abbrev pub guard_after : Bool → GuardEvent → GuardStage → GuardStage
+guard_after keeps event Idle = idle_after event
+guard_after keeps event Watching = watching_after event
+guard_after keeps event (Searching quiet) = searching_after keeps event quiet
+guard_after keeps event (Asked quiet) = asked_after event quiet
+guard_after keeps event (Killed quiet) = killed_after event quiet
+guard_after keeps event (Waiting quiet) = waiting_after event quiet
+guard_after keeps event Over = Over
+
+-- what is to be done at a stage, which came after another one; whoever is still there is killed again
+abbrev pub guard_deed : GuardStage → GuardStage → GuardDeed
+guard_deed _ Over = End
+guard_deed _ Idle = Listen
+guard_deed _ Watching = Listen
+guard_deed (Searching quiet) (Asked _) = Ask
+guard_deed _ (Killed zero) = Kill
+guard_deed _ _ = Look
+
+-- for how many milliseconds it rests before a look: a command that runs for long is looked for less
+-- often
+abbrev pub look_rest : GuardStage → ℕ
+look_rest (Waiting zero) = 200
+look_rest _ = 50
+
+-- the stage after a list of events
+abbrev pub guard_after_all : Bool → GuardStage → List GuardEvent → GuardStage
+guard_after_all keeps stage [] = stage
+guard_after_all keeps stage (e ∷ es) = guard_after_all keeps (guard_after keeps e stage) es
+
+-- what was to be done in them, one after the other
+abbrev pub guard_deeds : Bool → GuardStage → List GuardEvent → List GuardDeed
+guard_deeds keeps stage [] = []
+guard_deeds keeps stage (e ∷ es) =
+    guard_deed stage (guard_after keeps e stage)
+    ∷ guard_deeds keeps (guard_after keeps e stage) es

@@ -1,0 +1,230 @@
+//! What the guard of a command does next.
+ghost use Rattle.std.specs.Prelude.{◌≡◌};
+ghost use Rattle.lock_client.specs.Guards.{guard_after, guard_deed, idle_after, watching_after};
+ghost use Rattle.lock_client.specs.Guards.{searching_after, asked_after, killed_after};
+ghost use Rattle.lock_client.specs.Guards.{waiting_after, unseen, look_rest};
+
+use crate::GuardWord;
+
+/// How many looks in a row must find nobody of a command before it counts as gone. A command that is
+/// just being started is not found by its mark until it runs.
+pub const QUIET_LOOKS: u8 = 4;
+
+/// How far a guard is.
+#[derive(Clone, Copy, Debug, PartialEq, Eq)]
+pub enum GuardStage {
+    /// No command was announced.
+    Idle,
+    /// A command is about to be started, or runs, and its client lives.
+    Watching,
+    /// The client is gone. So many looks in a row have found nobody of the command.
+    Searching(u8),
+    /// The command was asked to end. So many looks in a row have found nobody of it.
+    Asked(u8),
+    /// It was killed. So many looks in a row have found nobody of it.
+    Killed(u8),
+    /// It is left to end by itself. So many looks in a row have found nobody of it.
+    Waiting(u8),
+    /// The lock is given back.
+    Over,
+}
+
+/// What a look found.
+#[derive(Clone, Copy, Debug, PartialEq, Eq)]
+pub struct Sight {
+    /// Whether somebody of the command is left.
+    pub somebody: bool,
+    /// Whether a signal came to the guard. It is sent to nobody alone who knows of no guard: so it
+    /// came to the whole group, and the command has had it too.
+    pub signalled: bool,
+}
+
+/// What happens to a guard.
+#[derive(Clone, Copy, Debug, PartialEq, Eq)]
+pub enum GuardEvent {
+    /// The client said this.
+    Said(GuardWord),
+    /// The client is gone: it ended, or was killed.
+    Closed,
+    /// A look for the command found this.
+    Looked(Sight),
+    /// The time is over that a command has to end after it was asked.
+    GraceIsOver,
+}
+
+/// What a guard is to do now.
+#[derive(Clone, Copy, Debug, PartialEq, Eq)]
+pub enum GuardDeed {
+    /// Wait for what the client says next.
+    Listen,
+    /// Look for the command, after a rest.
+    Look,
+    /// Ask all of the command to end, and look after a rest.
+    Ask,
+    /// Kill all of the command, and look after a rest.
+    Kill,
+    /// Give the lock back, by ending.
+    End,
+}
+
+/// The guard of a command that runs under the lock: it holds the lock with the client, and for as
+/// long as the command runs if the client is killed.
+#[derive(Clone, Copy, Debug, PartialEq, Eq)]
+pub struct Guard {
+    keeps_running: bool,
+    stage: GuardStage,
+}
+
+impl Guard {
+    ghost use Rattle.lock_client.specs.declared.guard.GuardStage.TheVariants.{Idle};
+
+    /// A guard to which the client has said nothing. Whether the command runs on if the client is
+    /// gone, or is ended.
+    pub fn new(keeps_running: bool) -> Guard
+        ensures keeps { result.keeps_running ≡ keeps_running }
+        ensures idle { result.stage ≡ Idle }
+    {
+        Guard {
+            keeps_running,
+            stage: GuardStage::Idle,
+        }
+    }
+
+    /// For how many milliseconds it rests before its next look: 50, and 200 while a command runs that
+    /// is left to end by itself.
+    pub fn rest(&self) -> u64
+        ensures { result ≡ look_rest self.now.stage }
+    {
+        match self.stage {
+            GuardStage::Waiting(0) => 200,
+            _ => 50,
+        }
+    }
+
+    /// Takes note of what happened, and says what is to be done. What cannot happen at that stage
+    /// changes nothing.
+    pub fn step(&mut self, event: GuardEvent) -> GuardDeed
+        ensures stage { self.new ≡ record self.old {
+          stage = guard_after self.old.keeps_running event self.old.stage;
+        } }
+        ensures deed { result ≡ guard_deed self.old.stage self.new.stage }
+    {
+        let before = self.stage;
+        self.stage = match before {
+            GuardStage::Idle => idle_after(event),
+            GuardStage::Watching => watching_after(event),
+            GuardStage::Searching(quiet) => self.searching_after(event, quiet),
+            GuardStage::Asked(quiet) => asked_after(event, quiet),
+            GuardStage::Killed(quiet) => killed_after(event, quiet),
+            GuardStage::Waiting(quiet) => waiting_after(event, quiet),
+            GuardStage::Over => before,
+        };
+        deed(before, self.stage)
+    }
+
+    /// It looks for the command for the first time, or has not found it yet.
+    fn searching_after(&self, event: GuardEvent, quiet: u8) -> GuardStage
+        ensures { result ≡ searching_after self.now.keeps_running event quiet }
+    {
+        match event {
+            GuardEvent::Looked(sight) if self.keeps_running || sight.signalled => {
+                waiting_after(event, quiet)
+            }
+            GuardEvent::Looked(sight) if sight.somebody => GuardStage::Asked(0),
+            GuardEvent::Looked(_) => match unseen(quiet) {
+                Some(quiet) => GuardStage::Searching(quiet),
+                None => GuardStage::Over,
+            },
+            _ => GuardStage::Searching(quiet),
+        }
+    }
+}
+
+/// The client has announced no command.
+fn idle_after(event: GuardEvent) -> GuardStage
+    ensures { result ≡ idle_after event }
+{
+    match event {
+        GuardEvent::Said(GuardWord::Start) => GuardStage::Watching,
+        GuardEvent::Said(GuardWord::Done) | GuardEvent::Closed => GuardStage::Over,
+        _ => GuardStage::Idle,
+    }
+}
+
+/// The client looks after the command itself.
+fn watching_after(event: GuardEvent) -> GuardStage
+    ensures { result ≡ watching_after event }
+{
+    match event {
+        GuardEvent::Said(GuardWord::Done) => GuardStage::Over,
+        GuardEvent::Closed => GuardStage::Searching(0),
+        _ => GuardStage::Watching,
+    }
+}
+
+/// The command was asked to end.
+fn asked_after(event: GuardEvent, quiet: u8) -> GuardStage
+    ensures { result ≡ asked_after event quiet }
+{
+    match event {
+        GuardEvent::GraceIsOver => GuardStage::Killed(0),
+        GuardEvent::Looked(sight) if sight.somebody => GuardStage::Asked(0),
+        GuardEvent::Looked(_) => match unseen(quiet) {
+            Some(quiet) => GuardStage::Asked(quiet),
+            None => GuardStage::Over,
+        },
+        _ => GuardStage::Asked(quiet),
+    }
+}
+
+/// The command was killed.
+fn killed_after(event: GuardEvent, quiet: u8) -> GuardStage
+    ensures { result ≡ killed_after event quiet }
+{
+    match event {
+        GuardEvent::Looked(sight) if sight.somebody => GuardStage::Killed(0),
+        GuardEvent::Looked(_) => match unseen(quiet) {
+            Some(quiet) => GuardStage::Killed(quiet),
+            None => GuardStage::Over,
+        },
+        _ => GuardStage::Killed(quiet),
+    }
+}
+
+/// The command ends by itself.
+fn waiting_after(event: GuardEvent, quiet: u8) -> GuardStage
+    ensures { result ≡ waiting_after event quiet }
+{
+    match event {
+        GuardEvent::Looked(sight) if sight.somebody => GuardStage::Waiting(0),
+        GuardEvent::Looked(_) => match unseen(quiet) {
+            Some(quiet) => GuardStage::Waiting(quiet),
+            None => GuardStage::Over,
+        },
+        _ => GuardStage::Waiting(quiet),
+    }
+}
+
+/// How many looks in a row have found nobody after one more; none if these are enough.
+fn unseen(quiet: u8) -> Option<u8>
+    ensures { result ≡ unseen quiet }
+{
+    if quiet < QUIET_LOOKS - 1 {
+        Some(quiet + 1)
+    } else {
+        None
+    }
+}
+
+/// What is to be done at this stage, which came after that one.
+fn deed(before: GuardStage, now: GuardStage) -> GuardDeed
+    ensures { result ≡ guard_deed before now }
+{
+    match now {
+        GuardStage::Over => GuardDeed::End,
+        GuardStage::Idle | GuardStage::Watching => GuardDeed::Listen,
+        GuardStage::Asked(_) if matches!(before, GuardStage::Searching(_)) => GuardDeed::Ask,
+        GuardStage::Killed(0) => GuardDeed::Kill,
+        _ => GuardDeed::Look,
+    }
+}

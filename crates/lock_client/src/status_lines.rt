@@ -1,0 +1,141 @@
+//! What the system says of the signals of a process, in the lines of `/proc/self/status`.
+ghost use Rattle.std.specs.Prelude.{◌≡◌, ◌≤◌, ◌++◌, ◌∷◌, [], List, ℕ, length};
+ghost use Rattle.std.specs.Option.{option_to_list};
+ghost use Rattle.byte_lines.specs.Kept.{StandsAfter};
+ghost use Rattle.lock_client.specs.StatusLines.{status_entry, status_entries, entry_of, pending_of};
+ghost use Rattle.lock_client.specs.StatusLines.{shared_of, noted, signal_state};
+
+use crate::Signals;
+use byte_lines::{HalfLine, LineReading};
+use std::marker::Model;
+
+/// What a line says.
+#[derive(Clone, Copy, Debug, PartialEq, Eq)]
+pub enum StatusEntry {
+    /// `SigPnd` or `ShdPnd`: these signals came, and are held back.
+    Pending(Signals),
+    /// `SigBlk`: these signals are held back when they come.
+    Blocked(Signals),
+    /// Any other line.
+    Other,
+}
+
+/// How a process stands to signals.
+#[derive(Clone, Copy, Debug, PartialEq, Eq)]
+pub struct SignalState {
+    /// Those that came, and are held back.
+    pub pending: Signals,
+    /// Those that are held back when they come.
+    pub blocked: Signals,
+}
+
+impl SignalState {
+    /// What is known before any line was read: nothing came, and nothing is held back.
+    pub fn unknown() -> SignalState
+        ensures { result ≡ signal_state [] }
+    {
+        SignalState {
+            pending: Signals::none(),
+            blocked: Signals::none(),
+        }
+    }
+
+    /// What is known after a line more.
+    pub fn noted(self, entry: StatusEntry) -> SignalState
+        ensures { result ≡ noted self entry }
+    {
+        match entry {
+            StatusEntry::Pending(signals) => SignalState {
+                pending: self.pending.with(signals),
+                blocked: self.blocked,
+            },
+            StatusEntry::Blocked(signals) => SignalState {
+                pending: self.pending,
+                blocked: self.blocked.with(signals),
+            },
+            StatusEntry::Other => self,
+        }
+    }
+}
+
+/// Reads the lines of `/proc/self/status`, in whatever pieces their bytes come.
+#[derive(Drop)]
+pub struct StatusReader {
+    half: HalfLine<32>,
+}
+
+impl Model for StatusReader {
+    ghost use Rattle.byte_lines.specs.Kept.{Kept};
+
+    ghost Value = { Kept };
+
+    ghost view = { λ r. r.half };
+}
+
+impl StatusReader {
+    /// A reader to which no byte came.
+    pub fn new() -> StatusReader
+        ensures { StandsAfter 32 [] result }
+    {
+        StatusReader {
+            half: HalfLine::new(),
+        }
+    }
+
+    /// Takes the next byte, and answers what the line says that it ends, if it is a newline.
+    pub fn push(&mut self, byte: u8) -> Option<StatusEntry>
+        ensures stands { (bytes : List ℕ) → StandsAfter 32 bytes self.old
+            → StandsAfter 32 (bytes ++ byte ∷ []) self.new }
+        ensures line { (bytes : List ℕ) → StandsAfter 32 bytes self.old
+            → status_entries (bytes ++ byte ∷ []) ≡ status_entries bytes ++ option_to_list result }
+    {
+        self.half.push(byte, &Entries)
+    }
+}
+
+/// What a line says. None of interest has more than 32 bytes.
+struct Entries;
+
+impl LineReading<32> for Entries {
+    type Read = StatusEntry;
+
+    ghost reading = { λ _. status_entry };
+
+    fn read(&self, line: &[u8]) -> StatusEntry {
+        entry_of(line)
+    }
+
+    fn read_long(&self, _: &[u8]) -> StatusEntry {
+        StatusEntry::Other
+    }
+}
+
+/// What a line of at most 32 bytes says.
+fn entry_of(line: &[u8]) -> StatusEntry
+    ensures { result ≡ entry_of line.now }
+{
+    match line.strip_prefix(b"SigBlk:\t") {
+        Some(digits) => StatusEntry::Blocked(Signals::of_mask(digits)),
+        None => pending_of(line),
+    }
+}
+
+/// What a line says that does not tell which signals are held back.
+fn pending_of(line: &[u8]) -> StatusEntry
+    ensures { result ≡ pending_of line.now }
+{
+    match line.strip_prefix(b"SigPnd:\t") {
+        Some(digits) => StatusEntry::Pending(Signals::of_mask(digits)),
+        None => shared_of(line),
+    }
+}
+
+/// What a line says that does not tell which signals came to the thread.
+fn shared_of(line: &[u8]) -> StatusEntry
+    ensures { result ≡ shared_of line.now }
+{
+    match line.strip_prefix(b"ShdPnd:\t") {
+        Some(digits) => StatusEntry::Pending(Signals::of_mask(digits)),
+        None => StatusEntry::Other,
+    }
+}

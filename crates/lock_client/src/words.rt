@@ -1,0 +1,123 @@
+//! What a client says to the guard of its command, over a pair of sockets.
+ghost use Rattle.std.specs.Prelude.{◌≡◌, ◌++◌, ◌∷◌, [], List, ℕ, ◌≤◌, length};
+ghost use Rattle.std.specs.Option.{option_to_list};
+ghost use Rattle.byte_lines.specs.Kept.{StandsAfter};
+ghost use Rattle.lock_client.specs.Words.{guard_word, guard_words, runs_word, process_number};
+
+use byte_lines::{HalfLine, LineReading};
+use std::marker::Model;
+
+/// The most that the id of a process is on Linux.
+const MOST_PROCESS: u32 = 4_194_304;
+
+/// A line from a client to its guard.
+#[derive(Clone, Copy, Debug, PartialEq, Eq)]
+pub enum GuardWord {
+    /// `start`: the command is about to be started.
+    Start,
+    /// `runs N`: the command runs as process N.
+    Runs(u32),
+    /// `done`: the command has ended, and the lock is given back or lost.
+    Done,
+    /// Any other line.
+    Other,
+}
+
+/// Reads what a client says, in whatever pieces its bytes come.
+#[derive(Drop)]
+pub struct WordReader {
+    half: HalfLine<16>,
+}
+
+impl Model for WordReader {
+    ghost use Rattle.byte_lines.specs.Kept.{Kept};
+
+    ghost Value = { Kept };
+
+    ghost view = { λ r. r.half };
+}
+
+impl WordReader {
+    /// A reader to which no byte came.
+    pub fn new() -> WordReader
+        ensures { StandsAfter 16 [] result }
+    {
+        WordReader {
+            half: HalfLine::new(),
+        }
+    }
+
+    /// Takes the next byte, and answers the line that it ends, if it is a newline.
+    pub fn push(&mut self, byte: u8) -> Option<GuardWord>
+        ensures stands { (bytes : List ℕ) → StandsAfter 16 bytes self.old
+            → StandsAfter 16 (bytes ++ byte ∷ []) self.new }
+        ensures line { (bytes : List ℕ) → StandsAfter 16 bytes self.old
+            → guard_words (bytes ++ byte ∷ []) ≡ guard_words bytes ++ option_to_list result }
+    {
+        self.half.push(byte, &Words)
+    }
+}
+
+/// What a client's line says. None has more than 16 bytes.
+struct Words;
+
+impl LineReading<16> for Words {
+    type Read = GuardWord;
+
+    ghost reading = { λ _. guard_word };
+
+    fn read(&self, line: &[u8]) -> GuardWord {
+        known(line)
+    }
+
+    fn read_long(&self, _: &[u8]) -> GuardWord {
+        GuardWord::Other
+    }
+}
+
+/// What a line of at most 16 bytes says.
+fn known(line: &[u8]) -> GuardWord
+    requires { length line.now ≤ 16 }
+    ensures { result ≡ guard_word line.now }
+{
+    if line == b"start".as_slice() {
+        GuardWord::Start
+    } else if line == b"done".as_slice() {
+        GuardWord::Done
+    } else {
+        runs(line)
+    }
+}
+
+/// What a line says that is none of the others.
+fn runs(line: &[u8]) -> GuardWord
+    ensures { result ≡ runs_word line.now }
+{
+    match line.strip_prefix(b"runs ") {
+        Some(digits) => match process_number(digits) {
+            Some(process) => GuardWord::Runs(process),
+            None => GuardWord::Other,
+        },
+        None => GuardWord::Other,
+    }
+}
+
+/// The id of a process that decimal digits spell, at least one.
+fn process_number(digits: &[u8]) -> Option<u32>
+    ensures { result ≡ process_number digits.now }
+{
+    if digits.is_empty() {
+        return None;
+    }
+    let mut value: u32 = 0;
+    for digit in digits {
+        if !digit.is_ascii_digit() {
+            return None;
+        }
+        value = 10 * value + u32::from(*digit - b'0');
+        if value > MOST_PROCESS {
+            return None;
+        }
+    }
+    Some(value)
+}

@@ -1,0 +1,44 @@
+-- A client that was told all that happened.
+use Rattle.std.proofs.Common.{◌≡◌, Bool, Option, Some, List, [], ◌∷◌, ◌++◌, option_map, refl, arith}
+use Rattle.std.proofs.lemmas.Grind.{common_steps}
+use Rattle.lock_client.specs.declared.client.Event.{Event}
+use Rattle.lock_client.specs.declared.client.Stage.{Stage}
+use Rattle.lock_client.specs.declared.client.Stage.TheVariants.{Asking, Over}
+use Rattle.lock_client.specs.declared.client.Deed.{Deed}
+use Rattle.lock_client.specs.declared.client.Deed.TheVariants.{Finish}
+use Rattle.lock_client.specs.declared.outcome.Outcome.{Outcome}
+use Rattle.lock_client.specs.Steps.{stage_after, stage_after_all, deed_between}
+
+-- one thing more that happens
+pub one_more : (keeps : Bool) (stage : Stage) (events : List Event) (e : Event)
+    → stage_after_all keeps stage (events ++ e ∷ []) ≡ stage_after keeps e (stage_after_all keeps stage events)
+one_more keeps stage [] e = refl
+one_more keeps stage (d ∷ es) e = one_more keeps (stage_after keeps d stage) es e
+
+-- what was told since nothing was led a client to this stage
+abbrev pub IsUnderWay : Bool → Option (List Event) → Option (List Event) → Stage → Type 0
+IsUnderWay keeps from now stage =
+    from ≡ Some [] → (events : List Event) × (now ≡ Some events) × (stage_after_all keeps Asking events ≡ stage)
+
+pub at_start : (keeps : Bool) (from : Option (List Event)) → IsUnderWay keeps from from Asking
+at_start keeps from none = ([], none, refl)
+
+pub goes_on : (keeps : Bool) (from now next : Option (List Event)) (stage : Stage) (e : Event) → IsUnderWay keeps from now stage
+    → next ≡ option_map (λ events. events ++ e ∷ []) now → IsUnderWay keeps from next (stage_after keeps e stage)
+goes_on keeps from now next stage e under told none =
+    let so : (events : List Event) × (now ≡ Some events) × (stage_after_all keeps Asking events ≡ stage) = under none in
+    (so.0 ++ e ∷ [], rw told (rw so.1 refl), rw (one_more keeps Asking so.0 e) (rw so.2 refl))
+
+-- the same of a client that takes a step, and of what it then knows
+pub steps : (keeps had : Bool) (from now next after : Option (List Event)) (stage new : Stage) (e : Event) → had ≡ keeps → IsUnderWay keeps from now stage
+    → next ≡ option_map (λ events. events ++ e ∷ []) now → after ≡ next → new ≡ stage_after had e stage → IsUnderWay keeps from after new
+steps keeps had from now next after stage new e same under told acted is none =
+    let so : (events : List Event) × (next ≡ Some events) × (stage_after_all keeps Asking events ≡ stage_after keeps e stage) =
+    goes_on keeps from now next stage e under told none in
+    let end : stage_after keeps e stage ≡ new = grind arith in
+    (so.0, rw acted so.1, rw so.2 end)
+
+-- who is to finish is over
+pub closes : (keeps : Bool) (e : Event) (before after : Stage) (deed : Deed) (outcome : Outcome) → deed ≡ deed_between keeps e before after
+    → deed ≡ Finish outcome → after ≡ Over outcome
+closes keeps e before after deed outcome is same = grind (arith, common_steps)

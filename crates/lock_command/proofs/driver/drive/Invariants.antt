@@ -1,0 +1,9 @@
+use Rattle.std.proofs.Common.{◌≡◌}
+use Rattle.lock_command.proofs.Driven.{IsUnderWay}
+use Rattle.lock_command.proofs.driver.drive.Given as goal
+
+abbrev pub invariant-loop : goal.invariant-loop
+invariant-loop g l =
+    (goal.iterator-loop g).can_next l.iterator' × (goal.iterator-loop g).is_finite l.iterator'
+    × (l.client.keeps_running ≡ l.fn.keeps_running)
+    × IsUnderWay l.fn.keeps_running (g.S.Surroundings.told l.fn.surroundings) (g.S.Surroundings.told l.surroundings) l.client.stage

@@ -1,0 +1,134 @@
+//! The processes of a command: it, and whatever it started.
+use lock_client::has_entry;
+use std::alloc::{AllocError, Global};
+use std::path::AsPath;
+use std::process::{Command, Processes, Stdio};
+use std::rt::{Env, Files};
+use std::time::{Clock, SystemTime, UNIX_EPOCH};
+use std::{env, fs, io};
+
+/// The variable of a command's environment by which it and whatever it starts are found.
+pub const MARKS: &str = "TOKENTREE_LOCK";
+
+/// A mark that no other lock on this machine has: the id of this process, and what time it is.
+///
+/// # Errors
+/// If memory runs out.
+pub fn new_mark<R: Files + Clock + AllocGlobal>(rt: &R) -> Result<String, AllocError> {
+    let nanos = match SystemTime::now(rt) {
+        Ok(now) => match now.duration_since(UNIX_EPOCH) {
+            Ok(time) => time.as_nanos(),
+            Err(_) => 0,
+        },
+        Err(_) => 0,
+    };
+    match fs::read_link(rt, "/proc/self") {
+        Ok(process) => format!(in rt.alloc(); "{}.{nanos};", process.path_text()),
+        Err(_) => format!(in rt.alloc(); "0.{nanos};"),
+    }
+}
+
+/// The marks of a command: this one after those of the locks under which this process runs itself.
+///
+/// # Errors
+/// If memory runs out.
+pub fn with_marks_before<R: Env + AllocGlobal>(rt: &R, mark: &str) -> Result<String, AllocError> {
+    match env::var(rt, MARKS) {
+        Ok(before) => format!(in rt.alloc(); "{before}{mark}"),
+        Err(_) => String::from_str(rt.alloc(), mark),
+    }
+}
+
+/// Whether a process lives, by `/proc`; one that has ended and was not waited for does not.
+pub fn lives<R: Files + AllocGlobal>(rt: &R, process: u32) -> bool {
+    let Ok(path) = format!(in rt.alloc(); "/proc/{process}/stat") else {
+        return true;
+    };
+    match fs::read(rt, path.as_str()) {
+        Ok(stat) => !has_ended(stat.as_slice()),
+        Err(_) => false,
+    }
+}
+
+/// Whether `/proc/ID/stat` says that a process has ended: its state follows its name, which ends
+/// with the last parenthesis.
+fn has_ended(stat: &[u8]) -> bool {
+    match stat.iter().rposition(|byte| *byte == b')') {
+        Some(end) => matches!(stat.get(end.saturating_add(2)), Some(b'Z' | b'X')),
+        None => true,
+    }
+}
+
+/// Sends a signal to processes, by the shell's own `kill`, since the library has SIGKILL alone.
+///
+/// # Errors
+/// If the shell cannot be started, or memory runs out.
+pub fn send<R: Processes + AllocGlobal>(rt: &R, signal: &str, to: &[u32]) -> io::Result<()> {
+    if to.is_empty() {
+        return Ok(());
+    }
+    let mut command = shell(rt.alloc())?;
+    command.args([
+        "-c",
+        "for process; do kill -s \"$0\" \"$process\"; done",
+        signal,
+    ])?;
+    add_numbers(&mut command, rt.alloc(), to)?;
+    command.status(rt)?;
+    Ok(())
+}
+
+/// Adds numbers as words.
+fn add_numbers(command: &mut Command, alloc: Global, numbers: &[u32]) -> io::Result<()> {
+    for number in numbers {
+        let word = format!(in alloc; "{number}")?;
+        command.arg(word.as_str())?;
+    }
+    Ok(())
+}
+
+/// The shell, which reads nothing and whose output goes nowhere.
+fn shell(alloc: Global) -> io::Result<Command> {
+    let mut command = Command::new(alloc, "/bin/sh")?;
+    command
+        .stdin(Stdio::null())
+        .stdout(Stdio::null())
+        .stderr(Stdio::null());
+    Ok(command)
+}
+
+/// The processes in whose environment this mark stands, by their ids.
+///
+/// # Errors
+/// If `/proc` cannot be read, or memory runs out.
+pub fn members<R: Files + AllocGlobal>(rt: &R, mark: &str) -> io::Result<Vec<u32>> {
+    let mut found = Vec::new(rt.alloc());
+    for entry in fs::read_dir(&rt, "/proc")? {
+        let Ok(entry) = entry else {
+            continue;
+        };
+        let name = entry.file_name();
+        if let Some(process) = process_of(name.as_bytes())
+            && is_marked(rt, process, mark)
+        {
+            found.push(process)?;
+        }
+    }
+    Ok(found)
+}
+
+/// The process whose folder in `/proc` has this name.
+fn process_of(name: &[u8]) -> Option<u32> {
+    str::from_utf8(name).ok()?.parse().ok()
+}
+
+/// Whether a process has this mark. Whoever may not look into it finds none.
+fn is_marked<R: Files + AllocGlobal>(rt: &R, process: u32, mark: &str) -> bool {
+    let Ok(path) = format!(in rt.alloc(); "/proc/{process}/environ") else {
+        return false;
+    };
+    match fs::read(rt, path.as_str()) {
+        Ok(environment) => has_entry(environment.as_slice(), mark.as_bytes()),
+        Err(_) => false,
+    }
+}

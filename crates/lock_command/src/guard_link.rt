@@ -1,0 +1,78 @@
+//! The guard of a command, as the client has it that started it.
+use mio::net::UnixStream;
+use std::io::{ErrorKind, Read, Write};
+use std::net::Net;
+use std::os::fd::{AsFd, OwnedFd};
+use std::os::unix::net;
+use std::process::{Command, Processes};
+use std::rt::Files;
+use std::{env, io};
+
+/// The variable of a guard's environment by which it knows the command: its mark without the semicolon
+/// at its end. So a guard is not found by the mark itself.
+pub const GUARDED: &str = "TOKENTREE_GUARD";
+
+/// By which program the guard is started so that the signals of a terminal, of `timeout` and of a
+/// service manager do not end it. GNU coreutils have had this option since 8.31.
+const ENV: &str = "/usr/bin/env";
+
+const HOLD_SIGNALS_BACK: &str = "--block-signal=HUP,INT,QUIT,TERM";
+
+/// A pair of sockets, whose other end the guard reads.
+#[derive(Drop)]
+pub struct GuardLink {
+    stream: UnixStream,
+}
+
+impl GuardLink {
+    /// Starts this program as a guard, with these words. It has a descriptor of the desk's
+    /// connection: so the node takes the lock back only when the guard has ended too.
+    ///
+    /// # Errors
+    /// If the system has no descriptor or process to give, or memory runs out.
+    pub fn start<R: Files + Net + Processes + AllocGlobal>(
+        rt: &R,
+        words: &[&str],
+        mark: &str,
+        desk: OwnedFd,
+    ) -> io::Result<GuardLink> {
+        let (ours, theirs) = net::UnixStream::pair(rt)?;
+        ours.set_nonblocking(true)?;
+        let mut command = guard_command(rt, words)?;
+        command.env(GUARDED, mark.strip_suffix(";").unwrap_or(mark))?;
+        command.stdin(OwnedFd::from(theirs)).stdout(desk);
+        command.spawn(rt)?;
+        Ok(GuardLink {
+            stream: UnixStream::from_std(ours),
+        })
+    }
+
+    /// The socket, for whoever waits for it.
+    pub fn stream(&mut self) -> &mut UnixStream {
+        &mut self.stream
+    }
+
+    /// Says something to the guard. If it is gone, that shows in [`GuardLink::is_gone`].
+    pub fn say(&mut self, words: &str) {
+        let _ = self.stream.write_all(words.as_bytes());
+    }
+
+    /// Whether the guard has ended. It says nothing itself.
+    pub fn is_gone(&mut self) -> bool {
+        match self.stream.read(&mut [0; 8]) {
+            Ok(0) => true,
+            Ok(_) => false,
+            Err(error) => !matches!(error.kind(), ErrorKind::WouldBlock | ErrorKind::Interrupted),
+        }
+    }
+}
+
+/// The command that starts a guard.
+fn guard_command<R: Files + AllocGlobal>(rt: &R, words: &[&str]) -> io::Result<Command> {
+    let program = env::current_exe(rt)?;
+    let mut command = Command::new(rt.alloc(), ENV)?;
+    command.arg(HOLD_SIGNALS_BACK)?;
+    command.arg(program.as_path())?;
+    command.args(words.iter().copied())?;
+    Ok(command)
+}

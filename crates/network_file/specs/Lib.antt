@@ -1,0 +1,2 @@
+pub mod NetworkFile
+pub mod FaultText

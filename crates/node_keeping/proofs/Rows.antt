@@ -1,0 +1,95 @@
+-- Small examples of each definition, and ones that fail.
+use Rattle.std.proofs.Common.{◌≡◌, ◌≢◌, ℕ, true, false, List, [], ◌∷◌, Ok, Err, refl, arith}
+use Rattle.std.specs.declared.io.ErrorKind.TheVariants.{NotFound, PermissionDenied}
+use Rattle.node_texts.specs.declared.lines.End.TheVariants.{Status, Signal}
+use Rattle.node_keeping.specs.declared.sight.FileId.{FileId}
+use Rattle.node_keeping.specs.declared.sight.FileSight.TheVariants.{Own, NotOwn, Unseen}
+use Rattle.node_keeping.specs.declared.saved.StopSight.TheVariants.{Absent, Removed, Stays}
+use Rattle.node_keeping.specs.declared.saved.Sights.{Sights}
+use Rattle.node_keeping.specs.declared.saved.AfterSave.TheVariants.{Displaced, StopStays, Stop, GoOn}
+use Rattle.node_keeping.specs.declared.keeper.Stage.TheVariants.{Waits, Runs, Left}
+use Rattle.node_keeping.specs.declared.keeper.Seen.{Seen}
+use Rattle.node_keeping.specs.declared.keeper.Seen.TheVariants.{Nothing, Started, Ended, InputEnded}
+use Rattle.node_keeping.specs.declared.keeper.Deed.TheVariants.{Rest, Start, SayAgain, SayLeft, CloseInput, Kill}
+use Rattle.node_keeping.specs.Sight.{file_sight}
+use Rattle.node_keeping.specs.AfterSave.{after_save}
+use Rattle.node_keeping.specs.Steps.{deeds, stage_after_all}
+
+-- file 7 of device 1 is known by both numbers
+file : FileId
+file = record { device = 1; inode = 7 }
+
+sight-own : file_sight file (Ok file) ≡ Own
+unfolding file
+sight-own = refl
+
+sight_not-inode : file_sight file (Ok (record { device = 1; inode = 8 })) ≡ NotOwn
+unfolding file
+sight_not-inode = refl
+
+sight_not-device : file_sight file (Ok (record { device = 2; inode = 7 })) ≡ NotOwn
+unfolding file
+sight_not-device = refl
+
+sight-gone : file_sight file (Err NotFound) ≡ NotOwn
+sight-gone = refl
+
+sight-unseen : file_sight file (Err PermissionDenied) ≡ Unseen
+sight-unseen = refl
+
+-- all is well; the names are gone; it is stopped; the stop file stays; the folder is another's
+saves-on : after_save (record { place = Own; stop = Absent; has_input_ended = false; links = Own; clients = Own }) ≡ GoOn false false
+saves-on = refl
+
+saves-renews : after_save (record { place = Own; stop = Absent; has_input_ended = false; links = Unseen; clients = NotOwn })
+    ≡ GoOn false true
+saves-renews = refl
+
+saves-stop : after_save (record { place = Unseen; stop = Removed; has_input_ended = false; links = Own; clients = Own }) ≡ Stop
+saves-stop = refl
+
+saves-input : after_save (record { place = Own; stop = Absent; has_input_ended = true; links = NotOwn; clients = Own }) ≡ Stop
+saves-input = refl
+
+saves-stays : after_save (record { place = Own; stop = Stays; has_input_ended = true; links = Own; clients = Own }) ≡ StopStays
+saves-stays = refl
+
+saves-displaced : after_save (record { place = NotOwn; stop = Absent; has_input_ended = true; links = NotOwn; clients = NotOwn })
+    ≡ Displaced
+saves-displaced = refl
+
+saves_not-on : after_save (record { place = NotOwn; stop = Absent; has_input_ended = false; links = Own; clients = Own }) ≢ GoOn false false
+saves_not-on = grind arith
+
+-- a node that was killed is started again; as it ends with status 1 three times at its start, it is left alone
+killed : List Seen
+killed = Nothing ∷ Started ∷ Ended (Signal 9) ∷ Nothing ∷ []
+
+does-killed : deeds 0 (Waits 0) killed ≡ Start ∷ Rest ∷ SayAgain (Signal 9) ∷ Rest ∷ []
+unfolding killed
+does-killed = refl
+
+does-failed : deeds 2 (Runs 99) (Ended (Status 1) ∷ Nothing ∷ []) ≡ SayLeft (Status 1) ∷ Rest ∷ []
+does-failed = refl
+
+does-failed_twice : deeds 1 (Runs 99) (Ended (Status 1) ∷ []) ≡ SayAgain (Status 1) ∷ []
+does-failed_twice = refl
+
+does-late : deeds 2 (Runs 100) (Ended (Status 1) ∷ []) ≡ SayAgain (Status 1) ∷ []
+does-late = refl
+
+does-well : deeds 2 (Runs 3) (Ended (Status 0) ∷ []) ≡ SayAgain (Status 0) ∷ []
+does-well = refl
+
+-- as the input ends a node that runs is asked to end, and one that waits is not started
+does-ended : deeds 0 (Runs 7) (InputEnded ∷ Nothing ∷ Ended (Status 0) ∷ Nothing ∷ []) ≡ CloseInput ∷ Rest ∷ Rest ∷ Rest ∷ []
+does-ended = refl
+
+does-ended_waiting : deeds 0 (Waits 0) (InputEnded ∷ Nothing ∷ []) ≡ Rest ∷ Rest ∷ []
+does-ended_waiting = refl
+
+does_not-ended_waiting : deeds 0 (Waits 0) (InputEnded ∷ Nothing ∷ []) ≢ Rest ∷ Start ∷ []
+does_not-ended_waiting = grind arith
+
+left-alone : stage_after_all 2 (Runs 5) (Ended (Status 1) ∷ Nothing ∷ Started ∷ []) ≡ Left
+left-alone = refl

@@ -1,0 +1,32 @@
+-- What a node does after a turn that saved its state.
+use Rattle.std.specs.Prelude.{Bool, true, false, if◌then◌else◌}
+use Rattle.node_keeping.specs.declared.sight.FileSight.{FileSight}
+use Rattle.node_keeping.specs.declared.sight.FileSight.TheVariants.{Own, NotOwn, Unseen}
+use Rattle.node_keeping.specs.declared.saved.StopSight.{StopSight}
+use Rattle.node_keeping.specs.declared.saved.StopSight.TheVariants.{Absent, Removed, Stays}
+use Rattle.node_keeping.specs.declared.saved.Sights.{Sights}
+use Rattle.node_keeping.specs.declared.saved.AfterSave.{AfterSave}
+use Rattle.node_keeping.specs.declared.saved.AfterSave.TheVariants.{Displaced, StopStays, Stop, GoOn}
+
+-- a stop file is this node's unless the folder is another's
+abbrev pub looks_for_stop : FileSight → Bool
+looks_for_stop NotOwn = false
+looks_for_stop _ = true
+
+-- a name that leads to no file of this node's
+abbrev pub is_lost : FileSight → Bool
+is_lost NotOwn = true
+is_lost _ = false
+
+-- a node with a place of its own ends by its stop file, with a fault if that stays, and with its
+-- input; else it runs on, and takes back each name that is lost
+abbrev pub in_place : Sights → StopSight → AfterSave
+in_place sights Stays = StopStays
+in_place sights Removed = Stop
+in_place sights Absent =
+    if sights.has_input_ended then Stop else GoOn (is_lost sights.links) (is_lost sights.clients)
+
+-- a node whose lock file is gone or another's ends at once
+abbrev pub after_save : Sights → AfterSave
+after_save sights =
+    if looks_for_stop sights.place then in_place sights sights.stop else Displaced

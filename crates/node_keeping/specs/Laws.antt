@@ -1,0 +1,80 @@
+-- Laws of what a node's process and `up` decide.
+use Rattle.std.specs.Prelude.{◌≡◌, ◌≢◌, ◌<◌, ◌≤◌, ◌↔◌, ℕ, ◌+◌, Bool, true, false, not, List, [], ◌∷◌, ◌++◌, filter, length}
+use Rattle.std.specs.List.{list_all}
+use Rattle.node_texts.specs.declared.lines.End.{End}
+use Rattle.node_texts.specs.declared.lines.End.TheVariants.{Status, Signal}
+use Rattle.node_keeping.specs.declared.sight.FileSight.TheVariants.{NotOwn}
+use Rattle.node_keeping.specs.declared.saved.StopSight.TheVariants.{Absent, Removed}
+use Rattle.node_keeping.specs.declared.saved.Sights.{Sights}
+use Rattle.node_keeping.specs.declared.saved.AfterSave.TheVariants.{Displaced, Stop, GoOn}
+use Rattle.node_keeping.specs.declared.keeper.Stage.{Stage}
+use Rattle.node_keeping.specs.declared.keeper.Stage.TheVariants.{Waits, Runs, Closes, Left, Over}
+use Rattle.node_keeping.specs.declared.keeper.Seen.{Seen}
+use Rattle.node_keeping.specs.declared.keeper.Seen.TheVariants.{Nothing, Ended, InputEnded}
+use Rattle.node_keeping.specs.declared.keeper.Deed.{Deed}
+use Rattle.node_keeping.specs.declared.keeper.Deed.TheVariants.{Rest, Start, SayAgain, Kill, CloseInput}
+use Rattle.node_keeping.specs.AfterSave.{after_save, is_lost}
+use Rattle.node_keeping.specs.Steps.{stage_after, stage_after_all, deeds, input_after, looks, is_failed}
+
+-- a node whose lock file is not its own ends at once, whatever else it sees
+abbrev pub EndsWhereDisplaced : Type 0
+EndsWhereDisplaced = (sights : Sights) → (after_save sights ≡ Displaced) ↔ (sights.place ≡ NotOwn)
+
+-- a node that runs on has a place of its own, was not stopped, and takes back just the names that
+-- lead elsewhere
+abbrev pub RunsOnInPlace : Type 0
+RunsOnInPlace =
+    (sights : Sights) (links clients : Bool) → after_save sights ≡ GoOn links clients
+    → (sights.place ≢ NotOwn) × (sights.stop ≡ Absent) × (sights.has_input_ended ≡ false)
+    × (links ≡ is_lost sights.links) × (clients ≡ is_lost sights.clients)
+
+-- a node ends well by its stop file or its input, and nothing else
+abbrev pub StopsWhenTold : Type 0
+StopsWhenTold =
+    (sights : Sights) → after_save sights ≡ Stop
+    → (sights.stop ≡ Absent) → sights.has_input_ended ≡ true
+
+abbrev pub is_start : Deed → Bool
+is_start Start = true
+is_start _ = false
+
+abbrev pub is_kill : Deed → Bool
+is_kill Kill = true
+is_kill _ = false
+
+-- once the input of `up` is at its end nobody is started, whatever is seen
+abbrev pub NobodyStartsAfterTheEnd : Type 0
+NobodyStartsAfterTheEnd =
+    (failures : ℕ) (stage : Stage) (seen : List Seen)
+    → filter is_start (deeds failures (input_after stage) seen) ≡ []
+
+-- a node that ended is started again after 10 looks, unless it failed at its start
+abbrev pub IsStartedAgain : Type 0
+IsStartedAgain =
+    (failures age : ℕ) (end : End) → is_failed end age ≡ false
+    → deeds failures (Runs age) (Ended end ∷ looks 11)
+    ≡ SayAgain end ∷ Rest ∷ Rest ∷ Rest ∷ Rest ∷ Rest ∷ Rest ∷ Rest ∷ Rest ∷ Rest ∷ Rest
+    ∷ Start ∷ []
+
+-- a node is left alone only if it ended with a status other than 0 soon after its start, and failed
+-- there twice before
+abbrev pub IsLeftAfterThreeFailures : Type 0
+IsLeftAfterThreeFailures =
+    (failures : ℕ) (stage : Stage) (seen : Seen) → stage ≢ Left
+    → stage_after seen failures stage ≡ Left
+    → (status age : ℕ) × (seen ≡ Ended (Status status)) × (stage ≡ Runs age)
+    × (is_failed (Status status) age ≡ true) × (2 ≤ failures)
+
+-- whatever is seen, a node that is to end is killed at most once
+abbrev pub IsKilledOnce : Type 0
+IsKilledOnce =
+    (failures : ℕ) (stage : Stage) (seen : List Seen)
+    → length (filter is_kill (deeds failures stage seen)) ≤ 1
+
+-- a node that is to end and does not is killed by the look after as many as it was given, and is
+-- over then
+abbrev pub IsKilledInTime : Type 0
+IsKilledInTime =
+    (failures n : ℕ) →
+    (stage_after_all failures (Closes n) (looks (n + 1)) ≡ Over)
+    × (length (filter is_kill (deeds failures (Closes n) (looks (n + 1)))) ≡ 1)

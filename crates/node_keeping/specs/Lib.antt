@@ -1,0 +1,4 @@
+pub mod Sight
+pub mod AfterSave
+pub mod Steps
+pub mod Laws

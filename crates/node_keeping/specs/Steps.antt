@@ -1,0 +1,114 @@
+-- What `up` makes of a node that it keeps running.
+use Rattle.std.specs.Prelude.{ℕ, zero, suc, ◌+◌, ◌-◌, Bool, true, false, ◌&&◌, not, ◌==◌, nat_lt, if◌then◌else◌, List, [], ◌∷◌}
+use Rattle.node_texts.specs.declared.lines.End.{End}
+use Rattle.node_texts.specs.declared.lines.End.TheVariants.{Status, Signal, Unknown, Unstarted}
+use Rattle.node_keeping.specs.declared.keeper.Stage.{Stage}
+use Rattle.node_keeping.specs.declared.keeper.Stage.TheVariants.{Waits, Starts, Runs, Closes, Left, Over}
+use Rattle.node_keeping.specs.declared.keeper.Seen.{Seen}
+use Rattle.node_keeping.specs.declared.keeper.Seen.TheVariants.{Nothing, Started, Ended, InputEnded}
+use Rattle.node_keeping.specs.declared.keeper.Deed.{Deed}
+use Rattle.node_keeping.specs.declared.keeper.Deed.TheVariants.{Rest, Start, SayAgain, SayLeft, CloseInput, Kill}
+use Rattle.node_keeping.specs.declared.keeper.Keeper.{Keeper}
+
+-- a node that is started at the first look
+abbrev pub new_keeper : Keeper
+new_keeper = record { stage = Waits 0; failures = 0 }
+
+-- a node is kept until it is left alone or over
+abbrev pub is_kept : Stage → Bool
+is_kept Left = false
+is_kept Over = false
+is_kept _ = true
+
+-- a node failed at its start if it ended with a status of its own that is not 0, and was looked at
+-- less than 100 times; an end by a signal is none of its own
+abbrev pub is_failed : End → ℕ → Bool
+is_failed (Status status) looks = not (status == 0) && nat_lt looks 100
+is_failed _ looks = false
+
+-- looks count a node's time up while it runs, and down until it is started or killed
+abbrev pub looked_at : Stage → Stage
+looked_at (Waits looks) = if looks == 0 then Starts else Waits (looks - 1)
+looked_at (Runs looks) = Runs (if nat_lt looks 4294967295 then looks + 1 else 4294967295)
+looked_at (Closes looks) = if looks == 0 then Over else Closes (looks - 1)
+looked_at stage = stage
+
+abbrev pub looked_deed : Stage → Deed
+looked_deed (Waits looks) = if looks == 0 then Start else Rest
+looked_deed (Closes looks) = if looks == 0 then Kill else Rest
+looked_deed _ = Rest
+
+-- how often in a row a node has failed at its start, once it ended so
+abbrev pub failures_now : End → ℕ → ℕ → ℕ
+failures_now end looks failures =
+    if is_failed end looks then (if nat_lt failures 255 then failures + 1 else 255) else 0
+
+-- a node that ended is started again after 10 looks, unless it failed three times in a row
+abbrev pub ended_after : End → ℕ → Stage → Stage
+ended_after end failures Starts = Waits 10
+ended_after end failures (Runs looks) =
+    if nat_lt (failures_now end looks failures) 3 then Waits 10 else Left
+ended_after end failures (Closes looks) = Over
+ended_after end failures stage = stage
+
+abbrev pub ended_deed : End → ℕ → Stage → Deed
+ended_deed end failures Starts = SayAgain end
+ended_deed end failures (Runs looks) =
+    if nat_lt (failures_now end looks failures) 3 then SayAgain end else SayLeft end
+ended_deed end failures _ = Rest
+
+-- once the input of `up` is at its end, what runs is to end within 500 looks, and nothing is started
+abbrev pub input_after : Stage → Stage
+input_after (Waits looks) = Over
+input_after Starts = Closes 500
+input_after (Runs looks) = Closes 500
+input_after (Closes looks) = Closes looks
+input_after Left = Over
+input_after Over = Over
+
+abbrev pub input_deed : Stage → Deed
+input_deed Starts = CloseInput
+input_deed (Runs looks) = CloseInput
+input_deed _ = Rest
+
+-- a node that was started runs
+abbrev pub started_after : Stage → Stage
+started_after Starts = Runs 0
+started_after stage = stage
+
+-- the stage after what was seen
+abbrev pub stage_after : Seen → ℕ → Stage → Stage
+stage_after Nothing failures stage = looked_at stage
+stage_after Started failures stage = started_after stage
+stage_after (Ended end) failures stage = ended_after end failures stage
+stage_after InputEnded failures stage = input_after stage
+
+-- how often in a row a node has failed, after what was seen
+abbrev pub failures_after : Seen → Stage → ℕ → ℕ
+failures_after (Ended end) (Runs looks) failures = failures_now end looks failures
+failures_after _ _ failures = failures
+
+-- what is to be done
+abbrev pub deed_at : Seen → ℕ → Stage → Deed
+deed_at Nothing failures stage = looked_deed stage
+deed_at Started failures stage = Rest
+deed_at (Ended end) failures stage = ended_deed end failures stage
+deed_at InputEnded failures stage = input_deed stage
+
+-- the stage after all that was seen, one after the other
+abbrev pub stage_after_all : ℕ → Stage → List Seen → Stage
+stage_after_all failures stage [] = stage
+stage_after_all failures stage (seen ∷ rest) =
+    stage_after_all (failures_after seen stage failures) (stage_after seen failures stage) rest
+
+-- what was to be done then, one after the other
+abbrev pub deeds : ℕ → Stage → List Seen → List Deed
+deeds failures stage [] = []
+deeds failures stage (seen ∷ rest) =
+    deed_at seen failures stage
+    ∷ deeds (failures_after seen stage failures) (stage_after seen failures stage) rest
+
+-- so many looks that show nothing new
+abbrev pub looks : ℕ → List Seen
+looks zero = []
+looks (suc n) = Nothing ∷ looks n

@@ -1,0 +1,219 @@
+//! What `up` makes of a node that it keeps running.
+ghost use Rattle.std.specs.Prelude.{◌≡◌, true};
+ghost use Rattle.node_keeping.specs.Steps.{stage_after, deed_at, failures_after, is_kept};
+ghost use Rattle.node_keeping.specs.Steps.{looked_at, looked_deed, ended_after, ended_deed, is_failed};
+ghost use Rattle.node_keeping.specs.Steps.{input_after, input_deed};
+
+use node_texts::End;
+
+/// In how many looks a node that ended is started again.
+pub const LOOKS_BEFORE_START: u32 = 10;
+
+/// After how many looks a node that is to end is killed.
+pub const LOOKS_BEFORE_KILL: u32 = 500;
+
+/// A node that ends with a fault before it was looked at so often fails at its start.
+const LOOKS_OF_A_START: u32 = 100;
+
+/// A node that fails at its start so often in a row is left alone.
+const MOST_FAILURES: u8 = 3;
+
+/// How a node that is kept running stands.
+#[derive(Clone, Copy, Debug, PartialEq, Eq)]
+pub enum Stage {
+    /// It is started after this many looks more.
+    Waits(u32),
+    /// It is being started.
+    Starts,
+    /// It runs, and was looked at so often since its start.
+    Runs(u32),
+    /// It is to end, and is killed after this many looks more.
+    Closes(u32),
+    /// It failed at its start again and again, and is left alone.
+    Left,
+    /// It is not started again, since `up` is to end.
+    Over,
+}
+
+/// What is seen of a node.
+#[derive(Clone, Copy, Debug, PartialEq, Eq)]
+pub enum Seen {
+    /// A look shows nothing new.
+    Nothing,
+    /// It was started.
+    Started,
+    /// It ended so, or could not be started.
+    Ended(End),
+    /// The input of `up` is at its end.
+    InputEnded,
+}
+
+/// What is to be done with a node.
+#[derive(Clone, Copy, Debug, PartialEq, Eq)]
+pub enum Deed {
+    /// Nothing.
+    Rest,
+    /// It is started.
+    Start,
+    /// It is said that it ended so, and is started again.
+    SayAgain(End),
+    /// It is said that it ended so, and is left alone.
+    SayLeft(End),
+    /// Its input is closed, so that it ends.
+    CloseInput,
+    /// It is killed.
+    Kill,
+}
+
+/// What `up` knows of a node that it keeps running.
+#[derive(Clone, Copy, Debug, PartialEq, Eq, Drop)]
+pub struct Keeper {
+    stage: Stage,
+    /// How often in a row it failed at its start.
+    failures: u8,
+}
+
+impl Keeper {
+    ghost use Rattle.std.specs.Prelude.{nat_lt, if◌then◌else◌};
+    ghost use Rattle.node_keeping.specs.Steps.{new_keeper};
+    ghost use Rattle.node_keeping.specs.declared.keeper.Stage.TheVariants.{Waits, Left};
+    ghost use Rattle.node_keeping.specs.declared.keeper.Seen.TheVariants.{Started, Ended};
+    ghost use Rattle.node_keeping.specs.declared.keeper.Deed.TheVariants.{Rest, SayAgain, SayLeft};
+
+    /// A node that is started at the first look.
+    pub fn new() -> Keeper
+        ensures { result ≡ new_keeper }
+    {
+        Keeper {
+            stage: Stage::Waits(0),
+            failures: 0,
+        }
+    }
+
+    /// Whether there is more to do with it.
+    pub fn is_kept(&self) -> bool
+        ensures { result ≡ is_kept self.now.stage }
+    {
+        !matches!(self.stage, Stage::Left | Stage::Over)
+    }
+
+    /// Takes note of what was seen, and says what is to be done. What cannot be seen at that stage
+    /// changes nothing.
+    pub fn step(&mut self, seen: Seen) -> Deed
+        ensures stage { self.new.stage ≡ stage_after seen self.old.failures self.old.stage }
+        ensures failures { self.new.failures ≡ failures_after seen self.old.stage self.old.failures }
+        ensures deed { result ≡ deed_at seen self.old.failures self.old.stage }
+    {
+        match seen {
+            Seen::Nothing => self.look(),
+            Seen::Started => self.begin(),
+            Seen::Ended(end) => self.end(end),
+            Seen::InputEnded => self.close(),
+        }
+    }
+
+    /// A look shows nothing new.
+    fn look(&mut self) -> Deed
+        ensures stage { self.new ≡ record self.old { stage = looked_at self.old.stage } }
+        ensures deed { result ≡ looked_deed self.old.stage }
+    {
+        let (stage, deed) = match self.stage {
+            Stage::Waits(0) => (Stage::Starts, Deed::Start),
+            Stage::Waits(looks) => (Stage::Waits(looks - 1), Deed::Rest),
+            Stage::Runs(looks) => (Stage::Runs(looks.saturating_add(1)), Deed::Rest),
+            Stage::Closes(0) => (Stage::Over, Deed::Kill),
+            Stage::Closes(looks) => (Stage::Closes(looks - 1), Deed::Rest),
+            stage => (stage, Deed::Rest),
+        };
+        self.stage = stage;
+        deed
+    }
+
+    /// It was started.
+    fn begin(&mut self) -> Deed
+        ensures stage { self.new.stage ≡ stage_after Started self.old.failures self.old.stage }
+        ensures failures { self.new.failures ≡ self.old.failures }
+        ensures deed { result ≡ Rest }
+    {
+        if self.stage == Stage::Starts {
+            self.stage = Stage::Runs(0);
+        }
+        Deed::Rest
+    }
+
+    /// It ended so, or could not be started.
+    fn end(&mut self, end: End) -> Deed
+        ensures stage { self.new.stage ≡ ended_after end self.old.failures self.old.stage }
+        ensures failures { self.new.failures
+            ≡ failures_after (Ended end) self.old.stage self.old.failures }
+        ensures deed { result ≡ ended_deed end self.old.failures self.old.stage }
+    {
+        match self.stage {
+            Stage::Starts => self.wait(end),
+            Stage::Runs(looks) if !is_failed(end, looks) => {
+                self.failures = 0;
+                self.wait(end)
+            }
+            Stage::Runs(_) => {
+                self.failures = self.failures.saturating_add(1);
+                self.fail(end)
+            }
+            Stage::Closes(_) => {
+                self.stage = Stage::Over;
+                Deed::Rest
+            }
+            _ => Deed::Rest,
+        }
+    }
+
+    /// It is started again after a while.
+    fn wait(&mut self, end: End) -> Deed
+        ensures stage { self.new ≡ record self.old { stage = Waits 10 } }
+        ensures deed { result ≡ SayAgain end }
+    {
+        self.stage = Stage::Waits(LOOKS_BEFORE_START);
+        Deed::SayAgain(end)
+    }
+
+    /// It is started again after a while, unless it failed too often.
+    fn fail(&mut self, end: End) -> Deed
+        ensures stage { self.new ≡ record self.old {
+          stage = if nat_lt self.old.failures 3 then Waits 10 else Left;
+        } }
+        ensures deed { result ≡ (if nat_lt self.old.failures 3 then SayAgain end else SayLeft end) }
+    {
+        if self.failures < MOST_FAILURES {
+            return self.wait(end);
+        }
+        self.stage = Stage::Left;
+        Deed::SayLeft(end)
+    }
+
+    /// It is not started any more.
+    fn close(&mut self) -> Deed
+        ensures stage { self.new ≡ record self.old { stage = input_after self.old.stage } }
+        ensures deed { result ≡ input_deed self.old.stage }
+    {
+        match self.stage {
+            Stage::Starts | Stage::Runs(_) => {
+                self.stage = Stage::Closes(LOOKS_BEFORE_KILL);
+                Deed::CloseInput
+            }
+            Stage::Waits(_) | Stage::Left => {
+                self.stage = Stage::Over;
+                Deed::Rest
+            }
+            Stage::Closes(_) | Stage::Over => Deed::Rest,
+        }
+    }
+}
+
+/// Whether a node that ended so, and was looked at so often, failed at its start.
+fn is_failed(end: End, looks: u32) -> bool
+    ensures { result ≡ is_failed end looks }
+{
+    match end {
+        End::Status(status) => status != 0 && looks < LOOKS_OF_A_START,
+        _ => false,
+    }
+}

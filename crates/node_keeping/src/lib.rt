@@ -1,0 +1,26 @@
+//! What a node's process decides after each 256th turn, and what `up` decides of the nodes that it
+//! keeps running.
+//!
+//! Nothing here reads a file, starts a process or knows the time: whoever does says what was seen,
+//! and is answered what to do.
+//!
+//! ```
+//! let mut keeper = Keeper::new();
+//! keeper.step(Seen::Nothing);                          // Deed::Start
+//! keeper.step(Seen::Started);                          // Deed::Rest
+//! keeper.step(Seen::Ended(End::Status(0)));            // Deed::SayAgain: it is started again
+//! after_save(Sights { place: FileSight::NotOwn, ..sights });   // AfterSave::Displaced
+//! ```
+//!
+//! The trap: a keeper counts looks and knows no clock. How long a look takes is whoever looks to
+//! choose: 50 milliseconds while nodes run, 10 while they end.
+#![tactic(auto)]
+
+mod keeper;
+pub mod laws;
+mod saved;
+mod sight;
+
+pub use keeper::{Deed, Keeper, LOOKS_BEFORE_KILL, LOOKS_BEFORE_START, Seen, Stage};
+pub use saved::{AfterSave, Complaint, Sights, StopSight, after_save, looks_for_stop};
+pub use sight::{FileId, FileSight, sight_of};

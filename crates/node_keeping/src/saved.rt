@@ -1,0 +1,108 @@
+//! What a node does after a turn that saved its state.
+ghost use Rattle.std.specs.Prelude.{◌≡◌, ◌&&◌, not};
+ghost use Rattle.node_keeping.specs.AfterSave.{after_save, looks_for_stop, is_lost};
+
+use crate::sight::FileSight;
+
+/// What became of the file by which a node is stopped.
+#[derive(Clone, Copy, Debug, PartialEq, Eq)]
+pub enum StopSight {
+    /// It is not there.
+    Absent,
+    /// It was there, and is removed.
+    Removed,
+    /// It is there, and cannot be removed: it is a folder, or its folder may not be changed.
+    Stays,
+}
+
+/// What a node sees after a turn that saved its state.
+#[derive(Clone, Copy, Debug, PartialEq, Eq)]
+pub struct Sights {
+    /// Its lock file.
+    pub place: FileSight,
+    /// Its stop file.
+    pub stop: StopSight,
+    /// Whether its standard input, if it is to end with it, is at its end.
+    pub has_input_ended: bool,
+    /// Its socket for neighbours.
+    pub links: FileSight,
+    /// Its socket for clients.
+    pub clients: FileSight,
+}
+
+/// What a node does then.
+#[derive(Clone, Copy, Debug, PartialEq, Eq)]
+pub enum AfterSave {
+    /// It ends at once, and touches no file: its folder was removed or made again, so that another
+    /// network may lend beside it.
+    Displaced,
+    /// It removes its sockets, and ends with a fault: whoever starts it again would have it ended
+    /// again.
+    StopStays,
+    /// It removes its sockets, and ends well.
+    Stop,
+    /// It runs on.
+    GoOn {
+        /// Its socket for neighbours is made again.
+        renews_links: bool,
+        /// Its socket for clients is made again.
+        renews_clients: bool,
+    },
+}
+
+/// Whether the stop file is looked for: in a folder that is another's it is not this node's.
+pub fn looks_for_stop(place: FileSight) -> bool
+    ensures { result ≡ looks_for_stop place }
+{
+    place != FileSight::NotOwn
+}
+
+/// What a node does after a turn that saved its state, by what it sees.
+pub fn after_save(sights: Sights) -> AfterSave
+    ensures { result ≡ after_save sights }
+{
+    match sights.stop {
+        _ if !looks_for_stop(sights.place) => AfterSave::Displaced,
+        StopSight::Stays => AfterSave::StopStays,
+        StopSight::Removed => AfterSave::Stop,
+        StopSight::Absent if sights.has_input_ended => AfterSave::Stop,
+        StopSight::Absent => AfterSave::GoOn {
+            renews_links: is_lost(sights.links),
+            renews_clients: is_lost(sights.clients),
+        },
+    }
+}
+
+/// Whether a socket has to be made again.
+fn is_lost(sight: FileSight) -> bool
+    ensures { result ≡ is_lost sight }
+{
+    sight == FileSight::NotOwn
+}
+
+/// Something that is said when it begins, and not again while it lasts.
+#[derive(Clone, Copy, Debug, PartialEq, Eq, Drop)]
+pub struct Complaint {
+    lasts: bool,
+}
+
+impl Complaint {
+    ghost use Rattle.std.specs.Prelude.{false};
+
+    /// Nothing is complained of.
+    pub fn new() -> Complaint
+        ensures { result.lasts ≡ false }
+    {
+        Complaint { lasts: false }
+    }
+
+    /// Takes note of whether it is so now, and says whether it is to be said.
+    pub fn is_due(&mut self, is_so: bool) -> bool
+        ensures lasts { self.new.lasts ≡ is_so }
+        ensures due { result ≡ (is_so && not self.old.lasts) }
+    {
+        let began = is_so && !self.lasts;
+        self.lasts = is_so;
+        began
+    }
+}

@@ -1,0 +1,39 @@
+//! Whether the file that a name leads to is still the one that was made.
+ghost use Rattle.std.specs.Prelude.{◌≡◌};
+ghost use Rattle.node_keeping.specs.Sight.{file_sight};
+
+use std::io::ErrorKind;
+
+/// Which file it is, for as long as it is open: no two files of a system that are open have the same
+/// device and inode.
+#[derive(Clone, Copy, Debug, PartialEq, Eq)]
+pub struct FileId {
+    /// The device that it is on.
+    pub device: u64,
+    /// Its number there.
+    pub inode: u64,
+}
+
+/// What a name of a node's file leads to.
+#[derive(Clone, Copy, Debug, PartialEq, Eq)]
+pub enum FileSight {
+    /// The file that the node made or locked.
+    Own,
+    /// Nothing, or another file.
+    NotOwn,
+    /// The system does not say.
+    Unseen,
+}
+
+/// What a name leads to, by what the system said of it.
+pub fn sight_of(own: FileId, found: Result<FileId, ErrorKind>) -> FileSight
+    ensures { result ≡ file_sight own found }
+{
+    match found {
+        Ok(id) if id.device == own.device && id.inode == own.inode => FileSight::Own,
+        Ok(_) => FileSight::NotOwn,
+        Err(ErrorKind::NotFound) => FileSight::NotOwn,
+        Err(ErrorKind::NotADirectory) => FileSight::NotOwn,
+        Err(_) => FileSight::Unseen,
+    }
+}

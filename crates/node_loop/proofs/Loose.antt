@@ -1,0 +1,54 @@
+-- Ports without a connection, one after the other.
+use Rattle.std.proofs.Common.{◌≡◌, ◌≢◌, ◌<◌, ◌≤◌, ◌+◌, ℕ, Bool, true, false, List, Option, None, Some, Contains, length, slice_get, refl, inl, inr, sym, subst, ap, arith, ◌∙◌}
+use Rattle.std.specs.Prelude.{slice_set}
+use Rattle.std.proofs.lemmas.Grind.{common_steps}
+use Rattle.std.proofs.lemmas.List.{length-set}
+use Rattle.std.proofs.lemmas.Option.{slice_get_past}
+use Rattle.circular_buffer.proofs.Places.{slice_get-set_same}
+use Rattle.node_loop.specs.declared.port.NodePort.{NodePort}
+use Rattle.node_loop.specs.Loose.{AreKept, AreLoose, is_linked}
+use Rattle.node_loop.proofs.Hearing.{others-set}
+use Rattle.node_loop.proofs.Speaking.{apart, below-or-from, below-or-last, none-below}
+
+module _ {P : Type 0} where
+  unlinked : (q : NodePort P) → q.link.pipe ≡ None → q.greeting ≡ None → is_linked (Some q) ≡ false
+  unlinked q pipe greeting = rw (pipe, greeting) refl
+
+  -- the ports below i are closed, where they are no neighbours; all others are as before
+  pub record AreClosed (ns : List ℕ) (old new : List (NodePort P)) (i : ℕ) : Type 0 where
+    pub kept : AreKept ns old new
+    pub closed : (w : ℕ) → w < i → ¬ Contains ns w → is_linked (slice_get new w) ≡ false
+    pub count : length new ≡ length old
+
+  pub closed-start : (ns : List ℕ) (ports : List (NodePort P)) → AreClosed ns ports ports 0
+  closed-start ns ports = record { kept = λ w has. refl; closed = λ w below. elim (none-below w below) [ ]; count = refl }
+
+  pub closed-on : (ns : List ℕ) (old new : List (NodePort P)) (i : ℕ) → Contains ns i → AreClosed ns old new i → AreClosed ns old new (i + 1)
+  closed-on ns old new i has so = record {
+    kept = so.kept;
+    closed = λ w below not.
+        elim (below-or-last w i below) [
+          | inl less ↦ so.closed w less not
+          | inr last ↦ elim (not (subst (λ v. Contains ns v) (sym last) has)) [ ]
+        ];
+    count = so.count;
+  }
+
+  pub closed-next : (ns : List ℕ) (old new : List (NodePort P)) (i : ℕ) (q : NodePort P) → (¬ Contains ns i) → i < length new → q.link.pipe ≡ None → q.greeting ≡ None
+      → AreClosed ns old new i → AreClosed ns old (slice_set new i q) (i + 1)
+  closed-next ns old new i q none within pipe greeting so = record {
+    kept = λ w has. (let other : w ≢ i = λ e. elim (none (subst (λ v. Contains ns v) e has)) [ ] in others-set new i q w other ∙ so.kept w has);
+    closed = λ w below not.
+        elim (below-or-last w i below) [
+          | inl less ↦ (let other : w ≢ i = λ e. elim (apart w i less e) [ ] in rw (others-set new i q w other) (so.closed w less not))
+          | inr last ↦ rw (last, slice_get-set_same new i q within) (unlinked q pipe greeting)
+        ];
+    count = length-set new i q ∙ so.count;
+  }
+
+  pub all-closed : (ns : List ℕ) (old new : List (NodePort P)) (i : ℕ) → length new ≤ i → AreClosed ns old new i → AreLoose ns new
+  all-closed ns old new i all so w not =
+      elim (below-or-from w i) [
+        | inl less ↦ so.closed w less not
+        | inr from ↦ (let past : length new ≤ w = omega arith in rw (slice_get_past new w past) refl)
+      ]

@@ -1,0 +1,16 @@
+use Rattle.std.proofs.Common.{◌≡◌, false, ap, subst}
+use Rattle.lock_desk.specs.Desk.{is_stranger}
+use Rattle.node_loop.proofs.Leaving.{known-tick}
+use Rattle.node_loop.proofs.service.tick.Goals as goal
+
+pub returns-in-Granted-clause-connected : goal.returns-in-Granted-clause-connected
+returns-in-Granted-clause-connected g c were =
+    let node = c.args.node.now in
+    let desk = ap (λ s. s.desk) c.tick-ticked.ensures.state in
+    c.tell.ensures.connected (λ u known. were u (known-tick _ _ u node.desk.state (subst (λ d. is_stranger u d ≡ false) desk known)))
+
+pub returns-in-Lost-clause-connected : goal.returns-in-Lost-clause-connected
+returns-in-Lost-clause-connected g c were =
+    let node = c.args.node.now in
+    let desk = ap (λ s. s.desk) c.tick-ticked.ensures.state in
+    c.tell-in-Lost.ensures.connected (λ u known. were u (known-tick _ _ u node.desk.state (subst (λ d. is_stranger u d ≡ false) desk known)))

@@ -1,0 +1,59 @@
+-- Small examples of each definition, and ones that fail.
+use Rattle.std.proofs.Common.{◌≡◌, ◌≢◌, true, false, Some, None, refl, codes, arith}
+use Rattle.node_texts.specs.declared.lines.End.TheVariants.{Unstarted}
+use Rattle.node_keeping.specs.declared.saved.AfterSave.TheVariants as save
+use Rattle.node_process.specs.declared.fault.NodeFault.TheVariants.{NoNode, Folder, Running, Links, System, Memory, Displaced, StopStays}
+use Rattle.node_process.specs.declared.start.Stage.TheVariants.{Begun, Checked, Entered, Held, Listening}
+use Rattle.node_process.specs.Start.{may_end}
+use Rattle.node_process.specs.Ends.{end_fault, ends_by}
+use Rattle.node_process.specs.Texts.{last_end, blocked_line}
+
+-- a wrong id ends a start before the folder is made, and not after
+ends-wrong_id : may_end Begun (NoNode 3) ≡ true
+ends-wrong_id = refl
+
+ends_not-wrong_id : may_end Entered (NoNode 3) ≡ false
+ends_not-wrong_id = refl
+
+-- a place that another process holds ends it before a socket is made
+ends-running : may_end Entered Running ≡ true
+ends-running = refl
+
+ends_not-running : may_end Held Running ≡ false
+ends_not-running = refl
+
+ends-links : may_end Held Links ≡ true
+ends-links = refl
+
+ends_not-links : may_end Checked Links ≡ false
+ends_not-links = refl
+
+ends-memory : may_end Listening Memory ≡ true
+ends-memory = refl
+
+ends_not-system : may_end Begun System ≡ false
+ends_not-system = refl
+
+-- a node that was displaced ends with a fault of its own; one that was stopped with none
+fault-displaced : end_fault save.Displaced ≡ Some Displaced
+fault-displaced = refl
+
+fault_not-displaced : end_fault save.Displaced ≢ Some StopStays
+fault_not-displaced = grind arith
+
+fault-stopped : end_fault save.Stop ≡ None
+fault-stopped = refl
+
+goes-on : ends_by (save.GoOn true false) ≡ false
+goes-on = refl
+
+goes_not-on : ends_by save.StopStays ≡ true
+goes_not-on = refl
+
+-- what is said
+says-left : last_end Unstarted ≡ codes "cannot be started"
+says-left = refl
+
+says-blocked : blocked_line (codes "run/desk-1.sock")
+    ≡ codes "tokentree: run/desk-1.sock: cannot be made again; remove what stands there: the node runs on, and tries again"
+says-blocked = refl

@@ -1,0 +1,18 @@
+-- With which fault a node ends.
+use Rattle.std.specs.Prelude.{Bool, true, false, Option, None, Some}
+use Rattle.node_keeping.specs.declared.saved.AfterSave.{AfterSave}
+use Rattle.node_keeping.specs.declared.saved.AfterSave.TheVariants as save
+use Rattle.node_process.specs.declared.fault.NodeFault.{NodeFault}
+use Rattle.node_process.specs.declared.fault.NodeFault.TheVariants.{Displaced, StopStays}
+
+-- a node that was displaced, or whose stop file stays, ends with a fault; one that was stopped ends
+-- well
+abbrev pub end_fault : AfterSave → Option NodeFault
+end_fault save.Displaced = Some Displaced
+end_fault save.StopStays = Some StopStays
+end_fault _ = None
+
+-- a node goes on only if that is what it is to do
+abbrev pub ends_by : AfterSave → Bool
+ends_by (save.GoOn renews_links renews_clients) = false
+ends_by _ = true

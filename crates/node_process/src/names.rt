@@ -1,0 +1,121 @@
+//! The names of a node's sockets while it runs: each is taken back if it leads elsewhere.
+ghost use Rattle.std.specs.Prelude.{◌≡◌, ◌↔◌, true, false, IfOk, IsErr, IsTrue};
+
+use crate::folder::{Place, bind_again, sight_at};
+use node_keeping::{Complaint, FileId, FileSight};
+use node_texts::NodePaths;
+use std::net::Net as Sockets;
+use std::rt::Files;
+use std::{fmt, io};
+use unix_doors::UnixDoors;
+
+/// The name of a socket.
+#[derive(Drop)]
+pub struct Name<'a> {
+    path: &'a str,
+    /// The file that it led to when the socket was made.
+    file: FileId,
+    complaint: Complaint,
+}
+
+impl<'a> Name<'a> {
+    /// The name of a socket that was just made.
+    pub fn new(path: &'a str, file: FileId) -> Name<'a>
+        ensures { (result.path ≡ path.entry) × (result.file ≡ file)
+            × (result.complaint.lasts ≡ false) }
+    {
+        Name {
+            path,
+            file,
+            complaint: Complaint::new(),
+        }
+    }
+
+    /// What it leads to.
+    pub fn sight<F: Files>(&self, files: &F) -> FileSight {
+        sight_at(files, self.path, self.file)
+    }
+
+    /// Takes note of the file of a socket that was made again. If none could be made, that is said
+    /// the first time.
+    fn note<R: Eprint>(&mut self, rt: &R, made: io::Result<FileId>)
+        ensures made { IfOk made (λ file. self.new.file ≡ file) }
+        ensures unmade { IsErr made → self.new.file ≡ self.old.file }
+        ensures path { self.new.path ≡ self.old.path }
+        ensures lasts { IsTrue self.new.complaint.lasts ↔ IsErr made }
+    {
+        if let Ok(file) = &made {
+            self.file = *file;
+        }
+        if self.complaint.is_due(made.is_err()) {
+            let _ = rt.eprintln(Blocked { path: self.path });
+        }
+    }
+}
+
+/// The names of a running node.
+#[derive(Drop)]
+pub struct Names<'a> {
+    /// All names.
+    pub paths: &'a NodePaths,
+    /// Its place in the folder.
+    pub place: &'a Place,
+    /// Its socket for neighbours.
+    pub links: Name<'a>,
+    /// Its socket for clients.
+    pub clients: Name<'a>,
+}
+
+impl<'a> Names<'a> {
+    /// Makes those sockets again whose names lead elsewhere. What cannot be made now is tried again
+    /// when the names are looked at next.
+    pub fn take_back<R: Files + Sockets + Eprint>(
+        &mut self,
+        rt: &'a R,
+        doors: &mut UnixDoors<'a, R>,
+        renews_links: bool,
+        renews_clients: bool,
+    )
+        ensures place { (self.new.paths ≡ self.old.paths) × (self.new.place ≡ self.old.place) }
+        ensures links { renews_links ≡ false → self.new.links ≡ self.old.links }
+        ensures clients { renews_clients ≡ false → self.new.clients ≡ self.old.clients }
+    {
+        if renews_links {
+            let made = bind_again(rt, self.links.path);
+            let heard = made.and_then(|made| {
+                doors.listen_for_links(made.socket)?;
+                Ok(made.file)
+            });
+            self.links.note(rt, heard);
+        }
+        if renews_clients {
+            let made = bind_again(rt, self.clients.path);
+            let heard = made.and_then(|made| {
+                doors.listen_for_clients(made.socket)?;
+                Ok(made.file)
+            });
+            self.clients.note(rt, heard);
+        }
+    }
+}
+
+/// The line which says that a socket of a running node is gone, and cannot be made again.
+#[derive(Drop)]
+struct Blocked<'a> {
+    path: &'a str,
+}
+
+impl fmt::Display for Blocked<'_> {
+    ghost use Rattle.std.specs.Prelude.{Some};
+    ghost use Rattle.node_process.specs.Texts.{blocked_line};
+
+    ghost output = { λ line. Some (blocked_line line.path.now) };
+
+    fn fmt<W: fmt::Write>(&self, f: &mut fmt::Formatter<W>) -> fmt::Result {
+        let path = self.path;
+        write!(
+            f,
+            "tokentree: {path}: cannot be made again; remove what stands there: the node runs on, and tries again"
+        )
+    }
+}

@@ -1,0 +1,22 @@
+//! In which order a node, or `up`, starts.
+//!
+//! Whatever changes the folder says by its `requires` how far the start must be. So the prover finds
+//! at each call that nothing is made before the words are right, that no socket is made before the
+//! place is held, and that no node says `ready` before both of its sockets listen.
+
+/// How far a start is.
+#[derive(Clone, Copy, Debug, PartialEq, Eq)]
+pub enum Stage {
+    /// Nothing is known to be right, and nothing is made.
+    Begun,
+    /// The network, the id and the folder's name are right. Nothing is made.
+    Checked,
+    /// The folder is there.
+    Entered,
+    /// The place in it is held, so that no other process is this one there.
+    Held,
+    /// Both sockets listen.
+    Listening,
+    /// It was said that the node is ready.
+    Ready,
+}

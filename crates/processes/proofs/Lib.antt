@@ -1,0 +1,21 @@
+pub mod Changed
+pub mod OneMark
+pub mod Steps
+pub mod SameHistory
+pub mod Runs
+pub mod Histories
+pub mod Merging
+pub mod Order
+pub mod Promise
+pub mod WindowTicks
+pub mod WindowLinks
+pub mod Windows
+pub mod TurnWindows
+mod RowsTiming
+pub mod OneDeed
+pub mod Connections
+pub mod Bytes
+pub mod Frames
+pub mod OverBytes
+pub mod RowsLinks
+mod RowsProcesses

@@ -1,0 +1,11 @@
+pub mod Accounts
+pub mod Links
+pub mod Marks
+pub mod Together
+pub mod Through
+pub mod Laws
+pub mod Timing
+pub mod TimeLaws
+pub mod Turns
+pub mod Connections
+pub mod LinkLaws

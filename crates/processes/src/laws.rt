@@ -1,0 +1,102 @@
+//! What holds of processes: each law is the contract of a function that does nothing.
+ghost use Rattle.processes.specs.LinkLaws.{ConnectionsPlay, PipesAreConnections};
+ghost use Rattle.processes.specs.LinkLaws.{ConnectionsGiveABeginning, BytesKeepOrder};
+ghost use Rattle.processes.specs.LinkLaws.{BytesAreHistory, HistoriesTellFrames, JunkSpoilsOneFrame};
+ghost use Rattle.processes.specs.Laws.{ProcessesHaveOrder, OrdersAreRuns, ProcessesKeepPromise};
+ghost use Rattle.processes.specs.Turns.{PaceGivesWindows};
+ghost use Rattle.processes.specs.TimeLaws.{WindowsAreSweeps, ServesInTime, LendsInTime};
+ghost use Rattle.processes.specs.Laws.{BytesAreProcesses, BytesKeepPromise};
+
+/// What processes did is a run: their deeds, with the losses between them, have an order by
+/// instants, and each such order leads from the world at the start to that at the end. Whoever
+/// speaks of running nodes has all laws of runs by this.
+pub fn runs()
+    ensures order { ProcessesHaveOrder }
+    ensures run { OrdersAreRuns }
+{
+    topology::laws::joined();
+    topology::laws::neighbours();
+}
+
+/// The headline and the service of processes: once that run holds as many sweeps as the bound says,
+/// the network serves, and from then on; and then a ticket that waits after i others, and does not
+/// leave while it waits, is lent the lock within 8(n - 1)(i + 2) sweeps.
+pub fn promise()
+    ensures { ProcessesKeepPromise }
+{
+    runs();
+    run_model::laws::runs();
+    run_model::laws::in_range();
+    convergence::laws::converge();
+    convergence::laws::sharp();
+    convergence::laws::service();
+}
+
+/// A link that is one connection after another: if each keeps order and loses nothing until it
+/// ends, and at most as many frames as the capacity are under way, the link has a history. Whoever
+/// joins two nodes by connections has the premise of the laws above by this. And the frames of a
+/// history are those that the accounts of the link's two ends speak of.
+pub fn connections()
+    ensures play { ConnectionsPlay }
+    ensures frames { HistoriesTellFrames }
+{}
+
+/// A connection of bytes: pipes of which the one gives a beginning of what the other took are such a
+/// connection, and it keeps order and loses nothing until it ends; so a link that is one of them after
+/// another has a history. A half line that stood on it at the start spoils at most one frame.
+pub fn bytes()
+    ensures pipes { PipesAreConnections }
+    ensures beginning { ConnectionsGiveABeginning }
+    ensures order { BytesKeepOrder }
+    ensures history { BytesAreHistory }
+    ensures spoils { JunkSpoilsOneFrame }
+{
+    byte_lines::laws::lines_grow();
+    frame_codec::laws::one_reading();
+    frame_codec::laws::any_cutting();
+    frame_codec::laws::junk_ends_at_newline();
+}
+
+/// The headline and the service of processes over bytes, whole. What is asked: the nodes go by their
+/// own steps; each link is one connection of bytes after another, on which whole lines stand at the
+/// start; a frame is taken later than it was accepted; and at most as many frames as the capacity are
+/// under way on a link.
+pub fn promise_over_bytes()
+    ensures are { BytesAreProcesses }
+    ensures keep { BytesKeepPromise }
+{
+    topology::laws::limits();
+    bytes();
+    promise();
+}
+
+/// The same in time: where each window of that length, from one instant to another, holds a full
+/// tick of each node, and each link hands over a frame that it accepted inside the window, each
+/// window is a sweep. So after 16(n - 1) + 4e + 15 windows the network serves, and from then on a
+/// ticket that waits after i others, and does not leave while it waits, is lent the lock within
+/// 8(n - 1)(i + 2) windows. Whoever can bound the turns of the nodes has a time of recovery by this.
+pub fn windows()
+    ensures sweeps { WindowsAreSweeps }
+    ensures serves { ServesInTime }
+    ensures lends { LendsInTime }
+{
+    topology::laws::joined();
+    topology::laws::neighbours();
+    run_model::laws::runs();
+    run_model::laws::in_range();
+    run_model::laws::sweep_numbers();
+    convergence::laws::sharp();
+    convergence::laws::service();
+    convergence::laws::converge();
+}
+
+/// How long a window is: where each node has a whole turn in each stretch of `turn`, a port that was
+/// given nothing for `repeat` is given a frame in the next turn, a frame is taken in the next turn
+/// that begins `delay` after it was accepted, and each node has a full tick in each stretch of
+/// `full`, a window of max(full, repeat + 2 turn + delay) is enough for `windows`. Whoever measures
+/// these four has the window by this.
+pub fn pace()
+    ensures { PaceGivesWindows }
+{
+    topology::laws::joined();
+}

@@ -1,0 +1,17 @@
+//! What nodes that run as processes of their own did is a run; so the lock's guarantees hold of
+//! them.
+//!
+//! Each node has an account of what it did, deed by deed, each at an instant. Each link between two
+//! nodes has a history: it keeps order, it may lose any frame, and it holds at most as many as its
+//! capacity. If the nodes go by their own steps and the links by such histories, there is a list
+//! of events, the deeds in the order of their instants with losses between them, that is a run of
+//! the network. So from every state it comes to serve, and then serves for good.
+//!
+//! Nothing is computed here: `laws` has the statements, as contracts of functions that do nothing.
+//! Whoever drives a node names its account; of the links the premise is believed.
+//!
+//! The trap: a stretch is without damage. If a node begins again, or an edge comes or goes, a new
+//! stretch begins, from the world of that instant, which may be any in range.
+#![tactic(auto)]
+
+pub mod laws;

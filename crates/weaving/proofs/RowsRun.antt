@@ -1,0 +1,127 @@
+-- What two nodes did by themselves, what it leads to, and what is no run of theirs.
+use Rattle.std.proofs.Common.{◌≡◌, ℕ, ◌<◌, ◌≤◌, zero, suc, List, [], ◌∷◌, IsTrue, refl, ap, arith}
+use Rattle.std.proofs.lemmas.Bool.{false≢true}
+use Rattle.std.proofs.lemmas.Grind.{common_steps}
+use Rattle.std.proofs.lemmas.Bool.Decides.{nat_tests}
+use Rattle.node_core.specs.Site.{site_of}
+use Rattle.node_core.specs.State.{LocalState}
+use Rattle.node_core.specs.Step.{ticked, taken}
+use Rattle.data_link.specs.Port.{frame_of}
+use Rattle.link_model.specs.declared.item.Item.{Item}
+use Rattle.link_model.specs.declared.item.Item.TheVariants.{Noise, Frame}
+use Rattle.run_model.specs.World.{World}
+use Rattle.run_model.specs.Start.{default_world}
+use Rattle.run_model.specs.Run.{run}
+use Rattle.run_model.specs.declared.event.Event.{Event}
+use Rattle.run_model.specs.declared.event.Event.TheVariants.{Send, Take, Tick, Ask, Lose}
+use Rattle.run_model.proofs.RowsTwo.{two_nodes}
+use Rattle.weaving.specs.declared.journal.Stamped.{Stamped}
+use Rattle.weaving.specs.Account.{Deed, Ticks, Sends, Takes, Leads, sent_to, taken_from}
+use Rattle.weaving.specs.Matched.{AreMatched, IsLinkMatched}
+use Rattle.weaving.specs.Laws.{HasEffect, GoesThrough}
+
+abbrev start : World
+start = default_world two_nodes
+
+-- both tick, node 0 sends, and node 1 takes
+abbrev events : List Event
+events = Tick 0 ∷ Tick 1 ∷ Send 0 1 ∷ Take 0 1 ∷ []
+
+-- ---- events that go through
+
+goes-through : GoesThrough start events
+goes-through = (refl, tt, (refl, tt, (refl, refl, (refl, omega arith, tt))))
+
+-- a take of nothing is no event of a node on its thread, though it is not refused
+no-take_of_nothing : GoesThrough start (Take 0 1 ∷ []) → ⊥
+no-take_of_nothing through = let some : 0 < 0 = through.1 in omega (arith, some)
+
+-- nor is a send to a full link
+no-send_to_a_full_link : HasEffect (run start (Send 0 1 ∷ [])) (Send 0 1) → ⊥
+no-send_to_a_full_link room = false≢true room
+
+-- nor what is refused
+no-refused_event : GoesThrough start (Tick 2 ∷ []) → ⊥
+no-refused_event through = let fits = through.0 in absurd cc
+
+-- nor what clients do, nor a loss
+no-ask : HasEffect start (Ask 0 7) → ⊥
+no-ask out = out
+
+no-loss : HasEffect (run start (Send 0 1 ∷ [])) (Lose 0 1 0) → ⊥
+no-loss out = out
+
+-- ---- what one node did
+
+-- node 0 after its tick
+abbrev ticked_0 : LocalState
+ticked_0 = ticked (site_of two_nodes 0) (start.node 0)
+
+-- the frame that it sends then
+abbrev sent : Stamped
+sent = record { stamp = 2; item = Frame (frame_of (ticked_0.port 1)) }
+
+-- node 0 ticks and sends; node 1 ticks and takes what was sent
+abbrev account : ℕ → List Deed
+account zero = Ticks 1 ∷ Sends 1 sent ∷ []
+account (suc zero) = Ticks 1 ∷ Takes 0 (record { stamp = 3; item = sent.item }) ∷ []
+account (suc (suc v)) = []
+
+leads-node_0 : Leads two_nodes 0 (start.node 0) (account 0) ((run start events).node 0)
+leads-node_0 = (refl, refl, refl)
+
+leads-node_1 : Leads two_nodes 1 (start.node 1) (account 1) ((run start events).node 1)
+leads-node_1 = (refl, refl)
+
+-- a node sends what its port says, and no other frame
+no-other_frame : Leads two_nodes 0 (start.node 0) (Ticks 1 ∷ Sends 1 (record { stamp = 2; item = Noise }) ∷ []) ticked_0 → ⊥
+no-other_frame leads = let frame = leads.1 in absurd cc
+
+-- to a neighbour alone
+no-send_to_itself : Leads two_nodes 0 (start.node 0) (Sends 0 sent ∷ []) (start.node 0) → ⊥
+no-send_to_itself leads = false≢true leads.0
+
+-- and its state is what its deeds make of it
+no-tick_untold : Leads two_nodes 0 (start.node 0) [] ticked_0 → ⊥
+no-tick_untold same = let distance : 0 ≡ 2 = ap (λ (s : LocalState). s.distance) same in omega (arith, distance)
+
+-- ---- what both did
+
+leads-each : (v : ℕ) → Leads two_nodes v (start.node v) (account v) ((run start events).node v)
+leads-each zero = leads-node_0
+leads-each (suc zero) = leads-node_1
+leads-each (suc (suc v)) = grind (arith, common_steps, nat_tests)
+
+nobody-else : (v : ℕ) → 2 ≤ v → account v ≡ []
+nobody-else zero few = absurd (omega arith)
+nobody-else (suc zero) few = absurd (omega arith)
+nobody-else (suc (suc v)) few = refl
+
+untouched : (sent taken : List Stamped) (left : List Item) → sent ≡ [] → taken ≡ [] → left ≡ [] → IsLinkMatched 1 [] sent taken left
+untouched sent taken left s t l = rw (s, t, l) (record { kept = refl; taken_later = tt; sent_later = tt })
+
+matched-each : (u v : ℕ) → IsLinkMatched 1 (start.link u v) (sent_to v (account u)) (taken_from u (account v)) ((run start events).link u v)
+matched-each zero zero = untouched _ _ _ refl refl refl
+matched-each zero (suc zero) = record { kept = refl; taken_later = (omega arith, tt); sent_later = tt }
+matched-each zero (suc (suc v)) = untouched _ _ _ (grind (arith, nat_tests)) refl (grind (arith, common_steps, nat_tests))
+matched-each (suc zero) zero = untouched _ _ _ refl refl refl
+matched-each (suc zero) (suc zero) = untouched _ _ _ refl refl refl
+matched-each (suc zero) (suc (suc v)) = untouched _ _ _ refl refl (grind (arith, common_steps, nat_tests))
+matched-each (suc (suc u)) zero = untouched _ _ _ refl refl (grind (arith, common_steps, nat_tests))
+matched-each (suc (suc u)) (suc zero) = untouched _ _ _ refl (grind (arith, nat_tests)) (grind (arith, common_steps, nat_tests))
+matched-each (suc (suc u)) (suc (suc v)) = untouched _ _ _ refl refl (grind (arith, common_steps, nat_tests))
+
+are-matched : AreMatched start account (run start events)
+are-matched = record { network = refl; spares = refl; nodes = leads-each; nobody = nobody-else; links = matched-each }
+
+-- a frame that was sent is taken, or still there
+abbrev sender_alone : ℕ → List Deed
+sender_alone zero = account 0
+sender_alone (suc v) = []
+
+no-lost_frame : AreMatched start sender_alone (run start (Tick 0 ∷ [])) → ⊥
+no-lost_frame m = let kept = (m.links 0 1).kept in absurd cc
+
+-- and nobody acts who is no node
+no-deed_of_nobody : (last : World) → AreMatched start (λ v. Ticks 1 ∷ []) last → ⊥
+no-deed_of_nobody last m = let nothing = m.nobody 2 (omega arith) in absurd cc
