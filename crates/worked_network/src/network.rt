@@ -49,13 +49,16 @@ fn acts_as_the_program(rt: HostRuntime) -> Result<(), Fail> {
 /// The test by which a copy of this program is the guard of a command.
 const GUARD: &str = "network::acts_as_a_guard";
 
-/// What a copy does that is started as a guard. It ends at once then: its standard output is the
-/// connection to a desk.
+/// What a copy does that is started as a guard. Then it ends by a signal, which writes nothing: its
+/// standard output is the connection to a desk, which takes each line for a client's.
 #[test]
 fn acts_as_a_guard(rt: HostRuntime) -> Result<(), Fail> {
     if env::var(&rt, "TOKENTREE_GUARD").is_ok() {
         run_words(&rt, &["tokentree", "lock", "--guard", ".", "0"], false);
-        rt.exit(0);
+        let mut killer = Command::new(rt.alloc(), "/bin/sh")?;
+        killer.args(["-c", "kill -9 $PPID"])?;
+        killer.stdin(Stdio::null()).stdout(Stdio::null());
+        killer.status(&rt)?;
     }
     Ok(())
 }
