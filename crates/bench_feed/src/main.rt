@@ -17,7 +17,7 @@ use std::time::Instant;
 use text::{Kind, make_text};
 use topology::{Frame, Net};
 
-/// What is to be measured.
+/// What must be measured.
 #[derive(Clone, Copy)]
 struct Request {
     kind: Kind,

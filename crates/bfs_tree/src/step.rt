@@ -9,7 +9,7 @@ ghost use Rattle.bfs_tree.specs.Step.{new_distance, new_parent};
 /// smallest id where they ascend, and none where there are no neighbours.
 ///
 /// `copied` gives a neighbour's copied distance, and is called for neighbours alone: copies stay
-/// where a node keeps them. What `copied` gives is to be a function of the neighbour, as it is
+/// where a node keeps them. What `copied` gives must be a function of the neighbour, as it is
 /// where it reads a field; the clause names that function.
 ///
 /// Source of the rule: Dolev, Israeli, Moran (1993). That the smallest id wins a tie is this

@@ -33,7 +33,7 @@ then_long n line more long =
     kept_is (take n (take n line ++ more)) (take n (line ++ more)) (nat_lt n (length line) || nat_lt n (length (take n line ++ more)))
     (nat_lt n (length (line ++ more))) first (rw (long, longer) refl)
 
--- what is kept of a line, with more bytes behind it
+-- what is kept of a line, with more bytes after it
 pub kept_then : (n : ℕ) (line more : List ℕ) → kept_more n (kept n line) more ≡ kept n (line ++ more)
 kept_then n line more = by_test (nat_lt n (length line)) (then_long n line more) (then_short n line more)
 
@@ -50,7 +50,7 @@ of_some n first true few full =
     let same : take n (first ++ 0 ∷ []) ≡ first = take-append-le n first (0 ∷ []) (omega (arith, len)) ∙ take_all n first few in
     (first ++ 0 ∷ [], kept_is first (take n (first ++ 0 ∷ [])) true (nat_lt n (length (first ++ 0 ∷ []))) (sym same) (sym more))
 
--- as many bytes as there is room for were put behind those that are kept
+-- as many bytes as there is room for were put after those that are kept
 long_either : {a : List ℕ} → (long : Bool) → ◌≡◌ {A = Kept} (record { first = a; is_long = true }) (record { first = a; is_long = long || true })
 long_either true = refl
 long_either false = refl

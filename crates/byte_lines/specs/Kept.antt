@@ -11,7 +11,7 @@ pub record Kept : Type 0 where
 abbrev pub kept : ℕ → List ℕ → Kept
 kept n line = record { first = take n line; is_long = nat_lt n (length line) }
 
--- what is then kept of the line with more bytes behind it
+-- what is then kept of the line with more bytes after it
 abbrev pub kept_more : ℕ → Kept → List ℕ → Kept
 kept_more n k more = record {
   first = take n (k.first ++ more);

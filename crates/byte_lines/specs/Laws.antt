@@ -13,7 +13,7 @@ pub record IsItsLines (text : List ℕ) : Type 0 where
 abbrev pub TextIsItsLines : Type 0
 TextIsItsLines = (text : List ℕ) → IsItsLines text
 
--- the lines of a text that was cut in two are those of the front, and then those of the back behind
+-- the lines of a text that was cut in two are those of the front, and then those of the back after
 -- the front's half line
 pub record LinesAreCut : Type 0 where
   pub lines : (half front back : List ℕ)

@@ -1,4 +1,4 @@
--- The lines of a byte text, and the half line behind them.
+-- The lines of a byte text, and the half line after them.
 use Rattle.std.specs.Prelude.{◌≢◌, ℕ, ◌==◌, if◌then◌else◌, List, [], ◌∷◌, ◌++◌}
 use Rattle.std.specs.List.{AllByRecursion}
 
@@ -26,6 +26,6 @@ half_after half (b ∷ bs) = if b == newline then half_after [] bs else half_aft
 abbrev pub whole_lines : List ℕ → List (List ℕ)
 whole_lines text = lines_after [] text
 
--- what stands behind the last newline
+-- what stands after the last newline
 abbrev pub half_line : List ℕ → List ℕ
 half_line text = half_after [] text

@@ -61,7 +61,7 @@ impl<const N: usize> HalfLine<N> {
         ensures reads { Reads N (R.reading reading.now) self.old self.new
             (take result.used piece.now)
             (option_to_list result.line) }
-        // The same, told of the whole text from its first byte on.
+        // The same, said of the whole text from its first byte on.
         ensures so_far { ReadsOn N (R.reading reading.now) self.old self.new
             (take result.used piece.now)
             (option_to_list result.line) }

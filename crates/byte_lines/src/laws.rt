@@ -7,7 +7,7 @@ pub fn text_is_its_lines()
     ensures { TextIsItsLines }
 {}
 
-/// A text may be cut anywhere: its lines are those of the front, and then those of the back behind
+/// A text may be cut anywhere: its lines are those of the front, and then those of the back after
 /// the front's half line. Whoever reads in pieces stands on it.
 pub fn any_cutting()
     ensures { LinesAreCut }

@@ -1,8 +1,8 @@
 //! The lines of a byte text, read in whatever pieces it comes.
 //!
 //! A line is what stands between two newlines, or from the start of the text to the first one; what
-//! stands behind the last newline is a half line. A [`HalfLine`] keeps the half line between two
-//! pieces, its first `N` bytes at most, and takes no memory. Whoever wants lines says what a line
+//! stands after the last newline is a half line. A [`HalfLine`] keeps the half line between two
+//! pieces, its first `N` bytes at most, and takes no memory. Whoever needs lines says what a line
 //! is read as, by a [`LineReading`], and of a line of more than `N` bytes from its first `N` alone.
 //!
 //! ```
@@ -13,7 +13,7 @@
 //! ```
 //!
 //! The trap: one call of `take` ends at the first newline of its piece; take again from the byte
-//! behind it.
+//! after it.
 #![tactic(auto)]
 
 mod half_line;

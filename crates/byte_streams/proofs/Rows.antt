@@ -20,7 +20,7 @@ gives_not-nothing = λ g. grind (arith, g.3 refl (omega arith))
 gives-no_room : Gives 0 (Some (1 ∷ [])) (Some (1 ∷ [])) []
 gives-no_room = (omega arith, refl, refl, λ none room. absurd (grind arith))
 
--- a sink takes behind what it took before
+-- a sink takes after what it took before
 takes-behind : Takes (3 ∷ []) (Some (1 ∷ 2 ∷ [])) (Some (1 ∷ 2 ∷ 3 ∷ []))
 takes-behind = refl
 

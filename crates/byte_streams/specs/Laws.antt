@@ -2,7 +2,7 @@
 use Rattle.std.specs.Prelude.{◌≡◌, ℕ, ◌+◌, ◌<◌, ◌≤◌, List, [], ◌++◌, Option, Some, take, length}
 use Rattle.byte_streams.specs.Streams.{Gives, HasRead}
 
--- A text is read in pieces: behind what has been read comes what the next read gives, and at a read
+-- A text is read in pieces: after what has been read comes what the next read gives, and at a read
 -- that gives nothing all has been read.
 pub record PiecesMakeTheText : Type 0 where
   pub more : (bytes : List ℕ) (n count : ℕ) (before after : Option (List ℕ)) (buffer : List ℕ)

@@ -14,7 +14,7 @@ GivesNext count rest after buffer =
     × (count ≡ 0 → 0 < length buffer → rest ≡ [])
 
 -- what a read says of the bytes that the source has still to give, before it and after it; nothing
--- of one that does not tell
+-- of one that does not say
 abbrev pub Gives : ℕ → Option (List ℕ) → Option (List ℕ) → List ℕ → Type 0
 Gives count None after buffer = after ≡ None
 Gives count (Some rest) after buffer = GivesNext count rest after buffer
@@ -31,7 +31,7 @@ Reads (Ok count) before after buffer failures more =
 Reads (Err _) before after buffer failures more =
     (after ≡ before) × (failures ≤ more) × Rose failures more
 
--- the sink took these bytes behind those before; nothing is said of one that does not tell
+-- the sink took these bytes after those before; nothing is said of one that does not say
 abbrev pub Takes : List ℕ → Option (List ℕ) → Option (List ℕ) → Type 0
 Takes bytes before after = after ≡ option_map (λ taken. taken ++ bytes) before
 
@@ -44,7 +44,7 @@ Writes (Ok count) bytes before after failures more =
 Writes (Err _) bytes before after failures more =
     (after ≡ before) × (failures ≤ more) × Rose failures more
 
--- The bytes in front were taken, and those behind them were not.
+-- The bytes in front were taken, and those after them were not.
 pub record TakesABeginning (bytes : List ℕ) (before after : Option (List ℕ)) : Type 0 where
   pub front : List ℕ
   pub back : List ℕ

@@ -1,7 +1,7 @@
 //! The laws of sources, each the contract of a function that does nothing.
 ghost use Rattle.byte_streams.specs.Laws.{PiecesMakeTheText};
 
-/// A text is read in pieces: what a read gives comes behind what has been read, and at a read that
+/// A text is read in pieces: what a read gives comes after what has been read, and at a read that
 /// gives nothing all has been read. Whoever reads to the end of a source stands on it.
 pub fn reading_in_pieces()
     ensures { PiecesMakeTheText }

@@ -1,8 +1,8 @@
 //! Where bytes are read from, and where they are written to.
 //!
-//! [`Source`] and [`Sink`] are the two ends, as traits: a program puts files behind them, a test
+//! [`Source`] and [`Sink`] are the two ends, as traits: a program implements them with files, a test
 //! the forms over memory. Each counts its failures, and may tell its bytes to contracts; one that
-//! does not tell them, as a file, says nothing of them.
+//! does not say them, as a file, says nothing of them.
 //!
 //! ```
 //! let mut sink = MemorySink::new(alloc, 4096)?;

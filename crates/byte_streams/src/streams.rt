@@ -8,7 +8,7 @@ pub struct Failed;
 
 /// Where bytes come from.
 pub trait Source {
-    /// The bytes that it has still to give; none where it does not tell.
+    /// The bytes that it has still to give; none where it does not say.
     ghost rest: { Self → Option (List ℕ) };
 
     /// How often it has failed; the count may stay at 2^64 - 1.
@@ -27,7 +27,7 @@ pub trait Source {
 
 /// Where bytes go to.
 pub trait Sink {
-    /// The bytes that it has taken; none where it does not tell.
+    /// The bytes that it has taken; none where it does not say.
     ghost taken: { Self → Option (List ℕ) };
 
     /// How often it has failed; the count may stay at 2^64 - 1.

@@ -52,7 +52,7 @@ tick-world w v p old new h none is =
     is ∙ ap (λ s. ticked s (state_of old)) (site-is w.links.net w.nodes v p old h) ∙ ap (ticked (site_of w.links.net v)) (sym (state-is w.links.net w.nodes v p old h)) in
     now-world w v p old new h ∙ ap (with_node (world_of w) v) state ∙ sym (step-is (world_of w) (Tick v) none)
 
--- the node in the world behind its tick is the node that has ticked
+-- the node in the world after its tick is the node that has ticked
 node-there : (f : ℕ → LocalState) (v : ℕ) (s : LocalState) → at f v s v ≡ s
 node-there f v s = grind (arith, common_steps)
 

@@ -117,7 +117,7 @@ impl<A: Allocator + Copy> Configuration<A> {
         (self.nodes, self.links)
     }
 
-    /// The configuration of these nodes and links. There is to be a node for each id of the links'
+    /// The configuration of these nodes and links. There must be a node for each id of the links'
     /// network, at its place. No memory is taken.
     pub fn from_parts(nodes: Vec<Node<A>, A>, links: Links<A>) -> Configuration<A>
         requires { AreNodesOf links.net nodes.items }
@@ -324,7 +324,7 @@ impl<A: Allocator + Copy> Configuration<A> {
         ensures { Answers self.old event.now self.new result }
     {
         // An answer that a call hands on whole is kept in memory for every event; taken apart and
-        // made anew it is not.
+        // made again it is not.
         match *event {
             Event::Send { from, to } => self.send(from, to),
             Event::Take { from, to } => self.take(from, to),

@@ -8,7 +8,7 @@ use Rattle.run_model.specs.Count.{after_damage}
 use Rattle.run_model.specs.declared.event.Event.{Event}
 use Rattle.convergence.specs.Said.{said_in}
 
--- Wherever the events since the last damage end in three sweeps behind a part that holds 4(C + 1),
+-- Wherever the events since the last damage end in three sweeps after a part that holds 4(C + 1),
 -- what u has staged for v now and what v has copied from u now is what u had to say to v at some
 -- moment of these three.
 abbrev pub ArePayloadsFresh : World → List Event → World → Type 0

@@ -22,7 +22,7 @@ LegitimateVisits =
     → v < w.net.nodes
     → Sweeps w (16 * (w.net.nodes - 1)) es → IsTrue (is_privileged_once w es v)
 
--- from any, at some moment of as many sweeps behind those that make it legitimate
+-- from any, at some moment of as many sweeps after those that make it legitimate
 abbrev pub EachStateVisits : Type 0
 EachStateVisits =
     (w : World) (es : List Event) (v : ℕ) → IsWorldInRange w → IsUndamaged w es → v < w.net.nodes

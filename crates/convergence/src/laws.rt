@@ -82,10 +82,10 @@ pub fn sharp()
 }
 
 /// Service: from a legitimate world, over every list of events without damage, each node is
-/// privileged at some moment of any 16(n - 1) sweeps; from any world, of as many behind those after
+/// privileged at some moment of any 16(n - 1) sweeps; from any world, of as many after those after
 /// which it is legitimate. The privilege passes a desk at which a ticket waits only where that had
-/// served, or a loan ends in that very tick; and behind it the desk is ready to lend. So a ticket
-/// that waits behind i others, and does not leave while it waits, is lent the lock within
+/// served, or a loan ends in that very tick; and after it the desk is ready to lend. So a ticket
+/// that waits after i others, and does not leave while it waits, is lent the lock within
 /// 8(n - 1)(i + 2) sweeps.
 pub fn service()
     ensures legitimate { LegitimateVisits }

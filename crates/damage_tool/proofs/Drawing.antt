@@ -1,4 +1,4 @@
--- Events that are drawn one after the other, and put behind those that are there.
+-- Events that are drawn one after the other, and put after those that are there.
 use Rattle.std.proofs.Common.{◌≡◌, ◌∙◌, ℕ, ◌+◌, ◌-◌, ◌<◌, suc, List, [], ◌∷◌, ◌++◌, ap, sym, append_assoc, arith}
 use Rattle.std.specs.List.{range_with_len}
 use Rattle.rand_pcg.specs.Lcg.{Lcg}
@@ -10,7 +10,7 @@ use Rattle.run_model.specs.declared.event.Harm.TheVariants as harm
 use Rattle.damage_tool.specs.Harms.{draw_each, draw_item, draw_item_harm}
 use Rattle.damage_tool.specs.Behind.{behind}
 
--- the later list is the earlier one with more behind it
+-- the later list is the earlier one with more after it
 abbrev pub Grows : List Event → List Event → Type 0
 Grows a b = (more : List Event) × (b ≡ a ++ more)
 

@@ -4,7 +4,7 @@ use Rattle.std.proofs.lemmas.List.{take_more_set}
 use Rattle.rand_pcg.specs.Lcg.{Lcg}
 use Rattle.damage_tool.specs.Draws.{draw, draw_bytes}
 
--- the bytes at the front are drawn, and as many as are left go behind them
+-- the bytes at the front are drawn, and as many as are left go after them
 abbrev pub bytes_at : ℕ → ℕ → List ℕ → Lcg → List ℕ × Lcg
 bytes_at left at line g = (take at line ++ (draw_bytes left g).0, (draw_bytes left g).1)
 

@@ -7,7 +7,7 @@ use Rattle.topology.specs.declared.frame.Payload.{Payload}
 use Rattle.topology.specs.declared.frame.Ranges.{Ranges}
 use Rattle.damage_tool.specs.declared.draws.PortDraw.{PortDraw}
 
--- the next word modulo k, and the generator behind it
+-- the next word modulo k, and the generator after it
 unfoldable pub draw : ℕ → Lcg → ℕ × Lcg
 draw k g = ((pcg32 g).0 % k, (pcg32 g).1)
 

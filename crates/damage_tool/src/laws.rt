@@ -3,7 +3,7 @@ ghost use Rattle.damage_tool.specs.Laws.{ScrambleIsAccepted, ScrambleKeepsNetwor
 
 /// Every harm of a scramble is accepted where no client waits: what it writes is in range, no link
 /// gets more items than it holds, and no edge joins or goes. Whoever lets the harms happen need
-/// look at no refusal, and may speak of the network behind them as of the one before.
+/// look at no refusal, and may speak of the network after them as of the one before.
 pub fn scramble()
     ensures accepted { ScrambleIsAccepted }
     ensures network { ScrambleKeepsNetwork }

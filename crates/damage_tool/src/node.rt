@@ -30,7 +30,7 @@ fn write_port<A: Allocator>(node: &mut NodeState<A>, port: u16, drawn: PortDraw)
 }
 
 /// Writes all that a node keeps but its desk: its distance and parent, and then each port with its
-/// machine's value, by ascending neighbour. The node is to be one of the network's.
+/// machine's value, by ascending neighbour. The node must be one of the network's.
 pub fn scramble_node<A: Allocator, N: Allocator + Copy>(
     node: &mut NodeState<A>,
     net: &Net<N>,

@@ -171,7 +171,7 @@ module _ (K : ℕ → Type 0) where
       let w = always-parts capacity s xs ys k in
       known-in_sweep capacity (edge_run capacity s xs) ys w.1 (heard-in_sweep capacity s xs w.0 a) b
 
-  -- so every number of the link ring behind near's has K
+  -- so every number of the link ring after near's has K
   numbers-out : (items : List Item) → AllByRecursion (OfItem (λ number payload. K number)) items
       → AllByRecursion K (newest_first (λ f. f.seq) items)
   numbers-out [] h = tt

@@ -36,7 +36,7 @@ but_last-push x (z ∷ p) y = ap (λ l. x ∷ l) (but_last-push z p y)
 over_and_out : (q h : ℕ) (p s : List ℕ) (x y : ℕ) → Step q 0 (h ∷ ((p ++ x ∷ []) ++ y ∷ s)) (h ∷ (p ++ x ∷ s))
 over_and_out q h p s x y = rw append_assoc (Changes (Further (further p Written)) (Changes (removed h p x (x ∷ s)) Stays))
 
--- an item in front of the far port's number goes, or one behind it
+-- an item in front of the far port's number goes, or one after it
 lose_front : (q h : ℕ) (p s r : List ℕ) (y : ℕ) → Step q 0 (h ∷ ((p ++ y ∷ s) ++ r)) (h ∷ ((p ++ s) ++ r))
 lose_front q h p s r y = rw (append_assoc p (y ∷ s) r, append_assoc p s r) (Changes (removed h p y (s ++ r)) Stays)
 

@@ -56,7 +56,7 @@ stable = record { good = search rules; other = old; out = (refl, tt); copied = r
 stable_copied : IsStable 1 (edge 2 new 2 new [] (item.Noise ∷ []))
 stable_copied = record { good = search rules; other = old; out = tt; copied = refl }
 
--- an old number is on its way behind the new one that far has
+-- an old number is on its way after the new one that far has
 not_stable_numbers : IsStable 1 (edge 2 new 2 new (item.Frame (frame 1 0 old) ∷ []) []) → ⊥
 not_stable_numbers h = let g = h.good in grind (arith, common_steps)
 

@@ -88,7 +88,7 @@ all-both_items R S (item.Frame f ∷ items) a b = ((a.0, b.0), all-both_items R 
 pub all-both : (R S : ℕ → Payload → Type 0) (s : EdgeState) → OfAll R s → OfAll S s → OfAll (λ n x. R n x × S n x) s
 all-both R S s h g = record { out = all-both_items R S s.out h.out g.out; accepted = (h.accepted, g.accepted) }
 
--- ---- a fact of each number in the ring behind the head is one of each number on its way out and of the accepted one
+-- ---- a fact of each number in the ring after the head is one of each number on its way out and of the accepted one
 
 pub frames-newest : (P : ℕ → Type 0) (items : List Item) → AllByRecursion P (newest_first (λ f. f.seq) items) → AllByRecursion (OfItem (λ number payload. P number)) items
 frames-newest P [] ps = tt

@@ -9,7 +9,7 @@
 //! then each copy is a payload that the neighbour staged ([`laws`]).
 //!
 //! This is no reliable transport: a payload that is replaced before it is staged is never sent, and
-//! nothing says when a frame arrives. The trap: `on_frame` wants the payload that was present
+//! nothing says when a frame arrives. The trap: `on_frame` needs the payload that was present
 //! *before* the frame; one that is made from the new copy would be another protocol.
 //!
 //! Source: S. Dolev, Self-Stabilization, 2000 (token passing over bounded links, by counters).

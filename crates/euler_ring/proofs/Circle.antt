@@ -46,7 +46,7 @@ cut_at low (x ∷ xs) m h on = elim (cases_eq x m) [
       (x ∷ us, ys, ap (λ zs. x ∷ zs) e))
 ]
 
--- the last of a list, seen from an item and those behind it
+-- the last of a list, seen from an item and those after it
 abbrev pub last_of : ℕ → List ℕ → ℕ
 last_of m [] = m
 last_of m (y ∷ ys) = last_of y ys

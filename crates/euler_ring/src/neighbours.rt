@@ -111,7 +111,7 @@ fn is_named(parent: Option<u16>, id: u16) -> bool
 /// neighbour whose copied parent is the node `id`.
 ///
 /// `neighbours` ascend and are below 64, as those of an accepted network. `copied_parent` gives a
-/// neighbour's copied parent, and is called for neighbours alone. What it gives is to be a function
+/// neighbour's copied parent, and is called for neighbours alone. What it gives must be a function
 /// of the neighbour, as it is where it reads a field; the clause names that function.
 pub fn tree_neighbours<F: Fn(u16) -> Option<u16>>(
     parent: Option<u16>,

@@ -18,7 +18,7 @@ use Rattle.line_words.specs.Laws.{NumbersHaveOneSpelling, WordsMakeTheLine}
 use Rattle.events_text.specs.EventLine.{reads_payload, payload_of, send_of, take_of, lose_of, tick_of, ask_of, leave_of, own_of, counters_of, staged_of, copy_of, value_of, desk_of, frame_of, junk_of, empty_of, join_of, part_of, line_event, event_of, damage_of, harm_of}
 use Rattle.events_text.specs.EventLaws.{word_or_none, yes_or_no_word, payload_words, harm_words, event_words}
 
--- a word that was read is the spelling of what it says, and what it is read with goes on behind it
+-- a word that was read is the spelling of what it says, and what it is read with goes on after it
 module _ {X Y : Type 0} (read : Word → Option X) (spell : X → Word) (one : (w : Word) (x : X) → read w ≡ Some x → w ≡ spell x) where
   said : (others : X → List Word → Option Y) (P : List Word → Type 0) (y : Y) → ((x : X) (rest : List Word) → others x rest ≡ Some y → P (spell x ∷ rest))
       → (w : Word) (rest : List Word) (o : Option X) → read w ≡ o → option_and_then (λ x. others x rest) o ≡ Some y → P (w ∷ rest)

@@ -1,4 +1,4 @@
--- The usual lines in front of a text: what stands before the newline, and what it tells.
+-- The usual lines in front of a text: what stands before the newline, and what it means.
 use Rattle.std.proofs.Common.{◌≡◌, ℕ, ◌+◌, ◌-◌, ◌*◌, ◌/◌, ◌%◌, ◌<◌, ◌≤◌, ◌==◌, true, false, List, [], ◌∷◌, ◌++◌, length, take, drop, get_or, Some, refl, ap, sym, ◌∙◌, arith, codes, append_assoc}
 use Rattle.std.specs.Char.{is_ascii_digit}
 use Rattle.std.specs.Fmt.{decimal}
@@ -99,7 +99,7 @@ number-short n h = length-decimal-le 2 n (omega arith) (omega arith) (omega arit
 small : (n : ℕ) → n < 100 → is_small n ≡ true
 small n h = grind (arith, nat_tests)
 
--- a line that is short and no comment tells its event
+-- a line that is short and no comment means its event
 told_line : (x : ℕ) (xs : List ℕ) (e : Event) → (x == 35) ≡ false → length (x ∷ xs) ≤ 64 → line_event (x ∷ xs) ≡ Some e → text_line (x ∷ xs) ≡ Told e
 told_line x xs e other short event = grind (arith, nat_tests)
 

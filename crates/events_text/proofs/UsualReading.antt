@@ -1,4 +1,4 @@
--- A usual line in front of a piece is told as any other line is, and nothing of it is kept.
+-- A usual line in front of a piece is taken as any other line is, and nothing of it is kept.
 use Rattle.std.proofs.Common.{◌≡◌, ℕ, suc, ◌+◌, ◌-◌, List, [], ◌∷◌, ◌++◌, length, take, map, ap, sym, ◌∙◌, arith}
 use Rattle.std.proofs.lemmas.List.{length-append, map-append}
 use Rattle.std.proofs.Math.Seq.{take-append-add}

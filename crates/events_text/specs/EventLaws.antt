@@ -23,7 +23,7 @@ yes_or_no_word false = codes "no"
 abbrev pub payload_words : Payload → List Word
 payload_words p = decimal p.distance ∷ word_or_none p.parent ∷ decimal p.ring ∷ []
 
--- the words of a harm, behind `harm`
+-- the words of a harm, after `harm`
 abbrev pub harm_words : Harm → List Word
 harm_words (harm.Own v d p) = codes "own" ∷ decimal v ∷ decimal d ∷ word_or_none p ∷ []
 harm_words (harm.Counters v w seq last) = codes "counters" ∷ decimal v ∷ decimal w ∷ decimal seq ∷ decimal last ∷ []

@@ -20,7 +20,7 @@ abbrev pub reads_payload : {Y : Type 0} → (Payload → List Word → Option Y)
 reads_payload others words =
     option_and_then (λ payload. others payload (other_words (other_words (other_words words)))) (payload_of words)
 
--- the words behind `send`, `take`, `lose`, `tick`, `ask` and `leave`
+-- the words after `send`, `take`, `lose`, `tick`, `ask` and `leave`
 abbrev pub send_of : List Word → Option Event
 send_of = reads number (λ u. reads number (λ v. ends (Send u v)))
 
@@ -39,7 +39,7 @@ ask_of = reads number (λ v. reads number (λ t. ends (Ask v t)))
 abbrev pub leave_of : List Word → Option Event
 leave_of = reads number (λ v. reads number (λ t. ends (Leave v t)))
 
--- the words behind `harm own`, `harm counters`, and so on
+-- the words after `harm own`, `harm counters`, and so on
 abbrev pub own_of : List Word → Option Harm
 own_of = reads number (λ v. reads number (λ d. reads number_or_none (λ p. ends (harm.Own v d p))))
 
@@ -75,7 +75,7 @@ join_of = reads number (λ u. reads number (λ v. ends (harm.Join u v)))
 abbrev pub part_of : List Word → Option Harm
 part_of = reads number (λ u. reads number (λ v. ends (harm.Part u v)))
 
--- the harm that its kind and the words behind it name
+-- the harm that its kind and the words after it name
 abbrev pub harm_of : Word → List Word → Option Harm
 harm_of kind words =
     if bytes_eq kind (codes "own") then own_of words
@@ -91,11 +91,11 @@ harm_of kind words =
     else if bytes_eq kind (codes "part") then part_of words
     else None
 
--- the harm that the words behind `harm` name
+-- the harm that the words after `harm` name
 abbrev pub damage_of : List Word → Option Event
 damage_of words = option_map (λ h. Damage h) (option_and_then (λ kind. harm_of kind (other_words words)) (first_word words))
 
--- the event that a verb and the words behind it name
+-- the event that a verb and the words after it name
 abbrev pub event_of : Word → List Word → Option Event
 event_of verb words =
     if bytes_eq verb (codes "send") then send_of words

@@ -6,13 +6,13 @@ use Rattle.events_text.specs.declared.text_line.TextLine.{TextLine}
 use Rattle.events_text.specs.declared.text_line.TextLine.TheVariants.{Passed, Unread, Told}
 use Rattle.events_text.specs.EventLine.{line_event}
 
--- a line that spells an event tells it, and any other is unread
+-- a line that spells an event means it, and any other is unread
 abbrev pub told : Option Event → TextLine
 told (Some event) = Told event
 told None = Unread
 
 -- an empty line, and one that begins with `#`, is passed over; else a line of more than 64 bytes is
--- unread, and any other tells what it spells
+-- unread, and any other means what it spells
 abbrev pub text_line : List ℕ → TextLine
 text_line [] = Passed
 text_line (byte ∷ bytes) =

@@ -29,7 +29,7 @@ impl fmt::Display for EventLine {
     }
 }
 
-/// A harm, which prints as the words behind `harm`.
+/// A harm, which prints as the words after `harm`.
 #[derive(Clone, Copy)]
 struct HarmWords(Harm);
 
@@ -87,7 +87,7 @@ impl fmt::Display for HarmWords {
     }
 }
 
-/// An item that a harm puts on a link, which prints as the words behind `harm`.
+/// An item that a harm puts on a link, which prints as the words after `harm`.
 #[derive(Clone, Copy)]
 struct ItemWords {
     from: u16,

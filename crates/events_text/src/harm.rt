@@ -9,7 +9,7 @@ use line_words::Words;
 use link_model::{Frame, Item};
 use run_model::Harm;
 
-/// The harm that its kind and the words behind it name.
+/// The harm that its kind and the words after it name.
 pub fn harm(kind: &[u8], words: &mut Words) -> Option<Harm>
     ensures { result ≡ harm_of kind.now words.old }
 {

@@ -1,4 +1,4 @@
-//! Events as a text tells them, a line each.
+//! Events as a text spells them, a line each.
 //!
 //! A line is `send U V`, `take U V`, `lose U V I`, `tick V`, `ask V T`, `leave V T`, or one of the
 //! lines that begin with `harm` and write a part of the world, as a fault would. Words are parted

@@ -17,7 +17,7 @@ pub fn parse_line(line: &[u8]) -> Option<Event>
     event(verb, &mut words)
 }
 
-/// The event that a verb and the words behind it name.
+/// The event that a verb and the words after it name.
 fn event(verb: &[u8], words: &mut Words) -> Option<Event>
     ensures { result ≡ event_of verb.now words.old }
 {
@@ -40,7 +40,7 @@ fn event(verb: &[u8], words: &mut Words) -> Option<Event>
     }
 }
 
-/// The harm that the words behind `harm` name.
+/// The harm that the words after `harm` name.
 fn damage(words: &mut Words) -> Option<Event>
     ensures { result ≡ damage_of words.old }
 {

@@ -112,7 +112,7 @@ impl EventReader {
     }
 }
 
-/// What a line of an events text is. Of a long one the first byte tells whether it is a comment.
+/// What a line of an events text is. Of a long one the first byte shows whether it is a comment.
 struct TextLines;
 
 impl LineReading<LONGEST> for TextLines {

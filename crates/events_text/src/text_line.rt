@@ -15,7 +15,7 @@ pub enum TextLine {
     Passed,
     /// A line that spells no event.
     Unread,
-    /// A line that tells an event.
+    /// A line that spells an event.
     Told(Event),
 }
 

@@ -1,4 +1,4 @@
--- A text may be cut anywhere: its frames are those of the front, and then those of the back behind
+-- A text may be cut anywhere: its frames are those of the front, and then those of the back after
 -- the front's half line.
 use Rattle.std.proofs.Common.{◌≡◌, ℕ, List, [], ◌∷◌, ◌++◌, refl, ap, sym, ◌∙◌, append_assoc}
 use Rattle.std.proofs.lemmas.List.Elements.{filter_map-append}

@@ -1,4 +1,4 @@
--- The frames that a reader tells are those of the lines that it was told, and they are few enough
+-- The frames that a reader gives are those of the lines that it was given, and they are few enough
 -- for the room that is reserved.
 use Rattle.std.proofs.Common.{◌≡◌, ℕ, ◌+◌, ◌-◌, ◌*◌, ◌/◌, ◌≤◌, min, List, [], ◌∷◌, ◌++◌, length, take, drop, map, Option, None, Some, refl, ap, sym, ◌∙◌, arith, append_assoc, append-nil}
 use Rattle.std.proofs.lemmas.Grind.{common_steps}

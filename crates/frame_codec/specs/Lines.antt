@@ -1,4 +1,4 @@
--- The frames of a text's lines, and what a reader of them tells.
+-- The frames of a text's lines, and what a reader of them says.
 use Rattle.std.specs.Prelude.{◌≡◌, ℕ, List, [], ◌∷◌, ◌++◌}
 use Rattle.std.specs.List.{filter_map}
 use Rattle.topology.specs.declared.frame.Frame.{Frame}
@@ -30,7 +30,7 @@ ReadsOn r old new piece frames =
     → StandsAfter 21 (text ++ piece) new
     × (good_lines r (text ++ piece) ≡ good_lines r text ++ frames)
 
--- the frames of a stream that comes in pieces, each read behind the half line of those before
+-- the frames of a stream that comes in pieces, each read after the half line of those before
 abbrev pub frames_of_pieces : Ranges → List ℕ → List (List ℕ) → List Frame
 frames_of_pieces r half [] = []
 frames_of_pieces r half (piece ∷ pieces) =

@@ -8,7 +8,7 @@ pub fn one_reading()
     ensures { OneReading }
 {}
 
-/// In whatever pieces a stream comes, the frames that are read, each piece behind the half line of
+/// In whatever pieces a stream comes, the frames that are read, each piece after the half line of
 /// those before, are the good lines of the whole. Whoever reads from a pipe stands on it.
 pub fn any_cutting()
     ensures { AnyCutting }

@@ -14,7 +14,7 @@
 //! ```
 //!
 //! It is no checksum: noise that happens to spell a frame in range is read as one. A stream that
-//! begins anew, as after a lost connection, wants `drop_half`, or its first bytes join the half
+//! starts over, as after a lost connection, needs `drop_half`, or its first bytes join the half
 //! line of the old one.
 #![tactic(auto)]
 

@@ -42,7 +42,7 @@ impl LineReader {
     pub fn push(&mut self, byte: u8, net: &Net) -> Option<Frame>
         ensures frames { ReadsFrames (ranges_of net.now) self.old self.new (byte ∷ [])
             (option_to_list result) }
-        // The same, told of the whole stream from its first byte on.
+        // The same, said of the whole stream from its first byte on.
         ensures any_cutting { ReadsOn (ranges_of net.now) self.old self.new (byte ∷ [])
             (option_to_list result) }
     {
@@ -60,7 +60,7 @@ impl LineReader {
         // The frames are those of the good lines that end in the bytes read: one, or none.
         ensures frames { ReadsFrames (ranges_of net.now) self.old self.new (take result.0 piece.now)
             (option_to_list result.1) }
-        // The same, told of the whole stream from its first byte on.
+        // The same, said of the whole stream from its first byte on.
         ensures any_cutting { ReadsOn (ranges_of net.now) self.old self.new
             (take result.0 piece.now)
             (option_to_list result.1) }

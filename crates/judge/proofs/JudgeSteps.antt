@@ -111,7 +111,7 @@ names w (Ask v t) fits = refl
 names w (Leave v t) fits = refl
 names w (Damage h) fits = refl
 
--- behind it there are as many nodes
+-- after it there are as many nodes
 pub names-behind : Below → (now next : World) (e : Event) (did : Happened) → next ≡ step now e → did ≡ happened now e → refusal now e ≡ None
     → IsTrue (names_below next.net.nodes did)
 names-behind laws now next e did is_next is fits =
@@ -144,7 +144,7 @@ placed w (Damage h) table all fits = refl
 pub undamaged-one : (w : World) (e : Event) → is_damage w e ≡ false → IsUndamaged w (e ∷ [])
 undamaged-one w e none = rw none refl
 
--- room for a network is room for it behind an event without damage, whose take or loss was noted
+-- room for a network is room for it after an event without damage, whose take or loss was noted
 pub room-behind : Below → (now next : World) (e : Event) (did : Happened) (s before new : StretchView) → next ≡ step now e → is_damage now e ≡ false
     → before ≡ cleared s → IsRoomFor now.net s → new.tallies.table ≡ before.tallies.table
     → ((u v : ℕ) → v < before.tallies.table.nodes → tally_of new.tallies u v ≡ tally_behind u v did (tally_of before.tallies u v)) → IsRoomFor next.net new

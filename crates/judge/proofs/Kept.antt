@@ -1,4 +1,4 @@
--- What is kept of a stretch tells when it is a sweep, and goes on with each event.
+-- What is kept of a stretch says when it is a sweep, and goes on with each event.
 use Rattle.std.proofs.Common.{◌≡◌, ◌∙◌, sym, ap, subst, ℕ, ◌<◌, ◌≤◌, ◌⊎◌, inl, inr, Bool, true, false, not, ◌&&◌, ◌||◌, nat_lt, ◌==◌, suc, if◌then◌else◌, is_none, IsTrue, is_some, List, [], ◌∷◌, ◌++◌, length, arith, refl}
 use Rattle.std.proofs.lemmas.Grind.{common_steps}
 use Rattle.topology.specs.Network.{are_joined}

@@ -144,7 +144,7 @@ module _ (laws : Below) (start : World) (es : List Event) (e : Event) (now next 
   as-many_next : (step now e).net.nodes ≡ start.net.nodes
   as-many_next = ap (λ w. (step w e).net.nodes) led ∙ ap (λ w. w.net.nodes) (sym (laws.joins start es (e ∷ []))) ∙ (laws.frame start (es ++ e ∷ [])).nodes
 
-  -- damage begins anew with who is privileged right after it
+  -- damage starts over with who is privileged right after it
   pub visited-damage : (fresh : ℕ) → is_damage now e ≡ true
       → ((v : ℕ) → has_bit fresh v ≡ (nat_lt v next.net.nodes && is_privileged next v)) → AreVisited start (es ++ e ∷ []) fresh
   visited-damage fresh damage bits v =

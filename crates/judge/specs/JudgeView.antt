@@ -53,7 +53,7 @@ abbrev pub AreVisitedSeen : JudgeView → ℕ → Type 0
 AreVisitedSeen j mask = (start : World) (es : List Event) → HasSeen j start es → AreVisited start es mask
 
 -- Whatever the judge has seen, since the last damage there were sweeps, each ended at the first
--- event at which it was one, and behind them a stretch that is none yet; and this holds of the
+-- event at which it was one, and after them a stretch that is none yet; and this holds of the
 -- world at which that stretch began, and of its events.
 abbrev pub HoldsOfStretch : JudgeView → (World → List Event → Type 0) → Type 0
 HoldsOfStretch j Fact = (start : World) (es : List Event) → HasSeen j start es → (done stretch : List Event) × (count : ℕ) × ((after_damage start es).rest ≡ done ++ stretch) × IsCounted (after_damage start es).world done stretch count × Fact (run (after_damage start es).world done) stretch

@@ -18,7 +18,7 @@ abbrev pub counted_up_to : ℕ → ℕ
 counted_up_to n = min n (2 ^ 64 - 1)
 
 -- The events of a list have led from the start to the world `now`. Since the last damage the judge
--- has seen `count` sweeps, each ended at the first event at which it was one, and behind them a
+-- has seen `count` sweeps, each ended at the first event at which it was one, and after them a
 -- stretch that is none yet, of which it keeps what there is to keep.
 pub record IsJudging (start : World) (es : List Event) (now : World) (s : StretchView) (sweeps refused : ℕ) : Type 0 where
   pub in_range : IsWorldInRange start

@@ -70,7 +70,7 @@ fn begin<A: Allocator + Copy>(configuration: &Configuration<A>, stretch: &mut St
 /// A configuration, how many sweeps and refused events have led to it, and which nodes the
 /// privilege has visited on the way.
 ///
-/// A sweep is counted at the first event at which it is one. Damage begins the count anew, and the
+/// A sweep is counted at the first event at which it is one. Damage starts the count again, and the
 /// nodes visited.
 #[derive(Drop)]
 pub struct Judge<A: Allocator + Copy = Global> {
@@ -172,7 +172,7 @@ impl<A: Allocator + Copy> Judge<A> {
     /// greatest value.
     pub fn sweeps(&self) -> u64
         ensures count { result ≡ self.now.sweeps }
-        // Whatever it has seen, that many sweeps and no more stand behind the last damage.
+        // Whatever it has seen, that many sweeps and no more stand after the last damage.
         ensures sweeps { AreSweepsSeen self.now result }
     {
         below();
@@ -198,7 +198,7 @@ impl<A: Allocator + Copy> Judge<A> {
         self.visited
     }
 
-    /// The nodes that have made no full tick in the unfinished stretch, the one behind the last
+    /// The nodes that have made no full tick in the unfinished stretch, the one after the last
     /// sweep: bit v stands for node v.
     pub fn lacking(&self) -> u64
         ensures mask { result ≡ self.now.stretch.lacking }

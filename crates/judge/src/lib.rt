@@ -25,7 +25,7 @@
 //! let world = World::from_parts(Parts { nodes, links, room });
 //! ```
 //!
-//! The trap: the parts are to be one world's, each node at the place of its id.
+//! The trap: the parts must be one world's, each node at the place of its id.
 #![tactic(auto)]
 
 mod judge;

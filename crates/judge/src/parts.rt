@@ -35,7 +35,7 @@ impl<A: Allocator + Copy> World<A> {
         Parts { nodes, links, room }
     }
 
-    /// The world that has these parts, which are to be one world's: each node at the place of its
+    /// The world that has these parts, which must be one world's: each node at the place of its
     /// id. No memory is taken.
     pub fn from_parts(parts: Parts<A>) -> World<A>
         requires { AreOneWorlds parts.nodes.items parts.links parts.room }

@@ -122,7 +122,7 @@ impl<A: Allocator> Stretch<A> {
         }
     }
 
-    /// Begins anew: every node lacks a full tick. The tally of each link is then to be begun.
+    /// Starts over: every node lacks a full tick. The tally of each link is then to be begun.
     pub(crate) fn begin(&mut self)
         requires some { 0 < self.old.tallies.table.nodes }
         requires few { self.old.tallies.table.nodes ≤ 64 }
@@ -146,7 +146,7 @@ impl<A: Allocator> Stretch<A> {
         self.tallies.lay(net);
     }
 
-    /// Begins the tally of a link anew.
+    /// Starts the tally of a link again.
     pub(crate) fn begin_link(&mut self, from: u16, to: u16, tally: Tally)
         requires from_in { from < self.old.tallies.table.nodes }
         requires to_in { to < self.old.tallies.table.nodes }

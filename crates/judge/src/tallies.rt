@@ -81,7 +81,7 @@ fn forget<A: Allocator>(tallies: &mut Vec<Tally, A>)
 fn lay_all<A: Allocator, N: Allocator + Copy>(table: &mut PairTable<A>, net: &Net<N>)
     requires { table.old.nodes ≡ net.now.nodes }
     ensures network { IsAcceptedNetwork net.now }
-    // Each link has a place of its own, behind the first.
+    // Each link has a place of its own, after the first.
     ensures laid { IsLaid net.now.nodes (are_joined net.now.edges) table.new
         (2 * length net.now.edges + 1) }
 {
@@ -99,7 +99,7 @@ fn lay_all<A: Allocator, N: Allocator + Copy>(table: &mut PairTable<A>, net: &Ne
 /// How many tallies there are: one each way for as many edges as a network may have, and the first.
 const MOST_TALLIES: usize = 513;
 
-/// The tallies of all links of a network: one each way for each edge, close together, behind one
+/// The tallies of all links of a network: one each way for each edge, close together, after one
 /// that stands for every two nodes that no edge joins. `get` and `set` are the only ways to one, and
 /// each of them counts.
 #[derive(Drop)]
@@ -127,7 +127,7 @@ impl<A: Allocator + Copy> Tallies<A> {
         // Each link has a tally of its own.
         ensures placed { IfOk result (λ t. (u v : ℕ) → IsTrue (are_joined net.now.edges u v)
             → IsTrue (has_place t.table u v)) }
-        // Nothing is to be renewed, on a link or elsewhere.
+        // Nothing has to be renewed, on a link or elsewhere.
         ensures empty { IfOk result (λ t. (u v : ℕ) → tally_of t u v ≡ no_tally) }
         ensures looked { IfOk result (λ t. t.looked ≡ 0) }
     {
@@ -209,7 +209,7 @@ impl<A: Allocator> Tallies<A> {
         self.unrenewed == 0
     }
 
-    /// Lays the tallies anew for the edges of a network, none of them to be renewed: one that has
+    /// Lays the tallies again for the edges of a network, none of them to be renewed: one that has
     /// joined has its own, and no tally of one that is gone is left. No memory is taken.
     pub fn lay<N: Allocator + Copy>(&mut self, net: &Net<N>)
         requires { self.old.table.nodes ≡ net.now.nodes }
@@ -217,7 +217,7 @@ impl<A: Allocator> Tallies<A> {
         // Each link of the network has a tally of its own.
         ensures placed { (u v : ℕ) → IsTrue (are_joined net.now.edges u v)
             → IsTrue (has_place self.new.table u v) }
-        // Nothing is to be renewed, on a link or elsewhere.
+        // Nothing has to be renewed, on a link or elsewhere.
         ensures empty { (u v : ℕ) → tally_of self.new u v ≡ no_tally }
     {
         topology::laws::joined();

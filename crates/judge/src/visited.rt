@@ -51,7 +51,7 @@ fn visit<A: Allocator + Copy>(configuration: &Configuration<A>, mask: u64, node:
     }
 }
 
-/// The nodes visited, behind what happened, where that is no damage. It looks at the one node that
+/// The nodes visited, after what happened, where that is no damage. It looks at the one node that
 /// ticked or took, if there is one, since the machines and copies of no other have changed.
 #[inline(always)]
 pub fn visited_behind<A: Allocator + Copy>(

@@ -139,7 +139,7 @@ impl<A: Allocator + Copy> World<A> {
     pub fn step(&mut self, event: &Event) -> Result<(), EventFault>
         // The world is that of the model's step; one that is refused changes nothing there.
         ensures world { world_of self.new ≡ step (world_of self.old) event.now }
-        // It is accepted where the model refuses nothing, and else the first refusal is told.
+        // It is accepted where the model refuses nothing, and else the first refusal is reported.
         ensures ok { OnOk result (refusal (world_of self.old) event.now ≡ None) }
         ensures err { IfErr result (λ fault. refusal (world_of self.old) event.now ≡ Some fault) }
     {

@@ -82,7 +82,7 @@ ages-stay q start (Change_first {n = n} {ys = ys} c r) h l =
 
 -- ---- the head's age stands in front
 
--- behind an item that is older than the head no item has the head's value
+-- after an item that is older than the head no item has the head's value
 none-newer : (q start x older : ℕ) (xs : List ℕ) → older < age q start x → AgesFall q start older xs → AllByRecursion (λ y. y ≢ x) xs
 none-newer q start x older [] l h = tt
 none-newer q start x older (y ∷ ys) l h =

@@ -10,7 +10,7 @@ use Rattle.k_state.proofs.Histories.{until-first}
 use Rattle.k_state.proofs.MissingValue.{steps_apart}
 use Rattle.k_state.proofs.Steps.{step-apart}
 
--- the first b items are a, and all behind them one less
+-- the first b items are a, and all after them one less
 abbrev pub IsBoundary : ℕ → ℕ → ℕ → List ℕ → Type 0
 IsBoundary q a zero xs = AllByRecursion (λ x. root_moved x q ≡ a) xs
 IsBoundary q a (suc b) [] = ⊥
@@ -60,7 +60,7 @@ module _ (q : ℕ) (l : 1 < q) where
     | inr ne ↦ elim (cases_lt x y) [ inl lt ↦ absurd (below-another x y lt h (e ∙ sym i)) | inr le ↦ absurd (below-another y x (omega arith) k (i ∙ sym e)) ]
   ]
 
-  -- behind items that are one less than a, none sees another
+  -- after items that are one less than a, none sees another
   none-behind : (a left : ℕ) (xs : List ℕ) (i : ℕ) → IsRing q (left ∷ xs) → root_moved left q ≡ a → AllByRecursion (λ x. root_moved x q ≡ a) xs → sees_another left xs i ≡ true → ⊥
   none-behind a left [] i r e h t = absurd cc
   none-behind a left (x ∷ xs) zero r e h t = let s : x ≡ left = one-less a x left r.1.1.0 r.1.0 h.0 e in grind arith
@@ -106,7 +106,7 @@ module _ (q : ℕ) (l : 1 < q) where
       let v' = one-behind x x w.0 xs j r refl w.2.1 u in
       ap suc (v.0 ∙ sym v'.0)
 
-  -- the item at the boundary is privileged; where there is none behind it, the head is
+  -- the item at the boundary is privileged; where there is none after it, the head is
   seen-at : (a left b : ℕ) (xs : List ℕ) → a < q → left ≡ a → IsBoundary q a b xs → b < length xs → sees_another left xs b ≡ true
   seen-at a left b [] k e h s = absurd (omega arith)
   seen-at a left zero (x ∷ xs) k e h s = other x left (differs a left x k e h.0)

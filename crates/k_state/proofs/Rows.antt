@@ -97,7 +97,7 @@ copied_all_and_moved = half_round 1 0 refl
 not_falling_with_two_values : HasFallingAges 2 0 (1 ∷ 0 ∷ 1 ∷ 0 ∷ []) → ⊥
 not_falling_with_two_values h = grind arith
 
--- in a good ring the item behind the boundary alone is privileged, and the head where there is none
+-- in a good ring the item after the boundary alone is privileged, and the head where there is none
 privileged_at_boundary : map (is_privileged_at (2 ∷ 2 ∷ 1 ∷ 1 ∷ [])) (0 ∷ 1 ∷ 2 ∷ 3 ∷ []) ≡ false ∷ false ∷ true ∷ false ∷ []
 privileged_at_boundary = refl
 

@@ -42,7 +42,7 @@ pub data Run (q : ℕ) : ℕ → List ℕ → List ℕ → Type 0 where
   Move_first : {n : ℕ} {xs ys zs : List ℕ} → HeadMove q xs ys → Run q n ys zs → Run q (suc n) xs zs
   Change_first : {n : ℕ} {xs ys zs : List ℕ} → Change xs ys → Run q n ys zs → Run q n xs zs
 
--- a parallel step of what stands behind `left`: each item keeps its value or takes that of its left
+-- a parallel step of what stands after `left`: each item keeps its value or takes that of its left
 -- neighbour, all at once
 abbrev pub IsParallel : ℕ → List ℕ → List ℕ → Type 0
 IsParallel left [] [] = Unit {0}
@@ -108,7 +108,7 @@ pub data Turn (q : ℕ) : ℕ → List ℕ → List ℕ → Type 0 where
   Goes_on : {x : ℕ} {xs : List ℕ} → last_of x xs ≡ x
       → Turn q (suc zero) (x ∷ xs) (root_moved x q ∷ xs)
 
--- the item at place i behind `left` sees another value before it
+-- the item at place i after `left` sees another value before it
 abbrev pub sees_another : ℕ → List ℕ → ℕ → Bool
 sees_another left [] i = false
 sees_another left (x ∷ xs) zero = is_privileged false x left

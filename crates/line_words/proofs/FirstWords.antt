@@ -19,7 +19,7 @@ others-onto : (x : ℕ) (ws : List Word) → other_words (onto_first x ws) ≡ o
 others-onto x [] = refl
 others-onto x (w ∷ ws) = refl
 
--- the other words are those behind the space, or none
+-- the other words are those after the space, or none
 pub other-words : (line : List ℕ) → word_len line < length line → other_words (words line) ≡ words (drop (suc (word_len line)) line)
 other-words [] h = absurd (omega arith)
 other-words (x ∷ line) h = grind (arith, nat_tests, others-onto x (words line), other-words line)
@@ -31,7 +31,7 @@ no-words (x ∷ line) e = grind (arith, common_steps, nat_tests, no-words line)
 to-the-end : (line : List ℕ) (i : ℕ) → slice_range line i (length line) ≡ drop i line
 to-the-end line i = grind (arith, common_steps)
 
--- what is left behind a first word of this length, as `get` gives it
+-- what is left after a first word of this length, as `get` gives it
 pub behind-first : (line : List ℕ) (k : ℕ) (r : Option (Bor (List ℕ))) → k ≡ word_len line → k ≤ length line
     → PartBy (λ (x : Bor (List ℕ)). x.now) line (k + 1) (length line) r
     → option_map_or (λ rest. words rest.now) r [] ≡ other_words (words line)

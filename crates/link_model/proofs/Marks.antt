@@ -1,11 +1,11 @@
 -- A list whose items have their origins beside them: what is sent inside the stretch has P, and so
--- has all behind it
+-- has all after it
 use Rattle.std.proofs.Common.{◌≡◌, ℕ, ◌||◌, nat_lt, zero, suc, List, [], ◌∷◌, ◌++◌, length, drop, remove, map, Bool, true, false, cond, refl, ap, arith, length-append}
 use Rattle.std.specs.List.{AllByRecursion}
 use Rattle.link_model.specs.Acts.{put_last, LinkAct, Puts, Takes, Loses, Rests, list_after, Origin, Before, Sent, takes_sent}
 use Rattle.link_model.proofs.Lists.{All-push, All-remove}
 
--- the first item that was sent inside the stretch has P, and so has each behind it
+-- the first item that was sent inside the stretch has P, and so has each after it
 abbrev pub IsMarked : {X : Type 0} → (X → Type 0) → List Origin → List X → Type 0
 IsMarked P [] [] = Unit {0}
 IsMarked P [] (x ∷ xs) = ⊥
@@ -78,7 +78,7 @@ marked-after P capacity i x Takes os xs p m = marked-rest P os xs m
 marked-after P capacity i x (Loses j) os xs p m = marked-remove P os xs j m
 marked-after P capacity i x Rests os xs p m = m
 
--- an item with P is the oldest, and all behind it have P
+-- an item with P is the oldest, and all after it have P
 abbrev pub IsFirstGood : {X : Type 0} → (X → Type 0) → List X → Type 0
 IsFirstGood P [] = ⊥
 IsFirstGood P (x ∷ xs) = P x × AllByRecursion P xs

@@ -72,7 +72,7 @@ asks-last : asked 3 (queue (1 ∷ 2 ∷ [])) ≡ queue (1 ∷ 2 ∷ 3 ∷ [])
 unfolding queue
 asks-last = refl
 
--- a waiter leaves the list, a borrower ends its loan, a stranger is told so
+-- a waiter leaves the list, a borrower ends its loan, a stranger is refused
 leaves-waiter : after_leave 2 (loan 0 (1 ∷ 2 ∷ 3 ∷ [])) ≡ loan 0 (1 ∷ 3 ∷ [])
 unfolding loan
 leaves-waiter = refl

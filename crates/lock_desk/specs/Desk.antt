@@ -75,7 +75,7 @@ ask_fault t d =
     else if waits d t || borrows d t then Some Twice
     else None
 
--- a ticket that asked waits behind all others
+-- a ticket that asked waits after all others
 abbrev pub asked : ℕ → DeskState → DeskState
 asked t d = record d { waiting = d.waiting ++ t ∷ [] }
 

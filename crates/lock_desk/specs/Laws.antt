@@ -12,7 +12,7 @@ LoansNeedPrivilege =
     (lease : ℕ) (privileged : Bool) (d : DeskState) → lends (desk_ticked lease privileged d) ≡ true
     → privileged ≡ true
 
--- asking begins no loan, and leaving begins none: a desk that lends behind it lent before
+-- asking begins no loan, and leaving begins none: a desk that lends after it lent before
 abbrev pub OnlyTicksLend : Type 0
 OnlyTicksLend =
     (t : ℕ) (d : DeskState)

@@ -111,11 +111,11 @@ impl<A: Allocator> Desk<A> {
         self.waiting.contains(&ticket)
     }
 
-    /// Puts the ticket behind all others that wait. Refused as `Full` where 64 tickets wait,
+    /// Puts the ticket after all others that wait. Refused as `Full` where 64 tickets wait,
     /// whichever they are, and else as `Twice` where this one waits or the lock is lent to it; then
     /// nothing has changed.
     pub fn ask(&mut self, ticket: u16) -> Result<(), AskFault>
-        // It is accepted exactly where nothing forbids it; else the first fault is told.
+        // It is accepted exactly where nothing forbids it; else the first fault is reported.
         ensures accepted { OnOk result (ask_fault ticket self.old.state ≡ None) }
         ensures asked { OnOk result (self.new
             ≡ record self.old { state = asked ticket self.old.state }) }
@@ -201,7 +201,7 @@ impl<A: Allocator> Desk<A> {
         }
     }
 
-    /// Lends the lock to the first who waits, if it is to be lent.
+    /// Lends the lock to the first who waits, if a loan is due.
     fn begin_loan(&mut self, privileged: bool)
         ensures { self.new
             ≡ record self.old { state = loan_begun privileged self.old.lease self.old.state } }

@@ -9,8 +9,8 @@
 //! That one node alone is privileged is what the network sees to. Nor does a ticket prove anything
 //! to others: there are no fencing numbers.
 //!
-//! The trap: a loan does not outlast the first tick without privilege, so `tick` is to be told the
-//! privilege of that very moment, and a `Lost` is to be handed on to the client. After a loan the
+//! The trap: a loan does not outlast the first tick without privilege, so `tick` must be given the
+//! privilege of that very moment, and a `Lost` must be handed on to the client. After a loan the
 //! desk lends to nobody until a tick has ended with no loan, also where others wait: that tick lets
 //! the token pass.
 //!

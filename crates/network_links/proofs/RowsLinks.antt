@@ -45,7 +45,7 @@ one-pair_spare = refl
 spare-there : IsSpare two_nodes links.links 3
 spare-there = record { there = omega arith; empty = refl }
 
--- a place on which an item is under way is not spare, nor is one behind the last
+-- a place on which an item is under way is not spare, nor is one after the last
 not-spare : IsSpare two_nodes links.links 1 → ⊥
 not-spare s = let items : ◌≡◌ {A = List Item} (Noise ∷ []) [] = ap (λ (l : LinkView). l.items) s.empty in absurd cc
 

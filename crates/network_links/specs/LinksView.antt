@@ -9,7 +9,7 @@ use Rattle.run_model.specs.World.{item_fits}
 use Rattle.network_links.specs.PairTable.{PairTableView, value_at}
 use Rattle.network_links.specs.Placed.{ArePlaced}
 
--- the network; the links, one behind the other; for each two nodes the place of the link between
+-- the network; the links, one after the other; for each two nodes the place of the link between
 -- them; and the places of the spare links
 pub record LinksView : Type 0 where
   pub net : Network
@@ -29,7 +29,7 @@ under_way l u v = if nat_lt u l.net.nodes && nat_lt v l.net.nodes then (link_bet
 abbrev pub spare_pairs : LinksView → ℕ
 spare_pairs l = length l.spares / 2
 
--- Joined nodes have links of their own, and what is under way on them is in range. Behind the first
+-- Joined nodes have links of their own, and what is under way on them is in range. After the first
 -- link there are two for each edge, and those that are spare.
 pub record IsLinks (l : LinksView) : Type 0 where
   pub network : IsAcceptedNetwork l.net

@@ -29,7 +29,7 @@ pub record ArePlaced (net : Network) (is_joined : ℕ → ℕ → Bool) (places 
   pub free : (k u v : ℕ) → k < length spares → u < net.nodes → v < net.nodes → value_at places u v ≢ slice_index_or spares k 0
   pub distinct : (j k : ℕ) → j < length spares → k < length spares → slice_index_or spares j 0 ≡ slice_index_or spares k 0 → j ≡ k
 
--- `count` links are made, behind the first, and all of them are spare
+-- `count` links are made, after the first, and all of them are spare
 pub record AreStocked (capacity count : ℕ) (links : List LinkView) (spares : List ℕ) : Type 0 where
   pub all_links : length links ≡ count + 1
   pub all_spares : length spares ≡ count

@@ -21,7 +21,7 @@ use std::alloc::{AllocError, Allocator, Global};
 use std::marker::Model;
 use topology::{Net, NetFault};
 
-/// The links of a network: one each way for each edge, close together, behind one without places
+/// The links of a network: one each way for each edge, close together, after one without places
 /// that stands for every two nodes that no edge joins. Beside them there are spare pairs of links,
 /// each for one edge more.
 #[derive(Drop)]
@@ -62,7 +62,7 @@ fn link_count<A: Allocator + Copy>(net: &Net<A>, pairs: u16) -> u16
     2 * (net.edges().len() as u16 + pairs)
 }
 
-/// Empty links, behind one without places, and their places: each of them is spare. There is room
+/// Empty links, after one without places, and their places: each of them is spare. There is room
 /// for the places of all.
 fn stock<A: Allocator + Copy>(
     alloc: A,

@@ -90,7 +90,7 @@ lending_stays = refl
 lending_lends : (ticked near (asked_for (root_with 3 3))).desk.lent ≡ Some 9
 lending_lends = refl
 
--- distance and parent are made anew in a tick: a child that believed in the distance 2 and no
+-- distance and parent are made again in a tick: a child that believed in the distance 2 and no
 -- parent
 child_finds_its_way : (ticked far (record (child_with 0 0) { distance = 2; parent = None })).distance ≡ 1
 child_finds_its_way = refl

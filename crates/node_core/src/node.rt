@@ -244,7 +244,7 @@ impl<A: Allocator> Node<A> {
     /// A client's ticket asks for the lock. Refused as `Full` where 64 tickets wait, and else as
     /// `Twice` where this one waits or the lock is lent to it; then nothing has changed.
     pub fn ask(&mut self, ticket: u16) -> Result<(), AskFault>
-        // It is accepted exactly where nothing forbids it; else the first fault is told.
+        // It is accepted exactly where nothing forbids it; else the first fault is reported.
         ensures accepted { OnOk result (ask_fault ticket (state_of self.old).desk ≡ None) }
         ensures asked { OnOk result (state_of self.new
             ≡ record (state_of self.old) { desk = asked ticket (state_of self.old).desk }) }
@@ -499,7 +499,7 @@ impl<A: Allocator> Node<A> {
         ensures site { site_in self.new ≡ site_in self.old }
         // What became of the loan, as it is seen from the desk before and after the tick.
         ensures act { result.act ≡ desk_act (state_of self.old).desk (state_of self.new).desk }
-        // The tick is a full one exactly where the node lends to nobody behind it.
+        // The tick is a full one exactly where the node lends to nobody after it.
         ensures full { result.full ≡ is_none (state_of self.new).desk.lent }
     {
         self.recompute();
@@ -511,7 +511,7 @@ impl<A: Allocator> Node<A> {
     /// L waiting W`: T is `yes` where the node is privileged and else `no`, P and L may be `none`.
     pub fn status(&self, line: &mut [u8; 96]) -> usize
         ensures text { take result line.new ≡ status_line (site_in self.now) (state_of self.now) }
-        // Behind the line nothing is written.
+        // After the line nothing is written.
         ensures rest { drop result line.new ≡ drop result line.old }
         ensures within { result ≤ 96 }
     {

@@ -26,7 +26,7 @@ read_at (x ∷ xs) rest zero below small = big_number-reads_back 2 x (bytes_of x
 read_at (x ∷ xs) rest (suc k) below small =
     ap (λ m. number_at (bytes_of (x ∷ xs) ++ rest) m) {x = 2 * suc k} {y = suc (suc (2 * k))} (omega arith) ∙ read_at xs rest k (omega arith) small.1
 
--- a parent is told from none
+-- a parent differs from none
 pub parent_again : (nodes : ℕ) (p : Option ℕ) → nodes ≤ 64 → IsTrue (parent_fits nodes p) → parent_of (parent_number p) ≡ p
 parent_again nodes None most fits = refl
 parent_again nodes (Some q) most fits = grind (arith, nat_tests, most, fits)
@@ -39,7 +39,7 @@ parent_small nodes (Some q) most fits = grind (arith, nat_tests, most, fits)
 abbrev pub saved : LocalState → ℕ → SavedPort
 saved s w = let p = s.port w in record { neighbour = w; seq = p.seq; last = p.last; staged = p.staged; copy = p.copy; value = s.value w }
 
--- the numbers of a port are of two bytes, and its parents are told from none
+-- the numbers of a port are of two bytes, and its parents differ from none
 pub record IsPlain (s : LocalState) (w : ℕ) : Type 0 where
   pub small : AllByRecursion IsSmall (port_numbers s w)
   pub staged : parent_of (parent_number (s.port w).staged.parent) ≡ (s.port w).staged.parent

@@ -10,13 +10,13 @@ use Rattle.node_state_file.specs.declared.starting.StartFault.TheVariants.{File,
 use Rattle.node_state_file.specs.declared.store.StoreFault.{StoreFault}
 use Rattle.node_state_file.specs.declared.store.StoreFault.TheVariants as store
 
--- nothing is stored, or the store does not tell
+-- nothing is stored, or the store does not say
 abbrev pub MayBeAbsent : Option (Option (List ℕ)) → Type 0
 MayBeAbsent None = ⊤
 MayBeAbsent (Some None) = ⊤
 MayBeAbsent (Some (Some bytes)) = ⊥
 
--- these are the first 1277 bytes that are stored; nothing is said of a store that does not tell
+-- these are the first 1277 bytes that are stored; nothing is said of a store that does not say
 abbrev pub AreStored : List ℕ → Option (Option (List ℕ)) → Type 0
 AreStored given None = ⊤
 AreStored given (Some None) = ⊥

@@ -20,7 +20,7 @@ pub enum FileFault {
     /// A field is not in its range.
     #[error("Range")]
     Range,
-    /// There are bytes behind the last port.
+    /// There are bytes after the last port.
     #[error("Long")]
     Long,
     /// Memory ran out.

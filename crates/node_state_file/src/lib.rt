@@ -5,10 +5,10 @@
 //! none), and for each neighbour, ascending, its id, the port's number, the last number accepted,
 //! the payloads staged and copied, and the machine's value. The desk is not kept: a lock that was
 //! lent is forgotten. [`decode`] reads those bytes, and the older `TKT1`, which has no capacity;
-//! whatever else stands there is told by a [`FileFault`].
+//! whatever else stands there is reported by a [`FileFault`].
 //!
 //! [`start`] gives a node at its start: the state that a [`Store`] holds, or the default state and
-//! what stood in the way. A program puts a [`FileStore`] behind it, a test a [`MemoryStore`] or a
+//! what stood in the way. A program puts a [`FileStore`] after it, a test a [`MemoryStore`] or a
 //! [`FusedStore`], which fails once.
 //!
 //! ```
@@ -22,7 +22,7 @@
 //! possible start, from which the network recovers.
 //!
 //! The trap: a file that is accepted may be of another day. Its ports to nodes that are no
-//! neighbours any more are dropped, and nothing tells that it is old.
+//! neighbours any more are dropped, and nothing shows that it is old.
 #![tactic(auto)]
 
 mod fault;

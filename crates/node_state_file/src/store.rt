@@ -17,7 +17,7 @@ pub enum StoreFault {
 
 /// Keeps the bytes of one state.
 pub trait Store {
-    /// What is stored, if anything is; none of both where the store does not tell.
+    /// What is stored, if anything is; none of both where the store does not say.
     ghost stored: { Self → Option (Option (List ℕ)) };
 
     /// How often it has failed; the count may stay at 2^64 - 1.

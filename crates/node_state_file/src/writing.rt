@@ -20,7 +20,7 @@ use topology::Net;
 type Numbers = ArrayVec<u16, 636>;
 
 /// Writes the state of a node to the front of `bytes`, and answers how many bytes it has: 16, and
-/// 20 for each neighbour. The rest of `bytes` stays as it was. The node is to be one of the
+/// 20 for each neighbour. The rest of `bytes` stays as it was. The node must be one of the
 /// network's. The desk is not written.
 pub fn encode<A: Allocator, N: Allocator + Copy>(
     node: &NodeState<A>,

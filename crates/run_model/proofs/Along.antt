@@ -18,8 +18,8 @@ undamaged-front w e es u = or_parts (is_damage w e) (has_damage (step w e) es) u
 pub undamaged-one : (w : World) (e : Event) → is_damage w e ≡ false → IsUndamaged w (e ∷ [])
 undamaged-one w e d = or_from (is_damage w e) false d refl
 
--- What is known along a run: it holds of a world and the events to come, tells something of the
--- next event, and holds behind that event too.
+-- What is known along a run: it holds of a world and the events to come, says something of the
+-- next event, and holds after that event too.
 pub record Course : Type 1 where
   pub holds : World → List Event → Type 0
   pub tells : World → Event → Type 0

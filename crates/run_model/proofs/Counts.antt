@@ -52,7 +52,7 @@ two-beginnings (x ∷ a) b (y ∷ c) d e = elim (two-beginnings a b c d cc) [
   | Shorter z mid f g ↦ let same : x ≡ y = cc in Shorter z mid (ap (λ z. z ∷ a) same ∙ ap (λ l. y ∷ l) f) g
 ]
 
--- the rest behind the earliest sweep holds all the other sweeps
+-- the rest after the earliest sweep holds all the other sweeps
 pub earliest-best : (w : World) (r : ℕ) (first rest : List Event) → AreEdges w.net → IsUndamaged w (first ++ rest) → IsEarliest w first
     → Sweeps w (suc r) (first ++ rest) → Sweeps (run w first) r rest
 earliest-best w r first rest edges fine earliest (other, behind, e, sweep, s) = elim (two-beginnings first rest other behind e) [

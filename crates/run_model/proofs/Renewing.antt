@@ -1,5 +1,5 @@
 -- Longer stretches: what a part of a stretch hands over, the whole hands over, and so a sweep stays
--- one where events are added before or behind it.
+-- one where events are added before or after it.
 use Rattle.std.proofs.Common.{◌≡◌, ℕ, ◌<◌, suc, List, [], ◌∷◌, ◌++◌, true, IsTrue, length, map, refl, sym, ap, subst, arith}
 use Rattle.std.proofs.lemmas.Bool.{or_left, or_right, or_parts}
 use Rattle.std.proofs.lemmas.List.{map-append}
@@ -65,7 +65,7 @@ hands-early capacity i (act ∷ xs) ys origins h =
     (λ now. or_left (takes_sent act origins) rest now)
     (λ not_now then. or_right (takes_sent act origins) rest (hands-early capacity (suc i) xs ys later then))
 
--- the marks of a stretch may begin anew wherever there are as many items
+-- the marks of a stretch may start over wherever there are as many items
 fresh-marks : (xs : List Item) (origins : List Origin) → length origins ≡ length xs → map (λ item. Before) xs ≡ map (λ origin. Before) origins
 fresh-marks [] [] e = refl
 fresh-marks [] (o ∷ os) e = absurd (omega (arith, e))
@@ -127,7 +127,7 @@ sweep-late w xs ys edges fine sweep =
           (sweep.renewed u v (subst (λ net. IsTrue (are_joined net.edges u v)) same joined));
     }
 
--- more events before or behind a sweep leave it a sweep
+-- more events before or after a sweep leave it a sweep
 pub sweep-grows : (w : World) (front es back : List Event) → AreEdges w.net → IsUndamaged w (front ++ es ++ back) → IsSweep (run w front) es
     → IsSweep w (front ++ es ++ back)
 sweep-grows w front es back edges fine sweep =

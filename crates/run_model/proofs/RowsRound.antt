@@ -55,7 +55,7 @@ one-visited = refl
 both-visited : is_visited (after 4) (rounds 2) 1 ≡ true
 both-visited = refl
 
--- Damage begins anew, with the nodes that are privileged right after it: an emptied link takes the
+-- Damage starts over, with the nodes that are privileged right after it: an emptied link takes the
 -- visit of node 1 away, and node 0's machine is where it was.
 visited-before_damage : is_visited (after 4) (rounds 2 ++ round) 1 ≡ true
 visited-before_damage = refl

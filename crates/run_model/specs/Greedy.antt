@@ -18,7 +18,7 @@ abbrev pub EarliestSweeps : World → ℕ → List Event → Type 0
 EarliestSweeps w zero es = es ≡ []
 EarliestSweeps w (suc r) es = (first rest : List Event) × (es ≡ first ++ rest) × IsSweep w first × IsEarliest w first × EarliestSweeps (run w first) r rest
 
--- a list counted so far: r sweeps are done, and the stretch behind them is unfinished
+-- a list counted so far: r sweeps are done, and the stretch after them is unfinished
 pub record IsCounted (w : World) (done rest : List Event) (r : ℕ) : Type 0 where
   pub sweeps : EarliestSweeps w r done
   pub unfinished : IsUnfinished (run w done) rest

@@ -13,7 +13,7 @@ abbrev pub taken_of : ℕ → ℕ → List Item → Happened
 taken_of u v [] = NothingTaken u v
 taken_of u v (item ∷ rest) = Taken u v
 
--- what an event does that is not refused; a tick is full where the node lends to nobody behind it
+-- what an event does that is not refused; a tick is full where the node lends to nobody after it
 abbrev pub happened : World → Event → Happened
 happened w (Tick v) = if is_none ((step w (Tick v)).node v).desk.lent then FullTick v else LendingTick v
 happened w (Take u v) = taken_of u v (w.link u v)

@@ -99,7 +99,7 @@ EdgeSweeps =
 
 -- ---- sweeps
 
--- more events before or behind a sweep leave it a sweep
+-- more events before or after a sweep leave it a sweep
 abbrev pub SweepGrows : Type 0
 SweepGrows =
     (w : World) (front es back : List Event) → IsWorldInRange w → IsUndamaged w (front ++ es ++ back) → IsSweep (run w front) es
@@ -111,8 +111,8 @@ SweepsSplit =
     (w : World) (r s : ℕ) (es : List Event) → Sweeps w (r + s) es
     → (first rest : List Event) × (es ≡ first ++ rest) × Sweeps w r first × Sweeps (run w first) s rest
 
--- And the other way round. Behind its r sweeps the first list may go on; the next sweep then takes
--- those events in, so there is to be no damage among them.
+-- And the other way round. After its r sweeps the first list may go on; the next sweep then takes
+-- those events in, so there must be no damage among them.
 abbrev pub SweepsJoin : Type 0
 SweepsJoin =
     (w : World) (r s : ℕ) (first rest : List Event) → IsWorldInRange w → IsUndamaged w first → Sweeps w r first → Sweeps (run w first) s rest
@@ -122,7 +122,7 @@ SweepsJoin =
 abbrev pub FewerSweeps : Type 0
 FewerSweeps = (w : World) (r s : ℕ) (es : List Event) → r ≤ s → Sweeps w s es → Sweeps w r es
 
--- events behind a list that holds r sweeps change nothing of that
+-- events after a list that holds r sweeps change nothing of that
 abbrev pub SweepsGrow : Type 0
 SweepsGrow = (w : World) (r : ℕ) (es back : List Event) → Sweeps w r es → Sweeps w r (es ++ back)
 
@@ -160,13 +160,13 @@ OldItemsAreThere =
 -- ---- counting greedily
 
 -- Ending a sweep at the first event at which it is one loses none: if the list holds one sweep more
--- than r, the rest behind the earliest sweep holds r.
+-- than r, the rest after the earliest sweep holds r.
 abbrev pub EarliestIsBest : Type 0
 EarliestIsBest =
     (w : World) (r : ℕ) (first rest : List Event) → IsWorldInRange w → IsUndamaged w (first ++ rest) → IsEarliest w first
     → Sweeps w (suc r) (first ++ rest) → Sweeps (run w first) r rest
 
--- So the greatest count of a list is one more than that of the rest behind its earliest sweep,
+-- So the greatest count of a list is one more than that of the rest after its earliest sweep,
 abbrev pub GreedyCount : Type 0
 GreedyCount =
     (w : World) (r : ℕ) (first rest : List Event) → IsWorldInRange w → IsUndamaged w (first ++ rest) → IsSweep w first → IsEarliest w first
@@ -225,7 +225,7 @@ MomentMoves =
     (w : World) (es : List Event) (e : Event) → is_damage (run w es) e ≡ true
     → after_damage w (es ++ e ∷ []) ≡ record { world = step (run w es) e; rest = [] }
 
--- what the privilege has visited after one more event: damage begins anew, and any other event adds
+-- what the privilege has visited after one more event: damage starts over, and any other event adds
 -- who is privileged then
 abbrev pub VisitsGoOn : Type 0
 VisitsGoOn =

@@ -1,4 +1,4 @@
--- A stretch event by event: what is to be kept of it to tell when it is a sweep.
+-- A stretch event by event: what must be kept of it to say when it is a sweep.
 use Rattle.std.specs.Prelude.{ℕ, List, map}
 use Rattle.link_model.specs.Acts.{Origin, Before}
 pub use Rattle.link_model.specs.OldItems.{origins_after, old_count, old_after, takes_new}

@@ -4,9 +4,9 @@
 /// link.
 #[derive(Clone, Copy, Debug, PartialEq, Eq)]
 pub enum Happened {
-    /// The node ticked, and lends the lock to nobody behind it.
+    /// The node ticked, and lends the lock to nobody after it.
     FullTick { node: u16 },
-    /// The node ticked, and lends the lock behind it.
+    /// The node ticked, and lends the lock after it.
     LendingTick { node: u16 },
     /// The node `to` took the oldest item of the link from `from`.
     Taken { from: u16, to: u16 },

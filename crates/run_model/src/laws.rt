@@ -26,7 +26,7 @@ pub fn runs()
 {}
 
 /// The world in which every node is as it starts and nothing is under way is in range, as each
-/// possible start is to be, however many pairs of links are spare.
+/// possible start can be, however many pairs of links are spare.
 pub fn start()
     ensures { StartIsInRange }
 {}
@@ -66,7 +66,7 @@ pub fn edges()
 }
 
 /// Lists that hold sweeps: r + s sweeps are r and then s, and the other way round; a list that
-/// holds some holds fewer; events before or behind take none away. Convergence goes in stages, each
+/// holds some holds fewer; events before or after take none away. Convergence goes in stages, each
 /// with sweeps of its own.
 pub fn sweep_numbers()
     ensures grows { SweepGrows }
@@ -90,7 +90,7 @@ pub fn strict_sweeps()
 
 /// A stretch event by event: which nodes have had a full tick and which links are renewed follows
 /// from the event, and from how many of a link's items stood there before the stretch. Those are
-/// the oldest, so their number is all that is to be kept of them.
+/// the oldest, so their number is all that must be kept of them.
 pub fn stretches()
     ensures ticks { TicksGoOn }
     ensures renewed { RenewedGoesOn }

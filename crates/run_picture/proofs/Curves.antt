@@ -67,7 +67,7 @@ step_added page node f columns place d count start before after within is so_far
 five_texts : (a b c d e : List ℕ) → a ++ (b ++ (c ++ d)) ++ e ≡ a ++ (b ++ (c ++ (d ++ e)))
 five_texts a b c d e = append_assoc a (b ++ (c ++ d)) e ∙ ap (λ xs. a ++ xs) (append_assoc b (c ++ d) e ∙ ap (λ xs. b ++ xs) (append_assoc c d e))
 
--- behind the last column the curve is whole
+-- after the last column the curve is whole
 pub curve_done : (page : Page) (node : ℕ) (f : Column → ℕ) (columns : List Column) (place : ℕ) (start text : List ℕ) → length columns ≡ place
     → start ≡ codes "M" ++ (decimal page.left.0 ++ (codes " " ++ decimal (level_of page node (first_count (map f columns)))))
     → text ≡ start ++ steps_from page node 0 (take place (map f columns)) → text ≡ curve_steps page node (map f columns)

@@ -6,7 +6,7 @@ use Rattle.std.proofs.lemmas.Grind.{flat_map-append}
 use Rattle.std.proofs.Math.Seq.{take-suc}
 use Rattle.svg_drawing.specs.Drawn.{Shown}
 
--- behind what the first items show, the next one is drawn
+-- after what the first items show, the next one is drawn
 pub shown_next : {X : Type 0} (show : X → List Shown) (items : List X) (place : ℕ) (d : X) (start before after : List Shown) → place < length items
     → before ≡ start ++ flat_map show (take place items) → after ≡ before ++ show (slice_index_or items place d)
     → after ≡ start ++ flat_map show (take (place + 1) items)

@@ -7,7 +7,7 @@ use Rattle.svg_drawing.specs.Drawn.{Shown, words_shown}
 use Rattle.run_picture.specs.Legend.{Meaning, sign_shown, room_of, behind, meanings_shown}
 use Rattle.svg_drawing.specs.Lengths.{px}
 
--- a sign with its meaning, and behind it others
+-- a sign with its meaning, and after it others
 pub first_meaning : (x y next_x next_y : ℕ) (sign : Sign) (words : List ℕ) (meanings : List Meaning) (old now new : List Shown)
     → now ≡ old ++ (sign_shown x y sign ∷ words_shown (px (x + room_of sign)) y Start Ink words ∷ [])
     → next_x ≡ behind (px (x + room_of sign)) words → next_y ≡ y → new ≡ now ++ meanings_shown next_x next_y meanings

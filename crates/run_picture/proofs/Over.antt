@@ -31,7 +31,7 @@ over_next over columns place d before after within so_far added =
     ∙ ap (over_each over 0) (sym (take-suc columns place d within))
     ∙ ap (λ k. over_each over 0 (take k columns)) (sym next)
 
--- behind the last column it is whole
+-- after the last column it is whole
 pub over_all : {X : Type 0} (over : ℕ → Column → List X) (columns : List Column) (place : ℕ) (text : List X) → length columns ≡ place
     → text ≡ over_each over 0 (take place columns) → text ≡ over_each over 0 columns
 over_all over columns place text all is =
@@ -47,7 +47,7 @@ over_next_on over columns place d start before after within so_far added =
     added ∙ ap (λ xs. xs ++ item) so_far ∙ append_assoc start here item
     ∙ ap (λ xs. start ++ xs) (over_next over columns place d here (here ++ item) within refl refl)
 
--- and behind the last column it is whole
+-- and after the last column it is whole
 pub over_all_on : {X : Type 0} (over : ℕ → Column → List X) (columns : List Column) (place : ℕ) (start now : List X) → length columns ≡ place
     → now ≡ start ++ over_each over 0 (take place columns) → now ≡ start ++ over_each over 0 columns
 over_all_on over columns place start now all is =

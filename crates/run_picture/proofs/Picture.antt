@@ -28,7 +28,7 @@ Parts page net order columns width before told shown =
     ++ (legend_shown width
     ++ (tree_shown page net order ++ (lanes ++ (levels_shown page columns ++ (curves_shown page columns ++ (axis ++ ruler)))))))))
 
--- eight lists, one behind the other
+-- eight lists, one after the other
 eight : {X : Type 0} (a b c d e f g h x₁ x₂ x₃ x₄ x₅ x₆ x₇ x₈ : List X) → x₁ ≡ a → x₂ ≡ x₁ ++ b → x₃ ≡ x₂ ++ c → x₄ ≡ x₃ ++ d → x₅ ≡ x₄ ++ e
     → x₆ ≡ x₅ ++ f → x₇ ≡ x₆ ++ g → x₈ ≡ x₇ ++ h → x₈ ≡ a ++ (b ++ (c ++ (d ++ (e ++ (f ++ (g ++ h))))))
 eight a b c d e f g h x₁ x₂ x₃ x₄ x₅ x₆ x₇ x₈ i₁ i₂ i₃ i₄ i₅ i₆ i₇ i₈ =

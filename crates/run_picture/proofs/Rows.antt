@@ -41,7 +41,7 @@ two_nodes_high = refl
 one_event : column_words 1 ≡ codes "a column is 1 event"
 one_event = refl
 
--- what the headline of the square says behind `sweeps to recover` and `sharp`
+-- what the headline of the square says after `sweeps to recover` and `sharp`
 square_bounds : (bound_of square ≡ 461) × (sharp_of square ≡ 71)
 square_bounds = (refl, refl)
 

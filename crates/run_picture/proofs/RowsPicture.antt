@@ -42,7 +42,7 @@ high_bow = refl
 edge_of_two : edge_shown (page_of two 9) two (0 ∷ 1 ∷ []) (0, 1) ≡ path_shown (corner_steps 24 192 46 224) (whole Ink 3) ∷ []
 edge_of_two = refl
 
--- also where its ends are told the other way round
+-- also where its ends are given the other way round
 edge_turned : edge_shown (page_of two 9) two (0 ∷ 1 ∷ []) (1, 0) ≡ path_shown (corner_steps 24 192 46 224) (whole Ink 3) ∷ []
 edge_turned = refl
 

@@ -19,7 +19,7 @@ nodes_more page net lane (u ∷ order) v =
     (nodes_more page net (suc lane) order v ∙ ap (λ k. nodes_shown page net (suc lane) order ++ node_shown page net k v) there)
     ∙ sym (append_assoc (node_shown page net lane u) (nodes_shown page net (suc lane) order) (node_shown page net (lane + length (u ∷ order)) v))
 
--- behind the first nodes the next one is drawn
+-- after the first nodes the next one is drawn
 pub nodes_next : (page : Page) (net : Network) (order : List ℕ) (lane d : ℕ) (start before after : List Shown) → lane < length order
     → before ≡ start ++ nodes_shown page net 0 (take lane order) → after ≡ before ++ node_shown page net lane (slice_index_or order lane d)
     → after ≡ start ++ nodes_shown page net 0 (take (lane + 1) order)
@@ -35,7 +35,7 @@ nodes_next page net order lane d start before after within so_far added =
     ∙ ap (nodes_shown page net 0) (sym (take-suc order lane d within))
     ∙ ap (λ k. nodes_shown page net 0 (take k order)) (sym next))
 
--- behind the last node all are drawn
+-- after the last node all are drawn
 pub nodes_all : (page : Page) (net : Network) (order : List ℕ) (lane : ℕ) (start after : List Shown) → length order ≡ lane
     → after ≡ start ++ nodes_shown page net 0 (take lane order) → after ≡ start ++ nodes_shown page net 0 order
 nodes_all page net order lane start after all is =

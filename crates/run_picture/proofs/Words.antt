@@ -32,7 +32,7 @@ tells_of start es r sweeps words seen is recorded =
           ∙ ap (λ n. description_words (length es) (counted_up_to (r.unread + refused_in start es)) (run start es) n) counted.2;
     }
 
--- ---- words one behind the other
+-- ---- words one after the other
 
 pub three_parts : (a b c first second third : List ℕ) → first ≡ a → second ≡ first ++ b → third ≡ second ++ c → third ≡ a ++ (b ++ c)
 three_parts a b c first second third is is_second is_third =

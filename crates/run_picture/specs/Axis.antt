@@ -35,7 +35,7 @@ abbrev pub row_from : ℕ → ℕ → ℕ → List ℕ
 row_from step number zero = []
 row_from step number (suc count) = number ∷ row_from step (number + step) count
 
--- where the moment behind as many events is shown, if the first column begins with that behind
+-- where the moment after as many events is shown, if the first column begins with that after
 -- `first` events, and each shows as many moments
 abbrev pub number_at : ℕ → ℕ → ℕ → AxisNumber
 number_at first moments event = record { place = (event - first) / moments; event = event }
@@ -56,7 +56,7 @@ number_shown page number =
     line_shown (x_of page number.place) (ground_of page) (x_of page number.place) (px (ground_of page + 6)) (whole Ink 1)
     ∷ words_shown (x_of page number.place) (px (ground_of page + 20)) Middle Ink (decimal number.event) ∷ []
 
--- This is the axis of the columns of a page, of which the first begins with the moment behind `first`
+-- This is the axis of the columns of a page, of which the first begins with the moment after `first`
 -- events, and each shows as many moments: its numbers are a round step apart.
 pub record IsAxis (page : Page) (first moments : ℕ) (shown : List Shown) : Type 0 where
   pub step : ℕ

@@ -72,7 +72,7 @@ level_shown page node count =
     line_shown page.left.0 (level_of page node count) (right_of page) (level_of page node count) (level_pen count)
     ∷ words_shown (page.left.0 - 8) (px (level_of page node count + 4)) End Ink (decimal count) ∷ []
 
--- a piece of a line, and behind it what the line is
+-- a piece of a line, and after it what the line is
 abbrev pub name_shown : ℕ → ℕ → List ℕ → Pen → List Shown
 name_shown x y name pen =
     line_shown x (y - 4) (px (x + 24)) (y - 4) pen ∷ words_shown (px (x + 30)) y Start Ink name ∷ []

@@ -17,21 +17,21 @@ sign_shown x y Bolt =
 sign_shown x y (Upright colour width) = line_shown (px (x + 8)) (y - 10) (px (x + 8)) y (whole colour width)
 sign_shown x y (Edge colour width) = line_shown x (y - 4) (px (x + 16)) (y - 4) (whole colour width)
 
--- how far behind a sign's place its meaning stands
+-- how far after a sign's place its meaning stands
 abbrev pub room_of : Sign → ℕ
 room_of (Upright colour width) = 16
 room_of _ = 22
 
--- where the next sign stands, behind a meaning: 6 for each letter, and 16
+-- where the next sign stands, after a meaning: 6 for each letter, and 16
 abbrev pub behind : ℕ → List ℕ → ℕ
 behind x meaning = px (px (x + px (6 * length meaning)) + 16)
 
--- a sign, and behind it what it means
+-- a sign, and after it what it means
 pub record Meaning : Type 0 where
   pub sign : Sign
   pub words : List ℕ
 
--- signs with their meanings, one behind the other from a place on
+-- signs with their meanings, one after the other from a place on
 abbrev pub meanings_shown : ℕ → ℕ → List Meaning → List Shown
 meanings_shown x y [] = []
 meanings_shown x y (m ∷ meanings) =

@@ -21,7 +21,7 @@ lane_height lanes = max (min (640 / max lanes 1) 32) 12
 abbrev pub indent_of : ℕ → ℕ
 indent_of depth = max (min (200 / max depth 1) 22) 3
 
--- where the columns begin: behind a margin of 16, the tree, and 104 for the nodes' names
+-- where the columns begin: after a margin of 16, the tree, and 104 for the nodes' names
 abbrev pub left_of : ℕ → ℕ
 left_of depth = px (px (16 + px (indent_of depth * max depth 1)) + 104)
 

@@ -120,6 +120,6 @@ has_room page [] place = true
 has_room page (number ∷ []) place = nat_le (room_behind page number.place) (middle_of page place)
 has_room page (number ∷ next ∷ numbers) place = has_room page (next ∷ numbers) place
 
--- where as many sweeps end in the number's column, and there is room, the number stands behind the others
+-- where as many sweeps end in the number's column, and there is room, the number stands after the others
 abbrev pub with_number : Page → ℕ → SweepNumber → List SweepNumber → List SweepNumber
 with_number page sweeps number numbers = if nat_lt 0 sweeps && has_room page numbers number.place then numbers ++ number ∷ [] else numbers

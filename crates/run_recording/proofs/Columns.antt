@@ -28,7 +28,7 @@ worse_column-assoc a b c =
       or_assoc a.bound b.bound c.bound,
     ) refl
 
--- the worst of moments and of more behind them
+-- the worst of moments and of more after them
 pub worst_both : (first : Column) (later : List Column) (next : Column) (more : List Column)
     → worst first (later ++ next ∷ more) ≡ worse_column (worst first later) (worst next more)
 worst_both first [] next more = refl

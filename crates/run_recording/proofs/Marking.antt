@@ -3,7 +3,7 @@ use Rattle.std.proofs.Common.{◌≡◌, ap, refl, ℕ, zero, suc, ◌+◌, ◌<
 use Rattle.std.proofs.lemmas.Grind.{common_steps}
 use Rattle.run_recording.specs.declared.mark.Mark.{Mark}
 
--- the first marks, where the one behind them is written
+-- the first marks, where the one after them is written
 suc_written : (marks : List Mark) (v : ℕ) (m : Mark) → v < length marks → take (suc v) (slice_set marks v m) ≡ take v marks ++ m ∷ []
 suc_written [] v m room = grind (arith, common_steps)
 suc_written (a ∷ marks) zero m room = refl

@@ -104,7 +104,7 @@ marks_next f columns place d mark old new within is so_far next =
     ∙ ap (λ m. take place (map f columns) ++ m ∷ []) (mapped f columns place d within ∙ sym is) in
     subst (λ ms. AreRuns ms new) (sym marks) (next (take place (map f columns)) (length-take-le place (map f columns) (omega (arith, few))) so_far)
 
--- behind the last column they are all
+-- after the last column they are all
 pub all_marks : (f : Column → Mark) (columns : List Column) (place : ℕ) (runs : List Run) → length columns ≡ place
     → AreRuns (take place (map f columns)) runs → AreRuns (map f columns) runs
 all_marks f columns place runs all so_far =

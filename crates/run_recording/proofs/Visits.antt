@@ -14,7 +14,7 @@ goes_along net end stop [] goes = (refl, tt)
 goes_along net end stop (next ∷ stops) goes =
     (refl, subst (λ s. LeadsAlong net s (next ∷ stops)) (sym goes.0) (goes_along net end next stops goes.1))
 
--- one stop more is passed, and its node is put behind the others, if it is not among them
+-- one stop more is passed, and its node is put after the others, if it is not among them
 pub passes : (net : Network) (order : List ℕ) (stop : Stop) (stops : List Stop) (i : ℕ) → i < length stops → LeadsAlong net stop (drop i stops)
     → (fold with_new order (map (λ s. s.1) (drop i stops)) ≡ fold with_new (with_new order stop.1) (map (λ s. s.1) (drop (suc i) stops)))
     × LeadsAlong net (stop_after net stop) (drop (suc i) stops)
@@ -23,7 +23,7 @@ passes net order stop (next ∷ stops) zero within along =
     (ap (λ s. fold with_new (with_new order s.1) (map (λ t. t.1) stops)) (sym along.0), along.1)
 passes net order stop (next ∷ stops) (suc i) within along = passes net order stop stops i (omega (arith, within)) along
 
--- behind the last stop none is left
+-- after the last stop none is left
 pub none_left : (order : List ℕ) (stops : List Stop) (i : ℕ) → length stops ≡ i → fold with_new order (map (λ s. s.1) (drop i stops)) ≡ order
 none_left order [] i all = grind (arith, common_steps)
 none_left order (next ∷ stops) zero all = grind (arith, common_steps)

@@ -17,7 +17,7 @@ worse_column a b = record {
   bound = a.bound || b.bound;
 }
 
--- the worst of a moment and of those behind it
+-- the worst of a moment and of those after it
 abbrev pub worst : Column → List Column → Column
 worst first [] = first
 worst first (next ∷ later) = worse_column first (worst next later)

@@ -11,11 +11,11 @@ use Rattle.run_recording.specs.Recordings.{RecordingView, IsRecorded, IsReading}
 abbrev pub IsDamageWhere : Event → Bool → Bool → Type 0
 IsDamageWhere e accepted damaged = (w : World) → is_none (refusal w e) ≡ accepted → damaged ≡ is_damage w e
 
--- a piece of the text is read behind what was read
+-- a piece of the text is read after what was read
 abbrev pub ReadsNext : RecordingView → List ℕ → RecordingView → Type 0
 ReadsNext old piece new = (start : World) (bytes : List ℕ) → IsReading start bytes old → IsReading start (bytes ++ piece) new
 
--- where a source tells that it has these bytes to give, all are read, unless there is a fault
+-- where a source says that it has these bytes to give, all are read, unless there is a fault
 abbrev pub ReadsAll : {T E : Type 0} → RecordingView → Option (List ℕ) → Result T E → RecordingView → Type 0
 ReadsAll old rest result new =
     (start : World) (bytes : List ℕ) → rest ≡ Some bytes → IsReading start [] old → OnOk result (IsReading start bytes new)

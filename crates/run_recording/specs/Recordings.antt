@@ -43,7 +43,7 @@ shown_if window ended moment = if is_held window ended then moment ∷ [] else [
 abbrev pub ended_at : ℕ → Column → ℕ
 ended_at ended moment = counted_up_to (ended + moment.sweeps)
 
--- These are the moments of a run that a window holds: the start, and what is behind each event; and
+-- These are the moments of a run that a window holds: the start, and what is after each event; and
 -- as many sweeps have ended in it.
 pub data AreMoments (window : Window) (start : World) : List Event → ℕ → List Column → Type 0 where
   Start : AreMoments window start [] 0 (shown_if window 0 (moment_of start false 0 0))
@@ -54,8 +54,8 @@ pub data AreMoments (window : Window) (start : World) : List Event → ℕ → L
       → moment ≡ moment_of (run start (es ++ e ∷ [])) (is_damage (run start es) e) (counted_up_to before) (counted_up_to after)
       → AreMoments window start (es ++ e ∷ []) (ended_at ended moment) (moments ++ shown_if window (ended_at ended moment) moment)
 
--- The first moment of a run that a window holds is the one behind all these events, and as many
--- sweeps had ended before it: it is the start, or the moment behind the last event, where none
+-- The first moment of a run that a window holds is the one after all these events, and as many
+-- sweeps had ended before it: it is the start, or the moment after the last event, where none
 -- before it is held.
 pub data IsFirstHeld (window : Window) (start : World) : List Event → ℕ → Type 0 where
   AtStart : (moment : Column) → AreMoments window start [] 0 (moment ∷ []) → IsFirstHeld window start [] 0
@@ -100,7 +100,7 @@ pub record IsRecorded (start : World) (es : List Event) (r : RecordingView) : Ty
   pub events_are : r.events ≡ length es
   pub before_is : IsBeforeAny r.window start es moments r.before
 
--- whatever events were recorded, these are recorded behind them
+-- whatever events were recorded, these are recorded after them
 abbrev pub RecordsNext : RecordingView → List Event → RecordingView → Type 0
 RecordsNext old more new = (start : World) (es : List Event) → IsRecorded start es old → IsRecorded start (es ++ more) new
 

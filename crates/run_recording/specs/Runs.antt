@@ -25,7 +25,7 @@ AreApart [] = Unit {0}
 AreApart (run ∷ []) = Unit {0}
 AreApart (run ∷ next ∷ runs) = (run.mark ≢ next.mark) × AreApart (next ∷ runs)
 
--- These are the runs of these marks: they stand one behind the other from the first column on,
+-- These are the runs of these marks: they stand one after the other from the first column on,
 -- neighbours differ, and their marks, one run after the other, are these.
 pub record AreRuns (marks : List Mark) (runs : List Run) : Type 0 where
   pub are : flat_map marks_along runs ≡ marks

@@ -7,7 +7,7 @@ use Rattle.euler_ring.specs.Tour.{Stop, tour}
 use Rattle.euler_ring.specs.Laws.{true_neighbours, stop_after}
 use Rattle.run_recording.specs.declared.tour.Visit.{Visit}
 
--- a node is put behind the others, if it is not among them
+-- a node is put after the others, if it is not among them
 abbrev pub with_new : List ℕ → ℕ → List ℕ
 with_new order v = if is_on order v then order else order ++ v ∷ []
 

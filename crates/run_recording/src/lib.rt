@@ -1,16 +1,16 @@
-//! What is to be seen of a run: which nodes were wrong, privileged or lending, and when.
+//! What can be seen of a run: which nodes were wrong, privileged or lending, and when.
 //!
 //! [`record`] reads an events text, lets its events happen, and keeps of each moment which [`Mark`]
 //! each node has, and how many nodes are privileged and lend. It keeps at most as many [`Column`]s
-//! as it is told: where there are more moments, a column shows the worst of several. [`runs_of`]
-//! tells the marks of a node as [`Run`]s of one mark, and [`first_visits`] the order of the nodes:
+//! as it was read: if there are more moments, a column shows the worst of several. [`runs_of`]
+//! gives the marks of a node as [`Run`]s of one mark, and [`first_visits`] the order of the nodes:
 //!
 //! ```
 //! let recording = record(alloc, &net, &mut source, 1200, Window::ALL)?;
 //! let runs = runs_of(alloc, recording.strip().columns(), 0)?;
 //! ```
 //!
-//! A moment is the start, or what stands behind an event, be it refused or not; so there is one
+//! A moment is the start, or what stands after an event, be it refused or not; so there is one
 //! moment more than there are events. Nothing here knows of a page, colours or SVG.
 //!
 //! The trap: whether a node's distance and parent are true is asked of the network as it stands,

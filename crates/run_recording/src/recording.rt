@@ -49,7 +49,7 @@ pub struct Recording<A: Allocator + Copy = Global> {
     window: Window,
     /// The sweeps that have ended since the start.
     ended: u64,
-    /// The events that were told.
+    /// The events that were read.
     events: u64,
     /// The lines that spell no event.
     unread: u64,
@@ -238,7 +238,7 @@ impl<A: Allocator + Copy> Recording<A> {
         }
     }
 
-    /// An event happens, and the moment behind it is kept.
+    /// An event happens, and the moment after it is kept.
     fn happens(&mut self, event: &Event)
         requires { self.old.events < 2 ^ 61 }
         ensures records { RecordsNext self.old (event.now ∷ []) self.new }
@@ -282,13 +282,13 @@ impl<A: Allocator + Copy> Recording<A> {
     /// The sweeps since the last accepted damage, at the end.
     pub fn sweeps(&self) -> u64
         ensures count { result ≡ self.now.judge.sweeps }
-        // Whatever run was recorded, that many sweeps and no more stand behind its last damage.
+        // Whatever run was recorded, that many sweeps and no more stand after its last damage.
         ensures seen { AreSweepsSeen self.now.judge result }
     {
         self.judge.sweeps()
     }
 
-    /// The events that were told, also those that were refused.
+    /// The events that were read, also those that were refused.
     pub fn events(&self) -> u64
         ensures { result ≡ self.now.events }
     {

@@ -38,7 +38,7 @@ pub fn first_visits(alloc: Global, net: &Net) -> Result<Vec<u16>, AllocError>
     Ok(order)
 }
 
-/// Puts a node behind the others, if it is not among them.
+/// Puts a node after the others, if it is not among them.
 fn put_new(order: &mut Vec<u16>, v: u16) -> Result<(), AllocError>
     ensures { OnOk result (order.new.items ≡ with_new order.old.items v) }
 {
@@ -67,7 +67,7 @@ fn first_visit(net: &Net) -> Visit
     Visit { from, at: root }
 }
 
-/// The stop of the tour behind another.
+/// The stop of the tour after another.
 fn next_visit(net: &Net, visit: Visit) -> Visit
     requires { IsOnTree net.now (visit_of visit) }
     ensures next { visit_of result ≡ stop_after net.now (visit_of visit) }

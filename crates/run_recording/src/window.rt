@@ -2,8 +2,8 @@
 ghost use Rattle.std.specs.Prelude.{◌≡◌};
 ghost use Rattle.run_recording.specs.Recordings.{is_held};
 
-/// The moments that are to be shown, by how many sweeps have ended since the start, at the moment
-/// itself among them; damage does not begin this count anew.
+/// The moments that must be shown, by how many sweeps have ended since the start, at the moment
+/// itself among them; damage does not start this count again.
 #[derive(Clone, Copy, Debug, PartialEq, Eq)]
 pub struct Window {
     /// The least number.

@@ -26,7 +26,7 @@ handed-append w (e ∷ xs) ys u v =
 accepted-step : (w : World) (e : Event) → refusal w e ≡ None → step w e ≡ changed w e
 accepted-step w e ok = ap (λ r. if is_some r then w else changed w e) ok
 
--- behind a send the link holds an item, which the take hands over
+-- after a send the link holds an item, which the take hands over
 sent-there : (w : World) (u v : ℕ) → 1 ≤ w.net.capacity → takes_item (link_act u v (Take u v)) ((sent w u v).link u v) ≡ 1
 sent-there w u v some = grind (arith, common_steps, nat_tests)
 

@@ -1,4 +1,4 @@
--- The lists of a schedule, each as its next part and what is left behind that.
+-- The lists of a schedule, each as its next part and what is left after that.
 use Rattle.std.proofs.Common.{◌≡◌, ◌∙◌, ap, sym, ℕ, ◌+◌, ◌-◌, ◌<◌, suc, List, [], ◌∷◌, ◌++◌, length, drop, get_or, map, arith}
 use Rattle.std.specs.List.{flat_map, range_with_len}
 use Rattle.std.proofs.lemmas.List.{drop_more}
@@ -14,7 +14,7 @@ use Rattle.schedules.specs.declared.random.Chances.{Chances}
 use Rattle.schedules.specs.Taking.{IsUnderWay, TakesBoth}
 use Rattle.schedules.proofs.Taking.{goes-on}
 
--- what is left of n, the next being i, is one more than what is left behind it
+-- what is left of n, the next being i, is one more than what is left after it
 one-more : (i n : ℕ) → i < n → n - i ≡ suc (n - (i + 1))
 one-more i n h = omega arith
 

@@ -28,13 +28,13 @@ or-second : (a b : Bool) → b ≡ true → (a || b) ≡ true
 or-second true b h = refl
 or-second false b h = h
 
--- events behind a list that has a full tick take nothing of that
+-- events after a list that has a full tick take nothing of that
 pub ticked-front : (w : World) (xs ys : List Event) (v : ℕ) → has_full_tick w xs v ≡ true → has_full_tick w (xs ++ ys) v ≡ true
 ticked-front w [] ys v h = absurd (grind arith)
 ticked-front w (e ∷ xs) ys v h =
     or-more (is_full_tick w e v) (has_full_tick (step w e) xs v) (has_full_tick (step w e) (xs ++ ys) v) (ticked-front (step w e) xs ys v) h
 
--- a node in this state lends to nobody behind its next tick
+-- a node in this state lends to nobody after its next tick
 abbrev pub lends_no_more : Network → ℕ → LocalState → Bool
 lends_no_more net v s = is_none (ticked (site_of net v) s).desk.lent
 

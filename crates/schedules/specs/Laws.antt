@@ -8,7 +8,7 @@ use Rattle.run_model.specs.declared.event.Event.TheVariants.{Tick}
 use Rattle.damage_tool.specs.Laws.{AreAccepted}
 use Rattle.schedules.specs.Rounds.{round, rounds}
 
--- each tick is full: whichever node ticks next lends to nobody behind it
+-- each tick is full: whichever node ticks next lends to nobody after it
 abbrev pub AreTicksFull : World → Type 0
 AreTicksFull w = (v : ℕ) → v < w.net.nodes → is_full_tick w (Tick v) v ≡ true
 

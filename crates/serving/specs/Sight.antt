@@ -31,7 +31,7 @@ IsTouchedSight w (Damage h) sight = Unit {0}
 IsTouchedSight w e sight = (v : ℕ) → v < w.net.nodes → IsTrue (is_node_touched e v) → sight ≡ Some (sight_of w v)
 
 -- Where an event is no damage, and leaves each node that it touches as it was to see, the network
--- serves behind it exactly where it served before.
+-- serves after it exactly where it served before.
 abbrev pub SightsDecide : Type 0
 SightsDecide =
     (w : World) (e : Event) → is_damage w e ≡ false

@@ -1,14 +1,14 @@
 //! Whether a network serves at this moment: the headline's conclusion as a test.
 //!
 //! From whatever state, a network serves after as many sweeps as its bound says, and from then on.
-//! [`serves`] tells of one moment whether it does, exactly as the headline says it:
+//! [`serves`] says of one moment whether it does, exactly as the headline says it:
 //!
 //! ```
 //! let done = serves(world.configuration());       // world: at any moment of a run
 //! ```
 //!
 //! Whoever asks after each event of a run keeps the answer: [`serves_behind`] looks at the one node
-//! that the event touched, by [`touched_sight`] before it and behind it, and at the whole network
+//! that the event touched, by [`touched_sight`] before it and after it, and at the whole network
 //! only where that node looks otherwise than before.
 //!
 //! ```

@@ -64,7 +64,7 @@ pub fn touched_sight<A: Allocator + Copy>(
     }
 }
 
-/// Whether a network serves behind an event, where `served` says whether it served before, and
+/// Whether a network serves after an event, where `served` says whether it served before, and
 /// `before` is what [`touched_sight`] said then. It looks at the one node alone, unless that looks
 /// otherwise now, or the event is a harm.
 pub fn serves_behind<A: Allocator + Copy>(

@@ -16,7 +16,7 @@ none = record { later = 0; closed = 0; failed = 0 }
 abbrev once_later : Counts
 once_later = record { later = 1; closed = 0; failed = 0 }
 
--- bytes come behind those before, and in front of none
+-- bytes come after those before, and in front of none
 goes-on : GoesOn (codes "b") (Some (codes "a")) (Some (codes "ab"))
 goes-on = refl
 

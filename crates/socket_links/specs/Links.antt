@@ -104,7 +104,7 @@ module _ {P : Type 0} where
       MatchOption old.pipe ⊥ (λ before. (after : P) × HasEnded (counts before) (counts after))
       × (new.pipe ≡ None) × IsBare new
 
-  -- What the answers of a pull say: with a frame the pipe stays; without one nothing more is to be
+  -- What the answers of a pull say: with a frame the pipe stays; without one nothing more must be
   -- looked at.
   abbrev pub Pulled : Ranges → (P → Option (List ℕ)) → (P → Option (List ℕ)) → (P → Counts)
       → SocketLink P → SocketLink P → Pull → Type 0

@@ -7,7 +7,7 @@ use Rattle.socket_links.specs.declared.pipe.ReadAnswer.TheVariants as read
 use Rattle.socket_links.specs.declared.pipe.WriteAnswer.{WriteAnswer}
 use Rattle.socket_links.specs.declared.pipe.WriteAnswer.TheVariants as write
 
--- these bytes came behind those before; nothing is said of a pipe that does not tell
+-- these bytes came after those before; nothing is said of a pipe that does not say
 abbrev pub GoesOn : List ℕ → Option (List ℕ) → Option (List ℕ) → Type 0
 GoesOn more before after = after ≡ option_map (λ bytes. bytes ++ more) before
 

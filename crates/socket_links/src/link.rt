@@ -149,7 +149,7 @@ impl<P: Pipe> SocketLink<P> {
     /// The next frame. Where what was read holds a good line it is that line's, and else the pipe
     /// is read once.
     pub fn pull(&mut self, net: &Net) -> Pull
-        // The frame stands behind those that were pulled before, and what was pushed stands.
+        // The frame stands after those that were pulled before, and what was pushed stands.
         ensures pulled { Pulled (ranges_of net.now) P.gave P.took P.counts
             self.old self.new result }
         // Where a good line ends in what was read, its frame comes, and nothing is asked of the

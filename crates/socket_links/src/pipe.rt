@@ -30,10 +30,10 @@ pub enum WriteAnswer {
 /// A connection. It counts how often it answered `Later`, `Closed` and `Failed`, and may tell its
 /// bytes to contracts.
 pub trait Pipe: Drop {
-    /// All bytes that it gave; none where it does not tell.
+    /// All bytes that it gave; none where it does not say.
     ghost gave: { Self → Option (List ℕ) };
 
-    /// All bytes that it took; none where it does not tell.
+    /// All bytes that it took; none where it does not say.
     ghost took: { Self → Option (List ℕ) };
 
     /// How often it answered `Later`, `Closed` and `Failed`.

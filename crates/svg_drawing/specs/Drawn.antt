@@ -40,7 +40,7 @@ drawn canvas = map shown_of canvas.elements.items
 abbrev pub with_given : Shown → Given → Shown
 with_given e given = record { name = e.name; attributes = e.attributes ++ given ∷ []; text = e.text }
 
--- an element with a text behind its own
+-- an element with a text after its own
 abbrev pub with_text : Shown → List ℕ → Shown
 with_text e text = record { name = e.name; attributes = e.attributes; text = e.text ++ text }
 

@@ -20,7 +20,7 @@ pub enum Colour {
     Blue,
     /// Other edges, and lines that only help to read.
     Faint,
-    /// What is behind all.
+    /// The background.
     Paper,
 }
 

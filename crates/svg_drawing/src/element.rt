@@ -66,7 +66,7 @@ impl Element {
         Ok(self)
     }
 
-    /// The element with this text behind its own.
+    /// The element with this text after its own.
     pub fn saying(mut self, text: &str) -> Result<Element, AllocError>
         ensures { IfOk result (λ element. shown_of element
             ≡ with_text (shown_of self) text.now) }

@@ -53,7 +53,7 @@ fn push_start(text: &mut Vec<u8>, name: &str, attributes: &[Attribute]) -> Resul
     text.extend_from_slice(b">")
 }
 
-/// Adds attributes, each behind a space.
+/// Adds attributes, each after a space.
 fn push_attributes(text: &mut Vec<u8>, attributes: &[Attribute]) -> Result<(), AllocError>
     ensures { OnOk result (text.new.items
         ≡ text.old.items ++ flat_map attribute_text attributes.now) }

@@ -1,4 +1,4 @@
--- How what the head held since some moment goes round the tour: four sweeps a leg. Its age tells of
+-- How what the head held since some moment goes round the tour: four sweeps a leg. Its age says of
 -- a value when the head held it; where the values of the first legs are known, their ages do not
 -- rise from one to the next.
 use Rattle.std.proofs.Common.{◌≡◌, ◌≢◌, ℕ, zero, suc, ◌+◌, ◌<◌, ◌≤◌, ◌⊎◌, inl, inr, Bool, true, false, ◌==◌, List, [], ◌∷◌, length, refl, sym, ◌∙◌, ap, subst, arith}

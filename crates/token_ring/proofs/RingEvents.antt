@@ -80,7 +80,7 @@ module _ (b : Below) (net : Network) (tour : IsTour net) where
         (staged-event b net w e l s d t, (copied-event b net w e l s d t, others-event w e s d l ls f.1 (λ k m. i k (inr m)))),
       )
 
-  -- all that stands behind the head makes a parallel step
+  -- all that stands after the head makes a parallel step
   abbrev behind : World → List ℕ
   behind w = staged_value w tour.first ∷ copied_value w tour.first ∷ values_of w tour.others
 

@@ -16,7 +16,7 @@ use Rattle.token_ring.proofs.LegPlaces.{leg_at, among-later, followed-at, last-a
 abbrev pub values_of : World → List Leg → List ℕ
 values_of w ls = flat_map (leg_values w) ls
 
--- what the machine of the leg behind p sees is p's copy, and what comes to it is what p staged
+-- what the machine of the leg after p sees is p's copy, and what comes to it is what p staged
 pub seen-is_copied : (w : World) (p l : Leg) → (l.from ≡ p.here) × (l.here ≡ p.onward) → seen_value w l ≡ copied_value w p
 seen-is_copied w p l (a, b) = ap (λ h. ((w.node h).port l.from).copy.ring) b ∙ ap (λ f. ((w.node p.onward).port f).copy.ring) a
 

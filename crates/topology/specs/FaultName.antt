@@ -1,4 +1,4 @@
--- By which name a network's refusal is told.
+-- By which name a network's refusal is reported.
 use Rattle.std.specs.Prelude.{ℕ, List, codes}
 use Rattle.topology.specs.declared.fault.NetFault.{NetFault}
 use Rattle.topology.specs.declared.fault.NetFault.TheVariants.{NotToml, Missing, Shape, TooSmall, TooBig, BadRoot, BadCapacity, BadLease, BadEdge, LoopEdge, DoubleEdge, Apart, Memory, NoEdge}

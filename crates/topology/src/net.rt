@@ -18,7 +18,7 @@ use std::marker::Model;
 /// A connected undirected graph of 2 to 64 nodes with a root, the capacity of its links and the
 /// lease of its lock.
 ///
-/// Its nodes are 0 to `nodes() - 1`. What takes a node, as [`Net::distance`], is to be given one of
+/// Its nodes are 0 to `nodes() - 1`. What takes a node, as [`Net::distance`], must be given one of
 /// these.
 #[derive(Debug, Drop)]
 pub struct Net<A: Allocator + Copy = Global> {

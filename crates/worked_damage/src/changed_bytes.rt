@@ -107,7 +107,7 @@ fn one_byte_has_changed(rt: HostRuntime) -> Result<(), Fail> {
     is_told(&answers_of_both(rt.alloc())?, &[TO_NEWER, TO_OLDER])
 }
 
-/// As many bytes as are wanted behind these, in any order.
+/// As many bytes as are wanted after these, in any order.
 fn any_bytes(
     alloc: Global,
     front: &[u8],
@@ -121,7 +121,7 @@ fn any_bytes(
     Ok(bytes)
 }
 
-/// The fault of any bytes behind these as a file of node 0; none where they are read.
+/// The fault of any bytes after these as a file of node 0; none where they are read.
 fn fault_of(
     alloc: Global,
     net: &Net,
@@ -136,14 +136,14 @@ fn fault_of(
 /// The header of a file of node 0 of the star.
 const HEADER: &[u8; 16] = b"TKT2\0\x40\0\0\x10\0\0\x3f\0\x40\0\x3f";
 
-/// Files of any bytes: those in front, from how many bytes behind them on none is missing, and the
+/// Files of any bytes: those in front, from how many bytes after them on none is missing, and the
 /// fault of a file that is long enough.
 const ANY_FILES: [(&[u8], usize, FileFault); 2] = [
     (b"", 4, FileFault::Magic),
     (HEADER, 20 * 63, FileFault::Shape),
 ];
 
-/// Whether any bytes, this number of them behind those in front, have such faults.
+/// Whether any bytes, this number of them after those in front, have such faults.
 fn have_faults(
     alloc: Global,
     net: &Net,

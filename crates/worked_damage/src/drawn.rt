@@ -116,7 +116,7 @@ fn first_frame(alloc: Global, text: &[u8]) -> Result<(usize, Option<Frame>), Fai
     Ok((found.len(), found.first().copied()))
 }
 
-/// How long ten thousand lines of junk are, and what frames are read of them and the line behind.
+/// How long ten thousand lines of junk are, and what frames are read of them and the line after.
 fn behind_junk(alloc: Global) -> Result<(usize, (usize, Option<Frame>)), Fail> {
     let mut text = junk(alloc, 7, 10_000)?;
     let length = text.len();
@@ -174,7 +174,7 @@ fn accepted_of(alloc: Global, world: &mut World, seed: u64) -> Result<(usize, us
     Ok((events.len(), accepted(world, &events)))
 }
 
-/// The same of the seeds 1 to 5, of which the harms of one happen behind those of the others.
+/// The same of the seeds 1 to 5, of which the harms of one happen after those of the others.
 fn accepted_of_five(alloc: Global, world: &mut World) -> Result<[(usize, usize); 5], AllocError> {
     let mut found = [(0, 0); 5];
     for (seed, place) in (1..=5).zip(&mut found) {

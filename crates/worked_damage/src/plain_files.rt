@@ -38,7 +38,7 @@ fn goes_in_place<R: Files + AllocGlobal>(rt: &R, path: &str, bytes: &[u8]) -> Re
     Ok(is_saved && is_loaded && has(rt, "same.state", bytes)?)
 }
 
-/// What is saved one behind the other: the longest state, shorter ones, and nothing.
+/// What is saved one after the other: the longest state, shorter ones, and nothing.
 const STATES: [&[u8]; 4] = [&[1; 1276], &[2; 16], b"", &[3; 36]];
 
 /// Gives a file its other name. The place of the first of these that does not go in place.
@@ -127,7 +127,7 @@ fn is_failure<F: Files>(files: &F, path: &str) -> bool {
         && saved(files, path, b"TKT2") == Err(StoreFault::Device)
 }
 
-/// Makes the three of them that are to be made. Whether there is a pipe then, and the place of the
+/// Makes the three of them that must be made. Whether there is a pipe then, and the place of the
 /// first of all that is no failure.
 fn first_no_failure<R: Files + Processes + AllocGlobal>(
     rt: &R,

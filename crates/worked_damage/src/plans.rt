@@ -107,7 +107,7 @@ fn whole_of_two(alloc: Global, kind: Kind) -> Result<Vec<Event>, Fail> {
     Ok(whole(alloc, &net, kind)?)
 }
 
-/// Gives the schedule to a keeper that fails behind `calls` events. Whether the answer is as it
+/// Gives the schedule to a keeper that fails after `calls` events. Whether the answer is as it
 /// should be, and the keeper has just the events in front; none where there was no further event.
 fn is_cut_short(
     alloc: Global,
@@ -127,7 +127,7 @@ fn is_cut_short(
     )
 }
 
-/// The number of events behind which the schedule is first not cut short, or at its end is.
+/// The number of events after which the schedule is first not cut short, or at its end is.
 fn first_uncut(alloc: Global, kind: Kind, whole: &[Event]) -> Result<Option<usize>, NetFault> {
     let net = two(alloc)?;
     for calls in 0..=whole.len() {

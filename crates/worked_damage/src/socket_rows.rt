@@ -8,7 +8,7 @@ use std::test::Fail;
 use test_parts::as_told;
 use topology::Net;
 
-/// The bytes that a pipe gives, at most how many in a read, and whether it stays open behind them
+/// The bytes that a pipe gives, at most how many in a read, and whether it stays open after them
 /// and says Later; it closes otherwise.
 type Given<'a> = (&'a [u8], usize, bool);
 
@@ -85,7 +85,7 @@ fn good_lines(alloc: Global, net: &Net, text: &[u8]) -> Result<Vec<Pull>, AllocE
     Ok(frames)
 }
 
-/// Whether a link over a pipe that closes behind a text gives just these answers, a hundred bytes a
+/// Whether a link over a pipe that closes after a text gives just these answers, a hundred bytes a
 /// read.
 fn gives(alloc: Global, net: &Net, text: &[u8], wanted: &[Pull]) -> Result<bool, AllocError> {
     let mut link = SocketLink::new();

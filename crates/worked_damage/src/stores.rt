@@ -56,7 +56,7 @@ fn a_file_of_each_length_is_short(rt: HostRuntime) -> Result<(), Fail> {
 const OTHER: &[u8; 36] = b"TKT2\0\x02\0\x01\0\x01\0\x01\0\x01\0\0\
     \0\0\0\x04\0\x03\0\x01\0\0\0\x06\0\0\xff\xff\0\x05\0\x04";
 
-/// That file with a number behind it.
+/// That file with a number after it.
 const LONG: &[u8; 38] = b"TKT2\0\x02\0\x01\0\x01\0\x01\0\x01\0\0\
     \0\0\0\x04\0\x03\0\x01\0\0\0\x06\0\0\xff\xff\0\x05\0\x04\0\0";
 

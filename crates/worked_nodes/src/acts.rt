@@ -3,7 +3,7 @@ use crate::stage::{Run, attend_once, turn_once};
 use crate::wires::{Pair, Queue};
 use node_core::Node;
 
-/// What the other end of a connection does, or what is to be seen there.
+/// What the other end of a connection does, or what can be seen there.
 #[derive(Clone, Copy)]
 pub enum Deed<'a> {
     /// It writes this.
@@ -24,7 +24,7 @@ pub enum Deed<'a> {
     IsLeft,
 }
 
-/// What happens to a node, or what is to be seen of it.
+/// What happens to a node, or what can be seen of it.
 #[derive(Clone, Copy)]
 pub enum Act<'a> {
     /// The next connection comes.
@@ -43,7 +43,7 @@ pub enum Act<'a> {
     At(usize, Deed<'a>),
 }
 
-/// Does it at a connection, and says whether it is as told.
+/// Does it at a connection, and says whether it is as expected.
 fn is_done_at(pair: &Pair, deed: Deed<'_>) -> bool {
     match deed {
         Deed::Writes(bytes) => pair.up.write(bytes) == bytes.len(),
@@ -66,7 +66,7 @@ fn is_done_at(pair: &Pair, deed: Deed<'_>) -> bool {
     }
 }
 
-/// Does it at one of these connections, and says whether it is as told.
+/// Does it at one of these connections, and says whether it is as expected.
 fn is_done_among(pairs: &[Pair], place: usize, deed: Deed<'_>) -> bool {
     match pairs.get(place) {
         Some(pair) => is_done_at(pair, deed),
@@ -74,7 +74,7 @@ fn is_done_among(pairs: &[Pair], place: usize, deed: Deed<'_>) -> bool {
     }
 }
 
-/// Whether what is to be seen of a node is as told.
+/// Whether what can be seen of a node is as expected.
 fn is_seen(node: &Node, act: Act<'_>) -> bool {
     match act {
         Act::Has(waiting, lent) => node.waiting() == waiting && node.lent() == lent,
@@ -84,19 +84,19 @@ fn is_seen(node: &Node, act: Act<'_>) -> bool {
     }
 }
 
-/// Makes a turn, which is as told.
+/// Makes a turn, which is as expected.
 fn is_turned(run: &mut Run<'_>) -> bool {
     turn_once(run);
     true
 }
 
-/// Lets the node attend to what came, which is as told.
+/// Lets the node attend to what came, which is as expected.
 fn is_attended(run: &mut Run<'_>) -> bool {
     attend_once(run);
     true
 }
 
-/// Does it, and says whether it is as told.
+/// Does it, and says whether it is as expected.
 fn is_done(run: &mut Run<'_>, door: &Queue<'_>, pairs: &[Pair], act: Act<'_>) -> bool {
     match act {
         Act::Comes => door.knock().is_some(),
@@ -107,7 +107,7 @@ fn is_done(run: &mut Run<'_>, door: &Queue<'_>, pairs: &[Pair], act: Act<'_>) ->
     }
 }
 
-/// The place of the first act that is not as told.
+/// The place of the first act that is not as expected.
 pub fn first_wrong(
     run: &mut Run<'_>,
     door: &Queue<'_>,

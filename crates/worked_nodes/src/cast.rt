@@ -75,7 +75,7 @@ pub fn on_stage<T, F: FnOnce(&mut Run<'_>, &Queue<'_>, &[Pair]) -> Result<T, Fai
     deed(&mut run, &comers, all)
 }
 
-/// The place of the first act that is not as told, over two new connections.
+/// The place of the first act that is not as expected, over two new connections.
 pub fn wrong_act(alloc: Global, cast: Cast, acts: &[Act<'_>]) -> Result<Option<usize>, Fail> {
     on_stage(alloc, cast, 2, |run, comers, pairs| {
         Ok(first_wrong(run, comers, pairs, acts))

@@ -76,7 +76,7 @@ fn a_client_that_cannot_be_told_has_left(rt: HostRuntime) -> Result<(), Fail> {
     as_told(wrong_act(rt.alloc(), Cast::Token, &CUT_OFF), &None)
 }
 
-/// The place of the first act that is not as told where a client writes this and is to hear that.
+/// The place of the first act that is not as expected where a client writes this and must hear that.
 fn wrong_in_line<'a>(alloc: Global, line: &'a [u8], want: &'a [u8]) -> Result<Option<usize>, Fail> {
     let acts = [
         Comes,
@@ -88,7 +88,7 @@ fn wrong_in_line<'a>(alloc: Global, line: &'a [u8], want: &'a [u8]) -> Result<Op
     wrong_act(alloc, Cast::Token, &acts)
 }
 
-/// The place of the first of these lines whose answer is not as told.
+/// The place of the first of these lines whose answer is not as expected.
 fn wrong_line<'a>(alloc: Global, lines: &[(&'a [u8], &'a [u8])]) -> Result<Option<usize>, Fail> {
     for (place, (line, want)) in lines.iter().enumerate() {
         if wrong_in_line(alloc, line, want)?.is_some() {

@@ -32,7 +32,7 @@ fn turn_both(near: &mut Run<'_>, far: &mut Run<'_>) {
 }
 
 /// Runs two nodes over these connections, of which the first two are the clients', and lets the
-/// call behind that number of others fail. Whether both settle, node 1 below node 0, and whether
+/// call after that number of others fail. Whether both settle, node 1 below node 0, and whether
 /// that call was made.
 fn settle(alloc: Global, calls: u64, pairs: &[Pair]) -> Result<(bool, bool), Fail> {
     let (near_clients, far_clients) = (Queue::new(pairs, 0, 1), Queue::new(pairs, 1, 2));
@@ -74,7 +74,7 @@ fn are_settled(near: &mut Run<'_>, far: &mut Run<'_>) -> bool {
     is_settled(near.node()) && is_settled(far.node()) && far.node().parent() == Some(0)
 }
 
-/// Fails each call in turn, in a run over connections of its own. The first failure behind which
+/// Fails each call in turn, in a run over connections of its own. The first failure after which
 /// the two do not settle, and whether there are more than 100 calls.
 fn first_unsettled(alloc: Global) -> Result<(Option<u64>, bool), Fail> {
     for calls in 0..10_000 {

@@ -13,7 +13,7 @@ use topology::Net;
 /// What a new node of three says first.
 const FIRST_FRAME: &[u8] = b"F000000000003ffff0000\n";
 
-/// The place of the first act that is not as told where this is said as a hello to node 1.
+/// The place of the first act that is not as expected where this is said as a hello to node 1.
 fn wrong_in_hello(alloc: Global, hello: &[u8], is_welcome: bool) -> Result<Option<usize>, Fail> {
     let acts = [
         Comes,
@@ -25,7 +25,7 @@ fn wrong_in_hello(alloc: Global, hello: &[u8], is_welcome: bool) -> Result<Optio
     wrong_act(alloc, Cast::Row(1), &acts)
 }
 
-/// The place of the first of these that is not as welcome as told.
+/// The place of the first of these that is not as welcome as expected.
 fn wrong_hello(alloc: Global, rows: &[(&[u8], bool)]) -> Result<Option<usize>, Fail> {
     for (place, (hello, is_welcome)) in rows.iter().enumerate() {
         if wrong_in_hello(alloc, hello, *is_welcome)?.is_some() {
@@ -52,7 +52,7 @@ fn a_hello_of_a_higher_neighbour_alone_is_welcome(rt: HostRuntime) -> Result<(),
     as_told(wrong_hello(rt.alloc(), &HELLOS), &None)
 }
 
-/// A hello in two parts, and a frame behind it.
+/// A hello in two parts, and a frame after it.
 const IN_PARTS: [Act<'static>; 7] = [
     Comes,
     At(0, Writes(b"H00")),
@@ -210,7 +210,7 @@ fn is_as_told(
     Ok(rewired(run, &net, links) == want)
 }
 
-/// The place of the first of these networks of which something else comes, each handed behind the
+/// The place of the first of these networks of which something else comes, each handed after the
 /// one before it.
 fn first_unlike(
     alloc: Global,

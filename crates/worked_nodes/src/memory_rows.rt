@@ -247,7 +247,7 @@ fn is_as_told(
     Ok(rewired(run, &net, links, heap) == want)
 }
 
-/// The place of the first of these networks of which something else comes, each handed behind the
+/// The place of the first of these networks of which something else comes, each handed after the
 /// one before it.
 fn first_unlike(
     alloc: Global,
@@ -284,7 +284,7 @@ fn rewired_on_a_full_heap(
     Ok((unlike, has_gone))
 }
 
-/// What a node that has begun tells of that.
+/// What a node that has begun says of that.
 fn rewired_from(
     alloc: Global,
     begun: &mut Begun<'_, '_>,
@@ -298,7 +298,7 @@ fn rewired_from(
     }
 }
 
-/// What the root of a row tells of that, on this heap.
+/// What the root of a row says of that, on this heap.
 fn rewired_on(alloc: Global, heap: &LocalHeap, pairs: &[Pair]) -> Result<Told, Fail> {
     let (links, clients) = (Queue::new(pairs, 0, 4), Queue::new(pairs, 4, 4));
     let trip = Trip::never();

@@ -22,7 +22,7 @@ fn frame(seq: u16) -> Frame {
     }
 }
 
-/// How many frames are kept at most: a link is pulled twice behind each offer.
+/// How many frames are kept at most: a link is pulled twice after each offer.
 const KEPT: usize = 6;
 
 /// Frames in their order.
@@ -131,7 +131,7 @@ impl<'a> Ends<'a> {
     }
 }
 
-/// Offers three frames, one after the other, and pulls behind each.
+/// Offers three frames, one after the other, and pulls after each.
 fn offer_all(ends: &mut Ends<'_>, net: &Net) {
     for seq in 0..FRAMES {
         ends.offer(frame(seq));
@@ -140,7 +140,7 @@ fn offer_all(ends: &mut Ends<'_>, net: &Net) {
     }
 }
 
-/// The same between two links over these pairs, the first of which stands at first. What is told.
+/// The same between two links over these pairs, the first of which stands at first. What is reported.
 fn exchange<'a>(
     net: &Net,
     (first, second): (&'a Pair, &'a Pair),
@@ -163,7 +163,7 @@ fn is_part(part: &[Frame], whole: &[Frame]) -> bool {
     found == part.len()
 }
 
-/// Whether the frames are told as they should be where one call on this side failed, or none did:
+/// Whether the frames are reported as they should be where one call on this side failed, or none did:
 /// all are taken, the link on this side was broken once, or none was, and those pulled are some of
 /// those taken, in their order. With a connection that fails goes one frame at most.
 fn is_right(told: &Told, side: usize, has_failed: bool) -> bool {
@@ -176,8 +176,8 @@ fn is_right(told: &Told, side: usize, has_failed: bool) -> bool {
         && is_part(told.pulled.all(), told.taken.all())
 }
 
-/// Fails the call behind `calls` others of the first link's pipes, or of the second one's. Whether
-/// that call was made, and whether the frames are told as they should be.
+/// Fails the call after `calls` others of the first link's pipes, or of the second one's. Whether
+/// that call was made, and whether the frames are reported as they should be.
 fn with_a_failure(net: &Net, side: usize, calls: u64) -> (bool, bool) {
     let (first, second) = (Pair::new(), Pair::new());
     let (near_trip, far_trip) = if side == 0 {
@@ -190,7 +190,7 @@ fn with_a_failure(net: &Net, side: usize, calls: u64) -> (bool, bool) {
     (has_failed, is_right(&told, side, has_failed))
 }
 
-/// Fails each call of one side in turn. How many calls there are, and whether each failure was told
+/// Fails each call of one side in turn. How many calls there are, and whether each failure was reported
 /// as it should be; the number of the first that was not.
 fn calls_of(alloc: Global, side: usize) -> Result<(u64, bool), Fail> {
     let net = Net::make(alloc, 3, 0, 1, 0, &[(0, 1), (1, 2)])?;

@@ -257,7 +257,7 @@ fn is_as_told(alloc: Global, kept: usize, want: Option<StartFault>) -> Result<bo
     Ok(told == [(Some(StartFault::Absent), None), (want, None)])
 }
 
-/// The place of the first of these that is not as told.
+/// The place of the first of these that is not as expected.
 fn first_unlike(
     alloc: Global,
     rows: &[(usize, Option<StartFault>)],

@@ -87,7 +87,7 @@ pub struct Trip {
 }
 
 impl Trip {
-    /// The call behind that number of others fails.
+    /// The call after that number of others fails.
     pub fn after(calls: u64) -> Trip {
         Trip {
             left: Cell::new(Some(calls)),
@@ -238,7 +238,7 @@ pub struct Queue<'a> {
     come: Cell<usize>,
     /// The place of the next one that is let in.
     given: Cell<usize>,
-    /// The place behind the last one.
+    /// The place after the last one.
     end: usize,
 }
 

@@ -24,7 +24,7 @@ fn recorded<A: Allocator + Copy, R: Source>(alloc: A, net: &Net, source: &mut R)
 /// What is recorded of the forged tokens: nine moments, in columns of four, of four and of one.
 const RECORDED: (u64, usize, Option<usize>) = (8, 3, Some(2));
 
-/// Records the forged tokens on a heap, where a read fails behind `calls` reads of at most `piece`
+/// Records the forged tokens on a heap, where a read fails after `calls` reads of at most `piece`
 /// bytes. Whether it failed; none where the answer is not as it should be, or memory stays
 /// allocated.
 fn read_failed(heap: &LocalHeap, net: &Net, piece: usize, calls: u64) -> Option<bool> {
@@ -42,7 +42,7 @@ fn read_failed(heap: &LocalHeap, net: &Net, piece: usize, calls: u64) -> Option<
 /// Of how many bytes a read is at most.
 const PIECES: [usize; 3] = [1, 7, 4096];
 
-/// The first size of pieces, and behind how many reads of them, at which a read does not fail where
+/// The first size of pieces, and after how many reads of them, at which a read does not fail where
 /// it should, or fails where it should not.
 fn first_unlike_read(heap: &LocalHeap, net: &Net) -> Option<(usize, u64)> {
     for piece in PIECES {

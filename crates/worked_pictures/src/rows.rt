@@ -152,7 +152,7 @@ fn nothing_is_shown_of_a_run_that_has_no_sweep(rt: HostRuntime) -> Result<(), Fa
 /// A sweep of two nodes: both tick, and each link hands over what was sent inside.
 const SWEEP: &str = "tick 0\ntick 1\nsend 0 1\ntake 0 1\nsend 1 0\ntake 1 0\n";
 
-/// The recording of two sweeps of two nodes, and of a tick behind them.
+/// The recording of two sweeps of two nodes, and of a tick after them.
 fn swept(alloc: Global, window: Window) -> Result<Recording, Fail> {
     let net = two(alloc)?;
     let text = format!(in alloc; "{SWEEP}{SWEEP}tick 0\n")?;
@@ -169,7 +169,7 @@ fn before(alloc: Global, window: Window) -> Result<(Before, usize), Fail> {
 /// The first sweep and the last that are shown of a run of two, how many events and sweeps were
 /// before the first moment shown, and how many moments are shown.
 ///
-/// Sweeps end behind the events 6 and 12, and the run has 13.
+/// Sweeps end after the events 6 and 12, and the run has 13.
 const BEFORE: [(u64, u64, u64, u64, usize); 4] = [
     (0, 9, 0, 0, 14),
     (1, 9, 6, 0, 8),

@@ -63,7 +63,7 @@ fn numbers(port: &Port) -> Numbers {
     (port.seq(), port.last(), port.copy())
 }
 
-/// What two ports have behind four rounds, and behind three more, with a new link back.
+/// What two ports have after four rounds, and after three more, with a new link back.
 fn have_behind_rounds(
     alloc: Global,
     near: &mut Port,
@@ -128,14 +128,14 @@ fn refuses_what_does_not_fit(port: &mut Port, payload: Payload) -> bool {
         && port.set_copy(parent) == Err(OutOfRange)
 }
 
-/// Whether a port is as new behind a reset.
+/// Whether a port is as new after a reset.
 fn is_reset(port: &mut Port, new: &Frame) -> bool {
     port.reset();
     port.frame() == *new
 }
 
 /// What a new port answers to a write that fits, whether it refuses those that do not, what it
-/// sends and has as its copy then, and whether it is as new behind a reset.
+/// sends and has as its copy then, and whether it is as new after a reset.
 type Written = (Result<(), OutOfRange>, bool, (Frame, Payload), bool);
 
 fn written(alloc: Global) -> Result<Written, NetFault> {
@@ -147,7 +147,7 @@ fn written(alloc: Global) -> Result<Written, NetFault> {
     Ok((answer, is_refused, kept, is_reset(&mut port, &new)))
 }
 
-/// What is sent behind the write that fits.
+/// What is sent after the write that fits.
 const SENT: Frame = Frame {
     seq: 4,
     ack: 3,

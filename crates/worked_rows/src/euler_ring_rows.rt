@@ -3,7 +3,7 @@ use euler_ring::{TreeNeighbours, tree_neighbours};
 use std::test::Fail;
 use test_parts::is_told;
 
-/// Whether the tree neighbour at a place is this one, with these behind it and before it.
+/// Whether the tree neighbour at a place is this one, with these after it and before it.
 fn stands_between(tree: &TreeNeighbours, at: usize, id: u16, next: u16, source: u16) -> bool {
     at < tree.len()
         && tree.get(at) == id
@@ -12,7 +12,7 @@ fn stands_between(tree: &TreeNeighbours, at: usize, id: u16, next: u16, source: 
         && tree.source_for(id) == source
 }
 
-/// The place of the first tree neighbour that is not as told: a row has its number, the one behind
+/// The place of the first tree neighbour that is not as expected: a row has its number, the one after
 /// it and the one before it.
 fn first_unlike(tree: &TreeNeighbours, rows: &[(u16, u16, u16)]) -> Option<usize> {
     for (at, (id, next, source)) in rows.iter().enumerate() {

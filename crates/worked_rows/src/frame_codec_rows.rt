@@ -221,7 +221,7 @@ fn is_read_cut(alloc: Global, net: &Net, cut: usize) -> Result<bool, AllocError>
     gives_the_first(alloc, net, front, back, false)
 }
 
-/// The first cut of the stream behind which it is not read as one frame.
+/// The first cut of the stream after which it is not read as one frame.
 fn first_wrong_cut(alloc: Global) -> Result<Option<usize>, Fail> {
     let net = line_of_three(alloc)?;
     for cut in 0..=STREAM.len() {
@@ -275,7 +275,7 @@ fn a_dropped_half_line_spoils_nothing(rt: HostRuntime) -> Result<(), Fail> {
 /// A line and a half.
 const LINE_AND_HALF: &[u8] = b"F0000000000010000000c\nF00000000";
 
-/// What ends the half line, and four lines more: more frames than there is room for behind one.
+/// What ends the half line, and four lines more: more frames than there is room for after one.
 const REST: &[u8] = b"00010000000c\nF000400030000ffff0000\nF000400030000ffff0000\n\
     F000400030000ffff0000\nF000400030000ffff0000\n";
 

@@ -1,4 +1,4 @@
-//! Worked simulations: texts of events, what is told of them and the states they lead to, with
+//! Worked simulations: texts of events, what is reported of them and the states they lead to, with
 //! every expected text written out by hand.
 //!
 //! Nothing but tests stands here. They are not in the crate that they test because a crate's tests

@@ -43,7 +43,7 @@ struct Row<'a> {
     text: &'a [(&'a str, usize)],
     /// The lines that tell what is refused.
     refusals: &'a str,
-    /// The state behind them.
+    /// The state after them.
     state: &'a str,
     sweeps: u64,
 }
@@ -91,7 +91,7 @@ fn run_text(
     )
 }
 
-/// What the text, in pieces of at most `piece` bytes, is told as, and what `deed` says of its
+/// What the text, in pieces of at most `piece` bytes, is reported as, and what `deed` says of its
 /// output.
 fn simulated<F: FnOnce(&str) -> bool>(
     alloc: Global,
@@ -112,7 +112,7 @@ fn is_output(output: &str, row: &Row<'_>) -> bool {
     output.strip_prefix(row.refusals) == Some(row.state)
 }
 
-/// What a row is told as: with as many refused lines as are told.
+/// What a row is reported as: with as many refused lines as are reported.
 fn summary_of(row: &Row<'_>) -> Summary {
     Summary {
         refused: row.refusals.lines().count() as u64,

@@ -80,7 +80,7 @@ module _ (network : NetworkStays) (leads : MomentLeads) (start : World) (es : Li
   pub moved : UndamagedSplits → RangesStay → NumbersMove → DoNumbersMove start es (world_of now)
   moved splits ranges law = subst (DoNumbersMove start es) led (numbers-move network leads start es seen.judging.in_range splits ranges law)
 
-  -- so its count tells where the world stands
+  -- so its count says where the world stands
   pub reached : FewerSweeps → (sweeps count : ℕ) → IsSweepCount start es count → sweeps ≡ counted_up_to count
       → (needed : Network → ℕ) (P : World → Type 0) → LeadsTo needed P → needed (world_of now).net ≤ sweeps → P (world_of now)
   reached fewer sweeps count counts same needed P law enough =

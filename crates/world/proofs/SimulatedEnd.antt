@@ -1,4 +1,4 @@
--- The end of a simulation: the text of the world, behind the refusal lines.
+-- The end of a simulation: the text of the world, after the refusal lines.
 use Rattle.std.proofs.Common.{◌≡◌, ◌∙◌, ap, sym, ℕ, ◌≤◌, List, [], Option, Some, Result, Ok, Err, IsErrAnd, IfErr, length, arith, inl, inr}
 use Rattle.std.proofs.lemmas.Grind.{common_steps}
 use Rattle.std.proofs.Math.Seq.{take-length, drop-length}
@@ -70,7 +70,7 @@ all_was_read start bytes rest before now (Err fault) ended short write (inl b) =
     rw write (inl (record { count = length bytes; read = (omega arith, ended ∙ ap Some (sym (drop-length bytes))); written = rw (take-length bytes) b }))
 all_was_read start bytes rest before now (Err fault) ended short write (inr b) = rw write (inr (ended, short, b))
 
--- the failures of two calls, one behind the other
+-- the failures of two calls, one after the other
 pub rose_then : (failures more most : ℕ) → failures ≤ more → Rose more most → Rose failures most
 rose_then failures more most higher rose = grind (arith, common_steps)
 

@@ -47,7 +47,7 @@ pub fails_on_the_way : {E : Type 0} (result : Result (Unit {0}) E) (bytes : List
 fails_on_the_way (Ok value) bytes before after failures more failed b higher rose = grind (arith, common_steps)
 fails_on_the_way (Err e) bytes before after failures more failed b higher rose = (b, higher, rose)
 
--- a list is what stands in front of an item, the item, and what stands behind it
+-- a list is what stands in front of an item, the item, and what stands after it
 pub item_parts : (xs : List ℕ) (i : ℕ) → i < length xs → xs ≡ take i xs ++ (get_or xs i 0 ∷ drop (i + 1) xs)
 item_parts xs i there = grind (arith, common_steps)
 

@@ -8,7 +8,7 @@ use Rattle.run_model.specs.Count.{after_damage}
 use Rattle.run_model.specs.declared.event.Event.{Event}
 use Rattle.tree_convergence.specs.Present.{number_moves}
 
--- wherever the events since the last damage hold two sweeps behind some first ones, the number that
+-- wherever the events since the last damage hold two sweeps after some first ones, the number that
 -- u sends to v moves in them
 abbrev pub DoNumbersMove : World → List Event → World → Type 0
 DoNumbersMove start es now =

@@ -42,7 +42,7 @@ abbrev pub refusal_line : ℕ → Option (List ℕ) → List ℕ
 refusal_line number None = []
 refusal_line number (Some name) = codes "line " ++ decimal number ++ codes ": " ++ name ++ codes "\n"
 
--- the world behind a line
+-- the world after a line
 abbrev pub line_step : World → TextLine → World
 line_step w (Told event) = step w event
 line_step w _ = w
@@ -57,7 +57,7 @@ abbrev pub refused_lines : World → List TextLine → ℕ
 refused_lines w [] = 0
 refused_lines w (line ∷ lines) = (if is_some (line_refusal w line) then 1 else 0) + refused_lines (line_step w line) lines
 
--- the event that a line tells, if it tells one
+-- the event that a line spells, if it spells one
 abbrev pub told_event : TextLine → List Event
 told_event (Told event) = event ∷ []
 told_event _ = []

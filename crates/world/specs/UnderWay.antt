@@ -23,11 +23,11 @@ pub record SimulationView : Type 0 where
   pub refused : ℕ
 
 -- whatever the one judge has seen, the other has seen that and then the event of the line, if it
--- tells one
+-- spells one
 abbrev pub HasSeenLine : JudgeView → TextLine → JudgeView → Type 0
 HasSeenLine old line new = (start : World) (es : List Event) → HasSeen old start es → HasSeen new start (es ++ told_events (line ∷ []))
 
--- These lines have been run from the start on, and their refusal lines were written behind what the
+-- These lines have been run from the start on, and their refusal lines were written after what the
 -- sink had taken before.
 pub record HasRun (start : World) (lines : List TextLine) (before now : Option (List ℕ)) (s : SimulationView) : Type 0 where
   pub seen : HasSeen s.judge start (told_events lines)
@@ -45,8 +45,8 @@ abbrev pub Runs : {E : Type 0} → Result (Unit {0}) E → World → List TextLi
 Runs (Ok _) start lines before now s = HasRun start lines before now s
 Runs (Err _) start lines before now s = TakesABeginning (refusals_of start lines) before now
 
--- whatever lines have been run, the next one is run behind them; the sink's bytes are those before
--- the call and behind it
+-- whatever lines have been run, the next one is run after them; the sink's bytes are those before
+-- the call and after it
 abbrev pub RunsNext : {E : Type 0} → SimulationView → Option (List ℕ) → TextLine → Result (Unit {0}) E → SimulationView → Option (List ℕ) → Type 0
 RunsNext old taken line result new taken_now =
     (start : World) (lines : List TextLine) (before : Option (List ℕ)) → HasRun start lines before taken old → Runs result start (lines ++ line ∷ []) before taken_now new
@@ -62,7 +62,7 @@ abbrev pub GoesOn : {E : Type 0} → Result (Unit {0}) E → World → List ℕ 
 GoesOn (Ok _) start bytes before now s = IsUnderWay start bytes before now s
 GoesOn (Err _) start bytes before now s = TakesABeginning (refusals_of start (ended_lines bytes)) before now
 
--- whatever bytes have been taken, this piece is taken behind them
+-- whatever bytes have been taken, this piece is taken after them
 abbrev pub TakesNext : {E : Type 0} → SimulationView → Option (List ℕ) → List ℕ → Result (Unit {0}) E → SimulationView → Option (List ℕ) → Type 0
 TakesNext old taken piece result new taken_now =
     (start : World) (bytes : List ℕ) (before : Option (List ℕ)) → IsUnderWay start bytes before taken old → GoesOn result start (bytes ++ piece) before taken_now new

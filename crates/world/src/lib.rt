@@ -1,4 +1,4 @@
-//! The world of a network, and the events text that tells what happens in it.
+//! The world of a network, and the events text that says what happens in it.
 //!
 //! [`events`] reads that text, in pieces of any size: a line is `send U V`, `take U V`, `tick V`
 //! and so on, or one that begins with `harm` and writes a part of the world, as a fault would.
@@ -38,11 +38,11 @@
 //! let world = World::from_parts(Parts { nodes, links, room });
 //! ```
 //!
-//! The trap: the parts are to be one world's, each node at the place of its id.
+//! The trap: the parts must be one world's, each node at the place of its id.
 //!
 //! [`simulation::simulate`] does the same from bytes to bytes: it reads an events text from a
 //! source, in pieces, and writes to a sink what becomes of it. `streams` has sources and sinks over
-//! memory; a program puts files behind the two traits:
+//! memory; a program implements the two traits with files:
 //!
 //! ```
 //! let Summary { refused, sweeps } = simulate(alloc, &net, &mut source, &mut sink)?;

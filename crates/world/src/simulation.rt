@@ -1,4 +1,4 @@
-//! A run that is told as a text, and shown as one.
+//! A run that is given as a text, and shown as one.
 //!
 //! ```
 //! let mut source = MemorySource::new(b"tick 0\nsend 0 1\ntake 0 1\n", 4096);
@@ -115,7 +115,7 @@ pub fn simulate<A: Allocator + Copy, N: Allocator + Copy, R: Source, W: Sink>(
     source: &mut R,
     sink: &mut W,
 ) -> Result<Summary, SimFault>
-    // Where the source tells its bytes: what was read and written of them, case by case.
+    // If the source says its bytes: what was read and written of them, case by case.
     ensures text { (bytes : List ℕ) → R.rest source.old ≡ Some bytes
         → IsSimulated (simulated_start net.now) bytes (R.rest source.new) (W.taken sink.old)
         (W.taken sink.new) result }

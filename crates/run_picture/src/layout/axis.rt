@@ -23,7 +23,7 @@ pub struct AxisNumber {
     pub event: u64,
 }
 
-/// Draws the ticks of the axis. The first moment is that behind as many events, and a column shows
+/// Draws the ticks of the axis. The first moment is that after as many events, and a column shows
 /// as many moments.
 pub fn draw_axis(
     canvas: &mut Canvas,
@@ -93,7 +93,7 @@ fn axis_numbers(
     Ok(numbers)
 }
 
-/// The number of the moment behind as many events.
+/// The number of the moment after as many events.
 fn number_at(first: u64, moments: u64, event: u64) -> AxisNumber
     ensures { result ≡ number_at first moments event }
 {

@@ -184,7 +184,7 @@ fn draw_names(canvas: &mut Canvas, page: Page, y: Px) -> Result<(), AllocError>
     canvas.words(title, Anchor::End, Colour::Ink, "events since the start")
 }
 
-/// Draws a piece of a line, and says behind it what the line is.
+/// Draws a piece of a line, and says after it what the line is.
 fn draw_name(canvas: &mut Canvas, at: Point, name: &str, stroke: Stroke) -> Result<(), AllocError>
     ensures { OnOk result (drawn canvas.new
         ≡ drawn canvas.old ++ name_shown at.x.0 at.y.0 name.now (pen_of stroke)) }

@@ -53,7 +53,7 @@ pub enum Sign {
 }
 
 impl Sign {
-    /// How far behind its place its meaning stands.
+    /// How far after its place its meaning stands.
     fn room(self) -> Px
         ensures { result.0 ≡ room_of self }
     {
@@ -162,7 +162,7 @@ fn column_words(alloc: Global, width: u64) -> Result<String, AllocError>
     }
 }
 
-/// Draws a sign, writes behind it what it means, and says where the next one may stand.
+/// Draws a sign, writes after it what it means, and says where the next one may stand.
 fn explain(canvas: &mut Canvas, at: Point, sign: Sign, meaning: &str) -> Result<Point, AllocError>
     ensures signs { OnOk result (drawn canvas.new
         ≡ drawn canvas.old ++ (sign_shown at.x.0 at.y.0 sign

@@ -20,7 +20,7 @@ impl<A: Allocator + Copy> Net<A> {
     /// already, `BadEdge` where one of the two is no node, `LoopEdge` where they are the same,
     /// `DoubleEdge` where an edge joins them.
     pub fn join(&mut self, u: u16, v: u16) -> Result<(), NetFault>
-        // It joins exactly where nothing forbids it; else the first fault in their order is told.
+        // It joins exactly where nothing forbids it; else the first fault in their order is reported.
         ensures allowed { OnOk result (join_fault self.old u v ≡ None) }
         ensures joined { OnOk result (self.new ≡ joined_net self.old u v) }
         ensures refused { IfErr result (λ fault. join_fault self.old u v ≡ Some fault) }
@@ -51,7 +51,7 @@ impl<A: Allocator + Copy> Net<A> {
     /// node, `NoEdge` where no edge joins them, `Apart` where the other edges do not hold the nodes
     /// together.
     pub fn part(&mut self, u: u16, v: u16) -> Result<(), NetFault>
-        // It parts exactly where nothing forbids it; else the first fault in their order is told.
+        // It parts exactly where nothing forbids it; else the first fault in their order is reported.
         ensures allowed { OnOk result (part_fault self.old u v ≡ None) }
         ensures parted { OnOk result (self.new ≡ parted_net self.old u v) }
         ensures refused { IfErr result (λ fault. part_fault self.old u v ≡ Some fault) }

@@ -23,7 +23,7 @@ harm join 0 1
 harm join 0 4
 ";
 
-/// What stands on the square behind that.
+/// What stands on the square after that.
 const PARTED: &str = "\
 node 0 distance 4 parent none token no lent none waiting 0
 node 1 distance 4 parent none token no lent none waiting 0
@@ -123,7 +123,7 @@ fn is_parted_for_long(output: &str) -> bool {
     lines_begin(output, &OTHER_PARENT) && output.ends_with("\nsweeps 461 of 461\n")
 }
 
-/// What a text is told as on the square, and whether its output is so.
+/// What a text is reported as on the square, and whether its output is so.
 fn on_the_square(alloc: Global, text: &str) -> Result<(Summary, bool), Fail> {
     let net = square(alloc)?;
     simulated(alloc, &net, text, 4096, is_parted_for_long)
@@ -154,7 +154,7 @@ fn star(alloc: Global) -> Result<Net, Fail> {
 }
 
 /// What happens on the star, and what is answered: eight edges join it, which are as many as there
-/// are spare pairs of links, and behind each that goes another may join.
+/// are spare pairs of links, and after each that goes another may join.
 const ON_THE_STAR: [(&str, Result<(), EventFault>); 14] = [
     ("harm join 1 2", Ok(())),
     ("harm join 1 3", Ok(())),

@@ -48,7 +48,7 @@ fn refusals_within(alloc: Global, bytes: usize) -> Result<String, AllocError> {
     Ok(text)
 }
 
-/// What all lines are told as.
+/// What all lines are reported as.
 const ALL: Summary = Summary {
     refused: 7,
     sweeps: 0,
@@ -60,12 +60,12 @@ struct Outcome {
     /// Whether that call was made.
     has_failed: bool,
     answer: Result<Summary, SimFault>,
-    /// Whether what was written then is what is to be.
+    /// Whether what was written then is what must be.
     is_written: bool,
 }
 
 impl Outcome {
-    /// Whether it is as it is to be, where a call that fails is told as `fault`.
+    /// Whether it is as it must be, where a call that fails is reported as `fault`.
     fn is_right(&self, fault: SimFault) -> bool {
         let want = if self.has_failed { Err(fault) } else { Ok(ALL) };
         self.is_written && self.answer == want
@@ -77,7 +77,7 @@ fn are_refusals(alloc: Global, taken: &[u8], bytes: usize) -> Result<bool, Alloc
     Ok(taken == refusals_within(alloc, bytes)?.as_bytes())
 }
 
-/// Simulates with a read that fails behind `calls` others: then the refusals of whole lines stand
+/// Simulates with a read that fails after `calls` others: then the refusals of whole lines stand
 /// there, and else all.
 fn with_a_failing_read(
     alloc: Global,
@@ -101,7 +101,7 @@ fn with_a_failing_read(
     })
 }
 
-/// Simulates with a write that fails behind `calls` others: then a beginning of the output stands
+/// Simulates with a write that fails after `calls` others: then a beginning of the output stands
 /// there, and else all.
 fn with_a_failing_write(
     alloc: Global,
@@ -122,7 +122,7 @@ fn with_a_failing_write(
     })
 }
 
-/// Behind how many calls a simulation with a failing read does not come out right, or does not fail
+/// After how many calls a simulation with a failing read does not come out right, or does not fail
 /// just as long as there are reads, if there is such a number.
 fn first_wrong_read(alloc: Global, net: &Net, piece: usize) -> Result<Option<u64>, AllocError> {
     // As many reads as there are pieces, and one that finds the end.
@@ -136,7 +136,7 @@ fn first_wrong_read(alloc: Global, net: &Net, piece: usize) -> Result<Option<u64
     Ok(None)
 }
 
-/// The same of a failing write, of which there is at least one, and behind as many calls as there
+/// The same of a failing write, of which there is at least one, and after as many calls as there
 /// are writes none.
 fn first_wrong_write(alloc: Global, net: &Net, piece: usize) -> Result<Option<u64>, AllocError> {
     for calls in 0..1000u64 {

@@ -183,7 +183,7 @@ privileged 1 lending 0
 sweeps 1 of 69
 ";
 
-/// Lines behind that text, and how they are refused.
+/// Lines after that text, and how they are refused.
 const BEHIND_BUSY: [(&str, &str); 12] = [
     ("", ""),
     ("tick 2\n", "line 77: NoNode\n"),
@@ -199,7 +199,7 @@ const BEHIND_BUSY: [(&str, &str); 12] = [
     ("Leave 1 7\n", "line 77: Unread\n"),
 ];
 
-/// The place of the first line that is not refused so behind a text, or changes what that leads to,
+/// The place of the first line that is not refused so after a text, or changes what that leads to,
 /// and the size of pieces, if there is one.
 fn first_changing(
     alloc: Global,

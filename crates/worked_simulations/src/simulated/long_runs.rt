@@ -17,7 +17,7 @@ struct LongRun<'a> {
     lines: usize,
     /// How the nodes' lines begin.
     beginnings: &'a [&'a str],
-    /// How the text ends behind the number of the privileged nodes: none lends, after as many
+    /// How the text ends after the number of the privileged nodes: none lends, after as many
     /// sweeps as there are rounds.
     end: &'a str,
 }
@@ -34,7 +34,7 @@ pub fn lines_begin(text: &str, beginnings: &[&str]) -> bool {
     true
 }
 
-/// Whether a text ends so behind a number of privileged nodes, which are one at most.
+/// Whether a text ends so after a number of privileged nodes, which are one at most.
 fn ends_so(output: &str, end: &str) -> bool {
     match output.strip_suffix(end) {
         Some(front) => front.ends_with("privileged 0") || front.ends_with("privileged 1"),

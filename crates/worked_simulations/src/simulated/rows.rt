@@ -110,7 +110,7 @@ fn a_full_link_loses_and_an_empty_one_gives_nothing(rt: HostRuntime) -> Result<(
 /// Two tickets ask at the root, and it lends to the first.
 const LENT: &str = "ask 0 1\nask 0 2\ntick 0\n";
 
-/// A loan without a lease, and what comes behind it.
+/// A loan without a lease, and what comes after it.
 const WITHOUT_A_LEASE: [Row<'_>; 3] = [
     Row {
         lease: 0,
@@ -169,7 +169,7 @@ fn a_loan_without_a_lease_ends_when_it_is_given_back(rt: HostRuntime) -> Result<
     as_told(first_wrong(rt.alloc(), &WITHOUT_A_LEASE), &None)
 }
 
-/// A loan for one tick, and one tick and two behind it.
+/// A loan for one tick, and one tick and two after it.
 const LEASE_OF_ONE: [Row<'_>; 2] = [
     Row {
         lease: 1,

@@ -81,7 +81,7 @@ fn a_world_is_shown_as_far_as_there_is_room(rt: HostRuntime) -> Result<(), Fail>
     as_told(shown_as_far(rt.alloc()), &(true, None))
 }
 
-/// Whether a world is shown so behind the event of each line, none of which is refused.
+/// Whether a world is shown so after the event of each line, none of which is refused.
 fn is_shown_behind(
     alloc: Global,
     world: &mut World,
@@ -98,7 +98,7 @@ const SENDS: [&str; 6] = [
     "send 2 0", "send 2 1", "send 2 1", "send 1 2", "send 1 2", "send 1 2",
 ];
 
-/// What is shown behind them. The bound is 4(4+1) + 4(3+1) + 48 * 2 * 2 + 1.
+/// What is shown after them. The bound is 4(4+1) + 4(3+1) + 48 * 2 * 2 + 1.
 const SENT: &str = "\
 node 0 distance 3 parent none token no lent none waiting 0
 node 1 distance 3 parent none token no lent none waiting 0
@@ -116,7 +116,7 @@ fn world_of_three(alloc: Global) -> Result<World, Fail> {
     world_of(alloc, Net::make(alloc, 3, 2, 4, 0, &[(2, 1), (0, 2)]))
 }
 
-/// Whether they are shown so behind those lines.
+/// Whether they are shown so after those lines.
 fn are_links_shown(alloc: Global) -> Result<bool, Fail> {
     let mut world = world_of_three(alloc)?;
     Ok(is_shown_behind(alloc, &mut world, &SENDS, SENT)?)

@@ -1,4 +1,4 @@
-//! The line that tells of a refused line.
+//! The line that reports a refused line.
 ghost use Rattle.std.specs.Prelude.{◌≡◌, ◌≤◌, Some, length};
 ghost use Rattle.world.specs.SimulatedText.{fault_name, refusal_line};
 ghost use Rattle.byte_streams.specs.Streams.{WritesAll};

@@ -57,7 +57,7 @@ impl<A: Allocator + Copy> Simulation<A> {
         }
     }
 
-    /// Reads the text to its end, and runs what it tells.
+    /// Reads the text to its end, and runs its events.
     pub fn read_all<R: Source, W: Sink>(
         &mut self,
         source: &mut R,
@@ -131,7 +131,7 @@ impl<A: Allocator + Copy> Simulation<A> {
         self.rare_line(line, sink)
     }
 
-    /// Takes a piece of the text: its events happen, and its refused lines are told.
+    /// Takes a piece of the text: its events happen, and its refused lines are reported.
     fn take<W: Sink>(&mut self, piece: &[u8], sink: &mut W) -> Result<(), Failed>
         requires { self.old.lines + length piece.now < 2 ^ 64 }
         ensures lines { self.new.lines ≤ self.old.lines + length piece.now }
@@ -170,7 +170,7 @@ impl<A: Allocator + Copy> Simulation<A> {
         self.line(line, sink)
     }
 
-    /// The next line: its event happens, or it is told that it is refused.
+    /// The next line: its event happens, or it is reported as refused.
     // A call of its own would write the event to memory for each line, and read it again.
     #[inline(always)]
     fn line<W: Sink>(&mut self, line: TextLine, sink: &mut W) -> Result<(), Failed>

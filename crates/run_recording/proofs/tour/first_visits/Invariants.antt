@@ -4,7 +4,7 @@ use Rattle.run_recording.specs.Visits.{visit_of, IsOnTree, LeadsAlong, with_new,
 use Rattle.run_recording.proofs.tour.first_visits.Given as goal
 
 -- the tour goes on along the stops that are left, and the nodes that they come to are still to be
--- put behind the others
+-- put after the others
 abbrev pub invariant-loop : goal.invariant-loop
 invariant-loop l =
     IsOnTree l.net (visit_of l.visit)
