@@ -98,9 +98,9 @@ class Network:
             self.start(node)
 
     def bound(self, *words):
-        """The lines of `bound`, by their first words."""
+        """The numbers that `bound` prints, by the words before them."""
         text = subprocess.run([self.program, "bound", self.file, *words], check=True, capture_output=True, text=True).stdout
-        return dict(line.rsplit(" ", 1) for line in text.splitlines())
+        return dict(line.removesuffix(" ms").rsplit(" ", 1) for line in text.splitlines())
 
     def start(self, node):
         words = [self.program, "node", self.file, str(node), self.run]

@@ -84,8 +84,8 @@ def try_fault(net, fault, rng):
         "lent": took / 1e6 if took is not None else None,
         "turn": turn,
         "loan": loan,
-        "recovers": int(proved["recovers within"].removesuffix(" ms")),
-        "lends": int(proved["lends within"].removesuffix(" ms")),
+        "recovers": int(proved["recovers within"]),
+        "lends": int(proved["lends within"]),
     }
 
 
