@@ -1,0 +1,3 @@
+pub mod Passing
+pub mod Phases
+pub mod Turning
