@@ -14,9 +14,9 @@ use Rattle.socket_links.specs.declared.writing.Flow.{Flow}
 use Rattle.socket_links.specs.declared.writing.Flow.TheVariants as flow
 use Rattle.node_loop.specs.declared.port.NodePort.{NodePort}
 use Rattle.node_loop.specs.Hearing.{Wires, Pulls, Breaks}
-use Rattle.node_loop.specs.Speaking.{Follows, OffersIf, OffersLine, PushesOut, PortSpeaks, SpeaksTo, sent_if}
+use Rattle.node_loop.specs.Speaking.{Follows, OffersIf, PushesOut, PortSpeaks, SpeaksTo, sent_if}
 use Rattle.node_loop.proofs.Pushing.{offered-on}
-use Rattle.processes.specs.Connections.{line_of, lines_of}
+use Rattle.processes.specs.Connections.{line_of}
 use Rattle.running_nodes.proofs.Passing.{Passes, pass-same, pass-on, pass-break, pass-new, pass-join, pass-then}
 
 none-of : {X : Type 0} (o : Option X) → is_some o ≡ false → o ≡ None

@@ -1,9 +1,8 @@
 -- Turns, one after the other.
-use Rattle.std.proofs.Common.{◌≡◌, ◌⊎◌, ◌<◌, ℕ, false, List, [], ◌∷◌, ◌++◌, Option, None, Some, Contains, slice_get, slice_index_or, refl, inl, inr, ap, sym, subst, ◌∙◌, append-nil}
+use Rattle.std.proofs.Common.{◌≡◌, ◌<◌, ℕ, false, List, [], ◌∷◌, ◌++◌, Option, None, Some, Contains, slice_get, slice_index_or, refl, inl, inr, ap, sym, subst, ◌∙◌, append-nil}
 use Rattle.topology.specs.declared.frame.Frame.{Frame}
 use Rattle.topology.specs.declared.frame.Ranges.{Ranges}
 use Rattle.data_link.specs.Port.{frame_of}
-use Rattle.node_core.specs.Site.{Site}
 use Rattle.node_core.specs.View.{site_in, state_of}
 use Rattle.node_core.specs.declared.ticked.Ticked.{Ticked}
 use Rattle.pace.specs.Plans.{port_of}
@@ -22,7 +21,7 @@ use Rattle.node_loop.proofs.Hearing.{both-join}
 use Rattle.running_nodes.specs.Stood.{Start, Stood, IsStood, PortWas, StartsAt, all_sent, all_taken}
 use Rattle.running_nodes.specs.Stretches.{Went, IsTurn, Goes, all_deeds}
 use Rattle.running_nodes.specs.Laws.{TurnsLead, TurnsGoByConnections}
-use Rattle.running_nodes.proofs.Passing.{Closed, Opened, IsOpen, Passed, Passes, closed, pass-join, pass-same, sent-more, taken-more, all-more}
+use Rattle.running_nodes.proofs.Passing.{Passes, closed, pass-join, pass-same, sent-more, taken-more, all-more}
 use Rattle.running_nodes.proofs.Phases.{wires-pass, pulls-pass, speaks-pass}
 
 is-some : {X : Type 0} (a b : X) → Some a ≡ Some b → a ≡ b
@@ -161,12 +160,14 @@ module _ {P : Type 0} (gave took : P → Option (List ℕ)) (counts : P → Coun
         pushed = subst (λ xs. IsPushed took xs a) (sym (append-nil start.taken)) at.pushed;
         loose = λ e. (refl, refl);
       }) in
-      let end = closed r gave took passed.now b passed.opened in
-      (passed.ended ++ end.ended, record {
-        each = all-more (IsStood r gave took) passed.ended end.ended passed.each end.each;
-        takes = taken-more passed.ended end.ended ∙ (ap (λ xs. all_taken passed.ended ++ xs) end.takes ∙ passed.takes);
-        sends = sent-more passed.ended end.ended ∙ (ap (λ xs. all_sent passed.ended ++ xs) end.sends ∙ passed.sends);
-      })
+      let end = closed r gave took passed.now b passed.opened in (
+        passed.ended ++ end.ended,
+        record {
+          each = all-more (IsStood r gave took) passed.ended end.ended passed.each end.each;
+          takes = taken-more passed.ended end.ended ∙ (ap (λ xs. all_taken passed.ended ++ xs) end.takes ∙ passed.takes);
+          sends = sent-more passed.ended end.ended ∙ (ap (λ xs. all_sent passed.ended ++ xs) end.sends ∙ passed.sends);
+        },
+      )
 
   pub turns-go : TurnsGoByConnections gave took counts
   turns-go old last ts w port start h within has there at = by (slice_get old.ports w) (slice_get last.ports w) there (goes-pass ts old last w within has h) where
