@@ -154,3 +154,38 @@ module _ {P : Type 0} (gave took : P → Option (List ℕ)) (counts : P → Coun
         clients-send-none w leaves.deeds (leave-kinds leaves.deeds leaves.kinds),
       )
       (append-nil (sent_to w sends))
+
+  -- the same of what is done between two turns
+  pub attend-takes : (t : Attends gave took counts now old new) (w : ℕ) → taken_from w t.account ≡ taken_from w t.listens.hears.takes.deeds
+  attend-takes t w =
+      let takes = t.listens.hears.takes in
+      let serves = t.listens.serves in
+      let sends = t.speaks.sends in
+      let leaves = t.leaves in
+      rw (
+        t.account_is,
+        taken-join w takes.deeds (serves.deeds ++ (sends ++ leaves.deeds)),
+        taken-join w serves.deeds (sends ++ leaves.deeds),
+        taken-join w sends leaves.deeds,
+        clients-take-none w serves.deeds serves.kinds,
+        sends-take-none w sends t.speaks.kinds,
+        clients-take-none w leaves.deeds (leave-kinds leaves.deeds leaves.kinds),
+      )
+      (append-nil (taken_from w takes.deeds))
+
+  pub attend-sends : (t : Attends gave took counts now old new) (w : ℕ) → sent_to w t.account ≡ sent_to w t.speaks.sends
+  attend-sends t w =
+      let takes = t.listens.hears.takes in
+      let serves = t.listens.serves in
+      let sends = t.speaks.sends in
+      let leaves = t.leaves in
+      rw (
+        t.account_is,
+        sent-join w takes.deeds (serves.deeds ++ (sends ++ leaves.deeds)),
+        sent-join w serves.deeds (sends ++ leaves.deeds),
+        sent-join w sends leaves.deeds,
+        takes-send-none w takes.deeds takes.kinds,
+        clients-send-none w serves.deeds serves.kinds,
+        clients-send-none w leaves.deeds (leave-kinds leaves.deeds leaves.kinds),
+      )
+      (append-nil (sent_to w sends))

@@ -1,0 +1,5 @@
+pub mod Passing
+pub mod Phases
+pub mod Turning
+pub mod Joining
+pub mod Whole

@@ -1,0 +1,5 @@
+pub mod Stretches
+pub mod Stood
+pub mod Pipes
+pub mod Running
+pub mod Laws

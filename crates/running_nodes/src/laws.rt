@@ -1,0 +1,32 @@
+//! What holds of nodes that run: each law is the contract of a function that does nothing.
+ghost use Rattle.running_nodes.specs.Laws.{TurnsLead, TurnsGoByConnections, EndsAreConnections};
+ghost use Rattle.running_nodes.specs.Laws.{NodeRunsAreProcesses, NodeRunsKeepPromise};
+
+use socket_links::Pipe;
+
+/// The turns of a node, strung together: what it did leads from the first moment to the last, and at
+/// each port it took and sent exactly the frames of the connections that stood there.
+pub fn turns<P: Pipe>()
+    ensures lead { TurnsLead P.gave P.took P.counts }
+    ensures connections { TurnsGoByConnections P.gave P.took P.counts }
+{}
+
+/// The two ends of a connection: where the one pipe gives a beginning of what the other took, it
+/// carries the frames that were sent at the one end, in order, as far as they came.
+pub fn ends<P: Pipe>()
+    ensures { EndsAreConnections P.gave P.took }
+{}
+
+/// The headline and the service of nodes that run, whole. What is asked: each node goes by turns of
+/// a `NodeRun`, and by `attend` between them; what its ports keep at first is what their pipes gave
+/// and have yet to write; and of the pipes that the premises of links of bytes hold: each gives a
+/// beginning of what the other end took, connections follow one another, and at most as many frames
+/// as the capacity are under way.
+pub fn promise<P: Pipe>()
+    ensures are { NodeRunsAreProcesses P.gave P.took P.counts }
+    ensures keep { NodeRunsKeepPromise P.gave P.took P.counts }
+{
+    topology::laws::joined();
+    topology::laws::neighbours();
+    processes::laws::promise_over_bytes();
+}
