@@ -1,0 +1,195 @@
+//! The events that the accounts of turns make, and the world to which they lead.
+use crate::account::{Account, Deed, Line};
+use crate::sameness::is_same_node;
+use frame_codec::encode;
+use judge::{Judge, World};
+use node_core::Node;
+use run_model::{Event, EventFault, Harm};
+use std::alloc::{AllocError, Global};
+use topology::Net;
+
+/// What a replay finds wrong.
+#[derive(Clone, Copy, Debug, PartialEq, Eq)]
+pub enum Wrong {
+    /// A line was sent that is not of the frame at that port of the world's node.
+    SentOther,
+    /// A line was sent on a link that holds as much as it can.
+    SentOnFull,
+    /// A line was taken that is not the oldest under way on its link.
+    TookOther,
+    /// The world refused an event that is no ask or leave which its desk refuses, or the judge
+    /// answered otherwise than the world.
+    Refused,
+    /// The world's node is another one than that which ran.
+    OtherNode,
+    /// There is no such node.
+    NoNode,
+    /// Memory was refused.
+    Memory,
+}
+
+/// A world and a judge to which the events of all turns so far happened.
+#[derive(Drop)]
+pub struct Replay {
+    world: World,
+    judge: Judge,
+    /// The lines that were sent and neither taken nor lost.
+    under_way: Vec<Line>,
+    /// How many events there were.
+    events: u64,
+    /// How many of them were losses.
+    losses: u64,
+}
+
+/// Whether a desk may refuse this so.
+fn is_excused(event: &Event, fault: EventFault) -> bool {
+    match event {
+        Event::Ask { .. } => fault == EventFault::Full || fault == EventFault::Twice,
+        Event::Leave { .. } => fault == EventFault::Stranger,
+        _ => false,
+    }
+}
+
+impl Replay {
+    /// A replay in which nothing happened yet.
+    pub fn new(alloc: Global, net: &Net) -> Result<Replay, AllocError> {
+        Ok(Replay {
+            world: World::new(alloc, net)?,
+            judge: Judge::new(World::new(alloc, net)?),
+            under_way: Vec::new(alloc),
+            events: 0,
+            losses: 0,
+        })
+    }
+
+    /// One event happens.
+    pub fn step(&mut self, event: &Event) -> Result<(), Wrong> {
+        self.events = self.events.saturating_add(1);
+        let answer = self.world.step(event);
+        if self.judge.step(event) != answer {
+            return Err(Wrong::Refused);
+        }
+        match answer {
+            Ok(()) => Ok(()),
+            Err(fault) if is_excused(event, fault) => Ok(()),
+            Err(_) => Err(Wrong::Refused),
+        }
+    }
+
+    /// What was under way on earlier connections of a line's link is lost.
+    fn lose_older(&mut self, line: &Line) -> Result<(), Wrong> {
+        let older = self
+            .under_way
+            .iter()
+            .filter(|other| other.is_older(line))
+            .count();
+        self.under_way.retain(|other| !other.is_older(line));
+        let (from, to) = (line.from, line.to);
+        for _ in 0..older {
+            self.losses = self.losses.saturating_add(1);
+            self.step(&Event::Lose { from, to, item: 0 })?;
+        }
+        Ok(())
+    }
+
+    /// Whether a line is of the frame that the world's node has for that port, and whether the link
+    /// has room for it.
+    fn check_sent(&self, line: &Line) -> Result<(), Wrong> {
+        let nodes = self.world.net().nodes();
+        if line.from >= nodes || line.to >= nodes {
+            return Err(Wrong::NoNode);
+        }
+        let node = self.world.node(line.from);
+        if line.to >= node.ranges().nodes {
+            return Err(Wrong::NoNode);
+        }
+        if encode(&node.frame_for(line.to)) != line.bytes {
+            return Err(Wrong::SentOther);
+        }
+        if self.world.under_way(line.from, line.to) >= self.world.net().capacity() as usize {
+            return Err(Wrong::SentOnFull);
+        }
+        Ok(())
+    }
+
+    /// A line was sent.
+    fn send(&mut self, line: &Line) -> Result<(), Wrong> {
+        self.lose_older(line)?;
+        self.check_sent(line)?;
+        if self.under_way.push(*line).is_err() {
+            return Err(Wrong::Memory);
+        }
+        let (from, to) = (line.from, line.to);
+        self.step(&Event::Send { from, to })
+    }
+
+    /// A line was taken.
+    fn take(&mut self, line: &Line) -> Result<(), Wrong> {
+        self.lose_older(line)?;
+        let Some(place) = self
+            .under_way
+            .iter()
+            .position(|other| other.shares_link(line))
+        else {
+            return Err(Wrong::TookOther);
+        };
+        if self.under_way.remove(place) != *line {
+            return Err(Wrong::TookOther);
+        }
+        let (from, to) = (line.from, line.to);
+        self.step(&Event::Take { from, to })
+    }
+
+    /// A deed was done.
+    fn follow(&mut self, deed: Deed) -> Result<(), Wrong> {
+        match deed {
+            Deed::Takes(line) => self.take(&line),
+            Deed::Sends(line) => self.send(&line),
+            Deed::Asks { node, ticket } => self.step(&Event::Ask { node, ticket }),
+            Deed::Leaves { node, ticket } => self.step(&Event::Leave { node, ticket }),
+        }
+    }
+
+    /// The deeds of an account from one place up to another were done.
+    fn follow_part(&mut self, account: &Account, first: usize, end: usize) -> Result<(), Wrong> {
+        for place in first..end {
+            if let Some(deed) = account.get(place) {
+                self.follow(deed)?;
+            }
+        }
+        Ok(())
+    }
+
+    /// A node's turn was made; whether it ticked.
+    pub fn turn(&mut self, node: u16, account: &Account, ticked: bool) -> Result<(), Wrong> {
+        let heard = account.heard();
+        self.follow_part(account, 0, heard)?;
+        if ticked {
+            self.step(&Event::Tick { node })?;
+        }
+        self.follow_part(account, heard, account.count())
+    }
+
+    /// Whether this is the world's node.
+    pub fn compare(&self, node: &Node) -> Result<(), Wrong> {
+        let id = node.id();
+        if id >= self.world.net().nodes() {
+            return Err(Wrong::NoNode);
+        }
+        if is_same_node(node, self.world.node(id)) {
+            Ok(())
+        } else {
+            Err(Wrong::OtherNode)
+        }
+    }
+
+    /// How many sweeps the judge has counted.
+    pub fn sweeps(&self) -> u64 {
+        self.judge.sweeps()
+    }
+
+    /// How many events there were, and how many of them were losses.
+    pub fn events(&self) -> (u64, u64) {
+        (self.events, self.losses)
+    }
+}

@@ -1,0 +1,142 @@
+//! Runs of some seeds, and connections that go wrong on purpose.
+use crate::replay::Wrong;
+use crate::runs::{Ending, Shape, run_seed};
+use crate::wires::Mistake;
+use std::alloc::Global;
+use std::env;
+use std::test::Fail;
+use test_parts::as_told;
+
+/// A ring of three nodes over links of two frames, where loans have no lease.
+const RING: Shape = (3, 2, 0, &[(0, 1), (1, 2), (0, 2)]);
+
+/// A ring of five nodes with a chord over links of three frames, where a loan's lease is four ticks.
+const CHORD: Shape = (5, 3, 4, &[(0, 1), (1, 2), (2, 3), (3, 4), (0, 4), (1, 3)]);
+
+/// What some runs came to.
+#[derive(Clone, Copy, Debug, PartialEq, Eq)]
+struct Sum {
+    /// The seed of the first run in which something is wrong, and what.
+    wrong: Option<(u64, u32, Wrong)>,
+    /// The seed of the first run in which the count of sweeps did not rise.
+    still: Option<u64>,
+    events: u64,
+    losses: u64,
+    sweeps: u64,
+    made: usize,
+}
+
+/// Adds a run.
+fn add(sum: Sum, seed: u64, ending: Ending) -> Sum {
+    let wrong = ending.wrong.map(|(turn, wrong)| (seed, turn, wrong));
+    let rises = 0 < ending.half && ending.half < ending.sweeps;
+    Sum {
+        wrong: sum.wrong.or(wrong),
+        still: sum.still.or((!rises).then_some(seed)),
+        events: sum.events.saturating_add(ending.events),
+        losses: sum.losses.saturating_add(ending.losses),
+        sweeps: sum.sweeps.saturating_add(ending.sweeps),
+        made: sum.made.saturating_add(ending.made),
+    }
+}
+
+/// Runs the seeds from 1 on.
+fn run_seeds(alloc: Global, shape: Shape, seeds: u64) -> Result<Sum, Fail> {
+    let mut sum = Sum {
+        wrong: None,
+        still: None,
+        events: 0,
+        losses: 0,
+        sweeps: 0,
+        made: 0,
+    };
+    for seed in 1..=seeds {
+        sum = add(sum, seed, run_seed(alloc, shape, None, seed)?);
+    }
+    Ok(sum)
+}
+
+/// How many seeds are run: what `TOKENTREE_SEEDS` says, and else 3.
+fn seeds(rt: &HostRuntime) -> u64 {
+    match env::var(rt, "TOKENTREE_SEEDS") {
+        Ok(text) => text.as_str().parse::<u64>().unwrap_or(3),
+        Err(_) => 3,
+    }
+}
+
+/// Runs the seeds, and prints what they came to. Whether something was wrong, and where the count
+/// of sweeps did not rise.
+fn told(rt: &HostRuntime, shape: Shape) -> Result<(Option<(u64, u32, Wrong)>, Option<u64>), Fail> {
+    let seeds = seeds(rt);
+    let sum = run_seeds(rt.alloc(), shape, seeds)?;
+    println!(rt; "{} nodes, {seeds} seeds: {sum:?}", shape.0)?;
+    Ok((sum.wrong, sum.still))
+}
+
+#[test]
+fn turns_of_three_nodes_are_a_run(rt: HostRuntime) -> Result<(), Fail> {
+    as_told(told(&rt, RING), &(None, None))
+}
+
+#[test]
+fn turns_of_five_nodes_are_a_run(rt: HostRuntime) -> Result<(), Fail> {
+    as_told(told(&rt, CHORD), &(None, None))
+}
+
+/// How many of the first seeds are run with each mistake.
+const MISTAKEN: usize = 5;
+
+/// Whether this may be found where a frame stays under way for good: the next take meets it, or the
+/// link is full before that.
+fn stays_under_way(wrong: Wrong) -> bool {
+    wrong == Wrong::TookOther || wrong == Wrong::SentOnFull
+}
+
+/// Whether this may be found of a mistake. A frame that comes again is not the oldest under way; one
+/// that was dropped, or taken in secret, stays under way. What was taken or asked in secret makes the
+/// node another one, and a frame that it sends then is of another node.
+fn may_be_found(mistake: Mistake, wrong: Wrong) -> bool {
+    match mistake {
+        Mistake::Twice => wrong == Wrong::TookOther,
+        Mistake::Dropped => stays_under_way(wrong),
+        Mistake::Untaken => {
+            wrong == Wrong::OtherNode || wrong == Wrong::SentOther || stays_under_way(wrong)
+        }
+        Mistake::Unasked => wrong == Wrong::OtherNode,
+    }
+}
+
+/// In how many runs with a mistake it was found as it may be.
+fn found(rt: &HostRuntime, mistake: Mistake) -> Result<usize, Fail> {
+    let mut count = 0;
+    for seed in 1..=MISTAKEN {
+        let ending = run_seed(rt.alloc(), RING, Some(mistake), seed as u64)?;
+        println!(rt; "{mistake:?}, seed {seed}: {:?}", ending.wrong)?;
+        if let Some((_, wrong)) = ending.wrong
+            && may_be_found(mistake, wrong)
+        {
+            count += 1;
+        }
+    }
+    Ok(count)
+}
+
+#[test]
+fn a_frame_that_is_passed_on_twice_is_found(rt: HostRuntime) -> Result<(), Fail> {
+    as_told(found(&rt, Mistake::Twice), &MISTAKEN)
+}
+
+#[test]
+fn a_frame_that_is_dropped_is_found(rt: HostRuntime) -> Result<(), Fail> {
+    as_told(found(&rt, Mistake::Dropped), &MISTAKEN)
+}
+
+#[test]
+fn a_take_that_is_left_out_is_found(rt: HostRuntime) -> Result<(), Fail> {
+    as_told(found(&rt, Mistake::Untaken), &MISTAKEN)
+}
+
+#[test]
+fn an_ask_that_is_left_out_is_found(rt: HostRuntime) -> Result<(), Fail> {
+    as_told(found(&rt, Mistake::Unasked), &MISTAKEN)
+}
