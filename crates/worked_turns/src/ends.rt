@@ -160,14 +160,6 @@ pub struct StageDoors<'a> {
     pub stage: &'a Stage,
 }
 
-/// What a door answers where this is what came, or nothing.
-fn door<'a>(came: Option<Other<'a>>, stage: &'a Stage) -> Door<End<'a>> {
-    match came {
-        Some(other) => Door::Came(End::new(other, stage)),
-        None => Door::Nobody,
-    }
-}
-
 impl<'a> Doors for StageDoors<'a> {
     type P = End<'a>;
 
@@ -179,7 +171,7 @@ impl<'a> Doors for StageDoors<'a> {
         let Some(connection) = self.stage.comer(self.node) else {
             return Door::Nobody;
         };
-        door(Some(Other::Neighbour(connection, Side::Lower)), self.stage)
+        Door::Came(End::new(Other::Neighbour(connection, Side::Lower), self.stage))
     }
 
     fn client(&mut self) -> Door<End<'a>> {
@@ -189,13 +181,13 @@ impl<'a> Doors for StageDoors<'a> {
         let Some(ticket) = desk.admit() else {
             return Door::Nobody;
         };
-        door(Some(Other::Client(desk, ticket)), self.stage)
+        Door::Came(End::new(Other::Client(desk, ticket), self.stage))
     }
 
     fn connect(&mut self, neighbour: u16) -> Door<End<'a>> {
         let Some(connection) = self.stage.connect(self.node, neighbour) else {
             return Door::Nobody;
         };
-        door(Some(Other::Neighbour(connection, Side::Higher)), self.stage)
+        Door::Came(End::new(Other::Neighbour(connection, Side::Higher), self.stage))
     }
 }

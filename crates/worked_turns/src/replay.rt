@@ -1,9 +1,13 @@
 //! The events that the accounts of turns make, and the world to which they lead.
 use crate::account::{Account, Deed, Line};
 use crate::sameness::is_same_node;
+use damage_tool::scramble_world;
 use frame_codec::encode;
 use judge::{Judge, World};
 use node_core::Node;
+use node_state_file::encode as encode_state;
+use rand_core::SeedableRng;
+use rand_pcg::Lcg64Xsh32;
 use run_model::{Event, EventFault, Harm};
 use std::alloc::{AllocError, Global};
 use topology::Net;
@@ -28,6 +32,42 @@ pub enum Wrong {
     Memory,
 }
 
+/// What is counted of a replay.
+#[derive(Clone, Copy, Debug, PartialEq, Eq)]
+pub struct Counts {
+    pub events: u64,
+    /// The events that were losses.
+    pub losses: u64,
+    /// The sends after which the link held as much as it can.
+    pub full: u64,
+    /// How often a node attended in place of a turn.
+    pub attended: u64,
+    pub sweeps: u64,
+}
+
+impl Counts {
+    pub fn none() -> Counts {
+        Counts {
+            events: 0,
+            losses: 0,
+            full: 0,
+            attended: 0,
+            sweeps: 0,
+        }
+    }
+
+    /// These and others together.
+    pub fn and(self, other: Counts) -> Counts {
+        Counts {
+            events: self.events.saturating_add(other.events),
+            losses: self.losses.saturating_add(other.losses),
+            full: self.full.saturating_add(other.full),
+            attended: self.attended.saturating_add(other.attended),
+            sweeps: self.sweeps.saturating_add(other.sweeps),
+        }
+    }
+}
+
 /// A world and a judge to which the events of all turns so far happened.
 #[derive(Drop)]
 pub struct Replay {
@@ -35,10 +75,7 @@ pub struct Replay {
     judge: Judge,
     /// The lines that were sent and neither taken nor lost.
     under_way: Vec<Line>,
-    /// How many events there were.
-    events: u64,
-    /// How many of them were losses.
-    losses: u64,
+    counts: Counts,
 }
 
 /// Whether a desk may refuse this so.
@@ -57,14 +94,13 @@ impl Replay {
             world: World::new(alloc, net)?,
             judge: Judge::new(World::new(alloc, net)?),
             under_way: Vec::new(alloc),
-            events: 0,
-            losses: 0,
+            counts: Counts::none(),
         })
     }
 
     /// One event happens.
     pub fn step(&mut self, event: &Event) -> Result<(), Wrong> {
-        self.events = self.events.saturating_add(1);
+        self.counts.events = self.counts.events.saturating_add(1);
         let answer = self.world.step(event);
         if self.judge.step(event) != answer {
             return Err(Wrong::Refused);
@@ -74,6 +110,31 @@ impl Replay {
             Err(fault) if is_excused(event, fault) => Ok(()),
             Err(_) => Err(Wrong::Refused),
         }
+    }
+
+    /// The harms happen that a seed draws for all nodes. Desks stay empty, and so do links.
+    pub fn scramble(&mut self, alloc: Global, seed: u64) -> Result<(), Wrong> {
+        let mut generator = Lcg64Xsh32::seed_from_u64(seed);
+        let mut events = Vec::new(alloc);
+        if scramble_world(self.world.net(), &mut generator, &mut events).is_err() {
+            return Err(Wrong::Memory);
+        }
+        for event in &events {
+            if !matches!(event, Event::Damage(Harm::Desk { .. } | Harm::Item { .. })) {
+                self.step(event)?;
+            }
+        }
+        Ok(())
+    }
+
+    /// The state file of a node of the world, and how long it is.
+    pub fn file_of(&self, id: u16) -> ([u8; 1276], usize) {
+        let mut bytes = [0; 1276];
+        if id >= self.world.net().nodes() {
+            return (bytes, 0);
+        }
+        let count = encode_state(self.world.node(id), self.world.net(), &mut bytes);
+        (bytes, count)
     }
 
     /// What was under way on earlier connections of a line's link is lost.
@@ -86,15 +147,15 @@ impl Replay {
         self.under_way.retain(|other| !other.is_older(line));
         let (from, to) = (line.from, line.to);
         for _ in 0..older {
-            self.losses = self.losses.saturating_add(1);
+            self.counts.losses = self.counts.losses.saturating_add(1);
             self.step(&Event::Lose { from, to, item: 0 })?;
         }
         Ok(())
     }
 
-    /// Whether a line is of the frame that the world's node has for that port, and whether the link
-    /// has room for it.
-    fn check_sent(&self, line: &Line) -> Result<(), Wrong> {
+    /// Whether the link is full once this line is sent. It is wrong where the line is not of the
+    /// frame that the world's node has for that port, and where the link is full already.
+    fn fills(&self, line: &Line) -> Result<bool, Wrong> {
         let nodes = self.world.net().nodes();
         if line.from >= nodes || line.to >= nodes {
             return Err(Wrong::NoNode);
@@ -106,16 +167,20 @@ impl Replay {
         if encode(&node.frame_for(line.to)) != line.bytes {
             return Err(Wrong::SentOther);
         }
-        if self.world.under_way(line.from, line.to) >= self.world.net().capacity() as usize {
+        let capacity = self.world.net().capacity() as usize;
+        let there = self.world.under_way(line.from, line.to);
+        if there >= capacity {
             return Err(Wrong::SentOnFull);
         }
-        Ok(())
+        Ok(there + 1 == capacity)
     }
 
     /// A line was sent.
     fn send(&mut self, line: &Line) -> Result<(), Wrong> {
         self.lose_older(line)?;
-        self.check_sent(line)?;
+        if self.fills(line)? {
+            self.counts.full = self.counts.full.saturating_add(1);
+        }
         if self.under_way.push(*line).is_err() {
             return Err(Wrong::Memory);
         }
@@ -166,6 +231,8 @@ impl Replay {
         self.follow_part(account, 0, heard)?;
         if ticked {
             self.step(&Event::Tick { node })?;
+        } else {
+            self.counts.attended = self.counts.attended.saturating_add(1);
         }
         self.follow_part(account, heard, account.count())
     }
@@ -183,13 +250,11 @@ impl Replay {
         }
     }
 
-    /// How many sweeps the judge has counted.
-    pub fn sweeps(&self) -> u64 {
-        self.judge.sweeps()
-    }
-
-    /// How many events there were, and how many of them were losses.
-    pub fn events(&self) -> (u64, u64) {
-        (self.events, self.losses)
+    /// What is counted so far.
+    pub fn counts(&self) -> Counts {
+        Counts {
+            sweeps: self.judge.sweeps(),
+            ..self.counts
+        }
     }
 }

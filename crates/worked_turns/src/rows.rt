@@ -1,5 +1,5 @@
 //! Runs of some seeds, and connections that go wrong on purpose.
-use crate::replay::Wrong;
+use crate::replay::{Counts, Wrong};
 use crate::runs::{Ending, Shape, run_seed};
 use crate::wires::Mistake;
 use std::alloc::Global;
@@ -16,27 +16,21 @@ const CHORD: Shape = (5, 3, 4, &[(0, 1), (1, 2), (2, 3), (3, 4), (0, 4), (1, 3)]
 /// What some runs came to.
 #[derive(Clone, Copy, Debug, PartialEq, Eq)]
 struct Sum {
-    /// The seed of the first run in which something is wrong, and what.
+    /// The seed of the first run in which something is wrong, in which turn, and what.
     wrong: Option<(u64, u32, Wrong)>,
     /// The seed of the first run in which the count of sweeps did not rise.
     still: Option<u64>,
-    events: u64,
-    losses: u64,
-    sweeps: u64,
-    made: usize,
+    counts: Counts,
 }
 
 /// Adds a run.
 fn add(sum: Sum, seed: u64, ending: Ending) -> Sum {
     let wrong = ending.wrong.map(|(turn, wrong)| (seed, turn, wrong));
-    let rises = 0 < ending.half && ending.half < ending.sweeps;
+    let rises = 0 < ending.half && ending.half < ending.counts.sweeps;
     Sum {
         wrong: sum.wrong.or(wrong),
         still: sum.still.or((!rises).then_some(seed)),
-        events: sum.events.saturating_add(ending.events),
-        losses: sum.losses.saturating_add(ending.losses),
-        sweeps: sum.sweeps.saturating_add(ending.sweeps),
-        made: sum.made.saturating_add(ending.made),
+        counts: sum.counts.and(ending.counts),
     }
 }
 
@@ -45,10 +39,7 @@ fn run_seeds(alloc: Global, shape: Shape, seeds: u64) -> Result<Sum, Fail> {
     let mut sum = Sum {
         wrong: None,
         still: None,
-        events: 0,
-        losses: 0,
-        sweeps: 0,
-        made: 0,
+        counts: Counts::none(),
     };
     for seed in 1..=seeds {
         sum = add(sum, seed, run_seed(alloc, shape, None, seed)?);
@@ -64,23 +55,36 @@ fn seeds(rt: &HostRuntime) -> u64 {
     }
 }
 
-/// Runs the seeds, and prints what they came to. Whether something was wrong, and where the count
-/// of sweeps did not rise.
-fn told(rt: &HostRuntime, shape: Shape) -> Result<(Option<(u64, u32, Wrong)>, Option<u64>), Fail> {
+/// The seed of the first run in which something is wrong, in which turn, and what; the seed of the
+/// first in which the count of sweeps did not rise; and whether frames were lost, links were full,
+/// and nodes attended in place of a turn.
+type Told = (Option<(u64, u32, Wrong)>, Option<u64>, [bool; 3]);
+
+/// Runs the seeds, and prints what they came to.
+fn told(rt: &HostRuntime, shape: Shape) -> Result<Told, Fail> {
     let seeds = seeds(rt);
-    let sum = run_seeds(rt.alloc(), shape, seeds)?;
-    println!(rt; "{} nodes, {seeds} seeds: {sum:?}", shape.0)?;
-    Ok((sum.wrong, sum.still))
+    let Sum {
+        wrong,
+        still,
+        counts,
+    } = run_seeds(rt.alloc(), shape, seeds)?;
+    println!(rt;
+        "{} nodes, {seeds} seeds: {wrong:?} {still:?} {counts:?}",
+        shape.0
+    )?;
+    let seen = [counts.losses > 0, counts.full > 0, counts.attended > 0];
+    Ok((wrong, still, seen))
 }
 
 #[test]
 fn turns_of_three_nodes_are_a_run(rt: HostRuntime) -> Result<(), Fail> {
-    as_told(told(&rt, RING), &(None, None))
+    // Without a lease each turn ticks.
+    as_told(told(&rt, RING), &(None, None, [true, true, false]))
 }
 
 #[test]
 fn turns_of_five_nodes_are_a_run(rt: HostRuntime) -> Result<(), Fail> {
-    as_told(told(&rt, CHORD), &(None, None))
+    as_told(told(&rt, CHORD), &(None, None, [true, true, true]))
 }
 
 /// How many of the first seeds are run with each mistake.

@@ -4,12 +4,11 @@ ghost use Rattle.std.specs.Prelude.{◌≡◌};
 use crate::desks::Word;
 use crate::draws::Draws;
 use crate::ends::StageDoors;
-use crate::replay::{Replay, Wrong};
+use crate::replay::{Counts, Replay, Wrong};
 use crate::stage::Stage;
 use crate::wires::Mistake;
-use node_core::Node;
 use node_loop::NodeRun;
-use node_state_file::MemoryStore;
+use node_state_file::{MemoryStore, decode};
 use pace::Manner;
 use std::alloc::{AllocError, Global};
 use std::test::Fail;
@@ -29,22 +28,24 @@ pub type Shape = (u16, u16, i64, &'static [(i64, i64)]);
 pub struct Ending {
     /// What was first found wrong, and in which turn.
     pub wrong: Option<(u32, Wrong)>,
-    /// The sweeps after half of the turns, and after all.
+    /// The sweeps after half of the turns.
     pub half: u64,
-    pub sweeps: u64,
-    /// How many events were replayed, and how many of them were losses.
-    pub events: u64,
-    pub losses: u64,
-    /// How many connections were made.
-    pub made: usize,
+    /// What was counted after all.
+    pub counts: Counts,
 }
 
-/// A node of a network, as it is at the start.
-fn run_of<'a>(alloc: Global, net: &Net, id: u16, stage: &'a Stage) -> Result<Run<'a>, Fail> {
+/// A node of a network in the state that this file is of.
+fn run_of<'a>(
+    alloc: Global,
+    net: &Net,
+    id: u16,
+    file: &[u8],
+    stage: &'a Stage,
+) -> Result<Run<'a>, Fail> {
     if id >= net.nodes() {
         return Err(Fail::from(AllocError));
     }
-    let node = Node::new(alloc, net, id)?;
+    let node = decode(alloc, file, net, id)?;
     let store = MemoryStore::new(alloc, 1276)?;
     let doors = StageDoors { node: id, stage };
     let manner = Manner { hold: 0, repeat: 0 };
@@ -54,11 +55,17 @@ fn run_of<'a>(alloc: Global, net: &Net, id: u16, stage: &'a Stage) -> Result<Run
     }
 }
 
-/// All nodes of a network.
-fn runs_of<'a>(alloc: Global, net: &Net, stage: &'a Stage) -> Result<Vec<Run<'a>>, Fail> {
+/// All nodes of a network as they are in the world.
+fn runs_of<'a>(
+    alloc: Global,
+    net: &Net,
+    replay: &Replay,
+    stage: &'a Stage,
+) -> Result<Vec<Run<'a>>, Fail> {
     let mut runs = Vec::with_capacity(alloc, net.nodes() as usize)?;
     for id in 0..net.nodes() {
-        runs.push(run_of(alloc, net, id, stage)?)?;
+        let (bytes, count) = replay.file_of(id);
+        runs.push(run_of(alloc, net, id, &bytes[..count.min(1276)], stage)?)?;
     }
     Ok(runs)
 }
@@ -140,7 +147,7 @@ fn make_turns(
     let mut wrong = None;
     for turn in 0..TURNS {
         if turn == TURNS / 2 {
-            half = replay.sweeps();
+            half = replay.counts().sweeps;
         }
         stir_client(stage, draws.below(nodes) as u16, draws);
         now = now.saturating_add(u64::from(draws.below(2000)));
@@ -150,14 +157,10 @@ fn make_turns(
             break;
         }
     }
-    let (events, losses) = replay.events();
     Ending {
         wrong,
         half,
-        sweeps: replay.sweeps(),
-        events,
-        losses,
-        made: stage.made(),
+        counts: replay.counts(),
     }
 }
 
@@ -175,6 +178,9 @@ pub fn run_seed(
     let room = (capacity as usize).saturating_sub(1) * 22;
     let stage = Stage::new(alloc, nodes, room, mistake, &mut draws)?;
     let mut replay = Replay::new(alloc, &net)?;
-    let mut runs = runs_of(alloc, &net, &stage)?;
+    if let Err(wrong) = replay.scramble(alloc, seed) {
+        return Err(Fail::new(format_args!("{wrong:?}")));
+    }
+    let mut runs = runs_of(alloc, &net, &replay, &stage)?;
     Ok(make_turns(runs.as_mut_slice(), &stage, &mut replay, &mut draws))
 }

@@ -74,9 +74,4 @@ impl Stage {
             .take(made)
             .find(|connection| connection.lets_in(node))
     }
-
-    /// How many connections were made.
-    pub fn made(&self) -> usize {
-        self.made.get()
-    }
 }
