@@ -112,7 +112,8 @@ impl Replay {
         }
     }
 
-    /// The harms happen that a seed draws for all nodes. Desks stay empty, and so do links.
+    /// The harms happen that a seed draws for all nodes; they do not count. Desks stay empty, and so
+    /// do links.
     pub fn scramble(&mut self, alloc: Global, seed: u64) -> Result<(), Wrong> {
         let mut generator = Lcg64Xsh32::seed_from_u64(seed);
         let mut events = Vec::new(alloc);
@@ -124,6 +125,7 @@ impl Replay {
                 self.step(event)?;
             }
         }
+        self.counts = Counts::none();
         Ok(())
     }
 
@@ -153,8 +155,8 @@ impl Replay {
         Ok(())
     }
 
-    /// Whether the link is full once this line is sent. It is wrong where the line is not of the
-    /// frame that the world's node has for that port, and where the link is full already.
+    /// Whether the link is full once this line is sent. It is wrong if the line is not of the frame
+    /// that the world's node has for that port, or the link is full already.
     fn fills(&self, line: &Line) -> Result<bool, Wrong> {
         let nodes = self.world.net().nodes();
         if line.from >= nodes || line.to >= nodes {

@@ -34,12 +34,22 @@ pub struct Ending {
     pub counts: Counts,
 }
 
+/// The manner of the nodes: with odd seeds they offer frames in each turn, else at their pace.
+fn manner(seed: u64) -> Manner {
+    if seed % 2 == 1 {
+        Manner { hold: 0, repeat: 0 }
+    } else {
+        Manner::usual()
+    }
+}
+
 /// A node of a network in the state that this file is of.
 fn run_of<'a>(
     alloc: Global,
     net: &Net,
     id: u16,
     file: &[u8],
+    manner: Manner,
     stage: &'a Stage,
 ) -> Result<Run<'a>, Fail> {
     if id >= net.nodes() {
@@ -48,7 +58,6 @@ fn run_of<'a>(
     let node = decode(alloc, file, net, id)?;
     let store = MemoryStore::new(alloc, 1276)?;
     let doors = StageDoors { node: id, stage };
-    let manner = Manner { hold: 0, repeat: 0 };
     match NodeRun::new(alloc, net.copy(alloc)?, node, doors, store, manner) {
         Ok(run) => Ok(run),
         Err(_unmade) => Err(Fail::from(AllocError)),
@@ -60,12 +69,13 @@ fn runs_of<'a>(
     alloc: Global,
     net: &Net,
     replay: &Replay,
+    manner: Manner,
     stage: &'a Stage,
 ) -> Result<Vec<Run<'a>>, Fail> {
     let mut runs = Vec::with_capacity(alloc, net.nodes() as usize)?;
     for id in 0..net.nodes() {
         let (bytes, count) = replay.file_of(id);
-        runs.push(run_of(alloc, net, id, &bytes[..count.min(1276)], stage)?)?;
+        runs.push(run_of(alloc, net, id, &bytes[..count.min(1276)], manner, stage)?)?;
     }
     Ok(runs)
 }
@@ -181,6 +191,6 @@ pub fn run_seed(
     if let Err(wrong) = replay.scramble(alloc, seed) {
         return Err(Fail::new(format_args!("{wrong:?}")));
     }
-    let mut runs = runs_of(alloc, &net, &replay, &stage)?;
+    let mut runs = runs_of(alloc, &net, &replay, manner(seed), &stage)?;
     Ok(make_turns(runs.as_mut_slice(), &stage, &mut replay, &mut draws))
 }

@@ -57,7 +57,7 @@ impl Stage {
         self.desks.get(node as usize)
     }
 
-    /// A connection that a higher node makes to a lower one; none where all were made.
+    /// A connection that a higher node makes to a lower one; none once all are made.
     pub fn connect(&self, higher: u16, lower: u16) -> Option<&Connection> {
         let place = self.made.get();
         let connection = self.connections.get(place)?;

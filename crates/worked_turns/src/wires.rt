@@ -225,7 +225,7 @@ pub struct Connection {
     down: Wire,
     /// How many bytes each wire holds.
     room: usize,
-    /// How many calls it lasts; none where it is broken.
+    /// How many calls it lasts; 0 once it is broken.
     left: Cell<u32>,
     is_let_in: Cell<bool>,
 }
@@ -249,7 +249,7 @@ impl Connection {
         self.down.joins(lower, higher);
     }
 
-    /// Lets it in at the lower node where it is its own and not yet let in; whether it was.
+    /// Lets it in at this node if it came there and is not yet let in; whether that was so.
     pub fn lets_in(&self, lower: u16) -> bool {
         let is_new = self.up.to.get() == lower && !self.is_let_in.get();
         if is_new {
