@@ -1,0 +1,103 @@
+//! What one node did in a turn, as the ends of its connections saw it.
+use std::cell::Cell;
+
+/// The bytes of a frame's line, with its newline.
+pub const LINE: usize = 22;
+
+/// How many deeds of a turn are kept. Five nodes have far fewer.
+const ROOM: usize = 64;
+
+/// A frame's line on a connection.
+#[derive(Clone, Copy, Debug, PartialEq, Eq)]
+pub struct Line {
+    pub from: u16,
+    pub to: u16,
+    /// The place of the connection; a later one has a greater place.
+    pub connection: usize,
+    pub bytes: [u8; LINE],
+}
+
+impl Line {
+    /// Whether both stand on the link from one node to another.
+    pub fn shares_link(&self, other: &Line) -> bool {
+        self.from == other.from && self.to == other.to
+    }
+
+    /// Whether it stands on the same link, on an earlier connection.
+    pub fn is_older(&self, other: &Line) -> bool {
+        self.shares_link(other) && self.connection < other.connection
+    }
+}
+
+/// A deed of a node, but for its ticks, which no connection sees.
+#[derive(Clone, Copy, Debug, PartialEq, Eq)]
+pub enum Deed {
+    /// The line came whole: its frame is taken.
+    Takes(Line),
+    /// The link accepted the line.
+    Sends(Line),
+    /// The client with the ticket asks for the lock.
+    Asks { node: u16, ticket: u16 },
+    /// The client with the ticket gives the lock back, waits no longer, or is gone.
+    Leaves { node: u16, ticket: u16 },
+}
+
+/// The deeds of one turn, in their order.
+#[derive(Drop)]
+pub struct Account {
+    deeds: Cell<[Option<Deed>; ROOM]>,
+    count: Cell<usize>,
+    /// How many of them stand before the tick.
+    heard: Cell<usize>,
+}
+
+impl Account {
+    pub fn new() -> Account {
+        Account {
+            deeds: Cell::new([None; ROOM]),
+            count: Cell::new(0),
+            heard: Cell::new(0),
+        }
+    }
+
+    /// A turn begins.
+    pub fn clear(&self) {
+        self.count.set(0);
+        self.heard.set(0);
+    }
+
+    /// Adds a deed that was done while the node listened, so before its tick.
+    pub fn hear(&self, deed: Deed) {
+        self.add(deed);
+        self.heard.set(self.count.get());
+    }
+
+    /// Adds a deed that was done while the node spoke, so after its tick.
+    pub fn add(&self, deed: Deed) {
+        let count = self.count.get();
+        let mut deeds = self.deeds.get();
+        if count < ROOM {
+            deeds[count] = Some(deed);
+            self.deeds.set(deeds);
+            self.count.set(count + 1);
+        }
+    }
+
+    /// The deed at a place, if there is one.
+    pub fn get(&self, place: usize) -> Option<Deed> {
+        if place >= self.count.get() || place >= ROOM {
+            return None;
+        }
+        self.deeds.get()[place]
+    }
+
+    /// How many deeds stand before the tick.
+    pub fn heard(&self) -> usize {
+        self.heard.get()
+    }
+
+    /// How many deeds there are.
+    pub fn count(&self) -> usize {
+        self.count.get()
+    }
+}

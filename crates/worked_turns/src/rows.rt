@@ -1,0 +1,144 @@
+//! Runs of some seeds, and connections that go wrong on purpose.
+use crate::replay::{Counts, Wrong};
+use crate::runs::{Ending, Shape, run_seed};
+use crate::wires::Mistake;
+use std::alloc::Global;
+use std::env;
+use std::test::Fail;
+use test_parts::as_told;
+
+/// A ring of three nodes over links of two frames. Loans have no lease.
+const RING: Shape = (3, 2, 0, &[(0, 1), (1, 2), (0, 2)]);
+
+/// A ring of five nodes with a chord over links of three frames. A loan's lease is four ticks.
+const CHORD: Shape = (5, 3, 4, &[(0, 1), (1, 2), (2, 3), (3, 4), (0, 4), (1, 3)]);
+
+/// What some runs came to.
+#[derive(Clone, Copy, Debug, PartialEq, Eq)]
+struct Sum {
+    /// The seed of the first run in which something is wrong, in which turn, and what.
+    wrong: Option<(u64, u32, Wrong)>,
+    /// The seed of the first run in which the count of sweeps did not rise.
+    still: Option<u64>,
+    counts: Counts,
+}
+
+/// Adds a run.
+fn add(sum: Sum, seed: u64, ending: Ending) -> Sum {
+    let wrong = ending.wrong.map(|(turn, wrong)| (seed, turn, wrong));
+    let rises = 0 < ending.half && ending.half < ending.counts.sweeps;
+    Sum {
+        wrong: sum.wrong.or(wrong),
+        still: sum.still.or((!rises).then_some(seed)),
+        counts: sum.counts.and(ending.counts),
+    }
+}
+
+/// Runs the seeds from 1 on.
+fn run_seeds(alloc: Global, shape: Shape, seeds: u64) -> Result<Sum, Fail> {
+    let mut sum = Sum {
+        wrong: None,
+        still: None,
+        counts: Counts::none(),
+    };
+    for seed in 1..=seeds {
+        sum = add(sum, seed, run_seed(alloc, shape, None, seed)?);
+    }
+    Ok(sum)
+}
+
+/// How many seeds are run: what `TOKENTREE_SEEDS` says, and else 4.
+fn seeds(rt: &HostRuntime) -> u64 {
+    match env::var(rt, "TOKENTREE_SEEDS") {
+        Ok(text) => text.as_str().parse::<u64>().unwrap_or(4),
+        Err(_) => 4,
+    }
+}
+
+/// The seed of the first run in which something is wrong, in which turn, and what; the seed of the
+/// first in which the count of sweeps did not rise; and whether frames were lost, links were full,
+/// and nodes attended in place of a turn.
+type Told = (Option<(u64, u32, Wrong)>, Option<u64>, [bool; 3]);
+
+/// Runs the seeds, and prints what they came to.
+fn told(rt: &HostRuntime, shape: Shape) -> Result<Told, Fail> {
+    let seeds = seeds(rt);
+    let Sum {
+        wrong,
+        still,
+        counts,
+    } = run_seeds(rt.alloc(), shape, seeds)?;
+    println!(rt;
+        "{} nodes, {seeds} seeds: {wrong:?} {still:?} {counts:?}",
+        shape.0
+    )?;
+    let seen = [counts.losses > 0, counts.full > 0, counts.attended > 0];
+    Ok((wrong, still, seen))
+}
+
+#[test]
+fn turns_of_three_nodes_are_a_run(rt: HostRuntime) -> Result<(), Fail> {
+    // Without a lease each turn ticks.
+    as_told(told(&rt, RING), &(None, None, [true, true, false]))
+}
+
+#[test]
+fn turns_of_five_nodes_are_a_run(rt: HostRuntime) -> Result<(), Fail> {
+    as_told(told(&rt, CHORD), &(None, None, [true, true, true]))
+}
+
+/// How many of the first seeds are run with each mistake.
+const MISTAKEN: u64 = 6;
+
+/// Whether this may be found if a frame stays under way for good: the next take meets it, or the
+/// link is full before that.
+fn stays_under_way(wrong: Wrong) -> bool {
+    wrong == Wrong::TookOther || wrong == Wrong::SentOnFull
+}
+
+/// Whether this may be found of a mistake. A frame that comes again is not the oldest under way; one
+/// that was dropped, or taken in secret, stays under way. What was taken or asked in secret makes the
+/// node another one, and a frame that it sends then is of another node.
+fn may_be_found(mistake: Mistake, wrong: Wrong) -> bool {
+    match mistake {
+        Mistake::Twice => wrong == Wrong::TookOther,
+        Mistake::Dropped => stays_under_way(wrong),
+        Mistake::Untaken => {
+            wrong == Wrong::OtherNode || wrong == Wrong::SentOther || stays_under_way(wrong)
+        }
+        Mistake::Unasked => wrong == Wrong::OtherNode,
+    }
+}
+
+/// The first seed of a run with a mistake in which it is not found as it may be.
+fn unfound(rt: &HostRuntime, mistake: Mistake) -> Result<Option<u64>, Fail> {
+    for seed in 1..=MISTAKEN {
+        let ending = run_seed(rt.alloc(), RING, Some(mistake), seed)?;
+        println!(rt; "{mistake:?}, seed {seed}: {:?}", ending.wrong)?;
+        match ending.wrong {
+            Some((_, wrong)) if may_be_found(mistake, wrong) => {}
+            _ => return Ok(Some(seed)),
+        }
+    }
+    Ok(None)
+}
+
+#[test]
+fn a_frame_that_is_passed_on_twice_is_found(rt: HostRuntime) -> Result<(), Fail> {
+    as_told(unfound(&rt, Mistake::Twice), &None)
+}
+
+#[test]
+fn a_frame_that_is_dropped_is_found(rt: HostRuntime) -> Result<(), Fail> {
+    as_told(unfound(&rt, Mistake::Dropped), &None)
+}
+
+#[test]
+fn a_take_that_is_left_out_is_found(rt: HostRuntime) -> Result<(), Fail> {
+    as_told(unfound(&rt, Mistake::Untaken), &None)
+}
+
+#[test]
+fn an_ask_that_is_left_out_is_found(rt: HostRuntime) -> Result<(), Fail> {
+    as_told(unfound(&rt, Mistake::Unasked), &None)
+}
