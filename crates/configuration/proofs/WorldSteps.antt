@@ -3,7 +3,7 @@ use Rattle.std.proofs.Common.{◌≡◌, ◌∙◌, ◌/◌, sym, ap, Bool, true
 use Rattle.std.proofs.lemmas.Grind.{common_steps}
 use Rattle.link_model.specs.declared.item.Item.{Item}
 use Rattle.link_model.specs.declared.item.Item.TheVariants as item
-use Rattle.data_link.specs.Port.{frame_of}
+use Rattle.run_model.specs.data_link.Port.{frame_of}
 use Rattle.node_core.specs.Site.{site_of}
 use Rattle.node_core.specs.Step.{taken, ticked}
 use Rattle.node_core.specs.View.{NodeView, site_in, state_of}

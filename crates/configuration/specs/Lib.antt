@@ -1,3 +1,4 @@
+pub use Rattle.node_core.specs as node_core
 pub mod ConfigurationView
 pub mod Rewired
 pub mod Answers

@@ -4,7 +4,7 @@ use Rattle.topology.specs.Laws.{DistanceIs, ParentIs, EachTree}
 use Rattle.lock_desk.specs.Laws.{LoansNeedPrivilege, PassesOnlyServed, FullTicksClear, FirstComeFirstServed}
 use Rattle.run_model.specs.Laws as run
 use Rattle.run_model.specs.Ticks.{NodesMoveInTicks}
-use Rattle.tree_convergence.specs.Laws as tree
+use Rattle.token_ring.specs.tree_convergence.Laws as tree
 use Rattle.token_ring.specs.Laws as ring
 use Rattle.token_ring.specs.Service.{PrivilegeVisits, MachinesMove}
 

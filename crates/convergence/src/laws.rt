@@ -25,9 +25,9 @@ pub fn below()
     run_model::laws::in_range();
     run_model::laws::sweep_numbers();
     run_model::laws::ticks();
-    tree_convergence::laws::links();
-    tree_convergence::laws::payloads();
-    tree_convergence::laws::tree();
+    token_ring::tree_convergence::laws::links();
+    token_ring::tree_convergence::laws::payloads();
+    token_ring::tree_convergence::laws::tree();
     token_ring::laws::one_token();
     token_ring::laws::settled();
     token_ring::laws::ring();

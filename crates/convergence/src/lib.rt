@@ -19,3 +19,5 @@
 #![tactic(auto)]
 
 pub mod laws;
+
+pub use token_ring::tree_convergence;

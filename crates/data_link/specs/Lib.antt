@@ -1,3 +1,5 @@
+pub use Rattle.k_state.specs as k_state
+pub use Rattle.link_model.specs as link_model
 pub mod Port
 pub mod Heard
 pub mod Edge

@@ -9,7 +9,7 @@ use Rattle.std.proofs.lemmas.List.Folds.{list_any_more}
 use Rattle.std.proofs.lemmas.List.Kept.{AllPairs-from_increasing}
 use Rattle.topology.specs.At.{at}
 use Rattle.euler_ring.specs.Cycle.{is_on, is_named}
-use Rattle.k_state.specs.Machine.{is_privileged, root_moved}
+use Rattle.registers.specs.k_state.Machine.{is_privileged, root_moved}
 use Rattle.registers.specs.Registers.{RegistersView, IsRegisters, port_of, value_of}
 use Rattle.node_core.specs.OnRegisters.{IsTreeWithin, machine_may_move, machine_moved, values_moved}
 use Rattle.node_core.proofs.OnTree.{on-from_Contains, Contains-from_on}

@@ -4,8 +4,8 @@ use Rattle.std.proofs.lemmas.Fmt.{decimal_digit}
 use Rattle.topology.specs.Network.{Network}
 use Rattle.topology.specs.Ranges.{ranges_of}
 use Rattle.topology.specs.declared.frame.Frame.{Frame}
-use Rattle.link_model.specs.declared.item.Item.TheVariants as item
-use Rattle.data_link.specs.Port.{default_port}
+use Rattle.registers.specs.link_model.declared.item.Item.TheVariants as item
+use Rattle.registers.specs.data_link.Port.{default_port}
 use Rattle.lock_desk.specs.Desk.{no_desk}
 use Rattle.node_core.specs.Site.{Site, site_of}
 use Rattle.node_core.specs.State.{LocalState, default_node}

@@ -1,3 +1,7 @@
+pub use Rattle.registers.specs as registers
+pub use Rattle.euler_ring.specs as euler_ring
+pub use Rattle.bfs_tree.specs as bfs_tree
+pub use Rattle.registers.specs.k_state as k_state
 pub mod Site
 pub mod State
 pub mod Writes

@@ -3,7 +3,7 @@
 use Rattle.std.specs.Prelude.{ℕ, Bool, List, if◌then◌else◌}
 use Rattle.std.specs.List.{list_any}
 use Rattle.topology.specs.declared.frame.Payload.{Payload}
-use Rattle.k_state.specs.Machine.{root_moved, is_privileged}
+use Rattle.registers.specs.k_state.Machine.{root_moved, is_privileged}
 use Rattle.euler_ring.specs.Cycle.{tree_neighbours, source_for, special, is_named, is_on}
 use Rattle.node_core.specs.Site.{Site}
 use Rattle.node_core.specs.State.{LocalState}

@@ -1,7 +1,7 @@
 -- The machines as they stand in a node's registers: the same words as for a state of the node, for
 -- those functions that see the registers alone.
 use Rattle.std.specs.Prelude.{ℕ, Bool, ◌&&◌, IsTrue, List, Option, Contains, if◌then◌else◌}
-use Rattle.k_state.specs.Machine.{root_moved, is_privileged}
+use Rattle.registers.specs.k_state.Machine.{root_moved, is_privileged}
 use Rattle.registers.specs.Registers.{RegistersView, IsRegisters, port_of, value_of}
 use Rattle.euler_ring.specs.Cycle.{is_named, is_on}
 

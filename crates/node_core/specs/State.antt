@@ -2,7 +2,7 @@
 use Rattle.std.specs.Prelude.{ℕ, ◌<◌, ◌≤◌, Option, None, IsTrue, All}
 use Rattle.topology.specs.Ranges.{parent_fits}
 use Rattle.topology.specs.declared.frame.Ranges.{Ranges}
-use Rattle.data_link.specs.Port.{PortState, port_fits, default_port}
+use Rattle.registers.specs.data_link.Port.{PortState, port_fits, default_port}
 use Rattle.lock_desk.specs.Desk.{DeskState, desk_fits, no_desk}
 use Rattle.node_core.specs.Site.{Site}
 

@@ -5,9 +5,9 @@ use Rattle.topology.specs.At.{at}
 use Rattle.topology.specs.Ranges.{frame_fits}
 use Rattle.topology.specs.declared.frame.Frame.{Frame}
 use Rattle.topology.specs.declared.frame.Ranges.{Ranges}
-use Rattle.link_model.specs.declared.item.Item.{Item}
-use Rattle.link_model.specs.declared.item.Item.TheVariants as item
-use Rattle.data_link.specs.Port.{port_after}
+use Rattle.registers.specs.link_model.declared.item.Item.{Item}
+use Rattle.registers.specs.link_model.declared.item.Item.TheVariants as item
+use Rattle.registers.specs.data_link.Port.{port_after}
 use Rattle.bfs_tree.specs.Step.{new_distance, new_parent}
 use Rattle.lock_desk.specs.Desk.{desk_ticked}
 use Rattle.node_core.specs.Site.{Site}

@@ -3,7 +3,7 @@ use Rattle.std.specs.Prelude.{ℕ, Bool, ◌&&◌, nat_le, Option}
 use Rattle.topology.specs.At.{at}
 use Rattle.topology.specs.Ranges.{parent_fits}
 use Rattle.topology.specs.declared.frame.Ranges.{Ranges}
-use Rattle.data_link.specs.Port.{PortState}
+use Rattle.registers.specs.data_link.Port.{PortState}
 use Rattle.node_core.specs.State.{LocalState}
 
 -- a distance is at most the number of nodes, and a parent is none or a node

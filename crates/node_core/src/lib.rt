@@ -34,7 +34,8 @@ mod own;
 mod status;
 mod ticked;
 
-pub use link_model::{Frame, Item, Payload, Ranges};
+pub use registers::link_model::{Frame, Item, Payload, Ranges};
+pub use bfs_tree;
 pub use lock_desk::{AskFault, DeskAct, Stranger};
 pub use node::{Node, NodeState};
 pub use registers::OutOfRange;

@@ -8,7 +8,7 @@ ghost use Rattle.node_core.specs.OnRegisters.{IsTreeWithin, machine_may_move, ma
 ghost use Rattle.node_core.specs.OnRegisters.{values_moved};
 
 use euler_ring::{TreeNeighbours, tree_neighbours};
-use k_state::{copy_move, privileged, root_move};
+use registers::k_state::{copy_move, privileged, root_move};
 use registers::Registers;
 use std::alloc::Allocator;
 

@@ -1,2 +1,5 @@
+pub use Rattle.data_link.specs.k_state as k_state
+pub use Rattle.data_link.specs.link_model as link_model
+pub use Rattle.data_link.specs as data_link
 pub mod Registers
 pub mod Rewire

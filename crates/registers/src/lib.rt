@@ -21,5 +21,6 @@
 
 mod registers;
 
+pub use data_link::{k_state, link_model};
 pub use data_link::{Heard, OutOfRange};
 pub use registers::Registers;

@@ -13,12 +13,12 @@ use Rattle.topology.specs.declared.frame.Ranges.{Ranges}
 use Rattle.link_model.specs.declared.item.Item.{Item}
 use Rattle.link_model.specs.declared.item.Item.TheVariants as item
 use Rattle.data_link.specs.Port.{PortState, port_fits, port_after}
-use Rattle.k_state.specs.Machine.{root_moved}
+use Rattle.node_core.specs.k_state.Machine.{root_moved}
 use Rattle.topology.specs.Laws.{NeighboursAreJoined}
 use Rattle.data_link.specs.Laws.{PortStaysInRange}
-use Rattle.bfs_tree.specs.Laws.{StepDistanceFits, StepParentFits}
+use Rattle.node_core.specs.bfs_tree.Laws.{StepDistanceFits, StepParentFits}
 use Rattle.lock_desk.specs.Laws.{TicksKeepRanges, AsksKeepRanges, LeavesKeepRanges, LoansKeepRanges}
-use Rattle.euler_ring.specs.Cycle.{is_on, is_tree_neighbour, highest, below, source_for}
+use Rattle.node_core.specs.euler_ring.Cycle.{is_on, is_tree_neighbour, highest, below, source_for}
 use Rattle.node_core.specs.Site.{Site}
 use Rattle.node_core.specs.State.{LocalState, IsNodeInRange}
 use Rattle.node_core.specs.Machines.{tree_of, ring_for, payload_for, before, is_special, may_move, moved_value, is_node_privileged}

@@ -1,3 +1,5 @@
+pub use Rattle.data_link.specs as data_link
+pub use Rattle.node_core.specs as node_core
 pub mod World
 pub mod Rewire
 pub mod Step

@@ -3,7 +3,7 @@ use Rattle.std.specs.Prelude.{◌≡◌, ℕ, ◌<◌, IsTrue}
 use Rattle.topology.specs.Network.{are_joined}
 use Rattle.topology.specs.Tree.{distance_of, parent_of}
 use Rattle.topology.specs.declared.frame.Payload.{Payload}
-use Rattle.bfs_tree.specs.Stage.{is_of_stage}
+use Rattle.node_core.specs.bfs_tree.Stage.{is_of_stage}
 use Rattle.run_model.specs.World.{World}
 
 -- Stage k of the tree: every distance written for a node is exact where its true distance is below

@@ -39,7 +39,7 @@ pub fn in_range()
     topology::laws::neighbours();
     topology::laws::changes();
     data_link::laws::ports();
-    bfs_tree::laws::step_in_range();
+    node_core::bfs_tree::laws::step_in_range();
     lock_desk::laws::ranges_are_kept();
 }
 

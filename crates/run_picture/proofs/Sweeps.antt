@@ -6,7 +6,7 @@ use Rattle.std.proofs.lemmas.List.Sums.{sum_by-append}
 use Rattle.std.proofs.lemmas.Option.{slice_get-get_or}
 use Rattle.std.proofs.Math.Nat.{eq-or-lt_of_le}
 use Rattle.std.proofs.Math.Seq.{take-suc}
-use Rattle.judge.specs.Judging.{counted_up_to}
+use Rattle.run_recording.specs.judge.Judging.{counted_up_to}
 use Rattle.run_recording.specs.declared.column.Column.{Column}
 use Rattle.run_picture.specs.declared.layout.page.Page.{Page}
 use Rattle.run_picture.specs.declared.layout.ruler.SweepNumber.{SweepNumber}

@@ -2,7 +2,7 @@
 -- below that what the run was.
 use Rattle.std.specs.Prelude.{ℕ, ◌+◌, List, [], ◌∷◌, codes}
 use Rattle.topology.specs.Network.{Network}
-use Rattle.judge.specs.Judging.{counted_up_to}
+use Rattle.run_recording.specs.judge.Judging.{counted_up_to}
 use Rattle.configuration.specs.ConfigurationView.{world_of}
 use Rattle.svg_drawing.specs.declared.canvas.Anchor.TheVariants.{Start}
 use Rattle.svg_drawing.specs.declared.colours.Colour.TheVariants.{Ink, Paper}

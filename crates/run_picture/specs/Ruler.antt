@@ -1,7 +1,7 @@
 -- What stands above the lanes: damage, and the sweeps.
 use Rattle.std.specs.Prelude.{◌≡◌, ℕ, suc, ◌+◌, ◌-◌, ◌<◌, ◌≤◌, ◌&&◌, ◌⊎◌, Bool, true, nat_lt, nat_le, if◌then◌else◌, List, [], ◌∷◌, ◌++◌, length, map, take, codes, decimal, sum_by, slice_get, IfSome}
 use Rattle.std.specs.List.{AllByRecursion}
-use Rattle.judge.specs.Judging.{counted_up_to}
+use Rattle.run_recording.specs.judge.Judging.{counted_up_to}
 use Rattle.run_recording.specs.declared.column.Column.{Column}
 use Rattle.svg_drawing.specs.declared.canvas.Anchor.TheVariants.{Middle, End}
 use Rattle.svg_drawing.specs.declared.colours.Colour.TheVariants.{Red, Ink, Blue}

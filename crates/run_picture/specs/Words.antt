@@ -7,7 +7,7 @@ use Rattle.run_model.specs.NodeCounts.{privileged_count, lending_count}
 use Rattle.run_model.specs.Run.{run}
 use Rattle.run_model.specs.Count.{IsSweepCount}
 use Rattle.run_model.specs.declared.event.Event.{Event}
-use Rattle.judge.specs.Judging.{counted_up_to, refused_in}
+use Rattle.run_recording.specs.judge.Judging.{counted_up_to, refused_in}
 use Rattle.run_recording.specs.declared.mark.Mark.{Mark}
 use Rattle.run_recording.specs.declared.mark.Mark.TheVariants.{Lending}
 

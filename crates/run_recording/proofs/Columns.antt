@@ -1,7 +1,7 @@
 -- The worst of moments, in any grouping.
 use Rattle.std.proofs.Common.{◌≡◌, ◌∙◌, ap, sym, refl, ℕ, ◌+◌, ◌-◌, ◌%◌, ◌<◌, ◌||◌, Bool, nat_eq, max, List, [], ◌∷◌, ◌++◌, length, arith, slice_set, slice_index_or}
 use Rattle.std.proofs.lemmas.Grind.{common_steps}
-use Rattle.judge.specs.Judging.{counted_up_to}
+use Rattle.world.specs.judge.Judging.{counted_up_to}
 use Rattle.run_recording.specs.declared.column.Column.{Column}
 use Rattle.run_recording.specs.Columns.{worse_column, worst, is_even, with_last}
 use Rattle.run_recording.proofs.Marks.{worse_marks-assoc}

@@ -10,8 +10,8 @@ use Rattle.run_model.specs.declared.event.Event.{Event}
 use Rattle.run_model.specs.declared.event.EventFault.{EventFault}
 use Rattle.events_text.specs.declared.text_line.TextLine.{TextLine}
 use Rattle.events_text.specs.EventsText.{ended_lines}
-use Rattle.judge.specs.JudgeView.{HasSeen}
-use Rattle.judge.specs.Judging.{counted_up_to}
+use Rattle.world.specs.judge.JudgeView.{HasSeen}
+use Rattle.world.specs.judge.Judging.{counted_up_to}
 use Rattle.world.specs.SimulatedText.{told_event, told_events}
 use Rattle.run_recording.specs.declared.column.Column.{Column}
 use Rattle.run_recording.specs.declared.recording.Before.{Before}

@@ -1,6 +1,6 @@
 -- What several moments show together, and each two columns as one.
 use Rattle.std.specs.Prelude.{ℕ, ◌+◌, ◌||◌, if◌then◌else◌, Bool, true, false, max, List, [], ◌∷◌}
-use Rattle.judge.specs.Judging.{counted_up_to}
+use Rattle.world.specs.judge.Judging.{counted_up_to}
 use Rattle.run_recording.specs.declared.column.Column.{Column}
 use Rattle.run_recording.specs.Marks.{worse_marks}
 

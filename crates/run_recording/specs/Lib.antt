@@ -1,3 +1,4 @@
+pub use Rattle.world.specs.judge as judge
 pub mod Marks
 pub mod Columns
 pub mod Strips

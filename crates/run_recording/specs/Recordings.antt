@@ -9,8 +9,8 @@ use Rattle.run_model.specs.Count.{IsSweepCount}
 use Rattle.run_model.specs.declared.event.Event.{Event}
 use Rattle.byte_lines.specs.Kept.{Kept, StandsAfter}
 use Rattle.events_text.specs.EventsText.{ended_lines}
-use Rattle.judge.specs.JudgeView.{JudgeView, HasSeen}
-use Rattle.judge.specs.Judging.{counted_up_to}
+use Rattle.world.specs.judge.JudgeView.{JudgeView, HasSeen}
+use Rattle.world.specs.judge.Judging.{counted_up_to}
 use Rattle.world.specs.SimulatedText.{told_events}
 use Rattle.run_recording.specs.declared.column.Column.{Column}
 use Rattle.run_recording.specs.declared.recording.Before.{Before}

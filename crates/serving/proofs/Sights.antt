@@ -5,9 +5,9 @@ use Rattle.std.proofs.lemmas.Grind.{common_steps}
 use Rattle.std.proofs.lemmas.Bool.Decides.{nat_tests}
 use Rattle.std.specs.Prelude.{◌⊎◌, ◌↔◌, is_some, IsSome, IsNone}
 use Rattle.topology.specs.Network.{Network, IsDistance, IsTrueParent}
-use Rattle.node_core.specs.Machines.{is_node_privileged}
-use Rattle.node_core.specs.Site.{Site, site_of}
-use Rattle.node_core.specs.State.{LocalState}
+use Rattle.configuration.specs.node_core.Machines.{is_node_privileged}
+use Rattle.configuration.specs.node_core.Site.{Site, site_of}
+use Rattle.configuration.specs.node_core.State.{LocalState}
 use Rattle.run_model.specs.World.{World}
 use Rattle.run_model.specs.Step.{step}
 use Rattle.run_model.specs.Run.{is_damage, IsUndamaged}

@@ -21,3 +21,5 @@
 #![tactic(auto)]
 
 pub mod laws;
+
+pub use tree_convergence;

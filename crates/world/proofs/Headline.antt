@@ -7,12 +7,12 @@ use Rattle.run_model.specs.Count.{after_damage, IsSweepCount}
 use Rattle.run_model.specs.Laws.{FewerSweeps, NetworkStays, RunsJoin, UndamagedSplits, RangesStay, MomentLeads}
 use Rattle.run_model.specs.declared.event.Event.{Event}
 use Rattle.topology.specs.Network.{Network, are_joined}
-use Rattle.token_ring.specs.Legitimate.{IsLegitimate}
+use Rattle.convergence.specs.token_ring.Legitimate.{IsLegitimate}
 use Rattle.convergence.specs.Laws.{PayloadsConverge, LegitimateStays, LegitimateServes}
 use Rattle.convergence.specs.Said.{said_in}
 use Rattle.convergence.specs.Closure.{IsLegitimateThroughout}
 use Rattle.convergence.specs.Payloads.{ArePayloadsFresh}
-use Rattle.tree_convergence.specs.Laws.{NumbersMove}
+use Rattle.convergence.specs.tree_convergence.Laws.{NumbersMove}
 use Rattle.world.specs.Numbers.{DoNumbersMove}
 use Rattle.judge.specs.Judging.{counted_up_to}
 use Rattle.judge.specs.JudgeView.{JudgeView, HasSeen}

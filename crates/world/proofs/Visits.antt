@@ -11,7 +11,7 @@ use Rattle.run_model.specs.Count.{Moment, after_damage, IsSweepCount}
 use Rattle.run_model.specs.Laws.{FewerSweeps, NetworkStays, FrameStays, MomentLeads}
 use Rattle.run_model.specs.Visited.{is_privileged_once, is_visited}
 use Rattle.run_model.specs.declared.event.Event.{Event}
-use Rattle.token_ring.specs.Legitimate.{IsLegitimate}
+use Rattle.convergence.specs.token_ring.Legitimate.{IsLegitimate}
 use Rattle.convergence.specs.Service.{LegitimateVisits, EachStateVisits}
 use Rattle.judge.specs.Judging.{counted_up_to}
 use Rattle.judge.specs.Stretch.{has_bit}

@@ -1,3 +1,4 @@
+pub use Rattle.judge.specs as judge
 pub mod StateText
 pub mod SimulatedText
 pub mod Simulating

@@ -6,7 +6,7 @@ use Rattle.run_model.specs.Run.{run}
 use Rattle.run_model.specs.Sweep.{Sweeps}
 use Rattle.run_model.specs.Count.{after_damage}
 use Rattle.run_model.specs.declared.event.Event.{Event}
-use Rattle.tree_convergence.specs.Present.{number_moves}
+use Rattle.convergence.specs.tree_convergence.Present.{number_moves}
 
 -- wherever the events since the last damage hold two sweeps after some first ones, the number that
 -- u sends to v moves in them

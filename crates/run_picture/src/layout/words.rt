@@ -3,7 +3,7 @@ ghost use Rattle.std.specs.Prelude.{◌≡◌, ◌+◌, ◌++◌, List, OnOk, If
 ghost use Rattle.configuration.specs.ConfigurationView.{world_of};
 ghost use Rattle.run_model.specs.World.{World};
 ghost use Rattle.run_model.specs.declared.event.Event.{Event};
-ghost use Rattle.judge.specs.Judging.{counted_up_to};
+ghost use Rattle.run_recording.specs.judge.Judging.{counted_up_to};
 ghost use Rattle.run_recording.specs.Recordings.{IsRecorded};
 ghost use Rattle.run_picture.specs.Words.{title_words, size_words, limit_words, bound_words};
 ghost use Rattle.run_picture.specs.Words.{headline_words, event_words, node_words, sweep_words};

@@ -7,8 +7,8 @@ use Rattle.run_model.specs.Links.{AreLinksStable}
 use Rattle.run_model.specs.Tree.{IsTreeReached}
 use Rattle.run_model.specs.Count.{IsSweepCount}
 use Rattle.run_model.specs.Headline.{IsServing}
-use Rattle.token_ring.specs.Ring.{IsTokenRingGood}
-use Rattle.token_ring.specs.Legitimate.{IsLegitimate}
+use Rattle.convergence.specs.token_ring.Ring.{IsTokenRingGood}
+use Rattle.convergence.specs.token_ring.Legitimate.{IsLegitimate}
 use Rattle.configuration.specs.ConfigurationView.{world_of}
 use Rattle.judge.specs.JudgeView.{HasSeen}
 use Rattle.judge.specs.Judging.{counted_up_to}

@@ -1,5 +1,5 @@
 use Rattle.std.proofs.Common.{◌↔◌, subst, refl, IsOk, IsTrue}
-use Rattle.data_link.specs.Port.{counters_fit}
+use Rattle.run_model.specs.data_link.Port.{counters_fit}
 use Rattle.node_core.specs.Writes.{with_port}
 use Rattle.run_model.specs.declared.event.Harm.{Harm}
 use Rattle.run_model.specs.declared.event.Harm.TheVariants.{Counters}

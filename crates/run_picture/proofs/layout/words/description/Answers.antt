@@ -1,6 +1,6 @@
 use Rattle.std.proofs.Common.{◌∙◌, ◌+◌, ap}
 use Rattle.topology.specs.Network.{bound_of}
-use Rattle.judge.specs.Judging.{counted_up_to}
+use Rattle.run_recording.specs.judge.Judging.{counted_up_to}
 use Rattle.configuration.specs.ConfigurationView.{world_of}
 use Rattle.run_picture.specs.Words.{description_words}
 use Rattle.run_picture.proofs.Words.{described, tells_of}
