@@ -6,27 +6,27 @@ use Rattle.topology.specs.Network.{Network}
 use Rattle.node_core.specs.State.{LocalState}
 use Rattle.weaving.specs.declared.journal.Entry.{Entry}
 use Rattle.weaving.specs.Woven.{AreRising}
-use Rattle.weaving.specs.Account.{Deed, Ticks, Sends, Takes, entry_of, sent_to, taken_from, Leads}
+use Rattle.weaving.specs.Account.{Note, Ticked, Sent, Took, entry_of, sent_to, taken_from, Leads}
 
-pub leads-on : (net : Network) (v : ℕ) (ds es : List Deed) (s mid last : LocalState) → Leads net v s ds mid → Leads net v mid es last → Leads net v s (ds ++ es) last
+pub leads-on : (net : Network) (v : ℕ) (ds es : List Note) (s mid last : LocalState) → Leads net v s ds mid → Leads net v mid es last → Leads net v s (ds ++ es) last
 leads-on net v [] es s mid last h more = subst (λ x. Leads net v x es last) h more
-leads-on net v (Ticks t ∷ ds) es s mid last h more = leads-on net v ds es _ mid last h more
-leads-on net v (Sends u x ∷ ds) es s mid last h more = (h.0, h.1, leads-on net v ds es s mid last h.2 more)
-leads-on net v (Takes u x ∷ ds) es s mid last h more = (h.0, leads-on net v ds es _ mid last h.1 more)
+leads-on net v (Ticked t ∷ ds) es s mid last h more = leads-on net v ds es _ mid last h more
+leads-on net v (Sent u x ∷ ds) es s mid last h more = (h.0, h.1, leads-on net v ds es s mid last h.2 more)
+leads-on net v (Took u x ∷ ds) es s mid last h more = (h.0, leads-on net v ds es _ mid last h.1 more)
 
-pub sent-on : (u : ℕ) (ds es : List Deed) → sent_to u (ds ++ es) ≡ sent_to u ds ++ sent_to u es
+pub sent-on : (u : ℕ) (ds es : List Note) → sent_to u (ds ++ es) ≡ sent_to u ds ++ sent_to u es
 sent-on u [] es = refl
-sent-on u (Ticks t ∷ ds) es = sent-on u ds es
-sent-on u (Sends w s ∷ ds) es = let later = sent-on u ds es in grind (arith, common_steps)
-sent-on u (Takes w s ∷ ds) es = sent-on u ds es
+sent-on u (Ticked t ∷ ds) es = sent-on u ds es
+sent-on u (Sent w s ∷ ds) es = let later = sent-on u ds es in grind (arith, common_steps)
+sent-on u (Took w s ∷ ds) es = sent-on u ds es
 
-pub taken-on : (u : ℕ) (ds es : List Deed) → taken_from u (ds ++ es) ≡ taken_from u ds ++ taken_from u es
+pub taken-on : (u : ℕ) (ds es : List Note) → taken_from u (ds ++ es) ≡ taken_from u ds ++ taken_from u es
 taken-on u [] es = refl
-taken-on u (Ticks t ∷ ds) es = taken-on u ds es
-taken-on u (Sends w s ∷ ds) es = taken-on u ds es
-taken-on u (Takes w s ∷ ds) es = let later = taken-on u ds es in grind (arith, common_steps)
+taken-on u (Ticked t ∷ ds) es = taken-on u ds es
+taken-on u (Sent w s ∷ ds) es = taken-on u ds es
+taken-on u (Took w s ∷ ds) es = let later = taken-on u ds es in grind (arith, common_steps)
 
-pub entries-on : (v : ℕ) (ds es : List Deed) → map (entry_of v) (ds ++ es) ≡ map (entry_of v) ds ++ map (entry_of v) es
+pub entries-on : (v : ℕ) (ds es : List Note) → map (entry_of v) (ds ++ es) ≡ map (entry_of v) ds ++ map (entry_of v) es
 entries-on v [] es = refl
 entries-on v (d ∷ ds) es = ap (λ xs. entry_of v d ∷ xs) (entries-on v ds es)
 
