@@ -176,9 +176,9 @@ module _ {A : Type 0} where
   sends-due a b us k ds es within does slow few ports due one next = λ w v past told none start most.
       let u = slice_index_or us k 0 in
       let more : take (k + 1) us ≡ take k us ++ u ∷ [] = rw add-one (take-suc us k 0 within) in
-      let Sent : ℕ → Type 0 = λ x. IsTrue (has_room w v x) → 0 < length (sent_to x (ds ++ es)) in
-      let before : All Sent (take k us) = λ j d below room. more-sent _ 0 ds es (due w v past told none start most j d below room) in
-      let here : Sent u = λ room.
+      let Given : ℕ → Type 0 = λ x. IsTrue (has_room w v x) → 0 < length (sent_to x (ds ++ es)) in
+      let before : All Given (take k us) = λ j d below room. more-sent _ 0 ds es (due w v past told none start most j d below room) in
+      let here : Given u = λ room.
       let cases : (0 < length (sent_to u ds)) ⊎ (length (sent_to u ds) ≡ 0) = grind arith in
       elim cases [
         | inl some ↦ more-sent u 0 ds es some
@@ -192,7 +192,7 @@ module _ {A : Type 0} where
             let c = one-sent u es one in
             omega (arith, some, a, b, c)
       ] in
-      subst (All Sent) (sym more) (All-push Sent (take k us) u before here)
+      subst (All Given) (sym more) (All-push Given (take k us) u before here)
 
   -- one more port has had its takes, which were due
   takes-due : (a b c : Runner A) (us : List ℕ) (k : ℕ) (ds es fs : List Note) → k < length us → Does ds a b → Does es b c

@@ -8,5 +8,5 @@ use Rattle.node_runner.specs.Due.{events_of}
 -- in n rounds of v there are n ticks of v
 abbrev pub EachRoundTicks : Type 0
 EachRoundTicks =
-    (v : ℕ) (neighbours : List ℕ) (n : ℕ) (deeds : List Note) → AreRounds neighbours n deeds
-    → count_of (is_tick_of v) (events_of v deeds) ≡ n
+    (v : ℕ) (neighbours : List ℕ) (n : ℕ) (notes : List Note) → AreRounds neighbours n notes
+    → count_of (is_tick_of v) (events_of v notes) ≡ n

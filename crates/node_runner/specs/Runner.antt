@@ -53,21 +53,21 @@ IsSamePort a b = (b.neighbour ≡ a.neighbour) × SameOutgoing a.outgoing b.outg
 abbrev pub AreSamePorts : {A : Type 0} → List (Port A) → List (Port A) → Type 0
 AreSamePorts {A} ps qs = (length qs ≡ length ps) × ((k : ℕ) (d : Port A) → k < length ps → IsSamePort (slice_index_or ps k d) (slice_index_or qs k d))
 
--- Between two moments a node did this: whatever account told of it before, with this behind it
--- tells of it now. An entry was made for each deed, in the room that was there.
-pub record Does {A : Type 0} (deeds : List Note) (old new : Runner A) : Type 0 where
-  pub told : (w : World) (v : ℕ) (past : List Note) → IsTold w v past old → IsTold w v (past ++ deeds) new
+-- Between two moments a node did this: whatever account told of it before, with this after it
+-- tells of it now. An entry was made for each note, in the room that was there.
+pub record Does {A : Type 0} (notes : List Note) (old new : Runner A) : Type 0 where
+  pub told : (w : World) (v : ℕ) (past : List Note) → IsTold w v past old → IsTold w v (past ++ notes) new
   pub ready : IsReady new
   pub id : new.id ≡ old.id
   pub site : site_in new.node ≡ site_in old.node
   pub ports : AreSamePorts old.ports.items new.ports.items
-  pub entries : length new.journal.entries.items ≡ length old.journal.entries.items + length deeds
+  pub entries : length new.journal.entries.items ≡ length old.journal.entries.items + length notes
   pub room : vec_capacity new.journal.entries ≡ vec_capacity old.journal.entries
 
 -- at most one send to this neighbour, and nothing else
 abbrev pub IsOneSend : ℕ → List Note → Type 0
-IsOneSend u deeds = (deeds ≡ []) ⊎ ((s : Stamped) × (deeds ≡ Sent u s ∷ []))
+IsOneSend u notes = (notes ≡ []) ⊎ ((s : Stamped) × (notes ≡ Sent u s ∷ []))
 
 -- at most one take from this neighbour, and nothing else
 abbrev pub IsOneTake : ℕ → List Note → Type 0
-IsOneTake u deeds = (deeds ≡ []) ⊎ ((s : Stamped) × (deeds ≡ Took u s ∷ []))
+IsOneTake u notes = (notes ≡ []) ⊎ ((s : Stamped) × (notes ≡ Took u s ∷ []))

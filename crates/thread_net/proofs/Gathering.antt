@@ -15,7 +15,7 @@ use Rattle.run_model.specs.Laws.{RangesStay}
 use Rattle.run_model.specs.declared.event.Event.{Event}
 use Rattle.configuration.specs.ConfigurationView.{no_node, states_of}
 use Rattle.weaving.specs.declared.journal.Stamped.{Stamped}
-use Rattle.weaving.specs.Account.{Note, Ticked, Sent, Took, entry_of, sent_to, taken_from, Leads}
+use Rattle.weaving.specs.Account.{Note, Ticked, Sent, Took, entry_of, sent_to, taken_from, AreOverLinks, Leads}
 use Rattle.weaving.specs.Journals.{journal_of}
 use Rattle.weaving.specs.Laws.{GoesThrough, WovenIsRun}
 use Rattle.weaving.specs.Matched.{AreMatched, AreOf, IsLinkMatched, stamps}
@@ -63,22 +63,22 @@ drop-nil (suc k) = refl
 
 -- ---- accounts
 
-none-sent : (net : Network) (u v : ℕ) (ds : List Note) (s last : LocalState) → are_joined net.edges u v ≡ false → Leads net u s ds last → sent_to v ds ≡ []
-none-sent net u v [] s last isnt leads = refl
-none-sent net u v (Ticked t ∷ ds) s last isnt leads = none-sent net u v ds _ last isnt leads
-none-sent net u v (Sent x i ∷ ds) s last isnt leads =
-    let later = none-sent net u v ds s last isnt leads.2 in
-    let joined = leads.0 in
+none-sent : (net : Network) (u v : ℕ) (ds : List Note) → are_joined net.edges u v ≡ false → AreOverLinks net u ds → sent_to v ds ≡ []
+none-sent net u v [] isnt links = refl
+none-sent net u v (Ticked t ∷ ds) isnt links = none-sent net u v ds isnt links
+none-sent net u v (Sent x i ∷ ds) isnt links =
+    let later = none-sent net u v ds isnt links.2 in
+    let joined = links.0 in
     grind (arith, common_steps, later, joined, isnt)
-none-sent net u v (Took x i ∷ ds) s last isnt leads = none-sent net u v ds _ last isnt leads.1
+none-sent net u v (Took x i ∷ ds) isnt links = none-sent net u v ds isnt links.1
 
-none-taken : (net : Network) (u v : ℕ) (ds : List Note) (s last : LocalState) → are_joined net.edges u v ≡ false → Leads net v s ds last → taken_from u ds ≡ []
-none-taken net u v [] s last isnt leads = refl
-none-taken net u v (Ticked t ∷ ds) s last isnt leads = none-taken net u v ds _ last isnt leads
-none-taken net u v (Sent x i ∷ ds) s last isnt leads = none-taken net u v ds s last isnt leads.2
-none-taken net u v (Took x i ∷ ds) s last isnt leads =
-    let later = none-taken net u v ds _ last isnt leads.1 in
-    let joined = leads.0 in
+none-taken : (net : Network) (u v : ℕ) (ds : List Note) → are_joined net.edges u v ≡ false → AreOverLinks net v ds → taken_from u ds ≡ []
+none-taken net u v [] isnt links = refl
+none-taken net u v (Ticked t ∷ ds) isnt links = none-taken net u v ds isnt links
+none-taken net u v (Sent x i ∷ ds) isnt links = none-taken net u v ds isnt links.2
+none-taken net u v (Took x i ∷ ds) isnt links =
+    let later = none-taken net u v ds isnt links.1 in
+    let joined = links.0 in
     grind (arith, common_steps, later, joined, isnt)
 
 one-more : (b : Bool) (x : ℕ) (s : Stamped) (ss : List Stamped) → x < s.stamp → AllByRecursion (λ y. x < y) (stamps ss) → AllByRecursion (λ y. x < y) (stamps (if b then s ∷ ss else ss))
@@ -127,7 +127,7 @@ module _ {A : Type 0} where
 
   abbrev pub account-from : (w : World) (turns : ℕ → ℕ) (v : ℕ) (o : Option (Runner A)) → ((r : Runner A) → o ≡ Some r → HasDone w v (turns v) r) → List Note
   account-from w turns v None f = []
-  account-from w turns v (Some r) f = (f r refl).deeds
+  account-from w turns v (Some r) f = (f r refl).notes
 
   -- what is known of a node: its runner and its account, or that it is none
   abbrev Known : World → (ℕ → ℕ) → ℕ → Option (Runner A) → List Note → Type 0
@@ -167,7 +167,7 @@ module _ {A : Type 0} where
           let le = beyond v is in
           let test : nat_lt v w.net.nodes ≡ false = grind (arith, common_steps, le) in
           let node : last.node v ≡ w.node v = ap (λ b. if b then state_of (slice_index_or (nodes_of rs) v no_node) else default_node (ranges_of w.net)) test ∙ sym (start.beyond v le) in
-          subst (λ ds. Leads w.net v (w.node v) ds (last.node v)) (sym none) node
+          subst (λ ds. Leads w.net v (w.node v) ds (last.node v)) (sym none) (tt, node)
     ]
 
     nobody : (v : ℕ) → w.net.nodes ≤ v → account v ≡ []
@@ -242,8 +242,8 @@ module _ {A : Type 0} where
 
       link-apart : (u v : ℕ) → are_joined w.net.edges u v ≡ false → IsLinkMatched w.net.capacity (w.link u v) (sent_to v (account u)) (taken_from u (account v)) (w.link u v)
       link-apart u v isnt =
-          let sends = none-sent w.net u v (account u) (w.node u) (last.node u) isnt (leads u) in
-          let takes = none-taken w.net u v (account v) (w.node v) (last.node v) isnt (leads v) in
+          let sends = none-sent w.net u v (account u) isnt (leads u).0 in
+          let takes = none-taken w.net u v (account v) isnt (leads v).0 in
           subst (λ xs. IsLinkMatched w.net.capacity (w.link u v) xs (taken_from u (account v)) (w.link u v)) (sym sends)
           (subst (λ xs. IsLinkMatched w.net.capacity (w.link u v) [] xs (w.link u v)) (sym takes) (idle-link w.net.capacity (w.link u v)))
 

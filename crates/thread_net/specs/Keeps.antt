@@ -13,8 +13,8 @@ MayRun turns r = IsReady r × (length r.journal.entries.items + turns * round_ro
 -- it did that number of rounds, and nothing else; the first one is whole where a run begins with it
 abbrev pub HasRun : {A : Type 0} → ℕ → Runner A → Runner A → Type 0
 HasRun turns was now =
-    (deeds : List Note) × Does deeds was now × AreRounds (port_ids was) turns deeds
-    × (length deeds ≤ turns * round_room was) × (0 < turns → BeginsWhole was deeds)
+    (notes : List Note) × Does notes was now × AreRounds (port_ids was) turns notes
+    × (length notes ≤ turns * round_room was) × (0 < turns → BeginsWhole was notes)
 
 -- it did all its turns, or is as it was
 abbrev pub Keeps : {A : Type 0} → ℕ → Runner A → Runner A → Bool → Type 0

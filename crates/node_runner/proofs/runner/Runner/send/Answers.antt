@@ -45,11 +45,11 @@ returns-in-Some g c =
       bound = let l = c.in-Some.ensures.later.1 in let e = c.note.ensures.clock in omega arith;
       neighbours = ap (λ ps. map (λ q. q.neighbour) ps.items) rest.2 ∙ now-ids a k p at x same;
       ports = subst (λ ps. AreSamePorts a.ports.items ps.items) (sym rest.2) (now-same a k p at x same);
-      leads = λ net v of_id site. (
-        ((c.neighbours.ensures.joined net v n).0 (subst (λ s. Contains s.neighbours n) site (known a k p at))).1,
-        ap Frame c.frame_for-frame.ensures.frame,
-        ap state_of rest.1,
-      );
+      leads = λ net v of_id site.
+          let near = subst (λ s. Contains s.neighbours n) site (known a k p at) in (
+            (((c.neighbours.ensures.joined net v n).0 near).1, tt, tt),
+            (near, c.frame_for-frame.ensures.frame, ap state_of rest.1),
+          );
       told = λ w v past was.
           let old = port-was a k p at w v past was in
           let first : sent_to n deeds ≡ s ∷ [] = grind (arith, common_steps) in

@@ -4,6 +4,7 @@ use Rattle.node_core.specs.Step.{taken}
 use Rattle.node_core.specs.View.{site_in, state_of}
 use Rattle.weaving.specs.declared.journal.Stamped.{Stamped}
 use Rattle.weaving.specs.Account.{Note, Took, sent_to, taken_from}
+use Rattle.weaving.proofs.Accounts.{leads-to_take}
 use Rattle.node_runner.specs.declared.runner.Port.{Port}
 use Rattle.node_runner.specs.Ports.{IsSender, IsReceiver, SameOutgoing}
 use Rattle.node_runner.specs.Runner.{IsPortTold, IsSamePort, AreSamePorts}
@@ -45,10 +46,11 @@ returns-in-Some g c =
       bound = let l = c.in-Some.ensures.later.1 in let r = c.requires.ready.clock in let e = c.note.ensures.clock in omega arith;
       neighbours = ap (λ ps. map (λ q. q.neighbour) ps.items) rest.2 ∙ now-ids a k p at x same;
       ports = subst (λ ps. AreSamePorts a.ports.items ps.items) (sym rest.2) (now-same a k p at x same);
-      leads = λ net v of_id site. (
-        subst IsTrue (c.joined.ensures.back net.edges v n) ((c.neighbours.ensures.joined net v n).0 (subst (λ s. Contains s.neighbours n) site (known a k p at))).1,
-        ap state_of rest.1 ∙ (c.take-in-Some.ensures.state ∙ ap (λ s. taken s n c.in-Some.taken.item (state_of a.node)) site),
-      );
+      leads = λ net v of_id site.
+          let near = subst (λ s. Contains s.neighbours n) site (known a k p at) in
+          let joined = subst IsTrue (c.joined.ensures.back net.edges v n) ((c.neighbours.ensures.joined net v n).0 near).1 in
+          let new = ap state_of rest.1 ∙ (c.take-in-Some.ensures.state ∙ ap (λ s. taken s n c.in-Some.taken.item (state_of a.node)) site) in
+          leads-to_take net v (state_of a.node) n s [] (state_of c.note.new.self.node) near joined (tt, new);
       told = λ w v past was.
           let old = port-was a k p at w v past was in
           let first : taken_from n deeds ≡ s ∷ [] = grind (arith, common_steps) in

@@ -22,7 +22,7 @@ returns g c =
       bound = let r = c.requires.ready.clock in let e = c.note.ensures.clock in omega arith;
       neighbours = ap (λ ps. map (λ p. p.neighbour) ps.items) rest.2;
       ports = subst (λ ps. AreSamePorts a.ports.items ps.items) (sym rest.2) (all-same a.ports.items);
-      leads = λ net v at site. ap state_of rest.1 ∙ (c.tick-ticked.ensures.state ∙ ap (λ s. ticked s (state_of a.node)) site);
+      leads = λ net v at site. (tt, ap state_of rest.1 ∙ (c.tick-ticked.ensures.state ∙ ap (λ s. ticked s (state_of a.node)) site));
       told = λ w v past was.
           subst (λ ps. All (IsPortTold w v (past ++ Ticked t ∷ [])) ps.items) (sym rest.2) (ports-stay w v past (Ticked t ∷ []) a.ports.items (λ u. (refl, refl)) was.ports);
     } in (t, does-one (Ticked t) a c.note.new.self c.requires.ready noted, λ bound late up. let e = c.note.ensures.clock in omega (arith, e, up))
