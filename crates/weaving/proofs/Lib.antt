@@ -4,7 +4,7 @@ pub mod Changed
 pub mod LinkSteps
 pub mod OneWoven
 mod Rows
-mod RowsRun
+pub mod RowsRun
 pub mod Steps
 pub mod Weaving
 pub mod FirstOf

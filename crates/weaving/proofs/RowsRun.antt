@@ -22,7 +22,7 @@ use Rattle.weaving.specs.Account.{Note, Ticked, Sent, Took, Leads, deeds_in, sen
 use Rattle.weaving.specs.Matched.{AreMatched, IsLinkMatched}
 use Rattle.weaving.specs.Laws.{HasEffect, GoesThrough}
 
-abbrev start : World
+abbrev pub start : World
 start = default_world two_nodes
 
 -- both tick, node 0 sends, and node 1 takes
@@ -59,9 +59,13 @@ no-loss out = out
 abbrev ticked_0 : LocalState
 ticked_0 = ticked (site_of two_nodes 0) (start.node 0)
 
--- the frame that it sends then
+-- what v sends to u at that stamp, after its first tick
+abbrev pub after_tick : ℕ → ℕ → ℕ → Stamped
+after_tick v u t = record { stamp = t; item = Frame (frame_of ((ticked (site_of two_nodes v) (start.node v)).port u)) }
+
+-- what node 0 sends then
 abbrev sent : Stamped
-sent = record { stamp = 2; item = Frame (frame_of (ticked_0.port 1)) }
+sent = after_tick 0 1 2
 
 -- node 0 ticks and sends; node 1 ticks and takes what was sent
 abbrev account : ℕ → List Note
