@@ -1,32 +1,58 @@
 -- Accounts that go on.
-use Rattle.std.proofs.Common.{◌≡◌, ℕ, ◌<◌, ◌≤◌, List, [], ◌∷◌, ◌++◌, map, ap, refl, subst, arith}
+use Rattle.std.proofs.Common.{◌≡◌, ℕ, ◌<◌, ◌≤◌, List, [], ◌∷◌, ◌++◌, map, ap, refl, sym, subst, ◌∙◌, arith}
 use Rattle.std.proofs.lemmas.Grind.{common_steps}
 use Rattle.std.specs.List.{AllByRecursion}
 use Rattle.topology.specs.Network.{Network}
+use Rattle.node_core.specs.Site.{site_of}
 use Rattle.node_core.specs.State.{LocalState}
 use Rattle.weaving.specs.declared.journal.Entry.{Entry}
 use Rattle.weaving.specs.Woven.{AreRising}
-use Rattle.weaving.specs.Account.{Deed, Ticks, Sends, Takes, entry_of, sent_to, taken_from, Leads}
+use Rattle.link_model.specs.declared.item.Item.{Item}
+use Rattle.link_model.specs.declared.item.Item.TheVariants.{Noise, Frame}
+use Rattle.accounts.specs.Deeds.{Deed, Ticks}
+use Rattle.accounts.specs.Deeds as deeds
+use Rattle.accounts.proofs.Joined.{joins}
+use Rattle.weaving.specs.Account.{Note, Ticked, Sent, Took, entry_of, sent_to, taken_from, deeds_in, send_first, take_first, AreOverLinks, Leads}
 
-pub leads-on : (net : Network) (v : ℕ) (ds es : List Deed) (s mid last : LocalState) → Leads net v s ds mid → Leads net v mid es last → Leads net v s (ds ++ es) last
-leads-on net v [] es s mid last h more = subst (λ x. Leads net v x es last) h more
-leads-on net v (Ticks t ∷ ds) es s mid last h more = leads-on net v ds es _ mid last h more
-leads-on net v (Sends u x ∷ ds) es s mid last h more = (h.0, h.1, leads-on net v ds es s mid last h.2 more)
-leads-on net v (Takes u x ∷ ds) es s mid last h more = (h.0, leads-on net v ds es _ mid last h.1 more)
+links-on : (net : Network) (v : ℕ) (ns ms : List Note) → AreOverLinks net v ns → AreOverLinks net v ms → AreOverLinks net v (ns ++ ms)
+links-on net v [] ms h more = more
+links-on net v (Ticked t ∷ ns) ms h more = links-on net v ns ms h more
+links-on net v (Sent u x ∷ ns) ms h more = (h.0, h.1, links-on net v ns ms h.2 more)
+links-on net v (Took u x ∷ ns) ms h more = (h.0, links-on net v ns ms h.1 more)
 
-pub sent-on : (u : ℕ) (ds es : List Deed) → sent_to u (ds ++ es) ≡ sent_to u ds ++ sent_to u es
+send-on : (w : ℕ) (i : Item) (ds es : List Deed) → send_first w i (ds ++ es) ≡ send_first w i ds ++ es
+send-on w (Frame f) ds es = refl
+send-on w Noise ds es = refl
+
+take-on : (w : ℕ) (i : Item) (ds es : List Deed) → take_first w i (ds ++ es) ≡ take_first w i ds ++ es
+take-on w (Frame f) ds es = refl
+take-on w Noise ds es = refl
+
+deeds-on : (ns ms : List Note) → deeds_in (ns ++ ms) ≡ deeds_in ns ++ deeds_in ms
+deeds-on [] ms = refl
+deeds-on (Ticked t ∷ ns) ms = ap (λ ds. Ticks ∷ ds) (deeds-on ns ms)
+deeds-on (Sent u x ∷ ns) ms = ap (send_first u x.item) (deeds-on ns ms) ∙ send-on u x.item (deeds_in ns) (deeds_in ms)
+deeds-on (Took u x ∷ ns) ms = ap (take_first u x.item) (deeds-on ns ms) ∙ take-on u x.item (deeds_in ns) (deeds_in ms)
+
+pub leads-on : (net : Network) (v : ℕ) (ds es : List Note) (s mid last : LocalState) → Leads net v s ds mid → Leads net v mid es last → Leads net v s (ds ++ es) last
+leads-on net v ds es s mid last h more = (
+  links-on net v ds es h.0 more.0,
+  subst (λ xs. deeds.Leads (site_of net v) xs s last) (sym (deeds-on ds es)) (joins (site_of net v) (deeds_in ds) (deeds_in es) s mid last h.1 more.1),
+)
+
+pub sent-on : (u : ℕ) (ds es : List Note) → sent_to u (ds ++ es) ≡ sent_to u ds ++ sent_to u es
 sent-on u [] es = refl
-sent-on u (Ticks t ∷ ds) es = sent-on u ds es
-sent-on u (Sends w s ∷ ds) es = let later = sent-on u ds es in grind (arith, common_steps)
-sent-on u (Takes w s ∷ ds) es = sent-on u ds es
+sent-on u (Ticked t ∷ ds) es = sent-on u ds es
+sent-on u (Sent w s ∷ ds) es = let later = sent-on u ds es in grind (arith, common_steps)
+sent-on u (Took w s ∷ ds) es = sent-on u ds es
 
-pub taken-on : (u : ℕ) (ds es : List Deed) → taken_from u (ds ++ es) ≡ taken_from u ds ++ taken_from u es
+pub taken-on : (u : ℕ) (ds es : List Note) → taken_from u (ds ++ es) ≡ taken_from u ds ++ taken_from u es
 taken-on u [] es = refl
-taken-on u (Ticks t ∷ ds) es = taken-on u ds es
-taken-on u (Sends w s ∷ ds) es = taken-on u ds es
-taken-on u (Takes w s ∷ ds) es = let later = taken-on u ds es in grind (arith, common_steps)
+taken-on u (Ticked t ∷ ds) es = taken-on u ds es
+taken-on u (Sent w s ∷ ds) es = taken-on u ds es
+taken-on u (Took w s ∷ ds) es = let later = taken-on u ds es in grind (arith, common_steps)
 
-pub entries-on : (v : ℕ) (ds es : List Deed) → map (entry_of v) (ds ++ es) ≡ map (entry_of v) ds ++ map (entry_of v) es
+pub entries-on : (v : ℕ) (ds es : List Note) → map (entry_of v) (ds ++ es) ≡ map (entry_of v) ds ++ map (entry_of v) es
 entries-on v [] es = refl
 entries-on v (d ∷ ds) es = ap (λ xs. entry_of v d ∷ xs) (entries-on v ds es)
 

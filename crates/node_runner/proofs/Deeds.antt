@@ -6,14 +6,14 @@ use Rattle.node_core.specs.Site.{site_of}
 use Rattle.node_core.specs.View.{site_in, state_of}
 use Rattle.run_model.specs.World.{World}
 use Rattle.weaving.specs.Woven.{AreRising}
-use Rattle.weaving.specs.Account.{Deed, entry_of, Leads}
+use Rattle.weaving.specs.Account.{Note, entry_of, Leads}
 use Rattle.node_runner.specs.declared.runner.Runner.{Runner}
 use Rattle.node_runner.specs.Stamps.{last_stamp}
 use Rattle.node_runner.specs.Runner.{IsTold, IsPortTold, IsReady, Does, AreSamePorts, port_ids}
 use Rattle.node_runner.proofs.Accounts.{leads-on, entries-on, all-push, all-below, rising-push}
 
 -- what a deed of a node changes beside its ports
-pub record Noted {A : Type 0} (d : Deed) (a b : Runner A) : Type 0 where
+pub record Noted {A : Type 0} (d : Note) (a b : Runner A) : Type 0 where
   pub id : b.id ≡ a.id
   pub site : site_in b.node ≡ site_in a.node
   pub entries : b.journal.entries.items ≡ a.journal.entries.items ++ entry_of a.id d ∷ []
@@ -24,9 +24,9 @@ pub record Noted {A : Type 0} (d : Deed) (a b : Runner A) : Type 0 where
   pub neighbours : port_ids b ≡ port_ids a
   pub ports : AreSamePorts a.ports.items b.ports.items
   pub leads : (net : Network) (v : ℕ) → a.id ≡ v → site_in a.node ≡ site_of net v → Leads net v (state_of a.node) (d ∷ []) (state_of b.node)
-  pub told : (w : World) (v : ℕ) (past : List Deed) → IsTold w v past a → All (IsPortTold w v (past ++ d ∷ [])) b.ports.items
+  pub told : (w : World) (v : ℕ) (past : List Note) → IsTold w v past a → All (IsPortTold w v (past ++ d ∷ [])) b.ports.items
 
-pub does-one : {A : Type 0} (d : Deed) (a b : Runner A) → IsReady a → Noted d a b → Does (d ∷ []) a b
+pub does-one : {A : Type 0} (d : Note) (a b : Runner A) → IsReady a → Noted d a b → Does (d ∷ []) a b
 does-one {A} d a b ready n =
     let longer : length b.journal.entries.items ≡ length a.journal.entries.items + 1 = ap length n.entries ∙ length-append a.journal.entries.items (entry_of a.id d ∷ []) in
     record {

@@ -8,3 +8,4 @@ pub mod Deeds
 pub mod PortLists
 pub mod PortDeeds
 pub mod Rounds
+mod RowsRounds

@@ -8,7 +8,7 @@ use Rattle.topology.specs.Laws.{NeighboursAscend}
 use Rattle.node_core.specs.Site.{site_of}
 use Rattle.node_core.specs.View.{site_in, state_of}
 use Rattle.run_model.specs.World.{World}
-use Rattle.weaving.specs.Account.{Deed, sent_to, taken_from, entry_of, Leads}
+use Rattle.weaving.specs.Account.{Note, sent_to, taken_from, entry_of, Leads}
 use Rattle.node_runner.specs.declared.runner.Port.{Port}
 use Rattle.node_runner.specs.declared.runner.Runner.{Runner}
 use Rattle.node_runner.specs.Runner.{IsTold, IsPortTold, IsReady, Does, IsSamePort, AreSamePorts, port_ids}
@@ -32,7 +32,7 @@ module _ {A : Type 0} (a : Runner A) (k : ℕ) (p : Port A) (at : IsAt a k p) wh
   ascends : NeighboursAscend → (net : Network) (v : ℕ) → site_in a.node ≡ site_of net v → IsStrictlyIncreasing (port_ids a)
   ascends law net v site = subst IsStrictlyIncreasing (sym (at.ready.ports ∙ ap (λ s. s.neighbours) site)) (law net v)
 
-  pub port-was : (w : World) (v : ℕ) (past : List Deed) → IsTold w v past a → IsPortTold w v past p
+  pub port-was : (w : World) (v : ℕ) (past : List Note) → IsTold w v past a → IsPortTold w v past p
   port-was w v past was = subst (IsPortTold w v past) (sym at.value) (was.ports k p at.within)
 
   module _ (x : Port A) (same : IsSamePort p x) where
@@ -48,14 +48,14 @@ module _ {A : Type 0} (a : Runner A) (k : ℕ) (p : Port A) (at : IsAt a k p) wh
     pub now-ids : map (λ q. q.neighbour) (set a.ports.items k x) ≡ port_ids a
     now-ids = ids-set a.ports.items k x at.within at-place
 
-    pub now-told : (w : World) (v : ℕ) (past es : List Deed) → NeighboursAscend → IsTold w v past a
+    pub now-told : (w : World) (v : ℕ) (past es : List Note) → NeighboursAscend → IsTold w v past a
         → ((u : ℕ) → u ≢ x.neighbour → (sent_to u es ≡ []) × (taken_from u es ≡ [])) → IsPortTold w v (past ++ es) x
         → All (IsPortTold w v (past ++ es)) (set a.ports.items k x)
     now-told w v past es law was others one =
         ports-told w v past es a.ports.items k x at.within (ascends law w.net v was.site) at-place others was.ports one
 
     pub does-none : (b : Runner A) → NeighboursAscend → b.id ≡ a.id → b.node ≡ a.node → b.clock ≡ a.clock → b.journal ≡ a.journal → b.ports.items ≡ set a.ports.items k x
-        → ((w : World) (v : ℕ) (past : List Deed) → IsTold w v past a → IsPortTold w v (past ++ []) x) → Does [] a b
+        → ((w : World) (v : ℕ) (past : List Note) → IsTold w v past a → IsPortTold w v (past ++ []) x) → Does [] a b
     does-none b law id node clock journal ports one =
         let count = ap (λ j. length j.entries.items) journal in
         record {

@@ -6,7 +6,7 @@ use Rattle.std.specs.List.Sorted.{IsStrictlyIncreasing}
 use Rattle.std.proofs.lemmas.List.{length-set, get_or-set_same, get_or-set_other, get_or-map}
 use Rattle.std.proofs.lemmas.List.Kept.{AllPairs-from_increasing}
 use Rattle.run_model.specs.World.{World}
-use Rattle.weaving.specs.Account.{Deed, sent_to, taken_from}
+use Rattle.weaving.specs.Account.{Note, sent_to, taken_from}
 use Rattle.node_runner.specs.declared.runner.Port.{Port}
 use Rattle.node_runner.specs.Ports.{IsSender, IsReceiver}
 use Rattle.node_runner.specs.Runner.{IsPortTold, IsSamePort, AreSamePorts}
@@ -63,7 +63,7 @@ module _ {A : Type 0} where
   ids-set (p ∷ ps) zero x within same = ap (λ n. n ∷ map neighbour ps) same
   ids-set (p ∷ ps) (suc k) x within same = ap (λ ns. p.neighbour ∷ ns) (ids-set ps k x (omega arith) same)
 
-  module _ (w : World) (v : ℕ) (past es : List Deed) where
+  module _ (w : World) (v : ℕ) (past es : List Note) where
     pub port-stays : (p : Port A) → sent_to p.neighbour es ≡ [] → taken_from p.neighbour es ≡ [] → IsPortTold w v past p → IsPortTold w v (past ++ es) p
     port-stays p none-sent none-taken was =
         let n = p.neighbour in

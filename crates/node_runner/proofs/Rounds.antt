@@ -10,7 +10,7 @@ use Rattle.std.proofs.Math.Seq.{take-suc}
 use Rattle.rtrb.specs.Ring.{SameProducer, SameConsumer}
 use Rattle.rtrb.specs.declared.producer.Producer.{Producer}
 use Rattle.rtrb.specs.declared.consumer.Consumer.{Consumer}
-use Rattle.weaving.specs.Account.{Deed, Ticks, sent_to, taken_from}
+use Rattle.weaving.specs.Account.{Note, Ticked, sent_to, taken_from}
 use Rattle.node_runner.specs.declared.runner.Port.{Port}
 use Rattle.node_runner.specs.declared.runner.Runner.{Runner}
 use Rattle.node_runner.specs.Runner.{IsTold, IsReady, Does, IsSamePort, AreSamePorts, IsOneSend, IsOneTake, port_ids, round_room}
@@ -53,7 +53,7 @@ module _ {A : Type 0} where
     room = refl;
   }
 
-  pub does-both : (a b c : Runner A) (ds es : List Deed) → Does ds a b → Does es b c → Does (ds ++ es) a c
+  pub does-both : (a b c : Runner A) (ds es : List Note) → Does ds a b → Does es b c → Does (ds ++ es) a c
   does-both a b c ds es x y = record {
     told = λ w v past was. subst (λ all. IsTold w v all c) (append_assoc past ds es) (y.told w v (past ++ ds) (x.told w v past was));
     ready = y.ready;
@@ -64,27 +64,27 @@ module _ {A : Type 0} where
     room = y.room ∙ x.room;
   }
 
-  pub same-ids : (a b : Runner A) (ds : List Deed) → IsReady a → Does ds a b → port_ids b ≡ port_ids a
+  pub same-ids : (a b : Runner A) (ds : List Note) → IsReady a → Does ds a b → port_ids b ≡ port_ids a
   same-ids a b ds ready x = x.ready.ports ∙ (ap (λ s. s.neighbours) x.site ∙ sym ready.ports)
 
-pub one-send-length : (u : ℕ) (ds : List Deed) → IsOneSend u ds → length ds ≤ 1
+pub one-send-length : (u : ℕ) (ds : List Note) → IsOneSend u ds → length ds ≤ 1
 one-send-length u ds one = elim one [
   | inl none ↦ let l = ap length none in omega arith
   | inr some ↦ let l = ap length some.1 in omega arith
 ]
 
-pub one-take-length : (u : ℕ) (ds : List Deed) → IsOneTake u ds → length ds ≤ 1
+pub one-take-length : (u : ℕ) (ds : List Note) → IsOneTake u ds → length ds ≤ 1
 one-take-length u ds one = elim one [
   | inl none ↦ let l = ap length none in omega arith
   | inr some ↦ let l = ap length some.1 in omega arith
 ]
 
-sends-push : (us : List ℕ) (u : ℕ) (ds es : List Deed) → AreSendsTo us ds → IsOneSend u es → AreSendsTo (us ++ u ∷ []) (ds ++ es)
+sends-push : (us : List ℕ) (u : ℕ) (ds es : List Note) → AreSendsTo us ds → IsOneSend u es → AreSendsTo (us ++ u ∷ []) (ds ++ es)
 sends-push [] u ds es are one = (es, [], (ap (λ xs. xs ++ es) are ∙ sym (append-nil es)), one, refl)
 sends-push (w ∷ us) u ds es are one =
     (are.0, are.1 ++ es, ap (λ xs. xs ++ es) are.2 ∙ append_assoc are.0 are.1 es, are.3, sends-push us u are.1 es are.4 one)
 
-takes-push : (us : List ℕ) (u : ℕ) (ds es fs : List Deed) → AreTakesFrom us ds → IsOneTake u es → IsOneTake u fs → AreTakesFrom (us ++ u ∷ []) (ds ++ (es ++ fs))
+takes-push : (us : List ℕ) (u : ℕ) (ds es fs : List Note) → AreTakesFrom us ds → IsOneTake u es → IsOneTake u fs → AreTakesFrom (us ++ u ∷ []) (ds ++ (es ++ fs))
 takes-push [] u ds es fs are one two = (es, fs, [], (ap (λ xs. xs ++ (es ++ fs)) are ∙ ap (λ xs. es ++ xs) (sym (append-nil fs))), one, two, refl)
 takes-push (w ∷ us) u ds es fs are one two =
     let more = es ++ fs in (
@@ -98,23 +98,23 @@ takes-push (w ∷ us) u ds es fs are one two =
     )
 
 -- the same, of the first of a list
-pub sends-next : (us : List ℕ) (k : ℕ) (ds es : List Deed) → k < length us → AreSendsTo (take k us) ds → IsOneSend (slice_index_or us k 0) es → AreSendsTo (take (k + 1) us) (ds ++ es)
+pub sends-next : (us : List ℕ) (k : ℕ) (ds es : List Note) → k < length us → AreSendsTo (take k us) ds → IsOneSend (slice_index_or us k 0) es → AreSendsTo (take (k + 1) us) (ds ++ es)
 sends-next us k ds es within are one =
     let more : take (k + 1) us ≡ take k us ++ slice_index_or us k 0 ∷ [] = rw add-one (take-suc us k 0 within) in
     subst (λ xs. AreSendsTo xs (ds ++ es)) (sym more) (sends-push (take k us) (slice_index_or us k 0) ds es are one)
 
-pub takes-next : (us : List ℕ) (k : ℕ) (ds es fs : List Deed) → k < length us → AreTakesFrom (take k us) ds → IsOneTake (slice_index_or us k 0) es
+pub takes-next : (us : List ℕ) (k : ℕ) (ds es fs : List Note) → k < length us → AreTakesFrom (take k us) ds → IsOneTake (slice_index_or us k 0) es
     → IsOneTake (slice_index_or us k 0) fs → AreTakesFrom (take (k + 1) us) (ds ++ (es ++ fs))
 takes-next us k ds es fs within are one two =
     let more : take (k + 1) us ≡ take k us ++ slice_index_or us k 0 ∷ [] = rw add-one (take-suc us k 0 within) in
     subst (λ xs. AreTakesFrom xs (ds ++ (es ++ fs))) (sym more) (takes-push (take k us) (slice_index_or us k 0) ds es fs are one two)
 
-rounds-push : (us : List ℕ) (n : ℕ) (ds es : List Deed) → AreRounds us n ds → IsRound us es → AreRounds us (suc n) (ds ++ es)
+rounds-push : (us : List ℕ) (n : ℕ) (ds es : List Note) → AreRounds us n ds → IsRound us es → AreRounds us (suc n) (ds ++ es)
 rounds-push us zero ds es are one = (es, [], (ap (λ xs. xs ++ es) are ∙ sym (append-nil es)), one, refl)
 rounds-push us (suc n) ds es are one =
     (are.0, are.1 ++ es, ap (λ xs. xs ++ es) are.2 ∙ append_assoc are.0 are.1 es, are.3, rounds-push us n are.1 es are.4 one)
 
-pub rounds-next : (us : List ℕ) (n : ℕ) (ds es : List Deed) → AreRounds us n ds → IsRound us es → AreRounds us (n + 1) (ds ++ es)
+pub rounds-next : (us : List ℕ) (n : ℕ) (ds es : List Note) → AreRounds us n ds → IsRound us es → AreRounds us (n + 1) (ds ++ es)
 rounds-next us n ds es are one = subst (λ m. AreRounds us m (ds ++ es)) (sym (add-one n)) (rounds-push us n ds es are one)
 
 mul-step : (n k a b : ℕ) → a ≤ n * k → b ≤ k → a + b ≤ (n + 1) * k
@@ -123,19 +123,19 @@ mul-step n k a b some one = grind arith
 -- ---- what is due
 
 -- more deeds behind leave what was sent and taken
-more-sent : (u n : ℕ) (ds es : List Deed) → n < length (sent_to u ds) → n < length (sent_to u (ds ++ es))
+more-sent : (u n : ℕ) (ds es : List Note) → n < length (sent_to u ds) → n < length (sent_to u (ds ++ es))
 more-sent u n ds es some = let a = ap length (sent-on u ds es) in let b = length-append (sent_to u ds) (sent_to u es) in omega (arith, a, b, some)
 
-more-taken : (u n : ℕ) (ds es : List Deed) → n ≤ length (taken_from u ds) → n ≤ length (taken_from u (ds ++ es))
+more-taken : (u n : ℕ) (ds es : List Note) → n ≤ length (taken_from u ds) → n ≤ length (taken_from u (ds ++ es))
 more-taken u n ds es some = let a = ap length (taken-on u ds es) in let b = length-append (taken_from u ds) (taken_from u es) in omega (arith, a, b, some)
 
-one-sent : (u : ℕ) (es : List Deed) → IsOneSend u es → length (sent_to u es) ≡ length es
+one-sent : (u : ℕ) (es : List Note) → IsOneSend u es → length (sent_to u es) ≡ length es
 one-sent u es one = elim one [
   | inl none ↦ subst (λ xs. length (sent_to u xs) ≡ length xs) (sym none) refl
   | inr some ↦ subst (λ xs. length (sent_to u xs) ≡ length xs) (sym some.1) (grind (arith, common_steps))
 ]
 
-one-taken : (u : ℕ) (es : List Deed) → IsOneTake u es → length (taken_from u es) ≡ length es
+one-taken : (u : ℕ) (es : List Note) → IsOneTake u es → length (taken_from u es) ≡ length es
 one-taken u es one = elim one [
   | inl none ↦ subst (λ xs. length (taken_from u xs) ≡ length xs) (sym none) refl
   | inr some ↦ subst (λ xs. length (taken_from u xs) ≡ length xs) (sym some.1) (grind (arith, common_steps))
@@ -171,14 +171,14 @@ module _ {A : Type 0} where
   slow-both a b c m n x y = λ bound late up. let one = x bound late up in let two = y (bound + m) (omega (arith, late)) one in omega (arith, two)
 
   -- one more port has had its send, which was due
-  sends-due : (a b : Runner A) (us : List ℕ) (k : ℕ) (ds es : List Deed) → k < length us → Does ds a b → IsSlow (length ds) a b → length ds ≤ k → k < length a.ports.items
+  sends-due : (a b : Runner A) (us : List ℕ) (k : ℕ) (ds es : List Note) → k < length us → Does ds a b → IsSlow (length ds) a b → length ds ≤ k → k < length a.ports.items
       → AreSendsDue (take k us) a ds → IsOneSend (slice_index_or us k 0) es → IsSendDue (slice_index_or us k 0) b es → AreSendsDue (take (k + 1) us) a (ds ++ es)
   sends-due a b us k ds es within does slow few ports due one next = λ w v past told none start most.
       let u = slice_index_or us k 0 in
       let more : take (k + 1) us ≡ take k us ++ u ∷ [] = rw add-one (take-suc us k 0 within) in
-      let Sent : ℕ → Type 0 = λ x. IsTrue (has_room w v x) → 0 < length (sent_to x (ds ++ es)) in
-      let before : All Sent (take k us) = λ j d below room. more-sent _ 0 ds es (due w v past told none start most j d below room) in
-      let here : Sent u = λ room.
+      let Given : ℕ → Type 0 = λ x. IsTrue (has_room w v x) → 0 < length (sent_to x (ds ++ es)) in
+      let before : All Given (take k us) = λ j d below room. more-sent _ 0 ds es (due w v past told none start most j d below room) in
+      let here : Given u = λ room.
       let cases : (0 < length (sent_to u ds)) ⊎ (length (sent_to u ds) ≡ 0) = grind arith in
       elim cases [
         | inl some ↦ more-sent u 0 ds es some
@@ -192,10 +192,10 @@ module _ {A : Type 0} where
             let c = one-sent u es one in
             omega (arith, some, a, b, c)
       ] in
-      subst (All Sent) (sym more) (All-push Sent (take k us) u before here)
+      subst (All Given) (sym more) (All-push Given (take k us) u before here)
 
   -- one more port has had its takes, which were due
-  takes-due : (a b c : Runner A) (us : List ℕ) (k : ℕ) (ds es fs : List Deed) → k < length us → Does ds a b → Does es b c
+  takes-due : (a b c : Runner A) (us : List ℕ) (k : ℕ) (ds es fs : List Note) → k < length us → Does ds a b → Does es b c
       → AreTakesDue (take k us) a ds → IsOneTake (slice_index_or us k 0) es → IsTakeDue (slice_index_or us k 0) b es
       → IsOneTake (slice_index_or us k 0) fs → IsTakeDue (slice_index_or us k 0) c fs → AreTakesDue (take (k + 1) us) a (ds ++ (es ++ fs))
   takes-due a b c us k ds es fs within does does' due one next two next' = λ w v past told links none.
@@ -224,11 +224,11 @@ module _ {A : Type 0} where
       subst (All Taken) (sym more) (All-push Taken (take k us) u before here)
 
 -- sends take nothing
-sends-untaken : (u : ℕ) (us : List ℕ) (ds : List Deed) → AreSendsTo us ds → taken_from u ds ≡ []
+sends-untaken : (u : ℕ) (us : List ℕ) (ds : List Note) → AreSendsTo us ds → taken_from u ds ≡ []
 sends-untaken u [] ds are = ap (taken_from u) are
 sends-untaken u (x ∷ us) ds are =
     ap (taken_from u) are.2 ∙ (taken-on u are.0 are.1 ∙ (ap (λ xs. xs ++ taken_from u are.1) (one-untaken are.0 are.3) ∙ sends-untaken u us are.1 are.4)) where
-      one-untaken : (es : List Deed) → IsOneSend x es → taken_from u es ≡ []
+      one-untaken : (es : List Note) → IsOneSend x es → taken_from u es ≡ []
       one-untaken es one = elim one [
         | inl none ↦ ap (taken_from u) none
         | inr some ↦ ap (taken_from u) some.1
@@ -237,9 +237,9 @@ sends-untaken u (x ∷ us) ds are =
 module _ {A : Type 0} where
   -- one more port has had its send
   pub send-turn : (a b c : Runner A) (k : ℕ) → IsReady a → k < length a.ports.items
-      → (ds : List Deed) × Does ds a b × AreSendsTo (take k (port_ids a)) ds × (length ds ≤ k) × AreSendsDue (take k (port_ids a)) a ds × IsSlow (length ds) a b
-      → (es : List Deed) × Does es b c × IsOneSend (slice_index_or (port_ids b) k 0) es × IsSendDue (slice_index_or (port_ids b) k 0) b es × IsSlow (length es) b c
-      → (ds : List Deed) × Does ds a c × AreSendsTo (take (k + 1) (port_ids a)) ds × (length ds ≤ k + 1) × AreSendsDue (take (k + 1) (port_ids a)) a ds × IsSlow (length ds) a c
+      → (ds : List Note) × Does ds a b × AreSendsTo (take k (port_ids a)) ds × (length ds ≤ k) × AreSendsDue (take k (port_ids a)) a ds × IsSlow (length ds) a b
+      → (es : List Note) × Does es b c × IsOneSend (slice_index_or (port_ids b) k 0) es × IsSendDue (slice_index_or (port_ids b) k 0) b es × IsSlow (length es) b c
+      → (ds : List Note) × Does ds a c × AreSendsTo (take (k + 1) (port_ids a)) ds × (length ds ≤ k + 1) × AreSendsDue (take (k + 1) (port_ids a)) a ds × IsSlow (length ds) a c
   send-turn a b c k ready within was one =
       let ids = same-ids a b was.0 ready was.1 in
       let it : IsOneSend (slice_index_or (port_ids a) k 0) one.0 = subst (λ xs. IsOneSend (slice_index_or xs k 0) one.0) ids one.2 in
@@ -257,10 +257,10 @@ module _ {A : Type 0} where
 
   -- one more port has had its takes
   pub take-turn : (a b c d : Runner A) (k : ℕ) → IsReady a → k < length a.ports.items
-      → (ds : List Deed) × Does ds a b × AreTakesFrom (take k (port_ids a)) ds × (length ds ≤ 2 * k) × AreTakesDue (take k (port_ids a)) a ds
-      → (es : List Deed) × Does es b c × IsOneTake (slice_index_or (port_ids b) k 0) es × IsTakeDue (slice_index_or (port_ids b) k 0) b es
-      → (fs : List Deed) × Does fs c d × IsOneTake (slice_index_or (port_ids c) k 0) fs × IsTakeDue (slice_index_or (port_ids c) k 0) c fs
-      → (ds : List Deed) × Does ds a d × AreTakesFrom (take (k + 1) (port_ids a)) ds × (length ds ≤ 2 * (k + 1)) × AreTakesDue (take (k + 1) (port_ids a)) a ds
+      → (ds : List Note) × Does ds a b × AreTakesFrom (take k (port_ids a)) ds × (length ds ≤ 2 * k) × AreTakesDue (take k (port_ids a)) a ds
+      → (es : List Note) × Does es b c × IsOneTake (slice_index_or (port_ids b) k 0) es × IsTakeDue (slice_index_or (port_ids b) k 0) b es
+      → (fs : List Note) × Does fs c d × IsOneTake (slice_index_or (port_ids c) k 0) fs × IsTakeDue (slice_index_or (port_ids c) k 0) c fs
+      → (ds : List Note) × Does ds a d × AreTakesFrom (take (k + 1) (port_ids a)) ds × (length ds ≤ 2 * (k + 1)) × AreTakesDue (take (k + 1) (port_ids a)) a ds
   take-turn a b c d k ready within was one two =
       let u = slice_index_or (port_ids a) k 0 in
       let ids = same-ids a b was.0 ready was.1 in
@@ -284,15 +284,15 @@ module _ {A : Type 0} where
 
   -- a tick, the sends and the takes are a round
   pub one-round : (a b c d : Runner A) → IsReady a
-      → (t : ℕ) × Does (Ticks t ∷ []) a b × IsSlow 1 a b
-      → (ss : List Deed) × Does ss b c × AreSendsTo (port_ids b) ss × (length ss ≤ length b.ports.items) × AreSendsDue (port_ids b) b ss
-      → (ts : List Deed) × Does ts c d × AreTakesFrom (port_ids c) ts × (length ts ≤ 2 * length c.ports.items) × AreTakesDue (port_ids c) c ts
-      → (round : List Deed) × Does round a d × IsRound (port_ids a) round × (length round ≤ round_room a) × BeginsWhole a round
+      → (t : ℕ) × Does (Ticked t ∷ []) a b × IsSlow 1 a b
+      → (ss : List Note) × Does ss b c × AreSendsTo (port_ids b) ss × (length ss ≤ length b.ports.items) × AreSendsDue (port_ids b) b ss
+      → (ts : List Note) × Does ts c d × AreTakesFrom (port_ids c) ts × (length ts ≤ 2 * length c.ports.items) × AreTakesDue (port_ids c) c ts
+      → (round : List Note) × Does round a d × IsRound (port_ids a) round × (length round ≤ round_room a) × BeginsWhole a round
   one-round a b c d ready tick sends takes =
       let rest = sends.0 ++ takes.0 in
-      let ids = same-ids a b (Ticks tick.0 ∷ []) ready tick.1 in
+      let ids = same-ids a b (Ticked tick.0 ∷ []) ready tick.1 in
       let ids' = same-ids b c sends.0 tick.1.ready sends.1 in
-      let round : IsRound (port_ids a) (Ticks tick.0 ∷ rest) = record {
+      let round : IsRound (port_ids a) (Ticked tick.0 ∷ rest) = record {
         stamp = tick.0;
         sends = sends.0;
         takes = takes.0;
@@ -305,18 +305,18 @@ module _ {A : Type 0} where
       let all = length-append sends.0 takes.0 in
       let few = sends.3 in
       let few' = takes.3 in
-      let longer : length (Ticks tick.0 ∷ rest) ≡ 1 + length rest = omega arith in (
-        Ticks tick.0 ∷ rest,
-        does-both a b d (Ticks tick.0 ∷ []) rest tick.1 (does-both b c d sends.0 takes.0 sends.1 takes.1),
+      let longer : length (Ticked tick.0 ∷ rest) ≡ 1 + length rest = omega arith in (
+        Ticked tick.0 ∷ rest,
+        does-both a b d (Ticked tick.0 ∷ []) rest tick.1 (does-both b c d sends.0 takes.0 sends.1 takes.1),
         round,
         omega arith,
         λ clock most w v told links.
             let told-b = tick.1.told w v [] told in
-            let told-c = sends.1.told w v (Ticks tick.0 ∷ []) told-b in
+            let told-c = sends.1.told w v (Ticked tick.0 ∷ []) told-b in
             let start = tick.2 last_place (omega arith) (omega (arith, clock)) in
-            let untaken : (u : ℕ) → taken_from u (Ticks tick.0 ∷ sends.0) ≡ [] = λ u. sends-untaken u (port_ids b) sends.0 sends.2 in
-            let sent = sends.4 w v (Ticks tick.0 ∷ []) told-b (λ u. refl) start (omega (arith, many, most)) in
-            let taken = takes.4 w v (Ticks tick.0 ∷ sends.0) told-c links untaken in
+            let untaken : (u : ℕ) → taken_from u (Ticked tick.0 ∷ sends.0) ≡ [] = λ u. sends-untaken u (port_ids b) sends.0 sends.2 in
+            let sent = sends.4 w v (Ticked tick.0 ∷ []) told-b (λ u. refl) start (omega (arith, many, most)) in
+            let taken = takes.4 w v (Ticked tick.0 ∷ sends.0) told-c links untaken in
             let same : port_ids a ≡ neighbours_of w.net v = ready.ports ∙ ap (λ s. s.neighbours) told.site in
             first-of-round w v (port_ids a) sends.0 takes.0 round.are_sends round.are_takes tick.0 same
             (subst (All (λ u. IsTrue (has_room w v u) → 0 < length (sent_to u sends.0))) ids sent)
@@ -324,7 +324,7 @@ module _ {A : Type 0} where
       )
 
   -- the first round is whole, and further ones leave it so
-  whole-turn : (a b : Runner A) (n : ℕ) (ds es : List Deed) → Does ds a b → AreRounds (port_ids a) n ds → IsRound (port_ids a) es → (n ≡ 0 → b.clock ≡ a.clock)
+  whole-turn : (a b : Runner A) (n : ℕ) (ds es : List Note) → Does ds a b → AreRounds (port_ids a) n ds → IsRound (port_ids a) es → (n ≡ 0 → b.clock ≡ a.clock)
       → (0 < n → BeginsWhole a ds) → BeginsWhole b es → BeginsWhole a (ds ++ es)
   whole-turn a b zero ds es does are round same was one = λ clock most w v told links.
       let c = same refl in
@@ -339,9 +339,9 @@ module _ {A : Type 0} where
 
   -- one more round is done
   pub round-turn : (a b c : Runner A) (n : ℕ) → IsReady a
-      → ((ds : List Deed) × Does ds a b × AreRounds (port_ids a) n ds × (length ds ≤ n * round_room a) × (0 < n → BeginsWhole a ds)) × (n ≡ 0 → b.clock ≡ a.clock)
-      → (es : List Deed) × Does es b c × IsRound (port_ids b) es × (length es ≤ round_room b) × BeginsWhole b es
-      → ((ds : List Deed) × Does ds a c × AreRounds (port_ids a) (n + 1) ds × (length ds ≤ (n + 1) * round_room a) × (0 < n + 1 → BeginsWhole a ds)) × (n + 1 ≡ 0 → c.clock ≡ a.clock)
+      → ((ds : List Note) × Does ds a b × AreRounds (port_ids a) n ds × (length ds ≤ n * round_room a) × (0 < n → BeginsWhole a ds)) × (n ≡ 0 → b.clock ≡ a.clock)
+      → (es : List Note) × Does es b c × IsRound (port_ids b) es × (length es ≤ round_room b) × BeginsWhole b es
+      → ((ds : List Note) × Does ds a c × AreRounds (port_ids a) (n + 1) ds × (length ds ≤ (n + 1) * round_room a) × (0 < n + 1 → BeginsWhole a ds)) × (n + 1 ≡ 0 → c.clock ≡ a.clock)
   round-turn a b c n ready (was, same) one =
       let ids = same-ids a b was.0 ready was.1 in
       let it : IsRound (port_ids a) one.0 = subst (λ us. IsRound us one.0) ids one.2 in

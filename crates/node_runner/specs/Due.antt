@@ -4,55 +4,55 @@ use Rattle.topology.specs.Network.{are_joined}
 use Rattle.run_model.specs.World.{World}
 use Rattle.run_model.specs.Step.{has_room}
 use Rattle.run_model.specs.declared.event.Event.{Event}
-use Rattle.weaving.specs.Account.{Deed, entry_of, sent_to, taken_from}
+use Rattle.weaving.specs.Account.{Note, entry_of, sent_to, taken_from}
 use Rattle.node_runner.specs.declared.runner.Runner.{Runner}
 use Rattle.node_runner.specs.Stamps.{last_stamp, last_place}
 use Rattle.node_runner.specs.Runner.{IsTold}
 use Rattle.node_runner.specs.FirstTurn.{IsFirstTurn}
 
--- the deeds of v as events
-abbrev pub events_of : ℕ → List Deed → List Event
-events_of v deeds = map (λ d. (entry_of v d).event) deeds
+-- the notes of v as events
+abbrev pub events_of : ℕ → List Note → List Event
+events_of v notes = map (λ d. (entry_of v d).event) notes
 
 -- no link holds more than its capacity
 abbrev pub IsWithin : World → Type 0
 IsWithin w = (u v : ℕ) → IsTrue (are_joined w.net.edges u v) → length (w.link u v) ≤ w.net.capacity
 
 -- Where the world that the run began with had room on the link to u, nothing was sent over it so
--- far, and the clock is not at its end, there is a deed.
-abbrev pub IsSendDue : {A : Type 0} → ℕ → Runner A → List Deed → Type 0
-IsSendDue u r deeds =
-    (w : World) (v : ℕ) (past : List Deed)
-    → IsTold w v past r → IsTrue (has_room w v u) → sent_to u past ≡ [] → r.clock < last_stamp → 0 < length deeds
+-- far, and the clock is not at its end, something is noted.
+abbrev pub IsSendDue : {A : Type 0} → ℕ → Runner A → List Note → Type 0
+IsSendDue u r notes =
+    (w : World) (v : ℕ) (past : List Note)
+    → IsTold w v past r → IsTrue (has_room w v u) → sent_to u past ≡ [] → r.clock < last_stamp → 0 < length notes
 
--- Where the link from u held more items in that world than were taken so far, there is a deed.
-abbrev pub IsTakeDue : {A : Type 0} → ℕ → Runner A → List Deed → Type 0
-IsTakeDue u r deeds =
-    (w : World) (v : ℕ) (past : List Deed)
-    → IsTold w v past r → IsWithin w → length (taken_from u past) < length (w.link u v) → 0 < length deeds
+-- Where the link from u held more items in that world than were taken so far, something is noted.
+abbrev pub IsTakeDue : {A : Type 0} → ℕ → Runner A → List Note → Type 0
+IsTakeDue u r notes =
+    (w : World) (v : ℕ) (past : List Note)
+    → IsTold w v past r → IsWithin w → length (taken_from u past) < length (w.link u v) → 0 < length notes
 
 -- the clock goes on by as many at most, once it is as late as places may be
 abbrev pub IsSlow : {A : Type 0} → ℕ → Runner A → Runner A → Type 0
 IsSlow steps old new = (bound : ℕ) → last_place ≤ bound → old.clock ≤ bound → new.clock ≤ bound + steps
 
--- Among these deeds something is sent to each of these neighbours over whose link there was room,
+-- Among these notes something is sent to each of these neighbours over whose link there was room,
 -- and nothing was sent so far; the clock is that of a first turn.
-abbrev pub AreSendsDue : {A : Type 0} → List ℕ → Runner A → List Deed → Type 0
-AreSendsDue us r deeds =
-    (w : World) (v : ℕ) (past : List Deed)
+abbrev pub AreSendsDue : {A : Type 0} → List ℕ → Runner A → List Note → Type 0
+AreSendsDue us r notes =
+    (w : World) (v : ℕ) (past : List Note)
     → IsTold w v past r → ((u : ℕ) → sent_to u past ≡ []) → r.clock ≤ last_place + 1 → length r.ports.items ≤ 64
-    → All (λ u. IsTrue (has_room w v u) → 0 < length (sent_to u deeds)) us
+    → All (λ u. IsTrue (has_room w v u) → 0 < length (sent_to u notes)) us
 
--- Among these deeds as many items are taken from each of these neighbours as there were on the
+-- Among these notes as many items are taken from each of these neighbours as there were on the
 -- link, or two, where nothing was taken so far.
-abbrev pub AreTakesDue : {A : Type 0} → List ℕ → Runner A → List Deed → Type 0
-AreTakesDue us r deeds =
-    (w : World) (v : ℕ) (past : List Deed)
+abbrev pub AreTakesDue : {A : Type 0} → List ℕ → Runner A → List Note → Type 0
+AreTakesDue us r notes =
+    (w : World) (v : ℕ) (past : List Note)
     → IsTold w v past r → IsWithin w → ((u : ℕ) → taken_from u past ≡ [])
-    → All (λ u. min 2 (length (w.link u v)) ≤ length (taken_from u deeds)) us
+    → All (λ u. min 2 (length (w.link u v)) ≤ length (taken_from u notes)) us
 
--- From the start of a run on these deeds begin with a whole first turn.
-abbrev pub BeginsWhole : {A : Type 0} → Runner A → List Deed → Type 0
-BeginsWhole r deeds =
+-- From the start of a run on these notes begin with a whole first turn.
+abbrev pub BeginsWhole : {A : Type 0} → Runner A → List Note → Type 0
+BeginsWhole r notes =
     r.clock ≡ 0 → length r.ports.items ≤ 64
-    → (w : World) (v : ℕ) → IsTold w v [] r → IsWithin w → IsFirstTurn w v (events_of v deeds)
+    → (w : World) (v : ℕ) → IsTold w v [] r → IsWithin w → IsFirstTurn w v (events_of v notes)

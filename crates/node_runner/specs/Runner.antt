@@ -6,7 +6,7 @@ use Rattle.node_core.specs.View.{site_in, state_of}
 use Rattle.run_model.specs.World.{World}
 use Rattle.weaving.specs.declared.journal.Stamped.{Stamped}
 use Rattle.weaving.specs.Woven.{AreRising}
-use Rattle.weaving.specs.Account.{Deed, Sends, Takes, entry_of, sent_to, taken_from, Leads}
+use Rattle.weaving.specs.Account.{Note, Sent, Took, entry_of, sent_to, taken_from, Leads}
 use Rattle.node_runner.specs.declared.runner.Port.{Port}
 use Rattle.node_runner.specs.declared.runner.Runner.{Runner}
 use Rattle.node_runner.specs.Stamps.{last_stamp}
@@ -14,7 +14,7 @@ use Rattle.node_runner.specs.Ports.{IsSender, IsReceiver, SameOutgoing, SameInco
 
 -- The ends of v's links to and from a neighbour have seen what the account tells, in a run that
 -- began with this world.
-abbrev pub IsPortTold : {A : Type 0} → World → ℕ → List Deed → Port A → Type 0
+abbrev pub IsPortTold : {A : Type 0} → World → ℕ → List Note → Port A → Type 0
 IsPortTold w v account p =
     IsSender w.net.capacity (w.link v p.neighbour) (sent_to p.neighbour account) p.outgoing
     × IsReceiver w.net.capacity (length (w.link p.neighbour v)) (taken_from p.neighbour account) p.incoming
@@ -22,7 +22,7 @@ IsPortTold w v account p =
 -- The account tells all that v did since it was as in this world: its journal has the entries, with
 -- stamps that rise and are not above its clock, its state is where the account leads, and the ends
 -- of its links have seen it.
-pub record IsTold {A : Type 0} (w : World) (v : ℕ) (account : List Deed) (r : Runner A) : Type 0 where
+pub record IsTold {A : Type 0} (w : World) (v : ℕ) (account : List Note) (r : Runner A) : Type 0 where
   pub id : r.id ≡ v
   pub site : site_in r.node ≡ site_of w.net v
   pub leads : Leads w.net v (w.node v) account (state_of r.node)
@@ -53,21 +53,21 @@ IsSamePort a b = (b.neighbour ≡ a.neighbour) × SameOutgoing a.outgoing b.outg
 abbrev pub AreSamePorts : {A : Type 0} → List (Port A) → List (Port A) → Type 0
 AreSamePorts {A} ps qs = (length qs ≡ length ps) × ((k : ℕ) (d : Port A) → k < length ps → IsSamePort (slice_index_or ps k d) (slice_index_or qs k d))
 
--- Between two moments a node did this: whatever account told of it before, with this behind it
--- tells of it now. An entry was made for each deed, in the room that was there.
-pub record Does {A : Type 0} (deeds : List Deed) (old new : Runner A) : Type 0 where
-  pub told : (w : World) (v : ℕ) (past : List Deed) → IsTold w v past old → IsTold w v (past ++ deeds) new
+-- Between two moments a node did this: whatever account told of it before, with this after it
+-- tells of it now. An entry was made for each note, in the room that was there.
+pub record Does {A : Type 0} (notes : List Note) (old new : Runner A) : Type 0 where
+  pub told : (w : World) (v : ℕ) (past : List Note) → IsTold w v past old → IsTold w v (past ++ notes) new
   pub ready : IsReady new
   pub id : new.id ≡ old.id
   pub site : site_in new.node ≡ site_in old.node
   pub ports : AreSamePorts old.ports.items new.ports.items
-  pub entries : length new.journal.entries.items ≡ length old.journal.entries.items + length deeds
+  pub entries : length new.journal.entries.items ≡ length old.journal.entries.items + length notes
   pub room : vec_capacity new.journal.entries ≡ vec_capacity old.journal.entries
 
 -- at most one send to this neighbour, and nothing else
-abbrev pub IsOneSend : ℕ → List Deed → Type 0
-IsOneSend u deeds = (deeds ≡ []) ⊎ ((s : Stamped) × (deeds ≡ Sends u s ∷ []))
+abbrev pub IsOneSend : ℕ → List Note → Type 0
+IsOneSend u notes = (notes ≡ []) ⊎ ((s : Stamped) × (notes ≡ Sent u s ∷ []))
 
 -- at most one take from this neighbour, and nothing else
-abbrev pub IsOneTake : ℕ → List Deed → Type 0
-IsOneTake u deeds = (deeds ≡ []) ⊎ ((s : Stamped) × (deeds ≡ Takes u s ∷ []))
+abbrev pub IsOneTake : ℕ → List Note → Type 0
+IsOneTake u notes = (notes ≡ []) ⊎ ((s : Stamped) × (notes ≡ Took u s ∷ []))

@@ -2,7 +2,7 @@
 ghost use Rattle.std.specs.Prelude.{◌≡◌, ◌+◌, ◌<◌, ◌≤◌, ◌*◌, ℕ, List, [], ◌∷◌, ◌++◌, length};
 ghost use Rattle.std.specs.Prelude.{vec_capacity, slice_index_or};
 ghost use Rattle.node_core.specs.View.{site_in};
-ghost use Rattle.weaving.specs.Account.{Deed, Ticks, Sends, Takes};
+ghost use Rattle.weaving.specs.Account.{Note, Ticked, Sent, Took};
 ghost use Rattle.node_runner.specs.declared.runner.Port.{Port};
 ghost use Rattle.node_runner.specs.Runner.{IsReady, Does, IsOneSend, IsOneTake, port_ids};
 ghost use Rattle.node_runner.specs.Runner.{round_room};
@@ -66,7 +66,7 @@ impl<A: Allocator> Runner<A> {
         requires ready { IsReady self.old }
         requires room { length self.old.journal.entries.items
             < vec_capacity self.old.journal.entries }
-        ensures { (t : ℕ) × Does (Ticks t ∷ []) self.old self.new × IsSlow 1 self.old self.new }
+        ensures { (t : ℕ) × Does (Ticked t ∷ []) self.old self.new × IsSlow 1 self.old self.new }
     {
         let _ticked = self.node.tick();
         let stamp = self.clock + 1;
@@ -79,10 +79,10 @@ impl<A: Allocator> Runner<A> {
         requires ready { IsReady self.old }
         requires room { length self.old.journal.entries.items
             < vec_capacity self.old.journal.entries }
-        ensures { (deeds : List Deed) × Does deeds self.old self.new
-            × IsOneSend (slice_index_or (port_ids self.old) place 0) deeds
-            × IsSendDue (slice_index_or (port_ids self.old) place 0) self.old deeds
-            × IsSlow (length deeds) self.old self.new }
+        ensures { (notes : List Note) × Does notes self.old self.new
+            × IsOneSend (slice_index_or (port_ids self.old) place 0) notes
+            × IsSendDue (slice_index_or (port_ids self.old) place 0) self.old notes
+            × IsSlow (length notes) self.old self.new }
     {
         topology::laws::neighbours();
         let port = &mut self.ports[place];
@@ -108,9 +108,9 @@ impl<A: Allocator> Runner<A> {
         requires ready { IsReady self.old }
         requires room { length self.old.journal.entries.items
             < vec_capacity self.old.journal.entries }
-        ensures { (deeds : List Deed) × Does deeds self.old self.new
-            × IsOneTake (slice_index_or (port_ids self.old) place 0) deeds
-            × IsTakeDue (slice_index_or (port_ids self.old) place 0) self.old deeds }
+        ensures { (notes : List Note) × Does notes self.old self.new
+            × IsOneTake (slice_index_or (port_ids self.old) place 0) notes
+            × IsTakeDue (slice_index_or (port_ids self.old) place 0) self.old notes }
     {
         topology::laws::neighbours();
         topology::laws::joined();
@@ -137,10 +137,10 @@ impl<A: Allocator> Runner<A> {
         requires ready { IsReady self.old }
         requires room { length self.old.journal.entries.items + length self.old.ports.items
             ≤ vec_capacity self.old.journal.entries }
-        ensures { (deeds : List Deed) × Does deeds self.old self.new
-            × AreSendsTo (port_ids self.old) deeds
-            × (length deeds ≤ length self.old.ports.items)
-            × AreSendsDue (port_ids self.old) self.old deeds }
+        ensures { (notes : List Note) × Does notes self.old self.new
+            × AreSendsTo (port_ids self.old) notes
+            × (length notes ≤ length self.old.ports.items)
+            × AreSendsDue (port_ids self.old) self.old notes }
     {
         for place in 0..self.ports.len() {
             self.send(place);
@@ -152,10 +152,10 @@ impl<A: Allocator> Runner<A> {
         requires ready { IsReady self.old }
         requires room { length self.old.journal.entries.items + 2 * length self.old.ports.items
             ≤ vec_capacity self.old.journal.entries }
-        ensures { (deeds : List Deed) × Does deeds self.old self.new
-            × AreTakesFrom (port_ids self.old) deeds
-            × (length deeds ≤ 2 * length self.old.ports.items)
-            × AreTakesDue (port_ids self.old) self.old deeds }
+        ensures { (notes : List Note) × Does notes self.old self.new
+            × AreTakesFrom (port_ids self.old) notes
+            × (length notes ≤ 2 * length self.old.ports.items)
+            × AreTakesDue (port_ids self.old) self.old notes }
     {
         for place in 0..self.ports.len() {
             self.take(place);
@@ -168,10 +168,10 @@ impl<A: Allocator> Runner<A> {
         requires ready { IsReady self.old }
         requires room { length self.old.journal.entries.items + round_room self.old
             ≤ vec_capacity self.old.journal.entries }
-        ensures { (deeds : List Deed) × Does deeds self.old self.new
-            × IsRound (port_ids self.old) deeds
-            × (length deeds ≤ round_room self.old)
-            × BeginsWhole self.old deeds }
+        ensures { (notes : List Note) × Does notes self.old self.new
+            × IsRound (port_ids self.old) notes
+            × (length notes ≤ round_room self.old)
+            × BeginsWhole self.old notes }
     {
         self.tick();
         self.send_all();
@@ -187,10 +187,10 @@ impl<A: Allocator> Runner<A> {
             ≤ vec_capacity self.old.journal.entries }
         // As many rounds as turns: each begins with the one tick of it. In the first one, at the
         // start of a run, nothing is left out for which there is room or an item.
-        ensures { (deeds : List Deed) × Does deeds self.old self.new
-            × AreRounds (port_ids self.old) turns deeds
-            × (length deeds ≤ turns * round_room self.old)
-            × (0 < turns → BeginsWhole self.old deeds) }
+        ensures { (notes : List Note) × Does notes self.old self.new
+            × AreRounds (port_ids self.old) turns notes
+            × (length notes ≤ turns * round_room self.old)
+            × (0 < turns → BeginsWhole self.old notes) }
     {
         for turn in 0..turns {
             gate.before(self.id, turn);

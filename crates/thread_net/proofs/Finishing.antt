@@ -102,12 +102,12 @@ few-ports w turns v r range start =
 
 done-as : (w : World) (turns v : ℕ) (r now : Runner Global) (ran : Bool) → IsWorldInRange w → IsAtStart w turns v r → Keeps turns r now ran → HasDone w v (if ran then turns else 0) now
 done-as w turns v r now true range start (deeds, does, rounds, few, first) = record {
-  deeds = deeds;
+  notes = deeds;
   told = does.told w v [] start.told;
   rounds = subst (λ us. AreRounds us turns deeds) (port-ids-are w turns v r start) rounds;
   first = λ some. first some start.clock (few-ports w turns v r range start) w v start.told range.capacity;
 }
-done-as w turns v r now false range start same = record { deeds = []; told = subst (IsTold w v []) (sym same) start.told; rounds = refl; first = λ some. absurd (omega (arith, some)) }
+done-as w turns v r now false range start same = record { notes = []; told = subst (IsTold w v []) (sym same) start.told; rounds = refl; first = λ some. absurd (omega (arith, some)) }
 
 ids-as : (w : World) (turns v : ℕ) (r now : Runner Global) (ran : Bool) → IsAtStart w turns v r → Keeps turns r now ran → port_ids now ≡ neighbours_of w.net v
 ids-as w turns v r now true start (deeds, does, rounds, few, first) = does.ready.ports ∙ (ap (λ s. s.neighbours) does.site ∙ (sym start.ready.ports ∙ port-ids-are w turns v r start))

@@ -15,7 +15,7 @@ use Rattle.run_model.specs.Laws.{RangesStay}
 use Rattle.run_model.specs.declared.event.Event.{Event}
 use Rattle.configuration.specs.ConfigurationView.{no_node, states_of}
 use Rattle.weaving.specs.declared.journal.Stamped.{Stamped}
-use Rattle.weaving.specs.Account.{Deed, Ticks, Sends, Takes, entry_of, sent_to, taken_from, Leads}
+use Rattle.weaving.specs.Account.{Note, Ticked, Sent, Took, entry_of, sent_to, taken_from, AreOverLinks, Leads}
 use Rattle.weaving.specs.Journals.{journal_of}
 use Rattle.weaving.specs.Laws.{GoesThrough, WovenIsRun}
 use Rattle.weaving.specs.Matched.{AreMatched, AreOf, IsLinkMatched, stamps}
@@ -63,22 +63,22 @@ drop-nil (suc k) = refl
 
 -- ---- accounts
 
-none-sent : (net : Network) (u v : ℕ) (ds : List Deed) (s last : LocalState) → are_joined net.edges u v ≡ false → Leads net u s ds last → sent_to v ds ≡ []
-none-sent net u v [] s last isnt leads = refl
-none-sent net u v (Ticks t ∷ ds) s last isnt leads = none-sent net u v ds _ last isnt leads
-none-sent net u v (Sends x i ∷ ds) s last isnt leads =
-    let later = none-sent net u v ds s last isnt leads.2 in
-    let joined = leads.0 in
+none-sent : (net : Network) (u v : ℕ) (ds : List Note) → are_joined net.edges u v ≡ false → AreOverLinks net u ds → sent_to v ds ≡ []
+none-sent net u v [] isnt links = refl
+none-sent net u v (Ticked t ∷ ds) isnt links = none-sent net u v ds isnt links
+none-sent net u v (Sent x i ∷ ds) isnt links =
+    let later = none-sent net u v ds isnt links.2 in
+    let joined = links.0 in
     grind (arith, common_steps, later, joined, isnt)
-none-sent net u v (Takes x i ∷ ds) s last isnt leads = none-sent net u v ds _ last isnt leads.1
+none-sent net u v (Took x i ∷ ds) isnt links = none-sent net u v ds isnt links.1
 
-none-taken : (net : Network) (u v : ℕ) (ds : List Deed) (s last : LocalState) → are_joined net.edges u v ≡ false → Leads net v s ds last → taken_from u ds ≡ []
-none-taken net u v [] s last isnt leads = refl
-none-taken net u v (Ticks t ∷ ds) s last isnt leads = none-taken net u v ds _ last isnt leads
-none-taken net u v (Sends x i ∷ ds) s last isnt leads = none-taken net u v ds s last isnt leads.2
-none-taken net u v (Takes x i ∷ ds) s last isnt leads =
-    let later = none-taken net u v ds _ last isnt leads.1 in
-    let joined = leads.0 in
+none-taken : (net : Network) (u v : ℕ) (ds : List Note) → are_joined net.edges u v ≡ false → AreOverLinks net v ds → taken_from u ds ≡ []
+none-taken net u v [] isnt links = refl
+none-taken net u v (Ticked t ∷ ds) isnt links = none-taken net u v ds isnt links
+none-taken net u v (Sent x i ∷ ds) isnt links = none-taken net u v ds isnt links.2
+none-taken net u v (Took x i ∷ ds) isnt links =
+    let later = none-taken net u v ds isnt links.1 in
+    let joined = links.0 in
     grind (arith, common_steps, later, joined, isnt)
 
 one-more : (b : Bool) (x : ℕ) (s : Stamped) (ss : List Stamped) → x < s.stamp → AllByRecursion (λ y. x < y) (stamps ss) → AllByRecursion (λ y. x < y) (stamps (if b then s ∷ ss else ss))
@@ -89,17 +89,17 @@ one-rise : (b : Bool) (s : Stamped) (ss : List Stamped) → AllByRecursion (λ y
 one-rise true s ss all rise = (all, rise)
 one-rise false s ss all rise = rise
 
-taken-all : (v u x : ℕ) (ds : List Deed) → AllByRecursion (λ e. x < e.stamp) (map (entry_of v) ds) → AllByRecursion (λ y. x < y) (stamps (taken_from u ds))
+taken-all : (v u x : ℕ) (ds : List Note) → AllByRecursion (λ e. x < e.stamp) (map (entry_of v) ds) → AllByRecursion (λ y. x < y) (stamps (taken_from u ds))
 taken-all v u x [] all = tt
-taken-all v u x (Ticks t ∷ ds) all = taken-all v u x ds all.1
-taken-all v u x (Sends w s ∷ ds) all = taken-all v u x ds all.1
-taken-all v u x (Takes w s ∷ ds) all = one-more (w == u) x s (taken_from u ds) all.0 (taken-all v u x ds all.1)
+taken-all v u x (Ticked t ∷ ds) all = taken-all v u x ds all.1
+taken-all v u x (Sent w s ∷ ds) all = taken-all v u x ds all.1
+taken-all v u x (Took w s ∷ ds) all = one-more (w == u) x s (taken_from u ds) all.0 (taken-all v u x ds all.1)
 
-taken-rise : (v u : ℕ) (ds : List Deed) → AreRising (map (entry_of v) ds) → Rise (stamps (taken_from u ds))
+taken-rise : (v u : ℕ) (ds : List Note) → AreRising (map (entry_of v) ds) → Rise (stamps (taken_from u ds))
 taken-rise v u [] rising = tt
-taken-rise v u (Ticks t ∷ ds) rising = taken-rise v u ds rising.1
-taken-rise v u (Sends w s ∷ ds) rising = taken-rise v u ds rising.1
-taken-rise v u (Takes w s ∷ ds) rising = one-rise (w == u) s (taken_from u ds) (taken-all v u s.stamp ds rising.0) (taken-rise v u ds rising.1)
+taken-rise v u (Ticked t ∷ ds) rising = taken-rise v u ds rising.1
+taken-rise v u (Sent w s ∷ ds) rising = taken-rise v u ds rising.1
+taken-rise v u (Took w s ∷ ds) rising = one-rise (w == u) s (taken_from u ds) (taken-all v u s.stamp ds rising.0) (taken-rise v u ds rising.1)
 
 idle-link : (capacity : ℕ) (old : List Item) → IsLinkMatched capacity old [] [] old
 idle-link capacity old = record {
@@ -125,12 +125,12 @@ module _ {A : Type 0} where
   found Q [] v p is all = absurd (none-some p is)
   found Q (q ∷ ps) v p is all = either Q q ps v p (q.neighbour == v) (All-head Q q ps all) (λ e. found Q ps v p e (All-tail Q q ps all)) refl is
 
-  abbrev pub account-from : (w : World) (turns : ℕ → ℕ) (v : ℕ) (o : Option (Runner A)) → ((r : Runner A) → o ≡ Some r → HasDone w v (turns v) r) → List Deed
+  abbrev pub account-from : (w : World) (turns : ℕ → ℕ) (v : ℕ) (o : Option (Runner A)) → ((r : Runner A) → o ≡ Some r → HasDone w v (turns v) r) → List Note
   account-from w turns v None f = []
-  account-from w turns v (Some r) f = (f r refl).deeds
+  account-from w turns v (Some r) f = (f r refl).notes
 
   -- what is known of a node: its runner and its account, or that it is none
-  abbrev Known : World → (ℕ → ℕ) → ℕ → Option (Runner A) → List Deed → Type 0
+  abbrev Known : World → (ℕ → ℕ) → ℕ → Option (Runner A) → List Note → Type 0
   Known w turns v o account =
       ((r : Runner A) × (o ≡ Some r) × IsTold w v account r × AreRounds (neighbours_of w.net v) (turns v) account × (0 < turns v → IsFirstTurn w v (events_of v account)))
       ⊎ ((o ≡ None) × (account ≡ []))
@@ -140,7 +140,7 @@ module _ {A : Type 0} where
   known-from w turns v (Some r) f = inl (r, refl, (f r refl).told, (f r refl).rounds, (f r refl).first)
 
   module _ (w : World) (turns : ℕ → ℕ) (rs : List (Runner A)) (done : HaveDone w turns rs) (start : IsStart w) where
-    abbrev pub account : ℕ → List Deed
+    abbrev pub account : ℕ → List Note
     account v = account-from w turns v (slice_get rs v) (done.each v)
 
     abbrev pub last : World
@@ -167,7 +167,7 @@ module _ {A : Type 0} where
           let le = beyond v is in
           let test : nat_lt v w.net.nodes ≡ false = grind (arith, common_steps, le) in
           let node : last.node v ≡ w.node v = ap (λ b. if b then state_of (slice_index_or (nodes_of rs) v no_node) else default_node (ranges_of w.net)) test ∙ sym (start.beyond v le) in
-          subst (λ ds. Leads w.net v (w.node v) ds (last.node v)) (sym none) node
+          subst (λ ds. Leads w.net v (w.node v) ds (last.node v)) (sym none) (tt, node)
     ]
 
     nobody : (v : ℕ) → w.net.nodes ≤ v → account v ≡ []
@@ -177,7 +177,7 @@ module _ {A : Type 0} where
     ]
 
     -- the link of two nodes that are joined
-    on-ports : (u v : ℕ) (a b : Option (Port A)) (acc-u acc-v : List Deed) → IsFlushedOn a b
+    on-ports : (u v : ℕ) (a b : Option (Port A)) (acc-u acc-v : List Note) → IsFlushedOn a b
         → ((p : Port A) → a ≡ Some p → (p.neighbour ≡ v) × IsPortTold w u acc-u p)
         → ((q : Port A) → b ≡ Some q → (q.neighbour ≡ u) × IsPortTold w v acc-v q)
         → Rise (stamps (taken_from u acc-v))
@@ -242,8 +242,8 @@ module _ {A : Type 0} where
 
       link-apart : (u v : ℕ) → are_joined w.net.edges u v ≡ false → IsLinkMatched w.net.capacity (w.link u v) (sent_to v (account u)) (taken_from u (account v)) (w.link u v)
       link-apart u v isnt =
-          let sends = none-sent w.net u v (account u) (w.node u) (last.node u) isnt (leads u) in
-          let takes = none-taken w.net u v (account v) (w.node v) (last.node v) isnt (leads v) in
+          let sends = none-sent w.net u v (account u) isnt (leads u).0 in
+          let takes = none-taken w.net u v (account v) isnt (leads v).0 in
           subst (λ xs. IsLinkMatched w.net.capacity (w.link u v) xs (taken_from u (account v)) (w.link u v)) (sym sends)
           (subst (λ xs. IsLinkMatched w.net.capacity (w.link u v) [] xs (w.link u v)) (sym takes) (idle-link w.net.capacity (w.link u v)))
 

@@ -11,3 +11,5 @@ pub mod Collecting
 pub mod Gathering
 pub mod Starting
 pub mod Finishing
+mod RowsThreads
+mod RowsEnds

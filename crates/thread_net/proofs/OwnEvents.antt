@@ -4,7 +4,7 @@ use Rattle.std.proofs.lemmas.Grind.{common_steps}
 use Rattle.std.specs.List.{AllByRecursion}
 use Rattle.run_model.specs.declared.event.Event.{Event}
 use Rattle.weaving.specs.declared.journal.Entry.{Entry}
-use Rattle.weaving.specs.Account.{Deed, Ticks, Sends, Takes, entry_of}
+use Rattle.weaving.specs.Account.{Note, Ticked, Sent, Took, entry_of}
 use Rattle.weaving.specs.Matched.{AreOf}
 use Rattle.weaving.specs.Woven.{Placed, entries_of, IsWoven}
 use Rattle.node_runner.specs.FirstTurn.{count_of, deeds_of, is_deed_of, is_tick_of}
@@ -14,12 +14,12 @@ use Rattle.node_runner.specs.Due.{events_of}
 abbrev IsOwn : ℕ → Entry → Type 0
 IsOwn u e = is_deed_of u e.event ≡ true
 
-deed-own : (u : ℕ) (d : Deed) → IsOwn u (entry_of u d)
-deed-own u (Ticks t) = grind (arith, common_steps)
-deed-own u (Sends x s) = grind (arith, common_steps)
-deed-own u (Takes x s) = grind (arith, common_steps)
+deed-own : (u : ℕ) (d : Note) → IsOwn u (entry_of u d)
+deed-own u (Ticked t) = grind (arith, common_steps)
+deed-own u (Sent x s) = grind (arith, common_steps)
+deed-own u (Took x s) = grind (arith, common_steps)
 
-account-own : (u : ℕ) (ds : List Deed) → AllByRecursion (IsOwn u) (map (entry_of u) ds)
+account-own : (u : ℕ) (ds : List Note) → AllByRecursion (IsOwn u) (map (entry_of u) ds)
 account-own u [] = tt
 account-own u (d ∷ ds) = (deed-own u d, account-own u ds)
 
@@ -51,11 +51,11 @@ placed-own v (p ∷ ps) own =
     let rest = deeds_of v (map (λ q. q.entry.event) ps) in
     ap (λ b. if b then p.entry.event ∷ rest else rest) (by-one p.node v p.entry.event own.0) ∙ chosen (p.node == v) p.entry (entries_of v ps) rest (placed-own v ps own.1)
 
-told-events : (v : ℕ) (ds : List Deed) → map (λ e. e.event) (map (entry_of v) ds) ≡ events_of v ds
+told-events : (v : ℕ) (ds : List Note) → map (λ e. e.event) (map (entry_of v) ds) ≡ events_of v ds
 told-events v [] = refl
 told-events v (d ∷ ds) = ap (λ es. (entry_of v d).event ∷ es) (told-events v ds)
 
-pub own-deeds : (account : ℕ → List Deed) (journal : ℕ → List Entry) (events : List Event) (v : ℕ) → AreOf account journal → IsWoven journal events
+pub own-deeds : (account : ℕ → List Note) (journal : ℕ → List Entry) (events : List Event) (v : ℕ) → AreOf account journal → IsWoven journal events
     → deeds_of v events ≡ events_of v (account v)
 own-deeds account journal events v told woven =
     let each : (u : ℕ) → AllByRecursion (IsOwn u) (entries_of u woven.placed) = λ u. subst (AllByRecursion (IsOwn u)) (sym (woven.complete u ∙ told u)) (account-own u (account u)) in

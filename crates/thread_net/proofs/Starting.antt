@@ -90,7 +90,7 @@ module _ {A : Type 0} (nodes : List NodeView) (links : LinksView) (turns : ℕ) 
       told = record {
         id = new-is.id ∙ ap (λ s. s.id) site-is;
         site = site-is;
-        leads = ap state_of node-is ∙ sym (ap (λ b. if b then state_of (node_at nodes v) else default_node (ranges_of links.net)) (let l = vn in lemma-lt v links.net.nodes l));
+        leads = (tt, ap state_of node-is ∙ sym (ap (λ b. if b then state_of (node_at nodes v) else default_node (ranges_of links.net)) (let l = vn in lemma-lt v links.net.nodes l)));
         journal = new-is.journal;
         rising = tt;
         before = tt;

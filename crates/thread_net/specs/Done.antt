@@ -8,7 +8,7 @@ use Rattle.run_model.specs.World.{World, IsWorldInRange}
 use Rattle.run_model.specs.declared.event.Event.{Event}
 use Rattle.configuration.specs.LinksView.{LinksView, spare_pairs}
 use Rattle.judge.specs.Stretch.{StretchView, HasRoomFor}
-use Rattle.weaving.specs.Account.{Deed}
+use Rattle.weaving.specs.Account.{Note}
 use Rattle.weaving.specs.Journals.{entry_count}
 use Rattle.node_runner.specs.declared.runner.Runner.{Runner}
 use Rattle.thread_net.specs.declared.seats.Seats.{Seats}
@@ -23,10 +23,10 @@ use Rattle.thread_net.specs.ThreadRun.{IsThreadRun}
 
 -- v did as many rounds since it was as in the world, of which the first is a whole turn
 pub record HasDone {A : Type 0} (w : World) (v turns : ℕ) (r : Runner A) : Type 0 where
-  pub deeds : List Deed
-  pub told : IsTold w v deeds r
-  pub rounds : AreRounds (neighbours_of w.net v) turns deeds
-  pub first : 0 < turns → IsFirstTurn w v (events_of v deeds)
+  pub notes : List Note
+  pub told : IsTold w v notes r
+  pub rounds : AreRounds (neighbours_of w.net v) turns notes
+  pub first : 0 < turns → IsFirstTurn w v (events_of v notes)
 
 -- each node did its rounds, and the rings belong together
 pub record HaveDone {A : Type 0} (w : World) (turns : ℕ → ℕ) (runners : List (Runner A)) : Type 0 where

@@ -1,6 +1,6 @@
 -- What a thread hands back of the runner that it got.
 use Rattle.std.specs.Prelude.{◌≡◌, ℕ, ◌+◌, ◌*◌, ◌<◌, ◌≤◌, Bool, true, false, List, length, vec_capacity}
-use Rattle.weaving.specs.Account.{Deed}
+use Rattle.weaving.specs.Account.{Note}
 use Rattle.node_runner.specs.declared.runner.Runner.{Runner}
 use Rattle.node_runner.specs.Runner.{IsReady, Does, port_ids, round_room}
 use Rattle.node_runner.specs.Rounds.{AreRounds}
@@ -13,8 +13,8 @@ MayRun turns r = IsReady r × (length r.journal.entries.items + turns * round_ro
 -- it did that number of rounds, and nothing else; the first one is whole where a run begins with it
 abbrev pub HasRun : {A : Type 0} → ℕ → Runner A → Runner A → Type 0
 HasRun turns was now =
-    (deeds : List Deed) × Does deeds was now × AreRounds (port_ids was) turns deeds
-    × (length deeds ≤ turns * round_room was) × (0 < turns → BeginsWhole was deeds)
+    (notes : List Note) × Does notes was now × AreRounds (port_ids was) turns notes
+    × (length notes ≤ turns * round_room was) × (0 < turns → BeginsWhole was notes)
 
 -- it did all its turns, or is as it was
 abbrev pub Keeps : {A : Type 0} → ℕ → Runner A → Runner A → Bool → Type 0

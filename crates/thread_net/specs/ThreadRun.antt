@@ -5,7 +5,7 @@ use Rattle.run_model.specs.World.{World}
 use Rattle.run_model.specs.Run.{run}
 use Rattle.run_model.specs.declared.event.Event.{Event}
 use Rattle.weaving.specs.declared.journal.Entry.{Entry}
-use Rattle.weaving.specs.Account.{Deed}
+use Rattle.weaving.specs.Account.{Note}
 use Rattle.weaving.specs.Laws.{GoesThrough}
 use Rattle.weaving.specs.Matched.{AreMatched, AreOf}
 use Rattle.weaving.specs.Woven.{AreRising, IsWoven}
@@ -20,7 +20,7 @@ use Rattle.node_runner.specs.FirstTurn.{IsFirstTurn, count_of, deeds_of, is_tick
 pub record IsThreadRun (turns : ℕ → ℕ) (start : World) (events : List Event) (last : World) : Type 0 where
   pub leads : run start events ≡ last
   pub through : GoesThrough start events
-  pub account : ℕ → List Deed
+  pub account : ℕ → List Note
   pub journal : ℕ → List Entry
   pub woven : IsWoven journal events
   pub rising : (v : ℕ) → AreRising (journal v)

@@ -1,9 +1,10 @@
 pub mod Above
+pub mod Accounts
 pub mod Changed
 pub mod LinkSteps
 pub mod OneWoven
 mod Rows
-mod RowsRun
+pub mod RowsRun
 pub mod Steps
 pub mod Weaving
 pub mod FirstOf

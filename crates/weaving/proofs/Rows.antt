@@ -1,12 +1,12 @@
 -- Woven lists and matching links, small enough to see through.
-use Rattle.std.proofs.Common.{◌≡◌, ℕ, zero, suc, List, [], ◌∷◌, refl, inl, inr, arith}
+use Rattle.std.proofs.Common.{◌≡◌, ℕ, zero, suc, List, [], ◌∷◌, Some, None, refl, inl, inr, arith}
 use Rattle.std.proofs.lemmas.Grind.{common_steps}
 use Rattle.link_model.specs.declared.item.Item.TheVariants.{Noise}
 use Rattle.run_model.specs.declared.event.Event.TheVariants.{Tick, Send, Take}
 use Rattle.weaving.specs.declared.journal.Entry.{Entry}
 use Rattle.weaving.specs.declared.journal.Stamped.{Stamped}
-use Rattle.weaving.specs.Woven.{AreRising, IsWoven, AreOrdered, Placed, entries_of}
-use Rattle.weaving.specs.Journals.{journal_of}
+use Rattle.weaving.specs.Woven.{AreRising, IsWoven, IsNoLater, AreOrdered, Placed, entries_of}
+use Rattle.weaving.specs.Journals.{journal_of, entry_count, unread, with_next, IsFirst}
 use Rattle.weaving.specs.Matched.{IsLinkMatched}
 
 -- node 0 ticks and sends, node 1 ticks at the same time and then takes
@@ -41,6 +41,31 @@ woven-together = record {
 -- and not the greater's
 not-the-later-first : AreOrdered (record { node = 1; entry = record { stamp = 1; event = Tick 1 } } ∷ record { node = 0; entry = record { stamp = 1; event = Tick 0 } } ∷ []) → ⊥
 not-the-later-first h = grind arith
+
+-- the entries of both, and of what is not read
+all-counted : entry_count (of_sender ∷ of_taker ∷ []) ≡ 4
+all-counted = refl
+
+rest-unread : unread (of_sender ∷ of_taker ∷ []) (1 ∷ 2 ∷ []) ≡ (record { stamp = 2; event = Send 0 1 } ∷ []) ∷ [] ∷ []
+rest-unread = refl
+
+-- of two with one stamp the first that was seen stays the first
+stays-first : with_next (Some (0, record { stamp = 1; event = Tick 0 })) 1 of_taker ≡ Some (0, record { stamp = 1; event = Tick 0 })
+stays-first = refl
+
+comes-first : with_next (Some (0, record { stamp = 2; event = Send 0 1 })) 1 of_taker ≡ Some (1, record { stamp = 1; event = Tick 1 })
+comes-first = refl
+
+-- nothing comes first where something is left
+not-none_first : IsFirst (of_sender ∷ []) 1 None → ⊥
+not-none_first none = let nothing : ◌≡◌ {A = List Entry} of_sender [] = none 0 (omega arith) in absurd cc
+
+-- nor what is later
+not-later_first : IsFirst (of_sender ∷ of_taker ∷ []) 2 (Some (1, record { stamp = 1; event = Tick 1 })) → ⊥
+not-later_first first =
+    let later : IsNoLater (record { node = 1; entry = record { stamp = 1; event = Tick 1 } }) (record { node = 0; entry = record { stamp = 1; event = Tick 0 } }) =
+    first.3 0 (record { stamp = 1; event = Tick 0 }) (record { stamp = 2; event = Send 0 1 } ∷ []) (omega arith) refl in
+    grind arith
 
 -- stamps that stand are not rising
 not-rising : AreRising (record { stamp = 1; event = Tick 0 } ∷ record { stamp = 1; event = Tick 0 } ∷ []) → ⊥

@@ -3,6 +3,7 @@ use Rattle.std.proofs.Common.{◌≡◌, ℕ, ◌<◌, ◌≤◌, zero, suc, Lis
 use Rattle.std.proofs.lemmas.Bool.{false≢true}
 use Rattle.std.proofs.lemmas.Grind.{common_steps}
 use Rattle.std.proofs.lemmas.Bool.Decides.{nat_tests}
+use Rattle.topology.specs.declared.frame.Frame.{Frame as FrameType}
 use Rattle.node_core.specs.Site.{site_of}
 use Rattle.node_core.specs.State.{LocalState}
 use Rattle.node_core.specs.Step.{ticked, taken}
@@ -16,11 +17,12 @@ use Rattle.run_model.specs.declared.event.Event.{Event}
 use Rattle.run_model.specs.declared.event.Event.TheVariants.{Send, Take, Tick, Ask, Lose}
 use Rattle.run_model.proofs.RowsTwo.{two_nodes}
 use Rattle.weaving.specs.declared.journal.Stamped.{Stamped}
-use Rattle.weaving.specs.Account.{Deed, Ticks, Sends, Takes, Leads, sent_to, taken_from}
+use Rattle.accounts.specs.Deeds.{Ticks, Sends}
+use Rattle.weaving.specs.Account.{Note, Ticked, Sent, Took, Leads, deeds_in, sent_to, taken_from}
 use Rattle.weaving.specs.Matched.{AreMatched, IsLinkMatched}
 use Rattle.weaving.specs.Laws.{HasEffect, GoesThrough}
 
-abbrev start : World
+abbrev pub start : World
 start = default_world two_nodes
 
 -- both tick, node 0 sends, and node 1 takes
@@ -57,40 +59,60 @@ no-loss out = out
 abbrev ticked_0 : LocalState
 ticked_0 = ticked (site_of two_nodes 0) (start.node 0)
 
--- the frame that it sends then
+-- what v sends to u at that stamp, after its first tick
+abbrev pub after_tick : ℕ → ℕ → ℕ → Stamped
+after_tick v u t = record { stamp = t; item = Frame (frame_of ((ticked (site_of two_nodes v) (start.node v)).port u)) }
+
+-- what node 0 sends then
 abbrev sent : Stamped
-sent = record { stamp = 2; item = Frame (frame_of (ticked_0.port 1)) }
+sent = after_tick 0 1 2
 
 -- node 0 ticks and sends; node 1 ticks and takes what was sent
-abbrev account : ℕ → List Deed
-account zero = Ticks 1 ∷ Sends 1 sent ∷ []
-account (suc zero) = Ticks 1 ∷ Takes 0 (record { stamp = 3; item = sent.item }) ∷ []
+abbrev account : ℕ → List Note
+account zero = Ticked 1 ∷ Sent 1 sent ∷ []
+account (suc zero) = Ticked 1 ∷ Took 0 (record { stamp = 3; item = sent.item }) ∷ []
 account (suc (suc v)) = []
 
 leads-node_0 : Leads two_nodes 0 (start.node 0) (account 0) ((run start events).node 0)
-leads-node_0 = (refl, refl, refl)
+leads-node_0 = ((refl, tt, tt), ((0, omega arith, refl), refl, refl))
 
 leads-node_1 : Leads two_nodes 1 (start.node 1) (account 1) ((run start events).node 1)
-leads-node_1 = (refl, refl)
+leads-node_1 = ((refl, tt), ((0, omega arith, refl), refl))
+
+-- its deeds are those of any node
+the-deeds : deeds_in (account 0) ≡ Ticks ∷ Sends 1 (frame_of (ticked_0.port 1)) ∷ []
+the-deeds = refl
+
+-- noise that is taken off a link is no deed, and changes nothing
+noise-taken : Leads two_nodes 0 (start.node 0) (Took 1 (record { stamp = 1; item = Noise }) ∷ []) (start.node 0)
+noise-taken = ((refl, tt), refl)
+
+-- but it comes over a link as well
+no-noise_from_itself : Leads two_nodes 0 (start.node 0) (Took 0 (record { stamp = 1; item = Noise }) ∷ []) (start.node 0) → ⊥
+no-noise_from_itself leads = false≢true leads.0.0
 
 -- a node sends what its port says, and no other frame
-no-other_frame : Leads two_nodes 0 (start.node 0) (Ticks 1 ∷ Sends 1 (record { stamp = 2; item = Noise }) ∷ []) ticked_0 → ⊥
-no-other_frame leads = let frame = leads.1 in absurd cc
+no-other_frame : Leads two_nodes 0 (start.node 0) (Ticked 1 ∷ Sent 1 (record { stamp = 2; item = Frame (record (frame_of (ticked_0.port 1)) { seq = 1 }) }) ∷ []) ticked_0 → ⊥
+no-other_frame leads = let number : 1 ≡ 0 = ap (λ (f : FrameType). f.seq) leads.1.1 in omega (arith, number)
+
+-- nor noise
+no-noise : Leads two_nodes 0 (start.node 0) (Ticked 1 ∷ Sent 1 (record { stamp = 2; item = Noise }) ∷ []) ticked_0 → ⊥
+no-noise leads = leads.0.1
 
 -- to a neighbour alone
-no-send_to_itself : Leads two_nodes 0 (start.node 0) (Sends 0 sent ∷ []) (start.node 0) → ⊥
-no-send_to_itself leads = false≢true leads.0
+no-send_to_itself : Leads two_nodes 0 (start.node 0) (Sent 0 sent ∷ []) (start.node 0) → ⊥
+no-send_to_itself leads = false≢true leads.0.0
 
 -- and its state is what its deeds make of it
 no-tick_untold : Leads two_nodes 0 (start.node 0) [] ticked_0 → ⊥
-no-tick_untold same = let distance : 0 ≡ 2 = ap (λ (s : LocalState). s.distance) same in omega (arith, distance)
+no-tick_untold leads = let distance : 0 ≡ 2 = ap (λ (s : LocalState). s.distance) leads.1 in omega (arith, distance)
 
 -- ---- what both did
 
 leads-each : (v : ℕ) → Leads two_nodes v (start.node v) (account v) ((run start events).node v)
 leads-each zero = leads-node_0
 leads-each (suc zero) = leads-node_1
-leads-each (suc (suc v)) = grind (arith, common_steps, nat_tests)
+leads-each (suc (suc v)) = (tt, grind (arith, common_steps, nat_tests))
 
 nobody-else : (v : ℕ) → 2 ≤ v → account v ≡ []
 nobody-else zero few = absurd (omega arith)
@@ -115,7 +137,7 @@ are-matched : AreMatched start account (run start events)
 are-matched = record { network = refl; spares = refl; nodes = leads-each; nobody = nobody-else; links = matched-each }
 
 -- a frame that was sent is taken, or still there
-abbrev sender_alone : ℕ → List Deed
+abbrev sender_alone : ℕ → List Note
 sender_alone zero = account 0
 sender_alone (suc v) = []
 
@@ -123,5 +145,5 @@ no-lost_frame : AreMatched start sender_alone (run start (Tick 0 ∷ [])) → �
 no-lost_frame m = let kept = (m.links 0 1).kept in absurd cc
 
 -- and nobody acts who is no node
-no-deed_of_nobody : (last : World) → AreMatched start (λ v. Ticks 1 ∷ []) last → ⊥
+no-deed_of_nobody : (last : World) → AreMatched start (λ v. Ticked 1 ∷ []) last → ⊥
 no-deed_of_nobody last m = let nothing = m.nobody 2 (omega arith) in absurd cc

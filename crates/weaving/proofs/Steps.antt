@@ -16,9 +16,10 @@ use Rattle.run_model.specs.Step.{refusal, step, changed, handed_over, has_room}
 use Rattle.run_model.specs.declared.event.Event.{Event}
 use Rattle.run_model.specs.declared.event.Event.TheVariants.{Send, Take, Tick}
 use Rattle.weaving.specs.declared.journal.Stamped.{Stamped}
-use Rattle.weaving.specs.Account.{Deed, Ticks, Sends, Takes, sent_to, taken_from, Leads}
+use Rattle.weaving.specs.Account.{Note, Ticked, Sent, Took, sent_to, taken_from, Leads}
 use Rattle.weaving.specs.Matched.{IsLinkMatched, AreMatched, stamps}
 use Rattle.weaving.specs.Laws.{HasEffect}
+use Rattle.weaving.proofs.Accounts.{leads-by_send, leads-by_take}
 use Rattle.weaving.proofs.Changed.{at-here, at-each, at-two, at_pair-each}
 use Rattle.weaving.proofs.LinkSteps.{has-room, has-item, put, take}
 
@@ -41,7 +42,7 @@ pub send-fine : (w : World) (u v : ℕ) → (u < w.net.nodes) × (v < w.net.node
 send-fine w u v nodes joined = grind (arith, common_steps)
 
 -- what goes on from a world by an event
-pub record GoesOn (w last : World) (e : Event) (next : ℕ → List Deed) : Type 0 where
+pub record GoesOn (w last : World) (e : Event) (next : ℕ → List Note) : Type 0 where
   pub fine : refusal w e ≡ None
   pub effect : HasEffect w e
   pub network : (step w e).net ≡ w.net
@@ -49,7 +50,7 @@ pub record GoesOn (w last : World) (e : Event) (next : ℕ → List Deed) : Type
   pub matched : AreMatched (step w e) next last
 
 -- the same, told of what the event changes
-goes-on : (w last : World) (e : Event) (next : ℕ → List Deed) → refusal w e ≡ None → HasEffect w e → (changed w e).net ≡ w.net
+goes-on : (w last : World) (e : Event) (next : ℕ → List Note) → refusal w e ≡ None → HasEffect w e → (changed w e).net ≡ w.net
     → IsWithin (changed w e) → AreMatched (changed w e) next last → GoesOn w last e next
 goes-on w last e next fine effect network within matched =
     let same = sym (step-is w e fine) in record {
@@ -60,24 +61,24 @@ goes-on w last e next fine effect network within matched =
       matched = subst (λ x. AreMatched x next last) same matched;
     }
 
-module _ (w last : World) (account : ℕ → List Deed) (v : ℕ) (ds : List Deed) (nodes : AreNodes w) (within : IsWithin w) (m : AreMatched w account last) where
+module _ (w last : World) (account : ℕ → List Note) (v : ℕ) (ds : List Note) (nodes : AreNodes w) (within : IsWithin w) (m : AreMatched w account last) where
   -- a node with a deed is a node
-  somebody : (d : Deed) → account v ≡ d ∷ ds → v < w.net.nodes
+  somebody : (d : Note) → account v ≡ d ∷ ds → v < w.net.nodes
   somebody d is =
-      let none : w.net.nodes ≤ v → ⊥ = λ out. let e : ◌≡◌ {A = List Deed} [] (d ∷ ds) = sym (m.nobody v out) ∙ is in absurd cc in
+      let none : w.net.nodes ≤ v → ⊥ = λ out. let e : ◌≡◌ {A = List Note} [] (d ∷ ds) = sym (m.nobody v out) ∙ is in absurd cc in
       grind (arith, none)
 
-  nobody-next : (d : Deed) → account v ≡ d ∷ ds → (a : ℕ) → w.net.nodes ≤ a → at account v ds a ≡ []
+  nobody-next : (d : Note) → account v ≡ d ∷ ds → (a : ℕ) → w.net.nodes ≤ a → at account v ds a ≡ []
   nobody-next d is = at-each (λ a xs. w.net.nodes ≤ a → xs ≡ []) account v ds (λ out. let in-net = somebody d is in absurd (omega arith)) (λ a _. m.nobody a)
 
-  leads-here : (d : Deed) → account v ≡ d ∷ ds → Leads w.net v (w.node v) (d ∷ ds) (last.node v)
+  leads-here : (d : Note) → account v ≡ d ∷ ds → Leads w.net v (w.node v) (d ∷ ds) (last.node v)
   leads-here d is = subst (λ xs. Leads w.net v (w.node v) xs (last.node v)) is (m.nodes v)
 
   -- what is sent and taken, but for one deed
-  sent-same : (d : Deed) → account v ≡ d ∷ ds → (b : ℕ) → sent_to b (d ∷ ds) ≡ sent_to b ds → (a : ℕ) → sent_to b (account a) ≡ sent_to b (at account v ds a)
+  sent-same : (d : Note) → account v ≡ d ∷ ds → (b : ℕ) → sent_to b (d ∷ ds) ≡ sent_to b ds → (a : ℕ) → sent_to b (account a) ≡ sent_to b (at account v ds a)
   sent-same d is b skip = at-each (λ a xs. sent_to b (account a) ≡ sent_to b xs) account v ds (ap (sent_to b) is ∙ skip) (λ a _. refl)
 
-  taken-same : (d : Deed) → account v ≡ d ∷ ds → (a : ℕ) → taken_from a (d ∷ ds) ≡ taken_from a ds → (b : ℕ) → taken_from a (account b) ≡ taken_from a (at account v ds b)
+  taken-same : (d : Note) → account v ≡ d ∷ ds → (a : ℕ) → taken_from a (d ∷ ds) ≡ taken_from a ds → (b : ℕ) → taken_from a (account b) ≡ taken_from a (at account v ds b)
   taken-same d is a skip = at-each (λ b xs. taken_from a (account b) ≡ taken_from a xs) account v ds (ap (taken_from a) is ∙ skip) (λ b _. refl)
 
   linked : (u b : ℕ) (xs ys : List Stamped) → sent_to b (account u) ≡ xs → taken_from u (account b) ≡ ys
@@ -86,9 +87,9 @@ module _ (w last : World) (account : ℕ → List Deed) (v : ℕ) (ds : List Dee
       subst (λ zs. IsLinkMatched w.net.capacity (w.link u b) xs zs (last.link u b)) takes
       (subst (λ zs. IsLinkMatched w.net.capacity (w.link u b) zs (taken_from u (account b)) (last.link u b)) sends (m.links u b))
 
-  pub ticks : (t : ℕ) → account v ≡ Ticks t ∷ ds → GoesOn w last (Tick v) (at account v ds)
+  pub ticks : (t : ℕ) → account v ≡ Ticked t ∷ ds → GoesOn w last (Tick v) (at account v ds)
   ticks t is =
-      let d = Ticks t in
+      let d = Ticked t in
       let new = ticked (site_of w.net v) (w.node v) in
       goes-on w last (Tick v) (at account v ds) (tick-fine w v (somebody d is)) tt refl within (record {
         network = m.network;
@@ -99,27 +100,27 @@ module _ (w last : World) (account : ℕ → List Deed) (v : ℕ) (ds : List Dee
       })
 
   -- what v sends to u, and no other link
-  sent-here : (u : ℕ) (s : Stamped) → account v ≡ Sends u s ∷ ds → sent_to u (account v) ≡ s ∷ sent_to u (at account v ds v)
+  sent-here : (u : ℕ) (s : Stamped) → account v ≡ Sent u s ∷ ds → sent_to u (account v) ≡ s ∷ sent_to u (at account v ds v)
   sent-here u s is =
-      let first : sent_to u (Sends u s ∷ ds) ≡ s ∷ sent_to u ds = grind (arith, common_steps) in
+      let first : sent_to u (Sent u s ∷ ds) ≡ s ∷ sent_to u ds = grind (arith, common_steps) in
       ap (sent_to u) is ∙ (first ∙ ap (λ xs. s ∷ sent_to u xs) (sym (at-here account v ds)))
 
-  sent-there : (u : ℕ) (s : Stamped) → account v ≡ Sends u s ∷ ds → (a b : ℕ) → ((a ≡ v) × (b ≡ u) → ⊥)
+  sent-there : (u : ℕ) (s : Stamped) → account v ≡ Sent u s ∷ ds → (a b : ℕ) → ((a ≡ v) × (b ≡ u) → ⊥)
       → sent_to b (account a) ≡ sent_to b (at account v ds a)
   sent-there u s is a b apart =
       at-each (λ i xs. (i ≡ a) → sent_to b (account i) ≡ sent_to b xs) account v ds
       (λ same.
       let other : b ≢ u = λ e. apart (sym same, e) in
-      let skip : sent_to b (Sends u s ∷ ds) ≡ sent_to b ds = grind (arith, common_steps) in
+      let skip : sent_to b (Sent u s ∷ ds) ≡ sent_to b ds = grind (arith, common_steps) in
       ap (sent_to b) is ∙ skip)
       (λ i _ _. refl) a refl
 
-  pub sends : (u : ℕ) (s : Stamped) → account v ≡ Sends u s ∷ ds → AllByRecursion (λ t. s.stamp ≤ t) (stamps (taken_from v (at account v ds u)))
+  pub sends : (u : ℕ) (s : Stamped) → account v ≡ Sent u s ∷ ds → AllByRecursion (λ t. s.stamp ≤ t) (stamps (taken_from v (at account v ds u)))
       → GoesOn w last (Send v u) (at account v ds)
   sends u s is late =
-      let d = Sends u s in
+      let d = Sent u s in
       let next = at account v ds in
-      let leads = leads-here d is in
+      let leads = leads-by_send w.net v (w.node v) u s ds (last.node v) (leads-here d is) in
       let joined = leads.0 in
       let here : IsLinkMatched w.net.capacity (w.link v u) (s ∷ sent_to u (next v)) (taken_from v (next u)) (last.link v u)
       = linked v u (s ∷ sent_to u (next v)) (taken_from v (next u)) (sent-here u s is) (taken-same d is v refl u) in
@@ -145,27 +146,27 @@ module _ (w last : World) (account : ℕ → List Deed) (v : ℕ) (ds : List Dee
             (λ a b apart. linked a b (sent_to b (next a)) (taken_from a (next b)) (sent-there u s is a b apart) (taken-same d is a refl b));
       })) in after
 
-  taken-here : (u : ℕ) (s : Stamped) → account v ≡ Takes u s ∷ ds → taken_from u (account v) ≡ s ∷ taken_from u (at account v ds v)
+  taken-here : (u : ℕ) (s : Stamped) → account v ≡ Took u s ∷ ds → taken_from u (account v) ≡ s ∷ taken_from u (at account v ds v)
   taken-here u s is =
-      let first : taken_from u (Takes u s ∷ ds) ≡ s ∷ taken_from u ds = grind (arith, common_steps) in
+      let first : taken_from u (Took u s ∷ ds) ≡ s ∷ taken_from u ds = grind (arith, common_steps) in
       ap (taken_from u) is ∙ (first ∙ ap (λ xs. s ∷ taken_from u xs) (sym (at-here account v ds)))
 
-  taken-there : (u : ℕ) (s : Stamped) → account v ≡ Takes u s ∷ ds → (a b : ℕ) → ((a ≡ u) × (b ≡ v) → ⊥)
+  taken-there : (u : ℕ) (s : Stamped) → account v ≡ Took u s ∷ ds → (a b : ℕ) → ((a ≡ u) × (b ≡ v) → ⊥)
       → taken_from a (account b) ≡ taken_from a (at account v ds b)
   taken-there u s is a b apart =
       at-each (λ i xs. (i ≡ b) → taken_from a (account i) ≡ taken_from a xs) account v ds
       (λ same.
       let other : a ≢ u = λ e. apart (e, sym same) in
-      let skip : taken_from a (Takes u s ∷ ds) ≡ taken_from a ds = grind (arith, common_steps) in
+      let skip : taken_from a (Took u s ∷ ds) ≡ taken_from a ds = grind (arith, common_steps) in
       ap (taken_from a) is ∙ skip)
       (λ i _ _. refl) b refl
 
   -- a take of a link on which this item is the oldest
-  takes-first : (u : ℕ) (s : Stamped) → account v ≡ Takes u s ∷ ds → (x : Item) (rest : List Item) → w.link u v ≡ x ∷ rest → GoesOn w last (Take u v) (at account v ds)
+  takes-first : (u : ℕ) (s : Stamped) → account v ≡ Took u s ∷ ds → (x : Item) (rest : List Item) → w.link u v ≡ x ∷ rest → GoesOn w last (Take u v) (at account v ds)
   takes-first u s is x rest link-is =
-      let d = Takes u s in
+      let d = Took u s in
       let next = at account v ds in
-      let leads = leads-here d is in
+      let leads = leads-by_take w.net v (w.node v) u s ds (last.node v) (leads-here d is) in
       let joined = leads.0 in
       let here : IsLinkMatched w.net.capacity (x ∷ rest) (sent_to v (next u)) (s ∷ taken_from u (next v)) (last.link u v)
       = subst (λ xs. IsLinkMatched w.net.capacity xs (sent_to v (next u)) (s ∷ taken_from u (next v)) (last.link u v)) link-is
@@ -188,10 +189,10 @@ module _ (w last : World) (account : ℕ → List Deed) (v : ℕ) (ds : List Dee
             (λ a b apart. linked a b (sent_to b (next a)) (taken_from a (next b)) (sent-same d is b refl a) (taken-there u s is a b apart));
       }))
 
-  pub takes : (u : ℕ) (s : Stamped) → account v ≡ Takes u s ∷ ds → AllByRecursion (λ t. s.stamp ≤ t) (stamps (sent_to v (at account v ds u)))
+  pub takes : (u : ℕ) (s : Stamped) → account v ≡ Took u s ∷ ds → AllByRecursion (λ t. s.stamp ≤ t) (stamps (sent_to v (at account v ds u)))
       → GoesOn w last (Take u v) (at account v ds)
   takes u s is late =
-      let d = Takes u s in
+      let d = Took u s in
       let next = at account v ds in
       let here = linked u v (sent_to v (next u)) (s ∷ taken_from u (next v)) (sent-same d is v refl u) (taken-here u s is) in
       let some : 0 < length (w.link u v) = has-item w.net.capacity (w.link u v) (sent_to v (next u)) s (taken_from u (next v)) (last.link u v) here late in

@@ -12,7 +12,7 @@ use Rattle.run_model.specs.Step.{step}
 use Rattle.run_model.specs.Run.{run}
 use Rattle.weaving.specs.declared.journal.Entry.{Entry}
 use Rattle.weaving.specs.Woven.{Placed, IsNoLater, AreOrdered, entries_of}
-use Rattle.weaving.specs.Account.{Deed, Ticks, Sends, Takes, entry_of, sent_to, taken_from, Leads}
+use Rattle.weaving.specs.Account.{Note, Ticked, Sent, Took, entry_of, sent_to, taken_from, Leads}
 use Rattle.weaving.specs.Matched.{AreMatched, stamps, items}
 use Rattle.weaving.specs.Laws.{GoesThrough, WovenIsRun}
 use Rattle.weaving.proofs.Changed.{at-each}
@@ -33,26 +33,26 @@ no-earlier p v (q ∷ ps) all =
     let first : p.entry.stamp ≤ q.entry.stamp = grind arith in
     of-either (AllByRecursion (λ e. p.entry.stamp ≤ e.stamp)) (q.node == v) (q.entry ∷ entries_of v ps) (entries_of v ps) (first, rest) rest
 
-late-sent : (t v u : ℕ) (ds : List Deed) → AllByRecursion (λ e. t ≤ e.stamp) (map (entry_of v) ds) → AllByRecursion (λ s. t ≤ s) (stamps (sent_to u ds))
+late-sent : (t v u : ℕ) (ds : List Note) → AllByRecursion (λ e. t ≤ e.stamp) (map (entry_of v) ds) → AllByRecursion (λ s. t ≤ s) (stamps (sent_to u ds))
 late-sent t v u [] all = tt
-late-sent t v u (Ticks s ∷ ds) all = late-sent t v u ds all.1
-late-sent t v u (Sends a s ∷ ds) all =
+late-sent t v u (Ticked s ∷ ds) all = late-sent t v u ds all.1
+late-sent t v u (Sent a s ∷ ds) all =
     let rest = late-sent t v u ds all.1 in
     of-either (λ xs. AllByRecursion (λ x. t ≤ x) (stamps xs)) (a == u) (s ∷ sent_to u ds) (sent_to u ds) (all.0, rest) rest
-late-sent t v u (Takes a s ∷ ds) all = late-sent t v u ds all.1
+late-sent t v u (Took a s ∷ ds) all = late-sent t v u ds all.1
 
-late-taken : (t v u : ℕ) (ds : List Deed) → AllByRecursion (λ e. t ≤ e.stamp) (map (entry_of v) ds) → AllByRecursion (λ s. t ≤ s) (stamps (taken_from u ds))
+late-taken : (t v u : ℕ) (ds : List Note) → AllByRecursion (λ e. t ≤ e.stamp) (map (entry_of v) ds) → AllByRecursion (λ s. t ≤ s) (stamps (taken_from u ds))
 late-taken t v u [] all = tt
-late-taken t v u (Ticks s ∷ ds) all = late-taken t v u ds all.1
-late-taken t v u (Sends a s ∷ ds) all = late-taken t v u ds all.1
-late-taken t v u (Takes a s ∷ ds) all =
+late-taken t v u (Ticked s ∷ ds) all = late-taken t v u ds all.1
+late-taken t v u (Sent a s ∷ ds) all = late-taken t v u ds all.1
+late-taken t v u (Took a s ∷ ds) all =
     let rest = late-taken t v u ds all.1 in
     of-either (λ xs. AllByRecursion (λ x. t ≤ x) (stamps xs)) (a == u) (s ∷ taken_from u ds) (taken_from u ds) (all.0, rest) rest
 
 -- ---- the first of what is to come
 
-first-deed : (v : ℕ) (e : Entry) (es : List Entry) (ds : List Deed) → e ∷ es ≡ map (entry_of v) ds
-    → (d : Deed) × (rest : List Deed) × (ds ≡ d ∷ rest) × (e ≡ entry_of v d) × (es ≡ map (entry_of v) rest)
+first-deed : (v : ℕ) (e : Entry) (es : List Entry) (ds : List Note) → e ∷ es ≡ map (entry_of v) ds
+    → (d : Note) × (rest : List Note) × (ds ≡ d ∷ rest) × (e ≡ entry_of v d) × (es ≡ map (entry_of v) rest)
 first-deed v e es [] h = absurd cc
 first-deed v e es (d ∷ rest) h =
     let h' : ◌≡◌ {A = List Entry} (e ∷ es) (entry_of v d ∷ map (entry_of v) rest) = h in
@@ -66,24 +66,24 @@ entries-there : (p : Placed) (ps : List Placed) (v : ℕ) → v ≢ p.node → e
 entries-there p ps v apart = grind (arith, common_steps)
 
 -- the event of a deed goes on
-deed-goes-on : (w last : World) (account : ℕ → List Deed) (v : ℕ) (d : Deed) (ds : List Deed) → AreNodes w → IsWithin w → AreMatched w account last
+deed-goes-on : (w last : World) (account : ℕ → List Note) (v : ℕ) (d : Note) (ds : List Note) → AreNodes w → IsWithin w → AreMatched w account last
     → account v ≡ d ∷ ds
     → ((a : ℕ) → AllByRecursion (λ e. (entry_of v d).stamp ≤ e.stamp) (map (entry_of a) (at account v ds a)))
     → GoesOn w last (entry_of v d).event (at account v ds)
-deed-goes-on w last account v (Ticks t) ds nodes within m is late = ticks w last account v ds nodes within m t is
-deed-goes-on w last account v (Sends u s) ds nodes within m is late =
+deed-goes-on w last account v (Ticked t) ds nodes within m is late = ticks w last account v ds nodes within m t is
+deed-goes-on w last account v (Sent u s) ds nodes within m is late =
     sends w last account v ds nodes within m u s is (late-taken s.stamp u v (at account v ds u) (late u))
-deed-goes-on w last account v (Takes u s) ds nodes within m is late =
+deed-goes-on w last account v (Took u s) ds nodes within m is late =
     takes w last account v ds nodes within m u s is (late-sent s.stamp u v (at account v ds u) (late u))
 
-no-deeds : (v : ℕ) (ds : List Deed) → [] ≡ map (entry_of v) ds → ds ≡ []
+no-deeds : (v : ℕ) (ds : List Note) → [] ≡ map (entry_of v) ds → ds ≡ []
 no-deeds v [] h = refl
 no-deeds v (d ∷ ds) h = absurd cc
 
 -- where nothing is to come, the last world is reached
-reached : (w last : World) (account : ℕ → List Deed) → AreMatched w account last → ((v : ℕ) → account v ≡ []) → w ≡ last
+reached : (w last : World) (account : ℕ → List Note) → AreMatched w account last → ((v : ℕ) → account v ≡ []) → w ≡ last
 reached w last account m none =
-    let node-is : (v : ℕ) → last.node v ≡ w.node v = λ v. subst (λ ds. Leads w.net v (w.node v) ds (last.node v)) (none v) (m.nodes v) in
+    let node-is : (v : ℕ) → last.node v ≡ w.node v = λ v. (subst (λ ds. Leads w.net v (w.node v) ds (last.node v)) (none v) (m.nodes v)).1 in
     let link-is : (u v : ℕ) → w.link u v ≡ last.link u v
     = λ u v.
     let k = (m.links u v).kept in
@@ -97,7 +97,7 @@ reached w last account m none =
     let link-same : w.link ≡ last.link = fun_ext (λ u. fun_ext (λ v. link-is u v)) in
     λ i. record { net = net-same i; spares = spares-same i; node = node-same i; link = link-same i }
 
-weaves : (ps : List Placed) (w last : World) (account : ℕ → List Deed) → AreNodes w → IsWithin w → AreMatched w account last → AreOrdered ps
+weaves : (ps : List Placed) (w last : World) (account : ℕ → List Note) → AreNodes w → IsWithin w → AreMatched w account last → AreOrdered ps
     → ((v : ℕ) → entries_of v ps ≡ map (entry_of v) (account v))
     → (run w (map (λ p. p.entry.event) ps) ≡ last) × GoesThrough w (map (λ p. p.entry.event) ps)
 weaves [] w last account nodes within m ordered told =

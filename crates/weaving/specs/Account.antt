@@ -1,49 +1,77 @@
--- An account: what one node did, in order, with the stamps and the items that it sent and took.
+-- An account: what one node did on a thread of its own, in order, with the stamps and the items that
+-- it sent and took. What the node does is said of its deeds, as of any node, in `accounts`.
 use Rattle.std.specs.Prelude.{◌≡◌, ℕ, ◌==◌, if◌then◌else◌, IsTrue, List, [], ◌∷◌}
 use Rattle.topology.specs.Network.{Network, are_joined}
-use Rattle.link_model.specs.declared.item.Item.TheVariants.{Frame}
-use Rattle.data_link.specs.Port.{frame_of}
+use Rattle.link_model.specs.declared.item.Item.{Item}
+use Rattle.link_model.specs.declared.item.Item.TheVariants.{Noise, Frame}
 use Rattle.node_core.specs.Site.{site_of}
 use Rattle.node_core.specs.State.{LocalState}
-use Rattle.node_core.specs.Step.{taken, ticked}
+use Rattle.accounts.specs.Deeds.{Deed, Ticks, Sends, Takes}
+use Rattle.accounts.specs.Deeds as deeds
 use Rattle.run_model.specs.declared.event.Event.TheVariants.{Send, Take, Tick}
 use Rattle.weaving.specs.declared.journal.Entry.{Entry}
 use Rattle.weaving.specs.declared.journal.Stamped.{Stamped}
 
--- what a node does by itself: it ticks, sends to a neighbour, and takes from a neighbour; the stamp
--- is that of the deed
-pub data Deed : Type 0 where
-  Ticks : ℕ → Deed
-  Sends : ℕ → Stamped → Deed
-  Takes : ℕ → Stamped → Deed
+-- what a node notes of its thread: that it ticked, with the stamp of that; what it sent to a
+-- neighbour; what it took from a neighbour
+pub data Note : Type 0 where
+  Ticked : ℕ → Note
+  Sent : ℕ → Stamped → Note
+  Took : ℕ → Stamped → Note
 
--- the entry of v's journal that tells of a deed
-abbrev pub entry_of : ℕ → Deed → Entry
-entry_of v (Ticks t) = record { stamp = t; event = Tick v }
-entry_of v (Sends u s) = record { stamp = s.stamp; event = Send v u }
-entry_of v (Takes u s) = record { stamp = s.stamp; event = Take u v }
+-- the entry of v's journal that tells of a note
+abbrev pub entry_of : ℕ → Note → Entry
+entry_of v (Ticked t) = record { stamp = t; event = Tick v }
+entry_of v (Sent u s) = record { stamp = s.stamp; event = Send v u }
+entry_of v (Took u s) = record { stamp = s.stamp; event = Take u v }
 
 -- what was sent to u
-abbrev pub sent_to : ℕ → List Deed → List Stamped
+abbrev pub sent_to : ℕ → List Note → List Stamped
 sent_to u [] = []
-sent_to u (Ticks t ∷ ds) = sent_to u ds
-sent_to u (Sends w s ∷ ds) = if w == u then s ∷ sent_to u ds else sent_to u ds
-sent_to u (Takes w s ∷ ds) = sent_to u ds
+sent_to u (Ticked t ∷ ns) = sent_to u ns
+sent_to u (Sent w s ∷ ns) = if w == u then s ∷ sent_to u ns else sent_to u ns
+sent_to u (Took w s ∷ ns) = sent_to u ns
 
 -- what was taken from u
-abbrev pub taken_from : ℕ → List Deed → List Stamped
+abbrev pub taken_from : ℕ → List Note → List Stamped
 taken_from u [] = []
-taken_from u (Ticks t ∷ ds) = taken_from u ds
-taken_from u (Sends w s ∷ ds) = taken_from u ds
-taken_from u (Takes w s ∷ ds) = if w == u then s ∷ taken_from u ds else taken_from u ds
+taken_from u (Ticked t ∷ ns) = taken_from u ns
+taken_from u (Sent w s ∷ ns) = taken_from u ns
+taken_from u (Took w s ∷ ns) = if w == u then s ∷ taken_from u ns else taken_from u ns
 
--- The account leads v from one state to another by the node's own steps: what it sends is the frame
--- of that port, and it sends to neighbours and takes from neighbours alone.
-abbrev pub Leads : Network → ℕ → LocalState → List Deed → LocalState → Type 0
-Leads net v s [] last = last ≡ s
-Leads net v s (Ticks t ∷ ds) last = Leads net v (ticked (site_of net v) s) ds last
-Leads net v s (Sends u sent ∷ ds) last =
-    IsTrue (are_joined net.edges v u) × (sent.item ≡ Frame (frame_of (s.port u)))
-    × Leads net v s ds last
-Leads net v s (Takes u met ∷ ds) last =
-    IsTrue (are_joined net.edges u v) × Leads net v (taken (site_of net v) u met.item s) ds last
+-- a frame that goes to w, then more deeds
+abbrev pub send_first : ℕ → Item → List Deed → List Deed
+send_first w (Frame f) ds = Sends w f ∷ ds
+send_first w Noise ds = ds
+
+-- A frame that comes from w, then more deeds. Noise that stood on a link when the run began is taken
+-- off it by no deed: it changes nothing in the node.
+abbrev pub take_first : ℕ → Item → List Deed → List Deed
+take_first w (Frame f) ds = Takes w f ∷ ds
+take_first w Noise ds = ds
+
+-- the deeds of a node, of which its notes tell
+abbrev pub deeds_in : List Note → List Deed
+deeds_in [] = []
+deeds_in (Ticked t ∷ ns) = Ticks ∷ deeds_in ns
+deeds_in (Sent w s ∷ ns) = send_first w s.item (deeds_in ns)
+deeds_in (Took w s ∷ ns) = take_first w s.item (deeds_in ns)
+
+-- the item is a frame
+abbrev pub IsFrame : Item → Type 0
+IsFrame (Frame f) = Unit {0}
+IsFrame Noise = ⊥
+
+-- what v sends are frames, and what it sends and takes goes over links of the network
+abbrev pub AreOverLinks : Network → ℕ → List Note → Type 0
+AreOverLinks net v [] = Unit {0}
+AreOverLinks net v (Ticked t ∷ ns) = AreOverLinks net v ns
+AreOverLinks net v (Sent u s ∷ ns) =
+    IsTrue (are_joined net.edges v u) × IsFrame s.item × AreOverLinks net v ns
+AreOverLinks net v (Took u s ∷ ns) = IsTrue (are_joined net.edges u v) × AreOverLinks net v ns
+
+-- The account leads v from one state to another by the node's own steps: its deeds do, and what it
+-- sends and takes goes over links.
+abbrev pub Leads : Network → ℕ → LocalState → List Note → LocalState → Type 0
+Leads net v s notes last =
+    AreOverLinks net v notes × deeds.Leads (site_of net v) (deeds_in notes) s last

@@ -7,7 +7,7 @@ use Rattle.run_model.specs.declared.event.Event.{Event}
 use Rattle.run_model.specs.declared.event.Event.TheVariants.{Send, Take, Lose, Tick, Ask, Leave, Damage}
 use Rattle.weaving.specs.declared.journal.Entry.{Entry}
 use Rattle.weaving.specs.Woven.{IsWoven}
-use Rattle.weaving.specs.Account.{Deed}
+use Rattle.weaving.specs.Account.{Note}
 use Rattle.weaving.specs.Matched.{AreMatched, AreOf}
 
 -- the event is a tick, a send to a link that has room, or a take of an item that is there
@@ -29,7 +29,7 @@ GoesThrough w (e ∷ es) = (refusal w e ≡ None) × HasEffect w e × GoesThroug
 -- is refused, no send meets a full link, and no take an empty one
 abbrev pub WovenIsRun : Type 0
 WovenIsRun =
-    (w last : World) (account : ℕ → List Deed) (journal : ℕ → List Entry) (events : List Event)
+    (w last : World) (account : ℕ → List Note) (journal : ℕ → List Entry) (events : List Event)
     → IsWorldInRange w → AreMatched w account last → AreOf account journal → IsWoven journal events
     → (run w events ≡ last) × GoesThrough w events
 

@@ -4,7 +4,7 @@ use Rattle.link_model.specs.declared.item.Item.{Item}
 use Rattle.run_model.specs.World.{World}
 use Rattle.weaving.specs.declared.journal.Entry.{Entry}
 use Rattle.weaving.specs.declared.journal.Stamped.{Stamped}
-use Rattle.weaving.specs.Account.{Deed, entry_of, sent_to, taken_from, Leads}
+use Rattle.weaving.specs.Account.{Note, entry_of, sent_to, taken_from, Leads}
 
 -- each of the first is above the one in its place of the second, which is there
 abbrev pub AreAbove : List ℕ → List ℕ → Type 0
@@ -31,7 +31,7 @@ pub record IsLinkMatched (capacity : ℕ) (old : List Item) (sent taken : List S
 
 -- Accounts of all nodes lead from one world to another: each leads its node, and on each link they
 -- match.
-pub record AreMatched (w : World) (account : ℕ → List Deed) (last : World) : Type 0 where
+pub record AreMatched (w : World) (account : ℕ → List Note) (last : World) : Type 0 where
   pub network : last.net ≡ w.net
   pub spares : last.spares ≡ w.spares
   pub nodes : (v : ℕ) → Leads w.net v (w.node v) (account v) (last.node v)
@@ -41,5 +41,5 @@ pub record AreMatched (w : World) (account : ℕ → List Deed) (last : World) :
       (taken_from u (account v)) (last.link u v)
 
 -- the journals tell of these accounts
-abbrev pub AreOf : (ℕ → List Deed) → (ℕ → List Entry) → Type 0
+abbrev pub AreOf : (ℕ → List Note) → (ℕ → List Entry) → Type 0
 AreOf account journal = (v : ℕ) → journal v ≡ map (entry_of v) (account v)

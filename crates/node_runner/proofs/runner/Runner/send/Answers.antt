@@ -2,7 +2,7 @@ use Rattle.std.proofs.Common.{◌≡◌, IsTrue, List, [], ◌∷◌, ◌++◌, 
 use Rattle.std.proofs.lemmas.Grind.{common_steps}
 use Rattle.link_model.specs.declared.item.Item.TheVariants.{Frame}
 use Rattle.node_core.specs.View.{site_in, state_of}
-use Rattle.weaving.specs.Account.{Deed, Sends, sent_to, taken_from}
+use Rattle.weaving.specs.Account.{Note, Sent, sent_to, taken_from}
 use Rattle.node_runner.specs.declared.runner.Port.{Port}
 use Rattle.node_runner.specs.Ports.{stamped, IsSender, IsReceiver, SameIncoming}
 use Rattle.node_runner.specs.Runner.{IsPortTold, IsSamePort, AreSamePorts}
@@ -30,12 +30,12 @@ returns-in-Some g c =
     let n = p.neighbour in
     let item = Frame c.frame_for-frame.result in
     let s = stamped c.in-Some.stamp item in
-    let deeds : List Deed = Sends n s ∷ [] in
+    let deeds : List Note = Sent n s ∷ [] in
     let x : Port _ = record { neighbour = n; outgoing = c.send.new.self; incoming = p.incoming } in
     let stays : SameIncoming p.incoming p.incoming = search rules in
     let same : IsSamePort p x = (refl, c.send.ensures.same, stays) in
     let rest = c.note.ensures.rest in
-    let noted : Noted (Sends n s) a c.note.new.self = record {
+    let noted : Noted (Sent n s) a c.note.new.self = record {
       id = rest.0;
       site = ap site_in rest.1;
       entries = c.note.ensures.entries;
@@ -45,11 +45,11 @@ returns-in-Some g c =
       bound = let l = c.in-Some.ensures.later.1 in let e = c.note.ensures.clock in omega arith;
       neighbours = ap (λ ps. map (λ q. q.neighbour) ps.items) rest.2 ∙ now-ids a k p at x same;
       ports = subst (λ ps. AreSamePorts a.ports.items ps.items) (sym rest.2) (now-same a k p at x same);
-      leads = λ net v of_id site. (
-        ((c.neighbours.ensures.joined net v n).0 (subst (λ s. Contains s.neighbours n) site (known a k p at))).1,
-        ap Frame c.frame_for-frame.ensures.frame,
-        ap state_of rest.1,
-      );
+      leads = λ net v of_id site.
+          let near = subst (λ s. Contains s.neighbours n) site (known a k p at) in (
+            (((c.neighbours.ensures.joined net v n).0 near).1, tt, tt),
+            (near, c.frame_for-frame.ensures.frame, ap state_of rest.1),
+          );
       told = λ w v past was.
           let old = port-was a k p at w v past was in
           let first : sent_to n deeds ≡ s ∷ [] = grind (arith, common_steps) in
@@ -63,8 +63,8 @@ returns-in-Some g c =
           (now-told a k p at x same w v past deeds c.neighbours.ensures.ascend was (λ u apart. (grind (arith, common_steps), refl)) one);
     } in (
       deeds,
-      does-one (Sends n s) a c.note.new.self c.requires.ready noted,
-      inr (s, ap (λ u. Sends u s ∷ []) (id-at a k p at)),
+      does-one (Sent n s) a c.note.new.self c.requires.ready noted,
+      inr (s, ap (λ u. Sent u s ∷ []) (id-at a k p at)),
       λ w v past told room none soon. omega arith,
       λ bound late up. let l = c.in-Some.ensures.later.2 in let e = c.note.ensures.clock in omega (arith, l, e, late, up),
     )

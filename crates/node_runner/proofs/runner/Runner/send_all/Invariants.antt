@@ -1,5 +1,5 @@
 use Rattle.std.proofs.Common.{◌≤◌, List, length, take}
-use Rattle.weaving.specs.Account.{Deed}
+use Rattle.weaving.specs.Account.{Note}
 use Rattle.node_runner.specs.Runner.{Does, port_ids}
 use Rattle.node_runner.specs.Rounds.{AreSendsTo}
 use Rattle.node_runner.specs.Due.{AreSendsDue, IsSlow}
@@ -7,5 +7,5 @@ use Rattle.node_runner.proofs.runner.Runner.send_all.Given as goal
 
 abbrev pub invariant-loop-place : goal.invariant-loop-place
 invariant-loop-place g l =
-    (deeds : List Deed) × Does deeds l.fn.self l.self × AreSendsTo (take l.place (port_ids l.fn.self)) deeds × (length deeds ≤ l.place)
+    (deeds : List Note) × Does deeds l.fn.self l.self × AreSendsTo (take l.place (port_ids l.fn.self)) deeds × (length deeds ≤ l.place)
     × AreSendsDue (take l.place (port_ids l.fn.self)) l.fn.self deeds × IsSlow (length deeds) l.fn.self l.self

@@ -3,7 +3,8 @@ use Rattle.std.proofs.lemmas.Grind.{common_steps}
 use Rattle.node_core.specs.Step.{taken}
 use Rattle.node_core.specs.View.{site_in, state_of}
 use Rattle.weaving.specs.declared.journal.Stamped.{Stamped}
-use Rattle.weaving.specs.Account.{Deed, Takes, sent_to, taken_from}
+use Rattle.weaving.specs.Account.{Note, Took, sent_to, taken_from}
+use Rattle.weaving.proofs.Accounts.{leads-to_take}
 use Rattle.node_runner.specs.declared.runner.Port.{Port}
 use Rattle.node_runner.specs.Ports.{IsSender, IsReceiver, SameOutgoing}
 use Rattle.node_runner.specs.Runner.{IsPortTold, IsSamePort, AreSamePorts}
@@ -30,12 +31,12 @@ returns-in-Some g c =
     let at : IsAt a k p = record { within = c.requires.place; value = c.index_mut-port.ensures.value; ready = c.requires.ready } in
     let n = p.neighbour in
     let s : Stamped = c.in-Some.taken in
-    let deeds : List Deed = Takes n s ∷ [] in
+    let deeds : List Note = Took n s ∷ [] in
     let x : Port _ = record { neighbour = n; outgoing = p.outgoing; incoming = c.take.new.self } in
     let stays : SameOutgoing p.outgoing p.outgoing = search rules in
     let same : IsSamePort p x = (refl, stays, c.take.ensures.same) in
     let rest = c.note.ensures.rest in
-    let noted : Noted (Takes n s) a c.note.new.self = record {
+    let noted : Noted (Took n s) a c.note.new.self = record {
       id = rest.0;
       site = ap site_in rest.1 ∙ c.take-in-Some.ensures.site;
       entries = c.note.ensures.entries;
@@ -45,10 +46,11 @@ returns-in-Some g c =
       bound = let l = c.in-Some.ensures.later.1 in let r = c.requires.ready.clock in let e = c.note.ensures.clock in omega arith;
       neighbours = ap (λ ps. map (λ q. q.neighbour) ps.items) rest.2 ∙ now-ids a k p at x same;
       ports = subst (λ ps. AreSamePorts a.ports.items ps.items) (sym rest.2) (now-same a k p at x same);
-      leads = λ net v of_id site. (
-        subst IsTrue (c.joined.ensures.back net.edges v n) ((c.neighbours.ensures.joined net v n).0 (subst (λ s. Contains s.neighbours n) site (known a k p at))).1,
-        ap state_of rest.1 ∙ (c.take-in-Some.ensures.state ∙ ap (λ s. taken s n c.in-Some.taken.item (state_of a.node)) site),
-      );
+      leads = λ net v of_id site.
+          let near = subst (λ s. Contains s.neighbours n) site (known a k p at) in
+          let joined = subst IsTrue (c.joined.ensures.back net.edges v n) ((c.neighbours.ensures.joined net v n).0 near).1 in
+          let new = ap state_of rest.1 ∙ (c.take-in-Some.ensures.state ∙ ap (λ s. taken s n c.in-Some.taken.item (state_of a.node)) site) in
+          leads-to_take net v (state_of a.node) n s [] (state_of c.note.new.self.node) near joined (tt, new);
       told = λ w v past was.
           let old = port-was a k p at w v past was in
           let first : taken_from n deeds ≡ s ∷ [] = grind (arith, common_steps) in
@@ -60,7 +62,7 @@ returns-in-Some g c =
           ) in
           subst (λ ps. All (IsPortTold w v (past ++ deeds)) ps.items) (sym rest.2)
           (now-told a k p at x same w v past deeds c.neighbours.ensures.ascend was (λ u apart. (refl, grind (arith, common_steps))) one);
-    } in (deeds, does-one (Takes n s) a c.note.new.self c.requires.ready noted, inr (s, ap (λ u. Takes u s ∷ []) (id-at a k p at)), λ w v past told links less. omega arith)
+    } in (deeds, does-one (Took n s) a c.note.new.self c.requires.ready noted, inr (s, ap (λ u. Took u s ∷ []) (id-at a k p at)), λ w v past told links less. omega arith)
 
 pub returns-in-None : goal.returns-in-None
 returns-in-None g c =

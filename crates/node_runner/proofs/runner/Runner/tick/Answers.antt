@@ -1,7 +1,7 @@
 use Rattle.std.proofs.Common.{◌+◌, [], ◌∷◌, ◌++◌, ◌∙◌, All, map, arith, refl, sym, subst, ap}
 use Rattle.node_core.specs.Step.{ticked}
 use Rattle.node_core.specs.View.{site_in, state_of}
-use Rattle.weaving.specs.Account.{Ticks}
+use Rattle.weaving.specs.Account.{Ticked}
 use Rattle.node_runner.specs.Runner.{IsPortTold, AreSamePorts}
 use Rattle.node_runner.proofs.Deeds.{Noted, does-one}
 use Rattle.node_runner.proofs.PortLists.{all-same, ports-stay}
@@ -12,7 +12,7 @@ returns g c =
     let a = c.args.self.now in
     let t = a.clock + 1 in
     let rest = c.note.ensures.rest in
-    let noted : Noted (Ticks t) a c.note.new.self = record {
+    let noted : Noted (Ticked t) a c.note.new.self = record {
       id = rest.0;
       site = ap site_in rest.1 ∙ c.tick-ticked.ensures.site;
       entries = c.note.ensures.entries;
@@ -22,7 +22,7 @@ returns g c =
       bound = let r = c.requires.ready.clock in let e = c.note.ensures.clock in omega arith;
       neighbours = ap (λ ps. map (λ p. p.neighbour) ps.items) rest.2;
       ports = subst (λ ps. AreSamePorts a.ports.items ps.items) (sym rest.2) (all-same a.ports.items);
-      leads = λ net v at site. ap state_of rest.1 ∙ (c.tick-ticked.ensures.state ∙ ap (λ s. ticked s (state_of a.node)) site);
+      leads = λ net v at site. (tt, ap state_of rest.1 ∙ (c.tick-ticked.ensures.state ∙ ap (λ s. ticked s (state_of a.node)) site));
       told = λ w v past was.
-          subst (λ ps. All (IsPortTold w v (past ++ Ticks t ∷ [])) ps.items) (sym rest.2) (ports-stay w v past (Ticks t ∷ []) a.ports.items (λ u. (refl, refl)) was.ports);
-    } in (t, does-one (Ticks t) a c.note.new.self c.requires.ready noted, λ bound late up. let e = c.note.ensures.clock in omega (arith, e, up))
+          subst (λ ps. All (IsPortTold w v (past ++ Ticked t ∷ [])) ps.items) (sym rest.2) (ports-stay w v past (Ticked t ∷ []) a.ports.items (λ u. (refl, refl)) was.ports);
+    } in (t, does-one (Ticked t) a c.note.new.self c.requires.ready noted, λ bound late up. let e = c.note.ensures.clock in omega (arith, e, up))

@@ -1,0 +1,106 @@
+-- Rows: the ends of links between threads, what is left on them, and how much room there is.
+use Rattle.std.proofs.Common.{◌≡◌, ℕ, ◌<◌, Bool, true, false, IsTrue, Some, None, List, [], ◌∷◌, ◌++◌, drop, length, if◌then◌else◌, ◌&&◌, ap, refl, ◌∙◌, sym, subst, arith}
+use Rattle.std.proofs.lemmas.Grind.{common_steps}
+use Rattle.rtrb.specs.Ring.{sent, received}
+use Rattle.link_model.specs.declared.item.Item.{Item}
+use Rattle.link_model.specs.declared.item.Item.TheVariants.{Noise}
+use Rattle.run_model.proofs.RowsTwo.{two_nodes}
+use Rattle.weaving.specs.declared.journal.Stamped.{Stamped}
+use Rattle.weaving.specs.Matched.{items}
+use Rattle.weaving.proofs.RowsRun.{after_tick}
+use Rattle.node_runner.specs.declared.ports.Outgoing.{Outgoing}
+use Rattle.node_runner.specs.declared.ports.Incoming.{Incoming}
+use Rattle.node_runner.specs.declared.runner.Port.{Port}
+use Rattle.thread_net.specs.declared.threads.Outcome.{Outcome}
+use Rattle.thread_net.specs.Cables.{neighbours_below, reach, rows_reach, port_to, left_on, left_on_ports, IsFlushed, IsFlushedOn}
+use Rattle.thread_net.specs.Seats.{entry_room}
+use Rattle.thread_net.specs.Outcomes.{have_run, turns_of}
+
+-- two items with their stamps: noise of the start, and a frame
+abbrev first : Stamped
+first = record { stamp = 0; item = Noise }
+
+abbrev second : Stamped
+second = after_tick 0 1 2
+
+-- ---- what is left on a link
+
+module _ {A : Type 0} (o : Outgoing A) (i : Incoming A) (went : sent o.frames ≡ first ∷ second ∷ []) where
+  -- what was sent and not taken is under way, the oldest first
+  row-left : received i.frames ≡ first ∷ [] → left_on o i ≡ second.item ∷ []
+  row-left came = ap (λ xs. items (drop (length xs) (sent o.frames))) came ∙ ap (λ xs. items (drop 1 xs)) went
+
+  row-all_left : received i.frames ≡ [] → left_on o i ≡ Noise ∷ second.item ∷ []
+  row-all_left came = ap (λ xs. items (drop (length xs) (sent o.frames))) came ∙ ap (λ xs. items (drop 0 xs)) went
+
+  row-none_left : received i.frames ≡ first ∷ second ∷ [] → left_on o i ≡ []
+  row-none_left came = ap (λ xs. items (drop (length xs) (sent o.frames))) came ∙ ap (λ xs. items (drop 2 xs)) went
+
+  -- what came in is a beginning of what went out, and places that came back of those given back
+  row-flushed : received i.frames ≡ first ∷ [] → sent i.places ≡ 4 ∷ 6 ∷ [] → received o.places ≡ 4 ∷ [] → IsFlushed o i
+  row-flushed came given back = (
+    (second ∷ [], ap (λ xs. xs ++ second ∷ []) came ∙ sym went),
+    (6 ∷ [], ap (λ xs. xs ++ 6 ∷ []) back ∙ sym given),
+  )
+
+  -- nothing comes in that did not go out
+  not-flushed : received i.frames ≡ first ∷ second ∷ second ∷ [] → IsFlushed o i → ⊥
+  not-flushed came flushed =
+      let all : ◌≡◌ {A = List Stamped} (first ∷ second ∷ second ∷ flushed.0.0) (first ∷ second ∷ []) =
+      ap (λ xs. xs ++ flushed.0.0) (sym came) ∙ (flushed.0.1 ∙ went) in
+      let count = ap length all in
+      omega (arith, count)
+
+  -- nor does a place come back before it was given back
+  not-back : sent i.places ≡ 4 ∷ [] → received o.places ≡ 6 ∷ [] → IsFlushed o i → ⊥
+  not-back given back flushed =
+      let all : ◌≡◌ {A = List ℕ} (6 ∷ flushed.1.0) (4 ∷ []) = ap (λ xs. xs ++ flushed.1.0) (sym back) ∙ (flushed.1.1 ∙ given) in
+      let one : ◌≡◌ {A = ℕ} 6 4 = cc in
+      omega (arith, one)
+
+-- ---- ports
+
+module _ {A : Type 0} (p q : Port A) (to_one : p.neighbour ≡ 1) (to_two : q.neighbour ≡ 2) where
+  row-port : port_to (p ∷ q ∷ []) 2 ≡ Some q
+  row-port = grind (arith, common_steps, to_one, to_two)
+
+  row-no_port : port_to (p ∷ q ∷ []) 3 ≡ None
+  row-no_port = grind (arith, common_steps, to_one, to_two)
+
+  -- where a port is missing nothing is left, and nothing is flushed
+  row-nothing : left_on_ports (Some p) None ≡ []
+  row-nothing = refl
+
+  not-one_port : IsFlushedOn (Some p) None → ⊥
+  not-one_port out = out
+
+-- ---- which pairs have had their turn
+
+row-below : neighbours_below two_nodes 0 1 ≡ []
+row-below = refl
+
+row-below-all : neighbours_below two_nodes 0 2 ≡ 1 ∷ []
+row-below-all = refl
+
+-- where the pair of 1 and 3 of four nodes comes next: node 0 is through, 1 has had those below 3, 2 has had 0 and 1
+row-reach : (reach 4 1 3 0 ≡ 4) × (reach 4 1 3 1 ≡ 3) × (reach 4 1 3 2 ≡ 2) × (reach 4 1 3 3 ≡ 1)
+row-reach = (refl, refl, refl, refl)
+
+row-rows : (rows_reach 4 2 1 ≡ 4) × (rows_reach 4 2 3 ≡ 2)
+row-rows = (refl, refl)
+
+-- ---- room, and who ran
+
+-- ten turns of a node with two neighbours: ten ticks, and at most two sends and four takes each
+row-room : entry_room 10 2 ≡ 70
+row-room = refl
+
+module _ (a b : Outcome) (ran : a.ran ≡ true) (came_back : b.ran ≡ false) where
+  row-all_ran : have_run (a ∷ []) ≡ true
+  row-all_ran = ap (λ t. t && true) ran
+
+  row-not_all : have_run (a ∷ b ∷ []) ≡ false
+  row-not_all = ap (λ t. t && (b.ran && true)) ran ∙ ap (λ t. t && true) came_back
+
+  row-turns : (turns_of 5 (a ∷ b ∷ []) 0 ≡ 5) × (turns_of 5 (a ∷ b ∷ []) 1 ≡ 0) × (turns_of 5 (a ∷ b ∷ []) 2 ≡ 0)
+  row-turns = (ap (λ t. if t then 5 else 0) ran, ap (λ t. if t then 5 else 0) came_back, refl)
