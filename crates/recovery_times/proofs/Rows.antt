@@ -1,6 +1,7 @@
 -- Windows, times and words, by hand.
-use Rattle.std.proofs.Common.{◌≡◌, ◌*◌, Some, None, [], refl, codes}
+use Rattle.std.proofs.Common.{◌≡◌, ◌*◌, ◌++◌, Some, None, [], refl, codes, decimal}
 use Rattle.recovery_times.specs.Times.{usual, full_of, window_of, millis_up, tenths_up}
+use Rattle.recovery_times.specs.Text.{tenths_line, millis_line}
 use Rattle.recovery_times.specs.Reading.{micros_of}
 
 -- 8 + 2 * 2.2 + 0.1 ms
@@ -49,6 +50,23 @@ tenths-whole = refl
 
 tenths-more : tenths_up 12501 ≡ 126
 tenths-more = refl
+
+-- ---- lines
+
+tenths-shown : tenths_line (codes "window") 12500 ≡ codes "window " ++ (decimal 12 ++ (codes "." ++ (decimal 5 ++ codes " ms\n")))
+tenths-shown = refl
+
+tenths-none : tenths_line (codes "window") 13000 ≡ codes "window " ++ (decimal 13 ++ (codes "." ++ (decimal 0 ++ codes " ms\n")))
+tenths-none = refl
+
+tenths-rounded : tenths_line (codes "window") 12901 ≡ codes "window " ++ (decimal 13 ++ (codes "." ++ (decimal 0 ++ codes " ms\n")))
+tenths-rounded = refl
+
+millis-shown : millis_line (codes "lends within") 400000 ≡ codes "lends within " ++ (decimal 400 ++ codes " ms\n")
+millis-shown = refl
+
+millis-rounded : millis_line (codes "recovers within") 637500 ≡ codes "recovers within " ++ (decimal 638 ++ codes " ms\n")
+millis-rounded = refl
 
 -- ---- words
 

@@ -1,5 +1,5 @@
 -- The laws of windows.
-use Rattle.std.specs.Prelude.{◌≡◌, ℕ, ◌+◌, ◌≤◌}
+use Rattle.std.specs.Prelude.{◌≡◌, ◌+◌, ◌≤◌}
 use Rattle.recovery_times.specs.declared.premises.Premises.{Premises}
 use Rattle.recovery_times.specs.Times.{window_of}
 

@@ -10,6 +10,7 @@
 //! premises.window();                          // 12500 microseconds
 //! premises.recovers_within(&net);             // 637500 microseconds for a ring of three
 //! micros_of(b"2.2");                          // Some(2200); none of "02.2", "2." and "2.2001"
+//! times_text(alloc, &net, &premises)?;        // "window 12.5 ms\n" and two lines more
 //! ```
 //!
 //! Times are whole microseconds. A reader shows them in milliseconds, rounded up, since a bound that
@@ -23,7 +24,9 @@ pub mod laws;
 mod premises;
 mod reading;
 mod rounding;
+mod text;
 
 pub use premises::Premises;
 pub use reading::micros_of;
 pub use rounding::{millis_up, tenths_up};
+pub use text::times_text;

@@ -1,7 +1,6 @@
-use Rattle.std.proofs.Common.{◌≡◌, ◌+◌, ◌*◌, ◌∙◌, Some, None, take, ap, sym, arith}
-use Rattle.std.specs.Option.{option_map}
+use Rattle.std.proofs.Common.{◌≡◌, ◌∙◌, Some, None, take, ap, arith}
 use Rattle.std.proofs.lemmas.Bool.Decides.{nat_tests}
-use Rattle.recovery_times.specs.Reading.{point_at, after_point, whole_of, part_of, within_an_hour, micros_of}
+use Rattle.recovery_times.specs.Reading.{point_at, after_point, whole_of, part_of}
 use Rattle.recovery_times.proofs.Points.{after-first, no-part, both-parts}
 use Rattle.recovery_times.proofs.reading.micros_of.Goals as goal
 

@@ -1,4 +1,4 @@
-use Rattle.std.proofs.Common.{◌≡◌, None, ◌∙◌, sym, arith}
+use Rattle.std.proofs.Common.{◌≡◌, None, ◌∙◌, sym}
 use Rattle.recovery_times.proofs.Digits.{no-thousandths}
 use Rattle.recovery_times.specs.Reading.{digits_up_to}
 use Rattle.recovery_times.proofs.reading.thousandths_of.Goals as goal
