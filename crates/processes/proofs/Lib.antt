@@ -11,6 +11,7 @@ pub mod WindowTicks
 pub mod WindowLinks
 pub mod Windows
 pub mod TurnWindows
+pub mod FullTicks
 mod RowsTiming
 pub mod OneDeed
 pub mod Connections
