@@ -25,8 +25,10 @@ mod premises;
 mod reading;
 mod rounding;
 mod text;
+mod words;
 
 pub use premises::Premises;
 pub use reading::micros_of;
 pub use rounding::{millis_up, tenths_up};
 pub use text::times_text;
+pub use words::{PremiseWords, TimeFault};
