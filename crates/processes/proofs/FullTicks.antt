@@ -352,7 +352,7 @@ module _ (p : Premises) (site : Site) (start until : ℕ) (turns : List Turn) (a
       let ends = turn.4 in
       let never : LendsIn site turn.0 account s → ⊥
       = λ lent. let c = lent.0 in let b = lent.2 in let e = lent.3 in
-        let f = free c lent.1 (omega (arith, l, begins, b)) (omega (arith, ends, e, to)) in let t = lent.4 in not-both (lends (led site lent.1.before s).desk) t f in
+      let f = free c lent.1 (omega (arith, l, begins, b)) (omega (arith, ends, e, to)) in let t = lent.4 in not-both (lends (led site lent.1.before s).desk) t f in
       elim (ticks turn.0 turn.1 (omega (arith, l, begins)) (omega (arith, ends, to))) [
         | inl there ↦ elim (tick-or-loan from (from + p.turn) turn.0 begins ends there) [
           | inl full ↦ full

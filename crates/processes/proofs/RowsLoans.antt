@@ -49,7 +49,7 @@ none-before [] ys e = refl
 none-before (x ∷ xs) ys e = absurd cc
 
 -- before all that is done
-at-first : (account : List Timed) (a : ℕ) → AllByRecursion (λ t. a ≤ t.instant) account → Point account a
+abbrev at-first : (account : List Timed) (a : ℕ) → AllByRecursion (λ t. a ≤ t.instant) account → Point account a
 at-first account a since = record { before = []; after = account; whole = refl; until = tt; since = since }
 
 -- ---- nobody borrows
