@@ -121,7 +121,7 @@ fn run_bound<R: Files + Print + AllocGlobal>(
     rt: &R,
     given: &ArgMatches,
 ) -> Result<ExitCode, Refusal> {
-    Ok(bound::run(rt, word(given, "FILE")?, given.get_flag("sharp"))?)
+    Ok(bound::run(rt, word(given, "FILE")?, given.get_flag("sharp"), None)?)
 }
 
 /// Does `simulate`, and says with which status it is done.

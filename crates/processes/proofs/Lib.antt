@@ -11,7 +11,9 @@ pub mod WindowTicks
 pub mod WindowLinks
 pub mod Windows
 pub mod TurnWindows
+pub mod FullTicks
 mod RowsTiming
+mod RowsLoans
 pub mod OneDeed
 pub mod Connections
 pub mod Bytes

@@ -54,7 +54,7 @@ one-passes s e a p (q ∷ ps) there is since later soon = by-place (first-or p q
   by-place (inr rest) again = there-too (is_since s q.accepted && is_in s e q.given) (passes_in s e ps) (again rest is since later soon)
 
 -- given in the first turn that begins `repeat` later, and taken in the first that begins `delay` after that
-passes-within : (pace : Pace) (start until s e : ℕ) (from to : List Turn) (acts : List Act) (passed : List Passage) → TurnsOften pace start until from → TurnsOften pace start until to
+pub passes-within : (pace : Pace) (start until s e : ℕ) (from to : List Turn) (acts : List Act) (passed : List Passage) → TurnsOften pace start until from → TurnsOften pace start until to
     → GivesOften pace start until from acts → Arrives pace start until to acts passed → start ≤ s → s + (pace.repeat + 2 * pace.turn + pace.delay) ≤ e → e ≤ until → IsTrue (passes_in s e passed)
 passes-within pace start until s e from to acts passed turns-from turns-to gives arrives l m n =
     let t = turns-from (s + pace.repeat) (omega (arith, l)) (omega (arith, m, n)) in

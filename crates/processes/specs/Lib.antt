@@ -7,5 +7,6 @@ pub mod Laws
 pub mod Timing
 pub mod TimeLaws
 pub mod Turns
+pub mod Loans
 pub mod Connections
 pub mod LinkLaws

@@ -5,6 +5,8 @@ ghost use Rattle.processes.specs.LinkLaws.{BytesAreHistory, HistoriesTellFrames,
 ghost use Rattle.processes.specs.Laws.{ProcessesHaveOrder, OrdersAreRuns, ProcessesKeepPromise};
 ghost use Rattle.processes.specs.Turns.{PaceGivesWindows};
 ghost use Rattle.processes.specs.TimeLaws.{WindowsAreSweeps, ServesInTime, LendsInTime};
+ghost use Rattle.processes.specs.Loans.{TurnsTickFully, PremisesGiveWindows};
+ghost use Rattle.processes.specs.Loans.{RecoversInTime, WaitsInTime};
 ghost use Rattle.processes.specs.Laws.{BytesAreProcesses, BytesKeepPromise};
 
 /// What processes did is a run: their deeds, with the losses between them, have an order by
@@ -99,4 +101,20 @@ pub fn pace()
     ensures { PaceGivesWindows }
 {
     topology::laws::joined();
+}
+
+/// Recovery and service as times, from what is believed of a machine: each stretch of `turn` holds a
+/// whole turn of each node; a port that was given nothing for `repeat` is given a frame in the next
+/// turn; a frame is taken in the next turn that begins `delay` after it was accepted; a node ticks in
+/// each of its turns, unless it lends; and it lends to nobody, or each loan ends within `loan`. Then
+/// each stretch of `recovery_times`' `full_of` holds a full tick of each node, a window is a sweep,
+/// and the network serves after the time that `tokentree bound --time` prints, from every state.
+pub fn premises()
+    ensures full { TurnsTickFully }
+    ensures windows { PremisesGiveWindows }
+    ensures recovers { RecoversInTime }
+    ensures lends { WaitsInTime }
+{
+    topology::laws::joined();
+    windows();
 }

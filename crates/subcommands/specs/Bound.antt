@@ -1,9 +1,12 @@
--- The text that `bound` prints of a network: eight lines, or nine, with one space between words.
+-- The text that `bound` prints of a network: eight lines, or nine, and perhaps three of times, with
+-- one space between words.
 use Rattle.std.specs.Prelude.{ℕ, Bool, if◌then◌else◌, List, [], ◌∷◌, ◌++◌, length, map, Option, Some, None, codes, decimal}
 use Rattle.std.specs.List.{range_with_len}
 use Rattle.topology.specs.Network.{Network, counter_of, ring_of, bound_of}
 use Rattle.topology.specs.Tree.{distance_of, parent_of}
 use Rattle.topology.specs.Eccentricity.{sharp_of}
+use Rattle.recovery_times.specs.declared.premises.Premises.{Premises}
+use Rattle.recovery_times.specs.Text.{times_text}
 
 -- a line of a word and a number
 abbrev pub number_line : List ℕ → ℕ → List ℕ
@@ -38,3 +41,12 @@ bound_text net =
 abbrev pub shown_text : Network → Bool → List ℕ
 shown_text net sharp =
     if sharp then bound_text net ++ number_line (codes "sharp") (sharp_of net) else bound_text net
+
+-- the lines of times, if premises are given
+abbrev pub times_if : Network → Option Premises → List ℕ
+times_if net None = []
+times_if net (Some premises) = times_text net premises
+
+-- all lines
+abbrev pub timed_text : Network → Bool → Option Premises → List ℕ
+timed_text net sharp premises = shown_text net sharp ++ times_if net premises

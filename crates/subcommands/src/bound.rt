@@ -1,21 +1,23 @@
-//! `bound FILE`, with `--sharp` or without: what the lock's guarantee costs on a network.
+//! `bound FILE`, with `--sharp`, with `--time`, or without: what the lock's guarantee costs on a
+//! network.
 ghost use Rattle.std.specs.Prelude.{◌≡◌, ◌↔◌, ℕ, ◌++◌, IfOk, IfErr, IsOk, OnOk, string_bytes};
 ghost use Rattle.std.specs.Prelude.{codes, decimal};
 ghost use Rattle.std.specs.Process.{exit_status};
 ghost use Rattle.subcommands.specs.Bound.{number_line, nodes_line, parent_word, bound_text};
-ghost use Rattle.subcommands.specs.Bound.{shown_text};
+ghost use Rattle.subcommands.specs.Bound.{shown_text, timed_text};
 ghost use Rattle.command_parts.specs.declared.fault.Fault.TheVariants.{Output};
 ghost use Rattle.topology.specs.Tree.{distance_of, parent_of};
 
 use command_parts::{Fault, read_network};
+use recovery_times::{Premises, times_text};
 use std::alloc::{AllocError, Global};
 use std::fmt::Write;
 use std::process::ExitCode;
 use std::rt::Files;
 use topology::Net;
 
-/// Prints the text of the network of a file, with the line of the sharp bound where that is asked
-/// for.
+/// Prints the text of the network of a file, with the line of the sharp bound if that is asked for,
+/// and with the lines of times if premises are given.
 ///
 /// # Errors
 /// Where no network is read of the file, memory runs out, or standard output does not take the
@@ -24,9 +26,10 @@ pub fn run<R: Files + Print + AllocGlobal>(
     rt: &R,
     path: &str,
     sharp: bool,
+    premises: Option<Premises>,
 ) -> Result<ExitCode, Fault> {
     let net = read_network(rt, path)?;
-    let text = shown_text(rt.alloc(), &net, sharp).map_err(|_| Fault::Memory)?;
+    let text = timed_text(rt.alloc(), &net, sharp, premises).map_err(|_| Fault::Memory)?;
     done(rt.print(text.as_str()))
 }
 
@@ -40,6 +43,23 @@ fn done<E: Drop>(printed: Result<(), E>) -> Result<ExitCode, Fault>
         Ok(()) => Ok(ExitCode::SUCCESS),
         Err(_) => Err(Fault::Output),
     }
+}
+
+/// The lines of a network and, if premises are given, those of the times that follow from them.
+pub fn timed_text(
+    alloc: Global,
+    net: &Net,
+    sharp: bool,
+    premises: Option<Premises>,
+) -> Result<String, AllocError>
+    ensures { IfOk result (λ text. string_bytes text ≡ timed_text net.now sharp premises) }
+{
+    let mut text = shown_text(alloc, net, sharp)?;
+    if let Some(premises) = premises {
+        let times = times_text(alloc, net, &premises)?;
+        text.push_str(times.as_str())?;
+    }
+    Ok(text)
 }
 
 /// The eight lines of a network and, where it is asked for, the line of its sharp bound.

@@ -6,7 +6,7 @@
 //! changes a file. Two commands that show a run stand in `live_commands`.
 //!
 //! ```
-//! let status = bound::run(rt, "two-nodes.toml", false)?;               // prints eight lines
+//! let status = bound::run(rt, "two-nodes.toml", false, None)?;         // prints eight lines
 //! // prints what the events lead to; "-" is standard input
 //! let status = simulate::run(rt, "two-nodes.toml", "events.txt")?;
 //! // writes a state file of node 1, of seed 7; cuts it; prints ten lines of junk

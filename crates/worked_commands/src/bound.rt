@@ -1,8 +1,9 @@
-//! The numbers of networks, with the sharp bound and without it.
+//! The numbers of networks, with the sharp bound and without it, and with times.
 use crate::nets::net_of;
+use recovery_times::Premises;
 use std::alloc::{AllocError, Global};
 use std::test::Fail;
-use subcommands::bound::{bound_text, shown_text};
+use subcommands::bound::{bound_text, shown_text, timed_text};
 use test_parts::as_told;
 use topology::Net;
 
@@ -152,4 +153,79 @@ fn star_shows_sharp(alloc: Global) -> Result<bool, Fail> {
 #[test]
 fn shows_the_sharp_bound_of_the_star(rt: HostRuntime) -> Result<(), Fail> {
     as_told(star_shows_sharp(rt.alloc()), &true)
+}
+
+/// A network, how long a loan lasts at most, in microseconds, and the lines of its times.
+type Timed<'a> = (i64, u32, &'a [(i64, i64)], &'a str);
+
+/// A ring of three, a square and a line of eight; and the ring if a loan lasts a second.
+static TIMES: [Timed<'static>; 4] = [
+    (
+        3,
+        0,
+        &[(0, 1), (0, 2), (1, 2)],
+        "window 12.5 ms\nrecovers within 638 ms\nlends within 400 ms\n",
+    ),
+    (
+        4,
+        0,
+        &[(0, 1), (0, 2), (1, 3), (2, 3)],
+        "window 12.5 ms\nrecovers within 888 ms\nlends within 600 ms\n",
+    ),
+    (
+        8,
+        0,
+        &[(0, 1), (1, 2), (2, 3), (3, 4), (4, 5), (5, 6), (6, 7)],
+        "window 12.5 ms\nrecovers within 1938 ms\nlends within 1400 ms\n",
+    ),
+    (
+        3,
+        1_000_000,
+        &[(0, 1), (0, 2), (1, 2)],
+        "window 1004.4 ms\nrecovers within 51225 ms\nlends within 32141 ms\n",
+    ),
+];
+
+/// Whether a network is shown with these lines of times after its others.
+fn has_times(alloc: Global, net: &Net, loan: u32, want: &str) -> Result<bool, AllocError> {
+    let premises = Premises {
+        loan,
+        ..Premises::usual()
+    };
+    let nine = shown_text(alloc, net, true)?;
+    let text = timed_text(alloc, net, true, Some(premises))?;
+    Ok(text.as_str().strip_prefix(nine.as_str()) == Some(want))
+}
+
+/// Whether a row's network is shown with the times that the row says.
+fn is_timed(alloc: Global, row: &Timed<'_>) -> Result<bool, Fail> {
+    let net = net_of(alloc, row.0, 1, row.2)?;
+    Ok(has_times(alloc, &net, row.1, row.3)?)
+}
+
+/// The place of the first row whose network is shown with other times.
+fn first_other_times(alloc: Global, rows: &[Timed<'_>]) -> Result<Option<usize>, Fail> {
+    for (at, row) in rows.iter().enumerate() {
+        if !is_timed(alloc, row)? {
+            return Ok(Some(at));
+        }
+    }
+    Ok(None)
+}
+
+#[test]
+fn shows_times_if_premises_are_given(rt: HostRuntime) -> Result<(), Fail> {
+    as_told(first_other_times(rt.alloc(), &TIMES), &None)
+}
+
+/// Whether the star is shown with its times.
+fn star_is_timed(alloc: Global) -> Result<bool, Fail> {
+    let edges = star_edges(alloc)?;
+    let want = "window 12.5 ms\nrecovers within 12838 ms\nlends within 12600 ms\n";
+    is_timed(alloc, &(64, 0, edges.as_slice(), want))
+}
+
+#[test]
+fn shows_the_times_of_the_star(rt: HostRuntime) -> Result<(), Fail> {
+    as_told(star_is_timed(rt.alloc()), &true)
 }

@@ -1,0 +1,5 @@
+pub mod Times
+pub mod Reading
+pub mod Laws
+pub mod Text
+pub mod Words

@@ -1,0 +1,93 @@
+//! A time, as a word spells it.
+ghost use Rattle.std.specs.Prelude.{◌≡◌, ◌≤◌, IfSome, length, take};
+ghost use Rattle.recovery_times.specs.Reading.{point_at, digits_up_to, whole_of, thousandths_of};
+ghost use Rattle.recovery_times.specs.Reading.{micros_of, thousandths_in};
+
+/// The longest time that is read, an hour, in microseconds.
+const HOUR: u32 = 3_600_000_000;
+
+/// The same in milliseconds.
+const HOUR_IN_MILLIS: u32 = 3_600_000;
+
+/// The microseconds of a time in milliseconds, at most an hour: a decimal number with no sign and no
+/// zero in front of other digits, and after it perhaps a point and one to three digits.
+pub fn micros_of(word: &[u8]) -> Option<u32>
+    ensures time { result ≡ micros_of word.now }
+    ensures within { IfSome result (λ micros. micros ≤ 3600000000) }
+{
+    let point = point_at(word);
+    let whole = whole_of(&word[..point])?;
+    let part = thousandths_in(word.get(point + 1..))?;
+    let micros = 1_000 * whole + part;
+    if micros <= HOUR { Some(micros) } else { None }
+}
+
+/// How many bytes stand in front of the first point.
+fn point_at(word: &[u8]) -> usize
+    ensures at { result ≡ point_at word.now }
+    ensures within { result ≤ length word.now }
+{
+    for (i, byte) in word.iter().enumerate() {
+        if *byte == b'.' {
+            return i;
+        }
+    }
+    word.len()
+}
+
+/// The whole milliseconds that digits spell, with no zero in front of other digits.
+fn whole_of(digits: &[u8]) -> Option<u32>
+    ensures whole { result ≡ whole_of digits.now }
+    ensures within { IfSome result (λ whole. whole ≤ 3600000) }
+{
+    if digits.len() > 1 && digits[0] == b'0' {
+        return None;
+    }
+    digits_up_to(digits)
+}
+
+/// The microseconds that stand after the point, if there is one.
+fn thousandths_in(digits: Option<&[u8]>) -> Option<u32>
+    ensures part { result ≡ thousandths_in digits.entry }
+    ensures within { IfSome result (λ part. part ≤ 360000000) }
+{
+    match digits {
+        None => Some(0),
+        Some(digits) => thousandths_of(digits),
+    }
+}
+
+/// The microseconds that one to three digits after the point spell.
+fn thousandths_of(digits: &[u8]) -> Option<u32>
+    ensures part { result ≡ thousandths_of digits.now }
+    ensures within { IfSome result (λ part. part ≤ 360000000) }
+{
+    let value = digits_up_to(digits)?;
+    match digits.len() {
+        1 => Some(100 * value),
+        2 => Some(10 * value),
+        3 => Some(value),
+        _ => None,
+    }
+}
+
+/// The number that decimal digits spell, at least one, at most as many milliseconds as an hour has.
+fn digits_up_to(digits: &[u8]) -> Option<u32>
+    ensures number { result ≡ digits_up_to digits.now }
+    ensures within { IfSome result (λ number. number ≤ 3600000) }
+{
+    if digits.is_empty() {
+        return None;
+    }
+    let mut value: u32 = 0;
+    for digit in digits {
+        if !digit.is_ascii_digit() {
+            return None;
+        }
+        value = 10 * value + u32::from(*digit - b'0');
+        if value > HOUR_IN_MILLIS {
+            return None;
+        }
+    }
+    Some(value)
+}
