@@ -19,3 +19,4 @@ pub mod Frames
 pub mod OverBytes
 pub mod RowsLinks
 mod RowsProcesses
+pub mod RowsBytes
