@@ -21,3 +21,4 @@ pub mod Frames
 pub mod OverBytes
 pub mod RowsLinks
 mod RowsProcesses
+pub mod RowsBytes

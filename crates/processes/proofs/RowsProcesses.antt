@@ -1,7 +1,8 @@
 -- Two processes on the least network, small enough to see through.
-use Rattle.std.proofs.Common.{◌≡◌, ◌==◌, ◌&&◌, if◌then◌else◌, ℕ, zero, suc, ◌≤◌, List, [], ◌∷◌, ◌++◌, map, rules, IsFalse, refl, inl, ◌∙◌, sym, arith}
+use Rattle.std.proofs.Common.{◌≡◌, ◌==◌, ◌&&◌, if◌then◌else◌, ℕ, zero, suc, ◌<◌, ◌≤◌, List, [], ◌∷◌, ◌++◌, map, rules, IsFalse, refl, inl, ◌∙◌, sym, ap, arith}
 use Rattle.std.proofs.lemmas.Grind.{common_steps}
-use Rattle.topology.specs.Network.{are_joined}
+use Rattle.topology.specs.Network.{are_joined, bound_of}
+use Rattle.topology.specs.Eccentricity.{sharp_of}
 use Rattle.topology.specs.declared.frame.Frame.{Frame}
 use Rattle.data_link.specs.Port.{frame_of}
 use Rattle.lock_desk.specs.Desk.{DeskState, no_desk}
@@ -10,7 +11,8 @@ use Rattle.run_model.specs.World.{World}
 use Rattle.run_model.specs.Run.{run}
 use Rattle.run_model.specs.declared.event.Event.{Event}
 use Rattle.run_model.specs.declared.event.Event.TheVariants.{Send, Take, Ask}
-use Rattle.run_model.proofs.RowsTwo.{two_nodes, each-link, calm, forged}
+use Rattle.convergence.specs.Service.{IsAtPlace}
+use Rattle.run_model.proofs.RowsTwo.{two_nodes, each-node, each-link, calm, forged}
 use Rattle.run_model.proofs.RowsServing.{calm-serves}
 use Rattle.accounts.specs.Deeds.{Ticks, Sends, Takes, Asks, Leads}
 use Rattle.processes.specs.Accounts.{Timed, deeds, AreInTime}
@@ -18,7 +20,7 @@ use Rattle.processes.specs.Links.{Act, Accepts, Gives, the_losses, accepts_in, g
 use Rattle.processes.specs.Marks.{Mark, Does, Drops, event_of, AreOrdered, account_of, history_of, IsOrderOf}
 use Rattle.processes.specs.Together.{AreProcesses, Wires, AreProcessesOverBytes}
 use Rattle.processes.specs.Through.{GoesThrough}
-use Rattle.processes.specs.Laws.{ServesAfter, LendsAfter}
+use Rattle.processes.specs.Laws.{KeepsPromise, ServesAfter, LendsAfter}
 use Rattle.processes.specs.Connections.{as_items, left_over, IsLinkOfBytes}
 use Rattle.topology.specs.Ranges.{ranges_of}
 use Rattle.link_model.specs.declared.item.Item.{Item}
@@ -175,6 +177,34 @@ lends-to-nobody (e ∷ before) after v t i is sweeps in-net place stays more = l
 
 not-passed-over : LendsAfter 0 (one_waits (record no_desk { waiting = 7 ∷ [] })) [] → ⊥
 not-passed-over h = let lent = h [] [] 0 7 0 refl tt (omega arith) refl refl tt in absurd cc
+
+-- a calm world with no event keeps the promise
+no-event : (sweeps : ℕ) → ServesAfter sweeps calm []
+no-event n [] after is sweeps = calm-serves
+no-event n (e ∷ before) after is sweeps = let f : ◌≡◌ {A = List Event} [] (e ∷ (before ++ after)) = is in absurd cc
+
+nobody-waits : (v : ℕ) → v < 2 → (t i : ℕ) → IsAtPlace t i (calm.node v).desk.waiting → ⊥
+nobody-waits = each-node (λ v. (t i : ℕ) → IsAtPlace t i (calm.node v).desk.waiting → ⊥) (λ t i h. h) (λ t i h. h)
+
+nobody-to-lend : (sweeps : ℕ) → LendsAfter sweeps calm []
+nobody-to-lend n [] after v t i is sweeps in-net place stays more = absurd (nobody-waits v in-net t i place)
+nobody-to-lend n (e ∷ before) after v t i is sweeps in-net place stays more = let f : ◌≡◌ {A = List Event} [] (e ∷ (before ++ after)) = is in absurd cc
+
+keeps-promise : KeepsPromise calm calm []
+keeps-promise = record {
+  leads = refl;
+  through = tt;
+  serves = no-event (sharp_of two_nodes);
+  serves_by_bound = no-event (bound_of two_nodes);
+  lends = nobody-to-lend (sharp_of two_nodes);
+}
+
+-- it is not kept where the events lead to another world, nor where one of them does not go through
+not-elsewhere : KeepsPromise calm (run calm (Send 0 1 ∷ [])) [] → ⊥
+not-elsewhere h = let e : ◌≡◌ {A = List Item} [] (item.Frame said ∷ []) = ap (λ w. w.link 0 1) h.leads in absurd cc
+
+not-with-two : (last : World) → KeepsPromise calm last (Send 0 1 ∷ Send 0 1 ∷ []) → ⊥
+not-with-two last h = not-two h.through
 
 -- ---- over bytes
 
