@@ -5,3 +5,4 @@ pub mod Plans
 pub mod Steps
 pub mod Stretches
 pub mod Watching
+mod RowsMeasured

@@ -8,3 +8,4 @@ pub mod Turning
 pub mod Loose
 pub mod Accounts
 mod Rows
+mod RowsTurns

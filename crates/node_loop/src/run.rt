@@ -69,7 +69,7 @@ pub struct NodeRun<D: Doors, S: Store + Drop, A: Allocator + Copy = Global> {
 
 impl<D: Doors, S: Store + Drop, A: Allocator + Copy> NodeRun<D, S, A> {
     ghost use Rattle.node_loop.specs.Clients.{AreConnected, IsTold};
-    ghost use Rattle.node_loop.specs.Loose.{AreKept, AreLoose};
+    ghost use Rattle.node_loop.specs.Loose.{AreKept, AreLoose, is_linked};
     ghost use Rattle.node_loop.specs.Deeds.{Acts, Became, IsLeave};
     ghost use Rattle.node_loop.specs.Hearing.{AreWired, Comes, Hears, Listens, Pulls, TakesAt, Wires};
     ghost use Rattle.node_loop.specs.Moments.{AtBoth};
@@ -395,6 +395,11 @@ impl<D: Doors, S: Store + Drop, A: Allocator + Copy> NodeRun<D, S, A> {
     fn call_on(&mut self, id: u16)
         requires { id < self.old.net.nodes }
         ensures node { self.new.node ≡ self.old.node }
+        // Whatever the door answers, no link changes, and no port that is not loose.
+        ensures links { AtBoth (λ old new. (new.link ≡ old.link) × (new.is_stuck ≡ old.is_stuck))
+            (slice_get self.old.ports.items id) (slice_get self.new.ports.items id) }
+        ensures linked { is_linked (slice_get self.old.ports.items id) ≡ true
+            → self.new.ports ≡ self.old.ports }
         ensures wires { AtBoth Wires (slice_get self.old.ports.items id)
             (slice_get self.new.ports.items id) }
         ensures others { (w : ℕ) → w ≢ id

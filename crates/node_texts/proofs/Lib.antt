@@ -2,3 +2,4 @@ pub mod DeskNames
 pub mod StatusSpelling
 pub mod NumbersRead
 pub mod NodeLines
+mod RowsTexts

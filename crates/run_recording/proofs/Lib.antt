@@ -6,3 +6,4 @@ pub mod Recordings
 pub mod Visits
 pub mod RunsOfMarks
 pub mod Rows
+mod RowsMarks

@@ -2,3 +2,4 @@ pub mod JunkLines
 pub mod FourParts
 pub mod Spaced
 pub mod Runs
+mod RowsTexts

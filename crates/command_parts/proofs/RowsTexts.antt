@@ -1,0 +1,113 @@
+-- Small examples of what is told and written, and some that look like them and are none.
+use Rattle.std.proofs.Common.{◌≡◌, ◌≢◌, ℕ, List, [], ◌∷◌, Option, Some, None, Ok, Err, codes, decimal, refl, inl, inr, arith}
+use Rattle.std.proofs.lemmas.Fmt.{decimal_digit}
+use Rattle.topology.specs.Network.{Network}
+use Rattle.topology.specs.declared.fault.NetFault.TheVariants.{NotToml}
+use Rattle.run_model.specs.Start.{default_world}
+use Rattle.run_model.specs.World.{World}
+use Rattle.run_model.specs.declared.event.Event.TheVariants.{Damage, Leave, Lose, Tick}
+use Rattle.run_model.specs.declared.event.Harm.TheVariants as harm
+use Rattle.network_file.specs.declared.fault.NetworkFault.TheVariants.{Refused, Unreadable}
+use Rattle.world.specs.declared.simulation.SimFault.TheVariants as simulation
+use Rattle.world.specs.declared.simulation.Summary.{Summary}
+use Rattle.command_parts.specs.declared.fault.Fault.TheVariants as fault
+use Rattle.command_parts.specs.declared.path_fault.PathFault.TheVariants as path
+use Rattle.command_parts.specs.EventText.{GrowsByText, text_of}
+use Rattle.command_parts.specs.FaultText.{fault_text}
+use Rattle.command_parts.specs.PathFaultText.{path_fault_text}
+use Rattle.command_parts.specs.Simulated.{IsCaused, IsDone, IsFailed, IsToldAs}
+use Rattle.command_parts.specs.SimulationFault.{fault_of}
+
+zero-is : decimal 0 ≡ codes "0"
+zero-is = decimal_digit 0 (omega arith)
+
+one-is : decimal 1 ≡ codes "1"
+one-is = decimal_digit 1 (omega arith)
+
+seven-is : decimal 7 ≡ codes "7"
+seven-is = decimal_digit 7 (omega arith)
+
+-- ---- the text of events
+
+-- a line for each, in their order
+writes : text_of (Tick 1 ∷ Leave 0 7 ∷ Damage (harm.Own 1 1 None) ∷ Damage (harm.Empty 0 1) ∷ []) ≡ codes "tick 1\nleave 0 7\nharm own 1 1 none\nharm empty 0 1\n"
+writes = rw (zero-is, one-is, seven-is)
+
+writes-lose : text_of (Lose 0 1 7 ∷ []) ≡ codes "lose 0 1 7\n"
+writes-lose = rw (zero-is, one-is, seven-is)
+
+writes_not-turned : text_of (Tick 1 ∷ Tick 0 ∷ []) ≢ codes "tick 0\ntick 1\n"
+writes_not-turned e = grind (arith, one-is, zero-is, e)
+
+writes-nothing : text_of [] ≡ []
+writes-nothing = refl
+
+grows : GrowsByText (Some (codes "tick 0\n")) (Tick 1 ∷ []) (Some (codes "tick 0\ntick 1\n"))
+grows = rw one-is
+
+grows_not-silent : ¬ GrowsByText (Some []) (Tick 1 ∷ []) (Some [])
+grows_not-silent e = grind (arith, one-is, e)
+
+-- ---- faults
+
+tells-network : fault_text (fault.Network Unreadable) ≡ codes "network Unreadable"
+tells-network = refl
+
+tells-refused : fault_text (fault.Network (Refused NotToml)) ≡ codes "network NotToml"
+tells-refused = refl
+
+tells-node : fault_text fault.NoNode ≡ codes "id NoNode"
+tells-node = refl
+
+tells-long : fault_text fault.EventsLong ≡ codes "events Long"
+tells-long = refl
+
+tells_not-output : fault_text fault.Output ≢ fault_text fault.Memory
+tells_not-output = grind arith
+
+tells-path : path_fault_text (path.Fault fault.Threads) ≡ codes "threads Refused"
+tells-path = refl
+
+-- each fault of a simulation is told as its own
+told-read : fault_of simulation.Read ≡ fault.EventsUnreadable
+told-read = refl
+
+told-long : fault_of simulation.Long ≡ fault.EventsLong
+told-long = refl
+
+told_not-write : fault_of simulation.Write ≢ fault.Memory
+told_not-write = grind arith
+
+-- ---- simulations
+
+abbrev start : World
+start = default_world (record { nodes = 2; root = 0; capacity = 1; lease = 0; edges = (0, 1) ∷ [] })
+
+-- output that is refused once all is simulated is told as output
+tells-output : (summary : Summary) → IsToldAs (Ok summary) fault.Output
+tells-output summary = refl
+
+tells_not-long : (summary : Summary) → ¬ IsToldAs (Ok summary) fault.EventsLong
+tells_not-long summary told = grind (arith, told)
+
+-- where memory is refused nothing is read or written, and memory is told
+fails-memory : IsFailed start (codes "tick 0") (Some (codes "tick 0")) (Some []) (Some []) fault.Memory
+fails-memory = record { answer = Err simulation.Memory; simulated = (refl, refl); cause = refl }
+
+done-memory : IsDone start (codes "tick 0") (Some (codes "tick 0")) (Some []) (Some []) (Err fault.Memory)
+done-memory = fails-memory
+
+-- no summary is shown where nothing was read
+done_not-unread : (summary : Summary) → ¬ IsDone start (codes "tick 0") (Some (codes "tick 0")) (Some []) (Some []) (Ok summary)
+done_not-unread summary done = grind (arith, done.0)
+
+-- events are unreadable only if the source's count of failures rose, output is refused only if the
+-- sink's did
+caused-read : IsCaused {T = ℕ} (Err fault.EventsUnreadable) 3 4 0 0
+caused-read = inl (omega arith)
+
+caused_not-read : ¬ IsCaused {T = ℕ} (Err fault.EventsUnreadable) 3 3 0 1
+caused_not-read rose = grind (arith, rose)
+
+caused_not-write : ¬ IsCaused {T = ℕ} (Err fault.Output) 3 4 0 0
+caused_not-write rose = grind (arith, rose)

@@ -1,0 +1,374 @@
+-- Small examples of ticks, plans, turns, answers and arrivals, and some that look like them and are
+-- none.
+use Rattle.std.proofs.Common.{◌≡◌, ◌≢◌, ℕ, ◌<◌, zero, suc, Bool, true, false, List, [], ◌∷◌, ◌++◌, All, Option, None, Some, is_some, Contains, codes, refl, ap, sym, subst, ◌∙◌, inl, inr, arith}
+use Rattle.std.proofs.lemmas.Grind.{common_steps}
+use Rattle.std.proofs.lemmas.List.Elements.{All-nil, All-cons, All-head, All-tail}
+use Rattle.topology.specs.declared.frame.Frame.{Frame}
+use Rattle.topology.specs.declared.frame.Ranges.{Ranges}
+use Rattle.data_link.specs.Port.{default_port}
+use Rattle.lock_desk.specs.Desk.{DeskState, no_desk}
+use Rattle.lock_desk.specs.declared.act.DeskAct.TheVariants.{Quiet, Granted, Lost}
+use Rattle.lock_desk.specs.declared.client_line.ClientLine.TheVariants.{Lock, Unlock, Unknown}
+use Rattle.node_core.specs.Site.{Site}
+use Rattle.node_core.specs.State.{LocalState, default_node}
+use Rattle.link_model.specs.declared.item.Item.TheVariants as item
+use Rattle.node_core.specs.Step.{taken, ticked}
+use Rattle.node_core.specs.View.{NodeView, site_in, state_of}
+use Rattle.node_core.specs.declared.ticked.Ticked.{Ticked}
+use Rattle.pace.specs.declared.pace.Plan.{Plan}
+use Rattle.socket_links.specs.Counts.{Counts}
+use Rattle.socket_links.specs.declared.pipe.ReadAnswer.TheVariants as read
+use Rattle.socket_links.specs.declared.writing.Flow.TheVariants as flow
+use Rattle.node_loop.specs.declared.clients.Clients.{Clients}
+use Rattle.node_loop.specs.declared.doors.Door.TheVariants.{Came, Nobody, Failed}
+use Rattle.node_loop.specs.declared.lobby.Arrival.TheVariants as arrival
+use Rattle.node_loop.specs.declared.port.NodePort.{NodePort}
+use Rattle.node_loop.specs.Answers.{after_line, answer_text}
+use Rattle.node_loop.specs.Arrivals.{IsArrival}
+use Rattle.node_loop.specs.Clients.{answers_of, GivesWithin, is_connected, IsTold, room_of, Tells}
+use Rattle.node_loop.specs.Deeds.{Acts, Became, Deed, IsLeave, IsOfClient, IsTake, Leads, ticks_in}
+use Rattle.node_loop.specs.Deeds.{Takes, Asks, Leaves, Ticks, Sends}
+use Rattle.node_loop.specs.Doors.{Opens}
+use Rattle.node_loop.specs.Loose.{AreKept, AreLoose, is_linked}
+use Rattle.node_loop.specs.Moments.{AtBoth, Moment}
+use Rattle.node_loop.specs.Speaking.{is_left, IsPlanOf, outlook_of, sent_if, takes_frames}
+use Rattle.node_loop.specs.Turns.{Attends, Turns}
+use Rattle.node_loop.proofs.Accounts.{attend-ticks}
+
+abbrev small : Ranges
+small = record { nodes = 2; counter = 5; ring = 7 }
+
+-- the root of two nodes as it starts, with a lease of 100 ticks, and with this desk
+abbrev root_with : DeskState → NodeView
+root_with desk = record {
+  id = 0;
+  is_root = true;
+  distance = 2;
+  parent = None;
+  registers = record { ranges = small; neighbours = 1 ∷ []; ports = []; values = [] };
+  desk = record { lease = 100; state = desk };
+}
+
+abbrev root : NodeView
+root = root_with no_desk
+
+-- what a tick makes of it: the root is at distance 0
+abbrev root_ticked : NodeView
+root_ticked = record root { distance = 0 }
+
+abbrev some_frame : Frame
+some_frame = record { seq = 0; ack = 0; payload = record { distance = 2; parent = None; ring = 0 } }
+
+-- ---- deeds
+
+counts-ticks : ticks_in (Takes 1 some_frame ∷ Ticks ∷ Asks 3 ∷ Sends 1 some_frame ∷ Leaves 3 ∷ Ticks ∷ []) ≡ 2
+counts-ticks = refl
+
+counts_not-deeds : ticks_in (Takes 1 some_frame ∷ Asks 3 ∷ []) ≢ 2
+counts_not-deeds = grind arith
+
+-- a stranger that leaves changes nothing
+became-leave : Became IsLeave root root
+became-leave = record { site = refl; deeds = Leaves 3 ∷ []; kinds = All-cons IsLeave (Leaves 3) [] tt (All-nil IsLeave); leads = refl }
+
+-- where nothing ticks, the distance stays
+distance-takes : (site : Site) (w : ℕ) (f : Frame) (s : LocalState) → (taken site w (item.Frame f) s).distance ≡ s.distance
+distance-takes site w f s = grind (arith, common_steps)
+
+distance-stays : (site : Site) (ds : List Deed) (s last : LocalState) → ticks_in ds ≡ 0 → Leads site ds s last → last.distance ≡ s.distance
+distance-stays site [] s last none leads = ap (λ x. x.distance) leads
+distance-stays site (Takes w f ∷ ds) s last none leads = distance-stays site ds _ last none leads.1 ∙ distance-takes site w f s
+distance-stays site (Asks t ∷ ds) s last none leads = distance-stays site ds _ last none leads.1
+distance-stays site (Leaves t ∷ ds) s last none leads = distance-stays site ds _ last none leads
+distance-stays site (Ticks ∷ ds) s last none leads = absurd (omega (arith, none))
+distance-stays site (Sends w f ∷ ds) s last none leads = distance-stays site ds s last none leads.2
+
+leaves-tick-never : (ds : List Deed) → All IsLeave ds → ticks_in ds ≡ 0
+leaves-tick-never [] k = refl
+leaves-tick-never (Takes w f ∷ ds) k = elim (All-head IsLeave (Takes w f) ds k) [ ]
+leaves-tick-never (Asks t ∷ ds) k = elim (All-head IsLeave (Asks t) ds k) [ ]
+leaves-tick-never (Leaves t ∷ ds) k = leaves-tick-never ds (All-tail IsLeave (Leaves t) ds k)
+leaves-tick-never (Ticks ∷ ds) k = elim (All-head IsLeave Ticks ds k) [ ]
+leaves-tick-never (Sends w f ∷ ds) k = elim (All-head IsLeave (Sends w f) ds k) [ ]
+
+leaves-keep : (old new : NodeView) → Became IsLeave old new → new.distance ≡ old.distance
+leaves-keep old new b = distance-stays (site_in old) b.deeds (state_of old) (state_of new) (leaves-tick-never b.deeds b.kinds) b.leads
+
+-- so no leave makes of a node what a tick makes of it
+became_not-ticked : ¬ Became IsLeave root root_ticked
+became_not-ticked b = grind (arith, leaves-keep root root_ticked b)
+
+-- ---- one tick
+
+abbrev quiet : Ticked
+quiet = record { act = Quiet; full = true }
+
+abbrev acts : Acts quiet root root_ticked
+acts = record { acted = root_ticked; act = refl; full = refl; site = refl; state = refl; leaves = record { site = refl; deeds = []; kinds = All-nil IsLeave; leads = refl } }
+
+-- whoever does not tick does not act
+acted-distance : (says : Ticked) (new : NodeView) → Acts says root new → new.distance ≡ 0
+acted-distance says new a = leaves-keep a.acted new a.leaves ∙ ap (λ s. s.distance) a.state
+
+acts_not-still : (says : Ticked) → ¬ Acts says root root
+acts_not-still says a = grind (arith, acted-distance says root a)
+
+-- nor does whoever says something else of the loan, or of the tick
+acts_not-granted : ¬ Acts (record quiet { act = Granted 3 }) root root_ticked
+acts_not-granted a = grind (arith, a.act, ap (λ s. s.desk.lent) a.state)
+
+acts_not-part : ¬ Acts (record quiet { full = false }) root root_ticked
+acts_not-part a = grind (arith, a.full, ap (λ s. s.desk.lent) a.state)
+
+-- ---- plans
+
+abbrev ticks_only : Plan
+ticks_only = record { ticks = true; offers = [] }
+
+abbrev rests : Plan
+rests = record { ticks = false; offers = [] }
+
+module _ {P : Type 0} where
+  -- a node without connections; it ticked last at 1,000 microseconds
+  abbrev moment : NodeView → Moment P
+  moment node = record {
+    node = node;
+    ports = [];
+    pace = record {
+      manner = record { hold = 2000; repeat = 8000 };
+      node = record { hold_until = 0; credit = 0; called_at = 0; ticked_at = 1000 };
+      ports = [];
+    };
+    let_go = false;
+  }
+
+  -- it lends to ticket 3, with a lease
+  abbrev lending : Moment P
+  lending = moment (root_with (record { waiting = []; lent = Some 3; left = 50; served = false }))
+
+  -- while such a loan runs it does not tick a millisecond after its last tick, and does after two
+  plan-rests : IsPlanOf 2000 lending rests
+  plan-rests = record { ticks = refl; offers = λ w l c. refl }
+
+  plan_not-ticks : ¬ IsPlanOf 2000 lending ticks_only
+  plan_not-ticks p = grind (arith, p.ticks)
+
+  plan-ticks : IsPlanOf 3000 lending ticks_only
+  plan-ticks = record { ticks = refl; offers = λ w l c. refl }
+
+  plan_not-rests : ¬ IsPlanOf 3000 lending rests
+  plan_not-rests p = grind (arith, p.ticks)
+
+  -- and with no loan always
+  plan-idle : IsPlanOf 1000 (moment root) ticks_only
+  plan-idle = record { ticks = refl; offers = λ w l c. refl }
+
+  plan_not-idle : ¬ IsPlanOf 1000 (moment root) rests
+  plan_not-idle p = grind (arith, p.ticks)
+
+  -- nothing is offered at a port without a connection
+  plan_not-loose : ¬ IsPlanOf 1000 (moment root) (record { ticks = true; offers = false ∷ true ∷ [] })
+  plan_not-loose p = grind (arith, p.offers 1 (omega arith) ((0, omega arith, refl)))
+
+  -- ---- turns
+
+  module _ (gave took : P → Option (List ℕ)) (counts : P → Counts) where
+    -- nothing came, the node ticked, and there was nobody to speak to
+    turn : Turns gave took counts quiet 1000 (moment root) (moment root_ticked)
+    turn = record {
+      heard = moment root;
+      acted = moment root_ticked;
+      plan = ticks_only;
+      listens = record {
+        wired = [];
+        heard = root;
+        wires = λ w. tt;
+        hears = record { takes = record { site = refl; deeds = []; kinds = All-nil IsTake; leads = refl }; pulls = λ w. tt };
+        serves = record { site = refl; deeds = []; kinds = All-nil IsOfClient; leads = refl };
+      };
+      acts = acts;
+      ports = refl;
+      plans = record { ticks = refl; offers = λ w l c. refl };
+      speaks = record { sends = []; kinds = All-nil _; leads = refl; neighbours = λ w l c. tt; others = λ w n. (refl, refl); rest = (refl, refl) };
+      leaves = record { site = refl; deeds = []; kinds = All-nil IsLeave; leads = refl };
+      account = Ticks ∷ [];
+      account_is = refl;
+      leads = refl;
+    }
+
+    -- what a turn leaves without its tick is no turn, whatever came and whoever asked
+    turn-distance : (says : Ticked) (now : ℕ) (old new : Moment P) → (site_in old.node).is_root ≡ true
+        → Turns gave took counts says now old new → new.node.distance ≡ 0
+    turn-distance says now old new is_root t =
+        let site : site_in t.heard.node ≡ site_in old.node = t.listens.serves.site ∙ t.listens.hears.takes.site in
+        leaves-keep t.acted.node new.node t.leaves ∙ leaves-keep t.acts.acted t.acted.node t.acts.leaves
+        ∙ ap (λ s. s.distance) t.acts.state ∙ grind (arith, common_steps, site, is_root)
+
+    turn_not-still : (says : Ticked) (now : ℕ) → ¬ Turns gave took counts says now (moment root) (moment root)
+    turn_not-still says now t = grind (arith, turn-distance says now (moment root) (moment root) refl t)
+
+    -- between two turns nothing need happen, and nothing ticks
+    attends : Attends gave took counts 2000 lending lending
+    attends = record {
+      heard = lending;
+      plan = rests;
+      listens = record {
+        wired = [];
+        heard = lending.node;
+        wires = λ w. tt;
+        hears = record { takes = record { site = refl; deeds = []; kinds = All-nil IsTake; leads = refl }; pulls = λ w. tt };
+        serves = record { site = refl; deeds = []; kinds = All-nil IsOfClient; leads = refl };
+      };
+      plans = record { ticks = refl; offers = λ w l c. refl };
+      speaks = record { sends = []; kinds = All-nil _; leads = refl; neighbours = λ w l c. tt; others = λ w n. (refl, refl); rest = (refl, refl) };
+      leaves = record { site = refl; deeds = []; kinds = All-nil IsLeave; leads = refl };
+      account = [];
+      account_is = refl;
+      leads = refl;
+    }
+
+    attends_not-ticked : (now : ℕ) → ¬ Attends gave took counts now (moment root) (moment root_ticked)
+    attends_not-ticked now t =
+        let none = attend-ticks gave took counts now (moment root) (moment root_ticked) t in
+        let same = distance-stays (site_in root) t.account (state_of root) (state_of root_ticked) none t.leads in grind (arith, same)
+
+-- ---- what clients are answered
+
+site : Site
+site = site_in root
+
+waiting : LocalState
+waiting = record (state_of root) { desk = record { waiting = 3 ∷ []; lent = None; left = 0; served = false } }
+
+-- who asks first waits for its answer; who waits already is told so, and who does not is a stranger
+answers-ask : answer_text site 3 Lock (state_of root) ≡ []
+answers-ask = refl
+
+answers-twice : answer_text site 3 Lock waiting ≡ codes "twice\n"
+unfolding waiting
+answers-twice = refl
+
+answers-released : answer_text site 3 Unlock waiting ≡ codes "released\n"
+unfolding waiting
+answers-released = refl
+
+answers-stranger : answer_text site 4 Unlock waiting ≡ codes "stranger\n"
+unfolding waiting
+answers-stranger = refl
+
+answers-unknown : answer_text site 3 Unknown waiting ≡ codes "unknown\n"
+answers-unknown = refl
+
+answers_not-granted : answer_text site 3 Lock (state_of root) ≢ codes "granted\n"
+answers_not-granted = grind arith
+
+lines-ask : (after_line 3 Lock (state_of root)).desk.waiting ≡ 3 ∷ []
+lines-ask = refl
+
+lines-leave : (after_line 3 Unlock waiting).desk.waiting ≡ []
+unfolding waiting
+lines-leave = refl
+
+lines_not-unknown : (after_line 3 Unknown waiting).desk.waiting ≢ []
+unfolding waiting
+lines_not-unknown = grind arith
+
+module _ {P A : Type 0} (old new : Clients P A) where
+  -- the client of a loan that ended is told, unless there is no room or it is closed
+  told_not-silent : answers_of old 3 ≡ [] → answers_of new 3 ≡ [] → is_connected new 3 ≡ true → ¬ IsTold (Lost 3) old new
+  told_not-silent before after there (inl told, others) = grind (arith, common_steps, before, after, told.0)
+  told_not-silent before after there (inr closed, others) = grind (arith, there, closed.1)
+
+  -- nor is it closed where there is room
+  told_not-closed : room_of old 3 ≡ 256 → is_connected old 3 ≡ true → is_connected new 3 ≡ false → ¬ IsTold (Granted 3) old new
+  told_not-closed room was closed (inl told, others) = grind (arith, was, closed, told.1)
+  told_not-closed room was closed (inr full, others) = grind (arith, room, full.0 (omega arith))
+
+  -- and no other client is told anything
+  told_not-other : answers_of old 4 ≡ [] → answers_of new 4 ≡ codes "lost\n" → ¬ IsTold (Lost 3) old new
+  told_not-other before after (_, others) = grind (arith, before, after, (others 4 (λ e. omega (arith, e))).0)
+
+gives : GivesWithin (read.Got 64) 64
+gives = omega arith
+
+gives_not-more : ¬ GivesWithin (read.Got 65) 64
+gives_not-more g = omega (arith, g)
+
+-- ---- who comes
+
+-- node 2 of three says who it is; node 3 is none of them
+arrives : IsArrival 3 (codes "H0002") (arrival.Is 2)
+arrives = (refl, omega arith)
+
+arrives_not-fourth : ¬ IsArrival 3 (codes "H0003") (arrival.Is 3)
+arrives_not-fourth a = omega (arith, a.1)
+
+arrives_not-another : ¬ IsArrival 3 (codes "H0002") (arrival.Is 1)
+arrives_not-another a = grind (arith, a.0)
+
+goes_not-known : ¬ IsArrival 3 (codes "H0002") arrival.Goes
+goes_not-known g = g 2 (omega arith) refl
+
+goes-unknown : IsArrival 1 (codes "h0000") arrival.Goes
+goes-unknown zero below e = grind (arith, e)
+goes-unknown (suc id) below e = omega (arith, below)
+
+module _ (P : Type 0) where
+  -- a door says that it failed only if its count of failures rose
+  fails : Opens {P = P} Failed 3 4
+  fails = (omega arith, inl (omega arith))
+
+  fails_not-nobody : ¬ Opens {P = P} Failed 3 3
+  fails_not-nobody o = grind (arith, o.1)
+
+  nobody : Opens {P = P} Nobody 3 3
+  nobody = omega arith
+
+  -- ---- ports
+
+  linked_not-absent : is_linked {P = P} None ≡ false
+  linked_not-absent = refl
+
+  linked : (p : P) (port : NodePort P) → port.link.pipe ≡ Some p → is_linked (Some port) ≡ true
+  linked p port pipe = grind (arith, common_steps, pipe)
+
+  -- a node that is no neighbour has no connection
+  loose : AreLoose {P = P} (0 ∷ []) []
+  loose w other = refl
+
+  loose_not-linked : (p : P) (port : NodePort P) → port.link.pipe ≡ Some p → ¬ AreLoose [] (port ∷ [])
+  loose_not-linked p port pipe are = grind (arith, common_steps, linked p port pipe, are 0 (λ c. omega (arith, c.1)))
+
+  -- a neighbour's port that is gone is not kept
+  kept_not-gone : (port : NodePort P) → ¬ AreKept (0 ∷ []) (port ∷ []) []
+  kept_not-gone port are = grind (arith, are 0 (0, omega arith, refl))
+
+  both_not-one : (R : NodePort P → NodePort P → Type 0) (port : NodePort P) → ¬ AtBoth R (Some port) None
+  both_not-one R port both = both
+
+  -- a frame is taken where there is a pipe, and no line is stuck
+  takes : (p : P) (port : NodePort P) → port.link.pipe ≡ Some p → port.is_stuck ≡ false → takes_frames (Some port) ≡ true
+  takes p port pipe free = grind (arith, common_steps, pipe, free)
+
+  takes_not-stuck : (port : NodePort P) → port.is_stuck ≡ true → takes_frames (Some port) ≡ false
+  takes_not-stuck port stuck = grind (arith, common_steps, stuck)
+
+left : is_left flow.Later ≡ true
+left = refl
+
+left_not-done : is_left flow.Done ≡ false
+left_not-done = refl
+
+-- only a frame that was accepted is sent
+sends-taken : sent_if true some_frame ≡ some_frame ∷ []
+sends-taken = refl
+
+sends_not-refused : sent_if false some_frame ≡ []
+sends_not-refused = refl
+
+looks : outlook_of (root_with (record { waiting = 4 ∷ []; lent = Some 3; left = 50; served = false })) false
+    ≡ record { waits = true; lends = true; has_lease = true; let_go = false }
+looks = refl
+
+looks-idle : outlook_of root true ≡ record { waits = false; lends = false; has_lease = true; let_go = true }
+looks-idle = refl

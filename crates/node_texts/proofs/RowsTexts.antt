@@ -1,0 +1,157 @@
+-- Small examples of names, lines and reports, and some that look like them and are none.
+use Rattle.std.proofs.Common.{◌≡◌, ◌≢◌, true, false, [], ◌∷◌, ◌++◌, Some, None, codes, decimal, refl, arith}
+use Rattle.std.proofs.lemmas.Fmt.{decimal_digit}
+use Rattle.node_core.specs.Site.{Site}
+use Rattle.node_core.specs.State.{default_node}
+use Rattle.node_state_file.specs.declared.fault.FileFault.TheVariants as read
+use Rattle.node_state_file.specs.declared.starting.StartFault.TheVariants.{File, Absent}
+use Rattle.node_texts.specs.declared.answers.NodeAnswer.{NodeAnswer}
+use Rattle.node_texts.specs.declared.lines.Note.TheVariants.{Started, Ready}
+use Rattle.node_texts.specs.declared.lines.End.TheVariants.{Status, Signal, Unknown, Unstarted}
+use Rattle.node_texts.specs.declared.status_line.StatusLine.{StatusLine}
+use Rattle.node_texts.specs.DeskFile.{desk_path}
+use Rattle.node_texts.specs.Names.{file_name, longest_socket_name}
+use Rattle.node_texts.specs.NodeStatus.{line_of}
+use Rattle.node_texts.specs.NoteText.{capacity_line, end_line, note_line}
+use Rattle.node_texts.specs.Report.{has_answered, report_text}
+use Rattle.node_texts.specs.StatusLaws.{IsSmall}
+use Rattle.node_texts.specs.StatusText.{line_status, short_line_status, status_text}
+
+zero-is : decimal 0 ≡ codes "0"
+zero-is = decimal_digit 0 (omega arith)
+
+one-is : decimal 1 ≡ codes "1"
+one-is = decimal_digit 1 (omega arith)
+
+two-is : decimal 2 ≡ codes "2"
+two-is = decimal_digit 2 (omega arith)
+
+nine-is : decimal 9 ≡ codes "9"
+nine-is = decimal_digit 9 (omega arith)
+
+-- ---- names
+
+-- the state file of node 2 in the folder `run`
+names : file_name (codes "run") (codes "state-") 2 (codes ".tkt") ≡ codes "run/state-2.tkt"
+names = rw two-is
+
+names-desk : desk_path (codes "run") 2 ≡ codes "run/desk-2.sock"
+names-desk = rw two-is
+
+-- of three nodes the last has the longest name
+names-longest : longest_socket_name (codes "run") 3 ≡ codes "run/node-2.sock"
+names-longest = rw two-is
+
+-- ---- what processes print
+
+tells-loaded : note_line None (Started None) ≡ codes "start loaded"
+tells-loaded = refl
+
+tells-default : note_line (Some 1) (Started (Some (File read.Magic))) ≡ codes "node 1 start default Magic"
+tells-default = rw one-is
+
+tells-absent : note_line None (Started (Some Absent)) ≡ codes "start default Absent"
+tells-absent = refl
+
+tells-ready : note_line (Some 1) Ready ≡ codes "node 1 ready"
+tells-ready = rw one-is
+
+tells_not-loaded : note_line None (Started (Some Absent)) ≢ codes "start loaded"
+tells_not-loaded = grind arith
+
+ends-status : end_line 1 (Status 2) ≡ codes "node 1 ended with status 2, and is started again"
+ends-status = rw (one-is, two-is)
+
+ends-signal : end_line 1 (Signal 9) ≡ codes "node 1 was ended by signal 9, and is started again"
+ends-signal = rw (one-is, nine-is)
+
+ends-unstarted : end_line 1 Unstarted ≡ codes "node 1 cannot be started; it is tried again"
+ends-unstarted = rw one-is
+
+ends-unknown : end_line 1 Unknown ≡ codes "node 1 ended, and is started again"
+ends-unknown = rw one-is
+
+warns-capacity : capacity_line 2 ≡ codes "tokentree: capacity 2 is less than the " ++ (decimal 64
+    ++ (codes " frames that may be under way on a link; give the network capacity " ++ (decimal 64 ++ codes " or more")))
+warns-capacity = rw two-is
+
+-- ---- status lines
+
+-- node 1, which lends to ticket 9 while two wait
+abbrev lending : StatusLine
+lending = record { node = 1; distance = 1; parent = Some 0; token = true; lent = Some 9; waiting = 2 }
+
+abbrev idle : StatusLine
+idle = record { node = 0; distance = 0; parent = None; token = false; lent = None; waiting = 0 }
+
+spells-lending : status_text lending ≡ codes "node 1 distance 1 parent 0 token yes lent 9 waiting 2"
+spells-lending = rw (zero-is, one-is, two-is, nine-is)
+
+spells-idle : status_text idle ≡ codes "node 0 distance 0 parent none token no lent none waiting 0"
+spells-idle = rw zero-is
+
+-- a line is read byte for byte
+reads-lending : line_status (codes "node 1 distance 1 parent 0 token yes lent 9 waiting 2") ≡ Some lending
+reads-lending = refl
+
+reads_not-capital : line_status (codes "node 1 distance 1 parent 0 token Yes lent 9 waiting 2") ≡ None
+reads_not-capital = refl
+
+reads_not-space : line_status (codes "node 1  distance 1 parent 0 token yes lent 9 waiting 2") ≡ None
+reads_not-space = refl
+
+reads_not-zeros : line_status (codes "node 01 distance 1 parent 0 token yes lent 9 waiting 2") ≡ None
+reads_not-zeros = refl
+
+reads_not-more : line_status (codes "node 1 distance 1 parent 0 token yes lent 9 waiting 2 ") ≡ None
+reads_not-more = refl
+
+reads_not-half : line_status (codes "node 1 distance 1 parent 0 token yes lent 9") ≡ None
+reads_not-half = refl
+
+reads_not-great : line_status (codes "node 65536 distance 1 parent 0 token yes lent 9 waiting 2") ≡ None
+reads_not-great = refl
+
+-- the longest line; one of more than 96 bytes is not looked into
+reads-longest : short_line_status (codes "node 65535 distance 65535 parent 65535 token yes lent 65535 waiting 65535")
+    ≡ Some (record { node = 65535; distance = 65535; parent = Some 65535; token = true; lent = Some 65535; waiting = 65535 })
+reads-longest = refl
+
+small : IsSmall lending
+small = record { node = omega arith; distance = omega arith; parent = omega arith; lent = omega arith; waiting = omega arith }
+
+small_not-node : ¬ IsSmall (record lending { node = 65536 })
+small_not-node s = omega (arith, s.node)
+
+-- what the root of two nodes says of itself as it starts
+abbrev root : Site
+root = record { id = 0; is_root = true; ranges = record { nodes = 2; counter = 5; ring = 7 }; lease = 0; neighbours = 1 ∷ [] }
+
+line-root : line_of root (default_node root.ranges) ≡ record { node = 0; distance = 2; parent = None; token = false; lent = None; waiting = 0 }
+line-root = refl
+
+-- ---- the report
+
+abbrev answered : NodeAnswer
+answered = record { node = 1; line = Some lending }
+
+abbrev silent : NodeAnswer
+silent = record { node = 2; line = None }
+
+-- a node that lends and one that gave no answer
+reports : report_text (answered ∷ silent ∷ [])
+    ≡ codes "node 1 distance 1 parent 0 token yes lent 9 waiting 2\nnode 2 no answer\nprivileged 1 lending 1\n"
+reports = rw (zero-is, one-is, two-is, nine-is)
+
+-- one that gave no answer is not counted
+reports-silent : report_text (silent ∷ []) ≡ codes "node 2 no answer\nprivileged 0 lending 0\n"
+reports-silent = rw (zero-is, two-is)
+
+reports-idle : report_text (record { node = 0; line = Some idle } ∷ []) ≡ codes "node 0 distance 0 parent none token no lent none waiting 0\nprivileged 0 lending 0\n"
+reports-idle = rw zero-is
+
+has : has_answered answered ≡ true
+has = refl
+
+has_not-silent : has_answered silent ≡ false
+has_not-silent = refl

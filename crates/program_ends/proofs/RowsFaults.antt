@@ -1,0 +1,20 @@
+-- Small examples of the line by which the program ends, and some that look like it and are none.
+use Rattle.std.proofs.Common.{◌≡◌, ◌≢◌, codes, refl, arith}
+use Rattle.command_parts.specs.declared.fault.Fault.TheVariants.{EventsLong, Memory, NoNode, Output}
+use Rattle.command_parts.specs.declared.path_fault.PathFault.TheVariants.{Fault}
+use Rattle.program_ends.specs.FaultLine.{fault_line, path_fault_line}
+
+ends-node : fault_line NoNode ≡ codes "tokentree: id NoNode"
+ends-node = refl
+
+ends-long : fault_line EventsLong ≡ codes "tokentree: events Long"
+ends-long = refl
+
+ends_not-unnamed : fault_line Memory ≢ codes "memory Refused"
+ends_not-unnamed = grind arith
+
+ends-path : path_fault_line (Fault Output) ≡ codes "tokentree: output Refused"
+ends-path = refl
+
+ends_not-path : path_fault_line (Fault Output) ≢ codes "tokentree: cannot write output"
+ends_not-path = grind arith

@@ -1,0 +1,147 @@
+-- Small examples of the texts of `bound` and `measure`, and of files that are cut, and some that
+-- look like them and are none.
+use Rattle.std.proofs.Common.{◌≡◌, ◌≢◌, ℕ, ◌++◌, true, false, IsTrue, [], ◌∷◌, Some, None, codes, decimal, refl, arith}
+use Rattle.std.proofs.lemmas.Fmt.{decimal_digit}
+use Rattle.std.proofs.lemmas.List.Elements.{All-head, All-tail}
+use Rattle.rand_pcg.specs.Lcg.{Lcg}
+use Rattle.topology.specs.Network.{Network}
+use Rattle.experiments.specs.declared.measured_run.Recovery.{Recovery}
+use Rattle.experiments.specs.declared.measured_run.Scheduler.TheVariants as scheduler
+use Rattle.experiments.specs.declared.plan.Order.TheVariants as order
+use Rattle.experiments.specs.declared.plan.PlanFault.TheVariants as plan
+use Rattle.command_parts.specs.declared.fault.Fault.TheVariants as fault
+use Rattle.subcommands.specs.declared.schedule.Turns.TheVariants as turns
+use Rattle.subcommands.specs.declared.measure.Plan.{Plan}
+use Rattle.subcommands.specs.Bound.{bound_text, nodes_line, parent_word, shown_text}
+use Rattle.subcommands.specs.Cut.{IsCutTo}
+use Rattle.subcommands.specs.Damaged.{junk_text}
+use Rattle.subcommands.specs.Measured.{AreRunsOf, has_served, HaveServed, run_line, run_lines, served_sweeps, summary_line}
+use Rattle.subcommands.specs.PlanFault.{fault_of}
+use Rattle.subcommands.specs.Turns.{order_of}
+
+abbrev two_nodes : Network
+two_nodes = record { nodes = 2; root = 0; capacity = 1; lease = 0; edges = (0, 1) ∷ [] }
+
+zero-is : decimal 0 ≡ codes "0"
+zero-is = decimal_digit 0 (omega arith)
+
+one-is : decimal 1 ≡ codes "1"
+one-is = decimal_digit 1 (omega arith)
+
+two-is : decimal 2 ≡ codes "2"
+two-is = decimal_digit 2 (omega arith)
+
+four-is : decimal 4 ≡ codes "4"
+four-is = decimal_digit 4 (omega arith)
+
+five-is : decimal 5 ≡ codes "5"
+five-is = decimal_digit 5 (omega arith)
+
+seven-is : decimal 7 ≡ codes "7"
+seven-is = decimal_digit 7 (omega arith)
+
+eight-is : decimal 8 ≡ codes "8"
+eight-is = decimal_digit 8 (omega arith)
+
+-- ---- `bound`
+
+-- of two nodes: the counter's modulus is 2 * 1 + 3, the ring's 6 * (2 - 1) + 1, the bound 69
+prints-bound : bound_text two_nodes
+    ≡ codes "nodes 2\nedges 1\ncapacity 1\ncounter 5\nring 7\ndistances 0 1\nparents none 0\nsweeps " ++ (decimal 69 ++ codes "\n")
+prints-bound = rw (zero-is, one-is, two-is, five-is, seven-is)
+
+-- the sharper bound has a line of its own, where it is asked for
+prints-sharp : shown_text two_nodes true
+    ≡ bound_text two_nodes ++ (codes "sharp " ++ (decimal 35 ++ codes "\n"))
+prints-sharp = refl
+
+prints_not-sharp : shown_text two_nodes false ≡ bound_text two_nodes
+prints_not-sharp = refl
+
+parent_not-none : parent_word (Some 0) ≢ codes "none"
+parent_not-none e = grind (arith, zero-is, e)
+
+prints-nodes : nodes_line (codes "parents") 2 (λ v. decimal v) ≡ codes "parents 0 1\n"
+prints-nodes = rw (zero-is, one-is)
+
+-- ---- `measure`
+
+abbrev recovery : ℕ → ℕ → ℕ → Recovery
+recovery seed sweeps seen = record { seed = seed; sweeps = sweeps; seen = seen }
+
+-- a run of eight sweeps served after five; one that had seven is none that has served by eight
+served : has_served (recovery 4 5 8) 8 ≡ true
+served = refl
+
+served_not-short : has_served (recovery 4 5 7) 8 ≡ false
+served_not-short = refl
+
+served_not-late : has_served (recovery 4 9 9) 8 ≡ false
+served_not-late = refl
+
+prints-run : run_line 8 (recovery 4 5 8) ≡ codes "seed 4 sweeps 5\n"
+prints-run = rw (four-is, five-is)
+
+prints-unserved : run_line 8 (recovery 4 5 7) ≡ codes "seed 4 sweeps none\n"
+prints-unserved = rw four-is
+
+-- in a table each run has its line; without one those alone that have not served
+prints-table : run_lines 8 true (recovery 4 5 8 ∷ recovery 5 2 7 ∷ []) ≡ codes "seed 4 sweeps 5\nseed 5 sweeps none\n"
+prints-table = rw (four-is, five-is)
+
+prints-unserved_alone : run_lines 8 false (recovery 4 5 8 ∷ recovery 5 2 7 ∷ []) ≡ codes "seed 5 sweeps none\n"
+prints-unserved_alone = rw five-is
+
+sums-served : served_sweeps (recovery 4 5 8 ∷ recovery 5 2 7 ∷ recovery 6 1 8 ∷ []) 8 ≡ 5 ∷ 1 ∷ []
+sums-served = refl
+
+prints-summary : summary_line (Some (record { least = 1; median = 2; most = 8 })) ≡ codes "sweeps least 1 median 2 most 8\n"
+prints-summary = rw (one-is, two-is, eight-is)
+
+prints-no_summary : summary_line None ≡ codes "sweeps least none median none most none\n"
+prints-no_summary = refl
+
+all-served : HaveServed (recovery 4 5 8 ∷ []) 8
+all-served = search arith
+
+all_not-served : ¬ HaveServed (recovery 4 5 8 ∷ recovery 5 2 7 ∷ []) 8
+all_not-served h =
+    let P : Recovery → Type 0 = λ r. IsTrue (has_served r 8) in
+    grind (arith, All-head P (recovery 5 2 7) [] (All-tail P (recovery 4 5 8) (recovery 5 2 7 ∷ []) h))
+
+-- a plan of two runs is not met by one, nor by runs of other seeds
+abbrev two_runs : Plan
+two_runs = record { runs = 2; seed = 4; scheduler = scheduler.Rounds; table = false; progress = false }
+
+runs_not-one : (r : Recovery) → ¬ AreRunsOf two_nodes two_runs (r ∷ [])
+runs_not-one r are = grind (arith, are.all)
+
+runs_not-same : (r : Recovery) → ¬ AreRunsOf two_nodes two_runs (r ∷ r ∷ [])
+runs_not-same r are = omega (arith, are.each.0.seed_is, are.each.1.0.seed_is)
+
+-- ---- schedules and files
+
+orders-rounds : order_of (turns.Rounds 3) ≡ order.Rounds 3
+orders-rounds = refl
+
+told-memory : fault_of plan.Memory ≡ fault.Memory
+told-memory = refl
+
+told_not-sink : fault_of plan.Sink ≢ fault.Memory
+told_not-sink = grind arith
+
+-- a file of four bytes is cut to two, and not to four
+cuts : IsCutTo (Some 2) (codes "abcd") (codes "ab")
+cuts = (refl, omega arith)
+
+cuts_not-whole : ¬ IsCutTo (Some 4) (codes "abcd") (codes "abcd")
+cuts_not-whole cut = omega (arith, cut.1)
+
+cuts-none : IsCutTo None (codes "abcd") (codes "abcd")
+cuts-none = refl
+
+cuts_not-none : ¬ IsCutTo None (codes "abcd") (codes "ab")
+cuts_not-none cut = grind (arith, cut)
+
+junk-none : (g : Lcg) → junk_text 0 g ≡ []
+junk-none g = refl

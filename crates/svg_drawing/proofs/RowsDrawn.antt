@@ -1,0 +1,121 @@
+-- Small examples of colours, lengths, elements and their text, and some that look like them and are
+-- none.
+use Rattle.std.proofs.Common.{◌≡◌, ◌≢◌, ℕ, List, [], ◌∷◌, codes, decimal, refl, arith}
+use Rattle.std.proofs.lemmas.Fmt.{decimal_digit}
+use Rattle.std.proofs.lemmas.Grind.{common_steps}
+use Rattle.svg_drawing.specs.declared.colours.Colour.TheVariants.{Pale, Red, Ink}
+use Rattle.svg_drawing.specs.declared.canvas.Anchor.TheVariants.{Start, Middle, End}
+use Rattle.svg_drawing.specs.Colours.{colour_code}
+use Rattle.svg_drawing.specs.Drawn.{anchor_code, circle_shown, form_shown, heading_shown, line_shown, note_shown, numbered, path_shown, rect_shown, whole}
+use Rattle.svg_drawing.specs.Drawn.{with_given, with_text, words_shown}
+use Rattle.svg_drawing.specs.Lengths.{px}
+use Rattle.svg_drawing.specs.Spelling.{end_tag, escaped, start_tag}
+use Rattle.svg_drawing.specs.Xml.{IsContent}
+use Rattle.svg_drawing.specs.Xml.IsContent.{Nothing, Text, Element}
+
+-- ---- colours and lengths
+
+red : colour_code Red ≡ codes "#a3142e"
+red = refl
+
+red_not-pale : colour_code Red ≢ colour_code Pale
+red_not-pale = grind arith
+
+-- a length that 32 bits do not hold is the greatest that they hold
+longest : px 4294967296 ≡ 4294967295
+longest = refl
+
+longest_not-cut : px 4294967295 ≢ 4294967294
+longest_not-cut = grind arith
+
+-- ---- elements
+
+rect : rect_shown 1 2 3 4 Red ≡ record {
+  name = codes "rect";
+  attributes = record { name = codes "x"; value = decimal 1 } ∷ record { name = codes "y"; value = decimal 2 } ∷ record { name = codes "width"; value = decimal 3 }
+      ∷ record { name = codes "height"; value = decimal 4 } ∷ record { name = codes "fill"; value = codes "#a3142e" } ∷ [];
+  text = [];
+}
+rect = refl
+
+circle : circle_shown 1 2 3 Pale ≡ record {
+  name = codes "circle";
+  attributes = record { name = codes "cx"; value = decimal 1 } ∷ record { name = codes "cy"; value = decimal 2 } ∷ record { name = codes "r"; value = decimal 3 }
+      ∷ record { name = codes "fill"; value = codes "#e6edf2" } ∷ [];
+  text = [];
+}
+circle = refl
+
+-- a line goes from its first place to its second
+line : line_shown 1 2 3 4 (whole Ink 5) ≡ path_shown (codes "M1 2L3 4") (whole Ink 5)
+line = rw (decimal_digit 1 (omega arith), decimal_digit 2 (omega arith), decimal_digit 3 (omega arith), decimal_digit 4 (omega arith))
+
+-- a path has no filling, and a form no line
+path : path_shown (codes "M1 2H3") (whole Ink 5) ≡ record {
+  name = codes "path";
+  attributes = record { name = codes "d"; value = codes "M1 2H3" } ∷ record { name = codes "fill"; value = codes "none" } ∷ record { name = codes "stroke"; value = codes "#22262a" }
+      ∷ record { name = codes "stroke-width"; value = decimal 5 } ∷ record { name = codes "stroke-dasharray"; value = codes "none" } ∷ [];
+  text = [];
+}
+path = refl
+
+path_not-form : path_shown (codes "M1 2H3") (whole Ink 5) ≢ form_shown (codes "M1 2H3") Ink
+path_not-form = grind arith
+
+anchor_not-turned : anchor_code Start ≢ anchor_code End
+anchor_not-turned = grind arith
+
+words : words_shown 1 2 Middle Ink (codes "node 0") ≡ record {
+  name = codes "text";
+  attributes = record { name = codes "x"; value = decimal 1 } ∷ record { name = codes "y"; value = decimal 2 } ∷ record { name = codes "text-anchor"; value = codes "middle" }
+      ∷ record { name = codes "fill"; value = codes "#22262a" } ∷ [];
+  text = codes "node 0";
+}
+words = refl
+
+heading : heading_shown 1 2 (codes "A run") ≡ record {
+  name = codes "text";
+  attributes = record { name = codes "x"; value = decimal 1 } ∷ record { name = codes "y"; value = decimal 2 } ∷ record { name = codes "font-size"; value = codes "16" }
+      ∷ record { name = codes "font-weight"; value = codes "bold" } ∷ [];
+  text = codes "A run";
+}
+heading = refl
+
+-- attributes and texts stand in the order in which they were given
+given : with_given (with_given (note_shown (codes "title") []) (numbered (codes "x") 1)) (numbered (codes "y") 2)
+    ≡ record { name = codes "title"; attributes = numbered (codes "x") 1 ∷ numbered (codes "y") 2 ∷ []; text = [] }
+given = refl
+
+text : with_text (note_shown (codes "title") (codes "A ")) (codes "run") ≡ note_shown (codes "title") (codes "A run")
+text = refl
+
+text_not-turned : with_text (note_shown (codes "title") (codes "A ")) (codes "run") ≢ note_shown (codes "title") (codes "runA ")
+text_not-turned = grind arith
+
+-- ---- their text
+
+-- the four bytes that mean something in XML are escaped, and no other
+escapes : escaped (codes "a<b> & \"c\" 'd'") ≡ codes "a&lt;b&gt; &amp; &quot;c&quot; 'd'"
+escapes = refl
+
+escapes_not-quote : escaped (codes "\"") ≢ codes "\""
+escapes_not-quote = grind arith
+
+starts : start_tag (codes "svg") [] ≡ codes "<svg>"
+starts = refl
+
+ends : end_tag (codes "svg") ≡ codes "</svg>"
+ends = refl
+
+-- an element inside another, with a text
+nests : IsContent (codes "<g><title>1 &lt; 2</title></g>\n")
+nests = Element (codes "g") [] (Element (codes "title") [] (Text (codes "1 < 2") Nothing) Nothing) (Text (codes "\n") Nothing)
+
+-- and a start tag that is not closed is no content
+no_tag : {written : List ℕ} → IsContent written → written ≢ codes "<"
+no_tag Nothing e = grind (arith, e)
+no_tag (Text [] rest) e = no_tag rest e
+no_tag (Text (byte ∷ more) rest) e = grind (arith, common_steps, e)
+no_tag (Element [] [] inside rest) e = grind (arith, e)
+no_tag (Element [] (given ∷ others) inside rest) e = grind (arith, e)
+no_tag (Element (byte ∷ name) attributes inside rest) e = grind (arith, e)
