@@ -1,4 +1,10 @@
 //! `draw FILE EVENTS`: a picture of the run that a list of events makes on a network.
+ghost use Rattle.std.specs.Prelude.{◌≡◌, ◌⊎◌, ℕ, List, Some, IfOk, IfErr, OnOk};
+ghost use Rattle.std.specs.Io.KnownBytes.{Appends};
+ghost use Rattle.std.specs.Process.{exit_status};
+ghost use Rattle.live_commands.specs.Pictures.{IsPictureText, IsPictureWritten};
+ghost use Rattle.command_parts.specs.declared.fault.Fault.TheVariants.{Output};
+
 use command_parts::{Fault, ReadSource, STANDARD_INPUT, events_status, read_network};
 use run_picture::{Recording, Window, draw, record, spelled};
 use std::alloc::{AllocError, Global};
@@ -36,7 +42,9 @@ pub fn run<R: Files + Input + Print + AllocGlobal>(
     network: &str,
     events: &str,
     wanted: Wanted,
-) -> Result<ExitCode, Fault> {
+) -> Result<ExitCode, Fault>
+    ensures { IfOk result (λ status. (exit_status status ≡ 0) ⊎ (exit_status status ≡ 3)) }
+{
     let net = read_network(rt, network)?;
     if events == STANDARD_INPUT {
         let mut source = ReadSource::new(rt.reader());
@@ -58,7 +66,14 @@ pub fn write_picture<S: Source, W: Write>(
     source: &mut S,
     output: &mut W,
     wanted: Wanted,
-) -> Result<ExitCode, Fault> {
+) -> Result<ExitCode, Fault>
+    // If both ends tell their bytes, the picture is that of a recording of the events.
+    ensures picture { (bytes : List ℕ) → S.rest source.old ≡ Some bytes
+        → IfOk result (IsPictureWritten net.now bytes wanted.window (W.contents output.old)
+        (W.contents output.new)) }
+    ensures status { IfOk result
+        (λ status. (exit_status status ≡ 0) ⊎ (exit_status status ≡ 3)) }
+{
     let columns = usize::from(wanted.columns.max(1));
     let recording = record(alloc, net, source, columns, wanted.window)?;
     match picture(alloc, net, &recording) {
@@ -68,13 +83,19 @@ pub fn write_picture<S: Source, W: Write>(
 }
 
 /// The picture of a recording, as a text.
-fn picture(alloc: Global, net: &Net, recording: &Recording) -> Result<Vec<u8>, AllocError> {
+fn picture(alloc: Global, net: &Net, recording: &Recording) -> Result<Vec<u8>, AllocError>
+    ensures { IfOk result (λ text. IsPictureText net.now recording.now text.items) }
+{
     let drawing = draw(alloc, net, recording)?;
     spelled(alloc, &drawing)
 }
 
 /// Writes a text whole, and answers this status then.
-fn put<W: Write>(output: &mut W, text: &[u8], status: ExitCode) -> Result<ExitCode, Fault> {
+fn put<W: Write>(output: &mut W, text: &[u8], status: ExitCode) -> Result<ExitCode, Fault>
+    ensures text { OnOk result (Appends (W.contents output.old) (W.contents output.new) text.now) }
+    ensures ok { IfOk result (λ given. given ≡ status) }
+    ensures err { IfErr result (λ fault. fault ≡ Output) }
+{
     match output.write_all(text) {
         Ok(()) => Ok(status),
         Err(_) => Err(Fault::Output),

@@ -24,7 +24,9 @@ pub fn run<R: Files + Print + AllocGlobal>(
     rt: &R,
     path: &str,
     sharp: bool,
-) -> Result<ExitCode, Fault> {
+) -> Result<ExitCode, Fault>
+    ensures { IfOk result (λ status. exit_status status ≡ 0) }
+{
     let net = read_network(rt, path)?;
     let text = shown_text(rt.alloc(), &net, sharp).map_err(|_| Fault::Memory)?;
     done(rt.print(text.as_str()))
