@@ -1,2 +1,1 @@
-pub mod Pictures
 pub mod Threads

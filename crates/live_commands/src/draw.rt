@@ -1,8 +1,6 @@
 //! `draw FILE EVENTS`: a picture of the run that a list of events makes on a network.
-ghost use Rattle.std.specs.Prelude.{◌≡◌, ◌⊎◌, ℕ, List, Some, IfOk, IfErr, OnOk};
+ghost use Rattle.std.specs.Prelude.{◌≡◌, IfOk, IfErr, OnOk};
 ghost use Rattle.std.specs.Io.KnownBytes.{Appends};
-ghost use Rattle.std.specs.Process.{exit_status};
-ghost use Rattle.live_commands.specs.Pictures.{IsPictureText, IsPictureWritten};
 ghost use Rattle.command_parts.specs.declared.fault.Fault.TheVariants.{Output};
 
 use command_parts::{Fault, ReadSource, STANDARD_INPUT, events_status, read_network};
@@ -42,9 +40,7 @@ pub fn run<R: Files + Input + Print + AllocGlobal>(
     network: &str,
     events: &str,
     wanted: Wanted,
-) -> Result<ExitCode, Fault>
-    ensures { IfOk result (λ status. (exit_status status ≡ 0) ⊎ (exit_status status ≡ 3)) }
-{
+) -> Result<ExitCode, Fault> {
     let net = read_network(rt, network)?;
     if events == STANDARD_INPUT {
         let mut source = ReadSource::new(rt.reader());
@@ -66,14 +62,7 @@ pub fn write_picture<S: Source, W: Write>(
     source: &mut S,
     output: &mut W,
     wanted: Wanted,
-) -> Result<ExitCode, Fault>
-    // If both ends tell their bytes, the picture is that of a recording of the events.
-    ensures picture { (bytes : List ℕ) → S.rest source.old ≡ Some bytes
-        → IfOk result (IsPictureWritten net.now bytes wanted.window (W.contents output.old)
-        (W.contents output.new)) }
-    ensures status { IfOk result
-        (λ status. (exit_status status ≡ 0) ⊎ (exit_status status ≡ 3)) }
-{
+) -> Result<ExitCode, Fault> {
     let columns = usize::from(wanted.columns.max(1));
     let recording = record(alloc, net, source, columns, wanted.window)?;
     match picture(alloc, net, &recording) {
@@ -83,9 +72,7 @@ pub fn write_picture<S: Source, W: Write>(
 }
 
 /// The picture of a recording, as a text.
-fn picture(alloc: Global, net: &Net, recording: &Recording) -> Result<Vec<u8>, AllocError>
-    ensures { IfOk result (λ text. IsPictureText net.now recording.now text.items) }
-{
+fn picture(alloc: Global, net: &Net, recording: &Recording) -> Result<Vec<u8>, AllocError> {
     let drawing = draw(alloc, net, recording)?;
     spelled(alloc, &drawing)
 }

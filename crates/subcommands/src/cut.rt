@@ -17,7 +17,7 @@ use std::{fs, io};
 /// Where the file cannot be written, is not there, or is no plain file.
 pub fn run<'a, R: Files>(rt: &R, path: &'a str, most: u32) -> Result<ExitCode, PathFault<'a>>
     ensures ok { IfOk result (λ status. exit_status status ≡ 0) }
-    ensures err { IfErr result (λ fault. fault ≡ Unwritable path) }
+    ensures err { IfErr result (λ fault. fault ≡ Unwritable path.entry) }
 {
     match shorten(rt, path, u64::from(most)) {
         Ok(()) => Ok(ExitCode::SUCCESS),
