@@ -1,5 +1,5 @@
 //! The command lines of `tokentree`: what each command takes, its help, and what is done with its
-//! words.
+//! words. Each command is a file here.
 //!
 //! ```
 //! let status = run_words(rt, &["tokentree", "bound", "two-nodes.toml"], false); // prints, status 0
@@ -13,17 +13,22 @@
 //! command lines.
 #![tactic(auto)]
 
+mod bound;
 mod commands;
-mod damage;
-mod damage_help;
-mod draw_words;
-mod experiment_words;
-mod grammar;
-mod help;
-mod locking;
-mod locking_help;
-mod node_commands;
-mod threads_words;
-mod words;
+mod cut;
+mod draw;
+mod junk;
+mod lock;
+mod measure;
+mod node;
+mod node_words;
+mod program;
+mod refusal;
+mod schedule;
+mod scramble;
+mod simulate;
+mod status;
+mod threads;
+mod up;
 
 pub use commands::run_words;

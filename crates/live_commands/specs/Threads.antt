@@ -1,5 +1,5 @@
 -- What the command `threads` does: all turns of all nodes, and the text of what they lead to.
-use Rattle.std.specs.Prelude.{ℕ, List, Option}
+use Rattle.std.specs.Prelude.{◌≡◌, ◌⊎◌, ℕ, List, Option}
 use Rattle.byte_streams.specs.Streams.{Takes}
 use Rattle.topology.specs.Network.{Network}
 use Rattle.run_model.specs.World.{World}
@@ -10,6 +10,10 @@ use Rattle.configuration.specs.ConfigurationView.{world_of}
 use Rattle.judge.specs.Judging.{counted_up_to}
 use Rattle.world.specs.StateText.{state_text}
 use Rattle.thread_net.specs.declared.run.Woven.{Woven}
+use Rattle.thread_net.specs.declared.run.RunFault.{RunFault}
+use Rattle.thread_net.specs.declared.run.RunFault.TheVariants.{Memory as MemoryRefused, Spawn}
+use Rattle.command_parts.specs.declared.fault.Fault.{Fault}
+use Rattle.command_parts.specs.declared.fault.Fault.TheVariants.{Memory, Threads, Output, EventsUnwritable}
 use Rattle.thread_net.specs.ThreadRun.{IsThreadRun}
 
 -- each node did `turns` turns, from the network's nodes as they start and empty links on
@@ -21,3 +25,12 @@ pub record IsStateWritten (start : World) (events : List Event) (last : World) (
   pub count : ℕ
   pub counted : IsSweepCount start events count
   pub text : Takes (state_text last (counted_up_to count)) before after
+
+-- as which fault of the program it is told that nodes cannot run on threads
+abbrev pub refused : RunFault → Fault
+refused (MemoryRefused _) = Memory
+refused (Spawn _) = Threads
+
+-- what they did, or what it led to, is not written: memory ran out, or its file or standard output does not take it
+abbrev pub IsUnwritten : Fault → Type 0
+IsUnwritten fault = (fault ≡ Memory) ⊎ ((fault ≡ EventsUnwritable) ⊎ (fault ≡ Output))

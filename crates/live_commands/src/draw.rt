@@ -1,4 +1,8 @@
 //! `draw FILE EVENTS`: a picture of the run that a list of events makes on a network.
+ghost use Rattle.std.specs.Prelude.{◌≡◌, IfOk, IfErr, OnOk};
+ghost use Rattle.std.specs.Io.KnownBytes.{Appends};
+ghost use Rattle.command_parts.specs.declared.fault.Fault.TheVariants.{Output};
+
 use command_parts::{Fault, ReadSource, STANDARD_INPUT, events_status, read_network};
 use run_picture::{Recording, Window, draw, record, spelled};
 use std::alloc::{AllocError, Global};
@@ -74,7 +78,11 @@ fn picture(alloc: Global, net: &Net, recording: &Recording) -> Result<Vec<u8>, A
 }
 
 /// Writes a text whole, and answers this status then.
-fn put<W: Write>(output: &mut W, text: &[u8], status: ExitCode) -> Result<ExitCode, Fault> {
+fn put<W: Write>(output: &mut W, text: &[u8], status: ExitCode) -> Result<ExitCode, Fault>
+    ensures text { OnOk result (Appends (W.contents output.old) (W.contents output.new) text.now) }
+    ensures ok { IfOk result (λ given. given ≡ status) }
+    ensures err { IfErr result (λ fault. fault ≡ Output) }
+{
     match output.write_all(text) {
         Ok(()) => Ok(status),
         Err(_) => Err(Fault::Output),

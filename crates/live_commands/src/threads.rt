@@ -6,7 +6,8 @@ ghost use Rattle.byte_streams.specs.Streams.{CountsFailures, Rose};
 ghost use Rattle.run_model.specs.Start.{default_world};
 ghost use Rattle.configuration.specs.ConfigurationView.{world_of};
 ghost use Rattle.command_parts.specs.EventText.{GrowsByText};
-ghost use Rattle.live_commands.specs.Threads.{AllRan, IsStateWritten};
+ghost use Rattle.live_commands.specs.Threads.{AllRan, IsStateWritten, IsUnwritten, refused};
+ghost use Rattle.std.specs.Process.{exit_status};
 ghost use Rattle.command_parts.specs.declared.fault.Fault.TheVariants.{EventsUnwritable, Memory};
 ghost use Rattle.command_parts.specs.declared.fault.Fault.TheVariants.{Output};
 
@@ -44,7 +45,9 @@ pub fn run<R: Files + Clock + Print + Eprint + Threads + Wait + Sync + AllocGlob
     turns: u32,
     events: Option<&str>,
     tells: bool,
-) -> Result<ExitCode, Fault> {
+) -> Result<ExitCode, Fault>
+    ensures { IfOk result (λ status. exit_status status ≡ 0) }
+{
     let net = read_network(rt, network)?;
     let start = new_world(rt.alloc(), &net)?;
     let woven = run_watched(rt, &net, turns, tells)?;
@@ -57,7 +60,9 @@ fn run_watched<R: Clock + Eprint + Threads + Wait + Sync + AllocGlobal>(
     net: &Net,
     turns: u32,
     tells: bool,
-) -> Result<Woven, Fault> {
+) -> Result<Woven, Fault>
+    ensures { IfOk result (AllRan turns net.now) }
+{
     let watch = Watch::start(rt, turns, tells);
     let ran = run_nodes(rt, rt.alloc(), net, turns, &watch);
     watch.end();
@@ -71,7 +76,10 @@ fn show<R: Files + Print + AllocGlobal>(
     start: World,
     woven: &Woven,
     events: Option<&str>,
-) -> Result<ExitCode, Fault> {
+) -> Result<ExitCode, Fault>
+    ensures ok { IfOk result (λ status. exit_status status ≡ 0) }
+    ensures err { IfErr result IsUnwritten }
+{
     if let Some(path) = events {
         write_file(rt, path, woven.events.as_slice())?;
     }
@@ -108,7 +116,9 @@ fn run_nodes<R: Threads + Wait + Sync, G: Gate>(
 }
 
 /// What was refused.
-fn refused(fault: &RunFault) -> Fault {
+fn refused(fault: &RunFault) -> Fault
+    ensures { result ≡ refused fault.now }
+{
     match fault {
         RunFault::Memory(_) => Fault::Memory,
         RunFault::Spawn(_) => Fault::Threads,
@@ -118,7 +128,9 @@ fn refused(fault: &RunFault) -> Fault {
 /// Writes the events text of what nodes did to a file, line by line.
 ///
 /// What is unproved: that the text stands in the file, which tells nothing of its bytes.
-fn write_file<R: Files + AllocGlobal>(rt: &R, path: &str, events: &[Event]) -> Result<(), Fault> {
+fn write_file<R: Files + AllocGlobal>(rt: &R, path: &str, events: &[Event]) -> Result<(), Fault>
+    ensures { IfErr result IsUnwritten }
+{
     let file = fs::create(rt, path).map_err(|_| Fault::EventsUnwritable)?;
     let Ok(writer) = BufWriter::new(rt.alloc(), file) else {
         return Err(Fault::Memory);
@@ -162,7 +174,9 @@ fn give_events<S: EventSink>(events: &[Event], sink: &mut S) -> Result<(), Faile
 /// Prints the state to which nodes have led a start.
 ///
 /// What is unproved: that the text stands in standard output, which tells nothing of its bytes.
-fn print_state<R: Print + AllocGlobal>(rt: &R, start: World, woven: &Woven) -> Result<(), Fault> {
+fn print_state<R: Print + AllocGlobal>(rt: &R, start: World, woven: &Woven) -> Result<(), Fault>
+    ensures { IfErr result IsUnwritten }
+{
     let Ok(output) = BufWriter::new(rt.alloc(), writer(rt)) else {
         return Err(Fault::Memory);
     };

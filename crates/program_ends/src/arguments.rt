@@ -1,5 +1,5 @@
 //! The words that the program was started with.
-ghost use Rattle.std.specs.Prelude.{◌≡◌, ◌≢◌, if◌then◌else◌};
+ghost use Rattle.std.specs.Prelude.{◌≡◌, ◌≢◌, ◌⊎◌, IfErr, if◌then◌else◌};
 ghost use Rattle.std.specs.Process.{exit_status};
 ghost use Rattle.std.specs.declared.io.ErrorKind.TheVariants.{OutOfMemory};
 
@@ -15,7 +15,10 @@ use std::rt::Env;
 /// # Errors
 /// Status 1 (of `lock` 125) where memory runs out, 2 where a word is no text; either is told on
 /// standard error.
-pub fn own_words<R: Env + Eprint + AllocGlobal>(rt: &R) -> Result<Vec<String>, ExitCode> {
+pub fn own_words<R: Env + Eprint + AllocGlobal>(rt: &R) -> Result<Vec<String>, ExitCode>
+    ensures { IfErr result (λ status. (exit_status status ≡ 1)
+        ⊎ ((exit_status status ≡ 2) ⊎ (exit_status status ≡ 125))) }
+{
     match std::env::args(rt) {
         Ok(arguments) => {
             let collected: Result<Vec<String>, AllocError> = arguments.collect(rt.alloc());

@@ -27,7 +27,9 @@ pub fn run<R: Files + Print + AllocGlobal>(
     path: &str,
     sharp: bool,
     premises: Option<Premises>,
-) -> Result<ExitCode, Fault> {
+) -> Result<ExitCode, Fault>
+    ensures { IfOk result (λ status. exit_status status ≡ 0) }
+{
     let net = read_network(rt, path)?;
     let text = timed_text(rt.alloc(), &net, sharp, premises).map_err(|_| Fault::Memory)?;
     done(rt.print(text.as_str()))

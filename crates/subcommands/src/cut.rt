@@ -1,5 +1,7 @@
 //! `cut PATH LENGTH`: a file, as a write that broke off may leave it.
-ghost use Rattle.std.specs.Prelude.{◌≡◌, ℕ, List, length, take};
+ghost use Rattle.std.specs.Prelude.{◌≡◌, ℕ, List, IfOk, IfErr, length, take};
+ghost use Rattle.std.specs.Process.{exit_status};
+ghost use Rattle.command_parts.specs.declared.path_fault.PathFault.TheVariants.{Unwritable};
 ghost use Rattle.subcommands.specs.Cut.{IsCutTo};
 
 use command_parts::PathFault;
@@ -13,7 +15,10 @@ use std::{fs, io};
 ///
 /// # Errors
 /// Where the file cannot be written, is not there, or is no plain file.
-pub fn run<'a, R: Files>(rt: &R, path: &'a str, most: u32) -> Result<ExitCode, PathFault<'a>> {
+pub fn run<'a, R: Files>(rt: &R, path: &'a str, most: u32) -> Result<ExitCode, PathFault<'a>>
+    ensures ok { IfOk result (λ status. exit_status status ≡ 0) }
+    ensures err { IfErr result (λ fault. fault ≡ Unwritable path.entry) }
+{
     match shorten(rt, path, u64::from(most)) {
         Ok(()) => Ok(ExitCode::SUCCESS),
         Err(_) => Err(PathFault::Unwritable(path)),

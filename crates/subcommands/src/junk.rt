@@ -1,9 +1,10 @@
 //! `junk SEED LINES`: lines that mean nothing.
-ghost use Rattle.std.specs.Prelude.{◌≡◌, ◌+◌, ◌≤◌, IfErr, OnOk, [], ◌++◌, codes, length, take};
+ghost use Rattle.std.specs.Prelude.{◌≡◌, ◌+◌, ◌≤◌, ◌⊎◌, IfOk, IfErr, OnOk, [], ◌++◌, codes, length, take};
 ghost use Rattle.byte_streams.specs.Streams.{Rose, Takes};
 ghost use Rattle.damage_tool.specs.Draws.{draw_junk};
 ghost use Rattle.subcommands.specs.Damaged.{junk_text, seeded};
-ghost use Rattle.command_parts.specs.declared.fault.Fault.TheVariants.{Output};
+ghost use Rattle.std.specs.Process.{exit_status};
+ghost use Rattle.command_parts.specs.declared.fault.Fault.TheVariants.{Memory, Output};
 
 use command_parts::{Fault, Flush, WriteSink};
 use damage_tool::junk_line;
@@ -17,7 +18,10 @@ use world::streams::{Failed, Sink, write_all};
 ///
 /// # Errors
 /// Where memory runs out, or standard output does not take the text.
-pub fn run<R: Print + AllocGlobal>(rt: &R, seed: u32, lines: u32) -> Result<ExitCode, Fault> {
+pub fn run<R: Print + AllocGlobal>(rt: &R, seed: u32, lines: u32) -> Result<ExitCode, Fault>
+    ensures ok { IfOk result (λ status. exit_status status ≡ 0) }
+    ensures err { IfErr result (λ fault. (fault ≡ Memory) ⊎ (fault ≡ Output)) }
+{
     let Ok(output) = BufWriter::new(rt.alloc(), writer(rt)) else {
         return Err(Fault::Memory);
     };

@@ -1,5 +1,5 @@
 //! `measure FILE`: behind how many sweeps scrambled worlds served.
-ghost use Rattle.std.specs.Prelude.{◌≡◌, ◌↔◌, ◌+◌, ◌++◌, OnOk, IfOk, IfErr, IsOk, IsTrue};
+ghost use Rattle.std.specs.Prelude.{◌≡◌, ◌↔◌, ◌+◌, ◌++◌, ◌⊎◌, OnOk, IfOk, IfErr, IsOk, IsTrue};
 ghost use Rattle.std.specs.Prelude.{string_bytes, if◌then◌else◌};
 ghost use Rattle.std.specs.Process.{exit_status};
 ghost use Rattle.subcommands.specs.Measured.{has_served, run_line, served_sweeps, summary_line};
@@ -44,7 +44,9 @@ pub fn run<R: Files + Print + Eprint + Clock + AllocGlobal + Threads + Sync>(
     rt: &R,
     network: &str,
     plan: Plan,
-) -> Result<ExitCode, Fault> {
+) -> Result<ExitCode, Fault>
+    ensures { IfOk result (λ status. (exit_status status ≡ 0) ⊎ (exit_status status ≡ 1)) }
+{
     let net = read_network(rt, network)?;
     match plan_text(rt, rt.alloc(), &net, plan) {
         Ok((text, all_served)) => ending(rt.print(text.as_str()), all_served),

@@ -1,6 +1,7 @@
 //! `schedule FILE`: the events of a schedule for a network.
-ghost use Rattle.std.specs.Prelude.{◌≡◌, ◌⊎◌, [], Err, IfErr, OnOk, option_map};
+ghost use Rattle.std.specs.Prelude.{◌≡◌, ◌⊎◌, [], Err, IfOk, IfErr, OnOk, option_map};
 ghost use Rattle.std.specs.Io.Buffered.{writer_buffer, writer_contents};
+ghost use Rattle.std.specs.Process.{exit_status};
 ghost use Rattle.byte_streams.specs.Streams.{Rose};
 ghost use Rattle.experiments.specs.Plan.{planned};
 ghost use Rattle.subcommands.specs.PlanFault.{fault_of};
@@ -88,7 +89,9 @@ pub fn run<R: Files + Print + AllocGlobal>(
     network: &str,
     scramble: Option<u32>,
     turns: Turns,
-) -> Result<ExitCode, Fault> {
+) -> Result<ExitCode, Fault>
+    ensures { IfOk result (λ status. exit_status status ≡ 0) }
+{
     let net = read_network(rt, network)?;
     let Ok(output) = BufWriter::new(rt.alloc(), writer(rt)) else {
         return Err(Fault::Memory);

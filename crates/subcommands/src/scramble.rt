@@ -1,5 +1,6 @@
 //! `scramble FILE ID PATH SEED`: the state file of a node, as a fault may leave it.
 ghost use Rattle.std.specs.Prelude.{◌≡◌, ◌<◌, ◌≤◌, IfOk, IfErr, nat_lt, if◌then◌else◌, take};
+ghost use Rattle.std.specs.Process.{exit_status};
 ghost use Rattle.node_state_file.specs.Stores.{Saves};
 ghost use Rattle.subcommands.specs.Damaged.{scrambled_file};
 ghost use Rattle.command_parts.specs.declared.fault.Fault.TheVariants.{NoNode, Memory};
@@ -27,7 +28,9 @@ pub fn run<'a, R: Files + AllocGlobal>(
     id: u16,
     path: &'a str,
     seed: u32,
-) -> Result<ExitCode, PathFault<'a>> {
+) -> Result<ExitCode, PathFault<'a>>
+    ensures { IfOk result (λ status. exit_status status ≡ 0) }
+{
     let net = read_network(rt, network)?;
     let mut store = FileStore::new(rt, path);
     match save_scrambled(rt.alloc(), &net, id, seed, &mut store)? {

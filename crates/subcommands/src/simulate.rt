@@ -1,4 +1,7 @@
 //! `simulate FILE EVENTS`: what a list of events leads to on a network.
+ghost use Rattle.std.specs.Prelude.{◌≡◌, ◌⊎◌, IfOk};
+ghost use Rattle.std.specs.Process.{exit_status};
+
 use command_parts::{
     Fault, ReadSource, STANDARD_INPUT, WriteSink, events_status, read_network, simulate_between,
 };
@@ -19,7 +22,9 @@ pub fn run<R: Files + Input + Print + AllocGlobal>(
     rt: &R,
     network: &str,
     events: &str,
-) -> Result<ExitCode, Fault> {
+) -> Result<ExitCode, Fault>
+    ensures { IfOk result (λ status. (exit_status status ≡ 0) ⊎ (exit_status status ≡ 3)) }
+{
     let net = read_network(rt, network)?;
     let summary = if events == STANDARD_INPUT {
         print_simulation(rt, &net, rt.reader())?

@@ -1,4 +1,6 @@
 //! How far nodes on threads are, told on a terminal.
+ghost use Rattle.std.specs.Prelude.{◌≡◌, None, false};
+
 use command_parts::Progress;
 use std::time::Clock;
 use thread_net::Gate;
@@ -16,7 +18,9 @@ pub struct Watch<'a, R> {
 
 impl<'a, R: Eprint + Clock> Watch<'a, R> {
     /// The watch of a run that starts now, in which each node does `turns` turns.
-    pub fn start(rt: &'a R, turns: u32, tells: bool) -> Watch<'a, R> {
+    pub fn start(rt: &'a R, turns: u32, tells: bool) -> Watch<'a, R>
+        ensures { tells ≡ false → result.progress ≡ None }
+    {
         let progress = if tells {
             Progress::begin(rt, "turns of node 0", turns)
         } else {

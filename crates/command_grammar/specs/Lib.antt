@@ -1,0 +1,4 @@
+pub mod Numbers
+pub mod Parsers
+pub mod Given
+pub mod FaultText

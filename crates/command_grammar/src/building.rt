@@ -1,0 +1,107 @@
+//! The parser of a program, made of its table.
+ghost use Rattle.std.specs.Prelude.{◌≡◌};
+ghost use Rattle.clap.specs.Walk.{rule_of};
+ghost use Rattle.command_grammar.specs.Parsers.{IsArgOf, rule_for, several, valued};
+
+use crate::grammar::{Choice, Grammar, Parameter, Program};
+use clap::{Arg, ArgAction, ArgGroup, Command};
+use std::alloc::{AllocError, Global};
+
+/// The parser of a program's command lines.
+///
+/// # Errors
+/// If memory runs out.
+pub fn parser<'a>(alloc: Global, program: &Program<'a>) -> Result<Command<'a>, AllocError> {
+    let mut parser = Command::new(alloc, program.name)
+        .about(program.about)
+        .after_help(program.help)
+        .version(program.version)
+        .subcommand_required(true);
+    for grammar in program.commands {
+        parser = parser.subcommand(command_of(alloc, grammar)?)?;
+    }
+    Ok(parser)
+}
+
+/// The parser of a command.
+fn command_of<'a>(alloc: Global, grammar: &Grammar<'a>) -> Result<Command<'a>, AllocError> {
+    let mut command = Command::new(alloc, grammar.name)
+        .about(grammar.about)
+        .after_help(grammar.help);
+    for parameter in grammar.parameters {
+        command = command.arg(bound_arg(alloc, *parameter, grammar)?)?;
+    }
+    match grammar.choice {
+        Some(choice) => command.group(group_of(alloc, choice)?),
+        None => Ok(command),
+    }
+}
+
+/// The group of parameters of which one must be given.
+fn group_of<'a>(alloc: Global, choice: Choice<'a>) -> Result<ArgGroup<'a>, AllocError> {
+    let group = ArgGroup::new(alloc, choice.name).args(choice.of)?;
+    Ok(group.required(true))
+}
+
+/// A parameter with what the grammar asks of others beside it.
+fn bound_arg<'a>(
+    alloc: Global,
+    parameter: Parameter<'a>,
+    grammar: &Grammar<'a>,
+) -> Result<Arg<'a>, AllocError> {
+    let mut arg = arg_of(alloc, parameter);
+    let id = arg.get_id();
+    for (needy, other) in grammar.needs {
+        if *needy == id {
+            arg = arg.requires_arg(other)?;
+        }
+    }
+    for (excluded, other) in grammar.excludes {
+        if *excluded == id {
+            arg = arg.conflicts_with(other)?;
+        }
+    }
+    Ok(arg)
+}
+
+/// A parameter by itself, with its help.
+fn arg_of<'a>(alloc: Global, parameter: Parameter<'a>) -> Arg<'a>
+    ensures { IsArgOf parameter.entry result }
+{
+    shaped(alloc, parameter)
+        .help(parameter.help())
+        .hide(parameter.is_hidden())
+}
+
+/// A parameter by itself, without its help.
+fn shaped<'a>(alloc: Global, parameter: Parameter<'a>) -> Arg<'a>
+    ensures { rule_of result ≡ rule_for parameter.entry }
+{
+    match parameter {
+        Parameter::Place(id, _) => Arg::new(alloc, id).required(true).action(ArgAction::Set),
+        Parameter::Places(id, _) => several(alloc, id),
+        Parameter::Rest(id, _) => several(alloc, id).trailing_var_arg(true),
+        Parameter::Value(id, name, _) => valued(alloc, id).value_name(name),
+        Parameter::ValueOr(id, name, default, _) => {
+            valued(alloc, id).value_name(name).default_value(default)
+        }
+        Parameter::Flag(id, _) | Parameter::HiddenFlag(id) => {
+            Arg::new(alloc, id).long(id).action(ArgAction::SetTrue)
+        }
+        Parameter::HiddenValue(id) => valued(alloc, id),
+    }
+}
+
+/// An option of that name, with a value.
+fn valued<'a>(alloc: Global, id: &'a str) -> Arg<'a>
+    ensures { rule_of result ≡ valued id.entry.now }
+{
+    Arg::new(alloc, id).long(id).action(ArgAction::Set)
+}
+
+/// Any number of words.
+fn several<'a>(alloc: Global, id: &'a str) -> Arg<'a>
+    ensures { rule_of result ≡ several id.entry.now }
+{
+    Arg::new(alloc, id).action(ArgAction::Append).num_args(0..)
+}

@@ -1,0 +1,31 @@
+//! The grammar of a program's command lines as data, and the parser that it makes.
+//!
+//! A command is a [`Grammar`]: its name, its help and what it takes. A program is a [`Program`], a
+//! list of them. [`parser`] reads such a table and makes clap's command of it.
+//!
+//! ```
+//! const BOUND: Grammar<'static> = Grammar {
+//!     name: "bound",
+//!     about: "Shows a network's numbers",
+//!     help: "Statuses: 0 done; 2 the command line was refused.",
+//!     parameters: &[Parameter::Place("FILE", "The network file"), Parameter::Flag("sharp", "..")],
+//!     needs: &[],
+//!     excludes: &[],
+//!     choice: None,
+//! };
+//! ```
+//!
+//! A word is read as a number by [`Number`], which says its range.
+//!
+//! The trap: a table is not checked. A name that stands in it twice is the parser's to refuse.
+#![tactic(auto)]
+
+mod building;
+mod grammar;
+mod number;
+mod words;
+
+pub use building::parser;
+pub use grammar::{Choice, Grammar, Parameter, Program};
+pub use number::Number;
+pub use words::{WordFault, given_number, number_if_given, word};

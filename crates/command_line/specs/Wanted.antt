@@ -1,0 +1,40 @@
+-- What the words of `draw` ask for.
+use Rattle.std.specs.Prelude.{◌≡◌, ◌≤◌, ◌<◌, ◌⊎◌, ℕ, codes}
+use Rattle.clap.specs.declared.parser.matches.Found.{Found}
+use Rattle.command_grammar.specs.Given.{IsGivenOr, IsRefused}
+use Rattle.command_line.specs.declared.refusal.Refusal.{Refusal}
+use Rattle.command_line.specs.declared.refusal.Refusal.TheVariants.{Word, Window, NoCommand, Fault}
+use Rattle.live_commands.specs.declared.draw.Wanted.{Wanted}
+use Rattle.run_recording.specs.declared.window.Window.{Window as Moments}
+
+-- the greatest number of sweeps
+abbrev pub last_sweep : ℕ
+last_sweep = 18446744073709551615
+
+-- the sweeps of `--from` and `--to`, 0 and the greatest if they are left out
+abbrev pub AreEndsOf : Found → ℕ → ℕ → Type 0
+AreEndsOf found from to = IsGivenOr found (codes "from") 0 last_sweep 0 from × IsGivenOr found (codes "to") 0 last_sweep last_sweep to
+
+-- the window between them, which does not end before it begins
+abbrev pub IsWindowOf : Found → Moments → Type 0
+IsWindowOf found window = AreEndsOf found window.from window.to × (window.from ≤ window.to)
+
+-- one of the two numbers is refused; or the window ends before it begins
+abbrev pub IsWindowRefused : Found → Refusal → Type 0
+IsWindowRefused found (Word fault) = IsRefused found (codes "from") 0 last_sweep fault ⊎ IsRefused found (codes "to") 0 last_sweep fault
+IsWindowRefused found Window = (from to : ℕ) × AreEndsOf found from to × (to < from)
+IsWindowRefused found NoCommand = ⊥
+IsWindowRefused found (Fault fault) = ⊥
+
+-- the number of columns is refused
+abbrev pub AreColumnsRefused : Found → Refusal → Type 0
+AreColumnsRefused found (Word fault) = IsRefused found (codes "columns") 1 1200 fault
+AreColumnsRefused found _ = ⊥
+
+-- that window, and the columns of `--columns`, 1200 if it is left out
+abbrev pub IsWantedOf : Found → Wanted → Type 0
+IsWantedOf found wanted = IsWindowOf found wanted.window × IsGivenOr found (codes "columns") 1 1200 1200 wanted.columns
+
+-- the window is refused, or the columns
+abbrev pub IsWantedRefused : Found → Refusal → Type 0
+IsWantedRefused found refusal = IsWindowRefused found refusal ⊎ AreColumnsRefused found refusal

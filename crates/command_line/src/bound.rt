@@ -1,0 +1,60 @@
+//! The words of `bound`.
+use crate::program::NETWORK_FILE;
+use crate::refusal::Refusal;
+use clap::ArgMatches;
+use command_grammar::{Grammar, Parameter, word};
+use std::process::ExitCode;
+use std::rt::Files;
+use subcommands::bound;
+
+/// What `bound` takes.
+pub const BOUND: Grammar<'static> = Grammar {
+    name: "bound",
+    about: "Shows a network's numbers, distances and parents, and after how many sweeps its lock works from any state",
+    help: HELP,
+    parameters: &[
+        Parameter::Place("FILE", NETWORK_FILE),
+        Parameter::Flag(
+            "sharp",
+            "Show the bound in which the capacity has no part, too",
+        ),
+    ],
+    needs: &[],
+    excludes: &[],
+    choice: None,
+};
+
+/// What follows the options in its help.
+const HELP: &str = "\
+A network file names its nodes 0 to nodes-1, the root, how many items each direction of an edge holds, for how many
+ticks the lock is lent at most (0: no limit), and the edges:
+
+  nodes = 2
+  root = 0
+  capacity = 1
+  lease = 0
+  edges = [[0, 1]]
+
+  $ tokentree bound two-nodes.toml
+  nodes 2
+  edges 1
+  capacity 1
+  counter 5
+  ring 7
+  distances 0 1
+  parents none 0
+  sweeps 69
+
+counter and ring are the moduli of the links' counters and of the token's values; distances and parents are those of
+the nodes 0, 1, .. in the tree to the root. From whatever state, the lock works after 69 sweeps: stretches of a run in
+each of which every node makes a full tick, one after which it lends to nobody, and takes from each neighbour an item
+that was sent within the stretch. With --sharp one more line is shown, here sharp 35: a bound in which the capacity has
+no part, and which is never above the other one.";
+
+/// Does what the words of `bound` say.
+pub fn run<R: Files + Print + AllocGlobal>(
+    rt: &R,
+    given: &ArgMatches,
+) -> Result<ExitCode, Refusal> {
+    Ok(bound::run(rt, word(given, "FILE")?, given.get_flag("sharp"))?)
+}

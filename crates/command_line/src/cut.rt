@@ -1,0 +1,45 @@
+//! The words of `cut`.
+use crate::refusal::{Refusal, ended};
+use clap::ArgMatches;
+use command_grammar::{Grammar, Number, Parameter, given_number, word};
+use std::process::ExitCode;
+use std::rt::Files;
+use subcommands::cut;
+
+/// What `cut` takes.
+pub const CUT: Grammar<'static> = Grammar {
+    name: "cut",
+    about: "Shortens a file to its first bytes, as a write that broke off leaves it",
+    help: HELP,
+    parameters: &[
+        Parameter::Place("PATH", "The file"),
+        Parameter::Place("LENGTH", "How many bytes it keeps: 0 to 1000000"),
+    ],
+    needs: &[],
+    excludes: &[],
+    choice: None,
+};
+
+/// What follows the options in its help.
+const HELP: &str = "\
+A file that is not longer stays as it is.
+
+  $ tokentree cut node-1.state 33
+
+Statuses: 0 done; 1 the file is not there, cannot be written or is no plain file; 2 the command
+line was refused.";
+
+/// To how many bytes a file is cut.
+const LENGTH: Number<'static> = Number {
+    id: "LENGTH",
+    name: "LENGTH",
+    least: 0,
+    most: 1_000_000,
+};
+
+/// Does what the words of `cut` say.
+pub fn run<R: Files + Eprint>(rt: &R, given: &ArgMatches) -> Result<ExitCode, Refusal> {
+    let path = word(given, "PATH")?;
+    let length = given_number(given, LENGTH)? as u32;
+    Ok(ended(rt, cut::run(rt, path, length)))
+}

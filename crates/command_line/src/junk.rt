@@ -1,0 +1,53 @@
+//! The words of `junk`.
+use crate::refusal::Refusal;
+use clap::ArgMatches;
+use command_grammar::{Grammar, Number, Parameter, given_number};
+use std::process::ExitCode;
+use subcommands::junk;
+
+/// What `junk` takes.
+pub const JUNK: Grammar<'static> = Grammar {
+    name: "junk",
+    about: "Prints lines that mean nothing, for whatever reads lines",
+    help: HELP,
+    parameters: &[
+        Parameter::Place("SEED", "What is drawn from: 0 to 4294967295"),
+        Parameter::Place("LINES", "How many lines: 0 to 1000000"),
+    ],
+    needs: &[],
+    excludes: &[],
+    choice: None,
+};
+
+/// What follows the options in its help.
+const HELP: &str = "\
+A line has 0 to 40 bytes from ! to ~. The same seed gives the same lines, on any machine.
+
+  $ tokentree junk 7 2
+  +(==lkMfO]!#B{X}whq}R*SbyZPz$`#?5I3
+  .Vnn)AQDz\"jU}#08]yttOpOL9&sj
+
+Statuses: 0 done; 1 standard output did not take the text; 2 the command line was refused.";
+
+/// Which seed is taken.
+const SEED: Number<'static> = Number {
+    id: "SEED",
+    name: "SEED",
+    least: 0,
+    most: 4_294_967_295,
+};
+
+/// How many lines of junk are printed.
+const LINES: Number<'static> = Number {
+    id: "LINES",
+    name: "LINES",
+    least: 0,
+    most: 1_000_000,
+};
+
+/// Does what the words of `junk` say.
+pub fn run<R: Print + AllocGlobal>(rt: &R, given: &ArgMatches) -> Result<ExitCode, Refusal> {
+    let seed = given_number(given, SEED)? as u32;
+    let lines = given_number(given, LINES)? as u32;
+    Ok(junk::run(rt, seed, lines)?)
+}

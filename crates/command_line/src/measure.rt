@@ -1,0 +1,107 @@
+//! The words of `measure`.
+ghost use Rattle.std.specs.Prelude.{IfOk, IfErr};
+ghost use Rattle.clap.specs.Matches.{found_of};
+ghost use Rattle.command_line.specs.Plan.{IsPlanOf, IsPlanRefused};
+
+use crate::program::NETWORK_FILE;
+use crate::refusal::Refusal;
+use clap::ArgMatches;
+use command_grammar::{Grammar, Number, Parameter, WordFault, given_number, word};
+use experiments::Scheduler;
+use std::process::ExitCode;
+use std::rt::Files;
+use std::thread::Threads;
+use std::time::Clock;
+use subcommands::measure;
+use subcommands::measure::Plan;
+
+/// What `measure` takes.
+pub const MEASURE: Grammar<'static> = Grammar {
+    name: "measure",
+    about: "Scrambles a network again and again, and shows after how many sweeps it worked",
+    help: HELP,
+    parameters: &[
+        Parameter::Place("FILE", NETWORK_FILE),
+        Parameter::ValueOr("runs", "N", "1000", "How many runs, 1 to 1000000"),
+        Parameter::ValueOr(
+            "seed",
+            "SEED",
+            "0",
+            "The first run's seed; each other run has the next one",
+        ),
+        Parameter::Flag("rounds", "Run by rounds, as where nothing is said"),
+        Parameter::Flag("random", "Run by steps that are drawn"),
+        Parameter::Flag("table", "Show a line for each run, too"),
+    ],
+    needs: &[],
+    excludes: &[("random", "rounds")],
+    choice: None,
+};
+
+/// What follows the options in its help.
+const HELP: &str = "\
+Each run begins in a world that is scrambled by its seed, and goes on by rounds, or by random steps of the same seed,
+until there have been as many sweeps as the sharper bound says. Behind each round, or as many random steps as there are
+nodes and four times the edges, whoever has the lock gives it back. A run's sweeps are the least number behind which the
+network served at each moment of the run: all distances and parents true, one node privileged at most, one lending.
+
+  $ tokentree measure two-nodes.toml --runs 100
+  runs 100
+  sweeps least .. median .. most ..
+  sharp 35
+  sweeps-bound 69
+
+Of an even number of runs the median is the lower one of the two in the middle. With --table each run has a line 'seed S
+sweeps K' before these. 'sweeps none' stands for a run that did not serve behind the sharper bound, or that had fewer
+sweeps than it says after 1000 rounds, or stretches of random steps, for each of them; it is always shown, and the
+status is 1. 'schedule FILE --scramble S --rounds N' prints the events of such a run, but for the lock that is given
+back.
+
+Statuses: 0 done; 1 a file, memory or standard output was refused, with its fault on standard error, or a run did not
+serve; 2 the command line was refused.";
+
+/// How many runs are measured.
+const RUNS: Number<'static> = Number {
+    id: "runs",
+    name: "--runs",
+    least: 1,
+    most: 1_000_000,
+};
+
+/// Which seeds of a first run there are.
+const SEED: Number<'static> = Number {
+    id: "seed",
+    name: "--seed",
+    least: 0,
+    most: 4_294_967_295,
+};
+
+/// Does what the words of `measure` say, and tells its progress where that is wanted.
+pub fn run<R: Files + Print + Eprint + Clock + AllocGlobal + Threads + Sync>(
+    rt: &R,
+    given: &ArgMatches,
+    progress: bool,
+) -> Result<ExitCode, Refusal> {
+    Ok(measure::run(rt, word(given, "FILE")?, plan(given, progress)?)?)
+}
+
+/// The plan that the words of `measure` say.
+///
+/// # Errors
+/// If a word spells no number in its range.
+fn plan(given: &ArgMatches, progress: bool) -> Result<Plan, WordFault<'static>>
+    ensures ok { IfOk result (IsPlanOf (found_of given.now) progress) }
+    ensures err { IfErr result (IsPlanRefused (found_of given.now)) }
+{
+    Ok(Plan {
+        runs: given_number(given, RUNS)? as u32,
+        seed: given_number(given, SEED)? as u32,
+        scheduler: if given.get_flag("random") {
+            Scheduler::Random
+        } else {
+            Scheduler::Rounds
+        },
+        table: given.get_flag("table"),
+        progress,
+    })
+}

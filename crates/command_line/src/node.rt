@@ -1,0 +1,77 @@
+//! The words of `node`.
+use crate::node_words::{FOLDER, HOLD_HELP, REPEAT_HELP, ended, manner};
+use crate::program::{NETWORK_FILE, Runtime};
+use crate::refusal::Refusal;
+use clap::ArgMatches;
+use command_grammar::{Grammar, Number, Parameter, given_number, word};
+use node_process::{NodeWords, node};
+use std::process::ExitCode;
+
+/// What `node` takes.
+pub const NODE: Grammar<'static> = Grammar {
+    name: "node",
+    about: "Runs one node of a network as a process, until its stop file is there",
+    help: HELP,
+    parameters: &[
+        Parameter::Place("FILE", NETWORK_FILE),
+        Parameter::Place("ID", "The node, 0 to nodes-1"),
+        Parameter::Place("DIR", FOLDER),
+        Parameter::Value("hold", "MICROSECONDS", HOLD_HELP),
+        Parameter::Value("repeat", "MICROSECONDS", REPEAT_HELP),
+        Parameter::Flag(
+            "child",
+            "Name the node in each line, and end as standard input does, for `up`",
+        ),
+    ],
+    needs: &[],
+    excludes: &[],
+    choice: None,
+};
+
+/// What follows the options in its help.
+const HELP: &str = "\
+FILE is a network file, as `help bound` shows. Node ID keeps its files in DIR, which is made where it is missing, for
+its owner alone: state-ID.tkt, its state, node-ID.sock, where other nodes connect, and desk-ID.sock, where clients do.
+Each node of the network runs so, in one DIR, in any order, and may end and start at any time.
+
+  $ tokentree node examples/ring-of-three.toml 0 run
+  start default Absent
+  ready
+
+It prints from what it starts, its state or the default state and why, and that it is ready once both sockets listen.
+A client writes the lines lock, unlock and status to desk-ID.sock, and reads granted, lost, released and the rest.
+
+It ends with status 0 within 256 turns, at most half a second, once a file DIR/stop-ID is there:
+
+  $ touch run/stop-0
+
+As often it saves its state and reads FILE again: edges may join and go while it runs; any other change means nothing.
+
+The network's capacity is a premise of what is proved. On a link of two processes 36 frames may be under way; give it 64
+or more.
+
+--hold is how long a node keeps news to itself where nobody wants the lock, --repeat after what time it sends a frame
+again; both in microseconds. Less of either is more work and less waiting.
+
+Statuses: 0 ended by the stop file; 1 it cannot run, with the reason on standard error; 2 the command line was refused.";
+
+/// Which id is taken; which ids there are the network says.
+const ID: Number<'static> = Number {
+    id: "ID",
+    name: "ID",
+    least: 0,
+    most: 65_535,
+};
+
+/// Does what the words of `node` say.
+pub fn run<R: Runtime>(rt: &R, given: &ArgMatches) -> Result<ExitCode, Refusal> {
+    let words = NodeWords {
+        file: word(given, "FILE")?,
+        id: given_number(given, ID)? as u16,
+        dir: word(given, "DIR")?,
+        manner: manner(given)?,
+        is_child: given.get_flag("child"),
+    };
+    let done = node::run(rt, &words);
+    Ok(ended(rt, words.file, words.dir, words.id, done))
+}

@@ -1,0 +1,87 @@
+//! The program: what it is and which commands it has.
+use crate::bound::BOUND;
+use crate::cut::CUT;
+use crate::draw::DRAW;
+use crate::junk::JUNK;
+use crate::lock::LOCK;
+use crate::measure::MEASURE;
+use crate::node::NODE;
+use crate::schedule::SCHEDULE;
+use crate::scramble::SCRAMBLE;
+use crate::simulate::SIMULATE;
+use crate::status::STATUS;
+use crate::threads::THREADS;
+use crate::up::UP;
+use command_grammar::Program;
+use std::fs::File;
+use std::io::Input;
+use std::net::Net;
+use std::process::Processes;
+use std::rt::{Env, Files};
+use std::sync::Wait;
+use std::thread::Threads;
+use std::time::Clock;
+
+/// What the commands need of the runtime.
+pub trait Runtime: Files<File = File>
+    + Net
+    + Clock
+    + Env
+    + Input
+    + Print
+    + Eprint
+    + Processes
+    + Threads
+    + Wait
+    + AllocGlobal
+    + Sync {}
+
+impl<R> Runtime for R
+where
+    R: Files<File = File>
+        + Net
+        + Clock
+        + Env
+        + Input
+        + Print
+        + Eprint
+        + Processes
+        + Threads
+        + Wait
+        + AllocGlobal
+        + Sync,
+{}
+
+/// What the first argument of most commands is.
+pub const NETWORK_FILE: &str = "The network file (TOML)";
+
+/// What the events of a run are.
+pub const EVENTS_TEXT: &str = "The events text, or - for standard input";
+
+/// What the first argument of the commands for those who use the lock is.
+pub const SOCKETS_FOLDER: &str = "The folder of the nodes' sockets";
+
+/// The program `tokentree`.
+pub const TOKENTREE: Program<'static> = Program {
+    name: "tokentree",
+    about: "A self-stabilising lock service: one token for a network of nodes, whatever state they start from",
+    help: HELP,
+    version: "0.1.0",
+    commands: &[
+        BOUND, SIMULATE, LOCK, STATUS, SCRAMBLE, CUT, JUNK, NODE, UP, SCHEDULE, MEASURE, DRAW,
+        THREADS,
+    ],
+};
+
+/// What follows the commands in its help.
+const HELP: &str = "\
+Examples:
+  tokentree bound examples/square.toml
+  tokentree simulate examples/two-nodes.toml events.txt
+  tokentree schedule examples/square.toml --scramble 7 --rounds 100 | tokentree simulate examples/square.toml -
+  tokentree measure examples/square.toml --runs 100
+  tokentree threads examples/square.toml 1000
+  tokentree help simulate
+
+Statuses: 0 done; 1 a file, memory or standard output was refused, with its fault on standard error; 2 the command line
+was refused; 3 simulate is done, and refused some lines of its events.";

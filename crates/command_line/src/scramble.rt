@@ -1,0 +1,63 @@
+//! The words of `scramble`.
+use crate::program::NETWORK_FILE;
+use crate::refusal::{Refusal, ended};
+use clap::ArgMatches;
+use command_grammar::{Grammar, Number, Parameter, given_number, word};
+use std::process::ExitCode;
+use std::rt::Files;
+use subcommands::scramble;
+
+/// What `scramble` takes.
+pub const SCRAMBLE: Grammar<'static> = Grammar {
+    name: "scramble",
+    about: "Writes a node's state file as a fault may leave it: with any values in range",
+    help: HELP,
+    parameters: &[
+        Parameter::Place("FILE", NETWORK_FILE),
+        Parameter::Place("ID", "The node, by its id"),
+        Parameter::Place("PATH", "The state file, which is written in place"),
+        Parameter::Place("SEED", "What is drawn from: 0 to 4294967295"),
+    ],
+    needs: &[],
+    excludes: &[],
+    choice: None,
+};
+
+/// What follows the options in its help.
+const HELP: &str = "\
+The same seed gives the same file, on any machine. Numbers are decimal, with no sign and no
+leading zero. The desk is no part of a state file: a lock that was lent is forgotten.
+
+  $ tokentree scramble examples/two-nodes.toml 1 node-1.state 7
+
+Statuses: 0 done; 1 the network, the id or the file was refused, with its fault on standard error;
+2 the command line was refused. Where the file cannot be opened for writing, or is no plain file,
+what was there is still there.";
+
+/// Which id is taken; which ids there are the network says.
+const ID: Number<'static> = Number {
+    id: "ID",
+    name: "ID",
+    least: 0,
+    most: 65_535,
+};
+
+/// Which seed is taken.
+const SEED: Number<'static> = Number {
+    id: "SEED",
+    name: "SEED",
+    least: 0,
+    most: 4_294_967_295,
+};
+
+/// Does what the words of `scramble` say.
+pub fn run<R: Files + Eprint + AllocGlobal>(
+    rt: &R,
+    given: &ArgMatches,
+) -> Result<ExitCode, Refusal> {
+    let network = word(given, "FILE")?;
+    let path = word(given, "PATH")?;
+    let id = given_number(given, ID)? as u16;
+    let seed = given_number(given, SEED)? as u32;
+    Ok(ended(rt, scramble::run(rt, network, id, path, seed)))
+}

@@ -1,0 +1,94 @@
+//! The words of `simulate`.
+use crate::program::{EVENTS_TEXT, NETWORK_FILE};
+use crate::refusal::Refusal;
+use clap::ArgMatches;
+use command_grammar::{Grammar, Parameter, word};
+use std::io::Input;
+use std::process::ExitCode;
+use std::rt::Files;
+use subcommands::simulate;
+
+/// What `simulate` takes.
+pub const SIMULATE: Grammar<'static> = Grammar {
+    name: "simulate",
+    about: "Lets a list of events happen on a network, tells which are refused, and shows the state they lead to",
+    help: HELP,
+    parameters: &[
+        Parameter::Place("FILE", NETWORK_FILE),
+        Parameter::Place("EVENTS", EVENTS_TEXT),
+    ],
+    needs: &[],
+    excludes: &[],
+    choice: None,
+};
+
+/// What follows the options in its help.
+const HELP: &str = "\
+Nothing happens but what the events text says, one event a line, from nodes as they start and empty links on:
+
+  tick 0                        node 0 does its part: its distance and parent, its desk, its machines
+  send 0 1                      node 0 sends a frame to node 1; it is lost where the link is full
+  take 0 1                      node 1 takes the oldest item of the link from node 0, if one is there
+  lose 0 1 2                    item 2 of that link is lost; item 0 is the oldest
+  ask 1 7                       ticket 7 asks at node 1 for the lock
+  leave 1 7                     ticket 7 gives the lock back at node 1, or waits no longer
+
+Lines that begin with harm write any state, as a fault would:
+
+  harm own 1 2 none             node 1 has distance 2 and no parent
+  harm counters 1 0 3 4         its port to node 0 sends under number 3, and last heard number 4
+  harm staged 1 0 2 none 5      what it sends there: distance 2, parent none, ring value 5
+  harm copy 1 0 0 none 6        what it has copied from there: distance 0, parent none, ring value 6
+  harm value 1 0 5              its machine that comes in from node 0 has the value 5
+  harm desk 1 7 0 no            its desk lends to ticket 7 for 0 more ticks, and has not served (yes or no)
+  harm desk 1 none 0 yes        its desk lends to nobody, and has served
+  harm frame 0 1 4 3 0 none 6   a frame, of number 4, acknowledging 3, on the link from node 0 to node 1
+  harm junk 0 1                 noise on that link
+  harm empty 0 1                nothing is on that link any more
+
+Edges join and go as well, while all else goes on; up to 8 edges more than the network's may stand at a time:
+
+  harm join 0 2                 an edge joins nodes 0 and 2, which keep their other ports; its links are empty
+  harm part 0 1                 the edge between nodes 0 and 1 goes, with its ports and what is on its links
+
+Words are parted by exactly one space; a number is decimal, 0 to 65535, with no leading zero. An empty line, and a
+line that begins with #, is passed over, and counted. The text may have 1,073,741,824 bytes.
+
+A line that is refused changes nothing, and is told by its number: 'line 4: Unread' where it spells no event (or has
+more than 64 bytes), and else the first that holds of
+
+  NoNode        there is no such node
+  NoLink        the two nodes are not neighbours
+  NoItem        there is no such item to lose
+  OutOfRange    no state has such a value; the link is full, where a frame or noise is put on it; or the two nodes
+                to join are one, or are joined already, or there are 256 edges
+  Full          64 tickets wait already
+  Twice         the ticket waits already, or has the lock
+  Stranger      the ticket neither waits nor has the lock
+  NoSpare       8 edges have joined more than have gone
+  Apart         without that edge some node cannot reach the root
+
+After the last line the state is shown: each node; how many items are on each link that stands; how many nodes are privileged,
+which is to hold the token, and how many lend; and the sweeps since the last damage, of as many as bound shows.
+
+  $ printf 'tick 0\\ntick 2\\n' | tokentree simulate two-nodes.toml -
+  line 2: NoNode
+  node 0 distance 0 parent none token no lent none waiting 0
+  node 1 distance 2 parent none token no lent none waiting 0
+  link 0 1 items 0
+  link 1 0 items 0
+  privileged 0 lending 0
+  sweeps 0 of 69
+
+The output is buffered: refusals come when the buffer is full, and at the end.
+
+Statuses: 0 done; 1 a file, memory or standard output was refused, with its fault on standard error; 2 the command line
+was refused; 3 done, and some lines were refused.";
+
+/// Does what the words of `simulate` say.
+pub fn run<R: Files + Input + Print + AllocGlobal>(
+    rt: &R,
+    given: &ArgMatches,
+) -> Result<ExitCode, Refusal> {
+    Ok(simulate::run(rt, word(given, "FILE")?, word(given, "EVENTS")?)?)
+}
