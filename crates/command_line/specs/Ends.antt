@@ -5,8 +5,9 @@ use Rattle.std.specs.Process.{exit_status}
 use Rattle.std.specs.declared.process.ExitCode.{ExitCode}
 use Rattle.command_grammar.specs.FaultText.{word_fault_text}
 use Rattle.command_parts.specs.FaultText.{fault_text}
+use Rattle.recovery_times.specs.Words.{time_fault_text}
 use Rattle.command_line.specs.declared.refusal.Refusal.{Refusal}
-use Rattle.command_line.specs.declared.refusal.Refusal.TheVariants.{Word, Window, NoCommand, Fault}
+use Rattle.command_line.specs.declared.refusal.Refusal.TheVariants.{Word, Time, Window, NoCommand, Fault}
 
 -- the word after the program's name is `lock`
 abbrev pub asks_for_lock : List (List ℕ) → Bool
@@ -16,6 +17,7 @@ asks_for_lock _ = false
 -- what is said after the program's name
 abbrev pub refusal_text : Refusal → List ℕ
 refusal_text (Word fault) = word_fault_text fault
+refusal_text (Time fault) = time_fault_text fault
 refusal_text Window = codes "--from is greater than --to"
 refusal_text NoCommand = codes "no command"
 refusal_text (Fault fault) = fault_text fault

@@ -3,6 +3,7 @@ use crate::program::NETWORK_FILE;
 use crate::refusal::Refusal;
 use clap::ArgMatches;
 use command_grammar::{Grammar, Parameter, word};
+use recovery_times::{PremiseWords, Premises, TimeFault};
 use std::process::ExitCode;
 use std::rt::Files;
 use subcommands::bound;
@@ -49,12 +50,40 @@ counter and ring are the moduli of the links' counters and of the token's values
 the nodes 0, 1, .. in the tree to the root. From whatever state, the lock works after 69 sweeps: stretches of a run in
 each of which every node makes a full tick, one after which it lends to nobody, and takes from each neighbour an item
 that was sent within the stretch. With --sharp one more line is shown, here sharp 35: a bound in which the capacity has
-no part, and which is never above the other one.";
+no part, and which is never above the other one.
+
+With --time three more lines are shown, here for the default times:
+
+  window 12.5 ms
+  recovers within 438 ms
+  lends within 200 ms
+
+They hold if the machine keeps these premises. Each node gets a whole turn in each stretch of --turn. A node sends its
+frame again after --repeat, at the latest. A frame is taken in the first turn that begins --delay after it was sent, so
+every connection is up. A loan ends within --loan, as its node sees it. Then each window holds a sweep: so after the last
+fault the lock works within the first time, from whatever state, and from then on one who waits alone is granted the
+lock within the second. Times are milliseconds up to 3600000 (an hour), with at most 3 decimals; --turn and --repeat are
+above 0. What is shown is rounded up.";
 
 /// Does what the words of `bound` say.
 pub fn run<R: Files + Print + AllocGlobal>(
     rt: &R,
     given: &ArgMatches,
 ) -> Result<ExitCode, Refusal> {
-    Ok(bound::run(rt, word(given, "FILE")?, given.get_flag("sharp"))?)
+    let path = word(given, "FILE")?;
+    Ok(bound::run(rt, path, given.get_flag("sharp"), premises(given)?)?)
+}
+
+/// The premises that the words say, if times are asked for.
+fn premises(given: &ArgMatches) -> Result<Option<Premises>, TimeFault> {
+    if !given.get_flag("time") {
+        return Ok(None);
+    }
+    let words = PremiseWords {
+        turn: given.get_str("turn"),
+        delay: given.get_str("delay"),
+        loan: given.get_str("loan"),
+        repeat: given.get_str("repeat"),
+    };
+    words.read().map(Some)
 }

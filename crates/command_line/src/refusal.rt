@@ -6,6 +6,7 @@ ghost use Rattle.command_line.specs.Ends.{status_of};
 use command_grammar::WordFault;
 use command_parts::{Fault, PathFault};
 use program_ends::{LINE_REFUSED, PathFaultLine, fails, fault_status};
+use recovery_times::TimeFault;
 use std::fmt;
 use std::process::ExitCode;
 
@@ -14,6 +15,8 @@ use std::process::ExitCode;
 pub enum Refusal {
     /// A word is refused that the parser took.
     Word(WordFault<'static>),
+    /// A word is no time that its option takes.
+    Time(TimeFault),
     /// The window of a picture ends before it begins.
     Window,
     /// The program has no such command, which the parser rules out.
@@ -44,6 +47,17 @@ impl From<WordFault<'static>> for Refusal {
     }
 }
 
+impl From<TimeFault> for Refusal {
+    ghost use Rattle.std.specs.Prelude.{◌≡◌};
+    ghost use Rattle.command_line.specs.declared.refusal.Refusal.TheVariants as refusal;
+
+    ghost from_gives = { λ fault refused. refused ≡ refusal.Time fault };
+
+    fn from(fault: TimeFault) -> Refusal {
+        Refusal::Time(fault)
+    }
+}
+
 /// Prints as what the message says after the program's name.
 impl fmt::Display for Refusal {
     ghost use Rattle.std.specs.Prelude.{Some};
@@ -54,6 +68,7 @@ impl fmt::Display for Refusal {
     fn fmt<W: fmt::Write>(&self, f: &mut fmt::Formatter<W>) -> fmt::Result {
         match *self {
             Refusal::Word(fault) => f.write(fault),
+            Refusal::Time(fault) => f.write(fault),
             Refusal::Window => f.write_str("--from is greater than --to"),
             Refusal::NoCommand => f.write_str("no command"),
             Refusal::Fault(fault) => f.write(fault),
