@@ -2,3 +2,5 @@ pub mod DeskNames
 pub mod StatusSpelling
 pub mod NumbersRead
 pub mod NodeLines
+pub mod LookRows
+pub mod PremisesRows
