@@ -1,6 +1,8 @@
 -- What a node answers to a client's line.
-use Rattle.std.specs.Prelude.{ℕ, List, [], Option, Some, None, if◌then◌else◌, codes}
+use Rattle.std.specs.Prelude.{ℕ, Bool, true, false, List, [], Option, Some, None, if◌then◌else◌, codes}
 use Rattle.lock_desk.specs.Desk.{ask_fault, after_leave, is_stranger}
+use Rattle.lock_desk.specs.declared.act.DeskAct.{DeskAct}
+use Rattle.lock_desk.specs.declared.act.DeskAct.TheVariants.{Granted}
 use Rattle.lock_desk.specs.declared.fault.AskFault.{AskFault}
 use Rattle.lock_desk.specs.declared.fault.AskFault.TheVariants.{Full, Twice}
 use Rattle.lock_desk.specs.declared.client_line.ClientLine.{ClientLine}
@@ -30,3 +32,8 @@ after_line t Lock s = record s { desk = after_ask t s.desk }
 after_line t Unlock s = record s { desk = after_leave t s.desk }
 after_line t Status s = s
 after_line t Unknown s = s
+
+-- a tick by which a loan began
+abbrev pub grants : DeskAct → Bool
+grants (Granted t) = true
+grants _ = false

@@ -9,3 +9,4 @@ pub mod Hearing
 pub mod Speaking
 pub mod Turns
 pub mod Loose
+pub mod LinkSights

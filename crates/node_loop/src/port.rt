@@ -8,6 +8,7 @@ ghost use Rattle.topology.specs.Ranges.{ranges_of};
 use crate::greeting::{Greeted, Greeting};
 use socket_links::{Flow, Offer, Pipe, Pull, SocketLink};
 use topology::{Frame, Net};
+use turn_watch::LinkSight;
 
 /// The connection to one neighbour.
 #[derive(Drop)]
@@ -17,6 +18,8 @@ pub(crate) struct NodePort<P> {
     greeting: Option<Greeting<P>>,
     /// The line that was accepted last is not yet out.
     is_stuck: bool,
+    /// How many connections there were so far; the count stays at 2^64 - 1.
+    made: u64,
 }
 
 impl<P: Pipe> NodePort<P> {
@@ -24,15 +27,28 @@ impl<P: Pipe> NodePort<P> {
     ghost use Rattle.socket_links.specs.declared.link.Pull.TheVariants.{Later};
     ghost use Rattle.node_loop.specs.Hearing.{Wires};
     ghost use Rattle.node_loop.specs.Speaking.{OffersLine, PortSpeaks, PushesOut};
+    ghost use Rattle.node_loop.specs.LinkSights.{link_sight};
+    ghost use Rattle.turn_watch.specs.Turns.{one_more};
 
     /// A port without a connection.
     pub fn new() -> NodePort<P>
-        ensures { (result.link.pipe ≡ None) × (result.greeting ≡ None) }
+        ensures { (result.link.pipe ≡ None) × (result.greeting ≡ None) × (result.made ≡ 0) }
     {
         NodePort {
             link: SocketLink::new(),
             greeting: None,
             is_stuck: false,
+            made: 0,
+        }
+    }
+
+    /// Whether a connection stands, and how many there were so far with it.
+    pub fn sight(&self) -> LinkSight
+        ensures { result ≡ link_sight self.now }
+    {
+        LinkSight {
+            is_up: self.link.is_attached(),
+            made: self.made,
         }
     }
 
@@ -54,17 +70,20 @@ impl<P: Pipe> NodePort<P> {
     pub fn attach(&mut self, pipe: P)
         ensures stands { (self.new.link.pipe ≡ Some pipe) × (self.new.greeting ≡ None)
             × (self.new.is_stuck ≡ false) }
+        ensures made { self.new.made ≡ one_more self.old.made }
         // Of the new one nothing is kept yet.
         ensures bare { IsBare self.new.link }
     {
         let _older = self.link.attach(pipe);
         self.greeting = None;
         self.is_stuck = false;
+        self.made = self.made.saturating_add(1);
     }
 
     /// Closes the connection, if there is one.
     pub fn close(&mut self)
-        ensures { (self.new.link.pipe ≡ None) × (self.new.greeting ≡ None) }
+        ensures { (self.new.link.pipe ≡ None) × (self.new.greeting ≡ None)
+            × (self.new.made ≡ self.old.made) }
     {
         let _older = self.link.detach();
         self.greeting = None;
@@ -75,7 +94,8 @@ impl<P: Pipe> NodePort<P> {
     pub fn greet(&mut self, pipe: P)
         ensures hello { IfSome self.new.greeting
             (λ greeting. (greeting.pipe ≡ pipe) × (greeting.sent ≡ 0)) }
-        ensures link { (self.new.link ≡ self.old.link) × (self.new.is_stuck ≡ self.old.is_stuck) }
+        ensures link { (self.new.link ≡ self.old.link) × (self.new.is_stuck ≡ self.old.is_stuck)
+            × (self.new.made ≡ self.old.made) }
     {
         self.greeting = Some(Greeting::new(pipe));
     }
@@ -87,6 +107,8 @@ impl<P: Pipe> NodePort<P> {
         ensures wires { Wires self.old self.new }
         // Without a hello nothing is done.
         ensures none { self.old.greeting ≡ None → (self.new ≡ self.old) × (result ≡ false) }
+        // A connection that stands with that is one more.
+        ensures made { self.new.made ≡ (if result then one_more self.old.made else self.old.made) }
     {
         let Some(greeting) = self.greeting.take() else {
             return false;
@@ -111,6 +133,7 @@ impl<P: Pipe> NodePort<P> {
         ensures loose { self.old.link.pipe ≡ None → result ≡ Later }
         ensures rest { (self.new.greeting ≡ self.old.greeting)
             × (self.new.is_stuck ≡ self.old.is_stuck) }
+        ensures made { self.new.made ≡ self.old.made }
     {
         self.link.pull(net)
     }
@@ -120,6 +143,7 @@ impl<P: Pipe> NodePort<P> {
         ensures pushed { PushesOut P.gave P.took P.counts self.old self.new }
         // What the pipe took goes on along that line.
         ensures line { PushesOn P.took [] self.old.link self.new.link }
+        ensures made { self.new.made ≡ self.old.made }
     {
         self.is_stuck = self.link.push_out() == Flow::Later;
     }
@@ -132,6 +156,7 @@ impl<P: Pipe> NodePort<P> {
         // What the pipe took goes on by the frame's line, or by nothing where it is not accepted.
         ensures line { PushesOn P.took (if result then spelling frame.now ++ newline ∷ [] else [])
             self.old.link self.new.link }
+        ensures made { self.new.made ≡ self.old.made }
     {
         match self.link.offer(frame) {
             Offer::Taken => {
@@ -146,8 +171,9 @@ impl<P: Pipe> NodePort<P> {
     /// Writes what is left of the last line, and then offers a frame, if it is to be offered. The
     /// answer is whether it was accepted.
     pub fn speak(&mut self, frame: &Frame, is_offered: bool) -> bool
-        ensures { PortSpeaks P.gave P.took P.counts (spelling frame.now ++ newline ∷ []) is_offered
-            self.old self.new result }
+        ensures speaks { PortSpeaks P.gave P.took P.counts (spelling frame.now ++ newline ∷ [])
+            is_offered self.old self.new result }
+        ensures made { self.new.made ≡ self.old.made }
     {
         self.push_out();
         is_offered && self.offer(frame)

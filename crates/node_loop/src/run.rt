@@ -26,6 +26,7 @@ use pace::{Manner, Pace, Plan};
 use socket_links::{Pipe, Pull};
 use std::alloc::{AllocError, Allocator, Global};
 use topology::Net;
+use turn_watch::LinkSight;
 
 /// How many connections are accepted at each door in a turn, at most.
 const COMERS: usize = 64;
@@ -72,6 +73,7 @@ impl<D: Doors, S: Store + Drop, A: Allocator + Copy> NodeRun<D, S, A> {
     ghost use Rattle.node_loop.specs.Loose.{AreKept, AreLoose, is_linked};
     ghost use Rattle.node_loop.specs.Deeds.{Acts, Became, IsLeave};
     ghost use Rattle.node_loop.specs.Hearing.{AreWired, Comes, Hears, Listens, Pulls, TakesAt, Wires};
+    ghost use Rattle.node_loop.specs.LinkSights.{link_at};
     ghost use Rattle.node_loop.specs.Moments.{AtBoth};
     ghost use Rattle.node_loop.specs.Speaking.{IsPlanOf, outlook_of, Speaks, SpeaksTo, sent_if};
     ghost use Rattle.node_loop.specs.Turns.{Attends, Turns};
@@ -620,6 +622,15 @@ impl<D: Doors, S: Store + Drop, A: Allocator + Copy> NodeRun<D, S, A> {
             }
         }
         true
+    }
+
+    /// What is seen of the link to a node; none if there is no such node in the network. A node that is
+    /// no neighbour has a link that is down.
+    pub fn link(&self, id: u16) -> Option<LinkSight>
+        ensures { result ≡ link_at (slice_get self.now.ports.items id) }
+    {
+        let port = self.ports.get(usize::from(id))?;
+        Some(port.sight())
     }
 
     /// The network.

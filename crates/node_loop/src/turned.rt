@@ -1,5 +1,8 @@
 //! What a turn answers.
+ghost use Rattle.std.specs.Prelude.{◌≡◌};
+ghost use Rattle.node_loop.specs.Answers.{grants};
 
+use lock_desk::DeskAct;
 use node_core::Ticked;
 use node_state_file::StoreFault;
 
@@ -10,4 +13,13 @@ pub struct Turned {
     pub ticked: Ticked,
     /// What the store answered: some answer in each 256th turn, and none in all others.
     pub saved: Option<Result<(), StoreFault>>,
+}
+
+impl Turned {
+    /// Whether a loan began in the turn.
+    pub fn has_granted(&self) -> bool
+        ensures { result ≡ grants self.now.ticked.act }
+    {
+        matches!(self.ticked.act, DeskAct::Granted(_))
+    }
 }

@@ -3,3 +3,5 @@ pub mod StatusSpelling
 pub mod NumbersRead
 pub mod NodeLines
 mod RowsTexts
+pub mod LookRows
+pub mod PremisesRows

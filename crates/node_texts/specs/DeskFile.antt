@@ -8,3 +8,7 @@ desk_name node = codes "desk-" ++ (decimal node ++ codes ".sock")
 -- its path in a folder
 abbrev pub desk_path : List ℕ → ℕ → List ℕ
 desk_path folder node = folder ++ (codes "/" ++ desk_name node)
+
+-- the path of the socket at which a node says how it stands
+abbrev pub look_path : List ℕ → ℕ → List ℕ
+look_path folder node = folder ++ (codes "/look-" ++ (decimal node ++ codes ".sock"))

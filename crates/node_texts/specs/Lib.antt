@@ -5,3 +5,5 @@ pub mod StatusText
 pub mod StatusLaws
 pub mod NodeStatus
 pub mod Report
+pub mod LookText
+pub mod PremisesText

@@ -12,6 +12,7 @@ AreNamed dir id paths =
     (string_bytes paths.state ≡ file_name dir (codes "state-") id (codes ".tkt"))
     × (string_bytes paths.links ≡ file_name dir (codes "node-") id (codes ".sock"))
     × (string_bytes paths.clients ≡ file_name dir (codes "desk-") id (codes ".sock"))
+    × (string_bytes paths.looks ≡ file_name dir (codes "look-") id (codes ".sock"))
     × (string_bytes paths.stop ≡ file_name dir (codes "stop-") id (codes ""))
     × (string_bytes paths.lock ≡ file_name dir (codes "lock-") id (codes ""))
 

@@ -1,6 +1,6 @@
-//! Where a node's desk listens.
+//! Where a node's desk listens, and where whoever looks at the node connects.
 ghost use Rattle.std.specs.Prelude.{◌≡◌, ◌↔◌, ◌<◌, ℕ, IfOk, Some, string_bytes};
-ghost use Rattle.node_texts.specs.DeskFile.{desk_path, desk_name};
+ghost use Rattle.node_texts.specs.DeskFile.{desk_path, desk_name, look_path};
 
 use line_words::number;
 use std::alloc::{AllocError, Global};
@@ -13,6 +13,16 @@ pub fn desk_path(alloc: Global, folder: &str, node: u16) -> Result<String, Alloc
     ensures { IfOk result (λ path. string_bytes path ≡ desk_path folder.now node) }
 {
     format!(in alloc; "{folder}/desk-{node}.sock")
+}
+
+/// The path of the socket in a folder at which a node says how it stands, `FOLDER/look-ID.sock`.
+///
+/// # Errors
+/// Where memory runs out.
+pub fn look_path(alloc: Global, folder: &str, node: u16) -> Result<String, AllocError>
+    ensures { IfOk result (λ path. string_bytes path ≡ look_path folder.now node) }
+{
+    format!(in alloc; "{folder}/look-{node}.sock")
 }
 
 /// The node whose desk has a file of this name, if it is a desk's.

@@ -17,10 +17,16 @@ mod answers;
 pub mod desk_file;
 pub mod laws;
 mod lines;
+mod look;
+mod look_parts;
 mod paths;
+mod premises;
 mod status_line;
 
 pub use answers::{NodeAnswer, all_answered, report};
 pub use lines::{CapacityLine, End, EndLine, Note, NoteLine, SOCKET_FRAMES};
+pub use look::{Look, link_parts, look_line, status_of};
+pub use look_parts::{LinkPart, LoanPart, ProcessPart, TurnPart};
 pub use paths::{LONGEST_SOCKET_NAME, NodePaths, links_name, longest_socket_name};
+pub use premises::{PremisesLine, TurnsSaid, premises_report};
 pub use status_line::{MOST_STATUS_BYTES, StatusLine, StatusReading};

@@ -16,6 +16,8 @@ pub struct NodePaths {
     pub links: String,
     /// The socket at which clients connect.
     pub clients: String,
+    /// The socket at which whoever looks at the node connects.
+    pub looks: String,
     /// The file that ends the node.
     pub stop: String,
     /// The file that the node holds locked while it runs.
@@ -34,6 +36,7 @@ impl NodePaths {
             state: file_name(alloc, dir, "state-", id, ".tkt")?,
             links: links_name(alloc, dir, id)?,
             clients: file_name(alloc, dir, "desk-", id, ".sock")?,
+            looks: file_name(alloc, dir, "look-", id, ".sock")?,
             stop: file_name(alloc, dir, "stop-", id, "")?,
             lock: file_name(alloc, dir, "lock-", id, "")?,
         })

@@ -24,7 +24,7 @@ returns-in-Loose-clause-line g c =
 pub returns-in-Taken-clause-offered : goal.returns-in-Taken-clause-offered
 returns-in-Taken-clause-offered g c = record {
   answer = offer.Taken;
-  accepted = record { link = c.offer.new.self; greeting = c.args.self.now.greeting; is_stuck = c.args.self.now.is_stuck };
+  accepted = record { link = c.offer.new.self; greeting = c.args.self.now.greeting; is_stuck = c.args.self.now.is_stuck; made = c.args.self.now.made };
   offered = rw c.in-Taken.is at c.offer.ensures;
   stuck = refl;
   greeting = refl;
@@ -34,7 +34,7 @@ returns-in-Taken-clause-offered g c = record {
 pub returns-in-Busy-clause-offered : goal.returns-in-Busy-clause-offered
 returns-in-Busy-clause-offered g c = record {
   answer = offer.Busy;
-  accepted = record { link = c.offer.new.self; greeting = c.args.self.now.greeting; is_stuck = c.args.self.now.is_stuck };
+  accepted = record { link = c.offer.new.self; greeting = c.args.self.now.greeting; is_stuck = c.args.self.now.is_stuck; made = c.args.self.now.made };
   offered = rw c.in-Busy.is at c.offer.ensures;
   stuck = refl;
   greeting = refl;
@@ -44,7 +44,7 @@ returns-in-Busy-clause-offered g c = record {
 pub returns-in-Loose-clause-offered : goal.returns-in-Loose-clause-offered
 returns-in-Loose-clause-offered g c = record {
   answer = offer.Loose;
-  accepted = record { link = c.offer.new.self; greeting = c.args.self.now.greeting; is_stuck = c.args.self.now.is_stuck };
+  accepted = record { link = c.offer.new.self; greeting = c.args.self.now.greeting; is_stuck = c.args.self.now.is_stuck; made = c.args.self.now.made };
   offered = rw c.in-Loose.is at c.offer.ensures;
   stuck = refl;
   greeting = refl;

@@ -1,0 +1,158 @@
+//! What a node says to whoever looks: one line, a JSON object.
+ghost use Rattle.std.specs.Prelude.{◌≡◌, ◌++◌, IfOk, OnOk, codes, string_bytes};
+ghost use Rattle.node_core.specs.View.{site_in, state_of};
+ghost use Rattle.node_texts.specs.LookText.{look_text, status_part, links_text, other_links_text};
+ghost use Rattle.node_texts.specs.LookText.{link_text, rest_text, link_parts};
+ghost use Rattle.node_texts.specs.NodeStatus.{line_of};
+
+use crate::StatusLine;
+use crate::look_parts::{LinkPart, LoanPart, OrNull, ProcessPart, TurnPart};
+use node_core::Node;
+use std::alloc::{AllocError, Allocator, Global};
+use std::fmt;
+use std::fmt::Write;
+use turn_watch::Notes;
+
+/// What a node says of itself to whoever looks.
+#[derive(Drop)]
+pub struct Look<'a> {
+    /// What its status line says.
+    pub status: StatusLine,
+    /// The link to each neighbour.
+    pub links: &'a [LinkPart],
+    /// Its loans.
+    pub loans: LoanPart,
+    /// Its turns.
+    pub turns: TurnPart,
+    /// Its process.
+    pub process: ProcessPart,
+    /// The version of the program, in letters, digits and dots.
+    pub version: &'a str,
+}
+
+/// What the status line of a node says.
+pub fn status_of<A: Allocator>(node: &Node<A>) -> StatusLine
+    ensures { result ≡ line_of (site_in node.now) (state_of node.now) }
+{
+    StatusLine {
+        node: node.id(),
+        distance: node.distance(),
+        parent: node.parent(),
+        token: node.privileged(),
+        lent: node.lent(),
+        waiting: node.waiting() as u16,
+    }
+}
+
+/// The links to these neighbours, as they are noted at that time.
+///
+/// # Errors
+/// Where memory runs out.
+pub fn link_parts(
+    alloc: Global,
+    neighbours: &[u16],
+    notes: &Notes,
+    now: u64,
+) -> Result<Vec<LinkPart>, AllocError>
+    ensures { IfOk result (λ parts. parts.items ≡ link_parts notes.now.links now neighbours.now) }
+{
+    let mut parts = Vec::with_capacity(alloc, neighbours.len())?;
+    for id in neighbours {
+        parts.push(LinkPart::of(*id, &notes.link(*id), now))?;
+    }
+    Ok(parts)
+}
+
+/// The line for whoever looks at a node, with its newline.
+///
+/// # Errors
+/// Where memory runs out.
+pub fn look_line(alloc: Global, look: &Look<'_>) -> Result<String, AllocError>
+    ensures { IfOk result (λ line. string_bytes line
+        ≡ look_text look.now.status look.now.links.now look.now.loans look.now.turns
+        look.now.process look.now.version.now) }
+{
+    let mut text = String::new(alloc);
+    push_status(&mut text, look.status)?;
+    push_links(&mut text, look.links)?;
+    push_rest(&mut text, look)?;
+    Ok(text)
+}
+
+/// Begins the object by what the status line says.
+fn push_status(text: &mut String, status: StatusLine) -> Result<(), AllocError>
+    ensures { OnOk result (string_bytes text.new
+        ≡ string_bytes text.old ++ (codes "{" ++ status_part status)) }
+{
+    write!(text, "{{{}", StatusPart(status))
+}
+
+/// Adds the links.
+fn push_links(text: &mut String, links: &[LinkPart]) -> Result<(), AllocError>
+    ensures { OnOk result (string_bytes text.new
+        ≡ string_bytes text.old ++ (codes ",\"links\":[" ++ (links_text links.now ++ codes "]"))) }
+{
+    write!(text, ",\"links\":[")?;
+    if let [first, others @ ..] = links {
+        write!(text, "{first}")?;
+        push_others(text, others)?;
+    }
+    write!(text, "]")
+}
+
+/// Adds links after the first.
+fn push_others(text: &mut String, links: &[LinkPart]) -> Result<(), AllocError>
+    ensures { OnOk result (string_bytes text.new
+        ≡ string_bytes text.old ++ other_links_text links.now) }
+{
+    for link in links {
+        push_other(text, link)?;
+    }
+    Ok(())
+}
+
+/// Adds a link after another.
+fn push_other(text: &mut String, link: &LinkPart) -> Result<(), AllocError>
+    ensures { OnOk result (string_bytes text.new
+        ≡ string_bytes text.old ++ (codes "," ++ link_text link.now)) }
+{
+    write!(text, ",{link}")
+}
+
+/// Adds what is left, and ends the object and the line.
+fn push_rest(text: &mut String, look: &Look<'_>) -> Result<(), AllocError>
+    ensures { OnOk result (string_bytes text.new
+        ≡ string_bytes text.old ++ rest_text look.now.loans look.now.turns look.now.process
+        look.now.version.now) }
+{
+    let (loans, turns, version) = (look.loans, look.turns, look.version);
+    let (process, start) = (OrNull(look.process.id), OrNull(look.process.start));
+    writeln!(
+        text,
+        ",\"loans\":{loans},\"turns\":{turns},\"process\":{process},\"version\":\"{version}\",\"start_ms\":{start}}}"
+    )
+}
+
+/// What the status line says, as members of a JSON object.
+#[derive(Drop)]
+struct StatusPart(StatusLine);
+
+impl fmt::Display for StatusPart {
+    ghost use Rattle.std.specs.Prelude.{Some};
+    ghost use Rattle.node_texts.specs.LookText.{status_part};
+
+    ghost output = { λ status. Some (status_part status.0) };
+
+    fn fmt<W: fmt::Write>(&self, f: &mut fmt::Formatter<W>) -> fmt::Result {
+        let token = if self.0.token { "true" } else { "false" };
+        write!(
+            f,
+            "\"node\":{},\"distance\":{},\"parent\":{},\"token\":{token},\"lent\":{},\"waiting\":{}",
+            self.0.node,
+            self.0.distance,
+            OrNull(self.0.parent.map(u64::from)),
+            OrNull(self.0.lent.map(u64::from)),
+            self.0.waiting
+        )
+    }
+}

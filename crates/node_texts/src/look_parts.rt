@@ -1,0 +1,167 @@
+//! The parts of what a node says to whoever looks.
+ghost use Rattle.std.specs.Prelude.{◌≡◌};
+ghost use Rattle.std.specs.Option.{option_map};
+ghost use Rattle.turn_watch.specs.Links.{break_count};
+ghost use Rattle.turn_watch.specs.Loans.{loan_length};
+ghost use Rattle.turn_watch.specs.Turns.{longest_lately};
+ghost use Rattle.node_texts.specs.LookText.{link_part, loan_part, turn_part};
+
+use std::fmt;
+use turn_watch::{LinkTimes, LoanTimes, TurnTimes};
+
+/// The link to a neighbour. Printed, it is a JSON object.
+#[derive(Clone, Copy, Debug, PartialEq, Eq, Drop)]
+pub struct LinkPart {
+    /// The neighbour.
+    pub node: u16,
+    /// Whether a connection stands.
+    pub is_up: bool,
+    /// How long this has been so, in microseconds.
+    pub since: u64,
+    /// How often a connection broke, or was replaced by a newer one.
+    pub breaks: u64,
+}
+
+impl LinkPart {
+    /// The link to this neighbour at that time.
+    pub fn of(node: u16, link: &LinkTimes, now: u64) -> LinkPart
+        ensures { result ≡ link_part node link.now now }
+    {
+        LinkPart {
+            node,
+            is_up: link.sight.is_up,
+            since: now.saturating_sub(link.since),
+            breaks: link.sight.breaks(),
+        }
+    }
+}
+
+impl fmt::Display for LinkPart {
+    ghost use Rattle.std.specs.Prelude.{Some};
+    ghost use Rattle.node_texts.specs.LookText.{link_text};
+
+    ghost output = { λ link. Some (link_text link) };
+
+    fn fmt<W: fmt::Write>(&self, f: &mut fmt::Formatter<W>) -> fmt::Result {
+        let (node, since, breaks) = (self.node, self.since, self.breaks);
+        let up = if self.is_up { "true" } else { "false" };
+        write!(
+            f,
+            "{{\"node\":{node},\"up\":{up},\"for_us\":{since},\"breaks\":{breaks}}}"
+        )
+    }
+}
+
+/// The loans of a node, in microseconds. Printed, it is a JSON object.
+#[derive(Clone, Copy, Debug, PartialEq, Eq, Drop)]
+pub struct LoanPart {
+    /// The loans so far.
+    pub count: u64,
+    /// The longest of those that ended.
+    pub longest: u64,
+    /// How long the present one has been, if there is one.
+    pub present: Option<u64>,
+}
+
+impl LoanPart {
+    /// The loans at that time.
+    pub fn of(loans: &LoanTimes, now: u64) -> LoanPart
+        ensures { result ≡ loan_part loans.now now }
+    {
+        LoanPart {
+            count: loans.count,
+            longest: loans.longest,
+            present: loans.present(now),
+        }
+    }
+}
+
+impl fmt::Display for LoanPart {
+    ghost use Rattle.std.specs.Prelude.{Some};
+    ghost use Rattle.node_texts.specs.LookText.{loan_text};
+
+    ghost output = { λ loans. Some (loan_text loans) };
+
+    fn fmt<W: fmt::Write>(&self, f: &mut fmt::Formatter<W>) -> fmt::Result {
+        write!(
+            f,
+            "{{\"count\":{},\"longest_us\":{},\"present_us\":{}}}",
+            self.count,
+            self.longest,
+            OrNull(self.present)
+        )
+    }
+}
+
+/// The turns of a node, and the longest times between the ends of two, in microseconds. Printed, it is a
+/// JSON object.
+#[derive(Clone, Copy, Debug, PartialEq, Eq, Drop)]
+pub struct TurnPart {
+    /// The turns so far.
+    pub count: u64,
+    /// The longest time between two, since the start.
+    pub longest: u64,
+    /// The longest of the last minute.
+    pub lately: u64,
+    /// After more than how much time a turn is late.
+    pub limit: u64,
+    /// How many were late.
+    pub late: u64,
+}
+
+impl TurnPart {
+    /// The turns at that time, which are late after `limit`.
+    pub fn of(turns: &TurnTimes, limit: u64, now: u64) -> TurnPart
+        ensures { result ≡ turn_part turns.now limit now }
+    {
+        TurnPart {
+            count: turns.count,
+            longest: turns.longest,
+            lately: turns.longest_lately(now),
+            limit,
+            late: turns.late,
+        }
+    }
+}
+
+impl fmt::Display for TurnPart {
+    ghost use Rattle.std.specs.Prelude.{Some};
+    ghost use Rattle.node_texts.specs.LookText.{turn_text};
+
+    ghost output = { λ turns. Some (turn_text turns) };
+
+    fn fmt<W: fmt::Write>(&self, f: &mut fmt::Formatter<W>) -> fmt::Result {
+        write!(
+            f,
+            "{{\"count\":{},\"longest_us\":{},\"lately_us\":{},\"limit_us\":{},\"late\":{}}}",
+            self.count, self.longest, self.lately, self.limit, self.late
+        )
+    }
+}
+
+/// The process of a node.
+#[derive(Clone, Copy, Debug, PartialEq, Eq, Drop)]
+pub struct ProcessPart {
+    /// Its id in the system, if the system says it.
+    pub id: Option<u64>,
+    /// When it started, in milliseconds since the start of 1970, UTC, if the system says it.
+    pub start: Option<u64>,
+}
+
+/// A number, or `null`.
+#[derive(Drop)]
+pub(crate) struct OrNull(pub Option<u64>);
+
+impl fmt::Display for OrNull {
+    ghost use Rattle.std.specs.Prelude.{Some};
+    ghost use Rattle.node_texts.specs.LookText.{or_null_text};
+
+    ghost output = { λ number. Some (or_null_text number.0) };
+
+    fn fmt<W: fmt::Write>(&self, f: &mut fmt::Formatter<W>) -> fmt::Result {
+        match self.0 {
+            Some(number) => write!(f, "{number}"),
+            None => f.write_str("null"),
+        }
+    }
+}

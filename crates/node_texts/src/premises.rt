@@ -1,0 +1,144 @@
+//! What a node's line for whoever looks says of its turns, and what `status --premises` prints of it.
+ghost use Rattle.std.specs.Prelude.{◌≡◌, ◌++◌, IfOk, OnOk, codes, string_bytes};
+ghost use Rattle.serde_json.specs.View.{view};
+ghost use Rattle.node_texts.specs.PremisesText.{member_number, turns_said, line_said};
+ghost use Rattle.node_texts.specs.PremisesText.{premises_line, premises_text};
+
+use serde_json::Value;
+use std::alloc::{AllocError, Global};
+use std::fmt;
+use std::fmt::Write;
+
+/// The turns of a node, as its line for whoever looks says. In microseconds.
+#[derive(Clone, Copy, Debug, PartialEq, Eq, Drop)]
+pub struct TurnsSaid {
+    /// The turns so far.
+    pub count: u64,
+    /// The longest time between the ends of two.
+    pub longest: u64,
+    /// The longest of the last minute.
+    pub lately: u64,
+    /// How many turns were late.
+    pub late: u64,
+}
+
+impl TurnsSaid {
+    /// What a line says, if it is a JSON object whose member `turns` has these four numbers. Other
+    /// members do not matter.
+    ///
+    /// # Errors
+    /// Where memory runs out.
+    pub fn read(alloc: Global, line: &str) -> Result<Option<TurnsSaid>, AllocError>
+        ensures { IfOk result (λ said. said ≡ line_said line.now) }
+    {
+        match Value::from_str(alloc, line) {
+            Ok(value) => Ok(turns_said(&value)),
+            Err(error) if error.is_memory() => Err(AllocError),
+            Err(_) => Ok(None),
+        }
+    }
+}
+
+/// What a value says of a node's turns.
+fn turns_said(value: &Value) -> Option<TurnsSaid>
+    ensures { result ≡ turns_said (view value.now) }
+{
+    let turns = value.get("turns")?;
+    Some(TurnsSaid {
+        count: member_number(turns, "count")?,
+        longest: member_number(turns, "longest_us")?,
+        lately: member_number(turns, "lately_us")?,
+        late: member_number(turns, "late")?,
+    })
+}
+
+/// The number that is a member of an object.
+fn member_number(object: &Value, name: &str) -> Option<u64>
+    ensures { result ≡ member_number name.now (view object.now) }
+{
+    object.get(name)?.as_u64()
+}
+
+/// What `status --premises` prints: a line for each node.
+///
+/// # Errors
+/// Where memory runs out.
+pub fn premises_report(alloc: Global, lines: &[PremisesLine]) -> Result<String, AllocError>
+    ensures { IfOk result (λ text. string_bytes text ≡ premises_text lines.now) }
+{
+    let mut text = String::new(alloc);
+    push_all(&mut text, lines)?;
+    Ok(text)
+}
+
+/// Adds the line of each.
+fn push_all(text: &mut String, lines: &[PremisesLine]) -> Result<(), AllocError>
+    ensures { OnOk result (string_bytes text.new
+        ≡ string_bytes text.old ++ premises_text lines.now) }
+{
+    for line in lines {
+        push_line(text, line)?;
+    }
+    Ok(())
+}
+
+/// Adds the line of a node.
+fn push_line(text: &mut String, line: &PremisesLine) -> Result<(), AllocError>
+    ensures { OnOk result (string_bytes text.new
+        ≡ string_bytes text.old ++ (premises_line line.now.node line.now.said ++ codes "\n")) }
+{
+    writeln!(text, "{line}")
+}
+
+/// The line of `status --premises` for a node: its turns, or that it gave no answer. Printed, it has no
+/// newline; times are in milliseconds.
+#[derive(Clone, Copy, Debug, PartialEq, Eq, Drop)]
+pub struct PremisesLine {
+    /// The node.
+    pub node: u16,
+    /// What it said of its turns.
+    pub said: Option<TurnsSaid>,
+}
+
+impl fmt::Display for PremisesLine {
+    ghost use Rattle.std.specs.Prelude.{Some};
+    ghost use Rattle.node_texts.specs.PremisesText.{premises_line};
+
+    ghost output = { λ line. Some (premises_line line.node line.said) };
+
+    fn fmt<W: fmt::Write>(&self, f: &mut fmt::Formatter<W>) -> fmt::Result {
+        let node = self.node;
+        let Some(said) = self.said else {
+            return write!(f, "node {node} no answer");
+        };
+        let (count, late) = (said.count, said.late);
+        let (longest, lately) = (Millis(said.longest), Millis(said.lately));
+        write!(
+            f,
+            "node {node} turns {count} longest {longest} ms lately {lately} ms late {late}"
+        )
+    }
+}
+
+/// Microseconds, printed as milliseconds with three decimals.
+#[derive(Drop)]
+struct Millis(u64);
+
+impl fmt::Display for Millis {
+    ghost use Rattle.std.specs.Prelude.{Some};
+    ghost use Rattle.node_texts.specs.PremisesText.{millis_text};
+
+    ghost output = { λ time. Some (millis_text time.0) };
+
+    fn fmt<W: fmt::Write>(&self, f: &mut fmt::Formatter<W>) -> fmt::Result {
+        let micros = self.0;
+        write!(
+            f,
+            "{}.{}{}{}",
+            micros / 1000,
+            micros / 100 % 10,
+            micros / 10 % 10,
+            micros % 10
+        )
+    }
+}

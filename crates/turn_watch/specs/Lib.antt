@@ -1,0 +1,5 @@
+pub mod Turns
+pub mod Loans
+pub mod Links
+pub mod Laws
+pub mod Notes

@@ -1,0 +1,9 @@
+//! Laws of what is noted of turns, each the contract of a function that does nothing.
+ghost use Rattle.turn_watch.specs.Laws.{LongestIsTheGreatest, NoLateGapIsMissed};
+
+/// Whoever reads the longest gap of a node relies on it: no gap was longer, and one was as long.
+pub fn no_gap_is_missed()
+    ensures longest { LongestIsTheGreatest }
+    // Of the last minute at least each gap is kept.
+    ensures lately { NoLateGapIsMissed }
+{}

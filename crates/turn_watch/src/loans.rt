@@ -1,0 +1,79 @@
+//! How long the loans of a node are.
+ghost use Rattle.std.specs.Prelude.{◌≡◌};
+ghost use Rattle.std.specs.Option.{option_map};
+ghost use Rattle.turn_watch.specs.Loans.{no_loans, loan_ended, loan_begun, desk_seen, loan_length};
+
+/// What is seen of a node's desk after a turn.
+#[derive(Clone, Copy, Debug, PartialEq, Eq)]
+pub struct DeskSight {
+    /// Whether a loan began in the turn.
+    pub has_granted: bool,
+    /// Whether the lock is lent now.
+    pub lends: bool,
+}
+
+/// How often a node lent the lock, and for how long, in microseconds: each loan begins and ends with
+/// the turn in which it did.
+#[derive(Clone, Copy, Debug, PartialEq, Eq)]
+pub struct LoanTimes {
+    /// The loans so far; the count stays at 2^64 - 1.
+    pub count: u64,
+    /// The longest of those that ended.
+    pub longest: u64,
+    /// When the present loan began, if there is one.
+    pub since: Option<u64>,
+}
+
+impl LoanTimes {
+    /// Nothing was lent yet.
+    pub fn begin() -> LoanTimes
+        ensures { result ≡ no_loans }
+    {
+        LoanTimes {
+            count: 0,
+            longest: 0,
+            since: None,
+        }
+    }
+
+    /// Takes note of the desk after a turn that ended at that time.
+    pub fn note(&mut self, now: u64, desk: DeskSight)
+        ensures { self.new ≡ desk_seen now desk self.old }
+    {
+        if desk.has_granted || !desk.lends {
+            self.end(now);
+        }
+        if desk.has_granted {
+            self.count = self.count.saturating_add(1);
+        }
+        if desk.lends {
+            self.begin_loan(now);
+        }
+    }
+
+    /// The present loan has ended, if there is one.
+    fn end(&mut self, now: u64)
+        ensures { self.new ≡ loan_ended now self.old }
+    {
+        if let Some(since) = self.since {
+            self.longest = self.longest.max(now.saturating_sub(since));
+            self.since = None;
+        }
+    }
+
+    /// A loan has begun, unless one runs.
+    fn begin_loan(&mut self, now: u64)
+        ensures { self.new ≡ loan_begun now self.old }
+    {
+        if self.since.is_none() {
+            self.since = Some(now);
+        }
+    }
+
+    /// How long the present loan has been, if there is one.
+    pub fn present(&self, now: u64) -> Option<u64>
+        ensures { result ≡ option_map (loan_length now) self.now.since }
+    {
+        self.since.map(|since| now.saturating_sub(since))
+    }
+}

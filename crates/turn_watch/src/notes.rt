@@ -1,0 +1,125 @@
+//! All that a node notes of itself.
+ghost use Rattle.std.specs.Prelude.{◌≡◌, ◌≢◌, ◌<◌, ℕ, false, replicate};
+ghost use Rattle.turn_watch.specs.Turns.{begun, turn_ended};
+ghost use Rattle.turn_watch.specs.Loans.{no_loans, desk_seen};
+ghost use Rattle.turn_watch.specs.Links.{down_since, link_seen, link_of};
+ghost use Rattle.turn_watch.specs.Notes.{next_of};
+
+use crate::links::{LinkSight, LinkTimes};
+use crate::loans::{DeskSight, LoanTimes};
+use crate::turns::TurnTimes;
+
+/// The most nodes of a network.
+const NODES: usize = 64;
+
+/// What a node notes of its turns, loans and links.
+#[derive(Drop)]
+pub struct Notes {
+    turns: TurnTimes,
+    loans: LoanTimes,
+    /// By the id of the node at the other end.
+    links: [LinkTimes; NODES],
+    /// After how many microseconds a turn is late.
+    limit: u64,
+    /// Whose link is noted next.
+    next: u16,
+}
+
+impl Notes {
+    /// Nothing has happened since the start, and no link is up. Turns are late after `limit`
+    /// microseconds.
+    pub fn begin(now: u64, limit: u64) -> Notes
+        ensures { (result.turns ≡ begun now) × (result.loans ≡ no_loans)
+            × (result.links ≡ replicate 64 (down_since now))
+            × (result.limit ≡ limit) × (result.next ≡ 0) }
+    {
+        Notes {
+            turns: TurnTimes::begin(now),
+            loans: LoanTimes::begin(),
+            links: [LinkTimes::begin(now); NODES],
+            limit,
+            next: 0,
+        }
+    }
+
+    /// A turn has ended, and the desk stands so.
+    pub fn turn_ended(&mut self, now: u64, desk: DeskSight)
+        ensures { self.new ≡ record self.old {
+          turns = turn_ended self.old.limit now self.old.turns;
+          loans = desk_seen now desk self.old.loans;
+        } }
+    {
+        self.turns.note(now, self.limit);
+        self.loans.note(now, desk);
+    }
+
+    /// The node did something that is no turn, and lends now or does not. No loan begins by it.
+    pub fn attended(&mut self, now: u64, lends: bool)
+        ensures { self.new ≡ record self.old {
+          loans = desk_seen now (record { has_granted = false; lends = lends }) self.old.loans;
+        } }
+    {
+        let desk = DeskSight {
+            has_granted: false,
+            lends,
+        };
+        self.loans.note(now, desk);
+    }
+
+    /// Whose link is to be noted now: that of each node of a network of `nodes` nodes in turn.
+    pub fn next_link(&mut self, nodes: u16) -> u16
+        ensures next { result ≡ self.old.next }
+        ensures after { self.new ≡ record self.old { next = next_of nodes self.old.next } }
+    {
+        let id = self.next;
+        let after = id.saturating_add(1);
+        self.next = if after < nodes { after } else { 0 };
+        id
+    }
+
+    /// Takes note of the link to a node. Nothing is noted of an id above 63.
+    pub fn note_link(&mut self, id: u16, sight: LinkSight, now: u64)
+        ensures link { id < 64
+            → link_of self.new.links id ≡ link_seen sight now (link_of self.old.links id) }
+        ensures others { (other : ℕ) → other ≢ id
+            → link_of self.new.links other ≡ link_of self.old.links other }
+        ensures rest { (self.new.turns ≡ self.old.turns) × (self.new.loans ≡ self.old.loans)
+            × (self.new.limit ≡ self.old.limit) × (self.new.next ≡ self.old.next) }
+    {
+        if usize::from(id) < NODES {
+            self.links[usize::from(id)].note(sight, now);
+        }
+    }
+
+    /// Its turns.
+    pub fn turns(&self) -> &TurnTimes
+        ensures { result.now ≡ self.now.turns }
+    {
+        &self.turns
+    }
+
+    /// Its loans.
+    pub fn loans(&self) -> &LoanTimes
+        ensures { result.now ≡ self.now.loans }
+    {
+        &self.loans
+    }
+
+    /// The link to a node; to an id above 63 none was ever made.
+    pub fn link(&self, id: u16) -> LinkTimes
+        ensures { result ≡ link_of self.now.links id }
+    {
+        if usize::from(id) < NODES {
+            self.links[usize::from(id)]
+        } else {
+            LinkTimes::begin(0)
+        }
+    }
+
+    /// After how many microseconds a turn is late.
+    pub fn limit(&self) -> u64
+        ensures { result ≡ self.now.limit }
+    {
+        self.limit
+    }
+}
