@@ -20,8 +20,8 @@ mod heard;
 pub mod laws;
 mod port;
 
-pub use k_state;
-pub use link_model;
 pub use fault::OutOfRange;
 pub use heard::Heard;
+pub use k_state;
+pub use link_model;
 pub use port::Port;

@@ -34,9 +34,9 @@ mod own;
 mod status;
 mod ticked;
 
-pub use registers::link_model::{Frame, Item, Payload, Ranges};
 pub use bfs_tree;
 pub use lock_desk::{AskFault, DeskAct, Stranger};
 pub use node::{Node, NodeState};
 pub use registers::OutOfRange;
+pub use registers::link_model::{Frame, Item, Payload, Ranges};
 pub use ticked::Ticked;

@@ -21,6 +21,5 @@
 
 mod registers;
 
-pub use data_link::{k_state, link_model};
-pub use data_link::{Heard, OutOfRange};
+pub use data_link::{Heard, OutOfRange, k_state, link_model};
 pub use registers::Registers;

@@ -18,12 +18,12 @@ use crate::window::Window;
 use byte_streams::Source;
 use configuration::Configuration;
 use events_text::{EventReader, TextLine};
-use world::{Judge, World};
 use run_model::Event;
 use std::alloc::{Allocator, Global};
 use std::marker::Model;
 use topology::Net;
 use world::simulation::{LONGEST_TEXT, SimFault};
+use world::{Judge, World};
 
 /// The most bytes of one read.
 const PIECE: usize = 8192;
