@@ -7,20 +7,25 @@ use crate::grammar::{Choice, Grammar, Parameter, Program};
 use clap::{Arg, ArgAction, ArgGroup, Command};
 use std::alloc::{AllocError, Global};
 
-/// The parser of a program's command lines.
-///
-/// # Errors
-/// If memory runs out.
-pub fn parser<'a>(alloc: Global, program: &Program<'a>) -> Result<Command<'a>, AllocError> {
-    let mut parser = Command::new(alloc, program.name)
+/// The parser of a program's command lines, to which no command was added yet.
+pub fn parser<'a>(alloc: Global, program: &Program<'a>) -> Command<'a> {
+    Command::new(alloc, program.name)
         .about(program.about)
         .after_help(program.help)
         .version(program.version)
-        .subcommand_required(true);
-    for grammar in program.commands {
-        parser = parser.subcommand(command_of(alloc, grammar)?)?;
-    }
-    Ok(parser)
+        .subcommand_required(true)
+}
+
+/// The parser with one more command, which the help shows after the others.
+///
+/// # Errors
+/// If memory runs out.
+pub fn with_command<'a>(
+    parser: Command<'a>,
+    alloc: Global,
+    grammar: &Grammar<'a>,
+) -> Result<Command<'a>, AllocError> {
+    parser.subcommand(command_of(alloc, grammar)?)
 }
 
 /// The parser of a command.

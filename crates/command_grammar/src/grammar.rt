@@ -76,7 +76,8 @@ pub struct Grammar<'a> {
     pub choice: Option<Choice<'a>>,
 }
 
-/// A program of several commands, of which a command line must name one.
+/// A program of several commands, of which a command line must name one. They are added to its parser
+/// one by one, since a constant with all of them is long to prove anything about.
 #[derive(Clone, Copy, Debug)]
 pub struct Program<'a> {
     /// Its name.
@@ -87,6 +88,4 @@ pub struct Program<'a> {
     pub help: &'a str,
     /// Its version, as `--version` shows it.
     pub version: &'a str,
-    /// Its commands, in the order in which the help shows them.
-    pub commands: &'a [Grammar<'a>],
 }

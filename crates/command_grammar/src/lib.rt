@@ -1,7 +1,7 @@
 //! The grammar of a program's command lines as data, and the parser that it makes.
 //!
-//! A command is a [`Grammar`]: its name, its help and what it takes. A program is a [`Program`], a
-//! list of them. [`parser`] reads such a table and makes clap's command of it.
+//! A command is a [`Grammar`]: its name, its help and what it takes. [`parser`] makes
+//! clap's parser of a [`Program`], and [`with_command`] adds a command to it.
 //!
 //! ```
 //! const BOUND: Grammar<'static> = Grammar {
@@ -25,7 +25,7 @@ mod grammar;
 mod number;
 mod words;
 
-pub use building::parser;
+pub use building::{parser, with_command};
 pub use grammar::{Choice, Grammar, Parameter, Program};
 pub use number::Number;
 pub use words::{WordFault, given_number, number_if_given, word};

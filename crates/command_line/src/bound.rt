@@ -1,15 +1,16 @@
 //! The words of `bound`.
 use crate::program::NETWORK_FILE;
 use crate::refusal::Refusal;
-use clap::ArgMatches;
-use command_grammar::{Grammar, Parameter, word};
+use clap::{ArgMatches, Command};
+use command_grammar::{Grammar, Parameter, with_command, word};
 use recovery_times::{PremiseWords, Premises, TimeFault};
+use std::alloc::{AllocError, Global};
 use std::process::ExitCode;
 use std::rt::Files;
 use subcommands::bound;
 
 /// What `bound` takes.
-pub const BOUND: Grammar<'static> = Grammar {
+const BOUND: Grammar<'static> = Grammar {
     name: "bound",
     about: "Shows a network's numbers, distances and parents, and after how many sweeps its lock works from any state",
     help: HELP,
@@ -19,11 +20,45 @@ pub const BOUND: Grammar<'static> = Grammar {
             "sharp",
             "Show the bound in which the capacity has no part, too",
         ),
+        Parameter::Flag("time", "Show how long recovery and a grant take, too"),
+        Parameter::Value(
+            "turn",
+            MILLISECONDS,
+            "Each node gets a whole turn in this time [default: 2.2]",
+        ),
+        Parameter::Value(
+            "delay",
+            MILLISECONDS,
+            "A frame can be taken after this time [default: 0.1]",
+        ),
+        Parameter::Value(
+            "loan",
+            MILLISECONDS,
+            "A loan ends within this time [default: 0]",
+        ),
+        Parameter::Value(
+            "repeat",
+            MILLISECONDS,
+            "A frame is sent again after this time [default: 8]",
+        ),
     ],
-    needs: &[],
+    needs: &[
+        ("turn", "time"),
+        ("delay", "time"),
+        ("loan", "time"),
+        ("repeat", "time"),
+    ],
     excludes: &[],
     choice: None,
 };
+
+/// Adds the command to the program's parser.
+pub fn add_to<'a>(parser: Command<'a>, alloc: Global) -> Result<Command<'a>, AllocError> {
+    with_command(parser, alloc, &BOUND)
+}
+
+/// What the help calls a time.
+const MILLISECONDS: &str = "MILLISECONDS";
 
 /// What follows the options in its help.
 const HELP: &str = "\

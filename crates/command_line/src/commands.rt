@@ -7,24 +7,68 @@ use crate::refusal::{Refusal, status};
 use crate::{
     bound, cut, draw, junk, lock, measure, node, schedule, scramble, simulate, threads, up,
 };
-use clap::ArgMatches;
+use clap::{ArgMatches, Command};
 use command_grammar::parser;
 use command_parts::Fault;
 use program_ends::{fails, fault_status, shows};
+use std::alloc::{AllocError, Global};
 use std::convert::AsStr;
 use std::process::ExitCode;
 
 /// Does what the words say, of which the first is the program's name, and says with which status it
 /// is done. Progress is told where standard error is a terminal.
 pub fn run_words<R: Runtime, S: AsStr>(rt: &R, words: &[S], on_terminal: bool) -> ExitCode {
+    let matches = match matches_of(rt, words) {
+        Ok(matches) => matches,
+        Err(status) => return status,
+    };
+    status(rt, act(rt, &matches, on_terminal), asks_for_lock(words))
+}
+
+/// What the words give, or the status of a line that has shown help or was refused.
+fn matches_of<'a, R: Print + Eprint + AllocGlobal, S: AsStr>(
+    rt: &R,
+    words: &'a [S],
+) -> Result<ArgMatches<'a>, ExitCode> {
     let is_lock = asks_for_lock(words);
-    let Ok(parser) = parser(rt.alloc(), &TOKENTREE) else {
-        return fails(rt, Fault::Memory, fault_status(is_lock));
+    let Ok(parser) = program_parser(rt.alloc()) else {
+        return Err(fails(rt, Fault::Memory, fault_status(is_lock)));
     };
     match parser.try_get_matches_from(words) {
-        Ok(matches) => status(rt, act(rt, &matches, on_terminal), is_lock),
-        Err(error) => shows(rt, &error, is_lock),
+        Ok(matches) => Ok(matches),
+        Err(error) => Err(shows(rt, &error, is_lock)),
     }
+}
+
+/// The parser of the program's command lines.
+fn program_parser<'a>(alloc: Global) -> Result<Command<'a>, AllocError> {
+    let parser = with_lock(parser(alloc, &TOKENTREE), alloc)?;
+    with_experiments(with_nodes(parser, alloc)?, alloc)
+}
+
+/// Adds the commands of a network's numbers and runs, and those of the lock.
+fn with_lock<'a>(parser: Command<'a>, alloc: Global) -> Result<Command<'a>, AllocError> {
+    let parser = bound::add_to(parser, alloc)?;
+    let parser = simulate::add_to(parser, alloc)?;
+    let parser = lock::add_to(parser, alloc)?;
+    crate::status::add_to(parser, alloc)
+}
+
+/// Adds the commands that do damage, and those that run nodes.
+fn with_nodes<'a>(parser: Command<'a>, alloc: Global) -> Result<Command<'a>, AllocError> {
+    let parser = scramble::add_to(parser, alloc)?;
+    let parser = cut::add_to(parser, alloc)?;
+    let parser = junk::add_to(parser, alloc)?;
+    let parser = node::add_to(parser, alloc)?;
+    up::add_to(parser, alloc)
+}
+
+/// Adds the commands of experiments, and of runs that are drawn or go on threads.
+fn with_experiments<'a>(parser: Command<'a>, alloc: Global) -> Result<Command<'a>, AllocError> {
+    let parser = schedule::add_to(parser, alloc)?;
+    let parser = measure::add_to(parser, alloc)?;
+    let parser = draw::add_to(parser, alloc)?;
+    threads::add_to(parser, alloc)
 }
 
 /// Whether the word after the program's name is `lock`.

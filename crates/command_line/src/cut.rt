@@ -1,13 +1,14 @@
 //! The words of `cut`.
 use crate::refusal::{Refusal, ended};
-use clap::ArgMatches;
-use command_grammar::{Grammar, Number, Parameter, given_number, word};
+use clap::{ArgMatches, Command};
+use command_grammar::{Grammar, Number, Parameter, given_number, with_command, word};
+use std::alloc::{AllocError, Global};
 use std::process::ExitCode;
 use std::rt::Files;
 use subcommands::cut;
 
 /// What `cut` takes.
-pub const CUT: Grammar<'static> = Grammar {
+const CUT: Grammar<'static> = Grammar {
     name: "cut",
     about: "Shortens a file to its first bytes, as a write that broke off leaves it",
     help: HELP,
@@ -19,6 +20,11 @@ pub const CUT: Grammar<'static> = Grammar {
     excludes: &[],
     choice: None,
 };
+
+/// Adds the command to the program's parser.
+pub fn add_to<'a>(parser: Command<'a>, alloc: Global) -> Result<Command<'a>, AllocError> {
+    with_command(parser, alloc, &CUT)
+}
 
 /// What follows the options in its help.
 const HELP: &str = "\

@@ -5,17 +5,18 @@ ghost use Rattle.command_line.specs.Wanted.{IsWantedOf, IsWantedRefused, IsWindo
 
 use crate::program::{EVENTS_TEXT, NETWORK_FILE};
 use crate::refusal::Refusal;
-use clap::ArgMatches;
-use command_grammar::{Grammar, Number, Parameter, number_if_given, word};
+use clap::{ArgMatches, Command};
+use command_grammar::{Grammar, Number, Parameter, number_if_given, with_command, word};
 use live_commands::draw;
 use live_commands::draw::{MOST_COLUMNS, Wanted};
 use run_picture::Window;
+use std::alloc::{AllocError, Global};
 use std::io::Input;
 use std::process::ExitCode;
 use std::rt::Files;
 
 /// What `draw` takes.
-pub const DRAW: Grammar<'static> = Grammar {
+const DRAW: Grammar<'static> = Grammar {
     name: "draw",
     about: "Draws a picture of a run: when which nodes were wrong, privileged or lending",
     help: HELP,
@@ -30,6 +31,11 @@ pub const DRAW: Grammar<'static> = Grammar {
     excludes: &[],
     choice: None,
 };
+
+/// Adds the command to the program's parser.
+pub fn add_to<'a>(parser: Command<'a>, alloc: Global) -> Result<Command<'a>, AllocError> {
+    with_command(parser, alloc, &DRAW)
+}
 
 /// What follows the options in its help.
 const HELP: &str = "\

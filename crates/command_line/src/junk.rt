@@ -1,12 +1,13 @@
 //! The words of `junk`.
 use crate::refusal::Refusal;
-use clap::ArgMatches;
-use command_grammar::{Grammar, Number, Parameter, given_number};
+use clap::{ArgMatches, Command};
+use command_grammar::{Grammar, Number, Parameter, given_number, with_command};
+use std::alloc::{AllocError, Global};
 use std::process::ExitCode;
 use subcommands::junk;
 
 /// What `junk` takes.
-pub const JUNK: Grammar<'static> = Grammar {
+const JUNK: Grammar<'static> = Grammar {
     name: "junk",
     about: "Prints lines that mean nothing, for whatever reads lines",
     help: HELP,
@@ -18,6 +19,11 @@ pub const JUNK: Grammar<'static> = Grammar {
     excludes: &[],
     choice: None,
 };
+
+/// Adds the command to the program's parser.
+pub fn add_to<'a>(parser: Command<'a>, alloc: Global) -> Result<Command<'a>, AllocError> {
+    with_command(parser, alloc, &JUNK)
+}
 
 /// What follows the options in its help.
 const HELP: &str = "\

@@ -1,13 +1,16 @@
 //! The words of `lock`.
 use crate::program::{Runtime, SOCKETS_FOLDER};
 use crate::refusal::Refusal;
-use clap::ArgMatches;
-use command_grammar::{Grammar, Number, Parameter, given_number, number_if_given, word};
+use clap::{ArgMatches, Command};
+use command_grammar::{
+    Grammar, Number, Parameter, given_number, number_if_given, with_command, word,
+};
 use lock_command::{Request, guard, lock};
+use std::alloc::{AllocError, Global};
 use std::process::ExitCode;
 
 /// What `lock` takes.
-pub const LOCK: Grammar<'static> = Grammar {
+const LOCK: Grammar<'static> = Grammar {
     name: "lock",
     about: "Runs a command while it holds the lock",
     help: HELP,
@@ -38,6 +41,11 @@ pub const LOCK: Grammar<'static> = Grammar {
     excludes: &[],
     choice: None,
 };
+
+/// Adds the command to the program's parser.
+pub fn add_to<'a>(parser: Command<'a>, alloc: Global) -> Result<Command<'a>, AllocError> {
+    with_command(parser, alloc, &LOCK)
+}
 
 /// What follows the options in its help.
 const HELP: &str = "\

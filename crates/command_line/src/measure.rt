@@ -5,9 +5,10 @@ ghost use Rattle.command_line.specs.Plan.{IsPlanOf, IsPlanRefused};
 
 use crate::program::NETWORK_FILE;
 use crate::refusal::Refusal;
-use clap::ArgMatches;
-use command_grammar::{Grammar, Number, Parameter, WordFault, given_number, word};
+use clap::{ArgMatches, Command};
+use command_grammar::{Grammar, Number, Parameter, WordFault, given_number, with_command, word};
 use experiments::Scheduler;
+use std::alloc::{AllocError, Global};
 use std::process::ExitCode;
 use std::rt::Files;
 use std::thread::Threads;
@@ -16,7 +17,7 @@ use subcommands::measure;
 use subcommands::measure::Plan;
 
 /// What `measure` takes.
-pub const MEASURE: Grammar<'static> = Grammar {
+const MEASURE: Grammar<'static> = Grammar {
     name: "measure",
     about: "Scrambles a network again and again, and shows after how many sweeps it worked",
     help: HELP,
@@ -37,6 +38,11 @@ pub const MEASURE: Grammar<'static> = Grammar {
     excludes: &[("random", "rounds")],
     choice: None,
 };
+
+/// Adds the command to the program's parser.
+pub fn add_to<'a>(parser: Command<'a>, alloc: Global) -> Result<Command<'a>, AllocError> {
+    with_command(parser, alloc, &MEASURE)
+}
 
 /// What follows the options in its help.
 const HELP: &str = "\

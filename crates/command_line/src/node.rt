@@ -2,13 +2,14 @@
 use crate::node_words::{FOLDER, HOLD_HELP, REPEAT_HELP, ended, manner};
 use crate::program::{NETWORK_FILE, Runtime};
 use crate::refusal::Refusal;
-use clap::ArgMatches;
-use command_grammar::{Grammar, Number, Parameter, given_number, word};
+use clap::{ArgMatches, Command};
+use command_grammar::{Grammar, Number, Parameter, given_number, with_command, word};
 use node_process::{NodeWords, node};
+use std::alloc::{AllocError, Global};
 use std::process::ExitCode;
 
 /// What `node` takes.
-pub const NODE: Grammar<'static> = Grammar {
+const NODE: Grammar<'static> = Grammar {
     name: "node",
     about: "Runs one node of a network as a process, until its stop file is there",
     help: HELP,
@@ -27,6 +28,11 @@ pub const NODE: Grammar<'static> = Grammar {
     excludes: &[],
     choice: None,
 };
+
+/// Adds the command to the program's parser.
+pub fn add_to<'a>(parser: Command<'a>, alloc: Global) -> Result<Command<'a>, AllocError> {
+    with_command(parser, alloc, &NODE)
+}
 
 /// What follows the options in its help.
 const HELP: &str = "\

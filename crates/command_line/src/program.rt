@@ -1,17 +1,4 @@
 //! The program: what it is and which commands it has.
-use crate::bound::BOUND;
-use crate::cut::CUT;
-use crate::draw::DRAW;
-use crate::junk::JUNK;
-use crate::lock::LOCK;
-use crate::measure::MEASURE;
-use crate::node::NODE;
-use crate::schedule::SCHEDULE;
-use crate::scramble::SCRAMBLE;
-use crate::simulate::SIMULATE;
-use crate::status::STATUS;
-use crate::threads::THREADS;
-use crate::up::UP;
 use command_grammar::Program;
 use std::fs::File;
 use std::io::Input;
@@ -67,10 +54,6 @@ pub const TOKENTREE: Program<'static> = Program {
     about: "A self-stabilising lock service: one token for a network of nodes, whatever state they start from",
     help: HELP,
     version: "0.1.0",
-    commands: &[
-        BOUND, SIMULATE, LOCK, STATUS, SCRAMBLE, CUT, JUNK, NODE, UP, SCHEDULE, MEASURE, DRAW,
-        THREADS,
-    ],
 };
 
 /// What follows the commands in its help.

@@ -5,11 +5,13 @@ ghost use Rattle.command_line.specs.Turns.{AreTurnsOf, AreTurnsRefused};
 
 use crate::program::NETWORK_FILE;
 use crate::refusal::Refusal;
-use clap::ArgMatches;
+use clap::{ArgMatches, Command};
 use command_grammar::{
-    Choice, Grammar, Number, Parameter, WordFault, given_number, number_if_given, word,
+    Choice, Grammar, Number, Parameter, WordFault, given_number, number_if_given, with_command,
+    word,
 };
 use schedules::Chances;
+use std::alloc::{AllocError, Global};
 use std::process::ExitCode;
 use std::rt::Files;
 use subcommands::schedule;
@@ -17,7 +19,7 @@ use subcommands::schedule::Turns;
 
 /// What `schedule` takes. What only random steps have conflicts with `--rounds` too, beside which
 /// the parser asks for no `--random`.
-pub const SCHEDULE: Grammar<'static> = Grammar {
+const SCHEDULE: Grammar<'static> = Grammar {
     name: "schedule",
     about: "Prints a schedule for a network as an events text, which simulate reads",
     help: HELP,
@@ -65,6 +67,11 @@ pub const SCHEDULE: Grammar<'static> = Grammar {
         of: &["rounds", "random"],
     }),
 };
+
+/// Adds the command to the program's parser.
+pub fn add_to<'a>(parser: Command<'a>, alloc: Global) -> Result<Command<'a>, AllocError> {
+    with_command(parser, alloc, &SCHEDULE)
+}
 
 /// What follows the options in its help.
 const HELP: &str = "\

@@ -1,14 +1,15 @@
 //! The words of `scramble`.
 use crate::program::NETWORK_FILE;
 use crate::refusal::{Refusal, ended};
-use clap::ArgMatches;
-use command_grammar::{Grammar, Number, Parameter, given_number, word};
+use clap::{ArgMatches, Command};
+use command_grammar::{Grammar, Number, Parameter, given_number, with_command, word};
+use std::alloc::{AllocError, Global};
 use std::process::ExitCode;
 use std::rt::Files;
 use subcommands::scramble;
 
 /// What `scramble` takes.
-pub const SCRAMBLE: Grammar<'static> = Grammar {
+const SCRAMBLE: Grammar<'static> = Grammar {
     name: "scramble",
     about: "Writes a node's state file as a fault may leave it: with any values in range",
     help: HELP,
@@ -22,6 +23,11 @@ pub const SCRAMBLE: Grammar<'static> = Grammar {
     excludes: &[],
     choice: None,
 };
+
+/// Adds the command to the program's parser.
+pub fn add_to<'a>(parser: Command<'a>, alloc: Global) -> Result<Command<'a>, AllocError> {
+    with_command(parser, alloc, &SCRAMBLE)
+}
 
 /// What follows the options in its help.
 const HELP: &str = "\

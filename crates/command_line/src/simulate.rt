@@ -1,15 +1,16 @@
 //! The words of `simulate`.
 use crate::program::{EVENTS_TEXT, NETWORK_FILE};
 use crate::refusal::Refusal;
-use clap::ArgMatches;
-use command_grammar::{Grammar, Parameter, word};
+use clap::{ArgMatches, Command};
+use command_grammar::{Grammar, Parameter, with_command, word};
+use std::alloc::{AllocError, Global};
 use std::io::Input;
 use std::process::ExitCode;
 use std::rt::Files;
 use subcommands::simulate;
 
 /// What `simulate` takes.
-pub const SIMULATE: Grammar<'static> = Grammar {
+const SIMULATE: Grammar<'static> = Grammar {
     name: "simulate",
     about: "Lets a list of events happen on a network, tells which are refused, and shows the state they lead to",
     help: HELP,
@@ -21,6 +22,11 @@ pub const SIMULATE: Grammar<'static> = Grammar {
     excludes: &[],
     choice: None,
 };
+
+/// Adds the command to the program's parser.
+pub fn add_to<'a>(parser: Command<'a>, alloc: Global) -> Result<Command<'a>, AllocError> {
+    with_command(parser, alloc, &SIMULATE)
+}
 
 /// What follows the options in its help.
 const HELP: &str = "\

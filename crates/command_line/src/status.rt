@@ -1,15 +1,15 @@
 //! The words of `status`.
 use crate::program::{Runtime, SOCKETS_FOLDER};
 use crate::refusal::Refusal;
-use clap::ArgMatches;
-use command_grammar::{Grammar, Number, Parameter, WordFault, word};
+use clap::{ArgMatches, Command};
+use command_grammar::{Grammar, Number, Parameter, WordFault, with_command, word};
 use command_parts::Fault;
 use lock_command::status;
 use std::alloc::Global;
 use std::process::ExitCode;
 
 /// What `status` takes.
-pub const STATUS: Grammar<'static> = Grammar {
+const STATUS: Grammar<'static> = Grammar {
     name: "status",
     about: "Shows how nodes stand, and how many are privileged and lend",
     help: HELP,
@@ -24,6 +24,11 @@ pub const STATUS: Grammar<'static> = Grammar {
     excludes: &[],
     choice: None,
 };
+
+/// Adds the command to the program's parser.
+pub fn add_to<'a>(parser: Command<'a>, alloc: Global) -> Result<Command<'a>, AllocError> {
+    with_command(parser, alloc, &STATUS)
+}
 
 /// What follows the options in its help.
 const HELP: &str = "\

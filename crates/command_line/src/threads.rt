@@ -1,13 +1,14 @@
 //! The words of `threads`.
 use crate::program::{NETWORK_FILE, Runtime};
 use crate::refusal::Refusal;
-use clap::ArgMatches;
-use command_grammar::{Grammar, Number, Parameter, given_number, word};
+use clap::{ArgMatches, Command};
+use command_grammar::{Grammar, Number, Parameter, given_number, with_command, word};
 use live_commands::threads;
+use std::alloc::{AllocError, Global};
 use std::process::ExitCode;
 
 /// What `threads` takes.
-pub const THREADS: Grammar<'static> = Grammar {
+const THREADS: Grammar<'static> = Grammar {
     name: "threads",
     about: "Runs each node of a network on a thread of its own, and shows the state they lead to",
     help: HELP,
@@ -24,6 +25,11 @@ pub const THREADS: Grammar<'static> = Grammar {
     excludes: &[],
     choice: None,
 };
+
+/// Adds the command to the program's parser.
+pub fn add_to<'a>(parser: Command<'a>, alloc: Global) -> Result<Command<'a>, AllocError> {
+    with_command(parser, alloc, &THREADS)
+}
 
 /// What follows the options in its help.
 const HELP: &str = "\

@@ -2,13 +2,14 @@
 use crate::node_words::{FOLDER, HOLD_HELP, REPEAT_HELP, ended, manner};
 use crate::program::{NETWORK_FILE, Runtime};
 use crate::refusal::Refusal;
-use clap::ArgMatches;
-use command_grammar::{Grammar, Parameter, word};
+use clap::{ArgMatches, Command};
+use command_grammar::{Grammar, Parameter, with_command, word};
 use node_process::{OwnProgram, up};
+use std::alloc::{AllocError, Global};
 use std::process::ExitCode;
 
 /// What `up` takes.
-pub const UP: Grammar<'static> = Grammar {
+const UP: Grammar<'static> = Grammar {
     name: "up",
     about: "Runs all nodes of a network, and starts again what ends, until standard input ends",
     help: HELP,
@@ -22,6 +23,11 @@ pub const UP: Grammar<'static> = Grammar {
     excludes: &[],
     choice: None,
 };
+
+/// Adds the command to the program's parser.
+pub fn add_to<'a>(parser: Command<'a>, alloc: Global) -> Result<Command<'a>, AllocError> {
+    with_command(parser, alloc, &UP)
+}
 
 /// What follows the options in its help.
 const HELP: &str = "\
