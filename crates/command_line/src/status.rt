@@ -5,7 +5,7 @@ use clap::{ArgMatches, Command};
 use command_grammar::{Grammar, Number, Parameter, WordFault, with_command, word};
 use command_parts::Fault;
 use lock_command::status;
-use std::alloc::Global;
+use std::alloc::{AllocError, Global};
 use std::process::ExitCode;
 
 /// What `status` takes.
