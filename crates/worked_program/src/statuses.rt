@@ -144,7 +144,7 @@ const REFUSED: [(&str, &str); 12] = [
 
 /// The fault line of `bound` on a file; nothing where there is none.
 fn fault_line<R: Files + Print + AllocGlobal>(rt: &R, path: &str) -> Result<String, AllocError> {
-    match bound::run(rt, path, false) {
+    match bound::run(rt, path, false, None) {
         Ok(_) => Ok(String::new(rt.alloc())),
         Err(fault) => format!(in rt.alloc(); "{}", FaultLine(fault)),
     }
