@@ -32,3 +32,4 @@ mod threads;
 mod up;
 
 pub use commands::run_words;
+pub use program::Runtime;

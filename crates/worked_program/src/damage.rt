@@ -1,5 +1,6 @@
 //! Command lines that do damage, and the statuses that they end with.
 use crate::words::{TWO_NODES, first_other_beside};
+use command_line::Runtime;
 use std::fs;
 use std::test::Fail;
 use test_parts::as_told;
@@ -42,7 +43,7 @@ const FILES: [(&str, &str); 1] = [("net.toml", TWO_NODES)];
 
 /// The place of the first command line that ends with another status, and how many bytes the state
 /// file has behind them all.
-fn does_damage(rt: &HostRuntime) -> Result<(Option<usize>, u64), Fail> {
+fn does_damage<R: Runtime>(rt: &R) -> Result<(Option<usize>, u64), Fail> {
     let other = first_other_beside(rt, &FILES, &ROWS)?;
     let length = fs::metadata(rt, "one.state")?.len();
     fs::remove_file(rt, "one.state")?;

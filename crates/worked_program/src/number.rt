@@ -1,6 +1,7 @@
 //! Numbers on the command line: each has one spelling, decimal with no sign and no zero in front,
 //! and a range.
 use crate::words::{ends_with, first_other_status};
+use command_line::Runtime;
 use std::alloc::AllocError;
 use std::test::Fail;
 use test_parts::is_told;
@@ -97,18 +98,13 @@ const NUMBERS: [Row; 19] = [
 const SPELLINGS: [&str; 4] = ["+1", "01", "-1", "1.0"];
 
 /// Whether a row's command line with this number ends with this status.
-fn number_ends(
-    rt: &HostRuntime,
-    row: &HostRuntimeow,
-    number: &str,
-    want: u8,
-) -> Result<bool, AllocError> {
+fn number_ends<R: Runtime>(rt: &R, row: &Row, number: &str, want: u8) -> Result<bool, AllocError> {
     let line = format!(in rt.alloc(); "tokentree {}{number}{}", row.0, row.1)?;
     ends_with(rt, line.as_str(), want)
 }
 
 /// The first of those spellings that a row's command line does not refuse.
-fn first_taken(rt: &HostRuntime, row: &HostRuntimeow) -> Result<Option<&'static str>, AllocError> {
+fn first_taken<R: Runtime>(rt: &R, row: &Row) -> Result<Option<&'static str>, AllocError> {
     for spelling in SPELLINGS {
         if !number_ends(rt, row, spelling, 2)? {
             return Ok(Some(spelling));
@@ -118,10 +114,7 @@ fn first_taken(rt: &HostRuntime, row: &HostRuntimeow) -> Result<Option<&'static 
 }
 
 /// The first number with which a row's command line ends otherwise than it should.
-fn first_other_number(
-    rt: &HostRuntime,
-    row: &HostRuntimeow,
-) -> Result<Option<&'static str>, AllocError> {
+fn first_other_number<R: Runtime>(rt: &R, row: &Row) -> Result<Option<&'static str>, AllocError> {
     let (_, _, most, above, status) = *row;
     let taken = first_taken(rt, row)?;
     if taken.is_some() {
@@ -138,8 +131,8 @@ fn first_other_number(
 
 /// The place of the first row with a number with which its command line ends otherwise, and that
 /// number.
-fn first_other_row(
-    rt: &HostRuntime,
+fn first_other_row<R: Runtime>(
+    rt: &R,
     rows: &[Row],
 ) -> Result<Option<(usize, &'static str)>, AllocError> {
     for (at, row) in rows.iter().enumerate() {

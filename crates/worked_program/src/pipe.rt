@@ -1,5 +1,5 @@
 //! A pipe that is named as a network file.
-use command_line::run_words;
+use command_line::{Runtime, run_words};
 use std::alloc::{AllocError, Global};
 use std::process::{Command, ExitCode};
 use std::test::Fail;
@@ -14,7 +14,7 @@ fn pipe_maker(alloc: Global, path: &str) -> Result<Command, AllocError> {
 }
 
 /// Makes a pipe. Whether a node is refused whose network file it is, and makes no folder.
-fn is_no_file(rt: &HostRuntime, pipe: &str) -> Result<[bool; 3], Fail> {
+fn is_no_file<R: Runtime>(rt: &R, pipe: &str) -> Result<[bool; 3], Fail> {
     let is_made = pipe_maker(rt.alloc(), pipe)?.status(rt)?.success();
     let words = ["tokentree", "node", pipe, "0", "tokentree-pipe-nodes"];
     let is_refused = run_words(rt, &words, false) == ExitCode::FAILURE;
@@ -24,7 +24,7 @@ fn is_no_file(rt: &HostRuntime, pipe: &str) -> Result<[bool; 3], Fail> {
 }
 
 /// The same in the folder of temporary files.
-fn pipe_is_no_file(rt: &HostRuntime) -> Result<[bool; 3], Fail> {
+fn pipe_is_no_file<R: Runtime>(rt: &R) -> Result<[bool; 3], Fail> {
     let place = env::temp_dir(rt)?;
     let pipe = format!(in rt.alloc(); "{}/tokentree-pipe", place.as_path().display())?;
     is_no_file(rt, pipe.as_str())

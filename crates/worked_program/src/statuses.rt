@@ -1,5 +1,6 @@
 //! Command lines, and the statuses that they end with.
 use crate::words::{TWO_NODES, ends_with, first_other_beside};
+use command_line::Runtime;
 use program_ends::FaultLine;
 use std::alloc::AllocError;
 use std::fs;
@@ -160,14 +161,14 @@ fn is_refused_so<R: Files + Print + AllocGlobal>(
 }
 
 /// Whether a network file of this text ends the command with status 1, and has that fault line.
-fn is_refused(rt: &HostRuntime, text: &str, want: &str) -> Result<bool, Fail> {
+fn is_refused<R: Runtime>(rt: &R, text: &str, want: &str) -> Result<bool, Fail> {
     fs::write(rt, "refused.toml", text)?;
     let has_status = ends_with(rt, "tokentree bound refused.toml", 1)?;
     Ok(has_status && is_refused_so(rt, "refused.toml", want)?)
 }
 
 /// The place of the first row whose file is not refused so.
-fn first_other_refusal(rt: &HostRuntime, rows: &[(&str, &str)]) -> Result<Option<usize>, Fail> {
+fn first_other_refusal<R: Runtime>(rt: &R, rows: &[(&str, &str)]) -> Result<Option<usize>, Fail> {
     for (at, (text, want)) in rows.iter().enumerate() {
         if !is_refused(rt, text, want)? {
             return Ok(Some(at));
@@ -177,7 +178,7 @@ fn first_other_refusal(rt: &HostRuntime, rows: &[(&str, &str)]) -> Result<Option
 }
 
 /// Tries those files, one behind the other in the same place.
-fn tries_refusals(rt: &HostRuntime) -> Result<Option<usize>, Fail> {
+fn tries_refusals<R: Runtime>(rt: &R) -> Result<Option<usize>, Fail> {
     let other = first_other_refusal(rt, &REFUSED)?;
     fs::remove_file(rt, "refused.toml")?;
     Ok(other)

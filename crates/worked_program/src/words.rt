@@ -1,5 +1,5 @@
 //! Command lines as rows tell them.
-use command_line::run_words;
+use command_line::{Runtime, run_words};
 use std::alloc::AllocError;
 use std::process::ExitCode;
 use std::rt::Files;
@@ -10,19 +10,19 @@ use std::{fs, io};
 pub const TWO_NODES: &str = "nodes = 2\nroot = 0\ncapacity = 1\nlease = 0\nedges = [[0, 1]]\n";
 
 /// Does what a command line says, whose words stand between single spaces, and answers the status.
-pub fn status_of(rt: &HostRuntime, line: &str) -> Result<ExitCode, AllocError> {
+pub fn status_of<R: Runtime>(rt: &R, line: &str) -> Result<ExitCode, AllocError> {
     let words: Vec<&str> = line.split(' ').collect(rt.alloc())?;
     Ok(run_words(rt, words.as_slice(), false))
 }
 
 /// Whether a command line ends with this status.
-pub fn ends_with(rt: &HostRuntime, line: &str, want: u8) -> Result<bool, AllocError> {
+pub fn ends_with<R: Runtime>(rt: &R, line: &str, want: u8) -> Result<bool, AllocError> {
     Ok(status_of(rt, line)? == ExitCode::from(want))
 }
 
 /// The place of the first command line that ends with another status.
-pub fn first_other_status(
-    rt: &HostRuntime,
+pub fn first_other_status<R: Runtime>(
+    rt: &R,
     rows: &[(&str, u8)],
 ) -> Result<Option<usize>, AllocError> {
     for (at, (line, want)) in rows.iter().enumerate() {
@@ -50,8 +50,8 @@ fn remove_files<R: Files>(rt: &R, files: &[(&str, &str)]) -> io::Result<()> {
 }
 
 /// The place of the first command line that ends with another status while these files are there.
-pub fn first_other_beside(
-    rt: &HostRuntime,
+pub fn first_other_beside<R: Runtime>(
+    rt: &R,
     files: &[(&str, &str)],
     rows: &[(&str, u8)],
 ) -> Result<Option<usize>, Fail> {
