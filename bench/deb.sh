@@ -13,6 +13,11 @@ if [ "${1:-}" != --inside ]; then
     made=$(mktemp -d)
     trap 'rm -rf "$made"' EXIT
     packaging/deb.sh "$made" >/dev/null
+    mkdir "$made/again"
+    sleep 1
+    packaging/deb.sh "$made/again" >/dev/null
+    cmp "$made"/*.deb "$made"/again/*.deb || { echo "deb: two packages of the same files differ" >&2; exit 1; }
+    rm -r "$made/again"
     mkdir "$made/system"
     status=0
     unshare --mount bench/deb.sh --inside "$made" || status=$?
@@ -47,11 +52,18 @@ inside dpkg --listfiles tokentree | while read -r file; do
 done >"$system/absent"
 while read -r file; do fault "$file is not there"; done <"$system/absent"
 inside dpkg --listfiles tokentree >"$system/files"
+for name in copyright changelog.gz README.md docs/OPERATING.md docs/scrambled-square.svg examples/round.txt; do
+    [ -s "$system/root/usr/share/doc/tokentree/$name" ] || fault "the package lacks $name"
+done
+inside dpkg --status tokentree | grep -q '^Depends: libc6 (>= 2' || fault "the package names no version of libc6"
 wc -l <"$system/files" | sed 's/$/ files and folders/'
 
 # What a node leaves in its folder goes with a purge, not with a removal.
 mkdir "$system/root/var/lib/tokentree"
 : >"$system/root/var/lib/tokentree/state-0.tkt"
+: >"$system/root/etc/tokentree/network.toml"
+mkdir -p "$system/root/etc/systemd/system/multi-user.target.wants"
+ln -s /usr/lib/systemd/system/tokentree@.service "$system/root/etc/systemd/system/multi-user.target.wants/tokentree@0.service"
 inside dpkg --remove tokentree >"$system/log" 2>&1 || { cat "$system/log" >&2; fault "it is not removed"; }
 [ ! -e "$system/root/usr/bin/tokentree" ] || fault "the program is still there"
 [ -e "$system/root/var/lib/tokentree/state-0.tkt" ] || fault "the states go where it is removed"
@@ -62,5 +74,7 @@ while read -r file; do
     esac
 done <"$system/files"
 [ ! -e "$system/root/var/lib/tokentree" ] || fault "the states are left over"
+[ ! -e "$system/root/etc/tokentree" ] || fault "the network file is left over"
+[ ! -L "$system/root/etc/systemd/system/multi-user.target.wants/tokentree@0.service" ] || fault "an enabled node is left over"
 [ $found -ne 0 ] || echo "installed, run, removed and purged"
 exit $found

@@ -1,15 +1,17 @@
 #!/usr/bin/env bash
-# Lets everything that can fail fail once, in the built program. Each kind of call that a command makes of the system (bench/failing-calls.c
-# names the kinds; growths of memory are one) fails at its first use, in another run at its second, and so on until a run meets no failure. Each run
-# must then end with a status that its command has, and with one line on standard error where that status is 1, or as it would have without the failure;
-# what stood before must stand: a network goes on serving, and a node starts from whatever file is left. Then the machine itself refuses: no
+# Lets everything that can fail fail once, in the built program. Each kind of call that a command makes of the system
+# (bench/failing-calls.c names the kinds; growths of memory are one) fails at its first use, in another run at its
+# second, and so on until a run meets no failure. Each run must then end with a status that its command has, and with
+# one line on standard error where that status is 1, or as it would have without the failure; what stood before must
+# stand: a network goes on serving, and a node starts from whatever file is left. Then the machine itself refuses: no
 # descriptors, no room on the disk, a folder without the right to write.
 #
 #   bench/failures.sh [MOST]     the most runs for each kind of call of one command; 400 where nothing is said
 #
-# Prints a line for each command and kind: how many runs met a failure, and how many of them ended with which status. A line that begins with `WRONG`
-# tells what should not be; with one of them the status is 1. It wants `cc`; a small disk and running as nobody want root, and are passed over without
-# it. The program is ./tokentree, or what TOKENTREE names.
+# Prints a line for each command and kind: how many runs met a failure, and how many of them ended with which status.
+# A line that begins with `WRONG` says what is wrong; with one of them the status is 1. It wants `cc`; a small
+# disk and running as nobody want root, and are passed over without it. The program is ./tokentree, or what TOKENTREE
+# names.
 set -uo pipefail
 cd "$(dirname "$0")/.." || exit 1
 most=${1:-400}
@@ -67,8 +69,8 @@ tells_one_line() {
     [ "$(wc -l <"$folder/err")" -eq 1 ] && grep -q '^tokentree: ' "$folder/err"
 }
 
-# Holds a run with a failure against the usual one: NAME STATUSES USUAL KIND; STATUSES are those that a failure may end with beside the usual one. Where
-# `loose` is set, the output differs from run to run.
+# Holds a run with a failure against the usual one: NAME STATUSES USUAL KIND; STATUSES are those that a failure may
+# end with beside the usual one. Where `loose` is set, the output differs from run to run.
 judge() {
     local name=$1 statuses=$2 usual=$3 kind=$4
     if [ "$status" -eq "$usual" ]; then
@@ -79,7 +81,8 @@ judge() {
         # Where it is the very line that cannot be written, there is none; of a node that gave no answer, it is on standard output.
         tells_one_line || { [ "$kind" = write ] && [ ! -s "$folder/err" ]; } || grep -q ' no answer$' "$folder/out" ||
             wrong "$name: status $status tells $(head -c 200 "$folder/err")"
-        [ -n "$loose" ] || cmp -s -n "$(wc -c <"$folder/out")" "$folder/out" "$folder/usual" || wrong "$name: no beginning of the usual output"
+        [ -n "$loose" ] || cmp -s -n "$(wc -c <"$folder/out")" "$folder/out" "$folder/usual" ||
+            wrong "$name: no beginning of the usual output"
     fi
 }
 
@@ -159,10 +162,11 @@ still_serves after
 try status "1" still_serves status "$folder/nodes"
 try lock "122 125 126 127" still_serves lock --timeout 5 "$folder/nodes" 0 -- "$folder/seven"
 
-# Holds a run against what the machine refuses, and tells how it ended: NAME STATUSES [USUAL]; the run left its `status` and `err`. It ends as usual, or
-# with one of the statuses and a line.
+# Holds a run against what the machine refuses, and says how it ended: NAME STATUSES [USUAL]; the run left its
+# `status` and `err`. It ends as usual, or with one of the statuses and a line.
 refused() {
-    [ "$status" = "${3:-}" ] || { [[ " $2 " == *" $status "* ]] && tells_one_line; } || wrong "$1: status $status: $(head -c 200 "$folder/err")"
+    [ "$status" = "${3:-}" ] || { [[ " $2 " == *" $status "* ]] && tells_one_line; } ||
+        wrong "$1: status $status: $(head -c 200 "$folder/err")"
     echo "$1: status $status $(head -n 1 "$folder/err")"
 }
 
@@ -171,7 +175,8 @@ for limit in 12 10 8 7 6 5 4; do
     while read -r usual words; do
         : >"$folder/alone/stop-0"
         # shellcheck disable=SC2086
-        (cd "$folder" && exec 9>&- && ulimit -n "$limit" && exec timeout -k 1 20 "$program" $words) >"$folder/out" 2>"$folder/err" </dev/null
+        (cd "$folder" && exec 9>&- && ulimit -n "$limit" && exec timeout -k 1 20 "$program" $words) \
+            >"$folder/out" 2>"$folder/err" </dev/null
         status=$?
         refused "$limit descriptors, ${words%% *}" "1 122 125 126" "$usual"
     done <<'END'

@@ -5,6 +5,7 @@ file that nothing else guards. So an add is wrong if it does not give one more t
 the lock at once. Used by bench/faults.sh and bench/recovery.sh.
 """
 import glob
+import json
 import multiprocessing
 import os
 import random
@@ -144,6 +145,22 @@ class Network:
             fields = rng.randrange(self.counters), rng.randrange(self.counters), rng.randrange(self.nodes + 1), parent
             return b"F%04x%04x%04x%04x" % fields + b"%04x\n" % rng.randrange(self.ring)
         return b"".join(frame() for _ in range(100))
+
+    def look(self, node):
+        """What a node says to whoever looks, as soon as it does; its instant is when it was read."""
+        until = time.time() + 10
+        while True:
+            try:
+                with connect(f"{self.run}/look-{node}.sock") as looker, looker.makefile() as lines:
+                    return {**json.loads(lines.readline()), "at": time.time_ns()}
+            except (OSError, ValueError):
+                if time.time() > until:
+                    raise
+                time.sleep(0.002)
+
+    def looks(self):
+        """The same of all nodes."""
+        return [self.look(node) for node in range(self.nodes)]
 
     def adds(self):
         """The adds since the last call: when the loan began, when the number was written, which, and at which node.

@@ -1,11 +1,11 @@
 #!/bin/sh
-# Holds the files for packagers against the command line's own list of commands and flags, so that they cannot fall
-# behind: the man page, the completions and OPERATING.md. Then has each shell that is there complete each command and
-# flag but for its last letter. Status 1 where a file lacks a command or a flag, or has one that is not there, or where
+# Holds the files for packagers against the command line's own list of commands and flags, so that they stay
+# alike: the man page, the completions and OPERATING.md. Then has each shell that is there complete each command and
+# flag but for its last letter. Status 1 if a file lacks a command or a flag, or has one that is not there, or if
 # a shell does not complete one.
 #
 #   bench/packaging.sh             compares, and tries the shells
-#   bench/packaging.sh --write     writes the completions anew first; the other files are written by hand
+#   bench/packaging.sh --write     writes the completions again first; the other files are written by hand
 #
 # The program is ./tokentree, or what TOKENTREE names.
 set -eu
@@ -44,42 +44,106 @@ flags() {
     '
 }
 
-while IFS='	' read -r name _; do flags "$name" >"$made/flags-$name"; done <"$made/commands"
+# The words that a command takes in their places, in this order: FILE, DIR and so on, on one line.
+places() {
+    "$program" help "$1" | awk '
+        /^Arguments:/ { on = 1; next }
+        on && /^$/ { exit }
+        on && match($0, /^  [<[][A-Z]+[]>]/) { printf "%s ", substr($0, RSTART + 3, RLENGTH - 4) }
+    ' | sed 's/ $//'
+}
+
+while IFS='	' read -r name _; do
+    flags "$name" >"$made/flags-$name"
+    places "$name" >"$made/places-$name"
+done <"$made/commands"
 names=$(cut -f1 "$made/commands" | tr '\n' ' ')
 names=${names% }
 
+# The flags of a command that take a value.
+valued() { awk -F '\t' '$2 == "yes" { printf "%s ", $1 }' "$made/flags-$1" | sed 's/ $//'; }
+
 bash_file() {
     echo "# bash completion for tokentree, made by bench/packaging.sh --write"
-    echo "_tokentree() {"
-    # shellcheck disable=SC2016
-    echo '    local current=${COMP_WORDS[COMP_CWORD]} flags='
-    echo "    if [ \"\$COMP_CWORD\" -eq 1 ]; then"
+    cat <<'END'
+
+# The node ids that a folder has sockets of, or that a network file names.
+_tokentree_ids() {
+    local path=${1/#\~/$HOME} name last
+    if [ -d "$path" ]; then
+        for name in "$path"/desk-*.sock; do
+            name=${name##*/desk-}
+            [[ ${name%.sock} == *[!0-9]* ]] || echo "${name%.sock}"
+        done
+    elif [ -f "$path" ]; then
+        last=$(sed -n 's/^[[:space:]]*nodes[[:space:]]*=[[:space:]]*\([0-9]\{1,2\}\).*/\1/p' "$path" | head -n 1)
+        [ -z "$last" ] || seq 0 $((last - 1))
+    fi
+}
+
+# What may stand in a place of this kind, once each.
+_tokentree_words() {
+    case $1 in
+    FILE) compgen -d -- "$current"; compgen -f -X '!*.toml' -- "$current" ;;
+    DIR) compgen -d -- "$current" ;;
+    EVENTS | PATH) compgen -f -- "$current" ;;
+    ID) compgen -W "$(_tokentree_ids "${given[0]}")" -- "$current" ;;
+    COMMAND) compgen -c -- "$current"; compgen -f -- "$current" ;;
+    esac | sort -u
+}
+
+_tokentree() {
+    local current=${COMP_WORDS[COMP_CWORD]} flags='' valued='' places='' word at is_past=no
+    local -a given=() kinds=()
+    COMPREPLY=()
+    if [ "$COMP_CWORD" -eq 1 ]; then
+END
     echo "        mapfile -t COMPREPLY < <(compgen -W '$names help --help --version' -- \"\$current\")"
-    echo "        return"
-    echo "    fi"
-    # shellcheck disable=SC2016
-    echo '    case ${COMP_WORDS[1]} in'
+    cat <<'END'
+        return
+    fi
+    case ${COMP_WORDS[1]} in
+END
     while IFS='	' read -r name _; do
-        echo "    $name) flags='$(cut -f1 "$made/flags-$name" | tr '\n' ' ')--help' ;;"
+        printf "    %s) flags='%s--help' valued='%s' places='%s' ;;\n" "$name" \
+            "$(cut -f1 "$made/flags-$name" | tr '\n' ' ')" "$(valued "$name")" "$(cat "$made/places-$name")"
     done <"$made/commands"
     echo "    help)"
-    echo "        mapfile -t COMPREPLY < <(compgen -W '$names' -- \"\$current\")"
-    echo "        return"
-    echo "        ;;"
-    echo "    esac"
-    # shellcheck disable=SC2016
-    echo '    if [[ $current == -* ]]; then'
-    # shellcheck disable=SC2016
-    echo '        mapfile -t COMPREPLY < <(compgen -W "$flags" -- "$current")'
-    echo "    elif [ \"\${COMP_WORDS[1]}\" = lock ] && [ \"\$COMP_CWORD\" -gt 3 ]; then"
-    # shellcheck disable=SC2016
-    echo '        mapfile -t COMPREPLY < <(compgen -A file -A command -- "$current")'
-    echo "    else"
-    # shellcheck disable=SC2016
-    echo '        mapfile -t COMPREPLY < <(compgen -A file -- "$current")'
-    echo "    fi"
-    echo "}"
-    echo "complete -o filenames -F _tokentree tokentree"
+    echo "        [ \"\$COMP_CWORD\" -gt 2 ] || mapfile -t COMPREPLY < <(compgen -W '$names' -- \"\$current\")"
+    cat <<'END'
+        return
+        ;;
+    esac
+    read -ra kinds <<<"$places"
+    for ((at = 2; at < COMP_CWORD; at++)); do
+        word=${COMP_WORDS[at]}
+        if [ $is_past = no ] && [ "$word" = -- ]; then
+            is_past=yes
+        elif [ $is_past = no ] && [[ $word == -* ]]; then
+            # A value is the word after its flag, and may be the one that is typed.
+            if [[ " $valued " == *" $word "* ]] && ((++at == COMP_CWORD)); then return; fi
+        else
+            given+=("$word")
+        fi
+        # What follows the first word of a command is the command's.
+        [ "${kinds[${#given[@]}]}" != COMMAND ] || [ "${#given[@]}" -lt "${#kinds[@]}" ] || is_past=yes
+    done
+    at=${#given[@]}
+    if ((at >= ${#kinds[@]})); then
+        case ${kinds[-1]} in
+        COMMAND) mapfile -t COMPREPLY < <(compgen -f -- "$current" | sort -u) ;;
+        ID) mapfile -t COMPREPLY < <(_tokentree_words ID) ;;
+        esac
+        [[ $is_past = no && $current == -* && ${kinds[-1]} != COMMAND ]] || return
+    fi
+    if [ $is_past = no ] && [[ $current == -* ]]; then
+        mapfile -t COMPREPLY < <(compgen -W "$flags" -- "$current")
+    elif ((at < ${#kinds[@]})); then
+        mapfile -t COMPREPLY < <(_tokentree_words "${kinds[at]}")
+    fi
+}
+complete -o filenames -F _tokentree tokentree
+END
 }
 
 # A text within single quotes, and one within brackets within these.
@@ -94,21 +158,46 @@ zsh_file() {
     while IFS='	' read -r name text; do echo "    '$name:$(quoted "$text")'"; done <"$made/commands"
     echo "    'help:Shows the help of a command'"
     echo ")"
+    cat <<'END'
+# The node ids that a folder has sockets of.
+_tokentree_ids() {
+    local -a ids
+    ids=( ${~words[2]}/desk-<0-65535>.sock(N:t) )
+    ids=( ${${ids#desk-}%.sock} )
+    (( $#ids )) && compadd -- $ids
+}
+END
     echo "if (( CURRENT == 2 )); then"
     echo "    _describe command commands"
     echo "    _arguments '--help[Print help]' '--version[Print version]'"
     echo "    return"
     echo "fi"
     # shellcheck disable=SC2016
-    echo 'case $words[2] in'
+    echo 'local command=$words[2]'
+    echo 'shift words'
+    echo '(( CURRENT-- ))'
+    # shellcheck disable=SC2016
+    echo 'case $command in'
     while IFS='	' read -r name _; do
         echo "$name)"
-        printf '    _arguments '
+        printf '    _arguments -S '
         while IFS='	' read -r flag value text; do
             if [ "$value" = yes ]; then more=':value:'; else more=; fi
             printf "'%s[%s]%s' " "$flag" "$(bracketed "$text")" "$more"
         done <"$made/flags-$name"
-        echo "'--help[Print help]' '*:file:_files'"
+        printf "'--help[Print help]'"
+        # shellcheck disable=SC2013
+        for place in $(cat "$made/places-$name"); do
+            case $place in
+            FILE) printf " ':FILE:_files -g \"*.toml\"'" ;;
+            DIR) printf " ':DIR:_files -/'" ;;
+            ID) if [ "$name" = status ] || [ "$name" = stop ]; then printf " '*:ID:_tokentree_ids'"; else printf " ':ID:_tokentree_ids'"; fi ;;
+            EVENTS | PATH) printf " ':%s:_files'" "$place" ;;
+            COMMAND) printf " '*::COMMAND:_normal'" ;;
+            *) printf " ':%s:'" "$place" ;;
+            esac
+        done
+        echo
         echo "    ;;"
     done <"$made/commands"
     echo "help) _describe command commands ;;"
@@ -121,11 +210,21 @@ fish_file() {
     echo "complete -c tokentree -n __fish_use_subcommand -l version -d 'Print version'"
     echo "complete -c tokentree -n __fish_use_subcommand -f -a help -d 'Shows the help of a command'"
     echo "complete -c tokentree -n '__fish_seen_subcommand_from help' -f -a '$names'"
+    cat <<'END'
+# What completes the command after `--`, whose flags are its own.
+function __tokentree_command
+    set -l tokens (commandline -opc)
+    set -l at (contains -i -- -- $tokens); or return
+    set -e tokens[1..$at]
+    complete -C (string join ' ' -- $tokens (commandline -ct))
+end
+complete -c tokentree -n '__fish_seen_subcommand_from lock; and contains -- -- (commandline -opc)' -f -a '(__tokentree_command)'
+END
     while IFS='	' read -r name text; do
         echo "complete -c tokentree -n __fish_use_subcommand -f -a $name -d '$(quoted "$text")'"
         while IFS='	' read -r flag value text; do
             if [ "$value" = yes ]; then more=' -x'; else more=; fi
-            echo "complete -c tokentree -n '__fish_seen_subcommand_from $name' -l ${flag#--}$more -d '$(quoted "$text")'"
+            echo "complete -c tokentree -n '__fish_seen_subcommand_from $name; and not contains -- -- (commandline -opc)' -l ${flag#--}$more -d '$(quoted "$text")'"
         done <"$made/flags-$name"
     done <"$made/commands"
 }

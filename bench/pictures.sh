@@ -1,6 +1,6 @@
 #!/usr/bin/env bash
-# Draws the pictures of docs/ anew: the forged tokens, a scrambled square whose edge 1-3 goes and joins again, and what
-# three nodes did on threads, which differs from run to run. Where Chromium is there (CHROMIUM, or chromium in PATH), it
+# Draws the pictures of docs/ again: the forged tokens, a scrambled square whose edge 1-3 goes and joins again, and what
+# three nodes did on threads, which differs from run to run. If Chromium is there (CHROMIUM, or chromium in PATH), it
 # shows each of them without a screen, as NAME.png in the folder $1 (or in a new folder). The program is ./tokentree, or
 # what TOKENTREE names.
 set -euo pipefail
@@ -47,7 +47,9 @@ all="0 1,0 2,1 0,1 3,2 0,2 3,3 1,3 2"
     echo "harm join 1 3"
     square_rounds 80 "$all"
 } > "$folder/scrambled-square"
-"$program" draw examples/square.toml "$folder/scrambled-square" > docs/scrambled-square.svg
+# Clients of this run give the lock back themselves.
+sed 's/^lease = .*/lease = 0/' examples/square.toml > "$folder/square.toml"
+"$program" draw "$folder/square.toml" "$folder/scrambled-square" > docs/scrambled-square.svg
 
 # A line of three: what its nodes did on threads in 60,000 turns each.
 # Threads often run one after the other at first, so the turns are many; the picture ends with the 60th sweep.

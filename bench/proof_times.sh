@@ -1,6 +1,6 @@
 #!/bin/sh
-# Tells where a check of a crate spent its time: `sh bench/proof_times.sh CRATE [LINES]`, at the top of the repository,
-# behind an `rt check` of that crate from nothing (without its out/incremental).
+# Shows where a check of a crate spent its time: `sh bench/proof_times.sh CRATE [LINES]`, at the top of the repository,
+# after an `rt check` of that crate from nothing (without its out/incremental).
 #
 # The prover writes a file for each part of each function once it is proved. So the time from one file to the next is
 # about what the later one cost, as long as few others were proved beside it. The longest LINES times, 20 where no number

@@ -1,9 +1,9 @@
 #!/usr/bin/env bash
 # Measures the threads of `tokentree threads` on the line of three, the square and a ring of 16, beside the same threads in
 # plain Rust (plain_threads.rs): for each the best of three runs of 200,000 turns (or of $1), in million events a second from
-# the first thread's start to the last one's end, as the system tells it, and the most memory of each program. How many
-# events there are differs from run to run. Where there is no `rustc`, it says so, and measures `simulate` on the events of
-# the last run instead, reading and printing included. Wants python3. The program is ./tokentree, or what TOKENTREE names.
+# the first thread's start to the last one's end, as the system reports it, and the most memory of each program. How many
+# events there are differs from run to run. If there is no `rustc`, it says so, and measures `simulate` on the events of
+# the last run instead, reading and printing included. Needs python3. The program is ./tokentree, or what TOKENTREE names.
 set -euo pipefail
 turns=${1:-200000}
 cd "$(dirname "$0")/.."

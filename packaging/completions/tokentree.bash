@@ -1,35 +1,83 @@
 # bash completion for tokentree, made by bench/packaging.sh --write
+
+# The node ids that a folder has sockets of, or that a network file names.
+_tokentree_ids() {
+    local path=${1/#\~/$HOME} name last
+    if [ -d "$path" ]; then
+        for name in "$path"/desk-*.sock; do
+            name=${name##*/desk-}
+            [[ ${name%.sock} == *[!0-9]* ]] || echo "${name%.sock}"
+        done
+    elif [ -f "$path" ]; then
+        last=$(sed -n 's/^[[:space:]]*nodes[[:space:]]*=[[:space:]]*\([0-9]\{1,2\}\).*/\1/p' "$path" | head -n 1)
+        [ -z "$last" ] || seq 0 $((last - 1))
+    fi
+}
+
+# What may stand in a place of this kind, once each.
+_tokentree_words() {
+    case $1 in
+    FILE) compgen -d -- "$current"; compgen -f -X '!*.toml' -- "$current" ;;
+    DIR) compgen -d -- "$current" ;;
+    EVENTS | PATH) compgen -f -- "$current" ;;
+    ID) compgen -W "$(_tokentree_ids "${given[0]}")" -- "$current" ;;
+    COMMAND) compgen -c -- "$current"; compgen -f -- "$current" ;;
+    esac | sort -u
+}
+
 _tokentree() {
-    local current=${COMP_WORDS[COMP_CWORD]} flags=
+    local current=${COMP_WORDS[COMP_CWORD]} flags='' valued='' places='' word at is_past=no
+    local -a given=() kinds=()
+    COMPREPLY=()
     if [ "$COMP_CWORD" -eq 1 ]; then
         mapfile -t COMPREPLY < <(compgen -W 'bound simulate lock status scramble cut junk node up schedule measure draw threads help --help --version' -- "$current")
         return
     fi
     case ${COMP_WORDS[1]} in
-    bound) flags='--sharp --help' ;;
-    simulate) flags='--help' ;;
-    lock) flags='--timeout --keep --help' ;;
-    status) flags='--help' ;;
-    scramble) flags='--help' ;;
-    cut) flags='--help' ;;
-    junk) flags='--help' ;;
-    node) flags='--hold --repeat --child --help' ;;
-    up) flags='--hold --repeat --help' ;;
-    schedule) flags='--scramble --rounds --random --seed --loss --clients --help' ;;
-    measure) flags='--runs --seed --rounds --random --table --help' ;;
-    draw) flags='--columns --from --to --help' ;;
-    threads) flags='--events --help' ;;
+    bound) flags='--sharp --time --turn --delay --loan --repeat --help' valued='--turn --delay --loan --repeat' places='FILE' ;;
+    simulate) flags='--help' valued='' places='FILE EVENTS' ;;
+    lock) flags='--timeout --keep --wait-children --help' valued='--timeout' places='DIR ID COMMAND' ;;
+    status) flags='--help' valued='' places='DIR ID' ;;
+    scramble) flags='--help' valued='' places='FILE ID PATH SEED' ;;
+    cut) flags='--help' valued='' places='PATH LENGTH' ;;
+    junk) flags='--help' valued='' places='SEED LINES' ;;
+    node) flags='--hold --repeat --child --help' valued='--hold --repeat' places='FILE ID DIR' ;;
+    up) flags='--hold --repeat --help' valued='--hold --repeat' places='FILE DIR' ;;
+    schedule) flags='--scramble --rounds --random --seed --loss --clients --help' valued='--scramble --rounds --random --seed --loss' places='FILE' ;;
+    measure) flags='--runs --seed --rounds --random --table --help' valued='--runs --seed' places='FILE' ;;
+    draw) flags='--columns --from --to --help' valued='--columns --from --to' places='FILE EVENTS' ;;
+    threads) flags='--events --help' valued='--events' places='FILE TURNS' ;;
     help)
-        mapfile -t COMPREPLY < <(compgen -W 'bound simulate lock status scramble cut junk node up schedule measure draw threads' -- "$current")
+        [ "$COMP_CWORD" -gt 2 ] || mapfile -t COMPREPLY < <(compgen -W 'bound simulate lock status scramble cut junk node up schedule measure draw threads' -- "$current")
         return
         ;;
     esac
-    if [[ $current == -* ]]; then
+    read -ra kinds <<<"$places"
+    for ((at = 2; at < COMP_CWORD; at++)); do
+        word=${COMP_WORDS[at]}
+        if [ $is_past = no ] && [ "$word" = -- ]; then
+            is_past=yes
+        elif [ $is_past = no ] && [[ $word == -* ]]; then
+            # A value is the word after its flag, and may be the one that is typed.
+            if [[ " $valued " == *" $word "* ]] && ((++at == COMP_CWORD)); then return; fi
+        else
+            given+=("$word")
+        fi
+        # What follows the first word of a command is the command's.
+        [ "${kinds[${#given[@]}]}" != COMMAND ] || [ "${#given[@]}" -lt "${#kinds[@]}" ] || is_past=yes
+    done
+    at=${#given[@]}
+    if ((at >= ${#kinds[@]})); then
+        case ${kinds[-1]} in
+        COMMAND) mapfile -t COMPREPLY < <(compgen -f -- "$current" | sort -u) ;;
+        ID) mapfile -t COMPREPLY < <(_tokentree_words ID) ;;
+        esac
+        [[ $is_past = no && $current == -* && ${kinds[-1]} != COMMAND ]] || return
+    fi
+    if [ $is_past = no ] && [[ $current == -* ]]; then
         mapfile -t COMPREPLY < <(compgen -W "$flags" -- "$current")
-    elif [ "${COMP_WORDS[1]}" = lock ] && [ "$COMP_CWORD" -gt 3 ]; then
-        mapfile -t COMPREPLY < <(compgen -A file -A command -- "$current")
-    else
-        mapfile -t COMPREPLY < <(compgen -A file -- "$current")
+    elif ((at < ${#kinds[@]})); then
+        mapfile -t COMPREPLY < <(_tokentree_words "${kinds[at]}")
     fi
 }
 complete -o filenames -F _tokentree tokentree

@@ -7,5 +7,5 @@ use Rattle.command_grammar.specs.declared.words.WordFault.TheVariants.{Absent, N
 abbrev pub word_fault_text : WordFault → List ℕ
 word_fault_text (Absent id) = id.now ++ codes " is missing"
 word_fault_text (NoNumber number) =
-    number.name.now ++ (codes " is no number from " ++ (decimal number.least ++ (codes " to " ++ (decimal number.most
-    ++ codes ", with no sign and no zero in front"))))
+    number.name.now ++ (codes " must be an integer from " ++ (decimal number.least ++ (codes " to " ++ (decimal number.most
+    ++ codes ", without a sign or leading zeros"))))

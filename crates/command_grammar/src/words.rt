@@ -28,7 +28,7 @@ impl fmt::Display for WordFault<'_> {
             WordFault::Absent(id) => write!(f, "{id} is missing"),
             WordFault::NoNumber(number) => write!(
                 f,
-                "{} is no number from {} to {}, with no sign and no zero in front",
+                "{} must be an integer from {} to {}, without a sign or leading zeros",
                 number.name, number.least, number.most
             ),
         }

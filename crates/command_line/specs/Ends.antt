@@ -1,24 +1,43 @@
 -- How a command line ends: with which status, and what is said if it is not done.
-use Rattle.std.specs.Prelude.{ℕ, Bool, false, List, [], ◌∷◌, Result, Ok, Err, if◌then◌else◌, codes}
+use Rattle.std.specs.Prelude.{◌≡◌, ◌⊎◌, ℕ, Bool, false, ◌||◌, List, [], ◌∷◌, Result, Ok, Err, if◌then◌else◌, codes}
 use Rattle.std.specs.Str.{bytes_eq}
 use Rattle.std.specs.Process.{exit_status}
 use Rattle.std.specs.declared.process.ExitCode.{ExitCode}
 use Rattle.command_grammar.specs.FaultText.{word_fault_text}
 use Rattle.command_parts.specs.FaultText.{fault_text}
+use Rattle.command_parts.specs.declared.fault.Fault.TheVariants.{Output}
 use Rattle.recovery_times.specs.Words.{time_fault_text}
 use Rattle.command_line.specs.declared.refusal.Refusal.{Refusal}
-use Rattle.command_line.specs.declared.refusal.Refusal.TheVariants.{Word, Time, Window, NoCommand, Fault}
+use Rattle.command_line.specs.declared.refusal.Refusal.TheVariants.{Word, Time, Limit, Window, Kind, NoWords, NoCommand, Fault}
+use Rattle.command_line.specs.declared.refusal.KindFault.{KindFault}
+use Rattle.command_line.specs.declared.refusal.KindFault.TheVariants.{Unknown, NoColumns, OneNumber, RandomAlone}
 
 -- the word after the program's name is `lock`
 abbrev pub asks_for_lock : List (List ℕ) → Bool
 asks_for_lock (program ∷ command ∷ words) = bytes_eq command (codes "lock")
 asks_for_lock _ = false
 
+-- the one word after it is `version` or `-v`, or the second of two is `--version`
+abbrev pub asks_for_version : List (List ℕ) → Bool
+asks_for_version (program ∷ word ∷ []) = bytes_eq word (codes "version") || bytes_eq word (codes "-v")
+asks_for_version (program ∷ command ∷ word ∷ []) = bytes_eq word (codes "--version")
+asks_for_version _ = false
+
+-- what is said if the words of `network` say no network
+abbrev pub kind_fault_text : KindFault → List ℕ
+kind_fault_text Unknown = codes "KIND is none of line, ring, star, complete, tree, grid and random"
+kind_fault_text NoColumns = codes "a grid takes two numbers, of rows and of columns"
+kind_fault_text OneNumber = codes "this kind takes one number, of nodes"
+kind_fault_text RandomAlone = codes "--edges and --seed are for random alone"
+
 -- what is said after the program's name
 abbrev pub refusal_text : Refusal → List ℕ
 refusal_text (Word fault) = word_fault_text fault
 refusal_text (Time fault) = time_fault_text fault
+refusal_text Limit = codes "--timeout is no time from 0 to 65535 seconds, with at most 3 decimals"
+refusal_text NoWords = codes "no command follows --: leave -- out to hold the lock until standard input ends"
 refusal_text Window = codes "--from is greater than --to"
+refusal_text (Kind fault) = kind_fault_text fault
 refusal_text NoCommand = codes "no command"
 refusal_text (Fault fault) = fault_text fault
 
@@ -27,3 +46,8 @@ abbrev pub status_of : Bool → Result ExitCode Refusal → ℕ
 status_of is_lock (Ok status) = exit_status status
 status_of is_lock (Err (Fault fault)) = if is_lock then 125 else 1
 status_of is_lock (Err refusal) = 2
+
+-- that status; or 141 if the reader of the output is gone
+abbrev pub EndsWith : Bool → Result ExitCode Refusal → ExitCode → Type 0
+EndsWith is_lock (Err (Fault Output)) code = (exit_status code ≡ status_of is_lock (Err (Fault Output))) ⊎ (exit_status code ≡ 141)
+EndsWith is_lock done code = exit_status code ≡ status_of is_lock done

@@ -3,7 +3,7 @@ use Rattle.std.specs.Prelude.{◌≡◌, ◌≤◌, ◌<◌, ◌⊎◌, ℕ, cod
 use Rattle.clap.specs.declared.parser.matches.Found.{Found}
 use Rattle.command_grammar.specs.Given.{IsGivenOr, IsRefused}
 use Rattle.command_line.specs.declared.refusal.Refusal.{Refusal}
-use Rattle.command_line.specs.declared.refusal.Refusal.TheVariants.{Word, Window, NoCommand, Fault, Time}
+use Rattle.command_line.specs.declared.refusal.Refusal.TheVariants.{Word, Window, Kind, NoCommand, Fault, Time, Limit, NoWords}
 use Rattle.live_commands.specs.declared.draw.Wanted.{Wanted}
 use Rattle.run_recording.specs.declared.window.Window.{Window as Moments}
 
@@ -24,6 +24,9 @@ abbrev pub IsWindowRefused : Found → Refusal → Type 0
 IsWindowRefused found (Word fault) = IsRefused found (codes "from") 0 last_sweep fault ⊎ IsRefused found (codes "to") 0 last_sweep fault
 IsWindowRefused found Window = (from to : ℕ) × AreEndsOf found from to × (to < from)
 IsWindowRefused found (Time fault) = ⊥
+IsWindowRefused found Limit = ⊥
+IsWindowRefused found NoWords = ⊥
+IsWindowRefused found (Kind fault) = ⊥
 IsWindowRefused found NoCommand = ⊥
 IsWindowRefused found (Fault fault) = ⊥
 

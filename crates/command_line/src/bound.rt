@@ -7,7 +7,7 @@ use recovery_times::{PremiseWords, Premises, TimeFault};
 use std::alloc::{AllocError, Global};
 use std::process::ExitCode;
 use std::rt::Files;
-use subcommands::bound;
+use subcommands::{bound, bound_json};
 
 /// What `bound` takes.
 const BOUND: Grammar<'static> = Grammar {
@@ -20,6 +20,7 @@ const BOUND: Grammar<'static> = Grammar {
             "sharp",
             "Show the bound in which the capacity has no part, too",
         ),
+        Parameter::Flag("json", "Show a JSON object, on one line"),
         Parameter::Flag("time", "Show how long recovery and a grant take, too"),
         Parameter::Value(
             "turn",
@@ -98,7 +99,10 @@ frame again after --repeat, at the latest. A frame is taken in the first turn th
 every connection is up. A loan ends within --loan, as its node sees it. Then each window holds a sweep: so after the last
 fault the lock works within the first time, from whatever state, and from then on one who waits alone is granted the
 lock within the second. Times are milliseconds up to 3600000 (an hour), with at most 3 decimals; --turn and --repeat are
-above 0. What is shown is rounded up.";
+above 0. What is shown is rounded up.
+
+With --json the same is one JSON object: the names are those of the lines, with window_us in microseconds, and
+recovers_within_ms and lends_within_ms.";
 
 /// Does what the words of `bound` say.
 pub fn run<R: Files + Print + AllocGlobal>(
@@ -106,7 +110,11 @@ pub fn run<R: Files + Print + AllocGlobal>(
     given: &ArgMatches,
 ) -> Result<ExitCode, Refusal> {
     let path = word(given, "FILE")?;
-    Ok(bound::run(rt, path, given.get_flag("sharp"), premises(given)?)?)
+    let (sharp, premises) = (given.get_flag("sharp"), premises(given)?);
+    if given.get_flag("json") {
+        return Ok(bound_json::run(rt, path, sharp, premises)?);
+    }
+    Ok(bound::run(rt, path, sharp, premises)?)
 }
 
 /// The premises that the words say, if times are asked for.

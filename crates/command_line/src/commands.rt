@@ -1,16 +1,20 @@
 //! What each command line does.
-ghost use Rattle.std.specs.Prelude.{◌≡◌, map};
-ghost use Rattle.command_line.specs.Ends.{asks_for_lock};
+ghost use Rattle.std.specs.Prelude.{◌≡◌, ◌⊎◌, map};
+ghost use Rattle.std.specs.Process.{exit_status};
+ghost use Rattle.command_line.specs.Ends.{asks_for_lock, asks_for_version};
 
 use crate::program::{Runtime, TOKENTREE};
 use crate::refusal::{Refusal, status};
 use crate::{
-    bound, cut, draw, junk, lock, measure, node, schedule, scramble, simulate, threads, up,
+    bound, cut, draw, junk, lock, measure, network, node, schedule, scramble, simulate, stop,
+    threads, up,
 };
 use clap::{ArgMatches, Command};
 use command_grammar::parser;
 use command_parts::Fault;
-use program_ends::{fails, fault_status, shows};
+use fault_hints::{explain_network, explain_reading, explain_writing};
+use lock_words::whole_words;
+use program_ends::{fails, fault_status, output_fails, shows};
 use std::alloc::{AllocError, Global};
 use std::convert::AsStr;
 use std::process::ExitCode;
@@ -18,11 +22,60 @@ use std::process::ExitCode;
 /// Does what the words say, of which the first is the program's name, and says with which status it
 /// is done. Progress is told where standard error is a terminal.
 pub fn run_words<R: Runtime, S: AsStr>(rt: &R, words: &[S], on_terminal: bool) -> ExitCode {
+    if asks_for_version(words) {
+        return say_version(rt);
+    }
+    if asks_for_lock(words) {
+        let surroundings = lock::Surroundings::of(rt);
+        match whole_words(rt.alloc(), words, surroundings.lent()) {
+            Ok(whole) => run_whole(rt, whole.as_slice(), on_terminal),
+            Err(_) => fails(rt, Fault::Memory, fault_status(true)),
+        }
+    } else {
+        run_whole(rt, words, on_terminal)
+    }
+}
+
+/// The same for words of which none is left out.
+fn run_whole<R: Runtime, S: AsStr>(rt: &R, words: &[S], on_terminal: bool) -> ExitCode {
     let matches = match matches_of(rt, words) {
         Ok(matches) => matches,
         Err(status) => return status,
     };
-    status(rt, act(rt, &matches, on_terminal), asks_for_lock(words))
+    let is_dashed = words.last().is_some_and(|word| word.as_str() == "--");
+    let done = act(rt, &matches, on_terminal, is_dashed);
+    if let Err(Refusal::Fault(fault)) = &done {
+        explain(rt, &matches, *fault);
+    }
+    status(rt, done, asks_for_lock(words), matches.subcommand_name())
+}
+
+/// Says before a fault's own line which file it is, and what is wrong with it.
+fn explain<R: Runtime>(rt: &R, matches: &ArgMatches, fault: Fault) {
+    let Some((_, given)) = matches.subcommand() else {
+        return;
+    };
+    match (fault, given.get_str("FILE"), given.get_str("EVENTS")) {
+        (Fault::Network(fault), Some(file), _) => explain_network(rt, file, fault),
+        (Fault::EventsUnreadable, _, Some(events)) => explain_reading(rt, events),
+        (Fault::EventsUnwritable, _, _) => {
+            if let Some(path) = given.get_str("events") {
+                explain_writing(rt, path);
+            }
+        }
+        _ => {}
+    }
+}
+
+/// Says which version of the program this is.
+fn say_version<R: Print + Eprint>(rt: &R) -> ExitCode
+    ensures { (exit_status result ≡ 0) ⊎ ((exit_status result ≡ 1) ⊎ (exit_status result ≡ 141)) }
+{
+    let (name, version) = (TOKENTREE.name, TOKENTREE.version);
+    match println!(rt; "{name} {version}") {
+        Ok(()) => ExitCode::SUCCESS,
+        Err(_) => output_fails(rt, 1),
+    }
 }
 
 /// What the words give, or the status of a line that has shown help or was refused.
@@ -34,9 +87,13 @@ fn matches_of<'a, R: Print + Eprint + AllocGlobal, S: AsStr>(
     let Ok(parser) = program_parser(rt.alloc()) else {
         return Err(fails(rt, Fault::Memory, fault_status(is_lock)));
     };
+    let command = match words {
+        [_, name, ..] if parser.find_subcommand(name.as_str()).is_some() => Some(name.as_str()),
+        _ => None,
+    };
     match parser.try_get_matches_from(words) {
         Ok(matches) => Ok(matches),
-        Err(error) => Err(shows(rt, &error, is_lock)),
+        Err(error) => Err(shows(rt, &error, is_lock, command)),
     }
 }
 
@@ -60,11 +117,13 @@ fn with_nodes<'a>(parser: Command<'a>, alloc: Global) -> Result<Command<'a>, All
     let parser = cut::add_to(parser, alloc)?;
     let parser = junk::add_to(parser, alloc)?;
     let parser = node::add_to(parser, alloc)?;
-    up::add_to(parser, alloc)
+    let parser = up::add_to(parser, alloc)?;
+    stop::add_to(parser, alloc)
 }
 
 /// Adds the commands of experiments, and of runs that are drawn or go on threads.
 fn with_experiments<'a>(parser: Command<'a>, alloc: Global) -> Result<Command<'a>, AllocError> {
+    let parser = network::add_to(parser, alloc)?;
     let parser = schedule::add_to(parser, alloc)?;
     let parser = measure::add_to(parser, alloc)?;
     let parser = draw::add_to(parser, alloc)?;
@@ -81,19 +140,39 @@ fn asks_for_lock<S: AsStr>(words: &[S]) -> bool
     }
 }
 
-/// Does what the words of a command say, and says with which status it is done.
-fn act<R: Runtime>(rt: &R, matches: &ArgMatches, on_terminal: bool) -> Result<ExitCode, Refusal> {
+/// Whether the words ask for the version in a way of their own: `version`, `-v`, or `--version` after a
+/// command.
+fn asks_for_version<S: AsStr>(words: &[S]) -> bool
+    ensures { result ≡ asks_for_version (map S.text words.now) }
+{
+    match words {
+        [_, word] => word.as_str() == "version" || word.as_str() == "-v",
+        [_, _, word] => word.as_str() == "--version",
+        _ => false,
+    }
+}
+
+/// Does what the words of a command say, of which the last is `--` or not, and says with which status
+/// it is done.
+fn act<R: Runtime>(
+    rt: &R,
+    matches: &ArgMatches,
+    on_terminal: bool,
+    is_dashed: bool,
+) -> Result<ExitCode, Refusal> {
     let (name, given) = matches.subcommand().ok_or(Refusal::NoCommand)?;
     match name {
         "bound" => bound::run(rt, given),
         "simulate" => simulate::run(rt, given),
-        "lock" => lock::run(rt, given),
+        "lock" => lock::run(rt, given, is_dashed),
         "status" => crate::status::run(rt, given),
         "scramble" => scramble::run(rt, given),
         "cut" => cut::run(rt, given),
         "junk" => junk::run(rt, given),
         "node" => node::run(rt, given),
         "up" => up::run(rt, given),
+        "stop" => stop::run(rt, given),
+        "network" => network::run(rt, given),
         "schedule" => schedule::run(rt, given),
         "measure" => measure::run(rt, given, on_terminal),
         "draw" => draw::run(rt, given),

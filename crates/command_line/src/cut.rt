@@ -44,8 +44,11 @@ const LENGTH: Number<'static> = Number {
 };
 
 /// Does what the words of `cut` say.
-pub fn run<R: Files + Eprint>(rt: &R, given: &ArgMatches) -> Result<ExitCode, Refusal> {
+pub fn run<R: Files + Eprint + AllocGlobal>(
+    rt: &R,
+    given: &ArgMatches,
+) -> Result<ExitCode, Refusal> {
     let path = word(given, "PATH")?;
     let length = given_number(given, LENGTH)? as u32;
-    Ok(ended(rt, cut::run(rt, path, length)))
+    Ok(ended(rt, path, cut::run(rt, path, length)))
 }

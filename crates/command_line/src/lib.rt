@@ -6,7 +6,8 @@
 //! let status = run_words(rt, &["tokentree", "bound"], false);                   // status 2
 //! ```
 //!
-//! What a command does stands in `subcommands`, `live_commands`, `lock_command` and `node_process`;
+//! What a command does stands in `subcommands`, `live_commands`, `lock_command`,
+//! `status_command` and `node_process`;
 //! how the program ends, in `program_ends`.
 //!
 //! The trap: which words a command takes is the parser's to say, and no contract tells; tests try
@@ -20,6 +21,7 @@ mod draw;
 mod junk;
 mod lock;
 mod measure;
+mod network;
 mod node;
 mod node_words;
 mod program;
@@ -28,6 +30,7 @@ mod schedule;
 mod scramble;
 mod simulate;
 mod status;
+mod stop;
 mod threads;
 mod up;
 

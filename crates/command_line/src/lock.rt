@@ -2,12 +2,13 @@
 use crate::program::{Runtime, SOCKETS_FOLDER};
 use crate::refusal::Refusal;
 use clap::{ArgMatches, Command};
-use command_grammar::{
-    Grammar, Number, Parameter, given_number, number_if_given, with_command, word,
-};
-use lock_command::{Request, guard, lock};
+use command_grammar::{Grammar, Number, Parameter, given_number, with_command, word};
+use lock_command::{Request, Seconds, guard, lock};
+use lock_words::{StandIns, limit_of};
 use std::alloc::{AllocError, Global};
+use std::env;
 use std::process::ExitCode;
+use std::rt::Env;
 
 /// What `lock` takes.
 const LOCK: Grammar<'static> = Grammar {
@@ -18,7 +19,21 @@ const LOCK: Grammar<'static> = Grammar {
         Parameter::Value(
             "timeout",
             "SECONDS",
-            "Give up if the lock is not granted within this time: 0 to 65535 seconds",
+            "Give up if the lock is not granted within this time: 0 to 65535 seconds, as 5 or 0.2",
+        ),
+        Parameter::Flag(
+            "no-wait",
+            "Give up at once, which is after half a second (-n)",
+        ),
+        Parameter::ValueOr(
+            "lost-status",
+            "STATUS",
+            "122",
+            "End with this status if the lock was lost: 1 to 255 (-E)",
+        ),
+        Parameter::Flag(
+            "verbose",
+            "Report on standard error that the lock is waited for, granted and given back",
         ),
         Parameter::Flag("keep", "Let the command run on if the lock is lost"),
         Parameter::Flag(
@@ -31,14 +46,17 @@ const LOCK: Grammar<'static> = Grammar {
         // The word by which a test program becomes a guard.
         Parameter::HiddenValue("guard-as"),
         Parameter::Place("DIR", SOCKETS_FOLDER),
-        Parameter::Place("ID", "The node that is asked, by its id"),
+        Parameter::Place(
+            "ID",
+            "The node that is asked, by its id, or any: whichever node of DIR answers first",
+        ),
         Parameter::Rest(
             "COMMAND",
             "The command and its arguments; none to hold the lock until standard input ends",
         ),
     ],
     needs: &[],
-    excludes: &[],
+    excludes: &[("no-wait", "timeout")],
     choice: None,
 };
 
@@ -54,7 +72,21 @@ this one, releases the lock, and ends with the command's status. Before it, -- m
 with a hyphen.
 
   $ tokentree lock /run/tokentree 1 -- make deploy
-  $ tokentree lock --timeout 5 /run/tokentree 1 -- ./backup.sh /srv
+  $ tokentree lock --timeout 0.2 /run/tokentree any -- ./backup.sh /srv
+  $ tokentree lock -n -E 75 /run/tokentree 1 -- ./backup.sh /srv || echo not today
+  $ tokentree lock --verbose /run/tokentree 1 -- true
+  tokentree: waiting at node 1
+  tokentree: node 1 granted the lock
+  tokentree: node 1 took the lock back
+
+any asks all nodes of DIR and takes the one that answers first, so that a node which is down keeps nobody from the lock.
+-n gives up at once: half a second is longer than the token takes to come round if nobody holds the lock. -E is the
+status of a lost lock, for a command that ends with 122 itself.
+
+If DIR or ID is left out, the variables TOKENTREE_DIR and TOKENTREE_NODE stand in for it, and -- stands before COMMAND:
+
+  $ export TOKENTREE_DIR=/run/tokentree TOKENTREE_NODE=1
+  $ tokentree lock -- make deploy
 
 Without a command it prints granted and holds the lock until its standard input ends:
 
@@ -77,10 +109,10 @@ then outlives Ctrl-C, hands SIGTERM on to the command, and ends as the command d
 The lock is given back when the command itself has ended. What it left in the background runs on without the lock, other
 than under flock, whose open file children keep; with --wait-children lock waits for them.
 
-Statuses: the command's own, or 128 and the number of the signal that ended it; 122 the lock was lost, or may have
-been; 124 it was not granted in time; 125 there is no lock service at DIR, or it or the system failed, or the second
-process could not be started; 126 the command cannot be run; 127 there is no such command; 2 invalid arguments. A signal
-that ends lock while it waits gives 128 and its number.";
+Statuses: the command's own, or 128 and the number of the signal that ended it; 122 (or STATUS of -E) the lock was
+lost, or may have been; 124 it was not granted in time, or the node has no room for a client; 125 there is no lock
+service at DIR, or it or the system failed, or the second process could not be started; 126 the command cannot be run;
+127 there is no such command; 2 invalid arguments. A signal that ends lock while it waits gives 128 and its number.";
 
 /// Which ids are taken; which nodes there are the folder says.
 const ID: Number<'static> = Number {
@@ -90,13 +122,25 @@ const ID: Number<'static> = Number {
     most: 65_535,
 };
 
-/// How many seconds are waited for the lock.
-const TIMEOUT: Number<'static> = Number {
-    id: "timeout",
-    name: "--timeout",
-    least: 0,
-    most: 65_535,
+/// The word that stands for whichever node answers first.
+const ANY: &str = "any";
+
+/// The status of a lost lock.
+const LOST: Number<'static> = Number {
+    id: "lost-status",
+    name: "--lost-status",
+    least: 1,
+    most: 255,
 };
+
+/// For how many milliseconds the lock is waited for that is to be had at once: a token that is lent to
+/// nobody comes round sooner.
+const AT_ONCE: u32 = 500;
+
+/// The variables of the environment that stand in for DIR and ID.
+const FOLDER_VARIABLE: &str = "TOKENTREE_DIR";
+
+const NODE_VARIABLE: &str = "TOKENTREE_NODE";
 
 /// The words with which the program becomes the guard of a command. DIR and ID are not used then.
 const GUARD: [&str; 5] = ["lock", "--guard", "--", ".", "0"];
@@ -104,27 +148,89 @@ const GUARD: [&str; 5] = ["lock", "--guard", "--", ".", "0"];
 /// The same, of a command that runs on if the lock is lost.
 const KEEPING_GUARD: [&str; 5] = ["lock", "--guard-keeping", "--", ".", "0"];
 
-/// Does what the words of `lock` say, or what the guard of a command does.
-pub fn run<R: Runtime>(rt: &R, given: &ArgMatches) -> Result<ExitCode, Refusal> {
+/// What stands in for words that are left out.
+#[derive(Drop)]
+pub struct Surroundings {
+    folder: Option<String>,
+    node: Option<String>,
+}
+
+impl Surroundings {
+    /// What the environment has. An empty variable is none.
+    pub fn of<R: Env + AllocGlobal>(rt: &R) -> Surroundings {
+        Surroundings {
+            folder: variable(rt, FOLDER_VARIABLE),
+            node: variable(rt, NODE_VARIABLE),
+        }
+    }
+
+    /// The same, lent.
+    pub fn lent(&self) -> StandIns<'_> {
+        StandIns {
+            folder: self.folder.as_deref(),
+            node: self.node.as_deref(),
+        }
+    }
+}
+
+/// A variable of the environment that is not empty.
+fn variable<R: Env + AllocGlobal>(rt: &R, name: &str) -> Option<String> {
+    match env::var(rt, name) {
+        Ok(value) if !value.is_empty() => Some(value),
+        _ => None,
+    }
+}
+
+/// Does what the words of `lock` say, or what the guard of a command does. Of the words the last is
+/// `--` or not.
+pub fn run<R: Runtime>(rt: &R, given: &ArgMatches, is_dashed: bool) -> Result<ExitCode, Refusal> {
     let is_keeping_guard = given.get_flag("guard-keeping");
     if is_keeping_guard || given.get_flag("guard") {
         return Ok(ExitCode::from(guard::run(rt, is_keeping_guard)));
     }
+    let command = given.get_strs("COMMAND").unwrap_or(&[]);
+    if is_dashed && command.is_empty() {
+        return Err(Refusal::NoWords);
+    }
+    Ok(ExitCode::from(lock::run(rt, &request(given, command)?)))
+}
+
+/// What the words ask for, with this command.
+fn request<'a>(given: &'a ArgMatches, command: &'a [&'a str]) -> Result<Request<'a>, Refusal> {
     let keeps_running = given.get_flag("keep");
     let guard = if keeps_running {
         &KEEPING_GUARD
     } else {
         &GUARD
     };
-    let seconds = number_if_given(given, TIMEOUT)?.map(|seconds| seconds as u16);
-    let request = Request {
+    Ok(Request {
         folder: word(given, "DIR")?,
-        node: given_number(given, ID)? as u16,
-        seconds,
+        node: node(given)?,
+        limit: limit(given)?,
+        lost: given_number(given, LOST)? as u8,
+        is_verbose: given.get_flag("verbose"),
         keeps_running,
         waits_for_children: given.get_flag("wait-children"),
         guard: given.get_strs("guard-as").unwrap_or(guard),
-        command: given.get_strs("COMMAND").unwrap_or(&[]),
+        command,
+    })
+}
+
+/// The node that is asked; none if that is any.
+fn node(given: &ArgMatches) -> Result<Option<u16>, Refusal> {
+    if word(given, "ID")? == ANY {
+        Ok(None)
+    } else {
+        Ok(Some(given_number(given, ID)? as u16))
+    }
+}
+
+/// For how long the lock is waited for.
+fn limit(given: &ArgMatches) -> Result<Option<Seconds>, Refusal> {
+    let millis = match given.get_str("timeout") {
+        Some(word) => Some(limit_of(word).ok_or(Refusal::Limit)?),
+        None if given.get_flag("no-wait") => Some(AT_ONCE),
+        None => None,
     };
-    Ok(ExitCode::from(lock::run(rt, &request)))
+    Ok(millis.map(|millis| Seconds { millis }))
 }

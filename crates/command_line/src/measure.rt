@@ -13,8 +13,8 @@ use std::process::ExitCode;
 use std::rt::Files;
 use std::thread::Threads;
 use std::time::Clock;
-use subcommands::measure;
 use subcommands::measure::Plan;
+use subcommands::{measure, measure_json};
 
 /// What `measure` takes.
 const MEASURE: Grammar<'static> = Grammar {
@@ -33,6 +33,7 @@ const MEASURE: Grammar<'static> = Grammar {
         Parameter::Flag("rounds", "Run by rounds, as where nothing is said"),
         Parameter::Flag("random", "Run by steps that are drawn"),
         Parameter::Flag("table", "Show a line for each run, too"),
+        Parameter::Flag("json", "Show a JSON object, on one line"),
     ],
     needs: &[],
     excludes: &[("random", "rounds")],
@@ -63,6 +64,9 @@ sweeps than it says after 1000 rounds, or stretches of random steps, for each of
 status is 1. 'schedule FILE --scramble S --rounds N' prints the events of such a run, but for the lock that is given
 back.
 
+With --json the same is one JSON object: runs, least, median, most, sharp and sweeps-bound, and seeds, a list with the seed
+and the sweeps of each run that would have a line; null for none.
+
 Statuses: 0 done; 1 a file, memory or standard output was refused, with its fault on standard error, or a run did not
 serve; 2 the command line was refused.";
 
@@ -88,7 +92,11 @@ pub fn run<R: Files + Print + Eprint + Clock + AllocGlobal + Threads + Sync>(
     given: &ArgMatches,
     progress: bool,
 ) -> Result<ExitCode, Refusal> {
-    Ok(measure::run(rt, word(given, "FILE")?, plan(given, progress)?)?)
+    let (file, plan) = (word(given, "FILE")?, plan(given, progress)?);
+    if given.get_flag("json") {
+        return Ok(measure_json::run(rt, file, plan)?);
+    }
+    Ok(measure::run(rt, file, plan)?)
 }
 
 /// The plan that the words of `measure` say.

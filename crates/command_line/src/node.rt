@@ -1,6 +1,6 @@
 //! The words of `node`.
-use crate::node_words::{FOLDER, HOLD_HELP, REPEAT_HELP, ended, manner};
-use crate::program::{NETWORK_FILE, Runtime};
+use crate::node_words::{FOLDER, HOLD_HELP, REPEAT_HELP, TURN_HELP, ended, late_after, manner};
+use crate::program::{NETWORK_FILE, Runtime, TOKENTREE};
 use crate::refusal::Refusal;
 use clap::{ArgMatches, Command};
 use command_grammar::{Grammar, Number, Parameter, given_number, with_command, word};
@@ -19,6 +19,7 @@ const NODE: Grammar<'static> = Grammar {
         Parameter::Place("DIR", FOLDER),
         Parameter::Value("hold", "MICROSECONDS", HOLD_HELP),
         Parameter::Value("repeat", "MICROSECONDS", REPEAT_HELP),
+        Parameter::Value("turn", "MILLISECONDS", TURN_HELP),
         Parameter::Flag(
             "child",
             "Name the node in each line, and end as standard input does, for `up`",
@@ -37,14 +38,15 @@ pub fn add_to<'a>(parser: Command<'a>, alloc: Global) -> Result<Command<'a>, All
 /// What follows the options in its help.
 const HELP: &str = "\
 FILE is a network file, as `help bound` shows. Node ID keeps its files in DIR, which is made where it is missing, for
-its owner alone: state-ID.tkt, its state, node-ID.sock, where other nodes connect, and desk-ID.sock, where clients do.
-Each node of the network runs so, in one DIR, in any order, and may end and start at any time.
+its owner alone: state-ID.tkt, its state, node-ID.sock, where other nodes connect, desk-ID.sock, where clients do, and
+look-ID.sock: whoever connects there is shown in a line of JSON how the node stands, its links, loans and turns. Each
+node of the network runs so, in one DIR, in any order, and may end and start at any time.
 
   $ tokentree node examples/ring-of-three.toml 0 run
   start default Absent
   ready
 
-It prints from what it starts, its state or the default state and why, and that it is ready once both sockets listen.
+It prints from what it starts, its state or the default state and why, and that it is ready once its sockets listen.
 A client writes the lines lock, unlock and status to desk-ID.sock, and reads granted, lost, released and the rest.
 
 It ends with status 0 within 256 turns, at most half a second, once a file DIR/stop-ID is there:
@@ -57,7 +59,8 @@ The network's capacity is a premise of what is proved. On a link of two processe
 or more.
 
 --hold is how long a node keeps news to itself where nobody wants the lock, --repeat after what time it sends a frame
-again; both in microseconds. Less of either is more work and less waiting.
+again; both in microseconds. Less of either is more work and less waiting. The node counts the turns that end more than
+--turn milliseconds after the turn before (0.001 to 3600000, with at most 3 decimals), for whoever looks.
 
 Statuses: 0 ended by the stop file; 1 it cannot run, with the reason on standard error; 2 the command line was refused.";
 
@@ -76,6 +79,8 @@ pub fn run<R: Runtime>(rt: &R, given: &ArgMatches) -> Result<ExitCode, Refusal> 
         id: given_number(given, ID)? as u16,
         dir: word(given, "DIR")?,
         manner: manner(given)?,
+        turn: late_after(given)?,
+        version: TOKENTREE.version,
         is_child: given.get_flag("child"),
     };
     let done = node::run(rt, &words);

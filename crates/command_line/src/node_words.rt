@@ -3,12 +3,16 @@ ghost use Rattle.std.specs.Prelude.{◌≡◌, IfOk, IfErr, if◌then◌else◌,
 ghost use Rattle.std.specs.Process.{exit_status};
 ghost use Rattle.clap.specs.Matches.{found_of};
 ghost use Rattle.command_line.specs.Manner.{IsMannerOf, IsMannerRefused};
+ghost use Rattle.command_line.specs.Manner.{IsLimitOf, IsLimitRefused};
 
 use clap::ArgMatches;
 use command_grammar::{Number, WordFault, number_if_given};
-use node_process::{NodeFault, Refusal};
+use fault_hints::{explain_network, explain_swap};
+use node_process::{NodeFault, Refusal, USUAL_LIMIT};
 use pace::Manner;
+use recovery_times::{TimeFault, micros_of};
 use std::process::ExitCode;
+use std::rt::Files;
 
 /// What the folder of a network is.
 pub const FOLDER: &str = "The folder of the network's files and sockets";
@@ -35,6 +39,26 @@ pub const REPEAT: Number<'static> = Number {
 /// The same, as the help says it.
 pub const REPEAT_HELP: &str = "When a frame is sent again, at most 100000 [default: 8000]";
 
+/// After how many milliseconds a turn is late, as the help says it.
+pub const TURN_HELP: &str = "After which time a turn is late [default: 2.2]";
+
+/// After how many microseconds a turn is late, as the words of `node` or `up` say; 2200 if they do not.
+///
+/// # Errors
+/// [`TimeFault::Turn`] if the word is no time from 0.001 milliseconds to an hour.
+pub fn late_after(given: &ArgMatches) -> Result<u64, TimeFault>
+    ensures ok { IfOk result (IsLimitOf (found_of given.now)) }
+    ensures err { IfErr result (IsLimitRefused (found_of given.now)) }
+{
+    match given.get_str("turn") {
+        None => Ok(USUAL_LIMIT),
+        Some(word) => match micros_of(word.as_bytes()) {
+            Some(micros) if micros > 0 => Ok(u64::from(micros)),
+            _ => Err(TimeFault::Turn),
+        },
+    }
+}
+
 /// The manner that the words of `node` or `up` say; of what they leave out, the usual one.
 ///
 /// # Errors
@@ -51,7 +75,7 @@ pub fn manner(given: &ArgMatches) -> Result<Manner, WordFault<'static>>
 }
 
 /// The status of a command that is done, or the line of its fault and status 1.
-pub fn ended<R: Eprint>(
+pub fn ended<R: Files + Eprint + AllocGlobal>(
     rt: &R,
     file: &str,
     dir: &str,
@@ -63,6 +87,10 @@ pub fn ended<R: Eprint>(
     match done {
         Ok(()) => ExitCode::SUCCESS,
         Err(fault) => {
+            if let NodeFault::Network(fault) = fault {
+                explain_network(rt, file, fault);
+                explain_swap(rt, file, dir);
+            }
             let refusal = Refusal {
                 file,
                 dir,

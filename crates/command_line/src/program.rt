@@ -63,6 +63,7 @@ Examples:
   tokentree simulate examples/two-nodes.toml events.txt
   tokentree schedule examples/square.toml --scramble 7 --rounds 100 | tokentree simulate examples/square.toml -
   tokentree measure examples/square.toml --runs 100
+  tokentree network ring 5
   tokentree threads examples/square.toml 1000
   tokentree help simulate
 

@@ -1,14 +1,48 @@
 //! Why a command line is not done, and how the program ends then.
 ghost use Rattle.std.specs.Prelude.{◌≡◌, IfOk, IfErr};
 ghost use Rattle.std.specs.Process.{exit_status};
-ghost use Rattle.command_line.specs.Ends.{status_of};
+ghost use Rattle.command_line.specs.Ends.{EndsWith};
 
 use command_grammar::WordFault;
 use command_parts::{Fault, PathFault};
-use program_ends::{LINE_REFUSED, PathFaultLine, fails, fault_status};
+use fault_hints::{explain_network, explain_writing};
+use program_ends::{LINE_REFUSED, PathFaultLine, fails, fault_status, output_fails};
 use recovery_times::TimeFault;
 use std::fmt;
 use std::process::ExitCode;
+use std::rt::Files;
+
+/// Why the words of `network` say no network.
+#[derive(Clone, Copy, Debug, PartialEq, Eq, Drop)]
+pub enum KindFault {
+    /// There is no such kind.
+    Unknown,
+    /// A grid has no number of columns, or more than one.
+    NoColumns,
+    /// Another kind has a second number.
+    OneNumber,
+    /// Another kind has what is for random graphs.
+    RandomAlone,
+}
+
+/// Prints as what the message says after the program's name.
+impl fmt::Display for KindFault {
+    ghost use Rattle.std.specs.Prelude.{Some};
+    ghost use Rattle.command_line.specs.Ends.{kind_fault_text};
+
+    ghost output = { λ fault. Some (kind_fault_text fault) };
+
+    fn fmt<W: fmt::Write>(&self, f: &mut fmt::Formatter<W>) -> fmt::Result {
+        f.write_str(match *self {
+            KindFault::Unknown => {
+                "KIND is none of line, ring, star, complete, tree, grid and random"
+            }
+            KindFault::NoColumns => "a grid takes two numbers, of rows and of columns",
+            KindFault::OneNumber => "this kind takes one number, of nodes",
+            KindFault::RandomAlone => "--edges and --seed are for random alone",
+        })
+    }
+}
 
 /// Why a command line is not done.
 #[derive(Clone, Copy, Debug, PartialEq, Eq, Drop)]
@@ -17,8 +51,14 @@ pub enum Refusal {
     Word(WordFault<'static>),
     /// A word is no time that its option takes.
     Time(TimeFault),
+    /// The word of `--timeout` is no time that `lock` waits.
+    Limit,
+    /// No command follows the `--` of `lock`.
+    NoWords,
     /// The window of a picture ends before it begins.
     Window,
+    /// The kind of a network is none, or does not take what is given with it.
+    Kind(KindFault),
     /// The program has no such command, which the parser rules out.
     NoCommand,
     /// The command ended with this fault.
@@ -69,35 +109,60 @@ impl fmt::Display for Refusal {
         match *self {
             Refusal::Word(fault) => f.write(fault),
             Refusal::Time(fault) => f.write(fault),
+            Refusal::Limit => f.write_str(
+                "--timeout is no time from 0 to 65535 seconds, with at most 3 decimals",
+            ),
+            Refusal::NoWords => f.write_str(
+                "no command follows --: leave -- out to hold the lock until standard input ends",
+            ),
             Refusal::Window => f.write_str("--from is greater than --to"),
+            Refusal::Kind(fault) => f.write(fault),
             Refusal::NoCommand => f.write_str("no command"),
             Refusal::Fault(fault) => f.write(fault),
         }
     }
 }
 
-/// The status of a command line; why it is not done stands in a line on standard error.
-pub fn status<R: Eprint>(rt: &R, done: Result<ExitCode, Refusal>, is_lock: bool) -> ExitCode
-    ensures { exit_status result ≡ status_of is_lock done }
+/// The status of a command line; why it is not done stands in a line on standard error, which names the
+/// command's help if words are refused.
+pub fn status<R: Print + Eprint>(
+    rt: &R,
+    done: Result<ExitCode, Refusal>,
+    is_lock: bool,
+    command: Option<&str>,
+) -> ExitCode
+    ensures { EndsWith is_lock done result }
 {
     match done {
         Ok(status) => status,
+        Err(Refusal::Fault(Fault::Output)) => output_fails(rt, fault_status(is_lock)),
         Err(Refusal::Fault(fault)) => fails(rt, fault, fault_status(is_lock)),
         Err(refusal) => {
-            let _ = eprintln!(rt; "tokentree: {refusal}");
+            let command = command.unwrap_or("");
+            let _ = eprintln!(rt; "tokentree: {refusal}; try: tokentree help {command}");
             ExitCode::from(LINE_REFUSED)
         }
     }
 }
 
-/// The status of a command that changes a file; why it did not stands in a line on standard error.
-pub fn ended<R: Eprint>(rt: &R, done: Result<ExitCode, PathFault>) -> ExitCode
+/// The status of a command that changes a file; why it did not stands in a line on standard error, after
+/// one that says what is wrong with the file.
+pub fn ended<R: Files + Eprint + AllocGlobal>(
+    rt: &R,
+    file: &str,
+    done: Result<ExitCode, PathFault>,
+) -> ExitCode
     ensures done { IfOk done.entry (λ code. result ≡ code) }
     ensures fault { IfErr done.entry (λ _. exit_status result ≡ 1) }
 {
     match done {
         Ok(code) => code,
         Err(fault) => {
+            match fault {
+                PathFault::Fault(Fault::Network(fault)) => explain_network(rt, file, fault),
+                PathFault::Fault(_) => {}
+                PathFault::Unwritable(path) => explain_writing(rt, path),
+            }
             let _ = rt.eprintln(PathFaultLine(fault));
             ExitCode::FAILURE
         }

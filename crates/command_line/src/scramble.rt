@@ -36,6 +36,8 @@ leading zero. The desk is no part of a state file: a lock that was lent is forgo
 
   $ tokentree scramble examples/two-nodes.toml 1 node-1.state 7
 
+A node that runs writes its file again within a second: scramble first, then kill the node at once.
+
 Statuses: 0 done; 1 the network, the id or the file was refused, with its fault on standard error;
 2 the command line was refused. Where the file cannot be opened for writing, or is no plain file,
 what was there is still there.";
@@ -65,5 +67,5 @@ pub fn run<R: Files + Eprint + AllocGlobal>(
     let path = word(given, "PATH")?;
     let id = given_number(given, ID)? as u16;
     let seed = given_number(given, SEED)? as u32;
-    Ok(ended(rt, scramble::run(rt, network, id, path, seed)))
+    Ok(ended(rt, network, scramble::run(rt, network, id, path, seed)))
 }

@@ -75,7 +75,9 @@ more than 64 bytes), and else the first that holds of
   Apart         without that edge some node cannot reach the root
 
 After the last line the state is shown: each node; how many items are on each link that stands; how many nodes are privileged,
-which is to hold the token, and how many lend; and the sweeps since the last damage, of as many as bound shows.
+which is to hold the token, and how many lend; and the sweeps that have passed since the last damage, of as many as are
+proved to be enough (see bound). The first number may be greater than the second. It stays 0 while a node lends: without
+a lease a loan ends only by a leave, so give the network one.
 
   $ printf 'tick 0\\ntick 2\\n' | tokentree simulate two-nodes.toml -
   line 2: NoNode

@@ -1,10 +1,14 @@
 //! The words of `status`.
+ghost use Rattle.std.specs.Prelude.{◌≡◌};
+ghost use Rattle.command_line.specs.Interval.{interval};
+
 use crate::program::{Runtime, SOCKETS_FOLDER};
 use crate::refusal::Refusal;
 use clap::{ArgMatches, Command};
 use command_grammar::{Grammar, Number, Parameter, WordFault, with_command, word};
 use command_parts::Fault;
-use lock_command::status;
+use recovery_times::micros_of;
+use status_command::{Form, Notice, Part, Watch, check, looks, refused, status, watch};
 use std::alloc::{AllocError, Global};
 use std::process::ExitCode;
 
@@ -14,14 +18,42 @@ const STATUS: Grammar<'static> = Grammar {
     about: "Shows how nodes stand, and how many are privileged and lend",
     help: HELP,
     parameters: &[
+        Parameter::Flag("json", "Show a JSON object, on one line"),
+        Parameter::Value(
+            "check",
+            "FILE",
+            "Say in a line and by the status whether the network of this file serves, for monitors",
+        ),
+        Parameter::Flag(
+            "premises",
+            "Show how long the longest times between two turns of each node were",
+        ),
+        Parameter::Flag("links", "Show how the links of each node stand"),
+        Parameter::Flag("watch", "Show the nodes again and again, until Ctrl-C"),
+        Parameter::Value(
+            "every",
+            "SECONDS",
+            "The time between two looks of a watch, 0.1 to 3600 [default: 0.5]",
+        ),
         Parameter::Place("DIR", SOCKETS_FOLDER),
         Parameter::Places(
             "ID",
             "The nodes, by their ids; none for each that has a socket in the folder",
         ),
     ],
-    needs: &[],
-    excludes: &[],
+    needs: &[("every", "watch")],
+    excludes: &[
+        ("check", "json"),
+        ("check", "watch"),
+        ("check", "premises"),
+        ("check", "links"),
+        ("check", "ID"),
+        ("premises", "json"),
+        ("premises", "watch"),
+        ("premises", "links"),
+        ("links", "json"),
+        ("links", "watch"),
+    ],
     choice: None,
 };
 
@@ -45,9 +77,40 @@ lend the lock; lent is the ticket that it lends to; waiting is how many wait at 
 token yes, and those that lend.
 
 The nodes answer one after the other while the token goes round: so it may be seen at two of them, or at none. Two that
-lend at once are seen only after damage, until the lock has recovered.
+lend at once are seen only after damage, until the lock has recovered. A node that is cut off shows the place that it had;
+--links shows that it is. Of a node without an answer, whose socket and state DIR does not have either, a line on standard
+error says that it never ran there.
 
-Statuses: 0 each node answered; 1 one gave no answer, or none is there; 2 the command line was refused.";
+  $ tokentree status /run/tokentree --links
+  node 0 link 1 up for 86.001 s breaks 0
+  node 1 link 0 up for 86.001 s breaks 0
+  node 2 no answer
+  $ tokentree status /run/tokentree --premises
+  node 0 turns 51200 longest 3.104 ms lately 2.290 ms late 3
+
+--links says for each neighbour whether a connection stands, since when, and how often one broke. --premises says how long
+the longest time between two turns of a node was, since its start and within the last minute, and how many turns came later
+than the node's --turn allows. Both are read at DIR/look-ID.sock.
+
+--json shows the same as the lines in one JSON object: nodes, privileged, lending; of each node the words of its line as
+names, null for none, and answer, which is false for a node that gave none.
+
+--watch shows the nodes each half second, or each --every seconds, each under its parent, with the time that a loan has
+taken so far and the loans of the last minute. On a terminal it stays in its place; Ctrl-C or q ends it. Elsewhere there is
+a block a time, with an empty line between. With --json it is a line a time.
+
+  $ tokentree status /run/tokentree --check ring.toml
+  tokentree OK - each node is in its place, and at most one lends | nodes=3 answering=3 wrong=0 ..
+
+--check looks three times, a second apart, at each node of the network of FILE. Statuses and words are those of monitoring
+plugins: 0 OK, if each time each node answers, with the distance and parent that the network gives, and at most one lends; 1
+WARNING, if one does not, or two lend in some reading; 2 CRITICAL, if nobody answers, or two lend each time; 3 UNKNOWN, if
+it cannot look, or DIR has a node that the network has not. A reading is of no one instant, so two that lend in one may
+have lent one after the other; in three readings on end that is unlikely, and no proof of two locks. OK does not say that
+nothing happened between the readings. The figures are those of the last.
+
+Statuses: 0 each node answered; 1 one gave no answer, or none is there; 2 the command line was refused; with --check those
+above; 0 for a watch that was ended by a key.";
 
 /// Which ids are taken; which nodes there are the folder says.
 const ID: Number<'static> = Number {
@@ -60,11 +123,69 @@ const ID: Number<'static> = Number {
 /// Does what the words of `status` say.
 pub fn run<R: Runtime>(rt: &R, given: &ArgMatches) -> Result<ExitCode, Refusal> {
     let nodes = ids(rt.alloc(), given.get_strs("ID").unwrap_or(&[]))?;
-    Ok(ExitCode::from(status::run(rt, word(given, "DIR")?, nodes.as_slice())))
+    let folder = word(given, "DIR")?;
+    Ok(ExitCode::from(shown(rt, given, folder, nodes.as_slice())))
+}
+
+/// Shows what the flags ask for, and answers the status to end with.
+fn shown<R: Runtime>(rt: &R, given: &ArgMatches, folder: &str, nodes: &[u16]) -> u8 {
+    if let Some(file) = given.get_str("check") {
+        return check::run(rt, folder, file);
+    }
+    if given.get_flag("premises") {
+        return looks::run(rt, folder, nodes, Part::Premises);
+    }
+    if given.get_flag("links") {
+        return looks::run(rt, folder, nodes, Part::Links);
+    }
+    if given.get_flag("watch") {
+        return watched(rt, given, folder, nodes);
+    }
+    status::run(rt, folder, nodes, form(given))
+}
+
+/// Watches.
+fn watched<R: Runtime>(rt: &R, given: &ArgMatches, folder: &str, nodes: &[u16]) -> u8 {
+    let Some(every) = interval(given.get_str("every")) else {
+        return refused(rt, Notice::NoInterval);
+    };
+    let form = form(given);
+    watch::run(
+        rt,
+        &Watch {
+            folder,
+            nodes,
+            every,
+            form,
+        },
+    )
+}
+
+/// In which form the nodes are shown.
+fn form(given: &ArgMatches) -> Form {
+    if given.get_flag("json") {
+        Form::Json
+    } else {
+        Form::Lines
+    }
+}
+
+/// The time between two looks of a watch, in milliseconds: half a second if it is left out; none if the
+/// word spells no time from a tenth of a second to an hour, with at most three decimals.
+fn interval(word: Option<&str>) -> Option<u64>
+    ensures { result ≡ interval word.entry }
+{
+    match word {
+        None => Some(500),
+        Some(word) => match micros_of(word.as_bytes()) {
+            Some(millis) if millis >= 100 && millis <= 3_600_000 => Some(u64::from(millis)),
+            _ => None,
+        },
+    }
 }
 
 /// The ids that these words spell.
-fn ids(alloc: Global, words: &[&str]) -> Result<Vec<u16>, Refusal> {
+pub fn ids(alloc: Global, words: &[&str]) -> Result<Vec<u16>, Refusal> {
     let mut nodes = Vec::new(alloc);
     for word in words {
         let id = ID.read(word).ok_or(WordFault::NoNumber(ID))?;

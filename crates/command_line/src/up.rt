@@ -1,5 +1,5 @@
 //! The words of `up`.
-use crate::node_words::{FOLDER, HOLD_HELP, REPEAT_HELP, ended, manner};
+use crate::node_words::{FOLDER, HOLD_HELP, REPEAT_HELP, TURN_HELP, ended, late_after, manner};
 use crate::program::{NETWORK_FILE, Runtime};
 use crate::refusal::Refusal;
 use clap::{ArgMatches, Command};
@@ -18,6 +18,7 @@ const UP: Grammar<'static> = Grammar {
         Parameter::Place("DIR", FOLDER),
         Parameter::Value("hold", "MICROSECONDS", HOLD_HELP),
         Parameter::Value("repeat", "MICROSECONDS", REPEAT_HELP),
+        Parameter::Value("turn", "MILLISECONDS", TURN_HELP),
     ],
     needs: &[],
     excludes: &[],
@@ -41,7 +42,8 @@ Each node of the network of FILE runs as a process of its own, with its files in
 
 A node that ends, in whatever way, is started again within a second, and a line tells so. End it by the end of its
 standard input (Ctrl-D on a terminal): the nodes save their states and end, and what has not ended after five seconds
-is killed. Where `up` itself is killed the nodes end as well. Each node is given --hold and --repeat (see `help node`).
+is killed. Where `up` itself is killed the nodes end as well. Each node is given --hold, --repeat and --turn (see `help
+node`).
 
 Statuses: 0 standard input has ended, and all nodes have; 1 it cannot run, with the reason on standard error; 2 the
 command line was refused.";
@@ -50,7 +52,7 @@ command line was refused.";
 pub fn run<R: Runtime>(rt: &R, given: &ArgMatches) -> Result<ExitCode, Refusal> {
     let file = word(given, "FILE")?;
     let dir = word(given, "DIR")?;
-    let done = match OwnProgram::new(rt, file, dir, manner(given)?) {
+    let done = match OwnProgram::new(rt, file, dir, manner(given)?, late_after(given)?) {
         Ok(program) => up::run(rt, &program, file, dir),
         Err(fault) => Err(fault),
     };

@@ -4,3 +4,4 @@ pub mod JunkBytes
 pub mod Ports
 pub mod Scrambles
 mod RowsDrawn
+mod RowsDraws

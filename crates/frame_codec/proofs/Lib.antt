@@ -3,3 +3,4 @@ pub mod TooLong
 pub mod Cutting
 pub mod ToldFrames
 mod Rows
+mod RowsReader

@@ -12,14 +12,14 @@ abbrev frame : ℕ → ℕ → ℕ → Option ℕ → ℕ → Frame
 frame seq ack distance parent ring = record { seq = seq; ack = ack; payload = record { distance = distance; parent = parent; ring = ring } }
 
 -- on a line of three nodes with capacity 1 the counters are below 5 and the ring values below 13
-abbrev line : Ranges
+abbrev pub line : Ranges
 line = ranges_of (record { nodes = 3; root = 0; capacity = 1; lease = 0; edges = (0, 1) ∷ (1, 2) ∷ [] })
 
 -- on 64 nodes with capacity 4096 the counters are below 8195 and the ring values below 379
 abbrev large : Ranges
 large = record { nodes = 64; counter = 8195; ring = 379 }
 
-abbrev first : Frame
+abbrev pub first : Frame
 first = frame 0 0 1 (Some 0) 12
 
 spelled : spelling first ≡ codes "F0000000000010000000c"

@@ -6,3 +6,4 @@ pub mod LineLemmas
 pub mod Losing
 pub mod NumberLemmas
 pub mod Rows
+mod RowsSteps

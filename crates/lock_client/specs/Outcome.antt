@@ -23,3 +23,8 @@ outcome_status Lost = 122
 outcome_status NotInTime = 124
 outcome_status NoService = 125
 outcome_status (Stopped signal) = 128 + signal_number signal
+
+-- the same, but that a lost lock has the status that the user chose
+abbrev pub chosen_status : ℕ → Outcome → ℕ
+chosen_status lost Lost = lost
+chosen_status lost outcome = outcome_status outcome

@@ -1,6 +1,6 @@
 //! How a program that took the lock ends.
 ghost use Rattle.std.specs.Prelude.{◌≡◌};
-ghost use Rattle.lock_client.specs.Outcome.{end_status, outcome_status};
+ghost use Rattle.lock_client.specs.Outcome.{end_status, outcome_status, chosen_status};
 
 use crate::signals::Signal;
 
@@ -64,6 +64,16 @@ impl Outcome {
             Outcome::NotInTime => 124,
             Outcome::NoService => 125,
             Outcome::Stopped(signal) => 128 + signal.number(),
+        }
+    }
+
+    /// The same, but that a lost lock has this status.
+    pub fn status_or(self, lost: u8) -> u8
+        ensures { result ≡ chosen_status lost self }
+    {
+        match self {
+            Outcome::Lost => lost,
+            _ => self.status(),
         }
     }
 }

@@ -1,4 +1,9 @@
 pub mod Rest
+pub mod Seconds
 pub mod NoticeText
+pub mod Course
 pub mod Notices
 pub mod Driving
+pub mod GuardDriving
+pub mod Reaching
+pub mod Reading

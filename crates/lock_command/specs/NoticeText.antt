@@ -7,7 +7,9 @@ use Rattle.lock_command.specs.declared.notice.Fate.TheVariants as fate
 use Rattle.lock_command.specs.declared.notice.Notice.{Notice}
 use Rattle.lock_command.specs.declared.notice.Notice.TheVariants.{NoFolder, Forbidden, NoSockets}
 use Rattle.lock_command.specs.declared.notice.Notice.TheVariants.{NoNode, TooLong, WentAway}
-use Rattle.lock_command.specs.declared.notice.Notice.TheVariants.{NoService, NotInTime, Lost}
+use Rattle.lock_command.specs.declared.notice.Notice.TheVariants.{NoService, NotInTime, NoRoom, Lost}
+use Rattle.lock_command.specs.declared.notice.Notice.TheVariants.{NobodyListens, NoAnswer, Waiting, Granted, Released}
+use Rattle.lock_command.specs.Seconds.{seconds_text}
 use Rattle.lock_command.specs.declared.notice.Notice.TheVariants.{GuardGone, ClientGone, NoGuard, InDoubt, NoCommand, CannotRun, UnknownEnd}
 use Rattle.lock_command.specs.declared.notice.Notice.TheVariants.{System, Memory, Output}
 
@@ -36,9 +38,17 @@ notice_text (WentAway node) = codes "node " ++ (decimal node
     ++ codes " went away before it lent the lock")
 notice_text (NoService node) = codes "what answers for node " ++ (decimal node
     ++ codes " is no lock service")
-notice_text (NotInTime node seconds) =
-    codes "node " ++ (decimal node ++ (codes " did not lend the lock within " ++ (decimal seconds
+notice_text (NotInTime node limit) =
+    codes "node " ++ (decimal node ++ (codes " did not lend the lock within " ++ (seconds_text limit.millis
     ++ codes " s")))
+notice_text (NoRoom node) = codes "node " ++ (decimal node
+    ++ codes " has no room for a client: 128 are connected")
+notice_text (NobodyListens folder) = codes "nobody listens at the sockets in " ++ (folder.now
+    ++ codes ": start a node there")
+notice_text (NoAnswer folder) = codes "no node in " ++ (folder.now ++ codes " answers")
+notice_text (Waiting node) = codes "waiting at node " ++ decimal node
+notice_text (Granted node) = codes "node " ++ (decimal node ++ codes " granted the lock")
+notice_text (Released node) = codes "node " ++ (decimal node ++ codes " took the lock back")
 notice_text (Lost node cause command) =
     codes "the lock is lost, since node " ++ (decimal node ++ (codes " "
     ++ (cause_text cause ++ (codes ": " ++ fate_text command))))

@@ -1,4 +1,7 @@
 //! A connection to a node's desk.
+ghost use Rattle.std.specs.Prelude.{◌≡◌, IfOk};
+ghost use Rattle.lock_command.specs.Reading.{is_for_later};
+
 use lock_client::{Answer, AnswerReader, spelled};
 use lock_desk::ClientLine;
 use mio::net::UnixStream;
@@ -16,6 +19,8 @@ const READS: u32 = 16;
 /// lines of what it gave are read by [`AnswerReader`], whose contract says how.
 #[derive(Drop)]
 pub struct Desk {
+    /// Whose desk it is.
+    node: u16,
     stream: UnixStream,
     reader: AnswerReader,
     bytes: [u8; PIECE],
@@ -37,19 +42,29 @@ pub enum Heard {
 }
 
 impl Desk {
-    /// Connects to a desk's socket.
+    /// Connects to the socket of this node's desk.
     ///
     /// # Errors
     /// What the system answers: there is no such file, nobody listens, too many wait to be
     /// accepted, or the name is too long.
-    pub fn connect<R: Net>(rt: &R, path: &str) -> io::Result<Desk> {
+    pub fn connect<R: Net>(rt: &R, path: &str, node: u16) -> io::Result<Desk>
+        ensures { IfOk result (λ desk. desk.node ≡ node) }
+    {
         Ok(Desk {
+            node,
             stream: UnixStream::connect(rt, path)?,
             reader: AnswerReader::new(),
             bytes: [0; PIECE],
             next: 0,
             end: 0,
         })
+    }
+
+    /// Whose desk it is.
+    pub fn node(&self) -> u16
+        ensures { result ≡ self.now.node }
+    {
+        self.node
     }
 
     /// The socket, for whoever waits for it.
@@ -61,7 +76,9 @@ impl Desk {
     ///
     /// # Errors
     /// Where the connection is closed, or failed, or has no room for so few bytes.
-    pub fn write(&mut self, line: ClientLine) -> io::Result<()> {
+    pub fn write(&mut self, line: ClientLine) -> io::Result<()>
+        ensures { self.new.node ≡ self.old.node }
+    {
         self.stream.write_all(spelled(line))
     }
 
@@ -77,7 +94,7 @@ impl Desk {
                     self.next = 0;
                     self.end = count;
                 }
-                Err(error) if is_for_later(&error) => return Heard::Nothing,
+                Err(error) if is_for_later(error.kind()) => return Heard::Nothing,
                 Err(_) => return Heard::Gone,
             }
         }
@@ -98,6 +115,8 @@ impl Desk {
 }
 
 /// Whether a read may be tried again later.
-fn is_for_later(error: &io::Error) -> bool {
-    matches!(error.kind(), ErrorKind::WouldBlock | ErrorKind::Interrupted)
+pub fn is_for_later(kind: ErrorKind) -> bool
+    ensures { result ≡ is_for_later kind }
+{
+    matches!(kind, ErrorKind::WouldBlock | ErrorKind::Interrupted)
 }

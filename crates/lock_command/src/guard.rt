@@ -1,10 +1,15 @@
 //! The guard of a command: a second process of this program, which holds the lock as long as the
 //! command runs if the first one is killed.
+ghost use Rattle.std.specs.Prelude.{◌≡◌, ◌⊎◌};
+ghost use Rattle.lock_client.specs.declared.guard.GuardEvent.TheVariants.{Said};
+ghost use Rattle.lock_command.specs.GuardDriving.{named};
+
 use crate::family::{lives, members, send};
+use crate::guard_driver::{Guarded, drive_guard};
 use crate::guard_link::GUARDED;
 use crate::notice::{Notice, NoticeLine};
 use crate::signals::signal_state;
-use lock_client::{Guard, GuardDeed, GuardEvent, GuardWord, Sight, WordReader};
+use lock_client::{GuardDeed, GuardEvent, GuardWord, Sight, WordReader};
 use std::io::{ErrorKind, Input, Read};
 use std::process::Processes;
 use std::rt::{Env, Files};
@@ -13,17 +18,16 @@ use std::time::{Clock, Duration, Instant};
 use std::{env, thread};
 
 /// For how many seconds a command may run on that was asked to end; then it is killed.
-pub const GRACE: u64 = 3;
+const GRACE: u64 = 3;
 
 /// The status if nobody said which command is guarded: the command line was refused.
 const NO_MARK: u8 = 2;
 
 /// A guard at work.
 #[derive(Drop)]
-struct Watch {
-    guard: Guard,
-    /// What it is to do.
-    deed: GuardDeed,
+struct Watch<'a, R> {
+    /// The system.
+    rt: &'a R,
     words: WordReader,
     /// The mark of the command.
     mark: String,
@@ -38,34 +42,29 @@ struct Watch {
 /// Holds the lock, whose connection is standard output, as long as the client says so, whom standard
 /// input comes from; and, if that is killed, until nobody of the command is left. It asks the
 /// command to end, unless that may run on or has had the same signal; the environment names its
-/// mark. Answers the status to end with.
+/// mark. Answers the status to end with: 2 if the environment names none.
 ///
-/// What it does next is a [`Guard`]'s, whose laws are proved. What `/proc` says is in no contract.
+/// What it does next is a [`Guard`](lock_client::Guard)'s, whose laws are proved. What `/proc` says is
+/// in no contract.
 pub fn run<R: Env + Files + Processes + Clock + Input + Eprint + AllocGlobal + Wait>(
     rt: &R,
     keeps_running: bool,
-) -> u8 {
+) -> u8
+    ensures { (result ≡ 0) ⊎ (result ≡ 2) }
+{
     let Some(mark) = told_mark(rt) else {
         return NO_MARK;
     };
     let mut watch = Watch {
-        guard: Guard::new(keeps_running),
-        deed: GuardDeed::Listen,
+        rt,
         words: WordReader::new(),
         mark,
         command: None,
         seen: Vec::new(rt.alloc()),
         kill_due: None,
     };
-    for _ in rt.forever() {
-        let event = watch.next_event(rt);
-        watch.deed = watch.guard.step(event);
-        if watch.deed == GuardDeed::End {
-            return 0;
-        }
-        watch.act(rt);
-    }
-    unreachable!()
+    drive_guard(rt, &mut watch, keeps_running);
+    0
 }
 
 /// The mark of the command, which the environment has without the semicolon at its end.
@@ -74,28 +73,51 @@ fn told_mark<R: Env + AllocGlobal>(rt: &R) -> Option<String> {
     format!(in rt.alloc(); "{told};").ok()
 }
 
-impl Watch {
-    /// Waits for what happens next.
-    fn next_event<R: Files + Clock + Input + AllocGlobal + Wait>(&mut self, rt: &R) -> GuardEvent {
-        if self.deed == GuardDeed::Listen {
-            return self.listen(rt);
+/// What the guard of a command needs of the system.
+trait GuardSystem: Files + Processes + Clock + Input + Eprint + AllocGlobal + Wait {}
+
+impl<R> GuardSystem for R
+where
+    R: Files + Processes + Clock + Input + Eprint + AllocGlobal + Wait,
+{}
+
+impl<R: GuardSystem> Guarded for Watch<'_, R> {
+    ghost use Rattle.std.specs.Prelude.{None};
+
+    ghost told = { λ _. None };
+
+    fn next_event(&mut self, deed: GuardDeed, rest: u64) -> GuardEvent {
+        if deed == GuardDeed::Listen {
+            return self.listen();
         }
-        thread::sleep(rt, Duration::from_millis(self.guard.rest()));
-        if self.is_grace_over(rt) {
+        thread::sleep(self.rt, Duration::from_millis(rest));
+        if self.is_grace_over() {
             return GuardEvent::GraceIsOver;
         }
-        self.seen = self.look(rt);
+        self.seen = self.look_for_all();
         GuardEvent::Looked(Sight {
             somebody: !self.seen.is_empty(),
-            signalled: signal_state(rt).pending.any(),
+            signalled: signal_state(self.rt).pending.any(),
         })
     }
 
+    fn act(&mut self, deed: GuardDeed) {
+        match deed {
+            GuardDeed::Ask => self.ask_command(),
+            GuardDeed::Kill => {
+                let _ = send(self.rt, "KILL", self.seen.as_slice());
+            }
+            GuardDeed::Listen | GuardDeed::Look | GuardDeed::End => {}
+        }
+    }
+}
+
+impl<R: GuardSystem> Watch<'_, R> {
     /// What the client says next. A line that cannot be read is the end.
-    fn listen<R: Input + Wait>(&mut self, rt: &R) -> GuardEvent {
+    fn listen(&mut self) -> GuardEvent {
         let mut byte = [0u8];
-        for _ in rt.forever() {
-            match rt.reader().read(&mut byte) {
+        for _ in self.rt.forever() {
+            match self.rt.reader().read(&mut byte) {
                 Ok(0) => return GuardEvent::Closed,
                 Ok(_) => {
                     if let Some(word) = self.words.push(byte[0]) {
@@ -110,7 +132,10 @@ impl Watch {
     }
 
     /// Takes note of the command's process.
-    fn said(&mut self, word: GuardWord) -> GuardEvent {
+    fn said(&mut self, word: GuardWord) -> GuardEvent
+        ensures event { result ≡ Said word }
+        ensures command { self.new.command ≡ named word self.old.command }
+    {
         if let GuardWord::Runs(process) = word {
             self.command = Some(process);
         }
@@ -118,8 +143,8 @@ impl Watch {
     }
 
     /// Whether the command's grace is over, the first time that this is seen.
-    fn is_grace_over<R: Clock>(&mut self, rt: &R) -> bool {
-        let is_over = match (self.kill_due, Instant::now(rt)) {
+    fn is_grace_over(&mut self) -> bool {
+        let is_over = match (self.kill_due, Instant::now(self.rt)) {
             (Some(due), Ok(now)) => due <= now,
             _ => false,
         };
@@ -130,11 +155,12 @@ impl Watch {
     }
 
     /// Who is left of the command: it, and whoever has its mark.
-    fn look<R: Files + AllocGlobal>(&mut self, rt: &R) -> Vec<u32> {
-        let mut found = match members(rt, self.mark.as_str()) {
+    fn look_for_all(&mut self) -> Vec<u32> {
+        let mut found = match members(self.rt, self.mark.as_str()) {
             Ok(found) => found,
-            Err(_) => Vec::new(rt.alloc()),
+            Err(_) => Vec::new(self.rt.alloc()),
         };
+        let rt = self.rt;
         self.command = self.command.filter(|process| lives(rt, *process));
         if let Some(process) = self.command
             && !found.as_slice().contains(&process)
@@ -144,21 +170,13 @@ impl Watch {
         found
     }
 
-    /// Does what is to be done.
-    fn act<R: Processes + Clock + Eprint + AllocGlobal>(&mut self, rt: &R) {
-        match self.deed {
-            GuardDeed::Ask => {
-                let _ = rt.eprintln(NoticeLine(Notice::ClientGone));
-                let _ = send(rt, "TERM", self.seen.as_slice());
-                self.kill_due = match Instant::now(rt) {
-                    Ok(now) => now.checked_add(Duration::from_secs(GRACE)),
-                    Err(_) => None,
-                };
-            }
-            GuardDeed::Kill => {
-                let _ = send(rt, "KILL", self.seen.as_slice());
-            }
-            GuardDeed::Listen | GuardDeed::Look | GuardDeed::End => {}
-        }
+    /// Says that the client is gone, asks the command to end, and notes when it is killed.
+    fn ask_command(&mut self) {
+        let _ = self.rt.eprintln(NoticeLine(Notice::ClientGone));
+        let _ = send(self.rt, "TERM", self.seen.as_slice());
+        self.kill_due = match Instant::now(self.rt) {
+            Ok(now) => now.checked_add(Duration::from_secs(GRACE)),
+            Err(_) => None,
+        };
     }
 }

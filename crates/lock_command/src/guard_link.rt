@@ -1,6 +1,7 @@
 //! The guard of a command, as the client has it that started it.
+use crate::desk::is_for_later;
 use mio::net::UnixStream;
-use std::io::{ErrorKind, Read, Write};
+use std::io::{Read, Write};
 use std::net::Net;
 use std::os::fd::{AsFd, OwnedFd};
 use std::os::unix::net;
@@ -62,7 +63,7 @@ impl GuardLink {
         match self.stream.read(&mut [0; 8]) {
             Ok(0) => true,
             Ok(_) => false,
-            Err(error) => !matches!(error.kind(), ErrorKind::WouldBlock | ErrorKind::Interrupted),
+            Err(error) => !is_for_later(error.kind()),
         }
     }
 }

@@ -1,17 +1,29 @@
-//! Instants and times.
-use std::time::{Duration, Instant};
+//! The clock of one time that the lock is taken.
+use std::time::{Clock, Duration, Instant};
 
-/// So many seconds later; none if no number is given, or the clock has no such time.
-pub fn after(now: Instant, seconds: Option<u16>) -> Option<Instant> {
-    now.checked_add(Duration::from_secs(u64::from(seconds?)))
+/// A clock that shows milliseconds since it was started. One that cannot be read stands still.
+#[derive(Drop)]
+pub struct Stopwatch {
+    start: Instant,
 }
 
-/// Whether something is due.
-pub fn is_past(due: Option<Instant>, now: Instant) -> bool {
-    due.is_some_and(|due| due <= now)
+impl Stopwatch {
+    /// A clock that starts now; none if the system has no clock.
+    pub fn start<R: Clock>(rt: &R) -> Option<Stopwatch> {
+        let start = Instant::now(rt).ok()?;
+        Some(Stopwatch { start })
+    }
+
+    /// How many milliseconds have passed.
+    pub fn millis<R: Clock>(&self, rt: &R) -> u64 {
+        match Instant::now(rt) {
+            Ok(now) => whole_millis(now.duration_since(self.start)),
+            Err(_) => 0,
+        }
+    }
 }
 
 /// A time in whole milliseconds.
-pub fn millis(time: Duration) -> u64 {
+fn whole_millis(time: Duration) -> u64 {
     u64::try_from(time.as_millis()).unwrap_or(u64::MAX)
 }

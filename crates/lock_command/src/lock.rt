@@ -1,11 +1,14 @@
 //! `lock`: a command is run under the lock.
+ghost use Rattle.std.specs.Prelude.{◌≡◌, ℕ, Some, IfOk};
+
 use crate::desk::Desk;
 use crate::driver::drive;
+use crate::first::reach_first;
 use crate::notice::{Notice, NoticeLine};
 use crate::reach::reach;
+use crate::seconds::Seconds;
 use crate::session::{Live, Session};
 use lock_client::Outcome;
-use node_texts::desk_file::desk_path;
 use std::io::Input;
 use std::net::Net;
 use std::process::Processes;
@@ -18,10 +21,14 @@ use std::time::Clock;
 pub struct Request<'a> {
     /// The folder of the nodes' sockets.
     pub folder: &'a str,
-    /// The node that is asked for the lock.
-    pub node: u16,
-    /// For how many seconds the lock is waited for; none if it is waited for without an end.
-    pub seconds: Option<u16>,
+    /// The node that is asked for the lock; none if that is whichever node answers first.
+    pub node: Option<u16>,
+    /// For how long the lock is waited for; none if it is waited for without an end.
+    pub limit: Option<Seconds>,
+    /// The status if the lock is lost.
+    pub lost: u8,
+    /// Whether it is reported that the lock is waited for, granted and given back.
+    pub is_verbose: bool,
     /// Whether the command runs on if the lock is lost.
     pub keeps_running: bool,
     /// Whether the lock is given back only when all that the command started has ended too.
@@ -34,7 +41,7 @@ pub struct Request<'a> {
 }
 
 /// Takes the lock, runs the command, gives the lock back, and answers the status to end with: the
-/// command's own, or 128 and the number of the signal that ended it; 122 if the lock was lost; 124
+/// command's own, or 128 and the number of the signal that ended it; `lost` if the lock was; 124
 /// if it was not granted in time; 125 if there is no lock service, or no guard could be started; 126
 /// and 127 if the command cannot be run, or is not there. Each status of its own is reported on
 /// standard error.
@@ -48,7 +55,7 @@ pub fn run<R: Env + Net + Files + Processes + Clock + Input + Print + Eprint + A
     request: &Request,
 ) -> u8 {
     match hold(rt, request) {
-        Ok(outcome) => outcome.status(),
+        Ok(outcome) => outcome.status_or(request.lost),
         Err(notice) => {
             let _ = rt.eprintln(NoticeLine(notice));
             Outcome::NoService.status()
@@ -61,9 +68,13 @@ fn hold<'a, R: Env + Net + Files + Processes + Clock + Input + Print + Eprint + 
     rt: &R,
     request: &Request<'a>,
 ) -> Result<Outcome, Notice<'a>> {
+    let desk = desk_of(rt, request)?;
+    if request.is_verbose {
+        let _ = rt.eprintln(NoticeLine(Notice::Waiting(desk.node())));
+    }
     let mut live = Live {
         rt,
-        session: Session::new(rt, *request, desk_of(rt, request)?)?,
+        session: Session::new(rt, *request, desk)?,
     };
     Ok(drive(rt, &mut live, request.keeps_running))
 }
@@ -72,9 +83,11 @@ fn hold<'a, R: Env + Net + Files + Processes + Clock + Input + Print + Eprint + 
 pub fn desk_of<'a, R: Net + Files + Clock + AllocGlobal>(
     rt: &R,
     request: &Request<'a>,
-) -> Result<Desk, Notice<'a>> {
-    let Ok(path) = desk_path(rt.alloc(), request.folder, request.node) else {
-        return Err(Notice::Memory);
-    };
-    reach(rt, path.as_str(), request.folder, request.node)
+) -> Result<Desk, Notice<'a>>
+    ensures { (node : ℕ) → request.now.node ≡ Some node → IfOk result (λ desk. desk.node ≡ node) }
+{
+    match request.node {
+        Some(node) => reach(rt, request.folder, node),
+        None => reach_first(rt, request.folder),
+    }
 }

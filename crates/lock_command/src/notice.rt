@@ -1,8 +1,9 @@
 //! What is reported on standard error.
 ghost use Rattle.std.specs.Prelude.{◌≡◌};
-ghost use Rattle.lock_command.specs.Notices.{loss_notice, end_notice, why_unserved};
+ghost use Rattle.lock_command.specs.Notices.{loss_notice, end_notice, why_unserved, course_notice};
 
-use lock_client::{Event, Outcome};
+use crate::seconds::Seconds;
+use lock_client::{Answer, Deed, Event, Outcome};
 use std::fmt;
 
 /// Why a lock is lost.
@@ -49,11 +50,24 @@ pub enum Notice<'a> {
     WentAway(u16),
     /// What answers for the node is no lock service, or one that is out of its mind.
     NoService(u16),
-    /// The node did not lend the lock within this number of seconds.
+    /// The node did not lend the lock within this time.
     NotInTime {
         node: u16,
-        seconds: u16,
+        limit: Seconds,
     },
+    /// The node closed each connection while the lock was waited for: it serves as many clients as it
+    /// has room for.
+    NoRoom(u16),
+    /// Nobody listens at any of the sockets in this folder.
+    NobodyListens(&'a str),
+    /// No node that has a socket in this folder answered.
+    NoAnswer(&'a str),
+    /// The node was asked for the lock.
+    Waiting(u16),
+    /// The node granted the lock.
+    Granted(u16),
+    /// The node took the lock back.
+    Released(u16),
     /// The guard of the command is gone while the command runs.
     GuardGone(Fate),
     /// The process that ran the command is gone, says its guard.
@@ -158,9 +172,22 @@ impl fmt::Display for Notice<'_> {
             Notice::NoService(node) => {
                 write!(f, "what answers for node {node} is no lock service")
             }
-            Notice::NotInTime { node, seconds } => {
-                write!(f, "node {node} did not lend the lock within {seconds} s")
+            Notice::NotInTime { node, limit } => {
+                write!(f, "node {node} did not lend the lock within {limit} s")
             }
+            Notice::NoRoom(node) => {
+                write!(f, "node {node} has no room for a client: 128 are connected")
+            }
+            Notice::NobodyListens(folder) => {
+                write!(
+                    f,
+                    "nobody listens at the sockets in {folder}: start a node there"
+                )
+            }
+            Notice::NoAnswer(folder) => write!(f, "no node in {folder} answers"),
+            Notice::Waiting(node) => write!(f, "waiting at node {node}"),
+            Notice::Granted(node) => write!(f, "node {node} granted the lock"),
+            Notice::Released(node) => write!(f, "node {node} took the lock back"),
             Notice::Lost {
                 node,
                 cause,
@@ -216,14 +243,19 @@ pub fn loss_notice<'a>(node: u16, event: Event, command: Fate) -> Notice<'a>
 }
 
 /// What is reported when all ended so, by this: nothing if the command shows it, or it was reported
-/// before.
-pub fn end_notice<'a>(node: u16, seconds: u16, event: Event, outcome: Outcome) -> Option<Notice<'a>>
-    ensures { result ≡ end_notice node seconds event outcome }
+/// before. `waited` is what is reported if the lock was not granted in time.
+pub fn end_notice<'a>(
+    node: u16,
+    waited: Notice<'a>,
+    event: Event,
+    outcome: Outcome,
+) -> Option<Notice<'a>>
+    ensures { result ≡ end_notice node waited.entry event outcome }
 {
     match (outcome, event) {
         (Outcome::NoService, Event::Unserved) => None,
         (Outcome::NoService, _) => Some(Notice::NoService(node)),
-        (Outcome::NotInTime, _) => Some(Notice::NotInTime { node, seconds }),
+        (Outcome::NotInTime, _) => Some(waited),
         (Outcome::Lost, Event::Ended(_)) | (Outcome::Done(_) | Outcome::Stopped(_), _) => None,
         (Outcome::Lost, _) => Some(Notice::InDoubt(node)),
     }
@@ -237,5 +269,19 @@ pub fn why_unserved(notice: Notice<'_>) -> Notice<'_>
     match notice {
         Notice::NoNode { node, .. } => Notice::WentAway(node),
         _ => notice,
+    }
+}
+
+/// What is reported of how far the lock is, if that is asked for, by what happened and what is to be
+/// done: that it is granted, and that the node took it back.
+pub fn course_notice<'a>(node: u16, event: Event, deed: Deed) -> Option<Notice<'a>>
+    ensures { result ≡ course_notice node event deed }
+{
+    match (event, deed) {
+        (_, Deed::Start) => Some(Notice::Granted(node)),
+        (Event::Line(Answer::Released), Deed::Finish(Outcome::Done(_))) => {
+            Some(Notice::Released(node))
+        }
+        _ => None,
     }
 }

@@ -1,8 +1,10 @@
 //! How a desk is reached, and why it is not.
-ghost use Rattle.std.specs.Prelude.{◌≡◌};
+ghost use Rattle.std.specs.Prelude.{◌≡◌, IfOk, IfErr};
+ghost use Rattle.lock_command.specs.Reaching.{IsUnreached, unreached_notice};
 
 use crate::desk::Desk;
 use crate::notice::Notice;
+use node_texts::desk_file::desk_path;
 use std::io::ErrorKind;
 use std::net::Net;
 use std::rt::{Clock, Files};
@@ -15,34 +17,53 @@ const TRIES: u32 = 500;
 /// How many milliseconds between two such tries.
 const BETWEEN_TRIES: u64 = 10;
 
-/// Connects to the desk of a node in a folder, of which the path is given too.
+/// Connects to the desk of a node in a folder.
 ///
 /// # Errors
 /// Why there is no connection.
-pub fn reach<'a, R: Net + Files + Clock>(
+pub fn reach<'a, R: Net + Files + Clock + AllocGlobal>(
     rt: &R,
-    path: &str,
     folder: &'a str,
     node: u16,
-) -> Result<Desk, Notice<'a>> {
+) -> Result<Desk, Notice<'a>>
+    ensures desk { IfOk result (λ desk. desk.node ≡ node) }
+    ensures why { IfErr result (λ notice. IsUnreached folder.entry node notice) }
+{
+    let Ok(path) = desk_path(rt.alloc(), folder, node) else {
+        return Err(Notice::Memory);
+    };
+    match connect(rt, path.as_str(), node) {
+        Ok(desk) => Ok(desk),
+        Err(kind) => {
+            let has_folder = matches!(fs::exists(rt, folder), Ok(true));
+            Err(why_not(kind, has_folder, folder, node))
+        }
+    }
+}
+
+/// Connects to this socket, and waits if too many wait already to be accepted, for five seconds at
+/// most.
+fn connect<R: Net + Clock>(rt: &R, path: &str, node: u16) -> Result<Desk, ErrorKind>
+    ensures { IfOk result (λ desk. desk.node ≡ node) }
+{
     for _ in 0..TRIES {
-        match Desk::connect(rt, path) {
+        match Desk::connect(rt, path, node) {
             Ok(desk) => return Ok(desk),
             Err(error) if error.kind() == ErrorKind::WouldBlock => {
                 thread::sleep(rt, Duration::from_millis(BETWEEN_TRIES));
             }
-            Err(error) => {
-                let has_folder = matches!(fs::exists(rt, folder), Ok(true));
-                return Err(why_not(error.kind(), has_folder, folder, node));
-            }
+            Err(error) => return Err(error.kind()),
         }
     }
-    Err(Notice::NoService(node))
+    Err(ErrorKind::WouldBlock)
 }
 
 /// Why a desk is not reached, by what the system answered and whether the folder is there.
-fn why_not<'a>(kind: ErrorKind, has_folder: bool, folder: &'a str, node: u16) -> Notice<'a> {
+fn why_not<'a>(kind: ErrorKind, has_folder: bool, folder: &'a str, node: u16) -> Notice<'a>
+    ensures { result ≡ unreached_notice kind has_folder folder.entry node }
+{
     match kind {
+        ErrorKind::WouldBlock => Notice::NoService(node),
         ErrorKind::InvalidInput => Notice::TooLong { folder, node },
         ErrorKind::PermissionDenied => Notice::Forbidden(folder),
         // So std names what a process without a descriptor left is answered.

@@ -1,16 +1,22 @@
 //! One time that the lock is taken.
-ghost use Rattle.std.specs.Prelude.{None};
+ghost use Rattle.std.specs.Prelude.{◌≡◌, None, IfOk};
+ghost use Rattle.lock_command.specs.Course.{lacks_room, asked_course};
+ghost use Rattle.lock_command.specs.Notices.{vain_notice, no_wait_notice};
 
+use crate::course::Course;
 use crate::desk::{Desk, Heard};
 use crate::driver::Surroundings;
 use crate::family::{new_mark, with_marks_before};
-use crate::guard::GRACE;
 use crate::guard_link::GuardLink;
-use crate::instants::{after, is_past, millis};
+use crate::instants::Stopwatch;
 use crate::lock::{Request, desk_of};
-use crate::notice::{Fate, Notice, NoticeLine, end_notice, loss_notice, why_unserved};
+use crate::notice::{
+    Fate, Notice, NoticeLine, course_notice, end_notice, loss_notice, why_unserved,
+};
 use crate::rest::rest;
+use crate::seconds::Seconds;
 use crate::signals::signal_state;
+use crate::system::System;
 use crate::waiter::Waiter;
 use crate::work::{Work, start};
 use lock_client::{CommandEnd, Deed, Event, Outcome, Signal, Signals, spawn_end};
@@ -21,26 +27,19 @@ use std::os::fd::AsFd;
 use std::process::{OpenProcess, Processes};
 use std::rt::{Env, Files};
 use std::sync::Wait;
-use std::time::{Clock, Duration, Instant};
+use std::time::{Clock, Duration};
 use std::{io, thread};
 
 /// For how many milliseconds a client rests that was told that the desk is full, or was closed,
 /// before it asks again.
 const FULL_REST: u64 = 100;
 
-/// For how many seconds the node's word is awaited that it took the lock back.
-const WORD: u64 = 10;
-
-/// After how many seconds whoever is left is killed again: it may have started somebody meanwhile.
-const KILL_AGAIN: u64 = 1;
-
-/// For how many milliseconds is rested between two looks for what a command started.
-const FAMILY_REST: u64 = 100;
-
 /// One time that the lock is taken: the connection, the command and its guard, and what is due.
 #[derive(Drop)]
 pub struct Session<'a, P: OpenProcess> {
     request: Request<'a>,
+    /// The node that is asked.
+    node: u16,
     /// The connection; none once it is gone.
     desk: Option<Desk>,
     /// Whether the connection failed in a write, and nobody was told yet.
@@ -59,14 +58,9 @@ pub struct Session<'a, P: OpenProcess> {
     holds_signals_back: bool,
     /// The signals that were looked at.
     seen: Signals,
-    /// What time it is, as far as the clock could be read.
-    now: Instant,
-    /// When the command was started.
-    started: Instant,
-    /// When the time of the client is up.
-    due: Option<Instant>,
-    /// When a command that was asked to end is killed.
-    kill_due: Option<Instant>,
+    stopwatch: Stopwatch,
+    /// What time it is, and what is due.
+    course: Course,
 }
 
 /// A session and the system that it stands on.
@@ -78,18 +72,15 @@ pub struct Live<'a, R, S> {
     pub session: S,
 }
 
-impl<
-    'a,
-    R: Env + Net + Files + Processes + Clock + Input + Print + Eprint + AllocGlobal + Wait,
-> Surroundings for Live<'_, R, Session<'a, R::Started>> {
+impl<'a, R: System> Surroundings for Live<'_, R, Session<'a, R::Started>> {
     ghost told = { λ _. None };
 
     fn next_event(&mut self) -> Event {
-        self.session.next_event(self.rt)
+        self.session.wait_for_event(self.rt)
     }
 
     fn act(&mut self, event: Event, deed: Deed) {
-        self.session.act(self.rt, event, deed)
+        self.session.do_deed(self.rt, event, deed)
     }
 }
 
@@ -102,8 +93,12 @@ impl<'a, P: OpenProcess + Drop> Session<'a, P> {
         rt: &R,
         request: Request<'a>,
         mut desk: Desk,
-    ) -> Result<Session<'a, P>, Notice<'a>> {
-        let Ok(now) = Instant::now(rt) else {
+    ) -> Result<Session<'a, P>, Notice<'a>>
+        ensures node { IfOk result (λ s. s.node ≡ desk.node) }
+        ensures course { IfOk result (λ s. s.course ≡ asked_course request.entry.limit) }
+    {
+        let node = desk.node();
+        let Some(stopwatch) = Stopwatch::start(rt) else {
             return Err(Notice::System);
         };
         let Ok(mark) = new_mark(rt) else {
@@ -114,27 +109,44 @@ impl<'a, P: OpenProcess + Drop> Session<'a, P> {
             Err(error) => return Err(why_no_wait(error.kind())),
         };
         let has_failed = desk.write(ClientLine::Lock).is_err();
-        Ok(Session {
+        let mut session = Session::waiting(request, node, desk, stopwatch, mark, waiter);
+        session.has_failed = has_failed;
+        session.holds_signals_back = signal_state(rt).blocked.any();
+        Ok(session)
+    }
+
+    /// Waits for the lock on this connection to the desk of this node.
+    fn waiting(
+        request: Request<'a>,
+        node: u16,
+        desk: Desk,
+        stopwatch: Stopwatch,
+        mark: String,
+        waiter: Waiter,
+    ) -> Session<'a, P>
+        ensures node { result.node ≡ node }
+        ensures course { result.course ≡ asked_course request.entry.limit }
+    {
+        Session {
             request,
+            node,
             desk: Some(desk),
-            has_failed,
+            has_failed: false,
             is_unserved: false,
             waiter,
             work: Work::None,
             guard: None,
             mark,
             awaits_family: request.waits_for_children,
-            holds_signals_back: signal_state(rt).blocked.any(),
+            holds_signals_back: false,
             seen: Signals::none(),
-            now,
-            started: now,
-            due: after(now, request.seconds),
-            kill_due: None,
-        })
+            stopwatch,
+            course: Course::new(request.limit.map(|limit| limit.millis)),
+        }
     }
 
     /// Waits for what happens next: the node's word goes first.
-    fn next_event<R: Files + Processes + Clock + Input + Eprint + AllocGlobal + Wait>(
+    fn wait_for_event<R: Files + Processes + Clock + Input + Eprint + AllocGlobal + Wait>(
         &mut self,
         rt: &R,
     ) -> Event {
@@ -146,7 +158,7 @@ impl<'a, P: OpenProcess + Drop> Session<'a, P> {
             if let Some(event) = self.from_here(rt) {
                 return event;
             }
-            self.rest();
+            self.wait_a_while();
         }
         unreachable!()
     }
@@ -154,11 +166,9 @@ impl<'a, P: OpenProcess + Drop> Session<'a, P> {
     /// Notes what time it is, and kills a command that has had its grace. A clock that cannot be
     /// read stands still.
     fn look_at_the_clock<R: Files + Processes + Clock + AllocGlobal>(&mut self, rt: &R) {
-        if let Ok(now) = Instant::now(rt) {
-            self.now = now;
-        }
-        if is_past(self.kill_due, self.now) {
-            self.kill_due = self.now.checked_add(Duration::from_secs(KILL_AGAIN));
+        let now = self.stopwatch.millis(rt);
+        self.course.set_time(now);
+        if self.course.takes_kill() {
             self.work.kill(rt, self.mark.as_str());
         }
     }
@@ -169,11 +179,12 @@ impl<'a, P: OpenProcess + Drop> Session<'a, P> {
             self.is_unserved = false;
             return Some(Event::Unserved);
         }
-        match self.hear() {
+        match self.heard_from_node() {
             Heard::Line(answer) => return Some(Event::Line(answer)),
             Heard::Gone => {
                 self.desk = None;
                 self.has_failed = false;
+                self.course.note_closed();
                 return Some(Event::Gone);
             }
             Heard::Nothing => {}
@@ -186,7 +197,7 @@ impl<'a, P: OpenProcess + Drop> Session<'a, P> {
     }
 
     /// What the node says.
-    fn hear(&mut self) -> Heard {
+    fn heard_from_node(&mut self) -> Heard {
         match &mut self.desk {
             Some(_) if self.has_failed => Heard::Gone,
             Some(desk) => desk.hear(),
@@ -205,17 +216,17 @@ impl<'a, P: OpenProcess + Drop> Session<'a, P> {
     /// What the user, the command or the clock lets happen.
     fn from_here<R: Files + Input + Eprint + AllocGlobal>(&mut self, rt: &R) -> Option<Event> {
         if let Some(signal) = self.new_signal(rt) {
-            return Some(self.signalled(signal));
+            return Some(self.event_of_signal(signal));
         }
         let has_input = self.waiter.takes_input();
-        if let Some(end) = self.command_end(rt, has_input) {
+        if let Some(end) = self.end_of_command(rt, has_input) {
             return Some(Event::Ended(end));
         }
-        if is_past(self.due, self.now) {
-            self.due = None;
-            return Some(Event::TimeIsUp);
+        if self.course.takes_time_up() {
+            Some(Event::TimeIsUp)
+        } else {
+            None
         }
-        None
     }
 
     /// A signal that came and is held back, the first time that it is seen.
@@ -229,7 +240,7 @@ impl<'a, P: OpenProcess + Drop> Session<'a, P> {
     }
 
     /// What a signal lets happen: without a command, it ends the time for which the lock is held.
-    fn signalled(&mut self, signal: Signal) -> Event {
+    fn event_of_signal(&mut self, signal: Signal) -> Event {
         match self.work {
             Work::Input => {
                 self.work = Work::None;
@@ -240,7 +251,7 @@ impl<'a, P: OpenProcess + Drop> Session<'a, P> {
     }
 
     /// How the command ended, once it has, and whatever else is awaited; then the guard may go.
-    fn command_end<R: Files + Input + Eprint + AllocGlobal>(
+    fn end_of_command<R: Files + Input + Eprint + AllocGlobal>(
         &mut self,
         rt: &R,
         has_input: bool,
@@ -256,7 +267,10 @@ impl<'a, P: OpenProcess + Drop> Session<'a, P> {
     }
 
     /// Says to the guard that the command has ended so.
-    fn dismiss_guard(&mut self, end: CommandEnd) -> CommandEnd {
+    fn dismiss_guard(&mut self, end: CommandEnd) -> CommandEnd
+        ensures end { result ≡ end }
+        ensures gone { self.new.guard ≡ None }
+    {
         if let Some(guard) = &mut self.guard {
             guard.say("done\n");
         }
@@ -265,24 +279,22 @@ impl<'a, P: OpenProcess + Drop> Session<'a, P> {
     }
 
     /// Does what is to be done now that this happened.
-    fn act<R: Env + Net + Files + Processes<Started = P> + Clock + Print + Eprint + AllocGlobal>(
-        &mut self,
-        rt: &R,
-        event: Event,
-        deed: Deed,
-    ) {
+    fn do_deed<
+        R: Env + Net + Files + Processes<Started = P> + Clock + Print + Eprint + AllocGlobal,
+    >(&mut self, rt: &R, event: Event, deed: Deed) {
+        self.report_course(rt, event, deed);
         match deed {
             Deed::Wait => {}
             Deed::AskAgain => {
                 thread::sleep(rt, Duration::from_millis(FULL_REST));
-                self.write(ClientLine::Lock);
+                self.write_line(ClientLine::Lock);
             }
             Deed::ConnectAgain => self.connect_again(rt),
-            Deed::Start => self.start(rt),
+            Deed::Start => self.start_work(rt),
             Deed::PassOn => self.work.pass_on(rt),
             Deed::GiveBack => {
-                self.due = self.now.checked_add(Duration::from_secs(WORD));
-                self.write(ClientLine::Unlock);
+                self.course.give_back();
+                self.write_line(ClientLine::Unlock);
             }
             Deed::EndCommand => self.end_command(rt, event),
             Deed::SayLost => self.report_loss(rt, event, Fate::RunsOn),
@@ -291,7 +303,7 @@ impl<'a, P: OpenProcess + Drop> Session<'a, P> {
     }
 
     /// Writes a line to the node.
-    fn write(&mut self, line: ClientLine) {
+    fn write_line(&mut self, line: ClientLine) {
         if let Some(desk) = &mut self.desk {
             self.has_failed = desk.write(line).is_err();
         }
@@ -304,7 +316,11 @@ impl<'a, P: OpenProcess + Drop> Session<'a, P> {
             Ok(mut desk) => {
                 self.has_failed = self.waiter.watch(desk.stream()).is_err()
                     || desk.write(ClientLine::Lock).is_err();
+                self.node = desk.node();
                 self.desk = Some(desk);
+                let now = self.stopwatch.millis(rt);
+                self.course.set_time(now);
+                self.course.note_connected();
             }
             Err(notice) => {
                 let _ = rt.eprintln(NoticeLine(why_unserved(notice)));
@@ -314,12 +330,11 @@ impl<'a, P: OpenProcess + Drop> Session<'a, P> {
     }
 
     /// Starts the command and its guard, or prints that the lock is granted.
-    fn start<R: Env + Net + Files + Processes<Started = P> + Print + Eprint + AllocGlobal>(
+    fn start_work<R: Env + Net + Files + Processes<Started = P> + Print + Eprint + AllocGlobal>(
         &mut self,
         rt: &R,
     ) {
-        self.due = None;
-        self.started = self.now;
+        self.course.start();
         if self.request.command.is_empty() {
             return self.start_waiting(rt);
         }
@@ -399,7 +414,7 @@ impl<'a, P: OpenProcess + Drop> Session<'a, P> {
     fn end_command<R: Files + Processes + Eprint + AllocGlobal>(&mut self, rt: &R, event: Event) {
         self.report_loss(rt, event, Fate::Ended);
         self.awaits_family = true;
-        self.kill_due = self.now.checked_add(Duration::from_secs(GRACE));
+        self.course.ask_to_end();
         self.work.end(rt, self.mark.as_str());
     }
 
@@ -407,41 +422,52 @@ impl<'a, P: OpenProcess + Drop> Session<'a, P> {
     fn report_loss<R: Eprint>(&self, rt: &R, event: Event, fate: Fate) {
         let has_command = !self.request.command.is_empty();
         let command = if has_command { fate } else { Fate::NoCommand };
-        let node = self.request.node;
-        let _ = rt.eprintln(NoticeLine(loss_notice(node, event, command)));
+        let _ = rt.eprintln(NoticeLine(loss_notice(self.node, event, command)));
     }
 
     /// Reports why all ended so, if it was not reported before and the command does not show it.
     fn report_end<R: Eprint>(&self, rt: &R, event: Event, outcome: Outcome) {
-        let seconds = self.request.seconds.unwrap_or(0);
-        if let Some(notice) = end_notice(self.request.node, seconds, event, outcome) {
+        if let Some(notice) = end_notice(self.node, self.waited_in_vain(), event, outcome) {
+            let _ = rt.eprintln(NoticeLine(notice));
+        }
+    }
+
+    /// What is reported if the lock was not granted in time.
+    fn waited_in_vain(&self) -> Notice<'a>
+        ensures { result ≡ vain_notice (lacks_room self.now.course) self.now.node self.now.request.limit }
+    {
+        let node = self.node;
+        match (self.course.lacks_room(), self.request.limit) {
+            (true, _) => Notice::NoRoom(node),
+            (false, Some(limit)) => Notice::NotInTime { node, limit },
+            (false, None) => Notice::NotInTime {
+                node,
+                limit: Seconds { millis: 0 },
+            },
+        }
+    }
+
+    /// Reports how far the lock is, if that is asked for.
+    fn report_course<R: Eprint>(&self, rt: &R, event: Event, deed: Deed) {
+        if self.request.is_verbose
+            && let Some(notice) = course_notice(self.node, event, deed)
+        {
             let _ = rt.eprintln(NoticeLine(notice));
         }
     }
 
     /// Waits for what happens next.
-    fn rest(&mut self) {
-        let age = if self.work.is_running() {
-            Some(millis(self.now.duration_since(self.started)))
-        } else {
-            None
-        };
-        let rest = rest(age, self.left(), self.holds_signals_back);
-        self.waiter.wait(rest);
-    }
-
-    /// In how many milliseconds something is due.
-    fn left(&self) -> Option<u64> {
-        if self.work.is_family() {
-            return Some(FAMILY_REST);
-        }
-        let due = self.due?;
-        Some(millis(due.duration_since(self.now)).saturating_add(1))
+    fn wait_a_while(&mut self) {
+        let age = self.course.age(self.work.is_running());
+        let left = self.course.left(self.work.is_family());
+        self.waiter.wait(rest(age, left, self.holds_signals_back));
     }
 }
 
 /// Why nothing can be waited for, by what the system answered.
-fn why_no_wait<'a>(kind: ErrorKind) -> Notice<'a> {
+fn why_no_wait<'a>(kind: ErrorKind) -> Notice<'a>
+    ensures { result ≡ no_wait_notice kind }
+{
     match kind {
         ErrorKind::OutOfMemory => Notice::Memory,
         _ => Notice::System,

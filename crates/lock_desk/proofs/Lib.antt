@@ -3,3 +3,4 @@ pub mod Stay
 pub mod Passing
 pub mod ClientLemmas
 pub mod Rows
+mod RowsLaws

@@ -1,11 +1,14 @@
 -- What a node does after a turn that saved its state.
-use Rattle.std.proofs.Common.{◌≡◌, ◌≢◌, ◌↔◌, Bool, true, false, arith}
+use Rattle.std.proofs.Common.{◌≡◌, ◌≢◌, ◌↔◌, Bool, true, false, if◌then◌else◌, refl, subst, arith}
 use Rattle.std.proofs.lemmas.Grind.{common_steps}
 use Rattle.node_keeping.specs.declared.sight.FileSight.TheVariants.{NotOwn}
-use Rattle.node_keeping.specs.declared.saved.StopSight.TheVariants.{Absent}
+use Rattle.node_keeping.specs.declared.saved.StopSight.{StopSight}
+use Rattle.node_keeping.specs.declared.saved.StopSight.TheVariants.{Absent, Removed, Stays}
 use Rattle.node_keeping.specs.declared.saved.Sights.{Sights}
+use Rattle.node_keeping.specs.declared.saved.Lost.{Lost}
+use Rattle.node_keeping.specs.declared.saved.AfterSave.{AfterSave}
 use Rattle.node_keeping.specs.declared.saved.AfterSave.TheVariants.{Displaced, Stop, GoOn}
-use Rattle.node_keeping.specs.AfterSave.{after_save, is_lost}
+use Rattle.node_keeping.specs.AfterSave.{after_save, in_place, looks_for_stop, lost_of}
 
 displaced-first : (sights : Sights) → after_save sights ≡ Displaced → sights.place ≡ NotOwn
 displaced-first sights h = grind (arith, common_steps)
@@ -16,30 +19,46 @@ displaced-then sights h = grind (arith, common_steps)
 pub displaced : (sights : Sights) → (after_save sights ≡ Displaced) ↔ (sights.place ≡ NotOwn)
 displaced sights = (displaced-first sights, displaced-then sights)
 
-on-place : (sights : Sights) (links clients : Bool) → after_save sights ≡ GoOn links clients → sights.place ≢ NotOwn
-on-place sights links clients h = grind (arith, common_steps)
+on-place : (sights : Sights) (lost : Lost) → after_save sights ≡ GoOn lost → sights.place ≢ NotOwn
+on-place sights lost h = grind (arith, common_steps)
 
-on-stop : (sights : Sights) (links clients : Bool) → after_save sights ≡ GoOn links clients → sights.stop ≡ Absent
-on-stop sights links clients h = grind (arith, common_steps)
+on-stop : (sights : Sights) (lost : Lost) → after_save sights ≡ GoOn lost → sights.stop ≡ Absent
+on-stop sights lost h = grind (arith, common_steps)
 
-on-input : (sights : Sights) (links clients : Bool) → after_save sights ≡ GoOn links clients → sights.has_input_ended ≡ false
-on-input sights links clients h = grind (arith, common_steps)
+on-input : (sights : Sights) (lost : Lost) → after_save sights ≡ GoOn lost → sights.has_input_ended ≡ false
+on-input sights lost h = grind (arith, common_steps)
 
-on-links : (sights : Sights) (links clients : Bool) → after_save sights ≡ GoOn links clients → links ≡ is_lost sights.links
-on-links sights links clients h = grind (arith, common_steps)
+-- what is made again by whoever runs on; another value for whoever ends
+abbrev lost_in : Lost → AfterSave → Lost
+lost_in other (GoOn lost) = lost
+lost_in other _ = other
 
-on-clients : (sights : Sights) (links clients : Bool) → after_save sights ≡ GoOn links clients → clients ≡ is_lost sights.clients
-on-clients sights links clients h = grind (arith, common_steps)
+by-input : (lost : Lost) (ended : Bool) → lost_in lost (if ended then Stop else GoOn lost) ≡ lost
+by-input lost true = refl
+by-input lost false = refl
 
-pub runs_on : (sights : Sights) (links clients : Bool) → after_save sights ≡ GoOn links clients
+by-stop : (sights : Sights) (stop : StopSight) → lost_in (lost_of sights) (in_place sights stop) ≡ lost_of sights
+by-stop sights Stays = refl
+by-stop sights Removed = refl
+by-stop sights Absent = by-input (lost_of sights) sights.has_input_ended
+
+by-place : (sights : Sights) (own : Bool)
+    → lost_in (lost_of sights) (if own then in_place sights sights.stop else Displaced) ≡ lost_of sights
+by-place sights true = by-stop sights sights.stop
+by-place sights false = refl
+
+on-lost : (sights : Sights) (lost : Lost) → after_save sights ≡ GoOn lost → lost ≡ lost_of sights
+on-lost sights lost h =
+    subst (λ next. lost_in (lost_of sights) next ≡ lost_of sights) h (by-place sights (looks_for_stop sights.place))
+
+pub runs_on : (sights : Sights) (lost : Lost) → after_save sights ≡ GoOn lost
     → (sights.place ≢ NotOwn) × (sights.stop ≡ Absent) × (sights.has_input_ended ≡ false)
-    × (links ≡ is_lost sights.links) × (clients ≡ is_lost sights.clients)
-runs_on sights links clients h = (
-  on-place sights links clients h,
-  on-stop sights links clients h,
-  on-input sights links clients h,
-  on-links sights links clients h,
-  on-clients sights links clients h,
+    × (lost ≡ lost_of sights)
+runs_on sights lost h = (
+  on-place sights lost h,
+  on-stop sights lost h,
+  on-input sights lost h,
+  on-lost sights lost h,
 )
 
 pub stops : (sights : Sights) → after_save sights ≡ Stop → sights.stop ≡ Absent → sights.has_input_ended ≡ true

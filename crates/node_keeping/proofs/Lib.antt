@@ -1,3 +1,4 @@
 pub mod Keeping
 pub mod AfterSaving
 pub mod Rows
+mod RowsSteps

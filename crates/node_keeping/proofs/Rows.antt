@@ -6,6 +6,7 @@ use Rattle.node_keeping.specs.declared.sight.FileId.{FileId}
 use Rattle.node_keeping.specs.declared.sight.FileSight.TheVariants.{Own, NotOwn, Unseen}
 use Rattle.node_keeping.specs.declared.saved.StopSight.TheVariants.{Absent, Removed, Stays}
 use Rattle.node_keeping.specs.declared.saved.Sights.{Sights}
+use Rattle.node_keeping.specs.declared.saved.Lost.{Lost}
 use Rattle.node_keeping.specs.declared.saved.AfterSave.TheVariants.{Displaced, StopStays, Stop, GoOn}
 use Rattle.node_keeping.specs.declared.keeper.Stage.TheVariants.{Waits, Runs, Left}
 use Rattle.node_keeping.specs.declared.keeper.Seen.{Seen}
@@ -37,28 +38,43 @@ sight-gone = refl
 sight-unseen : file_sight file (Err PermissionDenied) ≡ Unseen
 sight-unseen = refl
 
--- all is well; the names are gone; it is stopped; the stop file stays; the folder is another's
-saves-on : after_save (record { place = Own; stop = Absent; has_input_ended = false; links = Own; clients = Own }) ≡ GoOn false false
+-- all is well; names are gone; it is stopped; the stop file stays; the folder is another's
+none-lost : Lost
+none-lost = record { links = false; clients = false; looks = false }
+
+well : Sights
+well = record { place = Own; stop = Absent; has_input_ended = false; links = Own; clients = Own; looks = Own }
+
+saves-on : after_save well ≡ GoOn none-lost
+unfolding well none-lost
 saves-on = refl
 
-saves-renews : after_save (record { place = Own; stop = Absent; has_input_ended = false; links = Unseen; clients = NotOwn })
-    ≡ GoOn false true
+saves-renews : after_save (record well { links = Unseen; clients = NotOwn }) ≡ GoOn (record none-lost { clients = true })
+unfolding well none-lost
 saves-renews = refl
 
-saves-stop : after_save (record { place = Unseen; stop = Removed; has_input_ended = false; links = Own; clients = Own }) ≡ Stop
+saves-renews_looks : after_save (record well { looks = NotOwn }) ≡ GoOn (record none-lost { looks = true })
+unfolding well none-lost
+saves-renews_looks = refl
+
+saves-stop : after_save (record well { place = Unseen; stop = Removed }) ≡ Stop
+unfolding well
 saves-stop = refl
 
-saves-input : after_save (record { place = Own; stop = Absent; has_input_ended = true; links = NotOwn; clients = Own }) ≡ Stop
+saves-input : after_save (record well { has_input_ended = true; links = NotOwn }) ≡ Stop
+unfolding well
 saves-input = refl
 
-saves-stays : after_save (record { place = Own; stop = Stays; has_input_ended = true; links = Own; clients = Own }) ≡ StopStays
+saves-stays : after_save (record well { stop = Stays; has_input_ended = true }) ≡ StopStays
+unfolding well
 saves-stays = refl
 
-saves-displaced : after_save (record { place = NotOwn; stop = Absent; has_input_ended = true; links = NotOwn; clients = NotOwn })
-    ≡ Displaced
+saves-displaced : after_save (record well { place = NotOwn; has_input_ended = true; links = NotOwn }) ≡ Displaced
+unfolding well
 saves-displaced = refl
 
-saves_not-on : after_save (record { place = NotOwn; stop = Absent; has_input_ended = false; links = Own; clients = Own }) ≢ GoOn false false
+saves_not-on : after_save (record well { place = NotOwn }) ≢ GoOn none-lost
+unfolding well none-lost
 saves_not-on = grind arith
 
 -- a node that was killed is started again; as it ends with status 1 three times at its start, it is left alone

@@ -5,6 +5,7 @@ use Rattle.node_keeping.specs.declared.sight.FileSight.TheVariants.{Own, NotOwn,
 use Rattle.node_keeping.specs.declared.saved.StopSight.{StopSight}
 use Rattle.node_keeping.specs.declared.saved.StopSight.TheVariants.{Absent, Removed, Stays}
 use Rattle.node_keeping.specs.declared.saved.Sights.{Sights}
+use Rattle.node_keeping.specs.declared.saved.Lost.{Lost}
 use Rattle.node_keeping.specs.declared.saved.AfterSave.{AfterSave}
 use Rattle.node_keeping.specs.declared.saved.AfterSave.TheVariants.{Displaced, StopStays, Stop, GoOn}
 
@@ -18,13 +19,21 @@ abbrev pub is_lost : FileSight → Bool
 is_lost NotOwn = true
 is_lost _ = false
 
+-- the names of a node that are lost
+abbrev pub lost_of : Sights → Lost
+lost_of sights = record {
+  links = is_lost sights.links;
+  clients = is_lost sights.clients;
+  looks = is_lost sights.looks;
+}
+
 -- a node with a place of its own ends by its stop file, with a fault if that stays, and with its
 -- input; else it runs on, and takes back each name that is lost
 abbrev pub in_place : Sights → StopSight → AfterSave
 in_place sights Stays = StopStays
 in_place sights Removed = Stop
 in_place sights Absent =
-    if sights.has_input_ended then Stop else GoOn (is_lost sights.links) (is_lost sights.clients)
+    if sights.has_input_ended then Stop else GoOn (lost_of sights)
 
 -- a node whose lock file is gone or another's ends at once
 abbrev pub after_save : Sights → AfterSave

@@ -6,6 +6,7 @@ use Rattle.node_texts.specs.declared.lines.End.TheVariants.{Status, Signal}
 use Rattle.node_keeping.specs.declared.sight.FileSight.TheVariants.{NotOwn}
 use Rattle.node_keeping.specs.declared.saved.StopSight.TheVariants.{Absent, Removed}
 use Rattle.node_keeping.specs.declared.saved.Sights.{Sights}
+use Rattle.node_keeping.specs.declared.saved.Lost.{Lost}
 use Rattle.node_keeping.specs.declared.saved.AfterSave.TheVariants.{Displaced, Stop, GoOn}
 use Rattle.node_keeping.specs.declared.keeper.Stage.{Stage}
 use Rattle.node_keeping.specs.declared.keeper.Stage.TheVariants.{Waits, Runs, Closes, Left, Over}
@@ -13,7 +14,7 @@ use Rattle.node_keeping.specs.declared.keeper.Seen.{Seen}
 use Rattle.node_keeping.specs.declared.keeper.Seen.TheVariants.{Nothing, Ended, InputEnded}
 use Rattle.node_keeping.specs.declared.keeper.Deed.{Deed}
 use Rattle.node_keeping.specs.declared.keeper.Deed.TheVariants.{Rest, Start, SayAgain, Kill, CloseInput}
-use Rattle.node_keeping.specs.AfterSave.{after_save, is_lost}
+use Rattle.node_keeping.specs.AfterSave.{after_save, lost_of}
 use Rattle.node_keeping.specs.Steps.{stage_after, stage_after_all, deeds, input_after, looks, is_failed}
 
 -- a node whose lock file is not its own ends at once, whatever else it sees
@@ -24,9 +25,9 @@ EndsWhereDisplaced = (sights : Sights) → (after_save sights ≡ Displaced) ↔
 -- lead elsewhere
 abbrev pub RunsOnInPlace : Type 0
 RunsOnInPlace =
-    (sights : Sights) (links clients : Bool) → after_save sights ≡ GoOn links clients
+    (sights : Sights) (lost : Lost) → after_save sights ≡ GoOn lost
     → (sights.place ≢ NotOwn) × (sights.stop ≡ Absent) × (sights.has_input_ended ≡ false)
-    × (links ≡ is_lost sights.links) × (clients ≡ is_lost sights.clients)
+    × (lost ≡ lost_of sights)
 
 -- a node ends well by its stop file or its input, and nothing else
 abbrev pub StopsWhenTold : Type 0

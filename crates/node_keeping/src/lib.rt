@@ -22,5 +22,5 @@ mod saved;
 mod sight;
 
 pub use keeper::{Deed, Keeper, LOOKS_BEFORE_KILL, LOOKS_BEFORE_START, Seen, Stage};
-pub use saved::{AfterSave, Complaint, Sights, StopSight, after_save, looks_for_stop};
+pub use saved::{AfterSave, Complaint, Lost, Sights, StopSight, after_save, looks_for_stop};
 pub use sight::{FileId, FileSight, sight_of};

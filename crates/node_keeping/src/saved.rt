@@ -28,6 +28,19 @@ pub struct Sights {
     pub links: FileSight,
     /// Its socket for clients.
     pub clients: FileSight,
+    /// Its socket for whoever looks.
+    pub looks: FileSight,
+}
+
+/// Which sockets of a node are made again, since their names lead elsewhere.
+#[derive(Clone, Copy, Debug, PartialEq, Eq)]
+pub struct Lost {
+    /// That for neighbours.
+    pub links: bool,
+    /// That for clients.
+    pub clients: bool,
+    /// That for whoever looks.
+    pub looks: bool,
 }
 
 /// What a node does then.
@@ -41,13 +54,8 @@ pub enum AfterSave {
     StopStays,
     /// It removes its sockets, and ends well.
     Stop,
-    /// It runs on.
-    GoOn {
-        /// Its socket for neighbours is made again.
-        renews_links: bool,
-        /// Its socket for clients is made again.
-        renews_clients: bool,
-    },
+    /// It runs on, and makes these sockets again.
+    GoOn(Lost),
 }
 
 /// Whether the stop file is looked for: in a folder that is another's it is not this node's.
@@ -66,10 +74,11 @@ pub fn after_save(sights: Sights) -> AfterSave
         StopSight::Stays => AfterSave::StopStays,
         StopSight::Removed => AfterSave::Stop,
         StopSight::Absent if sights.has_input_ended => AfterSave::Stop,
-        StopSight::Absent => AfterSave::GoOn {
-            renews_links: is_lost(sights.links),
-            renews_clients: is_lost(sights.clients),
-        },
+        StopSight::Absent => AfterSave::GoOn(Lost {
+            links: is_lost(sights.links),
+            clients: is_lost(sights.clients),
+            looks: is_lost(sights.looks),
+        }),
     }
 }
 

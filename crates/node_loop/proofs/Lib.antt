@@ -7,5 +7,6 @@ pub mod Hearing
 pub mod Turning
 pub mod Loose
 pub mod Accounts
+pub mod Lives
 mod Rows
 mod RowsTurns

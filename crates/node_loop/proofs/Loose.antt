@@ -1,10 +1,10 @@
 -- Ports without a connection, one after the other.
-use Rattle.std.proofs.Common.{◌≡◌, ◌≢◌, ◌<◌, ◌≤◌, ◌+◌, ℕ, Bool, true, false, List, Option, None, Some, Contains, length, slice_get, refl, inl, inr, sym, subst, ap, arith, ◌∙◌}
+use Rattle.std.proofs.Common.{◌≡◌, ◌≢◌, ◌<◌, ◌≤◌, ◌+◌, ◌-◌, ◌⊎◌, ◌∷◌, ◌++◌, [], ℕ, Bool, true, false, List, Option, None, Some, Contains, length, slice_get, refl, inl, inr, sym, subst, ap, arith, ◌∙◌}
 use Rattle.std.specs.Prelude.{slice_set}
 use Rattle.std.proofs.lemmas.Grind.{common_steps}
 use Rattle.std.proofs.lemmas.List.{length-set}
 use Rattle.std.proofs.lemmas.Option.{slice_get_past}
-use Rattle.circular_buffer.proofs.Places.{slice_get-set_same}
+use Rattle.circular_buffer.proofs.Places.{slice_get-set_same, slice_get-last, slice_get-append_left, slice_get-append_right}
 use Rattle.node_loop.specs.declared.port.NodePort.{NodePort}
 use Rattle.node_loop.specs.Loose.{AreKept, AreLoose, is_linked}
 use Rattle.node_loop.proofs.Hearing.{others-set}
@@ -51,4 +51,17 @@ module _ {P : Type 0} where
       elim (below-or-from w i) [
         | inl less ↦ so.closed w less not
         | inr from ↦ (let past : length new ≤ w = omega arith in rw (slice_get_past new w past) refl)
+      ]
+
+one-of-three : (w i : ℕ) → (w ≡ i) ⊎ ((w < i) ⊎ (i + 1 ≤ w))
+one-of-three w i = grind arith
+
+module _ {P : Type 0} where
+  -- one more port without a connection
+  pub loose-pushed : (ns : List ℕ) (ports : List (NodePort P)) (q : NodePort P) → q.link.pipe ≡ None → q.greeting ≡ None → AreLoose ns ports → AreLoose ns (ports ++ q ∷ [])
+  loose-pushed ns ports q pipe greeting so w not =
+      elim (one-of-three w (length ports)) [
+        | inl same ↦ rw (slice_get-last ports q w same) (unlinked q pipe greeting)
+        | inr (inl less) ↦ rw (slice_get-append_left ports (q ∷ []) w less) (so w not)
+        | inr (inr more) ↦ rw (slice_get-append_right ports (q ∷ []) w (w - length ports) (omega arith), slice_get_past (q ∷ []) (w - length ports) (omega arith)) refl
       ]

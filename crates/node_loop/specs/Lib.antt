@@ -3,6 +3,7 @@ pub mod Greetings
 pub mod Deeds
 pub mod Answers
 pub mod Clients
+pub mod Lives
 pub mod Arrivals
 pub mod Moments
 pub mod Hearing

@@ -39,6 +39,7 @@ pub(crate) struct Clients<P, A: Allocator + Copy = Global> {
 impl<P: Pipe, A: Allocator + Copy> Clients<P, A> {
     ghost use Rattle.node_loop.specs.Clients.{answers_of, is_connected, room_of};
     ghost use Rattle.node_loop.specs.Clients.{SameClients, GivesWithin};
+    ghost use Rattle.node_loop.specs.Lives.{LivesAt, LiveOn, OthersStay, ReadsAt};
 
     /// No clients, with all the room that there ever is. `AllocError` comes only where memory is
     /// refused.
@@ -90,6 +91,7 @@ impl<P: Pipe, A: Allocator + Copy> Clients<P, A> {
     pub fn close(&mut self, ticket: u16)
         ensures closed { (t : ℕ) → is_connected self.new t
             ≡ (is_connected self.old t && not (t == ticket)) }
+        ensures others { OthersStay ticket self.old self.new }
         ensures answers { self.new.answers ≡ self.old.answers }
     {
         let _client = self.table.try_remove(ticket as usize);
@@ -99,6 +101,10 @@ impl<P: Pipe, A: Allocator + Copy> Clients<P, A> {
     pub fn read(&mut self, ticket: u16, bytes: &mut [u8; PIECE]) -> ReadAnswer
         ensures same { SameClients self.old self.new }
         ensures within { GivesWithin result 64 }
+        // What came is what its pipe gave, and nobody else was read.
+        ensures reads { ReadsAt P.gave P.took P.counts result bytes.new
+            (get self.old.table ticket) (get self.new.table ticket) }
+        ensures others { OthersStay ticket self.old self.new }
     {
         match self.table.get_mut(ticket as usize) {
             Some(client) => client.pipe.try_read(bytes),
@@ -109,6 +115,7 @@ impl<P: Pipe, A: Allocator + Copy> Clients<P, A> {
     /// Takes the next byte of a client, and answers the line that it ends, if it ends one.
     pub fn push(&mut self, ticket: u16, byte: u8) -> Option<ClientLine>
         ensures same { SameClients self.old self.new }
+        ensures lives { LiveOn P.gave P.took P.counts self.old self.new }
         // Only a connected client has lines.
         ensures there { OnSome result (is_connected self.old ticket ≡ true) }
     {
@@ -119,6 +126,7 @@ impl<P: Pipe, A: Allocator + Copy> Clients<P, A> {
     /// and then nothing has changed.
     pub fn say(&mut self, ticket: u16, text: &[u8]) -> bool
         ensures same { SameClients self.old self.new }
+        ensures table { self.new.table ≡ self.old.table }
         ensures said { IsTrue result → answers_of self.new ticket
             ≡ answers_of self.old ticket ++ text.now }
         ensures others { (t : ℕ) → t ≢ ticket → answers_of self.new t ≡ answers_of self.old t }
@@ -141,6 +149,10 @@ impl<P: Pipe, A: Allocator + Copy> Clients<P, A> {
     /// Writes once to a client for whom answers wait; no where that fails.
     pub fn write(&mut self, ticket: u16) -> bool
         ensures same { SameClients self.old self.new }
+        // Unless that fails, its pipe lives on; and nobody else was written to.
+        ensures lives { IsTrue result → LivesAt P.gave P.took P.counts
+            (get self.old.table ticket) (get self.new.table ticket) }
+        ensures others_stay { OthersStay ticket self.old self.new }
         ensures others { (t : ℕ) → t ≢ ticket → answers_of self.new t ≡ answers_of self.old t }
     {
         let key = ticket as usize;

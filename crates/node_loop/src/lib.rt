@@ -10,7 +10,7 @@
 //! let now = clock.microseconds();
 //! if run.is_turn_due(now) {
 //!     let turned = run.turn(now);
-//!     if turned.saved.is_some() { /* each 256th turn */ }
+//!     if turned.is_to_look() { /* each 256th turn, also if the save failed */ }
 //! } else {
 //!     run.attend(now);                                // while a loan with a lease runs
 //! }

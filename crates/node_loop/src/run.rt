@@ -1,7 +1,7 @@
 //! A node that runs: what one turn of its process does.
 ghost use Rattle.std.specs.Prelude.{◌≡◌, ◌↔◌, ◌<◌, ◌≤◌, ◌+◌, ◌%◌, true, false, is_some, length};
 ghost use Rattle.std.specs.Prelude.{IfOk, IfErr, IfSome, IsSome, IsTrue, Some, Contains, slice_get};
-ghost use Rattle.std.specs.Prelude.{◌≢◌, ℕ};
+ghost use Rattle.std.specs.Prelude.{◌≢◌, ℕ, []};
 ghost use Rattle.data_link.specs.Port.{frame_of};
 ghost use Rattle.pace.specs.Nodes.{may_tick};
 ghost use Rattle.pace.specs.Plans.{port_of};
@@ -12,6 +12,8 @@ ghost use Rattle.node_core.specs.Site.{site_of};
 ghost use Rattle.node_core.specs.View.{site_in, state_of};
 ghost use Rattle.node_state_file.specs.Files.{file_of};
 ghost use Rattle.node_state_file.specs.Stores.{Saves};
+ghost use Rattle.node_loop.specs.Clients.{is_connected};
+ghost use Rattle.node_loop.specs.Loose.{AreLoose};
 
 use crate::clients::Clients;
 use crate::doors::{Door, Doors};
@@ -90,7 +92,11 @@ impl<D: Doors, S: Store + Drop, A: Allocator + Copy> NodeRun<D, S, A> {
     ) -> Result<NodeRun<D, S, A>, Unmade<D, S, A>>
         requires { site_in node ≡ site_of net (site_in node).id }
         ensures made { IfOk result (λ run. (run.net ≡ net) × (run.node ≡ node) × (run.turns ≡ 0)
-            × (run.doors ≡ doors) × (run.store ≡ store)) }
+            × (run.doors ≡ doors) × (run.store ≡ store) × (run.let_go ≡ false)
+            × (run.pace.manner ≡ manner)) }
+        // No port has a connection, and no client is there.
+        ensures alone { IfOk result (λ run. AreLoose [] run.ports.items
+            × ((t : ℕ) → is_connected run.clients t ≡ false)) }
         ensures unmade { IfErr result (λ back. (back.net ≡ net) × (back.node ≡ node)
             × (back.doors ≡ doors) × (back.store ≡ store)) }
     {
@@ -121,9 +127,14 @@ impl<D: Doors, S: Store + Drop, A: Allocator + Copy> NodeRun<D, S, A> {
     /// Waits by the doors until something may have come, as long as the pace lets, at most 2
     /// milliseconds. `now` is microseconds of a clock that never goes back.
     pub fn wait(&mut self, now: u64)
-        ensures node { self.new.node ≡ self.old.node }
-        ensures rest { (self.new.net ≡ self.old.net) × (self.new.turns ≡ self.old.turns)
-            × (self.new.store ≡ self.old.store) }
+        // The doors may change, and nothing else.
+        ensures node { (self.new.node ≡ self.old.node) × (self.new.net ≡ self.old.net)
+            × (self.new.pace ≡ self.old.pace) }
+        ensures rest { (self.new.ports ≡ self.old.ports) × (self.new.lobby ≡ self.old.lobby)
+            × (self.new.clients ≡ self.old.clients) × (self.new.store ≡ self.old.store) }
+        ensures marks { (self.new.turns ≡ self.old.turns) × (self.new.let_go ≡ self.old.let_go)
+            × (self.new.has_ticked ≡ self.old.has_ticked)
+            × (self.new.has_more ≡ self.old.has_more) }
     {
         let rest = if self.has_more {
             0
@@ -665,7 +676,9 @@ type Reserved<P, A> = (Vec<NodePort<P>, A>, Lobby<P, A>, Clients<P, A>);
 
 /// Reserves the memory of a node that runs in a network of this many nodes.
 fn reserve<P: Pipe, A: Allocator + Copy>(alloc: A, nodes: u16) -> Result<Reserved<P, A>, AllocError>
-    ensures { IfOk result (λ reserved. length reserved.0.items ≡ nodes) }
+    ensures nodes { IfOk result (λ reserved. length reserved.0.items ≡ nodes) }
+    ensures alone { IfOk result (λ reserved. AreLoose [] reserved.0.items
+        × ((t : ℕ) → is_connected reserved.2 t ≡ false)) }
 {
     let mut ports = Vec::with_capacity(alloc, nodes as usize)?;
     for _ in 0..nodes {

@@ -5,6 +5,7 @@ ghost use Rattle.node_core.specs.Step.{ticked};
 ghost use Rattle.node_core.specs.View.{site_in, state_of};
 ghost use Rattle.node_loop.specs.Clients.{AreConnected, is_connected, IsTold, Tells};
 ghost use Rattle.node_loop.specs.Deeds.{Became, IsLeave, IsOfClient, Acts};
+ghost use Rattle.node_loop.specs.Lives.{LiveOn, OthersStay};
 
 use crate::answer::{ANSWER, answer};
 use crate::clients::{Clients, PIECE, PLACES};
@@ -33,6 +34,7 @@ fn dismiss<P: Pipe, A: Allocator + Copy>(
     ensures connected { AreConnected clients.old node.old → AreConnected clients.new node.new }
     ensures closed { (t : ℕ) → is_connected clients.new t
         ≡ (is_connected clients.old t && not (t == ticket)) }
+    ensures others { OthersStay ticket clients.old clients.new }
     ensures answers { clients.new.answers ≡ clients.old.answers }
 {
     // The desk is in range, which the prover needs: a borrower does not wait.
@@ -51,6 +53,7 @@ fn tell<P: Pipe, A: Allocator + Copy>(
     ensures node { Became IsLeave node.old node.new }
     ensures connected { AreConnected clients.old node.old → AreConnected clients.new node.new }
     ensures told { Tells text.now ticket clients.old clients.new }
+    ensures lives { LiveOn P.gave P.took P.counts clients.old clients.new }
 {
     if !clients.say(ticket, text) {
         dismiss(node, clients, ticket);
@@ -62,7 +65,9 @@ pub(crate) fn serve_all<P: Pipe, A: Allocator + Copy>(
     node: &mut Node<A>,
     clients: &mut Clients<P, A>,
 ) -> bool
-    ensures { Became IsOfClient node.old node.new }
+    ensures node { Became IsOfClient node.old node.new }
+    // A client whose read says that it is gone is connected no more.
+    ensures lives { LiveOn P.gave P.took P.counts clients.old clients.new }
 {
     let mut has_more = false;
     for ticket in 0..PLACES as u16 {
@@ -80,7 +85,8 @@ fn serve<P: Pipe, A: Allocator + Copy>(
     clients: &mut Clients<P, A>,
     ticket: u16,
 ) -> bool
-    ensures { Became IsOfClient node.old node.new }
+    ensures node { Became IsOfClient node.old node.new }
+    ensures lives { LiveOn P.gave P.took P.counts clients.old clients.new }
 {
     let mut bytes = [0; PIECE];
     match clients.read(ticket, &mut bytes) {
@@ -108,7 +114,8 @@ fn serve_bytes<P: Pipe, A: Allocator + Copy>(
     ticket: u16,
     bytes: &[u8],
 )
-    ensures { Became IsOfClient node.old node.new }
+    ensures node { Became IsOfClient node.old node.new }
+    ensures lives { LiveOn P.gave P.took P.counts clients.old clients.new }
 {
     for byte in bytes {
         if let Some(line) = clients.push(ticket, *byte) {
@@ -124,7 +131,8 @@ fn serve_line<P: Pipe, A: Allocator + Copy>(
     ticket: u16,
     line: ClientLine,
 )
-    ensures { Became IsOfClient node.old node.new }
+    ensures node { Became IsOfClient node.old node.new }
+    ensures lives { LiveOn P.gave P.took P.counts clients.old clients.new }
 {
     let mut text = [0; ANSWER];
     let count = answer(node, ticket, line, &mut text);
@@ -187,6 +195,7 @@ pub(crate) fn tick<P: Pipe, A: Allocator + Copy>(
     // One tick, and then nothing but leaves.
     ensures node { Acts result node.old node.new }
     ensures told { IsTold result.act clients.old clients.new }
+    ensures lives { LiveOn P.gave P.took P.counts clients.old clients.new }
     ensures connected { AreConnected clients.old node.old → AreConnected clients.new node.new }
 {
     let ticked = node.tick();
@@ -205,6 +214,8 @@ pub(crate) fn write_all<P: Pipe, A: Allocator + Copy>(
 )
     ensures node { Became IsLeave node.old node.new }
     ensures connected { AreConnected clients.old node.old → AreConnected clients.new node.new }
+    // A client to which a write fails is connected no more.
+    ensures lives { LiveOn P.gave P.took P.counts clients.old clients.new }
 {
     for ticket in 0..PLACES as u16 {
         if !clients.write(ticket) {

@@ -1,5 +1,5 @@
 //! What a turn answers.
-ghost use Rattle.std.specs.Prelude.{◌≡◌};
+ghost use Rattle.std.specs.Prelude.{◌≡◌, is_some};
 ghost use Rattle.node_loop.specs.Answers.{grants};
 
 use lock_desk::DeskAct;
@@ -21,5 +21,13 @@ impl Turned {
         ensures { result ≡ grants self.now.ticked.act }
     {
         matches!(self.ticked.act, DeskAct::Granted(_))
+    }
+
+    /// Whether the node's files are looked at after the turn, and the network's read again: after
+    /// each turn that saved, whatever the store answered.
+    pub fn is_to_look(&self) -> bool
+        ensures { result ≡ is_some self.now.saved }
+    {
+        self.saved.is_some()
     }
 }

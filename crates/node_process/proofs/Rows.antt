@@ -1,10 +1,12 @@
 -- Small examples of each definition, and ones that fail.
-use Rattle.std.proofs.Common.{◌≡◌, ◌≢◌, true, false, Some, None, refl, codes, arith}
+use Rattle.std.proofs.Common.{◌≡◌, ◌≢◌, true, false, Some, None, [], ◌∷◌, refl, codes, arith}
+use Rattle.std.specs.Fmt.{digits}
 use Rattle.node_texts.specs.declared.lines.End.TheVariants.{Unstarted}
 use Rattle.node_keeping.specs.declared.saved.AfterSave.TheVariants as save
-use Rattle.node_process.specs.declared.fault.NodeFault.TheVariants.{NoNode, Folder, Running, Links, System, Memory, Displaced, StopStays}
+use Rattle.node_process.specs.declared.fault.NodeFault.TheVariants.{NoNode, Folder, Running, Links, Looks, System, Memory, Displaced, StopStays}
 use Rattle.node_process.specs.declared.start.Stage.TheVariants.{Begun, Checked, Entered, Held, Listening}
 use Rattle.node_process.specs.Start.{may_end}
+use Rattle.node_process.specs.Children.{child_words}
 use Rattle.node_process.specs.Ends.{end_fault, ends_by}
 use Rattle.node_process.specs.Texts.{last_end, blocked_line}
 
@@ -25,6 +27,9 @@ ends_not-running = refl
 ends-links : may_end Held Links ≡ true
 ends-links = refl
 
+ends-looks : may_end Held Looks ≡ true
+ends-looks = refl
+
 ends_not-links : may_end Checked Links ≡ false
 ends_not-links = refl
 
@@ -44,7 +49,7 @@ fault_not-displaced = grind arith
 fault-stopped : end_fault save.Stop ≡ None
 fault-stopped = refl
 
-goes-on : ends_by (save.GoOn true false) ≡ false
+goes-on : ends_by (save.GoOn (record { links = true; clients = false; looks = false })) ≡ false
 goes-on = refl
 
 goes_not-on : ends_by save.StopStays ≡ true
@@ -57,3 +62,10 @@ says-left = refl
 says-blocked : blocked_line (codes "run/desk-1.sock")
     ≡ codes "tokentree: run/desk-1.sock: cannot be made again; remove what stands there: the node runs on, and tries again"
 says-blocked = refl
+
+-- a child gets all options, its turns' time in milliseconds
+tells-child : child_words (record { hold = 2000; repeat = 8000 }) 2250 (codes "ring.toml") 1 (codes "run")
+    ≡ codes "node" ∷ codes "--child" ∷ codes "--hold" ∷ codes "2000" ∷ codes "--repeat" ∷ codes "8000"
+    ∷ codes "--turn" ∷ codes "2.250" ∷ codes "--" ∷ codes "ring.toml" ∷ codes "1" ∷ codes "run" ∷ []
+unfolding digits
+tells-child = refl

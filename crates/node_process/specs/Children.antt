@@ -1,19 +1,25 @@
 -- The command lines of the nodes that `up` keeps running, and how they end.
-use Rattle.std.specs.Prelude.{ℕ, ◌/◌, ◌%◌, ◌==◌, if◌then◌else◌, List, [], ◌∷◌, codes, decimal}
+use Rattle.std.specs.Prelude.{ℕ, ◌/◌, ◌%◌, ◌==◌, if◌then◌else◌, List, [], ◌∷◌, ◌++◌, codes, decimal}
 use Rattle.std.specs.Process.{status_bits}
 use Rattle.std.specs.declared.process.status.ExitStatus.{ExitStatus}
 use Rattle.pace.specs.declared.pace.Manner.{Manner}
+use Rattle.node_texts.specs.PremisesText.{millis_text}
 use Rattle.node_texts.specs.declared.lines.End.{End}
 use Rattle.node_texts.specs.declared.lines.End.TheVariants.{Status, Signal, Unknown}
 
--- the words by which this program is node `id` of a network, in this manner, as a child that names
--- itself and ends with its input; behind `--` a FILE or DIR that begins with a hyphen is one too
-abbrev pub child_words : Manner → List ℕ → ℕ → List ℕ → List (List ℕ)
-child_words manner file id dir =
+-- the words by which this program is a node in this manner, as a child that names itself and ends with its
+-- input, and whose turns are late after so many microseconds
+abbrev pub child_options : Manner → ℕ → List (List ℕ)
+child_options manner turn =
     codes "node" ∷ codes "--child"
     ∷ codes "--hold" ∷ decimal manner.hold
     ∷ codes "--repeat" ∷ decimal manner.repeat
-    ∷ codes "--" ∷ file ∷ decimal id ∷ dir ∷ []
+    ∷ codes "--turn" ∷ millis_text turn ∷ []
+
+-- the same for node `id` of a network; after `--` a FILE or DIR that begins with a hyphen is one too
+abbrev pub child_words : Manner → ℕ → List ℕ → ℕ → List ℕ → List (List ℕ)
+child_words manner turn file id dir =
+    child_options manner turn ++ codes "--" ∷ file ∷ decimal id ∷ dir ∷ []
 
 -- how a process ended, by POSIX's wait status: the low seven bits are 0 if it ended by itself, with
 -- the status in the next byte, and else the signal that ended it; 127 there is no end

@@ -14,5 +14,5 @@ end_fault _ = None
 
 -- a node goes on only if that is what it is to do
 abbrev pub ends_by : AfterSave → Bool
-ends_by (save.GoOn renews_links renews_clients) = false
+ends_by (save.GoOn lost) = false
 ends_by _ = true

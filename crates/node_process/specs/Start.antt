@@ -5,7 +5,7 @@ use Rattle.node_process.specs.declared.start.Stage.TheVariants.{Begun, Checked, 
 use Rattle.node_process.specs.declared.fault.NodeFault.{NodeFault}
 use Rattle.node_process.specs.declared.fault.NodeFault.TheVariants.{Network, NoNode, LongName}
 use Rattle.node_process.specs.declared.fault.NodeFault.TheVariants.{Folder, Lock, Running}
-use Rattle.node_process.specs.declared.fault.NodeFault.TheVariants.{Links, Clients, System, Input, Memory}
+use Rattle.node_process.specs.declared.fault.NodeFault.TheVariants.{Links, Clients, Looks, System, Input, Memory}
 
 -- words that are refused end a start before anything is made; a folder that cannot be had ends it
 -- before its place is taken; a place that another process has ends it before a socket is made; and
@@ -20,6 +20,7 @@ may_end Entered Lock = true
 may_end Entered Running = true
 may_end Held Links = true
 may_end Held Clients = true
+may_end Held Looks = true
 may_end Held LongName = true
 may_end Listening System = true
 may_end Listening Input = true

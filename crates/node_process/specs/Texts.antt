@@ -4,7 +4,7 @@ use Rattle.network_file.specs.FaultText.{network_fault_text}
 use Rattle.node_process.specs.declared.fault.NodeFault.{NodeFault}
 use Rattle.node_process.specs.declared.fault.NodeFault.TheVariants.{Network, NoNode, LongName}
 use Rattle.node_process.specs.declared.fault.NodeFault.TheVariants.{Folder, Lock, Running, Links}
-use Rattle.node_process.specs.declared.fault.NodeFault.TheVariants.{Clients, System, Input, Memory}
+use Rattle.node_process.specs.declared.fault.NodeFault.TheVariants.{Clients, Looks, System, Input, Memory}
 use Rattle.node_process.specs.declared.fault.NodeFault.TheVariants.{UpLock, UpRunning}
 use Rattle.node_process.specs.declared.fault.NodeFault.TheVariants.{Displaced, StopStays, NoneStays}
 use Rattle.node_texts.specs.declared.lines.End.{End}
@@ -34,6 +34,8 @@ refusal_text file dir id Links =
     dir ++ (codes "/node-" ++ (decimal id ++ codes ".sock: cannot be made; choose another DIR"))
 refusal_text file dir id Clients =
     dir ++ (codes "/desk-" ++ (decimal id ++ codes ".sock: cannot be made; choose another DIR"))
+refusal_text file dir id Looks =
+    dir ++ (codes "/look-" ++ (decimal id ++ codes ".sock: cannot be made; choose another DIR"))
 refusal_text file dir id System =
     codes "the system has no clock, poll or process to give; try again"
 refusal_text file dir id Input =

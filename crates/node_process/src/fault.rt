@@ -31,6 +31,8 @@ pub enum NodeFault {
     Links,
     /// The socket for clients cannot be made.
     Clients,
+    /// The socket for whoever looks cannot be made.
+    Looks,
     /// The system gives no clock, no poll or no process.
     System,
     /// Standard input, whose end is to be waited for, is a file or nothing.
@@ -135,6 +137,12 @@ impl fmt::Display for Refusal<'_> {
                 write!(
                     f,
                     "{dir}/desk-{id}.sock: cannot be made; choose another DIR"
+                )
+            }
+            NodeFault::Looks => {
+                write!(
+                    f,
+                    "{dir}/look-{id}.sock: cannot be made; choose another DIR"
                 )
             }
             NodeFault::System => {

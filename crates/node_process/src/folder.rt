@@ -3,7 +3,7 @@ ghost use Rattle.std.specs.Prelude.{◌≡◌, ◌<◌, ◌≤◌, ◌⊎◌, If
 ghost use Rattle.node_texts.specs.Names.{longest_socket_name};
 ghost use Rattle.node_process.specs.declared.fault.NodeFault.TheVariants.{LongName, Memory};
 ghost use Rattle.node_process.specs.declared.fault.NodeFault.TheVariants.{Folder, Lock, Running};
-ghost use Rattle.node_process.specs.declared.fault.NodeFault.TheVariants.{Links, Clients};
+ghost use Rattle.node_process.specs.declared.fault.NodeFault.TheVariants.{Links, Clients, Looks};
 ghost use Rattle.node_process.specs.declared.start.Stage.TheVariants.{Checked, Entered, Held};
 ghost use Rattle.node_process.specs.declared.start.Stage.TheVariants.{Listening};
 
@@ -20,6 +20,7 @@ use std::os::unix::fs::{DirBuilderExt, MetadataExt, OpenOptionsExt};
 use std::os::unix::net::SocketAddr;
 use std::rt::Files;
 use std::{fs, io};
+use unix_doors::Listeners;
 
 /// Who may enter a folder that is made here: its owner.
 const FOLDER_MODE: u32 = 0o700;
@@ -152,19 +153,32 @@ pub struct Listener {
     pub file: FileId,
 }
 
-/// Makes the sockets of a node whose place is held, for neighbours and for clients, in place of
-/// files that were left there.
+/// The sockets of a node, which listen, and their files.
+#[derive(Drop)]
+pub struct NodeSockets {
+    /// The sockets.
+    pub listeners: Listeners,
+    /// That of the socket for neighbours.
+    pub links: FileId,
+    /// That of the socket for clients.
+    pub clients: FileId,
+    /// That of the socket for whoever looks.
+    pub looks: FileId,
+}
+
+/// Makes the sockets of a node whose place is held, for neighbours, for clients and for whoever looks, in
+/// place of files that were left there.
 ///
 /// # Errors
-/// `Links` or `Clients`.
+/// `Links`, `Clients` or `Looks`.
 pub fn make_sockets<R: Files + Net>(
     rt: &R,
     paths: &NodePaths,
     stage: &mut Stage,
-) -> Result<(Listener, Listener), NodeFault>
+) -> Result<NodeSockets, NodeFault>
     requires { stage.old ≡ Held }
     ensures ok { IfOk result (λ _. stage.new ≡ Listening) }
-    ensures err { IfErr result (λ fault. ((fault ≡ Links) ⊎ (fault ≡ Clients))
+    ensures err { IfErr result (λ fault. ((fault ≡ Links) ⊎ ((fault ≡ Clients) ⊎ (fault ≡ Looks)))
         × (stage.new ≡ Held)) }
 {
     let Ok(links) = bind_again(rt, paths.links.as_str()) else {
@@ -173,8 +187,25 @@ pub fn make_sockets<R: Files + Net>(
     let Ok(clients) = bind_again(rt, paths.clients.as_str()) else {
         return Err(NodeFault::Clients);
     };
+    let Ok(looks) = bind_again(rt, paths.looks.as_str()) else {
+        return Err(NodeFault::Looks);
+    };
     *stage = Stage::Listening;
-    Ok((links, clients))
+    Ok(joined(links, clients, looks))
+}
+
+/// The sockets of a node.
+fn joined(links: Listener, clients: Listener, looks: Listener) -> NodeSockets {
+    NodeSockets {
+        links: links.file,
+        clients: clients.file,
+        looks: looks.file,
+        listeners: Listeners {
+            links: links.socket,
+            clients: clients.socket,
+            looks: looks.socket,
+        },
+    }
 }
 
 /// A socket of this name, in place of a file that stands there.

@@ -2,7 +2,7 @@
 ghost use Rattle.std.specs.Prelude.{◌≡◌, ◌↔◌, true, false, IfOk, IsErr, IsTrue};
 
 use crate::folder::{Place, bind_again, sight_at};
-use node_keeping::{Complaint, FileId, FileSight};
+use node_keeping::{Complaint, FileId, FileSight, Lost};
 use node_texts::NodePaths;
 use std::net::Net as Sockets;
 use std::rt::Files;
@@ -64,39 +64,70 @@ pub struct Names<'a> {
     pub links: Name<'a>,
     /// Its socket for clients.
     pub clients: Name<'a>,
+    /// Its socket for whoever looks.
+    pub looks: Name<'a>,
 }
 
 impl<'a> Names<'a> {
-    /// Makes those sockets again whose names lead elsewhere. What cannot be made now is tried again
-    /// when the names are looked at next.
+    /// Makes those sockets again whose names are lost. What cannot be made now is tried again when the
+    /// names are looked at next.
     pub fn take_back<R: Files + Sockets + Eprint>(
         &mut self,
         rt: &'a R,
         doors: &mut UnixDoors<'a, R>,
-        renews_links: bool,
-        renews_clients: bool,
+        lost: Lost,
     )
         ensures place { (self.new.paths ≡ self.old.paths) × (self.new.place ≡ self.old.place) }
-        ensures links { renews_links ≡ false → self.new.links ≡ self.old.links }
-        ensures clients { renews_clients ≡ false → self.new.clients ≡ self.old.clients }
+        ensures links { lost.links ≡ false → self.new.links ≡ self.old.links }
+        ensures clients { lost.clients ≡ false → self.new.clients ≡ self.old.clients }
+        ensures looks { lost.looks ≡ false → self.new.looks ≡ self.old.looks }
     {
-        if renews_links {
-            let made = bind_again(rt, self.links.path);
-            let heard = made.and_then(|made| {
-                doors.listen_for_links(made.socket)?;
-                Ok(made.file)
-            });
+        if lost.links {
+            let heard = hear_links(rt, doors, self.links.path);
             self.links.note(rt, heard);
         }
-        if renews_clients {
-            let made = bind_again(rt, self.clients.path);
-            let heard = made.and_then(|made| {
-                doors.listen_for_clients(made.socket)?;
-                Ok(made.file)
-            });
+        if lost.clients {
+            let heard = hear_clients(rt, doors, self.clients.path);
             self.clients.note(rt, heard);
         }
+        if lost.looks {
+            let heard = hear_looks(rt, doors, self.looks.path);
+            self.looks.note(rt, heard);
+        }
     }
+}
+
+/// Makes a socket for neighbours of this name, and listens at it.
+fn hear_links<'a, R: Files + Sockets>(
+    rt: &'a R,
+    doors: &mut UnixDoors<'a, R>,
+    path: &str,
+) -> io::Result<FileId> {
+    let made = bind_again(rt, path)?;
+    doors.listen_for_links(made.socket)?;
+    Ok(made.file)
+}
+
+/// The same for clients.
+fn hear_clients<'a, R: Files + Sockets>(
+    rt: &'a R,
+    doors: &mut UnixDoors<'a, R>,
+    path: &str,
+) -> io::Result<FileId> {
+    let made = bind_again(rt, path)?;
+    doors.listen_for_clients(made.socket)?;
+    Ok(made.file)
+}
+
+/// The same for whoever looks.
+fn hear_looks<'a, R: Files + Sockets>(
+    rt: &'a R,
+    doors: &mut UnixDoors<'a, R>,
+    path: &str,
+) -> io::Result<FileId> {
+    let made = bind_again(rt, path)?;
+    doors.listen_for_looks(made.socket)?;
+    Ok(made.file)
 }
 
 /// The line which says that a socket of a running node is gone, and cannot be made again.

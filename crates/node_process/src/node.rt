@@ -1,5 +1,5 @@
 //! `node FILE ID DIR`: a node of a network as a process.
-ghost use Rattle.std.specs.Prelude.{◌≡◌, ◌<◌, ◌≤◌, ◌⊎◌, true, false, Some, None, IfOk, IfErr, IsTrue};
+ghost use Rattle.std.specs.Prelude.{◌≡◌, ◌↔◌, ◌<◌, ◌≤◌, ◌⊎◌, true, false, Some, None, IfOk, IfErr, IsTrue};
 ghost use Rattle.node_keeping.specs.AfterSave.{looks_for_stop};
 ghost use Rattle.node_keeping.specs.declared.saved.StopSight.TheVariants.{Absent};
 ghost use Rattle.node_process.specs.Start.{may_end};
@@ -14,7 +14,8 @@ use crate::folder::{
 };
 use crate::names::{Name, Names};
 use crate::start::Stage;
-use mio::net::UnixListener;
+use crate::window::Window;
+use look_window::{COMERS, is_let_in, show};
 use network_file::read_network;
 use node_keeping::{AfterSave, Sights, StopSight, after_save, looks_for_stop};
 use node_loop::NodeRun;
@@ -29,7 +30,7 @@ use std::net::Net as Sockets;
 use std::os::unix::net::SocketAddr;
 use std::rt::{Clock, Files};
 use topology::Net;
-use unix_doors::{Stopwatch, UnixDoors};
+use unix_doors::{Listeners, Stopwatch, UnixDoors};
 
 /// What the command line says.
 #[derive(Clone, Copy)]
@@ -42,18 +43,22 @@ pub struct NodeWords<'a> {
     pub dir: &'a str,
     /// The trade between quiet and haste.
     pub manner: Manner,
+    /// After how many microseconds a turn is late.
+    pub turn: u64,
+    /// The version of the program, in letters, digits and dots.
+    pub version: &'a str,
     /// Whether `up` has started it: its lines begin with its name, and it ends with its input.
     pub is_child: bool,
 }
 
 /// A node that runs over sockets and a file.
-type Run<'a, R> = NodeRun<UnixDoors<'a, R>, FileStore<'a, R>>;
+pub type Run<'a, R> = NodeRun<UnixDoors<'a, R>, FileStore<'a, R>>;
 
 /// Runs node ID of the network of FILE in DIR, until its stop file is there.
 ///
-/// It prints `start loaded` or `start default NAME`, then `ready` once both sockets listen. After
-/// each 256th turn it has saved its state, looks whether its names in DIR still lead to its own
-/// files, looks for the stop file, and reads FILE again.
+/// It prints `start loaded` or `start default NAME`, then `ready` once its sockets listen. Whoever connects
+/// to its socket for lookers is shown how it stands. After each 256th turn it has saved its state, looks
+/// whether its names in DIR still lead to its own files, looks for the stop file, and reads FILE again.
 ///
 /// # Errors
 /// Why it does not run; nothing is made before the network, the id and the folder's name are right.
@@ -126,11 +131,16 @@ where
         Err(_) => return Err(NodeFault::System),
     };
     if end != AfterSave::Displaced {
-        // A file that cannot be removed is removed by the next start.
-        let _ = remove(rt, paths.links.as_str());
-        let _ = remove(rt, paths.clients.as_str());
+        remove_sockets(rt, paths);
     }
     fault_of_end(end)
+}
+
+/// Removes a node's sockets. What cannot be removed is removed by the next start.
+fn remove_sockets<F: Files>(files: &F, paths: &NodePaths) {
+    let _ = remove(files, paths.links.as_str());
+    let _ = remove(files, paths.clients.as_str());
+    let _ = remove(files, paths.looks.as_str());
 }
 
 /// The fault with which a node ends that ends so.
@@ -141,11 +151,7 @@ fn fault_of_end(end: AfterSave) -> Result<(), NodeFault>
     match end {
         AfterSave::Displaced => Err(NodeFault::Displaced),
         AfterSave::StopStays => Err(NodeFault::StopStays),
-        AfterSave::Stop
-        | AfterSave::GoOn {
-            renews_links: _,
-            renews_clients: _,
-        } => Ok(()),
+        AfterSave::Stop | AfterSave::GoOn(_) => Ok(()),
     }
 }
 
@@ -194,14 +200,15 @@ where
     ensures err { IfErr result (λ fault. may_end stage.new fault ≡ true) }
 {
     let addresses = addresses_of(rt.alloc(), words.dir, net.nodes())?;
-    let (links, clients) = make_sockets(rt, paths, stage)?;
+    let made = make_sockets(rt, paths, stage)?;
     let names = Names {
         paths,
         place,
-        links: Name::new(paths.links.as_str(), links.file),
-        clients: Name::new(paths.clients.as_str(), clients.file),
+        links: Name::new(paths.links.as_str(), made.links),
+        clients: Name::new(paths.clients.as_str(), made.clients),
+        looks: Name::new(paths.looks.as_str(), made.looks),
     };
-    let mut doors = make_doors(rt, links.socket, clients.socket, addresses)?;
+    let mut doors = make_doors(rt, made.listeners, addresses)?;
     if !words.is_child {
         warn_of_capacity(rt, net.capacity());
     } else if doors.watch_input().is_err() {
@@ -213,35 +220,33 @@ where
 /// Doors over sockets that listen.
 fn make_doors<'a, R: Sockets + AllocGlobal>(
     rt: &'a R,
-    links: UnixListener,
-    clients: UnixListener,
+    listeners: Listeners,
     addresses: Vec<SocketAddr>,
 ) -> Result<UnixDoors<'a, R>, NodeFault>
     ensures { IfErr result (λ fault. (fault ≡ Memory) ⊎ (fault ≡ System)) }
 {
-    match UnixDoors::new(rt, rt.alloc(), links, clients, addresses) {
+    match UnixDoors::new(rt, rt.alloc(), listeners, addresses) {
         Ok(doors) => Ok(doors),
         Err(error) => Err(fault_of(error.kind())),
     }
 }
 
 /// Takes turns until the node is to end, and says how it is to.
-fn run_turns<'a, R>(
+fn run_turns<'a, R: Files + Sockets + Clock + Input + Eprint + AllocGlobal>(
     rt: &'a R,
     words: &NodeWords<'_>,
     watch: &mut Stopwatch<'a, R>,
     names: &mut Names<'a>,
     run: &mut Run<'a, R>,
-) -> AfterSave
-where
-    R: Files + Sockets + Clock + Input + Eprint + AllocGlobal,
-{
+) -> AfterSave {
+    let mut window = Window::open(rt, words.turn, words.version, watch.now());
     for _ in 0..u64::MAX {
-        run.wait(watch.now());
+        run.wait(watch.last());
         let now = watch.now();
         if !run.is_turn_due(now) {
             run.attend(now);
-        } else if run.turn(now).saved.is_some() {
+            window.attended(run, watch.now());
+        } else if take_turn(rt.alloc(), watch, &mut window, run, now) {
             let next = look(rt, words, names, run);
             if ends(next) {
                 return next;
@@ -251,17 +256,51 @@ where
     AfterSave::Stop
 }
 
+/// Takes a turn, notes it, and shows whoever looks how the node stands then. Whether the node's files are looked
+/// at now: after each 256th turn, whatever the store answered.
+fn take_turn<'a, R: Files + Sockets + Clock>(
+    alloc: Global,
+    watch: &mut Stopwatch<'a, R>,
+    window: &mut Window<'_>,
+    run: &mut Run<'a, R>,
+    now: u64,
+) -> bool
+    ensures { IsTrue result ↔ (run.old.turns ≡ 255) }
+{
+    let turned = run.turn(now);
+    let ended = watch.now();
+    window.turn_ended(run, &turned, ended);
+    if run.doors().may_be_looked_at() {
+        show_all(alloc, window, run, ended);
+    }
+    turned.is_to_look()
+}
+
+/// Shows all who look how the node stands. If memory is refused they wait.
+fn show_all<'a, R: Files + Sockets>(
+    alloc: Global,
+    window: &Window<'_>,
+    run: &mut Run<'a, R>,
+    now: u64,
+) {
+    let Ok(line) = window.line(alloc, run, now) else {
+        return;
+    };
+    for place in 0..COMERS {
+        let Some(mut looker) = run.doors().looker() else {
+            return;
+        };
+        if is_let_in(place) {
+            let _whole = show(&mut looker, line.as_bytes());
+        }
+    }
+}
+
 /// Whether a node ends that is to do this.
 fn ends(next: AfterSave) -> bool
     ensures { result ≡ ends_by next }
 {
-    !matches!(
-        next,
-        AfterSave::GoOn {
-            renews_links: _,
-            renews_clients: _,
-        }
-    )
+    !matches!(next, AfterSave::GoOn(_))
 }
 
 /// Looks at the node's files after a turn that saved, and does what is to be done if it runs on. What
@@ -277,13 +316,9 @@ where
     ensures { IsTrue (ends_by result) → names.new ≡ names.old }
 {
     let next = after_save(see(rt, words, names, run.doors()));
-    if let AfterSave::GoOn {
-        renews_links,
-        renews_clients,
-    } = next
-    {
+    if let AfterSave::GoOn(lost) = next {
         rewire_by_file(rt, words.file, run);
-        names.take_back(rt, run.doors(), renews_links, renews_clients);
+        names.take_back(rt, run.doors(), lost);
     }
     next
 }
@@ -311,6 +346,7 @@ where
         has_input_ended: words.is_child && doors.has_input_ended(rt),
         links: names.links.sight(rt),
         clients: names.clients.sight(rt),
+        looks: names.looks.sight(rt),
     }
 }
 
@@ -331,7 +367,7 @@ fn rewire_by_file<'a, R: Files + Sockets + AllocGlobal>(rt: &R, file: &str, run:
     }
 }
 
-/// Says that the node is ready, whose sockets listen both.
+/// Says that the node is ready, whose sockets listen.
 fn say_ready<R: Print + AllocGlobal>(rt: &R, words: &NodeWords<'_>, stage: &mut Stage)
     requires { stage.old ≡ Listening }
     ensures { stage.new ≡ Ready }

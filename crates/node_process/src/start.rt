@@ -2,7 +2,7 @@
 //!
 //! Whatever changes the folder says by its `requires` how far the start must be. So the prover finds
 //! at each call that nothing is made before the words are right, that no socket is made before the
-//! place is held, and that no node says `ready` before both of its sockets listen.
+//! place is held, and that no node says `ready` before its sockets listen.
 
 /// How far a start is.
 #[derive(Clone, Copy, Debug, PartialEq, Eq)]
@@ -15,7 +15,7 @@ pub enum Stage {
     Entered,
     /// The place in it is held, so that no other process is this one there.
     Held,
-    /// Both sockets listen.
+    /// All sockets listen.
     Listening,
     /// It was said that the node is ready.
     Ready,

@@ -7,7 +7,8 @@ ghost use Rattle.node_keeping.specs.Steps.{new_keeper, stage_after, deed_at};
 ghost use Rattle.node_keeping.specs.declared.keeper.Stage.TheVariants.{Runs, Waits, Starts};
 ghost use Rattle.node_keeping.specs.declared.keeper.Seen.TheVariants.{Nothing};
 ghost use Rattle.node_keeping.specs.declared.keeper.Deed.TheVariants.{Start};
-ghost use Rattle.node_process.specs.Children.{child_words, end_of};
+ghost use Rattle.node_texts.specs.PremisesText.{millis_text};
+ghost use Rattle.node_process.specs.Children.{child_options, child_words, end_of};
 ghost use Rattle.node_process.specs.Start.{may_end};
 ghost use Rattle.node_process.specs.declared.fault.NodeFault.TheVariants.{Lock, Running};
 ghost use Rattle.node_process.specs.declared.fault.NodeFault.TheVariants.{UpLock, UpRunning};
@@ -65,6 +66,8 @@ pub struct OwnProgram<'a> {
     dir: &'a str,
     /// The trade between quiet and haste, the same for each node.
     manner: Manner,
+    /// After how many microseconds a turn is late.
+    turn: u64,
 }
 
 impl<'a> OwnProgram<'a> {
@@ -77,9 +80,10 @@ impl<'a> OwnProgram<'a> {
         file: &'a str,
         dir: &'a str,
         manner: Manner,
+        turn: u64,
     ) -> Result<OwnProgram<'a>, NodeFault>
         ensures words { IfOk result (λ own. (own.file ≡ file.entry) × (own.dir ≡ dir.entry)
-            × (own.manner ≡ manner)) }
+            × (own.manner ≡ manner) × (own.turn ≡ turn)) }
         ensures fault { IfErr result (λ fault. fault ≡ System) }
     {
         match env::current_exe(rt) {
@@ -88,6 +92,7 @@ impl<'a> OwnProgram<'a> {
                 file,
                 dir,
                 manner,
+                turn,
             }),
             Err(_) => Err(NodeFault::System),
         }
@@ -97,7 +102,8 @@ impl<'a> OwnProgram<'a> {
 impl NodeProgram for OwnProgram<'_> {
     fn command(&self, alloc: Global, id: u16) -> io::Result<Command> {
         let mut command = Command::new(alloc, self.program.as_path())?;
-        add_words(alloc, &mut command, self.manner, self.file, id, self.dir)?;
+        let options = (self.manner, self.turn);
+        add_words(alloc, &mut command, options, self.file, id, self.dir)?;
         Ok(command)
     }
 }
@@ -106,17 +112,28 @@ impl NodeProgram for OwnProgram<'_> {
 fn add_words(
     alloc: Global,
     command: &mut Command,
-    manner: Manner,
+    options: (Manner, u64),
     file: &str,
     id: u16,
     dir: &str,
 ) -> io::Result<()>
     ensures { OnOk result (command_args command.new
-        ≡ command_args command.old ++ child_words manner file.now id dir.now) }
+        ≡ command_args command.old ++ child_words options.0 options.1 file.now id dir.now) }
+{
+    let (manner, turn) = options;
+    add_options(alloc, command, manner, turn)?;
+    add_place(alloc, command, file, id, dir)
+}
+
+/// Adds the words by which this program is a node as a child, in this manner, whose turns are late after
+/// `turn` microseconds.
+fn add_options(alloc: Global, command: &mut Command, manner: Manner, turn: u64) -> io::Result<()>
+    ensures { OnOk result (command_args command.new
+        ≡ command_args command.old ++ child_options manner turn) }
 {
     add_two(command, "node", "--child")?;
     add_manner(alloc, command, manner)?;
-    add_place(alloc, command, file, id, dir)
+    add_turn(alloc, command, turn)
 }
 
 /// Adds the trade between quiet and haste.
@@ -127,6 +144,17 @@ fn add_manner(alloc: Global, command: &mut Command, manner: Manner) -> io::Resul
 {
     add_option(alloc, command, "--hold", manner.hold)?;
     add_option(alloc, command, "--repeat", manner.repeat)
+}
+
+/// Adds after how many microseconds a turn is late, in milliseconds.
+fn add_turn(alloc: Global, command: &mut Command, turn: u64) -> io::Result<()>
+    ensures { OnOk result (command_args command.new ≡ command_args command.old
+        ++ codes "--turn" ∷ millis_text turn ∷ []) }
+{
+    let (whole, tenths) = (turn / 1000, turn / 100 % 10);
+    let (hundredths, thousandths) = (turn / 10 % 10, turn % 10);
+    let millis = format!(in alloc; "{whole}.{tenths}{hundredths}{thousandths}")?;
+    add_two(command, "--turn", millis.as_str())
 }
 
 /// Adds an option and its number.

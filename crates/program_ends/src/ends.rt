@@ -1,5 +1,5 @@
 //! The statuses that the program ends with.
-ghost use Rattle.std.specs.Prelude.{◌≡◌, ◌≢◌, ◌≤◌, if◌then◌else◌, is_ok};
+ghost use Rattle.std.specs.Prelude.{◌≡◌, ◌≢◌, ◌≤◌, ◌⊎◌, if◌then◌else◌, IfOk, IfErr};
 ghost use Rattle.std.specs.Process.{exit_status};
 ghost use Rattle.clap.specs.Values.{kind_of};
 ghost use Rattle.clap.specs.declared.error.kind.ErrorKind.TheVariants.{DisplayHelp, DisplayVersion};
@@ -8,6 +8,8 @@ ghost use Rattle.clap.specs.declared.error.kind.ErrorKind.TheVariants.{OutOfMemo
 use crate::fault_line::FaultLine;
 use clap::error::ErrorKind;
 use command_parts::Fault;
+use fault_hints::{one_line, output_status};
+use std::alloc::AllocError;
 use std::process::ExitCode;
 
 /// The status of a command line that was refused.
@@ -21,32 +23,77 @@ pub fn fault_status(is_lock: bool) -> u8
 }
 
 /// Shows the help that was asked for, or why the command line was refused, or that memory ran out
-/// before it was read.
-pub fn shows<R: Print + Eprint>(rt: &R, error: &clap::Error, is_lock: bool) -> ExitCode
+/// before it was read. A refusal is one line, which names the help of the command that was meant.
+pub fn shows<R: Print + Eprint + AllocGlobal>(
+    rt: &R,
+    error: &clap::Error,
+    is_lock: bool,
+    command: Option<&str>,
+) -> ExitCode
     ensures mistake { kind_of error.now ≢ DisplayHelp → kind_of error.now ≢ DisplayVersion
         → kind_of error.now ≢ OutOfMemory → exit_status result ≡ 2 }
     ensures memory { kind_of error.now ≡ OutOfMemory
         → exit_status result ≡ (if is_lock then 125 else 1) }
-    ensures help { kind_of error.now ≡ DisplayHelp → exit_status result ≤ 1 }
+    ensures help { kind_of error.now ≡ DisplayHelp
+        → (exit_status result ≤ 1) ⊎ (exit_status result ≡ 141) }
 {
     match error.kind() {
         ErrorKind::OutOfMemory => fails(rt, Fault::Memory, fault_status(is_lock)),
         ErrorKind::DisplayHelp | ErrorKind::DisplayVersion => help_status(rt, error.print(rt)),
         _ => {
-            let _ = error.print(rt);
+            say_mistake(rt, error, command);
             ExitCode::from(LINE_REFUSED)
         }
     }
 }
 
-/// The status of help that was asked for, by what printing it answered: a fault is shown where it
-/// could not be printed.
-fn help_status<R: Eprint, E: Drop>(rt: &R, printed: Result<(), E>) -> ExitCode
-    ensures { exit_status result ≡ (if is_ok printed then 0 else 1) }
+/// Says why a command line is refused, in a line; in the parser's own words if memory is short.
+fn say_mistake<R: Print + Eprint + AllocGlobal>(
+    rt: &R,
+    error: &clap::Error,
+    command: Option<&str>,
+) {
+    match mistake_line(rt, error, command) {
+        Ok(line) => {
+            let _ = eprintln!(rt; "tokentree: {line}");
+        }
+        Err(_) => {
+            let _ = error.print(rt);
+        }
+    }
+}
+
+/// That line.
+fn mistake_line<R: AllocGlobal>(
+    rt: &R,
+    error: &clap::Error,
+    command: Option<&str>,
+) -> Result<String, AllocError> {
+    let text = format!(in rt.alloc(); "{error}")?;
+    one_line(rt.alloc(), text.as_str(), command)
+}
+
+/// The status of help that was asked for, by what printing it answered: a fault is shown if it could not
+/// be printed, but for a reader that is gone.
+fn help_status<R: Print + Eprint, E: Drop>(rt: &R, printed: Result<(), E>) -> ExitCode
+    ensures printed { IfOk printed (λ _. exit_status result ≡ 0) }
+    ensures refused { IfErr printed
+        (λ _. (exit_status result ≡ 1) ⊎ (exit_status result ≡ 141)) }
 {
     match printed {
         Ok(()) => ExitCode::SUCCESS,
-        Err(_) => fails(rt, Fault::Output, fault_status(false)),
+        Err(_) => output_fails(rt, fault_status(false)),
+    }
+}
+
+/// Ends after standard output has refused a write: quietly if its reader is gone, else with its fault and
+/// this status.
+pub fn output_fails<R: Print + Eprint>(rt: &R, status: u8) -> ExitCode
+    ensures { (exit_status result ≡ status) ⊎ (exit_status result ≡ 141) }
+{
+    match output_status(rt) {
+        Some(status) => ExitCode::from(status),
+        None => fails(rt, Fault::Output, status),
     }
 }
 

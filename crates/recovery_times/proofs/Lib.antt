@@ -1,3 +1,4 @@
 pub mod Digits
 pub mod Points
 mod Rows
+mod RowsPremises

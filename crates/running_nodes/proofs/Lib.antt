@@ -3,3 +3,5 @@ pub mod Phases
 pub mod Turning
 pub mod Joining
 pub mod Whole
+mod RowsStood
+mod RowsRunning

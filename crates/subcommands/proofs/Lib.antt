@@ -1,5 +1,7 @@
+pub mod Naming
 pub mod JunkLines
 pub mod FourParts
 pub mod Spaced
 pub mod Runs
 mod RowsTexts
+pub mod Listed

@@ -3,4 +3,7 @@ pub mod Damaged
 pub mod Cut
 pub mod PlanFault
 pub mod Measured
+pub mod Named
 pub mod Turns
+pub mod BoundData
+pub mod MeasuredData

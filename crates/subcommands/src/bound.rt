@@ -36,7 +36,7 @@ pub fn run<R: Files + Print + AllocGlobal>(
 }
 
 /// How the command ends, by what printing its text answered.
-fn done<E: Drop>(printed: Result<(), E>) -> Result<ExitCode, Fault>
+pub(crate) fn done<E: Drop>(printed: Result<(), E>) -> Result<ExitCode, Fault>
     ensures printed { IsOk printed ↔ IsOk result }
     ensures ok { IfOk result (λ status. exit_status status ≡ 0) }
     ensures err { IfErr result (λ fault. fault ≡ Output) }

@@ -24,9 +24,12 @@
 #![tactic(auto)]
 
 pub mod bound;
+pub mod bound_json;
 pub mod cut;
 pub mod junk;
 pub mod measure;
+pub mod measure_json;
+pub mod network;
 pub mod schedule;
 pub mod scramble;
 pub mod simulate;

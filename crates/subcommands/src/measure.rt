@@ -87,7 +87,7 @@ pub fn ending<E: Drop>(printed: Result<(), E>, all_served: bool) -> Result<ExitC
 
 /// Makes the runs of a plan, over as many threads as there are processors: run i is that of the
 /// first seed and i.
-fn measured<R: Eprint + Clock + Threads + Sync>(
+pub(crate) fn measured<R: Eprint + Clock + Threads + Sync>(
     rt: &R,
     alloc: Global,
     net: &Net,
@@ -143,7 +143,7 @@ pub fn has_served(run: &Recovery, bound: u32) -> bool
 }
 
 /// Whether each of these runs has served.
-fn have_served(runs: &[Recovery], bound: u32) -> bool
+pub(crate) fn have_served(runs: &[Recovery], bound: u32) -> bool
     ensures { IsTrue result ↔ HaveServed runs.now bound }
 {
     runs.iter().all(|run| has_served(run, bound))
@@ -225,7 +225,11 @@ fn push_run(text: &mut String, run: &Recovery, bound: u32) -> Result<(), AllocEr
 }
 
 /// The sweeps behind which those runs served that did.
-fn served_sweeps(alloc: Global, runs: &[Recovery], bound: u32) -> Result<Vec<u64>, AllocError>
+pub(crate) fn served_sweeps(
+    alloc: Global,
+    runs: &[Recovery],
+    bound: u32,
+) -> Result<Vec<u64>, AllocError>
     ensures { IfOk result (λ sweeps. sweeps.items ≡ served_sweeps runs.now bound) }
 {
     let mut sweeps = Vec::new(alloc);

@@ -16,11 +16,11 @@ use Rattle.topology.specs.Refusal.{Values, Ends, value_fault}
 use Rattle.topology.specs.Reading.{two_integers}
 
 -- two nodes: 0 - 1
-abbrev two : Network
+abbrev pub two : Network
 two = record { nodes = 2; root = 0; capacity = 1; lease = 0; edges = (0, 1) ∷ [] }
 
 -- a line: 0 - 1 - 2
-abbrev line : Network
+abbrev pub line : Network
 line = record { nodes = 3; root = 0; capacity = 1; lease = 0; edges = (0, 1) ∷ (1, 2) ∷ [] }
 
 -- a square: 0 - 1, 0 - 2, 1 - 3, 2 - 3
@@ -28,7 +28,7 @@ abbrev square : Network
 square = record { nodes = 4; root = 0; capacity = 1; lease = 0; edges = (0, 1) ∷ (0, 2) ∷ (1, 3) ∷ (2, 3) ∷ [] }
 
 -- three nodes, of which 2 is alone
-abbrev apart : Network
+abbrev pub apart : Network
 apart = record { nodes = 3; root = 0; capacity = 1; lease = 0; edges = (0, 1) ∷ [] }
 
 -- the numbers of the networks
@@ -101,11 +101,11 @@ no-walk-alone u [] from walk = elim from [
 no-walk-alone u (w ∷ ws) from walk = no-walk-alone w ws (grind (arith, nat_tests)) walk.1
 
 -- so this network is not connected
-apart-refused : IsConnected apart → ⊥
+pub apart-refused : IsConnected apart → ⊥
 apart-refused connected = let (ws, walk) = connected 2 (omega arith) in no-walk-alone 0 ws (inl refl) walk
 
 -- the smallest network is accepted
-two-connected : IsConnected two
+pub two-connected : IsConnected two
 two-connected zero h = ([], refl)
 two-connected (suc zero) h = (1 ∷ [], (refl, refl))
 two-connected (suc (suc v)) h = absurd (omega arith)
@@ -113,7 +113,7 @@ two-connected (suc (suc v)) h = absurd (omega arith)
 two-edges : All (IsEdgeBelow 2) two.edges
 two-edges = λ k d h. let first : k ≡ 0 = omega arith in rw first (record { first = omega arith; second = omega arith; no_loop = λ e. omega arith })
 
-two-accepted : IsAcceptedNetwork two
+pub two-accepted : IsAcceptedNetwork two
 two-accepted = record {
   limits = record {
     two = omega arith;
@@ -130,10 +130,10 @@ two-accepted = record {
 }
 
 -- the values of the smallest network have no fault, and each change of one of them has its own
-abbrev values : ℤ → ℤ → ℤ → ℤ → List Ends → Values
+abbrev pub values : ℤ → ℤ → ℤ → ℤ → List Ends → Values
 values nodes root capacity lease edges = record { nodes = nodes; root = root; capacity = capacity; lease = lease; edges = edges }
 
-abbrev edge : List Ends
+abbrev pub edge : List Ends
 edge = (pos 0, pos 1) ∷ []
 
 good-values : value_fault (values (pos 2) (pos 0) (pos 1) (pos 0) edge) ≡ None

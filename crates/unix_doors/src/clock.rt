@@ -40,4 +40,11 @@ impl<'a, C: Clock> Stopwatch<'a, C> {
         }
         self.last
     }
+
+    /// What it told last.
+    pub fn last(&self) -> u64
+        ensures { result ≡ self.now.last }
+    {
+        self.last
+    }
 }

@@ -1,5 +1,5 @@
 //! Doors over Unix sockets.
-ghost use Rattle.std.specs.Prelude.{◌≡◌, true, false, IfOk, OnOk, IsErr};
+ghost use Rattle.std.specs.Prelude.{◌≡◌, true, false, None, IfOk, OnOk, IsErr, IsSome};
 ghost use Rattle.node_loop.specs.Doors.{Opens};
 
 use crate::input::{has_input_ended, watch_input};
@@ -25,10 +25,24 @@ const INPUT: Token = Token(2);
 /// A connection, of whichever kind: a turn reads them all.
 const CONNECTION: Token = Token(3);
 
+/// The socket for whoever looks.
+const LOOKS: Token = Token(4);
+
 /// How many events one wait takes. What it leaves, the next wait takes.
 const EVENTS: usize = 64;
 
-/// Doors over two listening Unix sockets, and the addresses of all nodes. A wait ends as soon as
+/// The sockets of a node, which listen.
+#[derive(Drop)]
+pub struct Listeners {
+    /// For neighbours.
+    pub links: UnixListener,
+    /// For clients.
+    pub clients: UnixListener,
+    /// For whoever looks.
+    pub looks: UnixListener,
+}
+
+/// Doors over three listening Unix sockets, and the addresses of all nodes. A wait ends as soon as
 /// anything comes.
 ///
 /// A poll tells of a socket once, when something new comes. So a listener is asked again until it
@@ -38,12 +52,12 @@ pub struct UnixDoors<'a, N> {
     net: &'a N,
     poll: Poll,
     events: Events,
-    links: UnixListener,
-    clients: UnixListener,
+    listeners: Listeners,
     /// Of each node by its id, where the nodes of greater ids connect.
     addresses: Vec<SocketAddr>,
     links_may_come: bool,
     clients_may_come: bool,
+    looks_may_come: bool,
     input_has_news: bool,
     failures: u64,
 }
@@ -56,28 +70,26 @@ impl<'a, N: Net> UnixDoors<'a, N> {
     pub fn new(
         net: &'a N,
         alloc: Global,
-        mut links: UnixListener,
-        mut clients: UnixListener,
+        mut listeners: Listeners,
         addresses: Vec<SocketAddr>,
     ) -> io::Result<UnixDoors<'a, N>>
         ensures fresh { IfOk result (λ doors. (doors.failures ≡ 0) × (doors.links_may_come ≡ true)
-            × (doors.clients_may_come ≡ true)) }
+            × (doors.clients_may_come ≡ true) × (doors.looks_may_come ≡ true)) }
     {
         let poll = Poll::new(net)?;
         let events = Events::with_capacity(alloc, EVENTS)?;
-        poll.registry()
-            .register(&mut links, LINKS, Interest::READABLE)?;
-        poll.registry()
-            .register(&mut clients, CLIENTS, Interest::READABLE)?;
+        listen(&poll, &mut listeners.links, LINKS)?;
+        listen(&poll, &mut listeners.clients, CLIENTS)?;
+        listen(&poll, &mut listeners.looks, LOOKS)?;
         Ok(UnixDoors {
             net,
             poll,
             events,
-            links,
-            clients,
+            listeners,
             addresses,
             links_may_come: true,
             clients_may_come: true,
+            looks_may_come: true,
             input_has_news: false,
             failures: 0,
         })
@@ -115,10 +127,8 @@ impl<'a, N: Net> UnixDoors<'a, N> {
         ensures listens { OnOk result (self.new.links_may_come ≡ true) }
         ensures stays { IsErr result → self.new.links_may_come ≡ self.old.links_may_come }
     {
-        self.poll
-            .registry()
-            .register(&mut links, LINKS, Interest::READABLE)?;
-        self.links = links;
+        listen(&self.poll, &mut links, LINKS)?;
+        self.listeners.links = links;
         self.links_may_come = true;
         Ok(())
     }
@@ -132,12 +142,51 @@ impl<'a, N: Net> UnixDoors<'a, N> {
         ensures listens { OnOk result (self.new.clients_may_come ≡ true) }
         ensures stays { IsErr result → self.new.clients_may_come ≡ self.old.clients_may_come }
     {
-        self.poll
-            .registry()
-            .register(&mut clients, CLIENTS, Interest::READABLE)?;
-        self.clients = clients;
+        listen(&self.poll, &mut clients, CLIENTS)?;
+        self.listeners.clients = clients;
         self.clients_may_come = true;
         Ok(())
+    }
+
+    /// Listens for whoever looks at this socket from now on, in place of that before.
+    ///
+    /// # Errors
+    /// If the system does not watch it; then all stays as it was.
+    pub fn listen_for_looks(&mut self, mut looks: UnixListener) -> io::Result<()>
+        ensures failures { self.new.failures ≡ self.old.failures }
+        ensures listens { OnOk result (self.new.looks_may_come ≡ true) }
+        ensures stays { IsErr result → self.new.looks_may_come ≡ self.old.looks_may_come }
+    {
+        listen(&self.poll, &mut looks, LOOKS)?;
+        self.listeners.looks = looks;
+        self.looks_may_come = true;
+        Ok(())
+    }
+
+    /// Whether somebody who looks may have come.
+    pub fn may_be_looked_at(&self) -> bool
+        ensures { result ≡ self.now.looks_may_come }
+    {
+        self.looks_may_come
+    }
+
+    /// The next connection of somebody who looks, if one has come.
+    pub fn looker(&mut self) -> Option<UnixPipe>
+        ensures failures { self.new.failures ≡ self.old.failures }
+        ensures nobody { self.old.looks_may_come ≡ false → (result ≡ None) × (self.new ≡ self.old) }
+        // After one came, the next is asked for.
+        ensures more { IsSome result → self.new.looks_may_come ≡ true }
+    {
+        if !self.looks_may_come {
+            return None;
+        }
+        match self.listeners.looks.accept() {
+            Ok((stream, _)) => Some(UnixPipe::new(stream)),
+            Err(error) => {
+                self.looks_may_come = !is_passing(error.kind());
+                None
+            }
+        }
     }
 
     /// Notes what the last wait told.
@@ -148,6 +197,7 @@ impl<'a, N: Net> UnixDoors<'a, N> {
             match event.token() {
                 LINKS => self.links_may_come = true,
                 CLIENTS => self.clients_may_come = true,
+                LOOKS => self.looks_may_come = true,
                 INPUT => self.input_has_news = true,
                 _ => {}
             }
@@ -188,6 +238,7 @@ impl<'a, N: Net> Doors for UnixDoors<'a, N> {
         if waited.is_err() {
             self.links_may_come = true;
             self.clients_may_come = true;
+            self.looks_may_come = true;
         }
         self.note_events();
     }
@@ -196,7 +247,7 @@ impl<'a, N: Net> Doors for UnixDoors<'a, N> {
         if !self.links_may_come {
             return Door::Nobody;
         }
-        let accepted = self.links.accept();
+        let accepted = self.listeners.links.accept();
         let door = self.door_of(accepted.and_then(|(stream, _)| hold_few(stream)));
         if matches!(door, Door::Nobody) {
             self.links_may_come = false;
@@ -208,7 +259,7 @@ impl<'a, N: Net> Doors for UnixDoors<'a, N> {
         if !self.clients_may_come {
             return Door::Nobody;
         }
-        let accepted = self.clients.accept().map(|(stream, _)| stream);
+        let accepted = self.listeners.clients.accept().map(|(stream, _)| stream);
         let door = self.door_of(accepted);
         if matches!(door, Door::Nobody) {
             self.clients_may_come = false;
@@ -224,4 +275,9 @@ impl<'a, N: Net> Doors for UnixDoors<'a, N> {
         let made = UnixStream::connect_addr(self.net, address);
         self.door_of(made.and_then(hold_few))
     }
+}
+
+/// Has a poll tell of a socket that listens, under this token.
+fn listen(poll: &Poll, socket: &mut UnixListener, token: Token) -> io::Result<()> {
+    poll.registry().register(socket, token, Interest::READABLE)
 }

@@ -1,7 +1,7 @@
 //! The doors of a node over Unix sockets, and its clock.
 //!
 //! ```
-//! let mut doors = UnixDoors::new(rt, alloc, links, clients, addresses)?;
+//! let mut doors = UnixDoors::new(rt, alloc, listeners, addresses)?;
 //! let mut watch = Stopwatch::start(rt)?;
 //! let mut run = NodeRun::new(alloc, net, state, doors, store, manner)?;
 //! run.wait(watch.now());                               // until something comes, or is due
@@ -20,6 +20,6 @@ mod input;
 mod pipe;
 
 pub use clock::Stopwatch;
-pub use doors::UnixDoors;
+pub use doors::{Listeners, UnixDoors};
 pub use input::{has_input_ended, watch_input};
 pub use pipe::UnixPipe;

@@ -19,6 +19,8 @@ mod measure;
 #[cfg(test)]
 mod nets;
 #[cfg(test)]
+mod network;
+#[cfg(test)]
 mod schedule;
 #[cfg(test)]
 mod scramble;

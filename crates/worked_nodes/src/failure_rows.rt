@@ -114,7 +114,7 @@ fn with_fused_store<'a>(alloc: Global, doors: MemoryDoors<'a>) -> Result<Fused<'
 }
 
 /// Turns a node 512 times, and lets it attend before each of them. The first turn that did not save,
-/// or saved, as it should: the 256th fails to, the 512th does.
+/// or saved, as it should: the 256th fails to, the 512th does. After both its files are looked at.
 fn first_wrong_turn(run: &mut Fused<'_>) -> Option<u32> {
     for turn in 1..=512 {
         let want = match turn {
@@ -123,7 +123,8 @@ fn first_wrong_turn(run: &mut Fused<'_>) -> Option<u32> {
             _ => None,
         };
         run.attend(0);
-        if run.turn(0).saved != want {
+        let turned = run.turn(0);
+        if turned.saved != want || turned.is_to_look() != want.is_some() {
             return Some(turn);
         }
     }

@@ -11,6 +11,8 @@ mod cast;
 #[cfg(test)]
 mod client_rows;
 #[cfg(test)]
+mod door_rows;
+#[cfg(test)]
 mod failure_rows;
 #[cfg(test)]
 mod link_rows;

@@ -101,6 +101,11 @@ impl Trip {
         }
     }
 
+    /// From now on the call after that number of others fails, or none.
+    pub fn begin(&self, calls: Option<u64>) {
+        self.left.set(calls);
+    }
+
     /// Whether the call that fails was made.
     pub fn is_over(&self) -> bool {
         self.left.get().is_none()

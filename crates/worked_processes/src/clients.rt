@@ -1,7 +1,8 @@
 //! Copies of the test program as clients, against desks that follow a script.
 use crate::copies::{copy, prints, prints_and_tells, shell, started};
 use crate::hold::hold;
-use lock_command::{GUARDED, Request, guard, lock, status};
+use lock_command::{GUARDED, Request, Seconds, guard, lock};
+use status_command::{Form, status};
 use std::alloc::{AllocError, Global};
 use std::io::{Input, Read, Write};
 use std::net::Net;
@@ -103,13 +104,25 @@ fn request_of<'a>(words: &'a [&'a str]) -> Option<Request<'a>> {
     };
     Some(Request {
         folder: *folder,
-        node: 0,
-        seconds: seconds.parse().ok(),
+        node: Some(0),
+        limit: limit_of(seconds),
+        lost: 122,
+        is_verbose: false,
         keeps_running: !keeps.is_empty(),
         waits_for_children: false,
         guard: &GUARD,
         command: until_empty(command),
     })
+}
+
+/// So many seconds; none of a word that spells no number.
+fn limit_of(word: &str) -> Option<Seconds> {
+    match word.parse::<u16>() {
+        Ok(seconds) => Some(Seconds {
+            millis: u32::from(seconds) * 1_000,
+        }),
+        Err(_) => None,
+    }
 }
 
 /// The words before the first empty one.
@@ -128,7 +141,7 @@ fn print_status<R: Print>(rt: &R, status: u8) -> Result<(), Fail> {
 #[test]
 fn acts_as_an_onlooker(rt: HostRuntime) -> Result<(), Fail> {
     match env::var(&rt, "STATUS_FOLDER") {
-        Ok(folder) => print_status(&rt, status::run(&rt, folder.as_str(), &[])),
+        Ok(folder) => print_status(&rt, status::run(&rt, folder.as_str(), &[], Form::Lines)),
         Err(_) => Ok(()),
     }
 }

@@ -10,4 +10,6 @@ mod copies;
 #[cfg(test)]
 mod hold;
 #[cfg(test)]
+mod looks;
+#[cfg(test)]
 mod nodes;

@@ -1,7 +1,7 @@
 //! Nodes as processes: copies of this test program, which talk over sockets.
 use crate::copies::{copy, copy_at, shell, started};
 use crate::hold::hold;
-use node_process::{NodeFault, NodeProgram, NodeWords, Refusal, node, up};
+use node_process::{NodeFault, NodeProgram, NodeWords, Refusal, USUAL_LIMIT, node, up};
 use node_texts::desk_file::desk_path;
 use node_texts::{CapacityLine, End, EndLine, NodePaths, links_name};
 use pace::Manner;
@@ -19,7 +19,7 @@ use subcommands::scramble;
 use test_parts::{as_told, is_told};
 
 /// Three nodes in a line. Fewer frames than the capacity are under way.
-const LINE: &str = "nodes = 3\nroot = 0\ncapacity = 64\nlease = 0\nedges = [[0, 1], [1, 2]]\n";
+pub const LINE: &str = "nodes = 3\nroot = 0\ncapacity = 64\nlease = 0\nedges = [[0, 1], [1, 2]]\n";
 
 /// The same with links that hold one frame less than is asked for.
 const NARROW: &str = "nodes = 3\nroot = 0\ncapacity = 63\nlease = 0\nedges = [[0, 1], [1, 2]]\n";
@@ -57,6 +57,8 @@ fn run_node(
         id,
         dir,
         manner: Manner::usual(),
+        turn: USUAL_LIMIT,
+        version: "0.1.0",
         is_child,
     };
     Ok(node::run(rt, &words))
@@ -101,7 +103,7 @@ fn pid_file(alloc: Global, dir: &str, id: u16) -> Result<String, AllocError> {
 }
 
 /// What a node prints first where it has no state file.
-const ABSENT: [&str; 2] = ["start default Absent", "ready"];
+pub const ABSENT: [&str; 2] = ["start default Absent", "ready"];
 
 /// What it prints first where its state was loaded.
 const LOADED: [&str; 2] = ["start loaded", "ready"];
@@ -137,7 +139,7 @@ fn begins(rt: &HostRuntime, child: &mut Child, lines: [&str; 2]) -> Result<(), F
 }
 
 /// A node's process, which prints these lines first.
-fn start(rt: &HostRuntime, dir: &str, id: u16, lines: [&str; 2]) -> Result<Child, Fail> {
+pub fn start(rt: &HostRuntime, dir: &str, id: u16, lines: [&str; 2]) -> Result<Child, Fail> {
     let mut child = spawn(rt, dir, id)?;
     begins(rt, &mut child, lines)?;
     Ok(child)
@@ -162,7 +164,8 @@ fn any_exists(rt: &HostRuntime, paths: &NodePaths) -> Result<bool, Fail> {
     Ok(
         fs::exists(rt, paths.stop.as_str())?
             || fs::exists(rt, paths.links.as_str())?
-            || fs::exists(rt, paths.clients.as_str())?,
+            || fs::exists(rt, paths.clients.as_str())?
+            || fs::exists(rt, paths.looks.as_str())?,
     )
 }
 
@@ -179,7 +182,7 @@ fn stop(rt: &HostRuntime, dir: &str, id: u16) -> Result<(), Fail> {
 }
 
 /// The rest of what is read.
-fn rest<R: Read>(alloc: Global, reader: &mut R) -> Result<Vec<u8>, Fail> {
+pub fn rest<R: Read>(alloc: Global, reader: &mut R) -> Result<Vec<u8>, Fail> {
     let mut bytes = Vec::new(alloc);
     reader.read_to_end(&mut bytes)?;
     Ok(bytes)
@@ -212,7 +215,7 @@ fn stops_with(
 }
 
 /// The same where it told nothing there.
-fn stops(rt: &HostRuntime, dir: &str, id: u16, child: &mut Child) -> Result<bool, Fail> {
+pub fn stops(rt: &HostRuntime, dir: &str, id: u16, child: &mut Child) -> Result<bool, Fail> {
     stops_with(rt, dir, id, child, "")
 }
 
@@ -250,7 +253,7 @@ fn comes_to_say(rt: &HostRuntime, dir: &str, id: u16, begin: &str) -> Result<boo
 }
 
 /// Asks a node how it stands. Whether it says at last that it is this far from the root.
-fn comes_to(rt: &HostRuntime, dir: &str, id: u16, distance: u16) -> Result<bool, Fail> {
+pub fn comes_to(rt: &HostRuntime, dir: &str, id: u16, distance: u16) -> Result<bool, Fail> {
     let begin = format!(in rt.alloc(); "node {id} distance {distance} ")?;
     comes_to_say(rt, dir, id, begin.as_str())
 }
@@ -272,7 +275,7 @@ fn freshen(rt: &HostRuntime, dir: &str, network: &str) -> Result<(), Fail> {
 
 /// Does something in a folder of this test's own that is not there yet, beside its network file,
 /// and removes what was made.
-fn in_folder<F: FnOnce(&str) -> Result<(), Fail>>(
+pub fn in_folder<F: FnOnce(&str) -> Result<(), Fail>>(
     rt: &HostRuntime,
     name: &str,
     network: &str,
@@ -467,15 +470,20 @@ fn three_nodes_serve_rewire_stop_and_start_again(rt: HostRuntime) -> Result<(), 
     in_folder(&rt, "three", LINE, |dir| run_again(&rt, dir))
 }
 
-/// Whether there are files of both sockets.
+/// Whether there are files of all sockets.
 fn has_sockets(rt: &HostRuntime, paths: &NodePaths) -> Result<bool, Fail> {
-    Ok(fs::exists(rt, paths.links.as_str())? && fs::exists(rt, paths.clients.as_str())?)
+    Ok(
+        fs::exists(rt, paths.links.as_str())?
+            && fs::exists(rt, paths.clients.as_str())?
+            && fs::exists(rt, paths.looks.as_str())?,
+    )
 }
 
-/// Removes the files of both sockets. Whether both come again.
+/// Removes the files of all sockets. Whether all come again.
 fn come_again(rt: &HostRuntime, paths: &NodePaths) -> Result<bool, Fail> {
     fs::remove_file(rt, paths.links.as_str())?;
     fs::remove_file(rt, paths.clients.as_str())?;
+    fs::remove_file(rt, paths.looks.as_str())?;
     for _ in 0..5_000u32 {
         if has_sockets(rt, paths)? {
             return Ok(true);
@@ -485,7 +493,7 @@ fn come_again(rt: &HostRuntime, paths: &NodePaths) -> Result<bool, Fail> {
     Ok(false)
 }
 
-/// Removes the files of a node's sockets. Whether both come again, while it runs.
+/// Removes the files of a node's sockets. Whether all come again, while it runs.
 fn makes_sockets_anew(rt: &HostRuntime, dir: &str, id: u16) -> Result<bool, Fail> {
     let paths = NodePaths::new(rt.alloc(), dir, id)?;
     come_again(rt, &paths)
@@ -644,7 +652,7 @@ fn keeper(rt: &HostRuntime, dir: &str) -> Result<Child, Fail> {
 }
 
 /// Runs a command to its end. Whether it ends with status 0.
-fn succeeds(rt: &HostRuntime, mut command: Command) -> Result<bool, Fail> {
+pub fn succeeds(rt: &HostRuntime, mut command: Command) -> Result<bool, Fail> {
     Ok(command.status(rt)?.success())
 }
 

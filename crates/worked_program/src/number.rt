@@ -150,13 +150,16 @@ fn a_number_has_one_spelling_and_a_range(rt: HostRuntime) -> Result<(), Fail> {
 
 /// Command lines whose number is refused: those of numbers that are not taken without a file, and
 /// those of a least number, or of a second one.
-const REFUSED: [(&str, u8); 11] = [
+const REFUSED: [(&str, u8); 14] = [
     ("tokentree lock absent +1", 2),
     ("tokentree lock absent 01", 2),
     ("tokentree lock absent 65536", 2),
     ("tokentree lock --timeout +1 absent 1", 2),
     ("tokentree lock --timeout 01 absent 1", 2),
     ("tokentree lock --timeout 65536 absent 1", 2),
+    ("tokentree lock --timeout 0.0001 absent 1", 2),
+    ("tokentree lock -E 0 absent 1", 2),
+    ("tokentree lock absent 1 --", 2),
     ("tokentree junk 1 01", 2),
     ("tokentree junk 1 1000001", 2),
     ("tokentree measure absent.toml --runs 0", 2),

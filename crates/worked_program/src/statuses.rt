@@ -10,7 +10,7 @@ use subcommands::bound;
 use test_parts::{as_told, is_told};
 
 /// A command line, and its status.
-const ROWS: [(&str, u8); 59] = [
+const ROWS: [(&str, u8); 79] = [
     ("tokentree bound two.toml", 0),
     ("tokentree bound -- two.toml", 0),
     ("tokentree bound --sharp two.toml", 0),
@@ -52,6 +52,9 @@ const ROWS: [(&str, u8); 59] = [
     ("tokentree node absent.toml +1 run", 2),
     ("tokentree node --hold 2001 absent.toml 0 run", 2),
     ("tokentree node --repeat 100001 absent.toml 0 run", 2),
+    ("tokentree node --turn 0 absent.toml 0 run", 2),
+    ("tokentree node --turn 3600000 absent.toml 0 run", 1),
+    ("tokentree up --turn 3600000.001 absent.toml run", 2),
     ("tokentree node two.toml 0", 2),
     ("tokentree up absent.toml run", 1),
     ("tokentree up two.toml", 2),
@@ -77,11 +80,28 @@ const ROWS: [(&str, u8); 59] = [
         "tokentree schedule two.toml --random 9 --seed 1 --loss 101",
         2,
     ),
+    ("tokentree network ring 3", 0),
+    ("tokentree network grid 8 8 --root 63", 0),
+    ("tokentree network random 5 --edges 10 --seed 7", 0),
+    ("tokentree network ring 2", 2),
+    ("tokentree network complete 24", 2),
+    ("tokentree network grid 8 9", 2),
+    ("tokentree network grid 8", 2),
+    ("tokentree network line 3 3", 2),
+    ("tokentree network line 3 --root 3", 2),
+    ("tokentree network line 3 --seed 7", 2),
+    ("tokentree network random 5 --edges 11", 2),
     ("tokentree measure two.toml --runs 3", 0),
     ("tokentree measure two.toml --runs 1 --random --table", 0),
     ("tokentree measure bad.toml --runs 1", 1),
     ("tokentree measure two.toml --runs 0", 2),
     ("tokentree measure two.toml --rounds --random", 2),
+    ("tokentree version", 0),
+    ("tokentree -v", 0),
+    ("tokentree lock --version", 0),
+    ("tokentree stop absent", 1),
+    ("tokentree stop", 2),
+    ("tokentree stop --timeout 65536 absent", 2),
 ];
 
 /// The files that the command lines name.

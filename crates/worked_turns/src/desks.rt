@@ -151,29 +151,23 @@ impl Desk {
         let Some(client) = self.get(ticket) else {
             return "";
         };
-        let node = self.node;
         if client.word != Some(Word::Deafens) {
-            self.put(
-                ticket,
-                Some(Client {
-                    word: None,
-                    ..client
-                }),
-            );
+            let word = None;
+            self.put(ticket, Some(Client { word, ..client }));
         }
-        match client.word {
-            Some(Word::Lock) => {
-                if !trip.happens(Mistake::Unasked) {
-                    account.hear(Deed::Asks { node, ticket });
-                }
-                "lock\n"
+        self.note(ticket, client.word, account, trip);
+        line_of(client.word)
+    }
+
+    /// Adds the deed that this word of a client is, if it is one.
+    fn note(&self, ticket: u16, word: Option<Word>, account: &Account, trip: &Trip) {
+        let node = self.node;
+        match word {
+            Some(Word::Lock) if !trip.happens(Mistake::Unasked) => {
+                account.hear(Deed::Asks { node, ticket });
             }
-            Some(Word::Unlock) => {
-                account.hear(Deed::Leaves { node, ticket });
-                "unlock\n"
-            }
-            Some(Word::Status | Word::Deafens) => "status\n",
-            _ => "",
+            Some(Word::Unlock) => account.hear(Deed::Leaves { node, ticket }),
+            _ => {}
         }
     }
 
@@ -186,5 +180,15 @@ impl Desk {
         let count = word.len().min(buffer.len());
         buffer[..count].copy_from_slice(&word[..count]);
         count
+    }
+}
+
+/// The line that a client writes for this word; none for one by which it goes.
+fn line_of(word: Option<Word>) -> &'static str {
+    match word {
+        Some(Word::Lock) => "lock\n",
+        Some(Word::Unlock) => "unlock\n",
+        Some(Word::Status | Word::Deafens) => "status\n",
+        _ => "",
     }
 }

@@ -145,6 +145,21 @@ fn turn_any(
     Ok(())
 }
 
+/// Some client may do something, some time passes, and some node takes a turn.
+fn make_turn(
+    runs: &mut [Run<'_>],
+    stage: &Stage,
+    replay: &mut Replay,
+    draws: &mut Draws,
+    now: &mut u64,
+) -> Result<(), Wrong> {
+    let nodes = runs.len().clamp(1, 64) as u32;
+    stir_client(stage, draws.below(nodes) as u16, draws);
+    *now = now.saturating_add(u64::from(draws.below(2000)));
+    let node = draws.below(nodes) as u16;
+    turn_any(runs, stage, replay, node, *now)
+}
+
 /// Makes all turns, or those up to the first in which something is wrong.
 fn make_turns(
     runs: &mut [Run<'_>],
@@ -152,17 +167,13 @@ fn make_turns(
     replay: &mut Replay,
     draws: &mut Draws,
 ) -> Ending {
-    let nodes = runs.len().clamp(1, 64) as u32;
-    let (mut now, mut half) = (0u64, 0);
+    let (mut now, mut half) = (0, 0);
     let mut wrong = None;
     for turn in 0..TURNS {
         if turn == TURNS / 2 {
             half = replay.counts().sweeps;
         }
-        stir_client(stage, draws.below(nodes) as u16, draws);
-        now = now.saturating_add(u64::from(draws.below(2000)));
-        let node = draws.below(nodes) as u16;
-        if let Err(found) = turn_any(runs, stage, replay, node, now) {
+        if let Err(found) = make_turn(runs, stage, replay, draws, &mut now) {
             wrong = Some((turn, found));
             break;
         }

@@ -1,11 +1,19 @@
+use Rattle.std.proofs.Common.{refl}
 use Rattle.node_loop.specs.Deeds.{IsOfClient}
-use Rattle.node_loop.proofs.Became.{joins}
+use Rattle.node_loop.proofs.Became.{joins, stays}
+use Rattle.node_loop.proofs.Lives.{stay, live-join}
 use Rattle.node_loop.proofs.service.serve_all.Goals.{then-contains, else-contains}
 use Rattle.node_loop.proofs.service.serve_all.Goals as goal
+
+pub loop-ticket-init : goal.loop-ticket-init
+loop-ticket-init g c = (stays IsOfClient c.args.node.now, stay g.P.Pipe.gave g.P.Pipe.took g.P.Pipe.counts c.args.clients.now c.args.clients.now refl)
 
 pub loop-ticket-preserved : goal.loop-ticket-preserved
 loop-ticket-preserved g c =
     elim c.if-contains.branch [
-      | then-contains w ↦ rw w.node-is (joins IsOfClient c.args.node.now c.loop-ticket.node w.serve-has_more.new.node c.loop-ticket.invariant w.serve-has_more.ensures)
-      | else-contains w ↦ rw w.node-is c.loop-ticket.invariant
+      | then-contains w ↦ rw (w.node-is, w.clients-is) (
+        joins IsOfClient c.args.node.now c.loop-ticket.node w.serve-has_more.new.node c.loop-ticket.invariant.0 w.serve-has_more.ensures.node,
+        live-join g.P.Pipe.gave g.P.Pipe.took g.P.Pipe.counts c.args.clients.now c.loop-ticket.clients w.serve-has_more.new.clients c.loop-ticket.invariant.1 w.serve-has_more.ensures.lives,
+      )
+      | else-contains w ↦ rw (w.node-is, w.clients-is) c.loop-ticket.invariant
     ]

@@ -1,11 +1,23 @@
+use Rattle.std.proofs.Common.{refl}
 use Rattle.node_loop.specs.Deeds.{IsOfClient}
-use Rattle.node_loop.proofs.Became.{joins}
+use Rattle.node_loop.proofs.Became.{joins, stays}
+use Rattle.node_loop.proofs.Lives.{stay, live-join}
 use Rattle.node_loop.proofs.service.serve_bytes.Goals.{in-Some, in_default}
 use Rattle.node_loop.proofs.service.serve_bytes.Goals as goal
 
+pub loop-byte-init : goal.loop-byte-init
+loop-byte-init g c = (stays IsOfClient c.args.node.now, stay g.P.Pipe.gave g.P.Pipe.took g.P.Pipe.counts c.args.clients.now c.args.clients.now refl)
+
 pub loop-byte-preserved : goal.loop-byte-preserved
 loop-byte-preserved g c =
+    let old = c.args.clients.now in
+    let mid = c.loop-byte.clients in
+    let pushed = c.push.new.self in
+    let lives = live-join g.P.Pipe.gave g.P.Pipe.took g.P.Pipe.counts old mid pushed c.loop-byte.invariant.1 c.push.ensures.lives in
     elim c.match-push.branch [
-      | in-Some w ↦ rw w.node-is (joins IsOfClient c.args.node.now c.loop-byte.node w.serve_line.new.node c.loop-byte.invariant w.serve_line.ensures)
-      | in_default w ↦ rw w.node-is c.loop-byte.invariant
+      | in-Some w ↦ rw (w.node-is, w.clients-is) (
+        joins IsOfClient c.args.node.now c.loop-byte.node w.serve_line.new.node c.loop-byte.invariant.0 w.serve_line.ensures.node,
+        live-join g.P.Pipe.gave g.P.Pipe.took g.P.Pipe.counts old pushed w.serve_line.new.clients lives w.serve_line.ensures.lives,
+      )
+      | in_default w ↦ rw (w.node-is, w.clients-is) (c.loop-byte.invariant.0, lives)
     ]

@@ -1,6 +1,7 @@
-use Rattle.std.proofs.Common.{◌≡◌, false, ap, subst}
+use Rattle.std.proofs.Common.{◌≡◌, false, ap, refl, subst}
 use Rattle.lock_desk.specs.Desk.{is_stranger}
 use Rattle.node_loop.proofs.Leaving.{known-tick}
+use Rattle.node_loop.proofs.Lives.{stay}
 use Rattle.node_loop.proofs.service.tick.Goals as goal
 
 pub returns-in-Granted-clause-connected : goal.returns-in-Granted-clause-connected
@@ -14,3 +15,6 @@ returns-in-Lost-clause-connected g c were =
     let node = c.args.node.now in
     let desk = ap (λ s. s.desk) c.tick-ticked.ensures.state in
     c.tell-in-Lost.ensures.connected (λ u known. were u (known-tick _ _ u node.desk.state (subst (λ d. is_stranger u d ≡ false) desk known)))
+
+pub returns-in-Quiet-clause-lives : goal.returns-in-Quiet-clause-lives
+returns-in-Quiet-clause-lives g c = stay g.P.Pipe.gave g.P.Pipe.took g.P.Pipe.counts c.args.clients.now c.args.clients.now refl

@@ -19,5 +19,5 @@ returns-clause-listens g c =
       wires = wired-join start.ports.items c.hear_hellos.new.self.ports.items wired
           (subst (λ ports. AreWired ports.items c.hear_hellos.new.self.ports.items) come c.hear_hellos.ensures.wires) c.connect.ensures.wires;
       hears = subst (λ x. Hears g.D.P.Pipe.gave g.D.P.Pipe.took g.D.P.Pipe.counts x heard wired c.pull_all.new.self.ports.items) before c.pull_all.ensures.hears;
-      serves = joins IsOfClient heard served c.leave_absent.new.node c.serve_all.ensures (leaves-are-clients served c.leave_absent.new.node c.leave_absent.ensures.node);
+      serves = joins IsOfClient heard served c.leave_absent.new.node c.serve_all.ensures.node (leaves-are-clients served c.leave_absent.new.node c.leave_absent.ensures.node);
     }

@@ -1,0 +1,151 @@
+#!/bin/sh
+# Does what a new user and an operator do on their first day, slips included, and says what is not as it should be: which
+# line on standard error names a mistake, how the program ends when its reader goes or the disk is full, that examples
+# recover, that nodes end by `stop`, what the completions of bash offer. Status 1 if anything is wrong.
+#
+#   bench/first_day.sh
+#
+# The program is ./tokentree, or what TOKENTREE names. It takes a minute.
+set -u
+cd "$(dirname "$0")/.." || exit 1
+program=${TOKENTREE:-./tokentree}
+"$program" --version >/dev/null || exit 1
+[ -n "${TOKENTREE:-}" ] || program=./crates/tokentree/out/tokentree
+program=$(realpath "$program")
+examples=$PWD/examples
+completions=$PWD/packaging/completions/tokentree.bash
+made=$(mktemp -d)
+running=
+# shellcheck disable=SC2086
+trap '[ -z "$running" ] || kill -9 $running 2>/dev/null; rm -rf "$made"' EXIT
+cd "$made" || exit 1
+found=0
+wrong() {
+    echo "first_day: $1" >&2
+    found=1
+}
+
+# The command ends with this status and these lines on standard error.
+#   ends STATUS LINES WORD ..
+ends() {
+    wanted=$1 lines=$2
+    shift 2
+    "$program" "$@" >output 2>said </dev/null
+    status=$?
+    [ "$status" -eq "$wanted" ] || wrong "$*: status $status, and not $wanted"
+    [ "$(cat said)" = "$lines" ] || wrong "$*: says $(cat said), and not $lines"
+}
+
+network() { printf 'nodes = 3\nroot = 0\ncapacity = 64\n%s\nedges = [[0, 1], [1, 2], [0, 2]]\n' "$1"; }
+network 'lease = 0' >ring.toml
+
+# Mistakes in files: which file, which key, which place; and the fixed line last.
+network 'leese = 0' >x.toml
+ends 1 "tokentree: x.toml: no key 'lease'; it has an unknown key 'leese'
+tokentree: network Missing" bound x.toml
+network 'lease = "0"' >x.toml
+ends 1 "tokentree: x.toml: key 'lease': must be an integer
+tokentree: network Shape" bound x.toml
+network 'lease = 70000' >x.toml
+ends 1 "tokentree: x.toml: key 'lease': 70000 must be an integer from 0 to 65535
+tokentree: network BadLease" bound x.toml
+sed 's/\[0, 2\]/[0, 3]/' ring.toml >x.toml
+ends 1 "tokentree: x.toml: key 'edges': in edge [0, 3] one is none of 3 nodes
+tokentree: network BadEdge" bound x.toml
+sed 's/, \[0, 2\]/, [1, 0]/' ring.toml >x.toml
+ends 1 "tokentree: x.toml: key 'edges': edge [0, 1] is there twice
+tokentree: network DoubleEdge" bound x.toml
+sed 's/, \[1, 2\], \[0, 2\]//' ring.toml >x.toml
+ends 1 "tokentree: x.toml: key 'edges': the edges do not join all nodes
+tokentree: network Apart" bound x.toml
+printf 'nodes = 3\nroot = \n' >x.toml
+"$program" bound x.toml 2>said
+grep -q '^tokentree: x.toml: line 2, column [0-9]*: ' said || wrong "a mistake of TOML names no line: $(cat said)"
+[ "$(tail -n 1 said)" = "tokentree: network NotToml" ] || wrong "the fixed line is not the last: $(cat said)"
+ends 1 "tokentree: absent.toml: No such file or directory (os error 2)
+tokentree: network Unreadable" bound absent.toml
+ends 1 "tokentree: .: is a folder
+tokentree: network Unreadable" bound .
+ends 1 "tokentree: .: is a folder
+tokentree: . is a folder, and ring.toml a file: FILE comes before DIR
+tokentree: network Unreadable" up . ring.toml
+ends 1 "tokentree: absent.txt: No such file or directory (os error 2)
+tokentree: events Unreadable" simulate ring.toml absent.txt
+
+# Mistakes in words: one line, and which help to try.
+for words in 'bound' 'bound --sharq ring.toml' 'bonud ring.toml' 'node --hold 2001 ring.toml 0 run' 'lock run one' \
+    'measure ring.toml --runs 0' 'draw ring.toml - --from 2 --to 1' ''; do
+    # shellcheck disable=SC2086
+    "$program" $words >output 2>said </dev/null
+    status=$?
+    { [ $status -eq 2 ] && [ "$(wc -l <said)" -eq 1 ] && grep -q '^tokentree: .*; try: tokentree help' said; } ||
+        wrong "'$words': status $status: $(cat said)"
+done
+for words in '--version' '-V' '-v' 'version' 'lock --version'; do
+    # shellcheck disable=SC2086
+    [ "$("$program" $words 2>&1)" = "$("$program" --version)" ] || wrong "'$words' does not show the version"
+done
+
+# A reader that goes, and a full disk.
+"$program" schedule ring.toml --rounds 100000 >schedule.txt
+for words in 'junk 1 1000000' 'schedule ring.toml --rounds 100000' 'simulate ring.toml schedule.txt' 'help lock' \
+    'help simulate'; do
+    # shellcheck disable=SC2086
+    { "$program" $words 2>said; echo $? >status; } | true
+    status=$(cat status)
+    { [ "$status" -eq 141 ] || [ "$status" -eq 0 ]; } && [ ! -s said ] || wrong "'$words | true': status $status: $(cat said)"
+    # shellcheck disable=SC2086
+    [ ! -w /dev/full ] || {
+        "$program" $words >/dev/full 2>said
+        { [ $? -eq 1 ] && grep -q '^tokentree: standard output: No space left' said; } ||
+            wrong "'$words > /dev/full': $(cat said)"
+    }
+done
+
+# The examples of the help recover.
+recovers() { awk '/^privileged/ { p = $2 } /^sweeps/ { s = $2; r = $4 } END { exit !(p <= 1 && s > 0 && r > 0) }' output; }
+for seed in 1 2 3 4 5 6 7; do
+    "$program" schedule "$examples/square.toml" --scramble $seed --rounds 600 >schedule.txt
+    "$program" simulate "$examples/square.toml" schedule.txt >output
+    recovers || wrong "the schedule of seed $seed does not recover: $(tail -n 1 output)"
+done
+
+# Nodes are ended by `stop`, and not twice.
+for node in 0 1 2; do
+    "$program" node ring.toml $node run >"node-$node" 2>&1 </dev/null &
+    running="$running $!"
+done
+for _ in $(seq 100); do grep -qs ready node-0 && grep -qs ready node-1 && grep -qs ready node-2 && break; sleep 0.1; done
+ends 0 '' stop run 1
+[ "$(cat output)" = 'node 1 has ended' ] || wrong "stop run 1 prints $(cat output)"
+ends 1 'tokentree: node 1 does not run in run' stop run 1
+ends 0 '' stop run
+[ ! -e run/stop-0 ] && [ ! -e run/stop-1 ] || wrong "a stop file stays"
+wait
+running=
+
+# What bash offers.
+command -v bash >/dev/null && bash --norc --noprofile -c '
+    source "$1"
+    wrong=0
+    offers() {
+        local wanted=$1
+        COMP_WORDS=("${@:2}") COMP_CWORD=$(($# - 2)) COMPREPLY=()
+        _tokentree
+        local got="${COMPREPLY[*]}"
+        [ "$got" = "$wanted" ] || { echo "first_day: bash offers <$got> and not <$wanted> after: ${*:2}" >&2; wrong=1; }
+    }
+    mkdir -p some && : >some/desk-0.sock && : >some/desk-2.sock
+    offers "0 2" tokentree lock some ""
+    offers "0 1 2" tokentree node ring.toml ""
+    offers "some" tokentree status so
+    offers "ring.toml" tokentree bound rin
+    offers "" tokentree lock some 0 -- ls --ti
+    offers "" tokentree lock some 0 ls --ti
+    offers "--timeout" tokentree lock --ti
+    offers "" tokentree lock --timeout ""
+    exit $wrong' bash "$completions"
+[ $? -eq 0 ] || found=1
+
+[ $found -ne 0 ] || echo "first_day: all is as it should be"
+exit $found

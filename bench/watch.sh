@@ -1,0 +1,97 @@
+#!/bin/sh
+# Watches a ring of three in a terminal, of tmux, and sees by captures of its pane that `status --watch` shows the tree, a
+# node that lends and one that is killed; that a small terminal does no harm; and that Ctrl-C ends it with status 0 and
+# leaves the terminal as it was. Then that blocks come one after the other where there is no terminal, and that jq reads
+# what --json prints of status, bound and measure. Prints a line for each, and ends with status 1 if one was not so.
+#
+# The program is ./tokentree, or what TOKENTREE names. Needs tmux, jq and stty.
+set -u
+cd "$(dirname "$0")/.."
+program=$(readlink -f "${TOKENTREE:-./tokentree}")
+made=$(mktemp -d /tmp/watch-XXXXXX)
+nodes=$made/nodes
+session=watch-$$
+found=0
+up=
+
+tidy() {
+    tmux kill-session -t "$session" 2>/dev/null
+    exec 3>&-
+    [ -z "$up" ] || wait "$up" 2>/dev/null
+    rm -rf "$made"
+}
+trap tidy EXIT
+trap 'exit 1' HUP INT TERM
+
+# hold WHAT COMMAND ..: says whether a command succeeds within five seconds.
+hold() {
+    what=$1
+    shift
+    for _ in 1 2 3 4 5 6 7 8 9 10; do
+        if "$@"; then
+            echo "right: $what"
+            return
+        fi
+        sleep 0.5
+    done
+    echo "WRONG: $what"
+    found=1
+}
+
+shows() { tmux capture-pane -p -t "$session" | grep -q -e "$1"; }
+shows_not() { ! shows "$1"; }
+said() { grep -q -e "$1" "$2"; }
+
+mkfifo "$made/input"
+"$program" up examples/ring-of-three.toml "$nodes" <"$made/input" >"$made/up" 2>&1 &
+up=$!
+exec 3>"$made/input"
+hold "the nodes answer" "$program" status "$nodes" >/dev/null 2>&1
+
+tmux new-session -d -s "$session" -x 80 -y 12
+watch="'$program' status $nodes --watch"
+tmux send-keys -t "$session" "stty -g >$made/before; $watch; echo ended \$? >$made/ended; stty -g >$made/after" Enter
+hold "the root stands at the left" shows '^node 0 distance 0'
+hold "a child stands under it" shows '^  node [12] distance 1'
+hold "the counts are shown" shows '^privileged [0-9]* lending 0'
+"$program" lock "$nodes" 2 -- sleep 6 &
+lock=$!
+hold "a loan is shown" shows 'node 2 distance 1 token lent [0-9]*'
+hold "the counts say it" shows 'lending 1'
+wait "$lock"
+tmux resize-window -t "$session" -x 12 -y 2
+sleep 1
+tmux resize-window -t "$session" -x 80 -y 12
+hold "it goes on after a resize" shows '^  node [12] distance 1'
+"$program" status "$nodes" 9 >/dev/null 2>"$made/never"
+hold "a node that never ran is told from a dead one" said 'node 9 never ran' "$made/never"
+tmux send-keys -t "$session" C-c
+hold "Ctrl-C ends it with 0" said '^ended 0$' "$made/ended"
+hold "the settings of the terminal are as they were" cmp -s "$made/before" "$made/after"
+hold "the picture is gone" shows_not '^privileged'
+
+timeout 2 "$program" status "$nodes" --watch --every 0.5 >"$made/blocks"
+hold "blocks have an empty line between" said '^$' "$made/blocks"
+hold "and no escapes" sh -c "! grep -q '$(printf '\033')' '$made/blocks'"
+timeout 2 "$program" status "$nodes" --watch --json >"$made/lines"
+hold "a watch gives JSON, a line a time" sh -c "[ \$(jq -c .lending '$made/lines' | wc -l) -gt 1 ]"
+"$program" status "$nodes" --json >"$made/json"
+hold "status --json" jq -e '.nodes | length == 3 and .[0].node == 0 and .[0].parent == null and .[1].distance == 1' "$made/json"
+"$program" bound examples/square.toml --json --sharp --time >"$made/json"
+hold "bound --json" jq -e '.sweeps == 461 and .sharp == 71 and .window_us == 12500 and (.parents | length) == 4' "$made/json"
+"$program" measure examples/two-nodes.toml --runs 10 --json >"$made/json"
+hold "measure --json" jq -e '.runs == 10 and .sharp == 35 and .least <= .most and .seeds == []' "$made/json"
+
+# check FOLDER FILE STATUS PATTERN: whether a check ends with this status, and a line that begins so.
+check() {
+    "$program" status "$1" --check "$2" >"$made/check"
+    [ $? -eq "$3" ] && said "^tokentree $4" "$made/check"
+}
+hold "a check is OK" check "$nodes" examples/ring-of-three.toml 0 'OK - .* | nodes=3 answering=3 '
+hold "another network is UNKNOWN" check "$nodes" examples/two-nodes.toml 3 'UNKNOWN - '
+hold "a folder that is none is UNKNOWN" check "$made/none" examples/ring-of-three.toml 3 'UNKNOWN - there is no folder'
+exec 3>&-
+wait "$up"
+up=
+hold "where nobody answers it is CRITICAL" check "$nodes" examples/ring-of-three.toml 2 'CRITICAL - no node answers'
+exit $found

@@ -1,0 +1,111 @@
+//! Files that are refused.
+ghost use Rattle.std.specs.Prelude.{◌≡◌, option_map};
+ghost use Rattle.fault_hints.specs.Kinds.{kind_text};
+
+use network_file::NetworkFault;
+use network_hints::hint;
+use std::fmt::Display;
+use std::fs::{Metadata, OpenOptions};
+use std::io::ErrorKind;
+use std::rt::Files;
+use std::{fs, io};
+use topology::NetFault;
+
+/// The most bytes that a network file may have.
+const MOST_BYTES: u64 = 1_048_576;
+
+/// Why a file is no network file, before it is read.
+fn kind_fault(is_folder: bool, is_file: bool, length: u64) -> Option<&'static str>
+    ensures { option_map (λ text. text.now) result ≡ kind_text is_folder is_file length }
+{
+    if is_folder {
+        Some("is a folder")
+    } else if !is_file {
+        Some("is no plain file")
+    } else if length > MOST_BYTES {
+        Some("has more than 1048576 bytes")
+    } else {
+        None
+    }
+}
+
+/// Says which file it is, and what is wrong with it.
+fn say<R: Eprint, D: Display + Drop>(rt: &R, file: &str, what: D) {
+    let _ = eprintln!(rt; "tokentree: {file}: {what}");
+}
+
+/// Says what is wrong with a network file that was refused.
+pub fn explain_network<R: Files + Eprint + AllocGlobal>(rt: &R, file: &str, fault: NetworkFault) {
+    match fault {
+        NetworkFault::Unreadable => explain_unreadable(rt, file),
+        NetworkFault::Refused(NetFault::Memory) => {}
+        NetworkFault::Refused(NetFault::Apart) => {
+            say(rt, file, "key 'edges': the edges do not join all nodes");
+        }
+        NetworkFault::Refused(_) => explain_text(rt, file),
+    }
+}
+
+/// Says why a network file cannot be read.
+fn explain_unreadable<R: Files + Eprint>(rt: &R, file: &str) {
+    match found(rt, file) {
+        Err(error) => say(rt, file, error),
+        Ok(found) => match kind_fault(found.is_dir(), found.is_file(), found.len()) {
+            Some(what) => say(rt, file, what),
+            None => explain_reading(rt, file),
+        },
+    }
+}
+
+/// What the system says of a file.
+fn found<F: Files>(files: &F, path: &str) -> io::Result<Metadata> {
+    fs::metadata(files, path)
+}
+
+/// Says what is wrong with the text of a network file.
+fn explain_text<R: Files + Eprint + AllocGlobal>(rt: &R, file: &str) {
+    match fs::read_to_string(rt, file) {
+        Err(error) if error.kind() == ErrorKind::InvalidData => say(
+            rt,
+            file,
+            "is no text in UTF-8",
+        ),
+        Err(error) => say(rt, file, error),
+        Ok(text) => {
+            if let Ok(Some(line)) = hint(rt.alloc(), file, text.as_str()) {
+                let _ = eprintln!(rt; "tokentree: {line}");
+            }
+        }
+    }
+}
+
+/// Says what the system said of a file that cannot be read, if it says so still.
+pub fn explain_reading<R: Files + Eprint>(rt: &R, path: &str) {
+    if let Err(error) = fs::open(rt, path) {
+        say(rt, path, error);
+    }
+}
+
+/// Says what the system said of a file that cannot be written, if it says so still.
+pub fn explain_writing<R: Files + Eprint>(rt: &R, path: &str) {
+    if let Err(error) = OpenOptions::new().write(true).open(rt, path) {
+        say(rt, path, error);
+    }
+}
+
+/// Says so if FILE is a folder and DIR a file.
+pub fn explain_swap<R: Files + Eprint>(rt: &R, file: &str, dir: &str) {
+    if is_folder(rt, file) && is_plain(rt, dir) {
+        let _ = eprintln!(rt;
+            "tokentree: {file} is a folder, and {dir} a file: FILE comes before DIR"
+        );
+    }
+}
+
+fn is_folder<F: Files>(files: &F, path: &str) -> bool {
+    matches!(found(files, path), Ok(found) if found.is_dir())
+}
+
+fn is_plain<F: Files>(files: &F, path: &str) -> bool {
+    matches!(found(files, path), Ok(found) if found.is_file())
+}

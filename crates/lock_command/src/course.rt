@@ -1,0 +1,164 @@
+//! What is due when, while the lock is taken once.
+ghost use Rattle.std.specs.Prelude.{◌≡◌};
+ghost use Rattle.lock_command.specs.Course.{new_course, timed, connected, closed, started};
+ghost use Rattle.lock_command.specs.Course.{given_back, asked_to_end, is_past, without_due};
+ghost use Rattle.lock_command.specs.Course.{killed_again, lacks_room, left_of, age_of};
+
+/// For how many milliseconds the node's word is awaited that it took the lock back.
+const WORD: u64 = 10_000;
+
+/// For how many milliseconds a command may run on that was asked to end; then it is killed.
+const GRACE: u64 = 3_000;
+
+/// After how many milliseconds whoever is left is killed again: it may have started somebody
+/// meanwhile.
+const KILL_AGAIN: u64 = 1_000;
+
+/// For how many milliseconds is rested between two looks for what a command started.
+const FAMILY_REST: u64 = 100;
+
+/// For how many milliseconds a connection may stand after which one was closed, and still count as
+/// one for which the node has no room.
+const CLOSING: u64 = 500;
+
+/// What time it is, and what is due when: in milliseconds since the lock was asked for.
+#[derive(Clone, Copy, Debug, PartialEq, Eq)]
+pub struct Course {
+    time: u64,
+    /// Since when the connection stands.
+    connected: u64,
+    /// Whether the node closed the connection before it.
+    was_closed: bool,
+    /// When the command was started, or the lock was granted.
+    started: u64,
+    /// When the time is up for which an answer is awaited.
+    due: Option<u64>,
+    /// When a command is killed that was asked to end.
+    kill_due: Option<u64>,
+}
+
+impl Course {
+    /// The lock is asked for, and waited for as long as this; without an end if nothing is given.
+    pub fn new(limit: Option<u32>) -> Course
+        ensures { result ≡ new_course limit }
+    {
+        Course {
+            time: 0,
+            connected: 0,
+            was_closed: false,
+            started: 0,
+            due: limit.map(u64::from),
+            kill_due: None,
+        }
+    }
+
+    /// It is this time now. The clock never goes back.
+    pub fn set_time(&mut self, now: u64)
+        ensures { self.new ≡ timed now self.old }
+    {
+        if self.time < now {
+            self.time = now;
+        }
+    }
+
+    /// The node closed the connection.
+    pub fn note_closed(&mut self)
+        ensures { self.new ≡ closed self.old }
+    {
+        self.was_closed = true;
+    }
+
+    /// There is a connection again.
+    pub fn note_connected(&mut self)
+        ensures { self.new ≡ connected self.old }
+    {
+        self.connected = self.time;
+    }
+
+    /// The lock is granted, and the command is started: nothing is due.
+    pub fn start(&mut self)
+        ensures { self.new ≡ started self.old }
+    {
+        self.due = None;
+        self.started = self.time;
+    }
+
+    /// The lock is given back, and the node's word is awaited.
+    pub fn give_back(&mut self)
+        ensures { self.new ≡ given_back self.old }
+    {
+        self.due = Some(self.time.saturating_add(WORD));
+    }
+
+    /// The command is asked to end.
+    pub fn ask_to_end(&mut self)
+        ensures { self.new ≡ asked_to_end self.old }
+    {
+        self.kill_due = Some(self.time.saturating_add(GRACE));
+    }
+
+    /// Whether the time is up. It is so once.
+    pub fn takes_time_up(&mut self) -> bool
+        ensures up { result ≡ is_past self.old.due self.old.time }
+        ensures once { self.new ≡ without_due result self.old }
+    {
+        let is_up = is_past(self.due, self.time);
+        if is_up {
+            self.due = None;
+        }
+        is_up
+    }
+
+    /// Whether the command is to be killed now. It is so again a second later.
+    pub fn takes_kill(&mut self) -> bool
+        ensures due { result ≡ is_past self.old.kill_due self.old.time }
+        ensures again { self.new ≡ killed_again result self.old }
+    {
+        let is_due = is_past(self.kill_due, self.time);
+        if is_due {
+            self.kill_due = Some(self.time.saturating_add(KILL_AGAIN));
+        }
+        is_due
+    }
+
+    /// Whether the node has no room for a client: it closed a connection, and the next one has not
+    /// stood for half a second.
+    pub fn lacks_room(&self) -> bool
+        ensures { result ≡ lacks_room self.now }
+    {
+        self.was_closed && self.time.saturating_sub(self.connected) < CLOSING
+    }
+
+    /// For how long a command has run that runs.
+    pub fn age(&self, is_running: bool) -> Option<u64>
+        ensures { result ≡ age_of is_running self.now }
+    {
+        if is_running {
+            Some(self.time.saturating_sub(self.started))
+        } else {
+            None
+        }
+    }
+
+    /// In how many milliseconds something is due: the next look for what the command started, if that
+    /// is awaited.
+    pub fn left(&self, is_family: bool) -> Option<u64>
+        ensures { result ≡ left_of is_family self.now }
+    {
+        if is_family {
+            Some(FAMILY_REST)
+        } else {
+            self.due.map(|due| due.saturating_sub(self.time))
+        }
+    }
+}
+
+/// Whether something is due.
+fn is_past(due: Option<u64>, now: u64) -> bool
+    ensures { result ≡ is_past due now }
+{
+    match due {
+        Some(due) => due <= now,
+        None => false,
+    }
+}

@@ -1,0 +1,140 @@
+//! Which node of a folder answers first.
+ghost use Rattle.std.specs.Prelude.{◌≡◌, IfOk, IfErr, ℕ};
+ghost use Rattle.lock_command.specs.Reaching.{IsUnanswered, IsUnread, unread_notice};
+
+use crate::desk::{Desk, Heard};
+use crate::notice::Notice;
+use lock_desk::ClientLine;
+use node_texts::desk_file::{desk_path, node_of};
+use std::alloc::AllocError;
+use std::io::ErrorKind;
+use std::net::Net;
+use std::rt::{Clock, Files};
+use std::time::Duration;
+use std::{fs, io, thread};
+
+/// How often the nodes are looked at, and how many milliseconds the rest between two looks is: a
+/// second in all.
+const LOOKS: u32 = 1000;
+
+const BETWEEN_LOOKS: u64 = 1;
+
+/// Connects to all nodes that have a socket in a folder, and answers the desk of the one that is the
+/// first to say how it stands.
+///
+/// # Errors
+/// Why there is none: there is no such folder, it may not be read, it has no socket, nobody listens,
+/// or nobody answers within a second.
+pub fn reach_first<'a, R: Net + Files + Clock + AllocGlobal>(
+    rt: &R,
+    folder: &'a str,
+) -> Result<Desk, Notice<'a>>
+    ensures { IfErr result (λ notice. IsUnanswered folder.entry notice) }
+{
+    let nodes = nodes_in(rt, folder)?;
+    if nodes.is_empty() {
+        return Err(Notice::NoSockets(folder));
+    }
+    let Ok(mut desks) = ask_all(rt, folder, nodes.as_slice()) else {
+        return Err(Notice::Memory);
+    };
+    if desks.is_empty() {
+        return Err(Notice::NobodyListens(folder));
+    }
+    match wait_for_one(rt, &mut desks) {
+        Some(desk) => Ok(desk),
+        None => Err(Notice::NoAnswer(folder)),
+    }
+}
+
+/// Waits until one of the nodes has answered, for a second at most.
+fn wait_for_one<R: Clock>(rt: &R, desks: &mut Vec<Desk>) -> Option<Desk> {
+    for _ in 0..LOOKS {
+        let found = take_first(desks);
+        if found.is_some() {
+            return found;
+        }
+        thread::sleep(rt, Duration::from_millis(BETWEEN_LOOKS));
+    }
+    None
+}
+
+/// Takes the first desk out at which a line came.
+fn take_first(desks: &mut Vec<Desk>) -> Option<Desk> {
+    for at in 0..desks.len() {
+        if let Some(desk) = desks.get_mut(at)
+            && matches!(desk.hear(), Heard::Line(_))
+            && at < desks.len()
+        {
+            return Some(desks.swap_remove(at));
+        }
+    }
+    None
+}
+
+/// Asks each of these nodes how it stands, and keeps the connections that there are.
+fn ask_all<R: Net + AllocGlobal>(
+    rt: &R,
+    folder: &str,
+    nodes: &[u16],
+) -> Result<Vec<Desk>, AllocError> {
+    let mut desks = Vec::new(rt.alloc());
+    for node in nodes {
+        let path = desk_path(rt.alloc(), folder, *node)?;
+        if let Ok(desk) = ask(rt, path.as_str(), *node) {
+            desks.push(desk)?;
+        }
+    }
+    Ok(desks)
+}
+
+/// Connects to a node, and asks it how it stands.
+fn ask<R: Net>(rt: &R, path: &str, node: u16) -> io::Result<Desk> {
+    let mut desk = Desk::connect(rt, path, node)?;
+    desk.write(ClientLine::Status)?;
+    Ok(desk)
+}
+
+/// The nodes that have a socket in a folder, by ascending id.
+fn nodes_in<'a, R: Files + AllocGlobal>(rt: &R, folder: &'a str) -> Result<Vec<u16>, Notice<'a>>
+    ensures { IfErr result (λ notice. IsUnread folder.entry notice) }
+{
+    let mut nodes = Vec::new(rt.alloc());
+    match add_sockets(rt, folder, &mut nodes) {
+        Ok(()) => {
+            nodes.sort_unstable();
+            Ok(nodes)
+        }
+        Err(error) => Err(why_unread(error.kind(), folder)),
+    }
+}
+
+/// Adds the nodes of the sockets in a folder.
+fn add_sockets<R: Files + AllocGlobal>(
+    rt: &R,
+    folder: &str,
+    nodes: &mut Vec<u16>,
+) -> io::Result<()> {
+    for entry in fs::read_dir(&rt, folder)? {
+        // What has a name that is no text is no desk's.
+        let Ok(entry) = entry else {
+            continue;
+        };
+        if let Some(node) = node_of(entry.file_name().as_bytes()) {
+            nodes.push(node)?;
+        }
+    }
+    Ok(())
+}
+
+/// Why a folder is not read, by what the system answered.
+fn why_unread<'a>(kind: ErrorKind, folder: &'a str) -> Notice<'a>
+    ensures { result ≡ unread_notice kind folder.entry }
+{
+    match kind {
+        ErrorKind::NotFound | ErrorKind::NotADirectory => Notice::NoFolder(folder),
+        ErrorKind::OutOfMemory => Notice::Memory,
+        ErrorKind::Uncategorized => Notice::System,
+        _ => Notice::Forbidden(folder),
+    }
+}

@@ -1,0 +1,42 @@
+//! The machine of a guard, driven by what happens around it.
+ghost use Rattle.std.specs.Prelude.{◌≡◌, Some, [], ◌∷◌, ◌++◌, List, Option};
+ghost use Rattle.std.specs.Option.{option_map};
+ghost use Rattle.lock_client.specs.declared.guard.GuardEvent.{GuardEvent};
+ghost use Rattle.lock_command.specs.GuardDriving.{IsOver};
+
+use lock_client::{Guard, GuardDeed, GuardEvent};
+use std::sync::Wait;
+
+/// What is around a guard: a client, its command, a clock, which happen as they happen.
+pub trait Guarded {
+    /// What it has said happened, in order; none if nobody keeps that.
+    ghost told: { Self → Option (List GuardEvent) };
+
+    /// Waits for the next thing that happens, and says what it is: for what the client says, or for
+    /// what a look finds after a rest of so many milliseconds, as `deed` has it.
+    fn next_event(&mut self, deed: GuardDeed, rest: u64) -> GuardEvent
+        ensures { told self.new ≡ option_map (λ events. events ++ result ∷ []) (told self.old) };
+
+    /// Does what is to be done now.
+    fn act(&mut self, deed: GuardDeed)
+        ensures { told self.new ≡ told self.old };
+}
+
+/// Lets happen what happens, until the lock is given back: a guard hears each thing, and what the
+/// guard answers is done. It ends only when the guard is over by all that happened.
+pub fn drive_guard<R: Wait, S: Guarded>(rt: &R, guarded: &mut S, keeps_running: bool)
+    ensures { S.told guarded.old ≡ Some [] → IsOver keeps_running (S.told guarded.new) }
+{
+    let mut guard = Guard::new(keeps_running);
+    let mut deed = GuardDeed::Listen;
+    for _ in rt.forever() {
+        let event = guarded.next_event(deed, guard.rest());
+        let next = guard.step(event);
+        if let GuardDeed::End = next {
+            return;
+        }
+        guarded.act(next);
+        deed = next;
+    }
+    unreachable!()
+}

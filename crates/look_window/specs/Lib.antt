@@ -1,0 +1,3 @@
+pub mod NodeLook
+pub mod Lookers
+pub mod Laws

@@ -1,0 +1,17 @@
+-- What becomes of a looker.
+use Rattle.std.specs.Prelude.{◌≡◌, ℕ, Bool, false, ◌==◌, List, length, Option}
+use Rattle.socket_links.specs.Counts.{Counts}
+use Rattle.socket_links.specs.Pipes.{Writes}
+use Rattle.socket_links.specs.declared.pipe.WriteAnswer.{WriteAnswer}
+use Rattle.socket_links.specs.declared.pipe.WriteAnswer.TheVariants.{Wrote, Later, Failed}
+
+-- a write took all of these bytes
+abbrev pub is_whole : WriteAnswer → List ℕ → Bool
+is_whole (Wrote count) bytes = count == length bytes
+is_whole _ bytes = false
+
+-- the line was written to the looker once, as its pipe answered, and said whole if it took all of it
+abbrev pub IsShown : {P : Type 0} → (P → Option (List ℕ)) → (P → Counts) → List ℕ → P → P → Bool → Type 0
+IsShown took counts line old new whole =
+    (answer : WriteAnswer) × Writes answer line (took old) (took new) (counts old) (counts new)
+    × (whole ≡ is_whole answer line)

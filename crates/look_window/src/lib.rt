@@ -1,0 +1,28 @@
+//! The window into a node: who is shown how it stands, and what they are shown.
+//!
+//! Whoever connects to a node's socket for lookers gets one line, a JSON object, and is closed. Nothing is
+//! read from them.
+//!
+//! ```
+//! let line = line_of_node(alloc, node, &notes, &process, now)?;    // the node's own line, as it stands now
+//! for place in 0..COMERS {
+//!     let Some(mut looker) = doors.looker() else { break };
+//!     if is_let_in(place) {
+//!         show(&mut looker, line.as_bytes());
+//!     }
+//! }                                                           // each looker is closed as it is dropped
+//! ```
+//!
+//! Of those who come between two turns 64 are shown the line, and further ones are closed. A new socket of
+//! Linux takes 100 KB at once, and no line has more than 8 KB. So each line goes out in one write, a looker
+//! that reads nothing keeps nothing waiting, and nobody is kept from one turn to the next.
+//!
+//! The trap: a looker that reads nothing before the end came as the 65th. It asks again.
+#![tactic(auto)]
+
+pub mod laws;
+mod line;
+mod lookers;
+
+pub use line::{ProcessSaid, line_of_node};
+pub use lookers::{COMERS, LOOKERS, is_let_in, show};

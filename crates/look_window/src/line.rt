@@ -1,0 +1,46 @@
+//! The line for whoever looks at a node.
+ghost use Rattle.std.specs.Prelude.{◌≡◌, ◌<◌, IfOk, length, string_bytes};
+ghost use Rattle.node_core.specs.View.{site_in, state_of};
+ghost use Rattle.look_window.specs.NodeLook.{node_look};
+
+use node_core::Node;
+use node_texts::{LoanPart, Look, ProcessPart, TurnPart, link_parts, look_line, status_of};
+use std::alloc::{AllocError, Allocator, Global};
+use turn_watch::Notes;
+
+/// What a node says of its process.
+#[derive(Clone, Copy)]
+pub struct ProcessSaid<'a> {
+    /// The process.
+    pub process: ProcessPart,
+    /// The version of the program, in letters, digits and dots.
+    pub version: &'a str,
+}
+
+/// The line for whoever looks at this node at that time, with its newline: what its status line says, and
+/// what was noted of its links, loans and turns.
+///
+/// # Errors
+/// Where memory runs out.
+pub fn line_of_node<A: Allocator>(
+    alloc: Global,
+    node: &Node<A>,
+    notes: &Notes,
+    said: &ProcessSaid<'_>,
+    now: u64,
+) -> Result<String, AllocError>
+    ensures line { IfOk result (λ line. string_bytes line ≡ node_look (site_in node.now)
+        (state_of node.now) notes.now said.now.process said.now.version.now now) }
+    ensures some { IfOk result (λ line. 0 < length (string_bytes line)) }
+{
+    let links = link_parts(alloc, node.neighbours(), notes, now)?;
+    let look = Look {
+        status: status_of(node),
+        links: links.as_slice(),
+        loans: LoanPart::of(notes.loans(), now),
+        turns: TurnPart::of(notes.turns(), notes.limit(), now),
+        process: said.process,
+        version: said.version,
+    };
+    look_line(alloc, &look)
+}

@@ -1,0 +1,2 @@
+mod EdgesRead
+mod RowsHints

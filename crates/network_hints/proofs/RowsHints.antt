@@ -1,0 +1,33 @@
+-- Small examples of what is said of a network file, and some with nothing to say.
+use Rattle.std.proofs.Common.{◌≡◌, pos, [], ◌∷◌, Some, None, codes, refl}
+use Rattle.network_hints.specs.declared.key.Key.TheVariants.{Lease, Capacity}
+use Rattle.network_hints.specs.declared.flaw.Flaw.TheVariants.{NoKey, OutOfRange, NoNode, Loop, Twice}
+use Rattle.network_hints.specs.HintText.{flaw_text}
+use Rattle.network_hints.specs.Values.{range_flaw, edge_flaw}
+use Rattle.network_hints.specs.Places.{place_after}
+
+says-key : flaw_text (NoKey Lease) ≡ codes "no key 'lease'"
+says-key = refl
+
+finds-range : range_flaw Capacity (pos 0) (pos 1) (pos 4096) ≡ Some (OutOfRange Capacity (pos 0) (pos 1) (pos 4096))
+finds-range = refl
+
+finds_not-range : range_flaw Capacity (pos 1) (pos 1) (pos 4096) ≡ None
+finds_not-range = refl
+
+-- node 2 of two, before the edge from it to itself
+finds-node : edge_flaw (pos 2) ((pos 0, pos 1) ∷ (pos 2, pos 2) ∷ []) ≡ Some (NoNode (pos 2) (pos 2) (pos 2))
+finds-node = refl
+
+finds-loop : edge_flaw (pos 3) ((pos 0, pos 1) ∷ (pos 2, pos 2) ∷ []) ≡ Some (Loop (pos 2))
+finds-loop = refl
+
+finds-twice : edge_flaw (pos 3) ((pos 0, pos 1) ∷ (pos 1, pos 2) ∷ (pos 1, pos 0) ∷ []) ≡ Some (Twice (pos 0) (pos 1))
+finds-twice = refl
+
+finds_not-edge : edge_flaw (pos 2) ((pos 0, pos 1) ∷ []) ≡ None
+finds_not-edge = refl
+
+-- after `a`, a newline and a character of two bytes
+counts-place : place_after (97 ∷ 10 ∷ 195 ∷ 164 ∷ []) ≡ (2, 2)
+counts-place = refl

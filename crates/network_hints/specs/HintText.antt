@@ -1,0 +1,40 @@
+-- What is said of a network file that is refused.
+use Rattle.std.specs.Prelude.{ℕ, ℤ, List, ◌++◌, Option, Some, None, codes, decimal}
+use Rattle.std.specs.Fmt.{signed_decimal}
+use Rattle.std.specs.Borrow.{Bor}
+use Rattle.network_hints.specs.Keys.{key_name}
+use Rattle.network_hints.specs.declared.flaw.Flaw.{Flaw}
+use Rattle.network_hints.specs.declared.flaw.Flaw.TheVariants.{NoKey, NoInteger, NoArray, NoEdge, OutOfRange}
+use Rattle.network_hints.specs.declared.flaw.Flaw.TheVariants.{TooMany, NoRoot, NoNode, Loop, Twice}
+
+-- an edge as a file has it
+abbrev pub edge_text : ℤ → ℤ → List ℕ
+edge_text one other =
+    codes "[" ++ (signed_decimal one ++ (codes ", " ++ (signed_decimal other ++ codes "]")))
+
+-- that it is none of so many nodes
+abbrev pub none_of_text : ℤ → List ℕ
+none_of_text nodes = codes " is none of " ++ (signed_decimal nodes ++ codes " nodes")
+
+-- which key or edge it is, and what it must be
+abbrev pub flaw_text : Flaw → List ℕ
+flaw_text (NoKey key) = codes "no key '" ++ (key_name key ++ codes "'")
+flaw_text (NoInteger key) = codes "key '" ++ (key_name key ++ codes "': must be an integer")
+flaw_text NoArray = codes "key 'edges': must be an array of edges, as [[0, 1], [1, 2]]"
+flaw_text (NoEdge place) =
+    codes "key 'edges': edge " ++ (decimal place ++ codes " must be two integers, as [0, 1]")
+flaw_text (OutOfRange key value least most) =
+    codes "key '" ++ (key_name key ++ (codes "': " ++ (signed_decimal value
+    ++ (codes " must be an integer from " ++ (signed_decimal least ++ (codes " to " ++ signed_decimal most))))))
+flaw_text (TooMany count) = codes "key 'edges': " ++ (decimal count ++ codes " edges are more than 256")
+flaw_text (NoRoot root nodes) = codes "key 'root': " ++ (signed_decimal root ++ none_of_text nodes)
+flaw_text (NoNode one other nodes) =
+    codes "key 'edges': in edge " ++ (edge_text one other ++ (codes " one" ++ none_of_text nodes))
+flaw_text (Loop node) = codes "key 'edges': edge " ++ (edge_text node node ++ codes " joins a node with itself")
+flaw_text (Twice one other) = codes "key 'edges': edge " ++ (edge_text one other ++ codes " is there twice")
+
+-- the file, what is wrong, and the unknown key that is like the missing one
+abbrev pub hint_text : List ℕ → Flaw → Option (Bor (List ℕ)) → List ℕ
+hint_text file flaw None = file ++ (codes ": " ++ flaw_text flaw)
+hint_text file flaw (Some like) =
+    file ++ (codes ": " ++ (flaw_text flaw ++ (codes "; it has an unknown key '" ++ (like.now ++ codes "'"))))

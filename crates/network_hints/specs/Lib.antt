@@ -1,0 +1,7 @@
+pub mod Keys
+pub mod HintText
+pub mod Values
+pub mod ValuesView
+pub mod Reading
+pub mod Likeness
+pub mod Places

@@ -1,0 +1,140 @@
+//! What is wrong with a network file.
+use crate::key::Key;
+use std::fmt;
+
+/// What is wrong with the values of a network file.
+#[derive(Clone, Copy, Debug, PartialEq, Eq)]
+pub enum Flaw {
+    /// There is no such key.
+    NoKey(Key),
+    /// The value is no integer.
+    NoInteger(Key),
+    /// The edges are no array.
+    NoArray,
+    /// The edge at this place, the first being 1, is no array of two integers.
+    NoEdge(usize),
+    /// The value is not in the range from the first number to the second.
+    OutOfRange(Key, i64, i64, i64),
+    /// There are more than 256 edges.
+    TooMany(usize),
+    /// The root is none of so many nodes.
+    NoRoot(i64, i64),
+    /// The edge names a node that is none of so many.
+    NoNode(i64, i64, i64),
+    /// An edge joins the node with itself.
+    Loop(i64),
+    /// The edge stands there twice, either way round.
+    Twice(i64, i64),
+}
+
+impl fmt::Display for Flaw {
+    ghost use Rattle.std.specs.Prelude.{Some};
+    ghost use Rattle.network_hints.specs.HintText.{flaw_text};
+
+    ghost output = { λ flaw. Some (flaw_text flaw) };
+
+    fn fmt<W: fmt::Write>(&self, f: &mut fmt::Formatter<W>) -> fmt::Result {
+        match *self {
+            Flaw::NoKey(key) => write!(f, "no key '{}'", key.name()),
+            Flaw::NoInteger(key) => write!(f, "key '{}': must be an integer", key.name()),
+            Flaw::NoArray => {
+                f.write_str("key 'edges': must be an array of edges, as [[0, 1], [1, 2]]")
+            }
+            Flaw::NoEdge(place) => {
+                write!(
+                    f,
+                    "key 'edges': edge {place} must be two integers, as [0, 1]"
+                )
+            }
+            Flaw::OutOfRange(key, value, least, most) => write!(
+                f,
+                "key '{}': {value} must be an integer from {least} to {most}",
+                key.name()
+            ),
+            Flaw::TooMany(count) => write!(f, "key 'edges': {count} edges are more than 256"),
+            Flaw::NoRoot(root, nodes) => {
+                f.write_str("key 'root': ")?;
+                f.write(root)?;
+                f.write(NoneOf(nodes))
+            }
+            Flaw::NoNode(one, other, nodes) => {
+                f.write_str("key 'edges': in edge ")?;
+                f.write(Edge(one, other))?;
+                f.write_str(" one")?;
+                f.write(NoneOf(nodes))
+            }
+            Flaw::Loop(node) => {
+                f.write_str("key 'edges': edge ")?;
+                f.write(Edge(node, node))?;
+                f.write_str(" joins a node with itself")
+            }
+            Flaw::Twice(one, other) => {
+                f.write_str("key 'edges': edge ")?;
+                f.write(Edge(one, other))?;
+                f.write_str(" is there twice")
+            }
+        }
+    }
+}
+
+/// An edge, as a file has it.
+#[derive(Clone, Copy, Debug)]
+struct Edge(i64, i64);
+
+impl fmt::Display for Edge {
+    ghost use Rattle.std.specs.Prelude.{Some};
+    ghost use Rattle.network_hints.specs.HintText.{edge_text};
+
+    ghost output = { λ edge. Some (edge_text edge.0 edge.1) };
+
+    fn fmt<W: fmt::Write>(&self, f: &mut fmt::Formatter<W>) -> fmt::Result {
+        f.write_str("[")?;
+        f.write(self.0)?;
+        f.write_str(", ")?;
+        f.write(self.1)?;
+        f.write_str("]")
+    }
+}
+
+/// That it is none of so many nodes.
+#[derive(Clone, Copy, Debug)]
+struct NoneOf(i64);
+
+impl fmt::Display for NoneOf {
+    ghost use Rattle.std.specs.Prelude.{Some};
+    ghost use Rattle.network_hints.specs.HintText.{none_of_text};
+
+    ghost output = { λ nodes. Some (none_of_text nodes.0) };
+
+    fn fmt<W: fmt::Write>(&self, f: &mut fmt::Formatter<W>) -> fmt::Result {
+        f.write_str(" is none of ")?;
+        f.write(self.0)?;
+        f.write_str(" nodes")
+    }
+}
+
+/// A flaw, with an unknown key that is like the one that is missing.
+#[derive(Clone, Copy, Debug, PartialEq, Eq)]
+pub struct Hint<'a> {
+    /// The network file.
+    pub file: &'a str,
+    /// What is wrong.
+    pub flaw: Flaw,
+    /// The unknown key.
+    pub like: Option<&'a str>,
+}
+
+impl fmt::Display for Hint<'_> {
+    ghost use Rattle.std.specs.Prelude.{Some};
+    ghost use Rattle.network_hints.specs.HintText.{hint_text};
+
+    ghost output = { λ hint. Some (hint_text hint.file.now hint.flaw hint.like) };
+
+    fn fmt<W: fmt::Write>(&self, f: &mut fmt::Formatter<W>) -> fmt::Result {
+        let (file, flaw) = (self.file, self.flaw);
+        match self.like {
+            None => write!(f, "{file}: {flaw}"),
+            Some(like) => write!(f, "{file}: {flaw}; it has an unknown key '{like}'"),
+        }
+    }
+}

@@ -1,0 +1,60 @@
+//! The hint of a text.
+ghost use Rattle.std.specs.Prelude.{◌≡◌};
+ghost use Rattle.network_hints.specs.Places.{place_after, step};
+
+use crate::flaw::{Flaw, Hint};
+use crate::likeness::like;
+use crate::reading::table_flaw;
+use std::alloc::{AllocError, Global};
+use toml::Table;
+
+/// What is wrong with the text of this file, in a line; none if nothing is, as far as it is looked for.
+///
+/// # Errors
+/// If memory runs out.
+pub fn hint(alloc: Global, file: &str, text: &str) -> Result<Option<String>, AllocError> {
+    match toml::table_from_str(alloc, text) {
+        Ok(table) => table_hint(alloc, file, &table),
+        Err(error) => match error.span() {
+            None => Err(AllocError),
+            Some(span) => {
+                let (line, column) = place_after(&text.as_bytes()[..span.start]);
+                let message = error.message();
+                Ok(Some(format!(in alloc; "{file}: line {line}, column {column}: {message}")?))
+            }
+        },
+    }
+}
+
+/// What is wrong with a table.
+fn table_hint(alloc: Global, file: &str, table: &Table) -> Result<Option<String>, AllocError> {
+    let Some(flaw) = table_flaw(alloc, table)? else {
+        return Ok(None);
+    };
+    let like = match flaw {
+        Flaw::NoKey(key) => like(alloc, table, key)?,
+        _ => None,
+    };
+    let hint = Hint { file, flaw, like };
+    Ok(Some(format!(in alloc; "{hint}")?))
+}
+
+/// The line and the column, both from 1, of the place after these bytes. A column counts characters.
+fn place_after(before: &[u8]) -> (u64, u64)
+    ensures { result ≡ place_after before.now }
+{
+    before.iter().fold((1, 1), |place, byte| step(place, *byte))
+}
+
+/// The place after one more byte.
+fn step(place: (u64, u64), byte: u8) -> (u64, u64)
+    ensures { result ≡ step place byte }
+{
+    if byte == b'\n' {
+        (place.0.saturating_add(1), 1)
+    } else if (0x80..0xc0).contains(&byte) {
+        place
+    } else {
+        (place.0, place.1.saturating_add(1))
+    }
+}

@@ -1,0 +1,4 @@
+pub mod Kinds
+pub mod Random
+pub mod Made
+pub mod Text

@@ -1,0 +1,28 @@
+//! Networks by name: the usual graphs of a laboratory, and the text of a network.
+//!
+//! ```
+//! let net = network_of(alloc, Kind::Ring, 5, 0, 1, 0)?;      // five nodes, root 0, capacity 1, no lease
+//! let text = network_text(alloc, &net)?;                     // the network file that names it
+//! ```
+//!
+//! [`edges_of`] gives the edges of a kind on as many nodes; each kind is a test of pairs of nodes, but
+//! for random graphs, which are drawn from a seed. [`network_text`] is the other way round of
+//! `Net::read`: for every network, the text reads as exactly that network.
+//!
+//! The trap: not every kind has every number of nodes. A complete graph of more than 23 nodes has more
+//! edges than a network may have; [`network_of`] refuses it, as it refuses any network that is beyond
+//! the limits. [`least_nodes`] and [`most_nodes`] are the range of a kind.
+//!
+//! The kinds are those of every book on graphs; the random ones are random recursive trees with
+//! further edges.
+#![tactic(auto)]
+
+mod kind;
+mod make;
+mod random;
+mod text;
+
+pub use kind::{Kind, least_nodes, most_nodes, pairs, regular_edges};
+pub use make::{edges_of, network_of};
+pub use random::random_edges;
+pub use text::network_text;

@@ -1,0 +1,104 @@
+-- Clients that live on, one call after the other.
+use Rattle.std.proofs.Common.{◌≡◌, ◌≢◌, ◌⊎◌, ◌<◌, ◌∙◌, ◌&&◌, ◌==◌, not, ℕ, true, false, List, Option, None, Some, refl, sym, subst, ap, inl, inr, arith}
+use Rattle.std.specs.Prelude.{is_some, IsSome}
+use Rattle.std.proofs.lemmas.Grind.{common_steps}
+use Rattle.std.proofs.lemmas.Bool.Decides.{nat_tests}
+use Rattle.slab.specs.Slab.{Slab, get, with_value}
+use Rattle.slab.proofs.SlabLemmas.{Updates-with_value}
+use Rattle.socket_links.specs.Counts.{Counts}
+use Rattle.socket_links.specs.declared.pipe.ReadAnswer.TheVariants as read
+use Rattle.node_loop.specs.declared.clients.Client.{Client}
+use Rattle.node_loop.specs.declared.clients.Clients.{Clients}
+use Rattle.node_loop.specs.Clients.{is_connected}
+use Rattle.node_loop.proofs.Speaking.{apart}
+use Rattle.node_loop.specs.Lives.{Lives, Stays, Gave, Gives_later, Then, LivesAt, LiveOn, ReadsAt, OthersStay}
+
+one-of-three : (t k : ℕ) → (t ≡ k) ⊎ ((t < k) ⊎ (k < t))
+one-of-three t k = grind arith
+
+-- a ticket is this one or another
+tested : (t k : ℕ) → (t ≡ k) ⊎ (t ≢ k)
+tested t k =
+    elim (one-of-three t k) [
+      | inl same ↦ inl same
+      | inr (inl less) ↦ inr (λ same. apart t k less same)
+      | inr (inr more) ↦ inr (λ same. apart k t more (sym same))
+    ]
+
+nobody : {X : Type 0} (x : Option X) → is_some x ≡ false → x ≡ None
+nobody None e = refl
+nobody (Some c) e = grind (arith, e)
+
+module _ {P : Type 0} (gave took : P → Option (List ℕ)) (counts : P → Counts) where
+  pub stays-at : (x : Option (Client P)) → LivesAt gave took counts x x
+  stays-at None = tt
+  stays-at (Some c) = Stays
+
+  pub same-at : (x y : Option (Client P)) → y ≡ x → LivesAt gave took counts x y
+  same-at x y e = subst (λ z. LivesAt gave took counts x z) (sym e) (stays-at x)
+
+  pub gone-at : (x y : Option (Client P)) → y ≡ None → LivesAt gave took counts x y
+  gone-at x y e = subst (λ z. LivesAt gave took counts x z) (sym e) tt
+
+  pub join-at : (x y z : Option (Client P)) → LivesAt gave took counts x y → LivesAt gave took counts y z → LivesAt gave took counts x z
+  join-at x y None f g = tt
+  join-at x None (Some c) f g = elim g [ ]
+  join-at None (Some b) (Some c) f g = elim f [ ]
+  join-at (Some a) (Some b) (Some c) f g = Then f g
+
+  -- a client that gave bytes, or none now
+  pub got-at : (n : ℕ) (bytes : List ℕ) (x y : Option (Client P)) → ReadsAt gave took counts (read.Got n) bytes x y → LivesAt gave took counts x y
+  got-at n bytes None y f = gone-at None y f.0
+  got-at n bytes (Some a) None f = tt
+  got-at n bytes (Some a) (Some b) f = Gave n bytes f
+
+  pub later-at : (bytes : List ℕ) (x y : Option (Client P)) → ReadsAt gave took counts read.Later bytes x y → LivesAt gave took counts x y
+  later-at bytes None y f = gone-at None y f.0
+  later-at bytes (Some a) None f = tt
+  later-at bytes (Some a) (Some b) f = Gives_later bytes f
+
+  there : (s : Slab (Client P)) (k : ℕ) (old : Client P) → Some old ≡ get s k → IsSome (get s k)
+  there s k old e = subst (λ x. IsSome x) e refl
+
+  -- a client of which the pipe lives on is written back to its place
+  pub touched-here : (s : Slab (Client P)) (k : ℕ) (old new : Client P) → Some old ≡ get s k → Lives gave took counts old.pipe new.pipe
+      → LivesAt gave took counts (get s k) (get (with_value s k new) k)
+  touched-here s k old new e l =
+      let changed : get (with_value s k new) k ≡ Some new = (Updates-with_value s k new (there s k old e)).changed in
+      subst (λ x. LivesAt gave took counts x (get (with_value s k new) k)) e (subst (λ y. LivesAt gave took counts (Some old) y) (sym changed) l)
+
+  pub touched-at : (s : Slab (Client P)) (k : ℕ) (old new : Client P) → Some old ≡ get s k → Lives gave took counts old.pipe new.pipe
+      → (t : ℕ) → LivesAt gave took counts (get s t) (get (with_value s k new) t)
+  touched-at s k old new e l t =
+      elim (tested t k) [
+        | inl same ↦ subst (λ u. LivesAt gave took counts (get s u) (get (with_value s k new) u)) (sym same) (touched-here s k old new e l)
+        | inr other ↦ same-at (get s t) (get (with_value s k new) t) ((Updates-with_value s k new (there s k old e)).others t other)
+      ]
+
+module _ {P A : Type 0} (gave took : P → Option (List ℕ)) (counts : P → Counts) where
+  pub stay : (old new : Clients P A) → new.table ≡ old.table → LiveOn gave took counts old new
+  stay old new e t = same-at gave took counts (get old.table t) (get new.table t) (ap (λ table. get table t) e)
+
+  pub live-join : (a b c : Clients P A) → LiveOn gave took counts a b → LiveOn gave took counts b c → LiveOn gave took counts a c
+  live-join a b c f g t = join-at gave took counts (get a.table t) (get b.table t) (get c.table t) (f t) (g t)
+
+  -- it is enough to look at the one ticket that was touched
+  pub live-one : (k : ℕ) (old new : Clients P A) → OthersStay k old new → LivesAt gave took counts (get old.table k) (get new.table k) → LiveOn gave took counts old new
+  live-one k old new others at t =
+      elim (tested t k) [
+        | inl same ↦ subst (λ u. LivesAt gave took counts (get old.table u) (get new.table u)) (sym same) at
+        | inr other ↦ same-at gave took counts (get old.table t) (get new.table t) (others t other)
+      ]
+
+  -- and nothing at one that is gone
+  pub live-gone : (k : ℕ) (old new : Clients P A) → OthersStay k old new → is_connected new k ≡ false → LiveOn gave took counts old new
+  live-gone k old new others gone = live-one k old new others (gone-at gave took counts (get old.table k) (get new.table k) (nobody (get new.table k) gone))
+
+module _ {P A : Type 0} where
+  pub others-join : (k : ℕ) (a b c : Clients P A) → OthersStay k a b → OthersStay k b c → OthersStay k a c
+  others-join k a b c f g t other = g t other ∙ f t other
+
+module _ {P A : Type 0} where
+  -- a ticket that was closed
+  pub closed-gone : (k : ℕ) (old new : Clients P A) → ((t : ℕ) → is_connected new t ≡ (is_connected old t && not (t == k))) → is_connected new k ≡ false
+  closed-gone k old new closed = grind (arith, common_steps, nat_tests, closed k)

@@ -1,0 +1,12 @@
+use Rattle.std.proofs.Common.{refl}
+use Rattle.node_loop.specs.Lives.{Stays}
+use Rattle.node_loop.proofs.Lives.{stay, touched-at}
+use Rattle.node_loop.proofs.clients.Clients.push.Goals as goal
+
+pub returns-in_err-get_mut-clause-lives : goal.returns-in_err-get_mut-clause-lives
+returns-in_err-get_mut-clause-lives g c = stay g.P.Pipe.gave g.P.Pipe.took g.P.Pipe.counts c.args.self.now c.args.self.now refl
+
+pub returns-clause-lives : goal.returns-clause-lives
+returns-clause-lives g c t =
+    let client = c.in_ok-get_mut.field-0.now in
+    touched-at g.P.Pipe.gave g.P.Pipe.took g.P.Pipe.counts c.args.self.now.table c.args.ticket client (record { pipe = client.pipe; reader = c.push.new.self }) c.in_ok-get_mut.ensures.value Stays t

@@ -1,0 +1,41 @@
+use Rattle.slab.specs.Slab.{get}
+use Rattle.node_loop.proofs.Lives.{got-at, later-at, live-one, live-join, live-gone, others-join, closed-gone}
+use Rattle.node_loop.proofs.service.serve.Goals as goal
+
+pub returns-in-Got-clause-lives : goal.returns-in-Got-clause-lives
+returns-in-Got-clause-lives g c =
+    let old = c.args.clients.now in
+    let mid = c.read.new.self in
+    let t = c.args.ticket in
+    live-join g.P.Pipe.gave g.P.Pipe.took g.P.Pipe.counts old mid c.serve_bytes.new.clients
+    (live-one g.P.Pipe.gave g.P.Pipe.took g.P.Pipe.counts t old mid c.read.ensures.others
+    (got-at g.P.Pipe.gave g.P.Pipe.took g.P.Pipe.counts c.in-Got.count c.read.new.bytes (get old.table t) (get mid.table t) (rw c.in-Got.is at c.read.ensures.reads)))
+    c.serve_bytes.ensures.lives
+
+pub returns-in-Later-clause-lives : goal.returns-in-Later-clause-lives
+returns-in-Later-clause-lives g c =
+    let old = c.args.clients.now in
+    let mid = c.read.new.self in
+    let t = c.args.ticket in
+    live-one g.P.Pipe.gave g.P.Pipe.took g.P.Pipe.counts t old mid c.read.ensures.others
+    (later-at g.P.Pipe.gave g.P.Pipe.took g.P.Pipe.counts c.read.new.bytes (get old.table t) (get mid.table t) (rw c.in-Later.is at c.read.ensures.reads))
+
+pub returns-in-Closed-clause-lives : goal.returns-in-Closed-clause-lives
+returns-in-Closed-clause-lives g c =
+    let old = c.args.clients.now in
+    let read = c.read.new.self in
+    let written = c.write-written.new.self in
+    let new = c.dismiss.new.clients in
+    let t = c.args.ticket in
+    live-gone g.P.Pipe.gave g.P.Pipe.took g.P.Pipe.counts t old new
+    (others-join t old written new (others-join t old read written c.read.ensures.others c.write-written.ensures.others_stay) c.dismiss.ensures.others)
+    (closed-gone t written new c.dismiss.ensures.closed)
+
+pub returns-in-Failed-clause-lives : goal.returns-in-Failed-clause-lives
+returns-in-Failed-clause-lives g c =
+    let old = c.args.clients.now in
+    let read = c.read.new.self in
+    let new = c.dismiss-in-Failed.new.clients in
+    let t = c.args.ticket in
+    live-gone g.P.Pipe.gave g.P.Pipe.took g.P.Pipe.counts t old new (others-join t old read new c.read.ensures.others c.dismiss-in-Failed.ensures.others)
+    (closed-gone t read new c.dismiss-in-Failed.ensures.closed)

@@ -1,0 +1,13 @@
+use Rattle.node_loop.proofs.Lives.{stay, live-join, live-gone, closed-gone}
+use Rattle.node_loop.proofs.service.tell.Goals as goal
+
+pub returns-then-not-say-clause-lives : goal.returns-then-not-say-clause-lives
+returns-then-not-say-clause-lives g c =
+    let old = c.args.clients.now in
+    let mid = c.say.new.self in
+    let new = c.dismiss.new.clients in
+    live-join g.P.Pipe.gave g.P.Pipe.took g.P.Pipe.counts old mid new (stay g.P.Pipe.gave g.P.Pipe.took g.P.Pipe.counts old mid c.say.ensures.table)
+    (live-gone g.P.Pipe.gave g.P.Pipe.took g.P.Pipe.counts c.args.ticket mid new c.dismiss.ensures.others (closed-gone c.args.ticket mid new c.dismiss.ensures.closed))
+
+pub returns-else-not-say-clause-lives : goal.returns-else-not-say-clause-lives
+returns-else-not-say-clause-lives g c = stay g.P.Pipe.gave g.P.Pipe.took g.P.Pipe.counts c.args.clients.now c.say.new.self c.say.ensures.table

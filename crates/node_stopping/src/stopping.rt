@@ -1,0 +1,197 @@
+//! Ends nodes.
+ghost use Rattle.std.specs.Prelude.{◌≡◌, if◌then◌else◌, ◌≤◌};
+
+use crate::lines::{Ending, EndingLine};
+use crate::steps::{Sight, Step, next};
+use node_texts::NodePaths;
+use node_texts::desk_file::node_of;
+use std::fs::{File, OpenOptions};
+use std::io::ErrorKind;
+use std::rt::Files;
+use std::time::{Clock, Duration};
+use std::{fs, io, thread};
+
+/// How long one look at a node's lock file is after the one before, in milliseconds.
+const BETWEEN_LOOKS: u64 = 20;
+
+/// How many looks a second has.
+const LOOKS_A_SECOND: u64 = 50;
+
+/// Ends these nodes of a folder, or each that has a socket there if none is named, and prints how it went
+/// with each. Waits so many seconds for each at most. Answers the status to end with: 0 if all have ended,
+/// else 1.
+pub fn run<R>(rt: &R, dir: &str, ids: &[u16], seconds: u16) -> u8
+where
+    R: Files<File = File> + Clock + Print + Eprint + AllocGlobal,
+    ensures { result ≤ 1 }
+{
+    status_of(have_ended(rt, dir, ids, seconds))
+}
+
+/// The status of nodes that have all ended or have not.
+fn status_of(is_done: bool) -> u8
+    ensures { result ≡ (if is_done then 0 else 1) }
+{
+    if is_done { 0 } else { 1 }
+}
+
+/// Ends these nodes, and says whether all have ended.
+fn have_ended<R>(rt: &R, dir: &str, ids: &[u16], seconds: u16) -> bool
+where
+    R: Files<File = File> + Clock + Print + Eprint + AllocGlobal,
+{
+    if is_kept_up(rt, dir) {
+        let _ = eprintln!(rt;
+            "tokentree: {dir}/lock-up: up keeps these nodes running; end its input instead (Ctrl-D)"
+        );
+        return false;
+    }
+    match nodes_of(rt, dir, ids) {
+        Ok(found) if found.is_empty() => {
+            let _ = eprintln!(rt; "tokentree: no node has a socket in {dir}");
+            false
+        }
+        Ok(found) => end_all(rt, dir, found.as_slice(), seconds),
+        Err(error) => {
+            let _ = eprintln!(rt; "tokentree: {dir}: {error}");
+            false
+        }
+    }
+}
+
+/// Whether `up` keeps the nodes of a folder running, so that it would start again what is ended.
+fn is_kept_up<R: Files<File = File> + AllocGlobal>(rt: &R, dir: &str) -> bool {
+    match format!(in rt.alloc(); "{dir}/lock-up") {
+        Ok(path) => is_held(rt, path.as_str()),
+        Err(_) => false,
+    }
+}
+
+/// Whether a process holds a lock file.
+fn is_held<F: Files<File = File>>(files: &F, path: &str) -> bool {
+    look_at(files, path) == Sight::Held
+}
+
+/// The nodes that are named, or those that have a socket in the folder.
+fn nodes_of<R: Files + AllocGlobal>(rt: &R, dir: &str, ids: &[u16]) -> io::Result<Vec<u16>> {
+    let mut nodes = Vec::new(rt.alloc());
+    for id in ids {
+        nodes.push(*id)?;
+    }
+    if ids.is_empty() {
+        add_sockets(rt, dir, &mut nodes)?;
+        nodes.sort_unstable();
+    }
+    Ok(nodes)
+}
+
+/// Adds the nodes of the sockets in a folder.
+fn add_sockets<R: Files + AllocGlobal>(rt: &R, dir: &str, nodes: &mut Vec<u16>) -> io::Result<()> {
+    for entry in fs::read_dir(&rt, dir)? {
+        // What has a name that is no text is no desk's.
+        let Ok(entry) = entry else {
+            continue;
+        };
+        if let Some(node) = node_of(entry.file_name().as_bytes()) {
+            nodes.push(node)?;
+        }
+    }
+    Ok(())
+}
+
+/// A node that was looked at, and asked to end if it runs.
+#[derive(Clone, Copy, Drop)]
+struct Asked {
+    id: u16,
+    /// How it went, if it is done with.
+    ending: Option<Ending>,
+}
+
+/// Asks all these nodes to end, and then waits for each. Whether all have ended.
+fn end_all<R>(rt: &R, dir: &str, ids: &[u16], seconds: u16) -> bool
+where
+    R: Files<File = File> + Clock + Print + Eprint + AllocGlobal,
+{
+    let mut all = Vec::new(rt.alloc());
+    for id in ids {
+        let ending = ask(rt, dir, *id);
+        if all.push(Asked { id: *id, ending }).is_err() {
+            return false;
+        }
+    }
+    let mut is_done = true;
+    for asked in all {
+        let ending = match asked.ending {
+            Some(ending) => ending,
+            None => await_end(rt, dir, asked.id, u64::from(seconds) * LOOKS_A_SECOND),
+        };
+        say(rt, dir, asked.id, ending);
+        is_done &= ending == Ending::Ended;
+    }
+    is_done
+}
+
+/// Makes the stop file of a node that runs; how it went if it does not, or none can be made.
+fn ask<R: Files<File = File> + AllocGlobal>(rt: &R, dir: &str, id: u16) -> Option<Ending> {
+    let Ok(paths) = NodePaths::new(rt.alloc(), dir, id) else {
+        return Some(Ending::Unasked);
+    };
+    match next(look_at(rt, paths.lock.as_str()), false, false) {
+        Step::Done(ending) => Some(ending),
+        Step::Ask | Step::Wait => {
+            let mut options = OpenOptions::new();
+            let made = options
+                .write(true)
+                .create(true)
+                .open(rt, paths.stop.as_str());
+            if made.is_err() {
+                Some(Ending::Unasked)
+            } else {
+                None
+            }
+        }
+    }
+}
+
+/// Waits until a node has ended that was asked to, with so many looks at most.
+fn await_end<R>(rt: &R, dir: &str, id: u16, looks: u64) -> Ending
+where
+    R: Files<File = File> + Clock + AllocGlobal,
+{
+    let Ok(paths) = NodePaths::new(rt.alloc(), dir, id) else {
+        return Ending::Late;
+    };
+    for look in 0..=looks {
+        if let Step::Done(ending) = next(look_at(rt, paths.lock.as_str()), true, look == looks) {
+            if ending == Ending::Ended {
+                // A node that was killed has left it, and its next start would end by it.
+                let _ = fs::remove_file(rt, paths.stop.as_str());
+            }
+            return ending;
+        }
+        thread::sleep(rt, Duration::from_millis(BETWEEN_LOOKS));
+    }
+    Ending::Late
+}
+
+/// What is seen of a lock file. Nobody's lock is kept for longer than a look.
+fn look_at<F: Files<File = File>>(files: &F, path: &str) -> Sight {
+    match fs::open(files, path) {
+        Ok(file) => match file.try_lock() {
+            Ok(()) => Sight::Free,
+            Err(_) => Sight::Held,
+        },
+        Err(error) if error.kind() == ErrorKind::NotFound => Sight::Free,
+        Err(_) => Sight::Hidden,
+    }
+}
+
+/// Says how it went with a node.
+fn say<R: Print + Eprint>(rt: &R, dir: &str, id: u16, ending: Ending) {
+    let line = EndingLine { dir, id, ending };
+    if ending == Ending::Ended {
+        let _ = rt.println(line);
+    } else {
+        let _ = rt.eprintln(line);
+    }
+}

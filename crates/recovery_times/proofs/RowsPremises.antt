@@ -1,0 +1,97 @@
+-- Premises by words, times of networks, and what is refused; by hand.
+use Rattle.std.proofs.Common.{◌≡◌, None, Some, [], Ok, Err, refl, codes}
+use Rattle.topology.specs.Network.{Network}
+use Rattle.recovery_times.specs.declared.words.TimeFault.TheVariants.{Turn, Delay, Loan, Repeat}
+use Rattle.recovery_times.specs.Times.{usual, lending_of}
+use Rattle.recovery_times.specs.Reading.{point_at, digits_up_to, whole_of, thousandths_of, after_point, part_of, within_an_hour}
+use Rattle.recovery_times.specs.Words.{no_less, time_or, or_fault, premises_of, option_name, least_text, time_fault_text}
+
+-- a ring of three: 51 sweeps and 8 * 2 * 2 for one who waits alone, of 12.5 ms each
+abbrev ring_of_three : Network
+ring_of_three = record { nodes = 3; root = 0; capacity = 64; lease = 0; edges = [] }
+
+lends-alone : lending_of ring_of_three 0 usual ≡ 400000
+lends-alone = refl
+
+lends-third : lending_of ring_of_three 2 usual ≡ 800000
+lends-third = refl
+
+-- ---- parts of a word
+
+point-second : point_at (codes "2.2.1") ≡ 1
+point-second = refl
+
+point-none : point_at (codes "22") ≡ 2
+point-none = refl
+
+after-first : after_point (codes "2.2.1") ≡ Some (codes "2.1")
+after-first = refl
+
+after-none : after_point (codes "22") ≡ None
+after-none = refl
+
+digits-most : digits_up_to (codes "3600000") ≡ Some 3600000
+digits-most = refl
+
+digits_not-more : digits_up_to (codes "3600001") ≡ None
+digits_not-more = refl
+
+whole-zero : whole_of (codes "0") ≡ Some 0
+whole-zero = refl
+
+whole_not-leading : whole_of (codes "01") ≡ None
+whole_not-leading = refl
+
+thousandths-one : thousandths_of (codes "2") ≡ Some 200
+thousandths-one = refl
+
+thousandths-zeros : thousandths_of (codes "020") ≡ Some 20
+thousandths-zeros = refl
+
+thousandths_not-four : thousandths_of (codes "0200") ≡ None
+thousandths_not-four = refl
+
+part-none : part_of None ≡ Some 0
+part-none = refl
+
+part_not-empty : part_of (Some []) ≡ None
+part_not-empty = refl
+
+hour : within_an_hour 3600000000 ≡ Some 3600000000
+hour = refl
+
+hour_not-more : within_an_hour 3600000001 ≡ None
+hour_not-more = refl
+
+-- ---- options
+
+least-taken : no_less 1 (Some 1) ≡ Some 1
+least-taken = refl
+
+least_not-below : no_less 1 (Some 0) ≡ None
+least_not-below = refl
+
+no-word : time_or None 1 2200 ≡ Some 2200
+no-word = refl
+
+no-words : premises_of (record { turn = None; delay = None; loan = None; repeat = None }) ≡ Ok usual
+no-words = refl
+
+fault-first : or_fault Turn (λ micros. Ok usual) None ≡ Err Turn
+fault-first = refl
+
+fault_not-known : or_fault Turn (λ micros. Err Delay) (Some 1) ≡ Err Delay
+fault_not-known = refl
+
+names-option : option_name Loan ≡ codes "--loan"
+names-option = refl
+
+-- a loan may take no time, and a repetition must take some
+least-loan : least_text Loan ≡ codes "0"
+least-loan = refl
+
+least-repeat : least_text Repeat ≡ codes "0.001"
+least-repeat = refl
+
+says-fault : time_fault_text Turn ≡ codes "--turn is no time from 0.001 to 3600000 milliseconds, with at most 3 decimals"
+says-fault = refl

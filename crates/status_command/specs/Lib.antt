@@ -1,0 +1,3 @@
+pub mod NoticeText
+pub mod Answering
+pub mod Reasons

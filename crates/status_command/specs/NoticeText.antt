@@ -1,0 +1,31 @@
+-- The lines on standard error.
+use Rattle.std.specs.Prelude.{ℕ, List, ◌++◌, codes, decimal}
+use Rattle.network_file.specs.FaultText.{network_fault_text}
+use Rattle.status_command.specs.declared.notice.Notice.{Notice}
+use Rattle.status_command.specs.declared.notice.Notice.TheVariants.{NoFolder, Forbidden, NoSockets}
+use Rattle.status_command.specs.declared.notice.Notice.TheVariants.{NeverWas, OtherNetwork, NoNetwork, NoInterval, System, Memory, Output}
+
+-- what each says
+abbrev pub notice_text : Notice → List ℕ
+notice_text (NoFolder folder) = codes "there is no folder " ++ folder.now
+notice_text (Forbidden folder) = codes "this user may not use the sockets in " ++ folder.now
+notice_text (NoSockets folder) = codes "no node has a socket in " ++ (folder.now ++ codes ": start one there")
+notice_text (NeverWas folder node) =
+    codes "node " ++ (decimal node ++ (codes " never ran in " ++ (folder.now
+    ++ codes ", which has neither a socket nor a state of it")))
+notice_text (OtherNetwork file folder node) =
+    folder.now ++ (codes " has a node " ++ (decimal node
+    ++ (codes ", which the network of " ++ (file.now ++ codes " has not"))))
+notice_text (NoNetwork file fault) = file.now ++ (codes ": " ++ network_fault_text fault)
+notice_text NoInterval = codes "--every is no time from 0.1 to 3600 seconds, with at most 3 decimals"
+notice_text System = codes "the system has no descriptor, poll or clock to give; try again"
+notice_text Memory = codes "memory Refused"
+notice_text Output = codes "output Refused"
+
+-- the line, which begins with the program's name
+abbrev pub notice_line : Notice → List ℕ
+notice_line notice = codes "tokentree: " ++ notice_text notice
+
+-- the line of a check that could not look
+abbrev pub unknown_line : Notice → List ℕ
+unknown_line notice = codes "tokentree UNKNOWN - " ++ notice_text notice

@@ -1,0 +1,65 @@
+//! What a node answered, of what came from it.
+ghost use Rattle.std.specs.Prelude.{◌≡◌, ◌==◌, IfOk, map, take};
+ghost use Rattle.std.specs.List.{position};
+ghost use Rattle.std.specs.Option.{option_map};
+ghost use Rattle.status_command.specs.Answering.{first_line, line_said, status_in, answer_in};
+
+use crate::asking::Asked;
+use node_texts::{MOST_STATUS_BYTES, NodeAnswer, StatusLine};
+use std::alloc::{AllocError, Global};
+
+/// The first line of what came, without its newline; none if none has ended.
+pub fn first_line(came: &[u8]) -> Option<&[u8]>
+    ensures { option_map (λ line. line.now) result ≡ first_line came.now }
+{
+    let end = newline_at(came)?;
+    Some(&came[..end])
+}
+
+/// Where the first newline stands.
+fn newline_at(came: &[u8]) -> Option<usize>
+    ensures { result ≡ position (λ byte. byte == 10) came.now }
+{
+    came.iter().position(|byte| *byte == b'\n')
+}
+
+/// What a node answered: its status line, if that is the first line that came, and is this node's.
+pub fn answer(node: u16, came: &[u8]) -> NodeAnswer
+    ensures { result ≡ answer_in node came.now }
+{
+    NodeAnswer {
+        node,
+        line: status_in(node, came),
+    }
+}
+
+/// The status line of this node, if it is the first line that came.
+fn status_in(node: u16, came: &[u8]) -> Option<StatusLine>
+    ensures { result ≡ status_in node came.now }
+{
+    match line_said(first_line(came)?) {
+        Some(said) if said.node == node => Some(said),
+        _ => None,
+    }
+}
+
+/// What a line says, if it is a status line.
+fn line_said(line: &[u8]) -> Option<StatusLine>
+    ensures { result ≡ line_said line.now }
+{
+    if line.len() > MOST_STATUS_BYTES {
+        None
+    } else {
+        StatusLine::read(line)
+    }
+}
+
+/// What each answered, in their order.
+///
+/// # Errors
+/// Where memory runs out.
+pub fn answers(alloc: Global, all: &[Asked]) -> Result<Vec<NodeAnswer>, AllocError> {
+    all.iter()
+        .map(|asked| answer(asked.node, asked.came.as_slice()))
+        .collect(alloc)
+}

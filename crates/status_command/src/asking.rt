@@ -1,0 +1,163 @@
+//! Nodes that are asked for a line, all at once.
+use crate::answering::first_line;
+use crate::question::Question;
+use mio::net::UnixStream;
+use std::alloc::Global;
+use std::io::{ErrorKind, Read, Write};
+use std::net::Net;
+use std::time::{Clock, Duration};
+use std::{io, thread};
+
+/// How many milliseconds the rest between two looks at the nodes is that have not answered yet.
+const BETWEEN_LOOKS: u64 = 1;
+
+/// At every how many looks a node is asked again that closed the connection, as one does that has no
+/// room for a client.
+const LOOKS_AGAIN: u32 = 100;
+
+/// How many bytes are read at once.
+const PIECE: usize = 1024;
+
+/// How it stands with a connection.
+#[derive(Drop)]
+enum Contact {
+    /// It is open, and the line has not come.
+    Open(UnixStream),
+    /// The node closed it, and gave no line.
+    Closed,
+    /// The line has come, or nobody listens.
+    Done,
+}
+
+/// A node that was asked.
+#[derive(Drop)]
+pub struct Asked {
+    /// The node.
+    pub node: u16,
+    /// What has come from it, by the last connection.
+    pub came: Vec<u8>,
+    question: Question,
+    /// The path of its socket.
+    path: String,
+    contact: Contact,
+}
+
+/// Asks each of the nodes, all at once, and waits for their lines, for as many milliseconds as there are
+/// looks at most. A node that closes the connection, as one does that has no room, is asked again.
+///
+/// # Errors
+/// What the system or memory has not to give, which is no node's silence.
+pub fn ask_all<R: Net + Clock>(
+    rt: &R,
+    alloc: Global,
+    question: Question,
+    folder: &str,
+    nodes: &[u16],
+    looks: u32,
+) -> io::Result<Vec<Asked>> {
+    let mut all = Vec::new(alloc);
+    for node in nodes {
+        all.push(ask(rt, alloc, question, folder, *node)?)?;
+    }
+    wait_for_all(rt, all.as_mut_slice(), looks)?;
+    Ok(all)
+}
+
+/// Waits until no line is waited for any more, for this many looks at most.
+fn wait_for_all<R: Net + Clock>(rt: &R, all: &mut [Asked], looks: u32) -> io::Result<()> {
+    for look in 0..looks {
+        let is_time = look % LOOKS_AGAIN == LOOKS_AGAIN - 1;
+        if !look_at_all(rt, all, is_time)? {
+            break;
+        }
+        thread::sleep(rt, Duration::from_millis(BETWEEN_LOOKS));
+    }
+    Ok(())
+}
+
+/// Looks at what came of each, and asks those again that closed the connection, if it is time to.
+/// Whether a line is still waited for.
+fn look_at_all<R: Net>(rt: &R, all: &mut [Asked], is_time: bool) -> io::Result<bool> {
+    let mut waits = false;
+    for asked in all {
+        if is_time {
+            asked.ask_again(rt);
+        }
+        waits |= asked.look()?;
+    }
+    Ok(waits)
+}
+
+/// Asks one node.
+fn ask<R: Net>(
+    rt: &R,
+    alloc: Global,
+    question: Question,
+    folder: &str,
+    node: u16,
+) -> io::Result<Asked> {
+    let path = question.path(alloc, folder, node)?;
+    let contact = connect(rt, question, path.as_str())?;
+    Ok(Asked {
+        node,
+        came: Vec::new(alloc),
+        question,
+        path,
+        contact,
+    })
+}
+
+/// A connection that has asked; none if nobody takes it.
+fn connect<R: Net>(rt: &R, question: Question, path: &str) -> io::Result<Contact> {
+    match UnixStream::connect(rt, path) {
+        Ok(mut stream) => match stream.write_all(question.words()) {
+            Ok(()) => Ok(Contact::Open(stream)),
+            Err(_) => Ok(Contact::Done),
+        },
+        Err(error) => match error.kind() {
+            ErrorKind::Uncategorized | ErrorKind::OutOfMemory => Err(error),
+            _ => Ok(Contact::Done),
+        },
+    }
+}
+
+impl Asked {
+    /// Connects once more, if the node closed the connection. If nobody listens any more, no line is
+    /// waited for.
+    fn ask_again<R: Net>(&mut self, rt: &R) {
+        if let Contact::Closed = self.contact {
+            self.came.clear();
+            self.contact = match connect(rt, self.question, self.path.as_str()) {
+                Ok(contact) => contact,
+                Err(_) => Contact::Done,
+            };
+        }
+    }
+
+    /// Reads what came; whether the line is still waited for.
+    fn look(&mut self) -> io::Result<bool> {
+        let mut piece = [0u8; PIECE];
+        let Contact::Open(stream) = &mut self.contact else {
+            return Ok(matches!(self.contact, Contact::Closed));
+        };
+        match stream.read(&mut piece) {
+            Ok(0) => self.contact = Contact::Closed,
+            Ok(count) => self.take(&piece[..count.min(PIECE)])?,
+            Err(error) => match error.kind() {
+                ErrorKind::WouldBlock | ErrorKind::Interrupted => {}
+                _ => self.contact = Contact::Closed,
+            },
+        }
+        Ok(!matches!(self.contact, Contact::Done))
+    }
+
+    /// Takes these bytes. With the first line, or more bytes than it may have, the answer is there.
+    fn take(&mut self, piece: &[u8]) -> io::Result<()> {
+        self.came.extend_from_slice(piece)?;
+        let came = self.came.as_slice();
+        if first_line(came).is_some() || came.len() > self.question.most() {
+            self.contact = Contact::Done;
+        }
+        Ok(())
+    }
+}

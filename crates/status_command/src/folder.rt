@@ -1,0 +1,102 @@
+//! Which nodes have a socket in a folder.
+ghost use Rattle.std.specs.Prelude.{◌≡◌, IfOk, nat_le};
+ghost use Rattle.std.specs.List.{find};
+ghost use Rattle.status_command.specs.Reasons.{why_no_nodes};
+
+use crate::notice::Notice;
+use node_texts::NodePaths;
+use node_texts::desk_file::node_of;
+use std::alloc::Global;
+use std::io::ErrorKind;
+use std::rt::Files;
+use std::{fs, io};
+
+/// The nodes that are asked: these, in this order; or, if none is named, those that have a socket in the
+/// folder, by ascending id.
+///
+/// # Errors
+/// If none is named, and the folder cannot be read or has no socket of a node.
+pub fn nodes_asked<'a, R: Files + AllocGlobal>(
+    rt: &R,
+    folder: &'a str,
+    named: &[u16],
+) -> Result<Vec<u16>, Notice<'a>> {
+    let nodes = if named.is_empty() {
+        sockets_in(rt, rt.alloc(), folder)
+    } else {
+        copied(rt.alloc(), named)
+    };
+    match nodes {
+        Ok(nodes) if nodes.is_empty() => Err(Notice::NoSockets(folder)),
+        Ok(nodes) => Ok(nodes),
+        Err(error) => Err(why_no_nodes(error.kind(), folder)),
+    }
+}
+
+/// The same nodes.
+fn copied(alloc: Global, nodes: &[u16]) -> io::Result<Vec<u16>>
+    ensures { IfOk result (λ all. all.items ≡ nodes.now) }
+{
+    Ok(nodes.iter().copied().collect(alloc)?)
+}
+
+/// Why the nodes of a folder are not known, by what the system answered.
+pub fn why_no_nodes<'a>(kind: ErrorKind, folder: &'a str) -> Notice<'a>
+    ensures { result ≡ why_no_nodes kind folder.entry }
+{
+    match kind {
+        ErrorKind::NotFound | ErrorKind::NotADirectory => Notice::NoFolder(folder),
+        ErrorKind::OutOfMemory => Notice::Memory,
+        ErrorKind::Uncategorized => Notice::System,
+        _ => Notice::Forbidden(folder),
+    }
+}
+
+/// The nodes that have a socket in a folder, by ascending id; or what the system answers.
+pub fn sockets_in<R: Files + AllocGlobal>(
+    rt: &R,
+    alloc: Global,
+    folder: &str,
+) -> io::Result<Vec<u16>> {
+    let mut nodes = Vec::new(alloc);
+    add_sockets(rt, folder, &mut nodes)?;
+    nodes.sort_unstable();
+    Ok(nodes)
+}
+
+/// Adds the nodes of the sockets in a folder.
+fn add_sockets<R: Files + AllocGlobal>(
+    rt: &R,
+    folder: &str,
+    nodes: &mut Vec<u16>,
+) -> io::Result<()> {
+    for entry in fs::read_dir(&rt, folder)? {
+        // What has a name that is no text is no desk's.
+        let Ok(entry) = entry else {
+            continue;
+        };
+        if let Some(node) = node_of(entry.file_name().as_bytes()) {
+            nodes.push(node)?;
+        }
+    }
+    Ok(())
+}
+
+/// Whether a folder has neither the socket nor the state of a node, so that it never ran there. If that
+/// cannot be seen, it may have.
+pub fn was_never<R: Files + AllocGlobal>(rt: &R, folder: &str, node: u16) -> bool {
+    match NodePaths::new(rt.alloc(), folder, node) {
+        Ok(paths) => {
+            matches!(fs::exists(rt, paths.clients.as_str()), Ok(false))
+                && matches!(fs::exists(rt, paths.state.as_str()), Ok(false))
+        }
+        Err(_) => false,
+    }
+}
+
+/// The first node of these that a network of so many nodes does not have.
+pub fn first_beyond(nodes: &[u16], count: u16) -> Option<u16>
+    ensures { result ≡ find (λ node. nat_le count node) nodes.now }
+{
+    nodes.iter().copied().find(|node| *node >= count)
+}

@@ -1,0 +1,131 @@
+//! `status --premises` and `status --links`: what nodes say at their sockets for whoever looks.
+ghost use Rattle.std.specs.Prelude.{◌≤◌};
+
+use crate::answering::first_line;
+use crate::asking::{Asked, ask_all};
+use crate::folder::nodes_asked;
+use crate::notice::{Notice, told};
+use crate::question::Question;
+use crate::status::{NO_ANSWER, WAIT, why_not_asked};
+use node_texts::{PremisesLine, TurnsSaid, premises_report};
+use status_readings::{LinksSaid, LoansSaid, NodeLoans, links_report, read_links};
+use std::alloc::{AllocError, Global};
+use std::net::Net;
+use std::rt::Files;
+use std::time::Clock;
+
+/// What is shown of the nodes' lines for whoever looks.
+#[derive(Clone, Copy, Debug, PartialEq, Eq, Drop)]
+pub enum Part {
+    /// How long the longest times between two turns were.
+    Premises,
+    /// How each link stands.
+    Links,
+}
+
+/// Prints this part of what the nodes say to whoever looks. Answers the status to end with: 1 if a node
+/// gave no answer, or nothing can be shown.
+pub fn run<R: Net + Files + Clock + Print + Eprint + AllocGlobal>(
+    rt: &R,
+    folder: &str,
+    nodes: &[u16],
+    part: Part,
+) -> u8
+    ensures { result ≤ 1 }
+{
+    match print_part(rt, folder, nodes, part) {
+        Ok(true) => 0,
+        Ok(false) => NO_ANSWER,
+        Err(notice) => told(rt, notice),
+    }
+}
+
+/// Asks, and prints; whether each node answered.
+fn print_part<'a, R: Net + Files + Clock + Print + AllocGlobal>(
+    rt: &R,
+    folder: &'a str,
+    nodes: &[u16],
+    part: Part,
+) -> Result<bool, Notice<'a>> {
+    let nodes = nodes_asked(rt, folder, nodes)?;
+    let asked = ask_all(
+        rt,
+        rt.alloc(),
+        Question::Look,
+        folder,
+        nodes.as_slice(),
+        WAIT,
+    );
+    match asked {
+        Ok(all) => print_said(rt, all.as_slice(), part),
+        Err(error) => Err(why_not_asked(error.kind())),
+    }
+}
+
+/// Prints what came; whether each node answered.
+fn print_said<'a, R: Print + AllocGlobal>(
+    rt: &R,
+    all: &[Asked],
+    part: Part,
+) -> Result<bool, Notice<'a>> {
+    let said = match part {
+        Part::Premises => premises_text(rt.alloc(), all),
+        Part::Links => links_text(rt.alloc(), all),
+    };
+    let Ok((text, all_said)) = said else {
+        return Err(Notice::Memory);
+    };
+    match rt.print(text.as_str()) {
+        Ok(()) => Ok(all_said),
+        Err(_) => Err(Notice::Output),
+    }
+}
+
+/// The line that came from a node, as text.
+fn line_of(asked: &Asked) -> &str {
+    match first_line(asked.came.as_slice()) {
+        Some(line) => str::from_utf8(line).unwrap_or(""),
+        None => "",
+    }
+}
+
+/// The lines of the turns, and whether each node said them.
+fn premises_text(alloc: Global, all: &[Asked]) -> Result<(String, bool), AllocError> {
+    let mut lines = Vec::new(alloc);
+    for asked in all {
+        lines.push(PremisesLine {
+            node: asked.node,
+            said: TurnsSaid::read(alloc, line_of(asked))?,
+        })?;
+    }
+    let text = premises_report(alloc, lines.as_slice())?;
+    Ok((text, lines.iter().all(|line| line.said.is_some())))
+}
+
+/// The lines of the links, and whether each node said them.
+fn links_text(alloc: Global, all: &[Asked]) -> Result<(String, bool), AllocError> {
+    let mut lines = Vec::new(alloc);
+    for asked in all {
+        lines.push(LinksSaid {
+            node: asked.node,
+            links: read_links(alloc, line_of(asked))?,
+        })?;
+    }
+    let text = links_report(alloc, lines.as_slice())?;
+    Ok((text, lines.iter().all(|line| line.links.is_some())))
+}
+
+/// What each node said of its loans.
+///
+/// # Errors
+/// Where memory runs out.
+pub fn loans_of(alloc: Global, all: &[Asked]) -> Result<Vec<NodeLoans>, AllocError> {
+    let mut loans = Vec::new(alloc);
+    for asked in all {
+        loans.push(NodeLoans {
+            node: asked.node,
+            said: LoansSaid::read(alloc, line_of(asked))?,
+        })?;
+    }
+    Ok(loans)
+}

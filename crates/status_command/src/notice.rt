@@ -1,0 +1,128 @@
+//! What is reported on standard error.
+ghost use Rattle.std.specs.Prelude.{◌≡◌};
+
+use network_file::NetworkFault;
+use std::fmt;
+
+/// Why nothing is shown of the nodes. Printed, it is what the message says after the program's name.
+#[derive(Clone, Copy, Debug, PartialEq, Eq, Drop)]
+pub enum Notice<'a> {
+    /// There is no such folder.
+    NoFolder(&'a str),
+    /// The folder may not be read or entered.
+    Forbidden(&'a str),
+    /// No node has a socket in the folder.
+    NoSockets(&'a str),
+    /// A node gave no answer, and the folder has no file of it.
+    NeverWas {
+        folder: &'a str,
+        node: u16,
+    },
+    /// The folder has a node that the network of a file has not.
+    OtherNetwork {
+        file: &'a str,
+        folder: &'a str,
+        node: u16,
+    },
+    /// The file gives no network.
+    NoNetwork {
+        file: &'a str,
+        fault: NetworkFault,
+    },
+    /// `--every` is no time that a watch takes.
+    NoInterval,
+    /// The system gives no descriptor or no clock.
+    System,
+    /// Memory ran out.
+    Memory,
+    /// Standard output took no more.
+    Output,
+}
+
+impl fmt::Display for Notice<'_> {
+    ghost use Rattle.std.specs.Prelude.{Some};
+    ghost use Rattle.status_command.specs.NoticeText.{notice_text};
+
+    ghost output = { λ notice. Some (notice_text notice) };
+
+    fn fmt<W: fmt::Write>(&self, f: &mut fmt::Formatter<W>) -> fmt::Result {
+        match *self {
+            Notice::NoFolder(folder) => write!(f, "there is no folder {folder}"),
+            Notice::Forbidden(folder) => {
+                write!(f, "this user may not use the sockets in {folder}")
+            }
+            Notice::NoSockets(folder) => {
+                write!(f, "no node has a socket in {folder}: start one there")
+            }
+            Notice::NeverWas { folder, node } => {
+                write!(
+                    f,
+                    "node {node} never ran in {folder}, which has neither a socket nor a state of it"
+                )
+            }
+            Notice::OtherNetwork { file, folder, node } => {
+                write!(
+                    f,
+                    "{folder} has a node {node}, which the network of {file} has not"
+                )
+            }
+            Notice::NoNetwork { file, fault } => write!(f, "{file}: {fault}"),
+            Notice::NoInterval => f.write_str(
+                "--every is no time from 0.1 to 3600 seconds, with at most 3 decimals",
+            ),
+            Notice::System => {
+                f.write_str("the system has no descriptor, poll or clock to give; try again")
+            }
+            Notice::Memory => f.write_str("memory Refused"),
+            Notice::Output => f.write_str("output Refused"),
+        }
+    }
+}
+
+/// The whole line of a notice, without its newline.
+#[derive(Drop)]
+pub struct NoticeLine<'a>(pub Notice<'a>);
+
+impl fmt::Display for NoticeLine<'_> {
+    ghost use Rattle.std.specs.Prelude.{Some};
+    ghost use Rattle.status_command.specs.NoticeText.{notice_line};
+
+    ghost output = { λ line. Some (notice_line line.0) };
+
+    fn fmt<W: fmt::Write>(&self, f: &mut fmt::Formatter<W>) -> fmt::Result {
+        f.write_str("tokentree: ")?;
+        f.write(self.0)
+    }
+}
+
+/// Reports why nothing is shown, and answers the status to end with.
+pub fn told<R: Eprint>(rt: &R, notice: Notice<'_>) -> u8
+    ensures { result ≡ 1 }
+{
+    let _ = rt.eprintln(NoticeLine(notice));
+    1
+}
+
+/// Reports why a command line is refused, and answers the status to end with.
+pub fn refused<R: Eprint>(rt: &R, notice: Notice<'_>) -> u8
+    ensures { result ≡ 2 }
+{
+    let _ = rt.eprintln(NoticeLine(notice));
+    2
+}
+
+/// The line of a check that could not look, without its newline.
+#[derive(Drop)]
+pub struct UnknownLine<'a>(pub Notice<'a>);
+
+impl fmt::Display for UnknownLine<'_> {
+    ghost use Rattle.std.specs.Prelude.{Some};
+    ghost use Rattle.status_command.specs.NoticeText.{unknown_line};
+
+    ghost output = { λ line. Some (unknown_line line.0) };
+
+    fn fmt<W: fmt::Write>(&self, f: &mut fmt::Formatter<W>) -> fmt::Result {
+        f.write_str("tokentree UNKNOWN - ")?;
+        f.write(self.0)
+    }
+}

@@ -1,0 +1,178 @@
+//! Where a watch is shown: in its place on a terminal, or as blocks one after the other.
+ghost use Rattle.std.specs.Prelude.{◌≡◌, ◌==◌, ◌||◌};
+
+use crate::status::Form;
+use std::alloc::{AllocError, Global};
+use std::fmt::Write;
+use std::fs::File;
+use std::io::{Input, IsTerminal, Read};
+use std::process::{Command, Processes, Stdio};
+use std::rt::Files;
+use std::time::{Clock, Duration, Instant};
+use std::{fs, io, thread};
+
+/// Whether a watch goes on.
+#[derive(Clone, Copy, Debug, PartialEq, Eq, Drop)]
+pub enum End {
+    /// Nobody asked for its end.
+    NotYet,
+    /// Somebody did.
+    Asked,
+}
+
+/// What is written before the first picture: another page, no cursor, and long lines are cut.
+const BEGIN: &str = "\x1b[?1049h\x1b[?25l\x1b[?7l";
+
+/// What is written after the last one.
+const END: &str = "\x1b[?7h\x1b[?25h\x1b[?1049l";
+
+/// Where a watch is shown.
+#[derive(Drop)]
+pub enum Screen {
+    /// On a terminal, whose settings were these.
+    Terminal(String),
+    /// Elsewhere; whether a block was printed, after which an empty line comes.
+    Blocks(bool),
+    /// Elsewhere, a line a time.
+    Lines,
+}
+
+impl Screen {
+    /// The terminal, where standard input and output are one and lines are to be shown; from then on keys
+    /// are not echoed, and Ctrl-C is a key.
+    pub fn begin<R: Files<File = File> + Print + Processes + AllocGlobal>(
+        rt: &R,
+        form: Form,
+    ) -> Screen {
+        if form == Form::Json {
+            return Screen::Lines;
+        }
+        if !is_terminal(rt, "/dev/stdout") {
+            return Screen::Blocks(false);
+        }
+        match settings(rt, rt.alloc()) {
+            Some(settings) if rt.print(BEGIN).is_ok() => Screen::Terminal(settings),
+            _ => Screen::Blocks(false),
+        }
+    }
+
+    /// Shows a block.
+    ///
+    /// # Errors
+    /// If the output does not take it, or memory runs out.
+    pub fn show<R: Print + AllocGlobal>(&mut self, rt: &R, block: &str) -> io::Result<()> {
+        match self {
+            Screen::Terminal(_) => rt.print(in_place(rt.alloc(), block)?.as_str())?,
+            Screen::Blocks(has_shown) => {
+                if *has_shown {
+                    rt.print("\n")?;
+                }
+                *has_shown = true;
+                rt.print(block)?;
+            }
+            Screen::Lines => rt.print(block)?,
+        }
+        Ok(())
+    }
+
+    /// Rests for so many milliseconds, or until somebody types that it is to end.
+    pub fn rest<R: Clock + Input>(&self, rt: &R, millis: u64) -> End {
+        match self {
+            Screen::Terminal(_) => typed_end(rt, Duration::from_millis(millis)),
+            _ => {
+                thread::sleep(rt, Duration::from_millis(millis));
+                End::NotYet
+            }
+        }
+    }
+
+    /// Leaves the terminal as it was.
+    pub fn end<R: Print + Processes + AllocGlobal>(&self, rt: &R) {
+        if let Screen::Terminal(settings) = self {
+            let _ = rt.print(END);
+            let _ = stty(rt, rt.alloc(), &[settings.as_str()]);
+        }
+    }
+}
+
+/// Whether a path is that of a terminal.
+fn is_terminal<R: Files<File = File>>(rt: &R, path: &str) -> bool {
+    match fs::open(rt, path) {
+        Ok(file) => file.is_terminal(),
+        Err(_) => false,
+    }
+}
+
+/// The settings of the terminal that is standard input, which gets those of a watch: a key is read when it
+/// is typed, and reading ends after a tenth of a second without one. None if it is no terminal.
+fn settings<R: Processes>(rt: &R, alloc: Global) -> Option<String> {
+    let before = stty(rt, alloc, &["-g"])?;
+    let watching = ["-icanon", "-isig", "-echo", "min", "0", "time", "1"];
+    stty(rt, alloc, &watching)?;
+    Some(before)
+}
+
+/// What `stty` prints, on the terminal that is standard input; none if it fails.
+fn stty<R: Processes>(rt: &R, alloc: Global, words: &[&str]) -> Option<String> {
+    let output = stty_output(rt, alloc, words).ok()?;
+    let text = str::from_utf8(output.as_slice()).ok()?;
+    String::from_str(alloc, text.trim_ascii_end()).ok()
+}
+
+/// The same as bytes.
+fn stty_output<R: Processes>(rt: &R, alloc: Global, words: &[&str]) -> io::Result<Vec<u8>> {
+    let mut command = Command::new(alloc, "stty")?;
+    command.args(words.iter().copied())?;
+    command.stdin(Stdio::inherit()).stderr(Stdio::null());
+    let output = command.output(rt)?;
+    if output.status.success() {
+        Ok(output.stdout)
+    } else {
+        Err(io::Error::from(io::ErrorKind::Other))
+    }
+}
+
+/// A block that is written over the one before: from the top left, each line cleared to its end, and what
+/// is under it.
+fn in_place(alloc: Global, block: &str) -> Result<String, AllocError> {
+    let mut text = String::from_str(alloc, "\x1b[H")?;
+    for line in block.lines() {
+        write!(text, "{line}\x1b[K\n")?;
+    }
+    text.push_str("\x1b[J")?;
+    Ok(text)
+}
+
+/// Waits until a key is typed that ends a watch, for so long at most.
+fn typed_end<R: Clock + Input>(rt: &R, rest: Duration) -> End {
+    let Ok(start) = Instant::now(rt) else {
+        return End::Asked;
+    };
+    for _ in 0..u64::MAX {
+        if has_end_key(rt) {
+            return End::Asked;
+        }
+        match start.elapsed(rt) {
+            Ok(time) if time < rest => {}
+            Ok(_) => return End::NotYet,
+            Err(_) => return End::Asked,
+        }
+    }
+    End::NotYet
+}
+
+/// Whether a key was typed that ends a watch; or the terminal is gone.
+fn has_end_key<R: Input>(rt: &R) -> bool {
+    let mut keys = [0u8; 64];
+    match rt.reader().read(&mut keys) {
+        Ok(count) => keys[..count.min(64)].iter().any(|key| is_end_key(*key)),
+        Err(error) => error.kind() != io::ErrorKind::Interrupted,
+    }
+}
+
+/// Whether a key ends a watch: Ctrl-C, Ctrl-D, Ctrl-\ or `q`.
+fn is_end_key(key: u8) -> bool
+    ensures { result ≡ (key == 3 || key == 4 || key == 28 || key == 113) }
+{
+    matches!(key, 3 | 4 | 28 | b'q')
+}

@@ -1,0 +1,138 @@
+//! `status`: how nodes stand.
+ghost use Rattle.std.specs.Prelude.{◌≡◌, ◌≤◌};
+ghost use Rattle.status_command.specs.Reasons.{why_not_asked};
+
+use crate::answering::answers;
+use crate::asking::ask_all;
+use crate::folder::{nodes_asked, was_never};
+use crate::notice::{Notice, NoticeLine, told};
+use crate::question::Question;
+use node_texts::{NodeAnswer, all_answered, report};
+use status_readings::status_json;
+use std::alloc::{AllocError, Global};
+use std::io;
+use std::io::ErrorKind;
+use std::net::Net;
+use std::rt::Files;
+use std::time::Clock;
+
+/// For how many milliseconds a node's line is waited for.
+pub const WAIT: u32 = 1000;
+
+/// The status where a node gave no answer.
+pub const NO_ANSWER: u8 = 1;
+
+/// In which form answers are printed.
+#[derive(Clone, Copy, Debug, PartialEq, Eq, Drop)]
+pub enum Form {
+    /// A line for each node, and their counts.
+    Lines,
+    /// A line with a JSON object.
+    Json,
+}
+
+/// Prints the status line of each of these nodes, or of each that has a socket in the folder where
+/// none is named, by ascending id; and how many of them are privileged, and lend. A node that closes the
+/// connection, as one does that has no room, is asked again. One that gives no line within a second
+/// is reported to have given none. Answers the status to end with: 1 where a
+/// node gave none, or there is none.
+///
+/// What the nodes answer no contract can say; how their lines are read, and what is printed of
+/// them, [`StatusLine::read`](node_texts::StatusLine::read) and [`report`] say.
+pub fn run<R: Net + Files + Clock + Print + Eprint + AllocGlobal>(
+    rt: &R,
+    folder: &str,
+    nodes: &[u16],
+    form: Form,
+) -> u8
+    ensures { result ≤ 1 }
+{
+    match print_status(rt, folder, nodes, form) {
+        Ok(true) => 0,
+        Ok(false) => NO_ANSWER,
+        Err(notice) => told(rt, notice),
+    }
+}
+
+/// Asks, and prints; whether each node answered.
+fn print_status<'a, R: Net + Files + Clock + Print + Eprint + AllocGlobal>(
+    rt: &R,
+    folder: &'a str,
+    nodes: &[u16],
+    form: Form,
+) -> Result<bool, Notice<'a>> {
+    let nodes = nodes_asked(rt, folder, nodes)?;
+    match answers_of(rt, rt.alloc(), folder, nodes.as_slice(), WAIT) {
+        Ok(answers) => print_answers(rt, folder, answers.as_slice(), form),
+        Err(error) => Err(why_not_asked(error.kind())),
+    }
+}
+
+/// What the nodes answer within so many milliseconds.
+///
+/// # Errors
+/// What the system or memory has not to give.
+pub fn answers_of<R: Net + Clock>(
+    rt: &R,
+    alloc: Global,
+    folder: &str,
+    nodes: &[u16],
+    wait: u32,
+) -> io::Result<Vec<NodeAnswer>> {
+    let all = ask_all(rt, alloc, Question::Status, folder, nodes, wait)?;
+    Ok(answers(alloc, all.as_slice())?)
+}
+
+/// Why nodes are not asked, by what the system answered.
+pub fn why_not_asked<'a>(kind: ErrorKind) -> Notice<'a>
+    ensures { result ≡ why_not_asked kind }
+{
+    match kind {
+        ErrorKind::Uncategorized => Notice::System,
+        _ => Notice::Memory,
+    }
+}
+
+/// Prints what the nodes answered; whether each did.
+fn print_answers<'a, R: Files + Print + Eprint + AllocGlobal>(
+    rt: &R,
+    folder: &'a str,
+    answers: &[NodeAnswer],
+    form: Form,
+) -> Result<bool, Notice<'a>> {
+    let Ok(text) = text_of(rt.alloc(), answers, form) else {
+        return Err(Notice::Memory);
+    };
+    match rt.print(text.as_str()) {
+        Ok(()) => {
+            tell_of_absent(rt, folder, answers);
+            Ok(all_answered(answers))
+        }
+        Err(_) => Err(Notice::Output),
+    }
+}
+
+/// What is printed of the answers.
+///
+/// # Errors
+/// Where memory runs out.
+pub fn text_of(alloc: Global, answers: &[NodeAnswer], form: Form) -> Result<String, AllocError> {
+    match form {
+        Form::Lines => report(alloc, answers),
+        Form::Json => {
+            let mut text = status_json(alloc, answers)?;
+            text.push_str("\n")?;
+            Ok(text)
+        }
+    }
+}
+
+/// Reports the nodes that gave no answer, and of which the folder has no file: they never ran there.
+fn tell_of_absent<R: Files + Eprint + AllocGlobal>(rt: &R, folder: &str, answers: &[NodeAnswer]) {
+    for answer in answers {
+        let node = answer.node;
+        if answer.line.is_none() && was_never(rt, folder, node) {
+            let _ = rt.eprintln(NoticeLine(Notice::NeverWas { folder, node }));
+        }
+    }
+}

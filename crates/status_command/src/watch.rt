@@ -1,0 +1,133 @@
+//! `status --watch`: how nodes stand, again and again.
+use crate::asking::ask_all;
+use crate::folder::nodes_asked;
+use crate::looks::loans_of;
+use crate::notice::{Notice, told};
+use crate::question::Question;
+use crate::screen::{End, Screen};
+use crate::status::{Form, answers_of, text_of, why_not_asked};
+use node_texts::NodeAnswer;
+use status_readings::{Minute, NodeLoans, Sample, picture};
+use std::alloc::{AllocError, Global};
+use std::fs::File;
+use std::io;
+use std::io::Input;
+use std::net::Net;
+use std::process::Processes;
+use std::rt::Files;
+use std::time::{Clock, Instant};
+
+/// For how many milliseconds a node's line is waited for.
+const WAIT: u32 = 300;
+
+/// What is watched, and how.
+#[derive(Clone, Copy, Debug)]
+pub struct Watch<'a> {
+    /// The folder of the nodes' sockets.
+    pub folder: &'a str,
+    /// The nodes; none for those that have a socket there.
+    pub nodes: &'a [u16],
+    /// How many milliseconds are between two readings.
+    pub every: u64,
+    /// In which form they are shown.
+    pub form: Form,
+}
+
+/// Shows how nodes stand again and again: on a terminal in its place, until Ctrl-C or `q` is typed;
+/// elsewhere one after the other, with an empty line between, until the output takes no more. Answers the
+/// status to end with.
+pub fn run<R: Net + Files<File = File> + Clock + Input + Print + Eprint + Processes + AllocGlobal>(
+    rt: &R,
+    watch: &Watch,
+) -> u8 {
+    let mut screen = Screen::begin(rt, watch.form);
+    let done = show_all(rt, watch, &mut screen);
+    screen.end(rt);
+    match done {
+        Ok(()) => 0,
+        Err(notice) => told(rt, notice),
+    }
+}
+
+/// Shows one reading after the other until somebody ends it.
+fn show_all<'a, R: Net + Files + Clock + Input + Print + AllocGlobal>(
+    rt: &R,
+    watch: &Watch<'a>,
+    screen: &mut Screen,
+) -> Result<(), Notice<'a>> {
+    let Ok(start) = Instant::now(rt) else {
+        return Err(Notice::System);
+    };
+    let mut minute = Minute::new(rt.alloc());
+    for _ in 0..u64::MAX {
+        let text = shown(rt, watch, start, &mut minute)?;
+        if screen.show(rt, text.as_str()).is_err() {
+            return Err(Notice::Output);
+        }
+        if let End::Asked = screen.rest(rt, watch.every) {
+            return Ok(());
+        }
+    }
+    Ok(())
+}
+
+/// What is shown of a reading.
+fn shown<'a, R: Net + Files + Clock + AllocGlobal>(
+    rt: &R,
+    watch: &Watch<'a>,
+    start: Instant,
+    minute: &mut Minute,
+) -> Result<String, Notice<'a>> {
+    let nodes = nodes_asked(rt, watch.folder, watch.nodes)?;
+    let read = match watch.form {
+        Form::Json => json(rt, rt.alloc(), watch.folder, nodes.as_slice()),
+        Form::Lines => block(
+            rt,
+            rt.alloc(),
+            watch.folder,
+            nodes.as_slice(),
+            start,
+            minute,
+        ),
+    };
+    match read {
+        Ok(text) => Ok(text),
+        Err(error) => Err(why_not_asked(error.kind())),
+    }
+}
+
+/// A reading as JSON.
+fn json<R: Net + Clock>(rt: &R, alloc: Global, folder: &str, nodes: &[u16]) -> io::Result<String> {
+    let answers = answers_of(rt, alloc, folder, nodes, WAIT)?;
+    Ok(text_of(alloc, answers.as_slice(), Form::Json)?)
+}
+
+/// A reading as a picture, with the loans of the last minute.
+fn block<R: Net + Clock>(
+    rt: &R,
+    alloc: Global,
+    folder: &str,
+    nodes: &[u16],
+    start: Instant,
+    minute: &mut Minute,
+) -> io::Result<String> {
+    let answers = answers_of(rt, alloc, folder, nodes, WAIT)?;
+    let looks = ask_all(rt, alloc, Question::Look, folder, nodes, WAIT)?;
+    let loans = loans_of(alloc, looks.as_slice())?;
+    let at = u64::try_from(start.elapsed(rt)?.as_millis()).unwrap_or(u64::MAX);
+    Ok(picture_at(alloc, at, answers.as_slice(), loans.as_slice(), minute)?)
+}
+
+/// The picture of a reading at this time, in milliseconds.
+fn picture_at(
+    alloc: Global,
+    at: u64,
+    answers: &[NodeAnswer],
+    loans: &[NodeLoans],
+    minute: &mut Minute,
+) -> Result<String, AllocError> {
+    if let Some(sample) = Sample::of(at, loans) {
+        minute.push(sample)?;
+    }
+    picture(alloc, answers, loans, minute.rates())
+}

@@ -1,0 +1,50 @@
+-- The line that a check prints, in the form of monitoring plugins: the text, a bar, and the figures.
+use Rattle.std.specs.Prelude.{ℕ, Bool, false, not, List, ◌++◌, length, filter, Option, None, Some, codes, decimal}
+use Rattle.topology.specs.Network.{Network}
+use Rattle.node_texts.specs.declared.status_line.StatusLine.{StatusLine}
+use Rattle.node_texts.specs.declared.answers.NodeAnswer.{NodeAnswer}
+use Rattle.node_texts.specs.Report.{is_privileged, lends, has_answered}
+use Rattle.status_readings.specs.declared.check_line.Figures.{Figures}
+use Rattle.status_readings.specs.declared.findings.Finding.{Finding}
+use Rattle.status_readings.specs.declared.findings.Finding.TheVariants.{AllWell, Silent, Wrong, TwoLentOnce, Nobody, TwoLend}
+use Rattle.status_readings.specs.Verdict.{is_true, severity, severity_word}
+
+abbrev pub line_is_wrong : Network → Option StatusLine → Bool
+line_is_wrong net None = false
+line_is_wrong net (Some line) = not (is_true net line)
+
+-- the node answered, with another distance or parent than the network gives
+abbrev pub is_wrong : Network → NodeAnswer → Bool
+is_wrong net answer = line_is_wrong net answer.line
+
+-- how many nodes were asked, and how many of them say what
+abbrev pub figures : Network → List NodeAnswer → Figures
+figures net answers = record {
+  nodes = length answers;
+  answering = length (filter has_answered answers);
+  wrong = length (filter (is_wrong net) answers);
+  privileged = length (filter is_privileged answers);
+  lending = length (filter lends answers);
+}
+
+-- what was found, in words
+abbrev pub finding_text : Finding → List ℕ
+finding_text AllWell = codes "each node is in its place, and at most one lends"
+finding_text (Silent node) = codes "node " ++ (decimal node ++ codes " does not answer")
+finding_text (Wrong node) = codes "node " ++ (decimal node ++ codes " has a wrong distance or parent")
+finding_text TwoLentOnce = codes "two nodes lent in a reading, but not in each"
+finding_text Nobody = codes "no node answers"
+finding_text TwoLend = codes "two nodes lend in each reading"
+
+-- each figure by its name
+abbrev pub figures_text : Figures → List ℕ
+figures_text f =
+    codes "nodes=" ++ (decimal f.nodes ++ (codes " answering=" ++ (decimal f.answering
+    ++ (codes " wrong=" ++ (decimal f.wrong ++ (codes " privileged=" ++ (decimal f.privileged
+    ++ (codes " lending=" ++ decimal f.lending))))))))
+
+-- the whole line
+abbrev pub check_line : Finding → Figures → List ℕ
+check_line finding figures =
+    codes "tokentree " ++ (severity_word (severity finding)
+    ++ (codes " - " ++ (finding_text finding ++ (codes " | " ++ figures_text figures))))

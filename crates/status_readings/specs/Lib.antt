@@ -1,0 +1,10 @@
+pub mod Verdict
+pub mod CheckText
+pub mod JsonData
+pub mod SecondsText
+pub mod LookSaid
+pub mod LinksText
+pub mod Tree
+pub mod Minute
+pub mod Picture
+pub mod Laws

@@ -1,0 +1,66 @@
+-- What a node's line for whoever looks says of its loans and its links.
+use Rattle.std.specs.Prelude.{ℕ, Bool, List, [], ◌∷◌, Option, None, Some, codes, option_and_then}
+use Rattle.serde_json.specs.Data.{Data, Items, no_items, item}
+use Rattle.serde_json.specs.Find.{get, as_bool, as_array}
+use Rattle.serde_json.specs.Read.{read}
+use Rattle.node_texts.specs.PremisesText.{member_number}
+use Rattle.status_readings.specs.declared.looks.LoansSaid.{LoansSaid}
+use Rattle.status_readings.specs.declared.looks.LinkSaid.{LinkSaid}
+
+-- two numbers, if each is there, and one that may be absent
+abbrev pub all_loans : Option ℕ → Option ℕ → Option ℕ → Option LoansSaid
+all_loans (Some count) (Some longest) present =
+    Some (record { count = count; longest = longest; present = present })
+all_loans _ _ _ = None
+
+abbrev pub members_loans : Data → Option LoansSaid
+members_loans loans =
+    all_loans (member_number (codes "count") loans) (member_number (codes "longest_us") loans)
+    (member_number (codes "present_us") loans)
+
+-- what a JSON value says of a node's loans
+abbrev pub loans_said : Data → Option LoansSaid
+loans_said value = option_and_then members_loans (get (codes "loans") value)
+
+-- what a line says of them, if it is JSON
+abbrev pub line_loans : List ℕ → Option LoansSaid
+line_loans line = option_and_then loans_said (read line)
+
+-- the truth value that is the member of this name
+abbrev pub member_truth : List ℕ → Data → Option Bool
+member_truth name value = option_and_then as_bool (get name value)
+
+abbrev pub all_link : Option ℕ → Option Bool → Option ℕ → Option ℕ → Option LinkSaid
+all_link (Some node) (Some up) (Some since) (Some breaks) =
+    Some (record { node = node; is_up = up; since = since; breaks = breaks })
+all_link _ _ _ _ = None
+
+-- what a JSON value says of a link
+abbrev pub link_said : Data → Option LinkSaid
+link_said value =
+    all_link (member_number (codes "node") value) (member_truth (codes "up") value)
+    (member_number (codes "for_us") value) (member_number (codes "breaks") value)
+
+abbrev pub with_link : Option LinkSaid → List LinkSaid → List LinkSaid
+with_link None links = links
+with_link (Some link) links = link ∷ links
+
+-- those items of a list that are links
+abbrev pub links_in : Items → List LinkSaid
+links_in no_items = []
+links_in (item value values) = with_link (link_said value) (links_in values)
+
+abbrev pub all_links : Items → Option (List LinkSaid)
+all_links values = Some (links_in values)
+
+-- the list of a node's links in a JSON value
+abbrev pub links_listed : Data → Option Items
+links_listed value = option_and_then as_array (get (codes "links") value)
+
+-- what a JSON value says of a node's links
+abbrev pub links_said : Data → Option (List LinkSaid)
+links_said value = option_and_then all_links (links_listed value)
+
+-- what a line says of them, if it is JSON
+abbrev pub line_links : List ℕ → Option (List LinkSaid)
+line_links line = option_and_then links_said (read line)

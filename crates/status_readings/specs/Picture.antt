@@ -1,0 +1,66 @@
+-- What a watch shows at a time.
+use Rattle.std.specs.Prelude.{ℕ, zero, suc, ◌/◌, ◌%◌, Bool, true, false, List, [], ◌∷◌, ◌++◌, length, filter}
+use Rattle.std.specs.Prelude.{Option, None, Some, if◌then◌else◌, ◌==◌, codes, decimal}
+use Rattle.node_texts.specs.declared.status_line.StatusLine.{StatusLine}
+use Rattle.node_texts.specs.declared.answers.NodeAnswer.{NodeAnswer}
+use Rattle.node_texts.specs.Report.{counts_line, is_privileged, lends}
+use Rattle.status_readings.specs.declared.minute.NodeLoans.{NodeLoans}
+use Rattle.status_readings.specs.declared.minute.Rates.{Rates}
+use Rattle.status_readings.specs.declared.tree.Row.{Row}
+use Rattle.status_readings.specs.Minute.{present_at}
+use Rattle.status_readings.specs.SecondsText.{seconds_text}
+use Rattle.status_readings.specs.Tree.{tree_rows}
+
+-- two spaces for each node above
+abbrev pub indent : ℕ → List ℕ
+indent zero = []
+indent (suc depth) = indent depth ++ codes "  "
+
+abbrev pub token_text : Bool → List ℕ
+token_text true = codes " token"
+token_text false = []
+
+-- to whom a node lends, and for how long it has
+abbrev pub lent_text : Option ℕ → Option ℕ → List ℕ
+lent_text None present = []
+lent_text (Some ticket) None = codes " lent " ++ decimal ticket
+lent_text (Some ticket) (Some micros) =
+    codes " lent " ++ (decimal ticket ++ (codes " for " ++ (seconds_text micros ++ codes " s")))
+
+-- how many wait, if somebody does
+abbrev pub waiting_text : ℕ → List ℕ
+waiting_text waiting = if waiting == 0 then [] else codes " waiting " ++ decimal waiting
+
+-- what a node says
+abbrev pub said_text : StatusLine → Option ℕ → List ℕ
+said_text line present =
+    codes " distance " ++ (decimal line.distance ++ (token_text line.token
+    ++ (lent_text line.lent present ++ waiting_text line.waiting)))
+
+abbrev pub said_or_none : Option StatusLine → Option ℕ → List ℕ
+said_or_none None present = codes " no answer"
+said_or_none (Some line) present = said_text line present
+
+-- the line of a row
+abbrev pub row_text : List NodeLoans → Row → List ℕ
+row_text loans row =
+    indent row.depth ++ (codes "node " ++ (decimal row.answer.node
+    ++ (said_or_none row.answer.line (present_at loans row.answer.node) ++ codes "\n")))
+
+abbrev pub row_lines : List NodeLoans → List Row → List ℕ
+row_lines loans [] = []
+row_lines loans (row ∷ rows) = row_text loans row ++ row_lines loans rows
+
+-- the loans of the last minute, if they are known
+abbrev pub rates_line : Option Rates → List ℕ
+rates_line None = []
+rates_line (Some rates) =
+    codes "last minute: " ++ (decimal (rates.tenths / 10) ++ (codes "." ++ (decimal (rates.tenths % 10)
+    ++ (codes " loans a second, longest " ++ (seconds_text rates.longest ++ codes " s\n")))))
+
+-- all lines
+abbrev pub picture_text : List NodeAnswer → List NodeLoans → Option Rates → List ℕ
+picture_text answers loans rates =
+    row_lines loans (tree_rows answers)
+    ++ (counts_line (length (filter is_privileged answers)) (length (filter lends answers))
+    ++ rates_line rates)

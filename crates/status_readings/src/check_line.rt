@@ -1,0 +1,116 @@
+//! The line that a check prints.
+ghost use Rattle.std.specs.Prelude.{◌≡◌, length, filter};
+ghost use Rattle.status_readings.specs.CheckText.{figures, is_wrong};
+
+use crate::counts::{answering, lending, privileged};
+use crate::findings::{Finding, is_true};
+use node_texts::NodeAnswer;
+use std::fmt;
+use topology::Net;
+
+/// The figures of a reading.
+#[derive(Clone, Copy, Debug, PartialEq, Eq, Drop)]
+pub struct Figures {
+    /// How many nodes were asked.
+    pub nodes: usize,
+    /// How many answered.
+    pub answering: usize,
+    /// How many of them have another distance or parent than the network gives.
+    pub wrong: usize,
+    /// How many are privileged.
+    pub privileged: usize,
+    /// How many lend.
+    pub lending: usize,
+}
+
+impl Figures {
+    /// The figures of what the nodes of a network answered.
+    pub fn of(net: &Net, answers: &[NodeAnswer]) -> Figures
+        ensures { result ≡ figures net.now answers.now }
+    {
+        Figures {
+            nodes: answers.len(),
+            answering: answering(answers),
+            wrong: wrong(net, answers),
+            privileged: privileged(answers),
+            lending: lending(answers),
+        }
+    }
+}
+
+/// How many answered, with another distance or parent than the network gives.
+fn wrong(net: &Net, answers: &[NodeAnswer]) -> usize
+    ensures { result ≡ length (filter (is_wrong net.now) answers.now) }
+{
+    answers
+        .iter()
+        .filter(|answer| is_wrong(net, answer))
+        .count()
+}
+
+/// Whether a node answered, with another distance or parent than the network gives.
+fn is_wrong(net: &Net, answer: &NodeAnswer) -> bool
+    ensures { result ≡ is_wrong net.now answer.now }
+{
+    match answer.line {
+        Some(line) => !is_true(net, &line),
+        None => false,
+    }
+}
+
+impl fmt::Display for Finding {
+    ghost use Rattle.std.specs.Prelude.{Some};
+    ghost use Rattle.status_readings.specs.CheckText.{finding_text};
+
+    ghost output = { λ finding. Some (finding_text finding) };
+
+    fn fmt<W: fmt::Write>(&self, f: &mut fmt::Formatter<W>) -> fmt::Result {
+        match *self {
+            Finding::AllWell => f.write_str("each node is in its place, and at most one lends"),
+            Finding::Silent(node) => write!(f, "node {node} does not answer"),
+            Finding::Wrong(node) => write!(f, "node {node} has a wrong distance or parent"),
+            Finding::TwoLentOnce => f.write_str("two nodes lent in a reading, but not in each"),
+            Finding::Nobody => f.write_str("no node answers"),
+            Finding::TwoLend => f.write_str("two nodes lend in each reading"),
+        }
+    }
+}
+
+impl fmt::Display for Figures {
+    ghost use Rattle.std.specs.Prelude.{Some};
+    ghost use Rattle.status_readings.specs.CheckText.{figures_text};
+
+    ghost output = { λ figures. Some (figures_text figures) };
+
+    fn fmt<W: fmt::Write>(&self, f: &mut fmt::Formatter<W>) -> fmt::Result {
+        let (nodes, answering, wrong) = (self.nodes, self.answering, self.wrong);
+        let (privileged, lending) = (self.privileged, self.lending);
+        write!(
+            f,
+            "nodes={nodes} answering={answering} wrong={wrong} privileged={privileged} lending={lending}"
+        )
+    }
+}
+
+/// What a check prints, without its newline: how bad it is, what was found, and the figures of the last
+/// reading.
+#[derive(Clone, Copy, Debug, PartialEq, Eq, Drop)]
+pub struct CheckLine {
+    /// What was found.
+    pub finding: Finding,
+    /// The figures.
+    pub figures: Figures,
+}
+
+impl fmt::Display for CheckLine {
+    ghost use Rattle.std.specs.Prelude.{Some};
+    ghost use Rattle.status_readings.specs.CheckText.{check_line};
+
+    ghost output = { λ line. Some (check_line line.finding line.figures) };
+
+    fn fmt<W: fmt::Write>(&self, f: &mut fmt::Formatter<W>) -> fmt::Result {
+        let word = self.finding.severity().word();
+        let (finding, figures) = (self.finding, self.figures);
+        write!(f, "tokentree {word} - {finding} | {figures}")
+    }
+}

@@ -1,0 +1,125 @@
+//! What a watch shows at a time.
+ghost use Rattle.std.specs.Prelude.{◌≡◌, ◌++◌, IfOk, OnOk, length, filter, string_bytes};
+ghost use Rattle.node_texts.specs.Report.{counts_line, is_privileged, lends};
+ghost use Rattle.status_readings.specs.Picture.{indent, said_text, lent_text, waiting_text, row_text, row_lines};
+ghost use Rattle.status_readings.specs.Picture.{rates_line, picture_text};
+
+use crate::counts::{lending, privileged};
+use crate::minute::{NodeLoans, Rates, present_at};
+use crate::seconds::Seconds;
+use crate::tree::{Row, rows};
+use node_texts::{NodeAnswer, StatusLine};
+use std::alloc::{AllocError, Global};
+use std::fmt::Write;
+
+/// The lines of a reading: a line for each node, under its parent; how many are privileged, and lend; and
+/// the loans of the last minute, if they are known.
+///
+/// # Errors
+/// Where memory runs out.
+pub fn picture(
+    alloc: Global,
+    answers: &[NodeAnswer],
+    loans: &[NodeLoans],
+    rates: Option<Rates>,
+) -> Result<String, AllocError>
+    ensures { IfOk result (λ text. string_bytes text ≡ picture_text answers.now loans.now rates) }
+{
+    let rows = rows(alloc, answers)?;
+    let mut text = String::new(alloc);
+    push_rows(&mut text, rows.as_slice(), loans)?;
+    push_counts(&mut text, privileged(answers), lending(answers))?;
+    push_rates(&mut text, rates)?;
+    Ok(text)
+}
+
+/// Adds the lines of rows.
+fn push_rows(text: &mut String, rows: &[Row], loans: &[NodeLoans]) -> Result<(), AllocError>
+    ensures { OnOk result (string_bytes text.new
+        ≡ string_bytes text.old ++ row_lines loans.now rows.now) }
+{
+    for row in rows {
+        push_row(text, row, loans)?;
+    }
+    Ok(())
+}
+
+/// Adds the line of a row.
+fn push_row(text: &mut String, row: &Row, loans: &[NodeLoans]) -> Result<(), AllocError>
+    ensures { OnOk result (string_bytes text.new
+        ≡ string_bytes text.old ++ row_text loans.now row.now) }
+{
+    push_indent(text, row.depth)?;
+    write!(text, "node {}", row.answer.node)?;
+    match row.answer.line {
+        Some(line) => push_said(text, &line, present_at(loans, row.answer.node))?,
+        None => text.push_str(" no answer")?,
+    }
+    text.push_str("\n")
+}
+
+/// Adds two spaces for each node above.
+fn push_indent(text: &mut String, depth: usize) -> Result<(), AllocError>
+    ensures { OnOk result (string_bytes text.new ≡ string_bytes text.old ++ indent depth) }
+{
+    for _ in 0..depth {
+        text.push_str("  ")?;
+    }
+    Ok(())
+}
+
+/// Adds what a node says.
+fn push_said(text: &mut String, line: &StatusLine, present: Option<u64>) -> Result<(), AllocError>
+    ensures { OnOk result (string_bytes text.new
+        ≡ string_bytes text.old ++ said_text line.now present) }
+{
+    let token = if line.token { " token" } else { "" };
+    write!(text, " distance {}{token}", line.distance)?;
+    push_lent(text, line.lent, present)?;
+    push_waiting(text, line.waiting)
+}
+
+/// Adds to whom a node lends, and for how long it has.
+fn push_lent(text: &mut String, lent: Option<u16>, present: Option<u64>) -> Result<(), AllocError>
+    ensures { OnOk result (string_bytes text.new ≡ string_bytes text.old ++ lent_text lent present) }
+{
+    match (lent, present) {
+        (None, _) => Ok(()),
+        (Some(ticket), None) => write!(text, " lent {ticket}"),
+        (Some(ticket), Some(micros)) => write!(text, " lent {ticket} for {} s", Seconds(micros)),
+    }
+}
+
+/// Adds how many wait, if somebody does.
+fn push_waiting(text: &mut String, waiting: u16) -> Result<(), AllocError>
+    ensures { OnOk result (string_bytes text.new ≡ string_bytes text.old ++ waiting_text waiting) }
+{
+    match waiting {
+        0 => Ok(()),
+        _ => write!(text, " waiting {waiting}"),
+    }
+}
+
+/// Adds how many are privileged, and lend.
+fn push_counts(text: &mut String, privileged: usize, lending: usize) -> Result<(), AllocError>
+    ensures { OnOk result (string_bytes text.new
+        ≡ string_bytes text.old ++ counts_line privileged lending) }
+{
+    writeln!(text, "privileged {privileged} lending {lending}")
+}
+
+/// Adds the loans of the last minute, if they are known.
+fn push_rates(text: &mut String, rates: Option<Rates>) -> Result<(), AllocError>
+    ensures { OnOk result (string_bytes text.new ≡ string_bytes text.old ++ rates_line rates) }
+{
+    match rates {
+        Some(rates) => writeln!(
+            text,
+            "last minute: {}.{} loans a second, longest {} s",
+            rates.tenths / 10,
+            rates.tenths % 10,
+            Seconds(rates.longest)
+        ),
+        None => Ok(()),
+    }
+}

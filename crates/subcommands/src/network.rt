@@ -1,0 +1,72 @@
+//! `network KIND N`: the network file of a usual graph.
+ghost use Rattle.std.specs.Prelude.{◌≡◌, IfOk, Ok, string_bytes};
+ghost use Rattle.std.specs.Process.{exit_status};
+ghost use Rattle.subcommands.specs.Named.{IsTextOf};
+ghost use Rattle.topology.specs.Reading.{read_text};
+ghost use Rattle.topology.specs.Refusal.{values_of};
+
+use crate::bound::done;
+use command_parts::{Fault, NetworkFault};
+use network_kinds::{Kind, network_of, network_text};
+use std::alloc::Global;
+use std::process::ExitCode;
+use topology::Net;
+
+/// Which network is wanted.
+#[derive(Clone, Copy, Debug, PartialEq, Eq)]
+pub struct Wanted {
+    /// Its kind.
+    pub kind: Kind,
+    /// How many nodes it has.
+    pub nodes: u16,
+    /// Its root.
+    pub root: u16,
+    /// How many items each direction of an edge holds.
+    pub capacity: u16,
+    /// For how many ticks the lock is lent at most; 0 is no limit.
+    pub lease: u16,
+}
+
+/// Prints the network file of the network that is wanted.
+///
+/// # Errors
+/// If there is no such network, memory runs out, or standard output does not take the text.
+pub fn run<R: Print + AllocGlobal>(rt: &R, wanted: Wanted) -> Result<ExitCode, Fault>
+    ensures { IfOk result (λ status. exit_status status ≡ 0) }
+{
+    let text = named_text(rt.alloc(), wanted)?;
+    done(rt.print(text.as_str()))
+}
+
+/// The network file of the network that is wanted.
+///
+/// # Errors
+/// If there is no such network, or memory runs out.
+#[tactic(auto, using(crate::proofs::Naming::named_if))]
+pub fn named_text(alloc: Global, wanted: Wanted) -> Result<String, Fault>
+    // It reads as the network with exactly the edges of the kind, and these numbers.
+    ensures { IfOk result (λ text. IsTextOf wanted (string_bytes text)) }
+{
+    let made = network_of(
+        alloc,
+        wanted.kind,
+        wanted.nodes,
+        wanted.root,
+        wanted.capacity,
+        wanted.lease,
+    );
+    match made {
+        Ok(net) => text_of(alloc, &net),
+        Err(fault) => Err(Fault::from(NetworkFault::Refused(fault))),
+    }
+}
+
+/// The network file of a network.
+///
+/// # Errors
+/// If memory runs out.
+fn text_of(alloc: Global, net: &Net) -> Result<String, Fault>
+    ensures { IfOk result (λ text. read_text (string_bytes text) ≡ Ok (values_of net.now)) }
+{
+    network_text(alloc, net).map_err(|_| Fault::Memory)
+}
