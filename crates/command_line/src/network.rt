@@ -5,8 +5,7 @@ ghost use Rattle.command_line.specs.Named.{kind_named, most_edges, usual_edges};
 use crate::refusal::{KindFault, Refusal};
 use clap::{ArgMatches, Command};
 use command_grammar::{
-    Grammar, Number, Parameter, WordFault, given_number, number_if_given,
-    with_command, word,
+    Grammar, Number, Parameter, WordFault, given_number, number_if_given, with_command, word,
 };
 use network_kinds::{Kind, least_nodes, most_nodes};
 use std::alloc::{AllocError, Global};
@@ -20,10 +19,7 @@ const NETWORK: Grammar<'static> = Grammar {
     about: "Prints the network file of a line, a ring, a star, a grid, a tree, a complete or a random graph",
     help: HELP,
     parameters: &[
-        Parameter::Place(
-            "KIND",
-            "line, ring, star, complete, tree, grid or random",
-        ),
+        Parameter::Place("KIND", "line, ring, star, complete, tree, grid or random"),
         Parameter::Place("N", "How many nodes there are; of a grid, how many rows"),
         Parameter::Places("M", "Of a grid, how many columns"),
         Parameter::ValueOr("root", "ID", "0", "The root of the tree: a node"),

@@ -38,7 +38,7 @@ further_more i count n at edges later left rest whole g after more some long dra
     let place : at ≡ (draw (length left) g).0 = drawn ∙ ap (λ m. (draw m g).0) long in
     let next : after ≡ (draw (length left) g).1 = then ∙ ap (λ m. (draw m g).1) long in
     let first : further_edges (count - i) left g ≡ get_or left at (0, 0) ∷ further_edges (count - (i + 1)) rest after =
-        ap (λ k. further_edges k left g) one ∙ (further_one (count - (i + 1)) left g some ∙ rw (removed, place, next) refl) in
+    ap (λ k. further_edges k left g) one ∙ (further_one (count - (i + 1)) left g some ∙ rw (removed, place, next) refl) in
     rw put (append_assoc edges (get_or left at (0, 0) ∷ []) (further_edges (count - (i + 1)) rest after) ∙ (ap (λ es. edges ++ es) (sym first) ∙ e))
 
 -- the edge that was removed is put last

@@ -42,7 +42,7 @@ pub edges_more : (values after : List Value) (v : Value) (edges : List Edge) (i 
     → items_view after ≡ edges_data (take (i + 1) edges)
 edges_more values after v edges i d put done one there =
     let last : push_item (items_view values) (view v) ≡ edges_data (take i edges ++ get_or edges i d ∷ []) =
-        rw (done, one) (sym (edges_last (take i edges) (get_or edges i d))) in
+    rw (done, one) (sym (edges_last (take i edges) (get_or edges i d))) in
     ap items_view put ∙ (items_view-push values v ∙ (last ∙ ap edges_data (sym (take_more edges i d there))))
 
 edges_read : (es : List Edge) → all_ends (edges_data es) ≡ Some (map as_ends es)

@@ -67,7 +67,8 @@ fn is_edge(kind: Kind, nodes: u16, edge: (u16, u16)) -> bool
         Kind::Complete => true,
         Kind::Tree => v == 2 * u + 1 || v == 2 * u + 2,
         Kind::Grid { columns } => {
-            v == u + u32::from(columns) || (v == u + 1 && columns > 0 && v % u32::from(columns) != 0)
+            v == u + u32::from(columns)
+                || (v == u + 1 && columns > 0 && v % u32::from(columns) != 0)
         }
         Kind::Random { .. } => false,
     }

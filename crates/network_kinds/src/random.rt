@@ -99,9 +99,7 @@ fn is_unjoined(edges: &[(u16, u16)], pair: (u16, u16)) -> bool
 fn are_joined(edges: &[(u16, u16)], v: u16, w: u16) -> bool
     ensures { result ≡ are_joined edges.now v w }
 {
-    edges
-        .iter()
-        .any(|edge| (edge.0 == v && edge.1 == w) || (edge.0 == w && edge.1 == v))
+    edges.iter().any(|edge| (edge.0 == v && edge.1 == w) || (edge.0 == w && edge.1 == v))
 }
 
 /// Adds as many edges, each drawn from the pairs that are left.

@@ -44,12 +44,7 @@ fn network_table(alloc: Global, net: &Net) -> Result<Table, AllocError>
 }
 
 /// Puts a number under a key.
-fn put_number(
-    alloc: Global,
-    table: &mut Table,
-    key: &str,
-    number: u16,
-) -> Result<(), AllocError>
+fn put_number(alloc: Global, table: &mut Table, key: &str, number: u16) -> Result<(), AllocError>
     ensures { OnOk result (table_view table.new
         ≡ with_member key.now (integer (pos number)) (table_view table.old)) }
 {

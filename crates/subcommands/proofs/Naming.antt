@@ -12,9 +12,15 @@ use Rattle.subcommands.specs.Named.{IsTextOf}
 pub named : (w : Wanted) (text : List ℕ) (net : Network)
     → IsAccepted (values_for w.kind w.nodes w.root w.capacity w.lease) net
     → read_text text ≡ Ok (values_of net) → IsTextOf w text
-named w text net accepted read =
-    (net, accepted, (values_for w.kind w.nodes w.root w.capacity w.lease,
-     subst (λ v. read_text text ≡ Ok v) accepted.same read, accepted))
+named w text net accepted read = (
+  net,
+  accepted,
+  (
+    values_for w.kind w.nodes w.root w.capacity w.lease,
+    subst (λ v. read_text text ≡ Ok v) accepted.same read,
+    accepted,
+  ),
+)
 
 pub named_if : {F : Type 0} (w : Wanted) (net : Network) (r : Result (String Global) F)
     → IsAccepted (values_for w.kind w.nodes w.root w.capacity w.lease) net

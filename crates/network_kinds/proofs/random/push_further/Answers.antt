@@ -15,4 +15,4 @@ loop-i-preserved g c =
     let long : c.len.result ≡ length c.loop-i.left.items = omega (arith, c.len.ensures, c.loop-i.left.ok.0) in
     let some : 0 < length c.loop-i.left.items = omega (arith, long, c.draw_below-at.ensures.below) in
     further_more c.loop-i.i c.args.count _ _ _ _ _ _ _ _ _ c.loop-i-test.true some long c.draw_below-at.ensures.drawn c.draw_below-at.ensures.generator
-        c.in_ok-move_at.ensures.edges c.move_at.ensures.left c.loop-i.invariant
+    c.in_ok-move_at.ensures.edges c.move_at.ensures.left c.loop-i.invariant
