@@ -4,9 +4,11 @@ pub mod Sights
 pub mod Pushing
 pub mod Speaking
 pub mod Hearing
+pub mod Remembering
 pub mod Turning
 pub mod Loose
 pub mod Accounts
 pub mod Lives
 mod Rows
 mod RowsTurns
+mod RowsRemembering

@@ -185,9 +185,11 @@ module _ {P : Type 0} where
         wires = λ w. tt;
         hears = record { takes = record { site = refl; deeds = []; kinds = All-nil IsTake; leads = refl }; pulls = λ w. tt };
         serves = record { site = refl; deeds = []; kinds = All-nil IsOfClient; leads = refl };
+        remembers = record { manner = refl; ports = λ p. inl (refl, refl) };
       };
       acts = acts;
       ports = refl;
+      remembers = record { manner = refl; ports = λ p. inl (refl, refl) };
       plans = record { ticks = refl; offers = λ w l c. refl };
       speaks = record { sends = []; kinds = All-nil _; leads = refl; neighbours = λ w l c. tt; others = λ w n. (refl, refl); rest = (refl, refl) };
       leaves = record { site = refl; deeds = []; kinds = All-nil IsLeave; leads = refl };
@@ -218,6 +220,7 @@ module _ {P : Type 0} where
         wires = λ w. tt;
         hears = record { takes = record { site = refl; deeds = []; kinds = All-nil IsTake; leads = refl }; pulls = λ w. tt };
         serves = record { site = refl; deeds = []; kinds = All-nil IsOfClient; leads = refl };
+        remembers = record { manner = refl; ports = λ p. inl (refl, refl) };
       };
       plans = record { ticks = refl; offers = λ w l c. refl };
       speaks = record { sends = []; kinds = All-nil _; leads = refl; neighbours = λ w l c. tt; others = λ w n. (refl, refl); rest = (refl, refl) };

@@ -9,6 +9,7 @@ use Rattle.socket_links.specs.declared.link.SocketLink.{SocketLink}
 use Rattle.node_loop.specs.declared.port.NodePort.{NodePort}
 use Rattle.node_loop.specs.Deeds.{Became, IsOfClient, IsTake, taken_from}
 use Rattle.node_loop.specs.Moments.{AtBoth, Moment}
+use Rattle.node_loop.specs.Remembering.{Remembers}
 
 -- The connection of a port stands as it stood; or there is a new one, of which nothing is kept yet.
 abbrev pub Wires : {P : Type 0} → NodePort P → NodePort P → Type 0
@@ -67,7 +68,7 @@ pub record Hears {P : Type 0} (gave took : P → Option (List ℕ)) (counts : P 
       (slice_get ports w) (slice_get pulled w)
 
 -- Connections came; then the node took the frames that came on them; then its clients asked and
--- left.
+-- left. What its ports were given is remembered meanwhile.
 pub record Listens {P : Type 0} (gave took : P → Option (List ℕ)) (counts : P → Counts)
     (old new : Moment P) : Type 0 where
   pub wired : List (NodePort P)
@@ -75,3 +76,4 @@ pub record Listens {P : Type 0} (gave took : P → Option (List ℕ)) (counts : 
   pub wires : AreWired old.ports wired
   pub hears : Hears gave took counts old.node heard wired new.ports
   pub serves : Became IsOfClient heard new.node
+  pub remembers : Remembers old.pace new.pace

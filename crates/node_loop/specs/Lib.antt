@@ -7,6 +7,7 @@ pub mod Lives
 pub mod Arrivals
 pub mod Moments
 pub mod Hearing
+pub mod Remembering
 pub mod Speaking
 pub mod Turns
 pub mod Loose

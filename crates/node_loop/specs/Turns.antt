@@ -7,6 +7,7 @@ use Rattle.socket_links.specs.Counts.{Counts}
 use Rattle.node_loop.specs.Deeds.{Acts, Became, Deed, IsLeave, Leads, Ticks}
 use Rattle.node_loop.specs.Hearing.{Listens}
 use Rattle.node_loop.specs.Moments.{Moment}
+use Rattle.node_loop.specs.Remembering.{Remembers}
 use Rattle.node_loop.specs.Speaking.{IsPlanOf, Speaks}
 
 -- A turn: all that came was taken; then the node ticked once; then it spoke to its neighbours, by
@@ -20,6 +21,7 @@ pub record Turns {P : Type 0} (gave took : P → Option (List ℕ)) (counts : P 
   pub listens : Listens gave took counts old heard
   pub acts : Acts says heard.node acted.node
   pub ports : acted.ports ≡ heard.ports
+  pub remembers : Remembers heard.pace acted.pace
   pub plans : IsPlanOf now acted plan
   pub speaks : Speaks gave took counts plan.offers now acted new
   pub leaves : Became IsLeave acted.node new.node

@@ -77,6 +77,7 @@ impl<D: Doors, S: Store + Drop, A: Allocator + Copy> NodeRun<D, S, A> {
     ghost use Rattle.node_loop.specs.Hearing.{AreWired, Comes, Hears, Listens, Pulls, TakesAt, Wires};
     ghost use Rattle.node_loop.specs.LinkSights.{link_at};
     ghost use Rattle.node_loop.specs.Moments.{AtBoth};
+    ghost use Rattle.node_loop.specs.Remembering.{Remembers};
     ghost use Rattle.node_loop.specs.Speaking.{IsPlanOf, outlook_of, Speaks, SpeaksTo, sent_if};
     ghost use Rattle.node_loop.specs.Turns.{Attends, Turns};
 
@@ -289,6 +290,7 @@ impl<D: Doors, S: Store + Drop, A: Allocator + Copy> NodeRun<D, S, A> {
               let_go = self.new.let_go;
             }) }
         ensures connected { AreConnected self.new.clients self.new.node }
+        ensures pace { Remembers self.old.pace self.new.pace }
         ensures rest { (self.new.net ≡ self.old.net) × (self.new.turns ≡ self.old.turns)
             × (self.new.store ≡ self.old.store) }
     {
@@ -311,6 +313,7 @@ impl<D: Doors, S: Store + Drop, A: Allocator + Copy> NodeRun<D, S, A> {
         ensures node { self.new.node ≡ self.old.node }
         // No port changes, whatever the door answers.
         ensures ports { self.new.ports ≡ self.old.ports }
+        ensures pace { self.new.pace ≡ self.old.pace }
         ensures rest { (self.new.net ≡ self.old.net) × (self.new.turns ≡ self.old.turns)
             × (self.new.store ≡ self.old.store) }
     {
@@ -327,6 +330,7 @@ impl<D: Doors, S: Store + Drop, A: Allocator + Copy> NodeRun<D, S, A> {
         ensures node { self.new.node ≡ self.old.node }
         // No port changes, whatever the door answers.
         ensures ports { self.new.ports ≡ self.old.ports }
+        ensures pace { self.new.pace ≡ self.old.pace }
         ensures rest { (self.new.net ≡ self.old.net) × (self.new.turns ≡ self.old.turns)
             × (self.new.store ≡ self.old.store) }
     {
@@ -342,6 +346,7 @@ impl<D: Doors, S: Store + Drop, A: Allocator + Copy> NodeRun<D, S, A> {
     fn hear_hellos(&mut self)
         ensures node { self.new.node ≡ self.old.node }
         ensures wires { AreWired self.old.ports.items self.new.ports.items }
+        ensures pace { Remembers self.old.pace self.new.pace }
         ensures rest { (self.new.net ≡ self.old.net) × (self.new.turns ≡ self.old.turns)
             × (self.new.store ≡ self.old.store) }
     {
@@ -365,6 +370,7 @@ impl<D: Doors, S: Store + Drop, A: Allocator + Copy> NodeRun<D, S, A> {
             (slice_get self.new.ports.items id) }
         ensures others { (w : ℕ) → w ≢ id
             → slice_get self.new.ports.items w ≡ slice_get self.old.ports.items w }
+        ensures pace { Remembers self.old.pace self.new.pace }
         ensures rest { (self.new.net ≡ self.old.net) × (self.new.turns ≡ self.old.turns)
             × (self.new.store ≡ self.old.store) }
     {
@@ -378,6 +384,7 @@ impl<D: Doors, S: Store + Drop, A: Allocator + Copy> NodeRun<D, S, A> {
     fn connect(&mut self)
         ensures node { self.new.node ≡ self.old.node }
         ensures wires { AreWired self.old.ports.items self.new.ports.items }
+        ensures pace { Remembers self.old.pace self.new.pace }
         ensures rest { (self.new.net ≡ self.old.net) × (self.new.turns ≡ self.old.turns)
             × (self.new.store ≡ self.old.store) }
     {
@@ -393,6 +400,7 @@ impl<D: Doors, S: Store + Drop, A: Allocator + Copy> NodeRun<D, S, A> {
             (slice_get self.new.ports.items id) }
         ensures others { (w : ℕ) → w ≢ id
             → slice_get self.new.ports.items w ≡ slice_get self.old.ports.items w }
+        ensures pace { Remembers self.old.pace self.new.pace }
         ensures rest { (self.new.net ≡ self.old.net) × (self.new.turns ≡ self.old.turns)
             × (self.new.store ≡ self.old.store) }
     {
@@ -417,6 +425,7 @@ impl<D: Doors, S: Store + Drop, A: Allocator + Copy> NodeRun<D, S, A> {
             (slice_get self.new.ports.items id) }
         ensures others { (w : ℕ) → w ≢ id
             → slice_get self.new.ports.items w ≡ slice_get self.old.ports.items w }
+        ensures pace { self.new.pace ≡ self.old.pace }
         ensures rest { (self.new.net ≡ self.old.net) × (self.new.turns ≡ self.old.turns)
             × (self.new.store ≡ self.old.store) }
     {
@@ -436,6 +445,7 @@ impl<D: Doors, S: Store + Drop, A: Allocator + Copy> NodeRun<D, S, A> {
             (slice_get self.new.ports.items id) }
         ensures others { (w : ℕ) → w ≢ id
             → slice_get self.new.ports.items w ≡ slice_get self.old.ports.items w }
+        ensures pace { Remembers self.old.pace self.new.pace }
         ensures rest { (self.new.net ≡ self.old.net) × (self.new.turns ≡ self.old.turns)
             × (self.new.store ≡ self.old.store) }
     {
@@ -449,6 +459,7 @@ impl<D: Doors, S: Store + Drop, A: Allocator + Copy> NodeRun<D, S, A> {
     fn pull_all(&mut self, now: u64)
         ensures hears { Hears D.P.gave D.P.took D.P.counts self.old.node self.new.node
             self.old.ports.items self.new.ports.items }
+        ensures pace { Remembers self.old.pace self.new.pace }
         ensures rest { (self.new.net ≡ self.old.net) × (self.new.turns ≡ self.old.turns)
             × (self.new.store ≡ self.old.store) }
     {
@@ -461,6 +472,7 @@ impl<D: Doors, S: Store + Drop, A: Allocator + Copy> NodeRun<D, S, A> {
     fn pull(&mut self, id: u16, now: u64)
         ensures takes { TakesAt (Pulls (site_in self.old.node).ranges D.P.gave D.P.took D.P.counts)
             id self.old.node self.new.node self.old.ports.items self.new.ports.items }
+        ensures pace { Remembers self.old.pace self.new.pace }
         ensures rest { (self.new.net ≡ self.old.net) × (self.new.turns ≡ self.old.turns)
             × (self.new.store ≡ self.old.store) }
     {
@@ -480,6 +492,7 @@ impl<D: Doors, S: Store + Drop, A: Allocator + Copy> NodeRun<D, S, A> {
         ensures ended { result ≡ false
             → TakesAt (Pulls (site_in self.old.node).ranges D.P.gave D.P.took D.P.counts)
             id self.old.node self.new.node self.old.ports.items self.new.ports.items }
+        ensures pace { Remembers self.old.pace self.new.pace }
         ensures rest { (self.new.net ≡ self.old.net) × (self.new.turns ≡ self.old.turns)
             × (self.new.store ≡ self.old.store) }
     {
@@ -505,6 +518,7 @@ impl<D: Doors, S: Store + Drop, A: Allocator + Copy> NodeRun<D, S, A> {
         ensures ports { (self.new.ports ≡ self.old.ports) × (self.new.let_go ≡ self.old.let_go) }
         ensures connected { AreConnected self.old.clients self.old.node
             → AreConnected self.new.clients self.new.node }
+        ensures pace { Remembers self.old.pace self.new.pace }
         ensures rest { (self.new.net ≡ self.old.net) × (self.new.turns ≡ self.old.turns)
             × (self.new.store ≡ self.old.store) }
     {

@@ -24,6 +24,7 @@ returns-clause-turns g c =
       listens = listens;
       acts = acts;
       ports = ap (λ ports. ports.items) c.tick-ticked.ensures.ports.0;
+      remembers = c.tick-ticked.ensures.pace;
       plans = c.plan-plan.ensures;
       speaks = speaks;
       leaves = c.speak.ensures.node;

@@ -1,9 +1,10 @@
 use Rattle.std.proofs.Common.{◌∙◌, refl}
 use Rattle.node_loop.proofs.Hearing.{wired-at, wired-join, wired-same}
+use Rattle.node_loop.proofs.Remembering.{remembers-join, remembers-same}
 use Rattle.node_loop.proofs.run.NodeRun.connect.Goals as goal
 
 pub loop-id-init : goal.loop-id-init
-loop-id-init g c = (refl, refl, refl, refl, wired-same c.args.self.now.ports.items)
+loop-id-init g c = (refl, refl, refl, refl, wired-same c.args.self.now.ports.items, remembers-same c.args.self.now.pace)
 
 pub loop-id-preserved : goal.loop-id-preserved
 loop-id-preserved g c =
@@ -16,4 +17,5 @@ loop-id-preserved g c =
       done.rest.1 ∙ before.2,
       done.rest.2 ∙ before.3,
       wired-join c.args.self.now.ports.items mid new before.4 (wired-at mid new c.loop-id.id done.wires done.others),
+      remembers-join c.args.self.now.pace c.loop-id.self.pace c.connect_to.new.self.pace before.5 done.pace,
     )

@@ -3,6 +3,7 @@ use Rattle.node_loop.specs.Deeds.{IsOfClient}
 use Rattle.node_loop.specs.Hearing.{AreWired, Hears}
 use Rattle.node_loop.proofs.Became.{joins, leaves-are-clients}
 use Rattle.node_loop.proofs.Hearing.{wired-join}
+use Rattle.node_loop.proofs.Remembering.{remembers-equal, remembers-join}
 use Rattle.node_loop.proofs.run.NodeRun.listen.Goals as goal
 
 pub returns-clause-listens : goal.returns-clause-listens
@@ -20,4 +21,8 @@ returns-clause-listens g c =
           (subst (λ ports. AreWired ports.items c.hear_hellos.new.self.ports.items) come c.hear_hellos.ensures.wires) c.connect.ensures.wires;
       hears = subst (λ x. Hears g.D.P.Pipe.gave g.D.P.Pipe.took g.D.P.Pipe.counts x heard wired c.pull_all.new.self.ports.items) before c.pull_all.ensures.hears;
       serves = joins IsOfClient heard served c.leave_absent.new.node c.serve_all.ensures.node (leaves-are-clients served c.leave_absent.new.node c.leave_absent.ensures.node);
+      remembers = remembers-join start.pace c.accept_clients.new.self.pace c.pull_all.new.self.pace
+          (remembers-equal start.pace c.accept_clients.new.self.pace (c.accept_clients.ensures.pace ∙ c.accept_links.ensures.pace))
+          (remembers-join c.accept_clients.new.self.pace c.hear_hellos.new.self.pace c.pull_all.new.self.pace c.hear_hellos.ensures.pace
+          (remembers-join c.hear_hellos.new.self.pace c.connect.new.self.pace c.pull_all.new.self.pace c.connect.ensures.pace c.pull_all.ensures.pace));
     }

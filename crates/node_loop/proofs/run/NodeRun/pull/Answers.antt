@@ -4,6 +4,7 @@ use Rattle.topology.specs.declared.frame.Ranges.{Ranges}
 use Rattle.node_core.specs.View.{site_in}
 use Rattle.node_loop.specs.Hearing.{Comes, Pulls, TakesAt}
 use Rattle.node_loop.proofs.Hearing.{takes-none, takes-join, comes-none, comes-join, comes-then, comes-end, takes-end}
+use Rattle.node_loop.proofs.Remembering.{remembers-join, remembers-same}
 use Rattle.node_loop.proofs.run.NodeRun.pull.Goals as goal
 
 pub loop-init : goal.loop-init
@@ -14,6 +15,7 @@ loop-init g c =
       refl,
       refl,
       refl,
+      remembers-same self.pace,
     )
 
 pub loop-preserved : goal.loop-preserved
@@ -32,6 +34,7 @@ loop-preserved g c =
       rest.0 ∙ before.1,
       rest.1 ∙ before.2,
       rest.2 ∙ before.3,
+      remembers-join self.pace mid.pace new.pace before.4 c.pull_one.ensures.pace,
     )
 
 pub returns-then-not-pull_one-clause-takes : goal.returns-then-not-pull_one-clause-takes
