@@ -3,5 +3,6 @@ pub mod Phases
 pub mod Turning
 pub mod Joining
 pub mod Whole
+pub mod Repeating
 mod RowsStood
 mod RowsRunning

@@ -65,10 +65,10 @@ module _ {P : Type 0} (gave took : P → Option (List ℕ)) (counts : P → Coun
       (slice_get old.ports w) (slice_get new.ports w) (s.neighbours w within has)
 
   -- the site stays
-  turn-site : (says : Ticked) (now : ℕ) (old new : Moment P) → Turns gave took counts says now old new → site_in new.node ≡ site_in old.node
+  pub turn-site : (says : Ticked) (now : ℕ) (old new : Moment P) → Turns gave took counts says now old new → site_in new.node ≡ site_in old.node
   turn-site says now old new t = t.leaves.site ∙ (t.acts.leaves.site ∙ (t.acts.site ∙ (t.listens.serves.site ∙ t.listens.hears.takes.site)))
 
-  attend-site : (now : ℕ) (old new : Moment P) → Attends gave took counts now old new → site_in new.node ≡ site_in old.node
+  pub attend-site : (now : ℕ) (old new : Moment P) → Attends gave took counts now old new → site_in new.node ≡ site_in old.node
   attend-site now old new t = t.leaves.site ∙ (t.listens.serves.site ∙ t.listens.hears.takes.site)
 
   turn-pass : (says : Ticked) (now : ℕ) (old new : Moment P) (w : ℕ) → w < (site_in old.node).ranges.nodes → Contains (site_in old.node).neighbours w

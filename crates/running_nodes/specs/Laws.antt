@@ -12,8 +12,11 @@ use Rattle.processes.specs.Accounts.{Timed}
 use Rattle.processes.specs.Connections.{IsConnection}
 use Rattle.processes.specs.Laws.{KeepsPromise}
 use Rattle.processes.specs.Marks.{IsOrderOf}
+use Rattle.processes.specs.Links.{Act, the_accepts, accepts_in}
 use Rattle.processes.specs.Together.{AreProcessesOverBytes, Wires, history_on}
+use Rattle.processes.specs.Turns.{GivesOften, Pace}
 use Rattle.running_nodes.specs.Pipes.{Ends, AreEnds, sent_at, taken_at}
+use Rattle.running_nodes.specs.Repeating.{TimedTurn, whens, all_did, BeginsBy, GoesUp}
 use Rattle.running_nodes.specs.Running.{Runs, AreNodeRuns, AreConnections, ArePipes}
 use Rattle.running_nodes.specs.Stood.{Start, Stood, IsStood, PortWas, StartsAt}
 use Rattle.running_nodes.specs.Stretches.{Went, Goes, all_deeds}
@@ -70,3 +73,15 @@ module _ {P : Type 0} (gave took : P → Option (List ℕ)) (counts : P → Coun
       → ((some : List Event) × IsOrderOf account (history_on w wires) some)
       × ((events : List Event) → IsOrderOf account (history_on w wires) events
       → KeepsPromise w last events))
+
+  -- A port whose link is up is given a frame again and again, whatever the pace of its node remembers
+  -- at first: in a turn that begins the repetition time after an instant, if not before. The instant
+  -- may be any from the first turn on.
+  abbrev pub PortsAreGivenAgain : Type 0
+  PortsAreGivenAgain =
+      (w : ℕ) (first : Moment P) (turns : List (TimedTurn P)) (pace : Pace) (start until : ℕ)
+      (acts : List Act) → w < 64 → w < (site_in first.node).ranges.nodes
+      → Contains (site_in first.node).neighbours w
+      → first.pace.manner.repeat ≡ pace.repeat → BeginsBy start turns
+      → GoesUp gave took counts w first turns → the_accepts acts ≡ accepts_in w (all_did turns)
+      → GivesOften pace start until (whens turns) acts

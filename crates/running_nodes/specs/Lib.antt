@@ -2,4 +2,5 @@ pub mod Stretches
 pub mod Stood
 pub mod Pipes
 pub mod Running
+pub mod Repeating
 pub mod Laws

@@ -1,6 +1,7 @@
 //! What holds of nodes that run: each law is the contract of a function that does nothing.
 ghost use Rattle.running_nodes.specs.Laws.{TurnsLead, TurnsGoByConnections, EndsAreConnections};
 ghost use Rattle.running_nodes.specs.Laws.{NodeRunsAreProcesses, NodeRunsKeepPromise};
+ghost use Rattle.running_nodes.specs.Laws.{PortsAreGivenAgain};
 
 use socket_links::Pipe;
 
@@ -30,3 +31,11 @@ pub fn promise<P: Pipe>()
     topology::laws::neighbours();
     processes::laws::promise_over_bytes();
 }
+
+/// The repetition time, kept: from its first turn on a node gives each port whose link is up a frame
+/// in each turn that begins `repeat` after an instant, if not before. Its pace may remember anything
+/// at first, as after damage. So a network of such nodes keeps this part of the pace that
+/// `processes::laws::pace` asks for.
+pub fn gives<P: Pipe>()
+    ensures { PortsAreGivenAgain P.gave P.took P.counts }
+{}
