@@ -23,7 +23,7 @@ still-heard : (p : PortPace) (frame : Frame) → StillGiven p (heard_port frame 
 still-heard p frame = inl (refl, refl)
 
 pub remembers-same : (pace : Pace) → Remembers pace pace
-remembers-same pace = record { manner = refl; ports = λ p. still-same (port_of pace.ports p); }
+remembers-same pace = record { manner = refl; ports = λ p. still-same (port_of pace.ports p) }
 
 pub remembers-equal : (old new : Pace) → new ≡ old → Remembers old new
 remembers-equal old new e = subst (λ x. Remembers old x) (sym e) (remembers-same old)

@@ -6,3 +6,4 @@ pub mod Whole
 pub mod Repeating
 mod RowsStood
 mod RowsRunning
+mod RowsRepeating

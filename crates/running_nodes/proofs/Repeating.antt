@@ -6,13 +6,11 @@ use Rattle.std.specs.Prelude.{◌==◌}
 use Rattle.std.specs.List.{AllByRecursion}
 use Rattle.topology.specs.declared.frame.Frame.{Frame}
 use Rattle.data_link.specs.Port.{frame_of}
-use Rattle.node_core.specs.View.{NodeView, site_in, state_of}
-use Rattle.node_core.specs.declared.ticked.Ticked.{Ticked}
+use Rattle.node_core.specs.View.{site_in, state_of}
 use Rattle.pace.specs.Clock.{is_over}
 use Rattle.pace.specs.Nodes.{holds}
 use Rattle.pace.specs.Plans.{port_of}
-use Rattle.pace.specs.Ports.{given_port, has_question, is_due, is_news, times_given}
-use Rattle.pace.specs.declared.pace.Pace.{Pace}
+use Rattle.pace.specs.Ports.{given_port, has_question, is_due, is_news}
 use Rattle.pace.specs.declared.pace.Plan.{Plan}
 use Rattle.pace.specs.declared.port.PortPace.{PortPace}
 use Rattle.pace.specs.declared.port.PortSight.{PortSight}
@@ -21,16 +19,14 @@ use Rattle.accounts.specs.Deeds.{Deed, Asks, Leaves, Sends, Takes, Ticks, sent_t
 use Rattle.node_loop.specs.declared.port.NodePort.{NodePort}
 use Rattle.node_loop.specs.Moments.{AtBoth, Moment}
 use Rattle.node_loop.specs.Remembering.{Remembers, StillGiven}
-use Rattle.node_loop.specs.Speaking.{IsPlanOf, OffersIf, PortSpeaks, Speaks, SpeaksTo, outlook_of, sent_if, sight_at, takes_frames}
-use Rattle.node_loop.specs.Turns.{Attends, Turns}
+use Rattle.node_loop.specs.Speaking.{IsPlanOf, Speaks, SpeaksTo, outlook_of, sent_if, sight_at, takes_frames}
 use Rattle.node_loop.proofs.Accounts.{attend-sends, turn-sends}
 use Rattle.node_loop.proofs.Remembering.{remembers-join}
 use Rattle.processes.specs.Accounts.{Timed, deeds}
 use Rattle.processes.specs.Links.{Accepts, Act, Gives, Loses, accept_at, accepts_in, the_accepts}
 use Rattle.processes.specs.Turns.{Turn}
-use Rattle.processes.specs.Turns.{GivesOften}
 use Rattle.running_nodes.specs.Laws.{PortsAreGivenAgain}
-use Rattle.running_nodes.specs.Repeating.{BeginsBy, GoesUp, IsInTime, IsTurnUp, TimedTurn, WasUp, all_did, whens}
+use Rattle.running_nodes.specs.Repeating.{BeginsBy, GoesUp, IsTurnUp, TimedTurn, WasUp, all_did, whens}
 use Rattle.running_nodes.proofs.Turning.{attend-site, turn-site}
 
 -- ---- when a frame is due
@@ -62,7 +58,6 @@ due-new sight is_held repeat now port takes none =
     any false rest true x y = absurd cc
 
 -- ---- one turn
-
 
 -- a time that is not over since then
 not-over : (since span now : ℕ) → is_over since span now ≡ false → (since ≤ now) × (now < since + span)
@@ -153,7 +148,7 @@ module _ {P : Type 0} (gave took : P → Option (List ℕ)) (counts : P → Coun
       let was = port_of at.pace.ports w in
       let due : offered ≡ is_due sight held at.pace.manner.repeat now was = plans.offers w id has in
       elim (spoke (frame_of ((state_of at.node).port w)) offered now was (port_of new.pace.ports w) (sent_to w s.sends) (slice_get at.ports w) (slice_get new.ports w) up.takes (s.neighbours w within has)
-          (λ e. subst (λ xs. xs ≢ []) sends (up.accepts e))) [
+      (λ e. subst (λ xs. xs ≢ []) sends (up.accepts e))) [
         | inl h ↦ inl (subst (λ xs. xs ≢ []) (sym sends) h.0, h.1)
         | inr h ↦ inr (
           h.1,
