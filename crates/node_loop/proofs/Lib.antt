@@ -8,5 +8,8 @@ pub mod Turning
 pub mod Loose
 pub mod Accounts
 pub mod Lives
+pub mod Arrivals
 mod Rows
 mod RowsTurns
+mod RowsLives
+mod RowsPorts

@@ -3,7 +3,7 @@ use Rattle.node_loop.proofs.Hearing.{wired-at, wired-join, wired-same}
 use Rattle.node_loop.proofs.run.NodeRun.connect.Goals as goal
 
 pub loop-id-init : goal.loop-id-init
-loop-id-init g c = (refl, refl, refl, refl, wired-same c.args.self.now.ports.items)
+loop-id-init g c = (refl, refl, refl, refl, wired-same c.args.self.now.ports.items, refl)
 
 pub loop-id-preserved : goal.loop-id-preserved
 loop-id-preserved g c =
@@ -16,4 +16,5 @@ loop-id-preserved g c =
       done.rest.1 ∙ before.2,
       done.rest.2 ∙ before.3,
       wired-join c.args.self.now.ports.items mid new before.4 (wired-at mid new c.loop-id.id done.wires done.others),
+      done.rest.3 ∙ before.5,
     )

@@ -3,4 +3,4 @@ use Rattle.node_loop.proofs.Hearing.{wired-at, wired-join, wired-same}
 use Rattle.node_loop.proofs.run.NodeRun.hear_hellos.Goals as goal
 
 pub loop-place-init : goal.loop-place-init
-loop-place-init g c = (refl, refl, refl, refl, wired-same c.args.self.now.ports.items)
+loop-place-init g c = (refl, refl, refl, refl, wired-same c.args.self.now.ports.items, refl)

@@ -14,6 +14,7 @@ loop-init g c =
       refl,
       refl,
       refl,
+      refl,
     )
 
 pub loop-preserved : goal.loop-preserved
@@ -32,6 +33,7 @@ loop-preserved g c =
       rest.0 ∙ before.1,
       rest.1 ∙ before.2,
       rest.2 ∙ before.3,
+      rest.3 ∙ before.4,
     )
 
 pub returns-then-not-pull_one-clause-takes : goal.returns-then-not-pull_one-clause-takes

@@ -6,7 +6,7 @@ use Rattle.node_loop.proofs.run.NodeRun.pull_all.Goals as goal
 pub loop-id-init : goal.loop-id-init
 loop-id-init g c =
     let self = c.args.self.now in
-    (heard-start (Pulls self.node.registers.ranges g.D.P.Pipe.gave g.D.P.Pipe.took g.D.P.Pipe.counts) self.node self.ports.items, refl, refl, refl)
+    (heard-start (Pulls self.node.registers.ranges g.D.P.Pipe.gave g.D.P.Pipe.took g.D.P.Pipe.counts) self.node self.ports.items, refl, refl, refl, refl)
 
 pub loop-id-preserved : goal.loop-id-preserved
 loop-id-preserved g c =
@@ -21,6 +21,7 @@ loop-id-preserved g c =
       rest.0 ∙ before.1,
       rest.1 ∙ before.2,
       rest.2 ∙ before.3,
+      rest.3 ∙ before.4,
     )
 
 pub returns-clause-hears : goal.returns-clause-hears
