@@ -1,12 +1,11 @@
 -- A first line that comes, byte by byte.
 use Rattle.std.proofs.Common.{◌≡◌, ◌<◌, ◌≤◌, ◌+◌, ◌∙◌, ◌++◌, ◌∷◌, [], ℕ, zero, suc, List, Option, None, Some, length, take, slice_index, refl, sym, subst, ap, arith, append_assoc, append-nil}
-use Rattle.std.specs.Prelude.{option_map, slice_set, IsSome}
+use Rattle.std.specs.Prelude.{slice_set, IsSome}
 use Rattle.std.proofs.lemmas.Grind.{common_steps}
 use Rattle.std.proofs.lemmas.List.{take_more_set}
 use Rattle.slab.specs.Slab.{Slab, get, with_value}
 use Rattle.slab.proofs.SlabLemmas.{Updates-with_value}
 use Rattle.byte_lines.specs.Lines.{newline}
-use Rattle.frame_codec.specs.Spelling.{hello}
 use Rattle.socket_links.specs.Pipes.{GoesOn}
 use Rattle.node_loop.specs.declared.lobby.Arrival.{Arrival}
 use Rattle.node_loop.specs.declared.lobby.Arrival.TheVariants as arrival

@@ -1,6 +1,5 @@
 -- Small examples of clients that live on, and some that look like them and do not.
 use Rattle.std.proofs.Common.{◌≡◌, ◌≢◌, ◌<◌, ◌≤◌, ◌∙◌, ◌++◌, ◌∷◌, [], ℕ, zero, suc, Bool, true, false, List, Option, None, Some, codes, length, take, refl, sym, subst, ap, inl, inr, arith}
-use Rattle.std.proofs.lemmas.Grind.{common_steps}
 use Rattle.byte_streams.specs.Streams.{Rose}
 use Rattle.slab.specs.Slab.{get}
 use Rattle.socket_links.specs.Counts.{Counts}
@@ -9,7 +8,7 @@ use Rattle.socket_links.specs.declared.pipe.ReadAnswer.{ReadAnswer}
 use Rattle.socket_links.specs.declared.pipe.ReadAnswer.TheVariants as read
 use Rattle.node_loop.specs.declared.clients.Client.{Client}
 use Rattle.node_loop.specs.declared.clients.Clients.{Clients}
-use Rattle.node_loop.specs.Clients.{is_connected, SameClients}
+use Rattle.node_loop.specs.Clients.{SameClients}
 use Rattle.node_loop.specs.Lives.{Lives, Stays, Gave, Gives_later, Took, Takes_later, Then, LivesAt, LiveOn, ReadsAt, OthersStay, Admits, StillLive}
 
 not-rose : (n m : ℕ) → Rose n m → m ≡ 0 → ⊥

@@ -1,13 +1,12 @@
 -- Small examples of what a port says and hears, and some that look like them and are none.
-use Rattle.std.proofs.Common.{◌≡◌, ◌≢◌, ◌<◌, ℕ, Bool, true, false, List, [], ◌∷◌, ◌++◌, All, Option, None, Some, Contains, slice_get, codes, refl, ap, sym, subst, inl, inr, arith, append-nil}
+use Rattle.std.proofs.Common.{◌≡◌, ℕ, Bool, true, false, List, [], ◌∷◌, Option, None, Some, Contains, slice_get, codes, refl, ap, sym, subst, inl, arith, append-nil}
 use Rattle.std.proofs.lemmas.Grind.{common_steps}
 use Rattle.std.proofs.lemmas.List.Elements.{All-nil}
 use Rattle.topology.specs.declared.frame.Frame.{Frame}
 use Rattle.topology.specs.declared.frame.Ranges.{Ranges}
-use Rattle.data_link.specs.Port.{frame_of}
 use Rattle.lock_desk.specs.Desk.{no_desk}
 use Rattle.lock_desk.specs.declared.act.DeskAct.TheVariants.{Granted, Lost}
-use Rattle.node_core.specs.View.{NodeView, site_in, state_of}
+use Rattle.node_core.specs.View.{NodeView, site_in}
 use Rattle.pace.specs.declared.port.PortPace.{PortPace}
 use Rattle.socket_links.specs.Counts.{Counts}
 use Rattle.socket_links.specs.Links.{IsPulled, IsPushed, Offered, PullsOn, PushesOn, unsent}
@@ -19,7 +18,7 @@ use Rattle.node_loop.specs.declared.greeting.Greeting.{Greeting}
 use Rattle.node_loop.specs.declared.greeting.Greeted.TheVariants as greeted
 use Rattle.node_loop.specs.declared.port.NodePort.{NodePort}
 use Rattle.node_loop.specs.Answers.{grants}
-use Rattle.node_loop.specs.Deeds.{Became, IsSend, IsTake, Sends, Ticks, taken_from}
+use Rattle.node_loop.specs.Deeds.{IsSend, IsTake, Sends, Ticks, taken_from}
 use Rattle.node_loop.specs.Greetings.{Greets}
 use Rattle.node_loop.specs.Hearing.{AreWired, Breaks, Comes, HasCome, Hears, Listens, Pulls, TakesAt, Wires}
 use Rattle.node_loop.specs.LinkSights.{link_at, link_sight}

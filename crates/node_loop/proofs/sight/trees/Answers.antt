@@ -1,4 +1,4 @@
-use Rattle.std.proofs.Common.{◌≡◌, ◌∙◌, false, ap, refl, arith}
+use Rattle.std.proofs.Common.{◌∙◌, false, ap, refl, arith}
 use Rattle.euler_ring.specs.Cycle.{is_on}
 use Rattle.node_core.specs.Machines.{tree_of}
 use Rattle.node_core.specs.View.{site_in, state_of}

@@ -1,5 +1,5 @@
-use Rattle.std.proofs.Common.{◌∙◌, refl}
-use Rattle.node_loop.proofs.Hearing.{wired-at, wired-join, wired-same}
+use Rattle.std.proofs.Common.{refl}
+use Rattle.node_loop.proofs.Hearing.{wired-same}
 use Rattle.node_loop.proofs.run.NodeRun.hear_hellos.Goals as goal
 
 pub loop-place-init : goal.loop-place-init

@@ -1,4 +1,4 @@
-use Rattle.std.proofs.Common.{◌∙◌, ap, subst}
+use Rattle.std.proofs.Common.{◌∙◌, subst}
 use Rattle.node_loop.specs.Deeds.{IsOfClient}
 use Rattle.node_loop.specs.Hearing.{AreWired, Hears}
 use Rattle.node_loop.proofs.Became.{joins, leaves-are-clients}

@@ -1,9 +1,7 @@
 use Rattle.std.specs.Prelude.{IsTrue}
-use Rattle.std.proofs.Common.{◌≡◌, ◌∙◌, ap, refl, rules, subst}
-use Rattle.topology.specs.declared.frame.Ranges.{Ranges}
-use Rattle.node_core.specs.View.{site_in}
+use Rattle.std.proofs.Common.{◌∙◌, ap, refl, rules, subst}
 use Rattle.node_loop.specs.Hearing.{Comes, Pulls, TakesAt}
-use Rattle.node_loop.proofs.Hearing.{takes-none, takes-join, comes-none, comes-join, comes-then, comes-end, takes-end}
+use Rattle.node_loop.proofs.Hearing.{takes-none, takes-join, comes-none, comes-join, comes-then, takes-end}
 use Rattle.node_loop.proofs.run.NodeRun.pull.Goals as goal
 
 pub loop-init : goal.loop-init

@@ -1,4 +1,4 @@
-use Rattle.std.proofs.Common.{◌≡◌, ◌∙◌, ap, refl, subst}
+use Rattle.std.proofs.Common.{◌∙◌, ap, refl, subst}
 use Rattle.node_loop.specs.Hearing.{Pulls, TakesAt}
 use Rattle.node_loop.proofs.Hearing.{heard-start, heard-next, heard-all}
 use Rattle.node_loop.proofs.run.NodeRun.pull_all.Goals as goal
