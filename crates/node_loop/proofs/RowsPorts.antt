@@ -192,8 +192,8 @@ module _ {P : Type 0} (gave took : P → Option (List ℕ)) (counts : P → Coun
     speaks_not-other offers now node before after s =
         let stays = (s.others 0 (λ has. none (subst (λ x. Contains (site_in x).neighbours 0) node has))).0 in
         let e : ◌≡◌ {A = Option (NodePort P)} None (Some old) = rw (before, after) at stays in absurd cc where
-      none : Contains {X = ℕ} (1 ∷ []) 0 → ⊥
-      none has = grind (arith, common_steps, has)
+          none : Contains {X = ℕ} (1 ∷ []) 0 → ⊥
+          none has = grind (arith, common_steps, has)
 
     -- no port is gone once a node has listened
     listens_not-gone : here.ports ≡ old ∷ [] → there.ports ≡ [] → ¬ Listens gave took counts here there
