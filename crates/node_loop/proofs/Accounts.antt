@@ -4,7 +4,7 @@ use Rattle.std.proofs.Common.{◌≡◌, ◌+◌, ℕ, List, [], ◌∷◌, ◌+
 use Rattle.std.proofs.lemmas.List.Elements.{All-head, All-tail}
 use Rattle.socket_links.specs.Counts.{Counts}
 use Rattle.node_core.specs.declared.ticked.Ticked.{Ticked}
-use Rattle.node_loop.specs.Deeds.{Deed, IsLeave, IsOfClient, IsSend, IsTake, Takes, Asks, Leaves, Ticks, Sends, sent_to, taken_from, ticks_in}
+use Rattle.node_loop.specs.Deeds.{Deed, IsOfClient, IsSend, IsTake, Takes, Asks, Leaves, Ticks, Sends, sent_to, taken_from, ticks_in}
 use Rattle.node_loop.specs.Moments.{Moment}
 use Rattle.node_loop.specs.Turns.{Attends, Turns}
 use Rattle.node_loop.proofs.Became.{leave-kinds, sent-join, taken-join}

@@ -1,12 +1,12 @@
 -- Deeds one after the other.
-use Rattle.std.proofs.Common.{arith, ◌≡◌, ℕ, ◌==◌, List, [], ◌∷◌, ◌++◌, ◌∙◌, All, refl, sym, subst, ap}
+use Rattle.std.proofs.Common.{arith, ◌≡◌, ℕ, List, [], ◌∷◌, ◌++◌, ◌∙◌, All, refl, subst}
 use Rattle.std.proofs.lemmas.Grind.{common_steps}
 use Rattle.std.proofs.lemmas.List.Elements.{All-append, All-cons, All-nil}
 use Rattle.node_core.specs.Site.{Site}
 use Rattle.node_core.specs.State.{LocalState}
 use Rattle.node_core.specs.View.{NodeView, site_in, state_of}
 use Rattle.node_core.specs.declared.ticked.Ticked.{Ticked}
-use Rattle.node_loop.specs.Deeds.{Deed, Acts, Became, IsLeave, IsOfClient, IsTake, IsSend, Leads, Takes, Asks, Leaves, Ticks, Sends, taken_from, sent_to}
+use Rattle.node_loop.specs.Deeds.{Deed, Acts, Became, IsLeave, IsOfClient, Leads, Takes, Asks, Leaves, Ticks, Sends, taken_from, sent_to}
 
 -- the second list goes on where the first ended
 pub leads-join : (site : Site) (ds es : List Deed) (s t u : LocalState) → Leads site ds s t → Leads site es t u → Leads site (ds ++ es) s u

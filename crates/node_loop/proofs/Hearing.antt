@@ -1,5 +1,5 @@
 -- Connections that come, and frames that come on them, one after the other.
-use Rattle.std.proofs.Common.{◌≡◌, ◌≢◌, ◌⊎◌, ◌<◌, ◌≤◌, ◌+◌, ℕ, Bool, true, false, List, [], ◌∷◌, ◌++◌, Contains, Option, None, Some, is_some, slice_get, slice_index_or, refl, inl, inr, sym, subst, ap, arith, ◌∙◌, append-nil, append_assoc}
+use Rattle.std.proofs.Common.{◌≡◌, ◌≢◌, ◌⊎◌, ◌<◌, ◌≤◌, ◌+◌, ℕ, true, List, [], ◌∷◌, ◌++◌, Contains, Option, None, Some, is_some, slice_get, slice_index_or, refl, inl, inr, sym, subst, ap, arith, ◌∙◌, append-nil, append_assoc}
 use Rattle.std.specs.Prelude.{MatchOption, ⊤}
 use Rattle.std.specs.Prelude.{length, slice_set}
 use Rattle.std.proofs.lemmas.Grind.{common_steps}
@@ -11,13 +11,13 @@ use Rattle.link_model.specs.declared.item.Item.TheVariants as item
 use Rattle.node_core.specs.Step.{taken}
 use Rattle.node_core.specs.View.{NodeView, site_in, state_of}
 use Rattle.socket_links.specs.Counts.{Counts}
-use Rattle.socket_links.specs.Links.{HasBroken, IsBare, IsPulled, Pulled, PullsOn, PushesOn, SaidLater, GaveBytes}
+use Rattle.socket_links.specs.Links.{IsPulled, Pulled, PullsOn, SaidLater, GaveBytes}
 use Rattle.socket_links.specs.declared.link.SocketLink.{SocketLink}
 use Rattle.socket_links.specs.declared.link.Pull.{Pull}
 use Rattle.socket_links.specs.declared.link.Pull.TheVariants as pull
 use Rattle.node_loop.specs.declared.port.NodePort.{NodePort}
 use Rattle.node_loop.specs.Deeds.{Became, IsTake, Takes, taken_from}
-use Rattle.node_loop.specs.Hearing.{AreWired, Breaks, Comes, HasCome, Hears, Pulls, TakesAt, Wires}
+use Rattle.node_loop.specs.Hearing.{AreWired, Comes, HasCome, Hears, Pulls, TakesAt, Wires}
 use Rattle.node_loop.specs.Moments.{AtBoth}
 use Rattle.node_loop.proofs.Became.{joins, one, stays, taken-join}
 use Rattle.node_loop.proofs.Pushing.{goes-on, stays-on}

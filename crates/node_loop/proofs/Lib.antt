@@ -9,6 +9,9 @@ pub mod Turning
 pub mod Loose
 pub mod Accounts
 pub mod Lives
+pub mod Arrivals
 mod Rows
 mod RowsTurns
 mod RowsRemembering
+mod RowsLives
+mod RowsPorts

@@ -1,5 +1,5 @@
 -- Clients that live on, one call after the other.
-use Rattle.std.proofs.Common.{◌≡◌, ◌≢◌, ◌⊎◌, ◌<◌, ◌∙◌, ◌&&◌, ◌==◌, not, ℕ, true, false, List, Option, None, Some, refl, sym, subst, ap, inl, inr, arith}
+use Rattle.std.proofs.Common.{◌≡◌, ◌≢◌, ◌⊎◌, ◌<◌, ◌∙◌, ◌&&◌, ◌==◌, not, ℕ, Bool, true, false, List, Option, None, Some, refl, sym, subst, ap, inl, inr, arith}
 use Rattle.std.specs.Prelude.{is_some, IsSome}
 use Rattle.std.proofs.lemmas.Grind.{common_steps}
 use Rattle.std.proofs.lemmas.Bool.Decides.{nat_tests}
@@ -11,7 +11,7 @@ use Rattle.node_loop.specs.declared.clients.Client.{Client}
 use Rattle.node_loop.specs.declared.clients.Clients.{Clients}
 use Rattle.node_loop.specs.Clients.{is_connected}
 use Rattle.node_loop.proofs.Speaking.{apart}
-use Rattle.node_loop.specs.Lives.{Lives, Stays, Gave, Gives_later, Then, LivesAt, LiveOn, ReadsAt, OthersStay}
+use Rattle.node_loop.specs.Lives.{Lives, Stays, Gave, Gives_later, Then, LivesAt, LiveOn, ReadsAt, OthersStay, Admits, StillLive}
 
 one-of-three : (t k : ℕ) → (t ≡ k) ⊎ ((t < k) ⊎ (k < t))
 one-of-three t k = grind arith
@@ -50,12 +50,12 @@ module _ {P : Type 0} (gave took : P → Option (List ℕ)) (counts : P → Coun
   pub got-at : (n : ℕ) (bytes : List ℕ) (x y : Option (Client P)) → ReadsAt gave took counts (read.Got n) bytes x y → LivesAt gave took counts x y
   got-at n bytes None y f = gone-at None y f.0
   got-at n bytes (Some a) None f = tt
-  got-at n bytes (Some a) (Some b) f = Gave n bytes f
+  got-at n bytes (Some a) (Some b) (f, same) = Gave n bytes f same
 
   pub later-at : (bytes : List ℕ) (x y : Option (Client P)) → ReadsAt gave took counts read.Later bytes x y → LivesAt gave took counts x y
   later-at bytes None y f = gone-at None y f.0
   later-at bytes (Some a) None f = tt
-  later-at bytes (Some a) (Some b) f = Gives_later bytes f
+  later-at bytes (Some a) (Some b) (f, same) = Gives_later bytes f same
 
   there : (s : Slab (Client P)) (k : ℕ) (old : Client P) → Some old ≡ get s k → IsSome (get s k)
   there s k old e = subst (λ x. IsSome x) e refl
@@ -102,3 +102,32 @@ module _ {P A : Type 0} where
   -- a ticket that was closed
   pub closed-gone : (k : ℕ) (old new : Clients P A) → ((t : ℕ) → is_connected new t ≡ (is_connected old t && not (t == k))) → is_connected new k ≡ false
   closed-gone k old new closed = grind (arith, common_steps, nat_tests, closed k)
+
+module _ {P A : Type 0} where
+  -- nobody came
+  pub admits-none : (clients : Clients P A) → Admits clients clients
+  admits-none clients t was = refl
+
+  connected-still : (a b : Clients P A) (t : ℕ) → Admits a b → is_connected a t ≡ true → is_connected b t ≡ true
+  connected-still a b t f was = ap (λ x. is_some x) (f t was) ∙ was
+
+  -- some came, and then some more
+  pub admits-join : (a b c : Clients P A) → Admits a b → Admits b c → Admits a c
+  admits-join a b c f g t was = g t (connected-still a b t f was) ∙ f t was
+
+  -- one came, to a ticket that was free
+  pub admits-one : (k : ℕ) (old new : Clients P A) → is_connected old k ≡ false → ((t : ℕ) → t ≢ k → get new.table t ≡ get old.table t) → Admits old new
+  admits-one k old new free others t was =
+      elim (tested t k) [
+        | inl same ↦ (let none : is_connected old t ≡ false = subst (λ u. is_connected old u ≡ false) (sym same) free in
+            let e : ◌≡◌ {A = Bool} true false = sym was ∙ none in absurd cc)
+        | inr other ↦ others t other
+      ]
+
+module _ {P A : Type 0} (gave took : P → Option (List ℕ)) (counts : P → Counts) where
+  -- some came, and all who are there live on
+  pub still-live : (a b c : Clients P A) → Admits a b → LiveOn gave took counts b c → StillLive gave took counts a c
+  still-live a b c f g t was = subst (λ x. LivesAt gave took counts x (get c.table t)) (f t was) (g t)
+
+  pub still-join : (a b c : Clients P A) → StillLive gave took counts a b → LiveOn gave took counts b c → StillLive gave took counts a c
+  still-join a b c f g t was = join-at gave took counts (get a.table t) (get b.table t) (get c.table t) (f t was) (g t)

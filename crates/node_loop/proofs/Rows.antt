@@ -1,18 +1,17 @@
 -- Small examples of accounts, plans, connections and clients, and some that look like them and are
 -- none.
-use Rattle.std.proofs.Common.{◌≡◌, ℕ, Bool, true, false, List, [], ◌∷◌, ◌++◌, Option, None, Some, is_some, slice_index_or, Contains, refl, arith, ap, inl, inr, rules}
+use Rattle.std.proofs.Common.{◌≡◌, false, [], ◌∷◌, None, Some, refl, arith, ap, inl, inr, rules}
 use Rattle.std.proofs.lemmas.Grind.{common_steps}
 use Rattle.topology.specs.declared.frame.Frame.{Frame}
 use Rattle.topology.specs.declared.frame.Ranges.{Ranges}
 use Rattle.lock_desk.specs.Desk.{no_desk}
-use Rattle.data_link.specs.Port.{frame_of}
 use Rattle.node_core.specs.Site.{Site}
 use Rattle.node_core.specs.State.{LocalState, default_node}
 use Rattle.node_core.specs.Step.{ticked}
 use Rattle.node_core.specs.View.{NodeView, state_of}
 use Rattle.node_loop.specs.declared.clients.Clients.{Clients}
 use Rattle.node_loop.specs.declared.port.NodePort.{NodePort}
-use Rattle.node_loop.specs.Clients.{AreConnected, answers_of, is_connected, IsTold}
+use Rattle.node_loop.specs.Clients.{AreConnected, is_connected}
 use Rattle.node_loop.specs.Deeds.{Leads, Takes, Asks, Leaves, Ticks, Sends, sent_to, taken_from}
 use Rattle.node_loop.specs.Hearing.{Wires}
 

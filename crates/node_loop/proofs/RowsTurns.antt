@@ -1,18 +1,17 @@
 -- Small examples of ticks, plans, turns, answers and arrivals, and some that look like them and are
 -- none.
-use Rattle.std.proofs.Common.{◌≡◌, ◌≢◌, ℕ, ◌<◌, zero, suc, Bool, true, false, List, [], ◌∷◌, ◌++◌, All, Option, None, Some, is_some, Contains, codes, refl, ap, sym, subst, ◌∙◌, inl, inr, arith}
+use Rattle.std.proofs.Common.{◌≡◌, ◌≢◌, ℕ, zero, suc, true, false, List, [], ◌∷◌, All, Option, None, Some, codes, refl, ap, ◌∙◌, inl, inr, arith}
 use Rattle.std.proofs.lemmas.Grind.{common_steps}
 use Rattle.std.proofs.lemmas.List.Elements.{All-nil, All-cons, All-head, All-tail}
 use Rattle.topology.specs.declared.frame.Frame.{Frame}
 use Rattle.topology.specs.declared.frame.Ranges.{Ranges}
-use Rattle.data_link.specs.Port.{default_port}
 use Rattle.lock_desk.specs.Desk.{DeskState, no_desk}
 use Rattle.lock_desk.specs.declared.act.DeskAct.TheVariants.{Quiet, Granted, Lost}
 use Rattle.lock_desk.specs.declared.client_line.ClientLine.TheVariants.{Lock, Unlock, Unknown}
 use Rattle.node_core.specs.Site.{Site}
-use Rattle.node_core.specs.State.{LocalState, default_node}
+use Rattle.node_core.specs.State.{LocalState}
 use Rattle.link_model.specs.declared.item.Item.TheVariants as item
-use Rattle.node_core.specs.Step.{taken, ticked}
+use Rattle.node_core.specs.Step.{taken}
 use Rattle.node_core.specs.View.{NodeView, site_in, state_of}
 use Rattle.node_core.specs.declared.ticked.Ticked.{Ticked}
 use Rattle.pace.specs.declared.pace.Plan.{Plan}
@@ -20,12 +19,12 @@ use Rattle.socket_links.specs.Counts.{Counts}
 use Rattle.socket_links.specs.declared.pipe.ReadAnswer.TheVariants as read
 use Rattle.socket_links.specs.declared.writing.Flow.TheVariants as flow
 use Rattle.node_loop.specs.declared.clients.Clients.{Clients}
-use Rattle.node_loop.specs.declared.doors.Door.TheVariants.{Came, Nobody, Failed}
+use Rattle.node_loop.specs.declared.doors.Door.TheVariants.{Nobody, Failed}
 use Rattle.node_loop.specs.declared.lobby.Arrival.TheVariants as arrival
 use Rattle.node_loop.specs.declared.port.NodePort.{NodePort}
 use Rattle.node_loop.specs.Answers.{after_line, answer_text}
 use Rattle.node_loop.specs.Arrivals.{IsArrival}
-use Rattle.node_loop.specs.Clients.{answers_of, GivesWithin, is_connected, IsTold, room_of, Tells}
+use Rattle.node_loop.specs.Clients.{answers_of, GivesWithin, is_connected, IsTold, room_of}
 use Rattle.node_loop.specs.Deeds.{Acts, Became, Deed, IsLeave, IsOfClient, IsTake, Leads, ticks_in}
 use Rattle.node_loop.specs.Deeds.{Takes, Asks, Leaves, Ticks, Sends}
 use Rattle.node_loop.specs.Doors.{Opens}

@@ -1,5 +1,5 @@
 -- What is seen of the link to a neighbour.
-use Rattle.std.specs.Prelude.{ℕ, is_some, false, List, slice_get, Option, None, Some}
+use Rattle.std.specs.Prelude.{is_some, Option, None, Some}
 use Rattle.turn_watch.specs.declared.links.LinkSight.{LinkSight}
 use Rattle.node_loop.specs.declared.port.NodePort.{NodePort}
 

@@ -1,5 +1,5 @@
 -- Clients that live on: of whoever is still connected, no read and no write said that it is gone.
-use Rattle.std.specs.Prelude.{◌≡◌, ◌≢◌, ℕ, List, Option, None, Some, ⊤}
+use Rattle.std.specs.Prelude.{◌≡◌, ◌≢◌, ℕ, true, List, Option, None, Some, ⊤}
 use Rattle.slab.specs.Slab.{get}
 use Rattle.socket_links.specs.Counts.{Counts}
 use Rattle.socket_links.specs.Pipes.{Reads, Writes}
@@ -8,23 +8,24 @@ use Rattle.socket_links.specs.declared.pipe.ReadAnswer.TheVariants as read
 use Rattle.socket_links.specs.declared.pipe.WriteAnswer.TheVariants as write
 use Rattle.node_loop.specs.declared.clients.Client.{Client}
 use Rattle.node_loop.specs.declared.clients.Clients.{Clients}
+use Rattle.node_loop.specs.Clients.{is_connected}
 
 -- The pipe became this by reads and writes, if by any; and none of them said that it closed or
--- failed.
+-- failed. A read writes nothing, and a write reads nothing.
 pub data Lives {P : Type 0} (gave took : P → Option (List ℕ)) (counts : P → Counts)
     : P → P → Type 0 where
   Stays : {p : P} → Lives gave took counts p p
   Gave : {p q : P} (n : ℕ) (bytes : List ℕ)
-      → Reads (read.Got n) bytes (gave p) (gave q) (counts p) (counts q)
+      → Reads (read.Got n) bytes (gave p) (gave q) (counts p) (counts q) → took q ≡ took p
       → Lives gave took counts p q
   Gives_later : {p q : P} (bytes : List ℕ)
-      → Reads read.Later bytes (gave p) (gave q) (counts p) (counts q)
+      → Reads read.Later bytes (gave p) (gave q) (counts p) (counts q) → took q ≡ took p
       → Lives gave took counts p q
   Took : {p q : P} (n : ℕ) (bytes : List ℕ)
-      → Writes (write.Wrote n) bytes (took p) (took q) (counts p) (counts q)
+      → Writes (write.Wrote n) bytes (took p) (took q) (counts p) (counts q) → gave q ≡ gave p
       → Lives gave took counts p q
   Takes_later : {p q : P} (bytes : List ℕ)
-      → Writes write.Later bytes (took p) (took q) (counts p) (counts q)
+      → Writes write.Later bytes (took p) (took q) (counts p) (counts q) → gave q ≡ gave p
       → Lives gave took counts p q
   Then : {p q r : P} → Lives gave took counts p q → Lives gave took counts q r
       → Lives gave took counts p r
@@ -42,13 +43,24 @@ module _ {P : Type 0} (gave took : P → Option (List ℕ)) (counts : P → Coun
   ReadsAt answer bytes (Some old) None = ⊥
   ReadsAt answer bytes (Some old) (Some new) =
       Reads answer bytes (gave old.pipe) (gave new.pipe) (counts old.pipe) (counts new.pipe)
+      × (took new.pipe ≡ took old.pipe)
 
 module _ {P A : Type 0} where
   -- of the client with this ticket alone something may have changed
   abbrev pub OthersStay : ℕ → Clients P A → Clients P A → Type 0
   OthersStay ticket old new = (t : ℕ) → t ≢ ticket → get new.table t ≡ get old.table t
 
+  -- clients came, if any did; whoever was connected is as before
+  abbrev pub Admits : Clients P A → Clients P A → Type 0
+  Admits old new = (t : ℕ) → is_connected old t ≡ true → get new.table t ≡ get old.table t
+
 module _ {P A : Type 0} (gave took : P → Option (List ℕ)) (counts : P → Counts) where
+  -- whoever was connected, and still is, lives on; others may have come
+  abbrev pub StillLive : Clients P A → Clients P A → Type 0
+  StillLive old new =
+      (t : ℕ) → is_connected old t ≡ true
+      → LivesAt gave took counts (get old.table t) (get new.table t)
+
   -- each client that is there lives on
   abbrev pub LiveOn : Clients P A → Clients P A → Type 0
   LiveOn old new = (t : ℕ) → LivesAt gave took counts (get old.table t) (get new.table t)

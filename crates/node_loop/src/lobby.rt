@@ -1,5 +1,6 @@
 //! Connections of neighbours that have not said who they are.
-ghost use Rattle.std.specs.Prelude.{◌≡◌, ◌≤◌, take};
+ghost use Rattle.std.specs.Prelude.{◌≡◌, ◌≢◌, ◌<◌, ◌≤◌, ℕ, None, IfOk, IfSome, IsSomeAnd, length, take};
+ghost use Rattle.slab.specs.Slab.{get, slab_len};
 
 use frame_codec::decode_hello;
 use slab::Slab;
@@ -25,7 +26,7 @@ struct Visitor<P> {
     count: usize,
     /// In how many turns it was listened to.
     turns: u16,
-    ghost within: { count ≤ 5 },
+    ghost within: { (count ≤ 5) × (length line ≡ 5) },
 }
 
 /// What a visitor did in a turn.
@@ -40,9 +41,11 @@ enum Arrival {
 }
 
 impl<P: Pipe> Visitor<P> {
-    ghost use Rattle.node_loop.specs.Arrivals.{IsArrival};
+    ghost use Rattle.node_loop.specs.Arrivals.{IsArrival, Listened};
 
-    fn new(pipe: P) -> Visitor<P> {
+    fn new(pipe: P) -> Visitor<P>
+        ensures { (result.pipe ≡ pipe) × (result.count ≡ 0) × (result.turns ≡ 0) }
+    {
         Visitor {
             pipe,
             line: [0; HELLO],
@@ -53,7 +56,9 @@ impl<P: Pipe> Visitor<P> {
 
     /// Reads on in its first line, one byte a call and not beyond its newline: what stands there is
     /// of frames.
-    fn listen(&mut self, net: &Net) -> Arrival {
+    fn listen(&mut self, net: &Net) -> Arrival
+        ensures { Listened P.gave P.took net.now.nodes self.old self.new result }
+    {
         for _ in 0..=HELLO {
             let mut byte = [0; 1];
             match self.pipe.try_read(&mut byte) {
@@ -94,15 +99,26 @@ pub(crate) struct Lobby<P, A: Allocator + Copy = Global> {
 }
 
 impl<P: Pipe, A: Allocator + Copy> Lobby<P, A> {
+    ghost use Rattle.node_loop.specs.Arrivals.{HasSaid};
+
     /// An empty lobby, with all its room. `AllocError` comes only where memory is refused.
-    pub fn new(alloc: A) -> Result<Lobby<P, A>, AllocError> {
+    pub fn new(alloc: A) -> Result<Lobby<P, A>, AllocError>
+        ensures { IfOk result (λ lobby. (place : ℕ) → get lobby.visitors place ≡ None) }
+    {
         Ok(Lobby {
             visitors: Slab::with_capacity(alloc, PLACES)?,
         })
     }
 
     /// A connection has come. It is closed where 64 wait.
-    pub fn admit(&mut self, pipe: P) {
+    pub fn admit(&mut self, pipe: P)
+        ensures closed { 64 ≤ slab_len self.old.visitors → self.new ≡ self.old }
+        ensures others { (place : ℕ) → place ≢ self.old.visitors.vacant_key
+            → get self.new.visitors place ≡ get self.old.visitors place }
+        ensures admitted { slab_len self.old.visitors < 64 → self.old.visitors.vacant_key < 64
+            → IsSomeAnd (get self.new.visitors self.old.visitors.vacant_key)
+            (λ visitor. (visitor.pipe ≡ pipe) × (visitor.count ≡ 0) × (visitor.turns ≡ 0)) }
+    {
         if self.visitors.len() < PLACES && self.visitors.vacant_key() < PLACES {
             self.visitors.insert_reserved(Visitor::new(pipe));
         }
@@ -110,7 +126,14 @@ impl<P: Pipe, A: Allocator + Copy> Lobby<P, A> {
 
     /// Listens to the visitor of one place, 0 to 63, if there is one; a node's id and its
     /// connection, where it has said who it is. Whoever waits no longer is closed.
-    pub fn listen(&mut self, place: usize, net: &Net) -> Option<(u16, P)> {
+    pub fn listen(&mut self, place: usize, net: &Net) -> Option<(u16, P)>
+        // Whoever has said who it is was a visitor there, and is none any more.
+        ensures said { IfSome result (λ said.
+            HasSaid P.gave P.took net.now.nodes (get self.old.visitors place) said.0 said.1
+            × (get self.new.visitors place ≡ None)) }
+        ensures others { (other : ℕ) → other ≢ place
+            → get self.new.visitors other ≡ get self.old.visitors other }
+    {
         match self.visitors.get_mut(place)?.listen(net) {
             Arrival::Waits => None,
             Arrival::Goes => {

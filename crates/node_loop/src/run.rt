@@ -76,6 +76,7 @@ impl<D: Doors, S: Store + Drop, A: Allocator + Copy> NodeRun<D, S, A> {
     ghost use Rattle.node_loop.specs.Deeds.{Acts, Became, IsLeave};
     ghost use Rattle.node_loop.specs.Hearing.{AreWired, Comes, Hears, Listens, Pulls, TakesAt, Wires};
     ghost use Rattle.node_loop.specs.LinkSights.{link_at};
+    ghost use Rattle.node_loop.specs.Lives.{Admits, LiveOn, StillLive};
     ghost use Rattle.node_loop.specs.Moments.{AtBoth};
     ghost use Rattle.node_loop.specs.Remembering.{Remembers};
     ghost use Rattle.node_loop.specs.Speaking.{IsPlanOf, outlook_of, Speaks, SpeaksTo, sent_if};
@@ -166,6 +167,9 @@ impl<D: Doors, S: Store + Drop, A: Allocator + Copy> NodeRun<D, S, A> {
             }) }
         // Each ticket that waits or borrows is a connected client's.
         ensures connected { AreConnected self.new.clients self.new.node }
+        // Whoever was connected and still is lives on: of its pipe no read and no write said that it
+        // closed or failed.
+        ensures lives { StillLive D.P.gave D.P.took D.P.counts self.old.clients self.new.clients }
         // In each 256th turn, and in no other, the state is stored as it is at the turn's end.
         ensures saves { IsSome result.saved ↔ (self.old.turns ≡ 255) }
         ensures counts { self.new.turns ≡ (self.old.turns + 1) % 256 }
@@ -198,6 +202,7 @@ impl<D: Doors, S: Store + Drop, A: Allocator + Copy> NodeRun<D, S, A> {
               let_go = self.new.let_go;
             }) }
         ensures connected { AreConnected self.new.clients self.new.node }
+        ensures lives { StillLive D.P.gave D.P.took D.P.counts self.old.clients self.new.clients }
         ensures rest { (self.new.net ≡ self.old.net) × (self.new.turns ≡ self.old.turns)
             × (self.new.store ≡ self.old.store) }
     {
@@ -229,6 +234,10 @@ impl<D: Doors, S: Store + Drop, A: Allocator + Copy> NodeRun<D, S, A> {
             }) }
         // Each ticket that waits or borrows is a connected client's.
         ensures connected { AreConnected self.new.clients self.new.node }
+        // Whoever was connected and still is lives on: of its pipe no read and no write said that it
+        // closed or failed.
+        ensures lives { StillLive D.P.gave D.P.took D.P.counts self.old.clients self.new.clients }
+        // Its network stays, and it stores nothing.
         ensures rest { (self.new.net ≡ self.old.net) × (self.new.turns ≡ self.old.turns)
             × (self.new.store ≡ self.old.store) }
     {
@@ -290,6 +299,7 @@ impl<D: Doors, S: Store + Drop, A: Allocator + Copy> NodeRun<D, S, A> {
               let_go = self.new.let_go;
             }) }
         ensures connected { AreConnected self.new.clients self.new.node }
+        ensures lives { StillLive D.P.gave D.P.took D.P.counts self.old.clients self.new.clients }
         ensures pace { Remembers self.old.pace self.new.pace }
         ensures rest { (self.new.net ≡ self.old.net) × (self.new.turns ≡ self.old.turns)
             × (self.new.store ≡ self.old.store) }
@@ -315,7 +325,7 @@ impl<D: Doors, S: Store + Drop, A: Allocator + Copy> NodeRun<D, S, A> {
         ensures ports { self.new.ports ≡ self.old.ports }
         ensures pace { self.new.pace ≡ self.old.pace }
         ensures rest { (self.new.net ≡ self.old.net) × (self.new.turns ≡ self.old.turns)
-            × (self.new.store ≡ self.old.store) }
+            × (self.new.store ≡ self.old.store) × (self.new.clients ≡ self.old.clients) }
     {
         for _ in 0..COMERS {
             match self.doors.link() {
@@ -330,6 +340,8 @@ impl<D: Doors, S: Store + Drop, A: Allocator + Copy> NodeRun<D, S, A> {
         ensures node { self.new.node ≡ self.old.node }
         // No port changes, whatever the door answers.
         ensures ports { self.new.ports ≡ self.old.ports }
+        // Whoever was connected is as before.
+        ensures admits { Admits self.old.clients self.new.clients }
         ensures pace { self.new.pace ≡ self.old.pace }
         ensures rest { (self.new.net ≡ self.old.net) × (self.new.turns ≡ self.old.turns)
             × (self.new.store ≡ self.old.store) }
@@ -348,7 +360,7 @@ impl<D: Doors, S: Store + Drop, A: Allocator + Copy> NodeRun<D, S, A> {
         ensures wires { AreWired self.old.ports.items self.new.ports.items }
         ensures pace { Remembers self.old.pace self.new.pace }
         ensures rest { (self.new.net ≡ self.old.net) × (self.new.turns ≡ self.old.turns)
-            × (self.new.store ≡ self.old.store) }
+            × (self.new.store ≡ self.old.store) × (self.new.clients ≡ self.old.clients) }
     {
         for place in 0..lobby::PLACES {
             if let Some((id, pipe)) = self.lobby.listen(place, &self.net) {
@@ -372,7 +384,7 @@ impl<D: Doors, S: Store + Drop, A: Allocator + Copy> NodeRun<D, S, A> {
             → slice_get self.new.ports.items w ≡ slice_get self.old.ports.items w }
         ensures pace { Remembers self.old.pace self.new.pace }
         ensures rest { (self.new.net ≡ self.old.net) × (self.new.turns ≡ self.old.turns)
-            × (self.new.store ≡ self.old.store) }
+            × (self.new.store ≡ self.old.store) × (self.new.clients ≡ self.old.clients) }
     {
         if id > self.node.id() && self.node.is_neighbour(id) {
             self.ports[id as usize].attach(pipe);
@@ -386,7 +398,7 @@ impl<D: Doors, S: Store + Drop, A: Allocator + Copy> NodeRun<D, S, A> {
         ensures wires { AreWired self.old.ports.items self.new.ports.items }
         ensures pace { Remembers self.old.pace self.new.pace }
         ensures rest { (self.new.net ≡ self.old.net) × (self.new.turns ≡ self.old.turns)
-            × (self.new.store ≡ self.old.store) }
+            × (self.new.store ≡ self.old.store) × (self.new.clients ≡ self.old.clients) }
     {
         for id in 0..self.node.id() {
             self.connect_to(id);
@@ -402,7 +414,7 @@ impl<D: Doors, S: Store + Drop, A: Allocator + Copy> NodeRun<D, S, A> {
             → slice_get self.new.ports.items w ≡ slice_get self.old.ports.items w }
         ensures pace { Remembers self.old.pace self.new.pace }
         ensures rest { (self.new.net ≡ self.old.net) × (self.new.turns ≡ self.old.turns)
-            × (self.new.store ≡ self.old.store) }
+            × (self.new.store ≡ self.old.store) × (self.new.clients ≡ self.old.clients) }
     {
         if !self.node.is_neighbour(id) {
             return;
@@ -427,7 +439,7 @@ impl<D: Doors, S: Store + Drop, A: Allocator + Copy> NodeRun<D, S, A> {
             → slice_get self.new.ports.items w ≡ slice_get self.old.ports.items w }
         ensures pace { self.new.pace ≡ self.old.pace }
         ensures rest { (self.new.net ≡ self.old.net) × (self.new.turns ≡ self.old.turns)
-            × (self.new.store ≡ self.old.store) }
+            × (self.new.store ≡ self.old.store) × (self.new.clients ≡ self.old.clients) }
     {
         if !self.ports[id as usize].is_loose() {
             return;
@@ -447,7 +459,7 @@ impl<D: Doors, S: Store + Drop, A: Allocator + Copy> NodeRun<D, S, A> {
             → slice_get self.new.ports.items w ≡ slice_get self.old.ports.items w }
         ensures pace { Remembers self.old.pace self.new.pace }
         ensures rest { (self.new.net ≡ self.old.net) × (self.new.turns ≡ self.old.turns)
-            × (self.new.store ≡ self.old.store) }
+            × (self.new.store ≡ self.old.store) × (self.new.clients ≡ self.old.clients) }
     {
         let own = self.node.id();
         if self.ports[id as usize].go_on_greeting(own) {
@@ -461,7 +473,7 @@ impl<D: Doors, S: Store + Drop, A: Allocator + Copy> NodeRun<D, S, A> {
             self.old.ports.items self.new.ports.items }
         ensures pace { Remembers self.old.pace self.new.pace }
         ensures rest { (self.new.net ≡ self.old.net) × (self.new.turns ≡ self.old.turns)
-            × (self.new.store ≡ self.old.store) }
+            × (self.new.store ≡ self.old.store) × (self.new.clients ≡ self.old.clients) }
     {
         for id in 0..self.net.nodes() {
             self.pull(id, now);
@@ -474,7 +486,7 @@ impl<D: Doors, S: Store + Drop, A: Allocator + Copy> NodeRun<D, S, A> {
             id self.old.node self.new.node self.old.ports.items self.new.ports.items }
         ensures pace { Remembers self.old.pace self.new.pace }
         ensures rest { (self.new.net ≡ self.old.net) × (self.new.turns ≡ self.old.turns)
-            × (self.new.store ≡ self.old.store) }
+            × (self.new.store ≡ self.old.store) × (self.new.clients ≡ self.old.clients) }
     {
         for _ in 0..FRAMES {
             if !self.pull_one(id, now) {
@@ -494,7 +506,7 @@ impl<D: Doors, S: Store + Drop, A: Allocator + Copy> NodeRun<D, S, A> {
             id self.old.node self.new.node self.old.ports.items self.new.ports.items }
         ensures pace { Remembers self.old.pace self.new.pace }
         ensures rest { (self.new.net ≡ self.old.net) × (self.new.turns ≡ self.old.turns)
-            × (self.new.store ≡ self.old.store) }
+            × (self.new.store ≡ self.old.store) × (self.new.clients ≡ self.old.clients) }
     {
         if !self.node.is_neighbour(id) {
             return false;
@@ -518,6 +530,7 @@ impl<D: Doors, S: Store + Drop, A: Allocator + Copy> NodeRun<D, S, A> {
         ensures ports { (self.new.ports ≡ self.old.ports) × (self.new.let_go ≡ self.old.let_go) }
         ensures connected { AreConnected self.old.clients self.old.node
             → AreConnected self.new.clients self.new.node }
+        ensures lives { LiveOn D.P.gave D.P.took D.P.counts self.old.clients self.new.clients }
         ensures pace { Remembers self.old.pace self.new.pace }
         ensures rest { (self.new.net ≡ self.old.net) × (self.new.turns ≡ self.old.turns)
             × (self.new.store ≡ self.old.store) }
@@ -550,6 +563,7 @@ impl<D: Doors, S: Store + Drop, A: Allocator + Copy> NodeRun<D, S, A> {
         ensures node { Became IsLeave self.old.node self.new.node }
         ensures connected { AreConnected self.old.clients self.old.node
             → AreConnected self.new.clients self.new.node }
+        ensures lives { LiveOn D.P.gave D.P.took D.P.counts self.old.clients self.new.clients }
         ensures rest { (self.new.net ≡ self.old.net) × (self.new.turns ≡ self.old.turns)
             × (self.new.store ≡ self.old.store) }
     {
@@ -680,7 +694,9 @@ impl<D: Doors, S: Store + Drop, A: Allocator + Copy> NodeRun<D, S, A> {
     }
 
     /// The doors.
-    pub fn doors(&mut self) -> &mut D {
+    pub fn doors(&mut self) -> &mut D
+        ensures { result.now ≡ self.old.doors }
+    {
         &mut self.doors
     }
 }

@@ -1,10 +1,10 @@
 //! What the pace of a node is shown: how its desk stands, and what there is to say at its ports.
-ghost use Rattle.std.specs.Prelude.{◌≡◌, ◌<◌, ◌≤◌, ℕ, IsTrue, Contains, length};
+ghost use Rattle.std.specs.Prelude.{◌≡◌, ◌<◌, ◌≤◌, ℕ, IsTrue, Contains, length, slice_index_or};
 ghost use Rattle.euler_ring.specs.Cycle.{is_on};
 ghost use Rattle.node_core.specs.Machines.{tree_of};
 ghost use Rattle.node_core.specs.Site.{site_of};
 ghost use Rattle.node_core.specs.View.{site_in, state_of};
-ghost use Rattle.pace.specs.Plans.{sight_of};
+ghost use Rattle.pace.specs.Plans.{is_tree, sight_of};
 ghost use Rattle.node_loop.specs.Speaking.{outlook_of, sight_at};
 
 use crate::port::NodePort;
@@ -52,6 +52,8 @@ fn tree<A: Allocator>(node: &Node<A>, net: &Net) -> TreeNeighbours
 pub(crate) fn trees<A: Allocator>(node: &Node<A>, net: &Net) -> [bool; NODES]
     requires id { (site_in node.now).id < net.now.nodes }
     requires site { site_in node.now ≡ site_of net.now (site_in node.now).id }
+    ensures { (w : ℕ) → w < 64
+        → is_tree result w ≡ is_on (tree_of (site_in node.now) (state_of node.now)) w }
 {
     let tree = tree(node, net);
     let mut trees = [false; NODES];
@@ -61,8 +63,13 @@ pub(crate) fn trees<A: Allocator>(node: &Node<A>, net: &Net) -> [bool; NODES]
     trees
 }
 
-/// By id, the values of the machines that come in from the neighbours.
-pub(crate) fn values<A: Allocator>(node: &Node<A>) -> [u16; NODES] {
+/// By id, the values of the machines that come in from the neighbours; 0 for all others.
+pub(crate) fn values<A: Allocator>(node: &Node<A>) -> [u16; NODES]
+    ensures neighbours { (w : ℕ) → w < 64 → Contains (site_in node.now).neighbours w
+        → slice_index_or result w 0 ≡ (state_of node.now).value w }
+    ensures others { (w : ℕ) → ¬ Contains (site_in node.now).neighbours w
+        → slice_index_or result w 0 ≡ 0 }
+{
     let mut values = [0; NODES];
     for id in 0..NODES {
         if node.is_neighbour(id as u16) {

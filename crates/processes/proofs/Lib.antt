@@ -13,6 +13,7 @@ pub mod Windows
 pub mod TurnWindows
 pub mod FullTicks
 mod RowsTiming
+mod RowsTimes
 mod RowsLoans
 pub mod OneDeed
 pub mod Connections

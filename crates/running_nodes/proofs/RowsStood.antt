@@ -105,8 +105,8 @@ module _ {P : Type 0} (gave took : P → Option (List ℕ)) (counts : P → Coun
         let e : ◌≡◌ {A = List ℕ} (72 ∷ []) ((72 ∷ []) ++ lines_of (numbered 1 ∷ [])) = rw written at pushed in
         absurd (longer e)
 
-    starts_not-behind : took p ≡ Some (72 ∷ 72 ∷ []) → ¬ StartsAt sizes gave took hellos link
-    starts_not-behind wrote s =
+    starts_not-after : took p ≡ Some (72 ∷ 72 ∷ []) → ¬ StartsAt sizes gave took hellos link
+    starts_not-after wrote s =
         let pushed : (72 ∷ 72 ∷ []) ++ unsent link ≡ 72 ∷ [] = rw (pipe, wrote) at s.pushed in
         let e : ◌≡◌ {A = List ℕ} (72 ∷ 72 ∷ []) (72 ∷ []) = rw written at pushed in absurd cc
 

@@ -1,2 +1,3 @@
 pub mod Flowing
 mod Rows
+mod RowsLinks

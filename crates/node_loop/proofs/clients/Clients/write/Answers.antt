@@ -17,7 +17,7 @@ returns-clause-lives g c _ =
     let there = c.in-Some.ensures.value in
     elim c.match-try_write.branch [
       | in-Wrote w ↦ touched-here g.P.Pipe.gave g.P.Pipe.took g.P.Pipe.counts c.args.self.now.table c.args.ticket client (record { pipe = c.try_write.new.self; reader = client.reader }) there
-          (Took w.in-Wrote.written _ (rw w.in-Wrote.is at c.try_write.ensures.writes))
+          (Took w.in-Wrote.written _ (rw w.in-Wrote.is at c.try_write.ensures.writes) c.try_write.ensures.gave)
       | in-Later w ↦ touched-here g.P.Pipe.gave g.P.Pipe.took g.P.Pipe.counts c.args.self.now.table c.args.ticket client (record { pipe = c.try_write.new.self; reader = client.reader }) there
-          (Takes_later [] (rw w.in-Later.is at c.try_write.ensures.writes))
+          (Takes_later [] (rw w.in-Later.is at c.try_write.ensures.writes) c.try_write.ensures.gave)
     ]

@@ -1,4 +1,5 @@
 use Rattle.std.proofs.Common.{ap, refl}
+use Rattle.node_loop.proofs.Lives.{still-join}
 use Rattle.node_loop.proofs.Turning.{turn-leads}
 use Rattle.node_loop.proofs.run.NodeRun.act.Goals as goal
 
@@ -33,3 +34,12 @@ returns-clause-turns g c =
       leads = turn-leads c.tick-ticked.result c.args.self.now.node listens.heard c.listen.new.self.node c.tick-ticked.new.self.node c.speak.new.self.node speaks.sends listens.hears.takes listens.serves acts
           speaks.leads c.speak.ensures.node;
     }
+
+pub returns-clause-lives : goal.returns-clause-lives
+returns-clause-lives g c =
+    let start = c.args.self.now.clients in
+    let heard = c.listen.new.self.clients in
+    let acted = c.tick-ticked.new.self.clients in
+    let spoken = c.speak.new.self.clients in
+    still-join g.D.P.Pipe.gave g.D.P.Pipe.took g.D.P.Pipe.counts start acted spoken
+    (still-join g.D.P.Pipe.gave g.D.P.Pipe.took g.D.P.Pipe.counts start heard acted c.listen.ensures.lives c.tick-ticked.ensures.lives) c.speak.ensures.lives

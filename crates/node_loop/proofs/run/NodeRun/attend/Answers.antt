@@ -1,4 +1,5 @@
 use Rattle.std.proofs.Common.{refl}
+use Rattle.node_loop.proofs.Lives.{still-join}
 use Rattle.node_loop.proofs.Turning.{attend-leads}
 use Rattle.node_loop.proofs.run.NodeRun.attend.Goals as goal
 
@@ -22,3 +23,7 @@ returns-clause-attends g c =
       account_is = refl;
       leads = attend-leads c.args.self.now.node listens.heard c.listen.new.self.node c.speak.new.self.node speaks.sends listens.hears.takes listens.serves speaks.leads c.speak.ensures.node;
     }
+
+pub returns-clause-lives : goal.returns-clause-lives
+returns-clause-lives g c =
+    still-join g.D.P.Pipe.gave g.D.P.Pipe.took g.D.P.Pipe.counts c.args.self.now.clients c.listen.new.self.clients c.speak.new.self.clients c.listen.ensures.lives c.speak.ensures.lives

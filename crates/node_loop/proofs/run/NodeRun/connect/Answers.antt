@@ -4,7 +4,7 @@ use Rattle.node_loop.proofs.Remembering.{remembers-join, remembers-same}
 use Rattle.node_loop.proofs.run.NodeRun.connect.Goals as goal
 
 pub loop-id-init : goal.loop-id-init
-loop-id-init g c = (refl, refl, refl, refl, wired-same c.args.self.now.ports.items, remembers-same c.args.self.now.pace)
+loop-id-init g c = (refl, refl, refl, refl, wired-same c.args.self.now.ports.items, refl, remembers-same c.args.self.now.pace)
 
 pub loop-id-preserved : goal.loop-id-preserved
 loop-id-preserved g c =
@@ -17,5 +17,6 @@ loop-id-preserved g c =
       done.rest.1 ∙ before.2,
       done.rest.2 ∙ before.3,
       wired-join c.args.self.now.ports.items mid new before.4 (wired-at mid new c.loop-id.id done.wires done.others),
-      remembers-join c.args.self.now.pace c.loop-id.self.pace c.connect_to.new.self.pace before.5 done.pace,
+      done.rest.3 ∙ before.5,
+      remembers-join c.args.self.now.pace c.loop-id.self.pace c.connect_to.new.self.pace before.6 done.pace,
     )

@@ -1,8 +1,10 @@
-use Rattle.std.proofs.Common.{◌∙◌, ap, subst}
+use Rattle.std.proofs.Common.{◌∙◌, subst}
 use Rattle.node_loop.specs.Deeds.{IsOfClient}
 use Rattle.node_loop.specs.Hearing.{AreWired, Hears}
 use Rattle.node_loop.proofs.Became.{joins, leaves-are-clients}
 use Rattle.node_loop.proofs.Hearing.{wired-join}
+use Rattle.node_loop.specs.Lives.{Admits, LiveOn}
+use Rattle.node_loop.proofs.Lives.{still-live}
 use Rattle.node_loop.proofs.Remembering.{remembers-equal, remembers-join}
 use Rattle.node_loop.proofs.run.NodeRun.listen.Goals as goal
 
@@ -26,3 +28,13 @@ returns-clause-listens g c =
           (remembers-join c.accept_clients.new.self.pace c.hear_hellos.new.self.pace c.pull_all.new.self.pace c.hear_hellos.ensures.pace
           (remembers-join c.hear_hellos.new.self.pace c.connect.new.self.pace c.pull_all.new.self.pace c.connect.ensures.pace c.pull_all.ensures.pace));
     }
+
+pub returns-clause-lives : goal.returns-clause-lives
+returns-clause-lives g c =
+    let start = c.args.self.now.clients in
+    let admitted = c.accept_clients.new.self.clients in
+    let served = c.serve_all.new.clients in
+    let came : Admits start admitted = subst (λ x. Admits x admitted) c.accept_links.ensures.rest.3 c.accept_clients.ensures.admits in
+    let heard = c.pull_all.ensures.rest.3 ∙ (c.connect.ensures.rest.3 ∙ c.hear_hellos.ensures.rest.3) in
+    still-live g.D.P.Pipe.gave g.D.P.Pipe.took g.D.P.Pipe.counts start admitted served came
+    (subst (λ x. LiveOn g.D.P.Pipe.gave g.D.P.Pipe.took g.D.P.Pipe.counts x served) heard c.serve_all.ensures.lives)

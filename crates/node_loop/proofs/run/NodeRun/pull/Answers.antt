@@ -1,9 +1,7 @@
 use Rattle.std.specs.Prelude.{IsTrue}
-use Rattle.std.proofs.Common.{◌≡◌, ◌∙◌, ap, refl, rules, subst}
-use Rattle.topology.specs.declared.frame.Ranges.{Ranges}
-use Rattle.node_core.specs.View.{site_in}
+use Rattle.std.proofs.Common.{◌∙◌, ap, refl, rules, subst}
 use Rattle.node_loop.specs.Hearing.{Comes, Pulls, TakesAt}
-use Rattle.node_loop.proofs.Hearing.{takes-none, takes-join, comes-none, comes-join, comes-then, comes-end, takes-end}
+use Rattle.node_loop.proofs.Hearing.{takes-none, takes-join, comes-none, comes-join, comes-then, takes-end}
 use Rattle.node_loop.proofs.Remembering.{remembers-join, remembers-same}
 use Rattle.node_loop.proofs.run.NodeRun.pull.Goals as goal
 
@@ -12,6 +10,7 @@ loop-init g c =
     let self = c.args.self.now in
     let r = self.node.registers.ranges in (
       takes-none (Comes r g.D.P.Pipe.gave g.D.P.Pipe.took) (comes-none r g.D.P.Pipe.gave g.D.P.Pipe.took g.D.P.Pipe.counts) c.args.id self.node self.ports.items,
+      refl,
       refl,
       refl,
       refl,
@@ -34,7 +33,8 @@ loop-preserved g c =
       rest.0 ∙ before.1,
       rest.1 ∙ before.2,
       rest.2 ∙ before.3,
-      remembers-join self.pace mid.pace new.pace before.4 c.pull_one.ensures.pace,
+      rest.3 ∙ before.4,
+      remembers-join self.pace mid.pace new.pace before.5 c.pull_one.ensures.pace,
     )
 
 pub returns-then-not-pull_one-clause-takes : goal.returns-then-not-pull_one-clause-takes

@@ -1,4 +1,4 @@
-use Rattle.std.proofs.Common.{◌≡◌, ◌∙◌, ap, refl, subst}
+use Rattle.std.proofs.Common.{◌∙◌, ap, refl, subst}
 use Rattle.node_loop.specs.Hearing.{Pulls, TakesAt}
 use Rattle.node_loop.proofs.Hearing.{heard-start, heard-next, heard-all}
 use Rattle.node_loop.proofs.Remembering.{remembers-join, remembers-same}
@@ -7,7 +7,7 @@ use Rattle.node_loop.proofs.run.NodeRun.pull_all.Goals as goal
 pub loop-id-init : goal.loop-id-init
 loop-id-init g c =
     let self = c.args.self.now in
-    (heard-start (Pulls self.node.registers.ranges g.D.P.Pipe.gave g.D.P.Pipe.took g.D.P.Pipe.counts) self.node self.ports.items, refl, refl, refl, remembers-same self.pace)
+    (heard-start (Pulls self.node.registers.ranges g.D.P.Pipe.gave g.D.P.Pipe.took g.D.P.Pipe.counts) self.node self.ports.items, refl, refl, refl, refl, remembers-same self.pace)
 
 pub loop-id-preserved : goal.loop-id-preserved
 loop-id-preserved g c =
@@ -22,7 +22,8 @@ loop-id-preserved g c =
       rest.0 ∙ before.1,
       rest.1 ∙ before.2,
       rest.2 ∙ before.3,
-      remembers-join self.pace mid.pace new.pace before.4 c.pull.ensures.pace,
+      rest.3 ∙ before.4,
+      remembers-join self.pace mid.pace new.pace before.5 c.pull.ensures.pace,
     )
 
 pub returns-clause-hears : goal.returns-clause-hears

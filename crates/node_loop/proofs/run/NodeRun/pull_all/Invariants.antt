@@ -8,5 +8,5 @@ use Rattle.node_loop.proofs.run.NodeRun.pull_all.Given as goal
 abbrev pub invariant-loop-id : goal.invariant-loop-id
 invariant-loop-id g l =
     HeardBelow (Pulls (site_in l.fn.self.node).ranges g.D.P.Pipe.gave g.D.P.Pipe.took g.D.P.Pipe.counts) l.fn.self.node l.self.node l.fn.self.ports.items l.self.ports.items l.id
-    × (l.self.net ≡ l.fn.self.net) × (l.self.turns ≡ l.fn.self.turns) × (l.self.store ≡ l.fn.self.store)
+    × (l.self.net ≡ l.fn.self.net) × (l.self.turns ≡ l.fn.self.turns) × (l.self.store ≡ l.fn.self.store) × (l.self.clients ≡ l.fn.self.clients)
     × Remembers l.fn.self.pace l.self.pace

@@ -1,8 +1,6 @@
-use Rattle.std.proofs.Common.{◌≡◌, ◌<◌, ◌∷◌, [], Contains, List, length, slice_get, ap, rules}
-use Rattle.topology.specs.declared.frame.Ranges.{Ranges}
+use Rattle.std.proofs.Common.{◌≡◌, ◌<◌, ◌∷◌, [], Contains, length, ap, rules}
 use Rattle.topology.specs.Ranges.{ranges_of}
 use Rattle.socket_links.specs.Links.{Pulled}
-use Rattle.socket_links.specs.declared.link.Pull.{Pull}
 use Rattle.socket_links.specs.declared.link.Pull.TheVariants as pull
 use Rattle.node_loop.specs.Hearing.{Comes, Pulls}
 use Rattle.node_loop.proofs.Hearing.{both-set, others-set, frame-came, later-came, broken-came, takes-none, takes-nothing, takes-one, pulls-same}

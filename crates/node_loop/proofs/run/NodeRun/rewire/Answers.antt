@@ -1,5 +1,4 @@
-use Rattle.std.proofs.Common.{◌≡◌, ◌<◌, ◌≤◌, Bool, true, false, Contains, length, ap, arith, refl, rules, subst, sym}
-use Rattle.node_core.specs.View.{site_in}
+use Rattle.std.proofs.Common.{◌≡◌, ◌<◌, ◌≤◌, Bool, true, false, Contains, length, ap, arith, refl, subst, sym}
 use Rattle.node_loop.proofs.Loose.{all-closed, closed-next, closed-on}
 use Rattle.node_loop.proofs.run.NodeRun.rewire.Goals.{then-not-is_neighbour, else-not-is_neighbour}
 use Rattle.node_loop.proofs.run.NodeRun.rewire.Goals as goal

@@ -1,4 +1,5 @@
-use Rattle.std.proofs.Common.{◌≡◌, ◌≤◌, ◌∙◌, ap, refl, arith}
+use Rattle.std.proofs.Common.{◌≡◌, ◌≤◌, ◌∙◌, ap, refl, subst, arith}
+use Rattle.node_loop.specs.Lives.{LiveOn}
 use Rattle.node_loop.proofs.Speaking.{spoken-start, spoken-next, spoken-end}
 use Rattle.node_loop.proofs.run.NodeRun.speak.Goals as goal
 
@@ -30,3 +31,7 @@ returns-clause-spoken g c =
     let nodes : self.node.registers.ranges.nodes ≡ self.net.nodes = ap (λ s. s.ranges.nodes) self.wired in
     let all : self.node.registers.ranges.nodes ≤ c.loop-id.id = let end = c.loop-id-test.false in let count = c.nodes-id-end.ensures.nodes in omega arith in
     spoken-end g.D.P.Pipe.gave g.D.P.Pipe.took g.D.P.Pipe.counts c.args.offers.now c.args.now _ _ _ c.loop-id.id all c.loop-id.invariant.5 refl refl
+
+pub returns-clause-lives : goal.returns-clause-lives
+returns-clause-lives g c =
+    subst (λ x. LiveOn g.D.P.Pipe.gave g.D.P.Pipe.took g.D.P.Pipe.counts x c.write_all.new.clients) c.loop-id.invariant.4 c.write_all.ensures.lives

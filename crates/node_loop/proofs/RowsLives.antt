@@ -1,0 +1,100 @@
+-- Small examples of clients that live on, and some that look like them and do not.
+use Rattle.std.proofs.Common.{◌≡◌, ◌≢◌, ◌<◌, ◌≤◌, ◌∙◌, ◌++◌, ◌∷◌, [], ℕ, zero, suc, Bool, true, false, List, Option, None, Some, codes, length, take, refl, sym, subst, ap, inl, inr, arith}
+use Rattle.byte_streams.specs.Streams.{Rose}
+use Rattle.slab.specs.Slab.{get}
+use Rattle.socket_links.specs.Counts.{Counts}
+use Rattle.socket_links.specs.Pipes.{GoesOn}
+use Rattle.socket_links.specs.declared.pipe.ReadAnswer.{ReadAnswer}
+use Rattle.socket_links.specs.declared.pipe.ReadAnswer.TheVariants as read
+use Rattle.node_loop.specs.declared.clients.Client.{Client}
+use Rattle.node_loop.specs.declared.clients.Clients.{Clients}
+use Rattle.node_loop.specs.Clients.{SameClients}
+use Rattle.node_loop.specs.Lives.{Lives, Stays, Gave, Gives_later, Took, Takes_later, Then, LivesAt, LiveOn, ReadsAt, OthersStay, Admits, StillLive}
+
+not-rose : (n m : ℕ) → Rose n m → m ≡ 0 → ⊥
+not-rose n m (inl more) none = omega (arith, more, none)
+not-rose n m (inr most) none = grind (arith, most, none)
+
+-- whoever gave or took a byte gave or took one
+not-grown : (xs : Option (List ℕ)) (n : ℕ) (bytes : List ℕ) → 0 < n → n ≤ length bytes → GoesOn (take n bytes) xs (Some []) → ⊥
+not-grown None n bytes some within goes = absurd cc
+not-grown (Some xs) zero bytes some within goes = omega (arith, some)
+not-grown (Some xs) (suc n) [] some within goes = omega (arith, within)
+not-grown (Some []) (suc n) (b ∷ bytes) some within goes = (let e : ◌≡◌ {A = Option (List ℕ)} (Some []) (Some (b ∷ take n bytes)) = goes in absurd cc)
+not-grown (Some (x ∷ xs)) (suc n) (b ∷ bytes) some within goes =
+    (let e : ◌≡◌ {A = Option (List ℕ)} (Some []) (Some (x ∷ (xs ++ (b ∷ take n bytes)))) = goes in absurd cc)
+
+module _ {P : Type 0} (gave took : P → Option (List ℕ)) (counts : P → Counts) where
+  -- the pipe gave nothing, took nothing, and never said Later
+  abbrev IsFresh : P → Type 0
+  IsFresh p = (gave p ≡ Some []) × (took p ≡ Some []) × ((counts p).later ≡ 0)
+
+  -- nobody wrote to such a pipe or read it
+  fresh-stays : {p q : P} → Lives gave took counts p q → IsFresh q → q ≡ p
+  fresh-stays Stays f = refl
+  fresh-stays (Gave {p = p} n bytes r same) f = absurd (not-grown (gave p) n bytes r.0 r.1 (subst (λ x. GoesOn (take n bytes) (gave p) x) f.0 r.2))
+  fresh-stays (Gives_later {p = p} {q = q} bytes r same) f = absurd (not-rose (counts p).later (counts q).later r.2 f.2)
+  fresh-stays (Took {p = p} n bytes w same) f = absurd (not-grown (took p) n bytes w.0 w.1 (subst (λ x. GoesOn (take n bytes) (took p) x) f.1 w.2))
+  fresh-stays (Takes_later {p = p} {q = q} bytes w same) f = absurd (not-rose (counts p).later (counts q).later w.2 f.2)
+  fresh-stays (Then a b) f = (let e = fresh-stays b f in e ∙ fresh-stays a (subst (λ x. IsFresh x) e f))
+
+  -- so one that failed does not live on
+  lives_not-failed : (p q : P) → IsFresh q → (counts p).failed ≡ 0 → (counts q).failed ≡ 1 → ¬ Lives gave took counts p q
+  lives_not-failed p q fresh before after lives =
+      let e = fresh-stays lives fresh in
+      let n : 1 ≡ 0 = sym after ∙ (ap (λ x. (counts x).failed) e ∙ before) in omega (arith, n)
+
+  -- one that gave a byte does
+  lives-reads : (p q : P) → gave p ≡ Some [] → gave q ≡ Some (codes "u") → took q ≡ took p → counts q ≡ counts p → Lives gave took counts p q
+  lives-reads p q before after wrote same =
+      Gave 1 (codes "u") (omega arith, omega arith, rw (before, after) refl, rw same (omega arith, omega arith, omega arith)) wrote
+
+  at-gone : (c : Client P) → LivesAt gave took counts (Some c) None
+  at-gone c = tt
+
+  at_not-from-nowhere : (c : Client P) → ¬ LivesAt gave took counts None (Some c)
+  at_not-from-nowhere c l = l
+
+  reads-nobody : ReadsAt gave took counts read.Closed [] None None
+  reads-nobody = (refl, refl)
+
+  reads_not-of-nobody : ¬ ReadsAt gave took counts (read.Got 1) (codes "u") None None
+  reads_not-of-nobody r = (let e : ◌≡◌ {A = ReadAnswer} (read.Got 1) read.Closed = r.1 in absurd cc)
+
+  -- a read that writes is none
+  reads_not-writes : (a b : Client P) → took a.pipe ≡ Some [] → took b.pipe ≡ Some (codes "u") → ¬ ReadsAt gave took counts read.Later [] (Some a) (Some b)
+  reads_not-writes a b before after r = grind (arith, before, after, r.1)
+
+module _ {P A : Type 0} (gave took : P → Option (List ℕ)) (counts : P → Counts) (old new : Clients P A) (a b : Client P) (t : ℕ) where
+  -- the entry of a client whose connection failed is not kept
+  still_not-kept : get old.table t ≡ Some a → get new.table t ≡ Some b → IsFresh gave took counts b.pipe → (counts a.pipe).failed ≡ 0 → (counts b.pipe).failed ≡ 1
+      → ¬ StillLive gave took counts old new
+  still_not-kept was is fresh before after s =
+      let lives : LivesAt gave took counts (Some a) (Some b) = rw (was, is) at (s t (rw was refl)) in
+      lives_not-failed gave took counts a.pipe b.pipe fresh before after lives
+
+  live_not-kept : get old.table t ≡ Some a → get new.table t ≡ Some b → IsFresh gave took counts b.pipe → (counts a.pipe).failed ≡ 0 → (counts b.pipe).failed ≡ 1
+      → ¬ LiveOn gave took counts old new
+  live_not-kept was is fresh before after l =
+      let lives : LivesAt gave took counts (Some a) (Some b) = rw (was, is) at (l t) in
+      lives_not-failed gave took counts a.pipe b.pipe fresh before after lives
+
+  -- it is closed; and whoever came to a free ticket may be there
+  still-closed : ((u : ℕ) → get new.table u ≡ None) → StillLive gave took counts old new
+  still-closed gone u was = rw (gone u) tt
+
+  still-came : ((u : ℕ) → get old.table u ≡ None) → StillLive gave took counts old new
+  still-came none u was = (let e : ◌≡◌ {A = Bool} false true = rw (none u) at was in absurd cc)
+
+  -- nobody comes to a ticket that is taken
+  admits-free : ((u : ℕ) → get old.table u ≡ None) → Admits old new
+  admits-free none u was = (let e : ◌≡◌ {A = Bool} false true = rw (none u) at was in absurd cc)
+
+  admits_not-taken : get old.table t ≡ Some a → get new.table t ≡ None → ¬ Admits old new
+  admits_not-taken was is f = (let e : ◌≡◌ {A = Option (Client P)} None (Some a) = rw (was, is) at (f t (rw was refl)) in absurd cc)
+
+  others_not-changed : (u : ℕ) → t ≢ u → get old.table t ≡ Some a → get new.table t ≡ None → ¬ OthersStay u old new
+  others_not-changed u other was is f = (let e : ◌≡◌ {A = Option (Client P)} None (Some a) = rw (was, is) at (f t other) in absurd cc)
+
+  same_not-closed : get old.table t ≡ Some a → get new.table t ≡ None → ¬ SameClients old new
+  same_not-closed was is f = (let e : ◌≡◌ {A = Bool} false true = rw (was, is) at (f t) in absurd cc)
