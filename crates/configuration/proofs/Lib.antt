@@ -7,3 +7,4 @@ mod NodePlaces
 mod WorldRanges
 mod WorldSteps
 mod RowsAnswers
+mod RowsRewired

@@ -6,7 +6,9 @@ pub mod Numbers
 pub mod Ports
 pub mod ReadAgain
 pub mod Restored
-mod Rows
+pub mod Rows
+mod RowsParts
+mod RowsStores
 pub mod Spelled
 pub mod Stored
 pub mod Written

@@ -11,17 +11,17 @@ use Rattle.node_state_file.specs.Spelling.{spelling}
 use Rattle.node_state_file.specs.Reading.{decoded, first_fault, header_of, matched, ports_in}
 
 -- two nodes with links of capacity 1, and three that are all joined
-abbrev two : Network
+abbrev pub two : Network
 two = record { nodes = 2; root = 0; capacity = 1; lease = 0; edges = (0, 1) ∷ [] }
 
-abbrev triangle : ℕ → Network
+abbrev pub triangle : ℕ → Network
 triangle capacity = record { nodes = 3; root = 0; capacity = capacity; lease = 0; edges = (0, 1) ∷ (1, 2) ∷ (0, 2) ∷ [] }
 
 -- the default state of node 1 of the two, in both layouts
-abbrev older : List ℕ
+abbrev pub older : List ℕ
 older = 84 ∷ 75 ∷ 84 ∷ 49 ∷ 0 ∷ 2 ∷ 0 ∷ 1 ∷ 0 ∷ 1 ∷ 0 ∷ 2 ∷ 255 ∷ 255 ∷ 0 ∷ 0 ∷ 0 ∷ 0 ∷ 0 ∷ 0 ∷ 0 ∷ 2 ∷ 255 ∷ 255 ∷ 0 ∷ 0 ∷ 0 ∷ 2 ∷ 255 ∷ 255 ∷ 0 ∷ 0 ∷ 0 ∷ 0 ∷ []
 
-abbrev newer : List ℕ
+abbrev pub newer : List ℕ
 newer = 84 ∷ 75 ∷ 84 ∷ 50 ∷ 0 ∷ 2 ∷ 0 ∷ 1 ∷ 0 ∷ 1 ∷ 0 ∷ 1 ∷ 0 ∷ 2 ∷ 255 ∷ 255 ∷ 0 ∷ 0 ∷ 0 ∷ 0 ∷ 0 ∷ 0 ∷ 0 ∷ 2 ∷ 255 ∷ 255 ∷ 0 ∷ 0 ∷ 0 ∷ 2 ∷ 255 ∷ 255 ∷ 0 ∷ 0 ∷ 0 ∷ 0 ∷ []
 
 older-spelled : spelling Tkt1 two 1 (0 ∷ []) (default_node (ranges_of two)) ≡ older

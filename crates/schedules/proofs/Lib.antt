@@ -4,6 +4,7 @@ pub mod Parts
 pub mod Plain
 pub mod Rounds
 pub mod RowsRounds
+pub mod RowsRandom
 pub mod RowsTaking
 pub mod Taking
 pub mod Ticks

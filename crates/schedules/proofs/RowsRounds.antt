@@ -31,7 +31,7 @@ one-exchange_is_too_few : is_renewed noisy (Send 0 1 ∷ Take 0 1 ∷ Send 1 0 �
 one-exchange_is_too_few = refl
 
 -- a client asks at node 0 where this is privileged
-abbrev asked : World
+abbrev pub asked : World
 asked = run (default_world two_nodes) (rounds two_nodes 4 ++ Ask 0 5 ∷ [])
 
 -- then its tick lends the lock, and no tick of the round is full

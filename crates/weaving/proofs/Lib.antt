@@ -4,6 +4,7 @@ pub mod Changed
 pub mod LinkSteps
 pub mod OneWoven
 mod Rows
+mod RowsParts
 pub mod RowsRun
 pub mod Steps
 pub mod Weaving

@@ -1,0 +1,39 @@
+-- What becomes of nodes where one of them takes up its neighbours.
+use Rattle.std.proofs.Common.{◌≡◌, ◌≢◌, ℕ, zero, suc, List, [], ◌∷◌, refl, arith}
+use Rattle.std.proofs.lemmas.Grind.{common_steps}
+use Rattle.topology.specs.Ranges.{ranges_of}
+use Rattle.node_core.specs.View.{NodeView}
+use Rattle.run_model.proofs.RowsTwo.{two_nodes}
+use Rattle.configuration.specs.ConfigurationView.{no_node, node_at}
+use Rattle.configuration.specs.Rewired.{IsRewired}
+
+-- node 1 of two, with these neighbours, before a frame came to it
+abbrev joined_to : List ℕ → NodeView
+joined_to neighbours = record no_node { id = 1; distance = 2; registers = record no_node.registers { ranges = ranges_of two_nodes; neighbours = neighbours } }
+
+abbrev alone : List NodeView
+alone = no_node ∷ joined_to [] ∷ []
+
+abbrev joined : List NodeView
+joined = no_node ∷ joined_to (0 ∷ []) ∷ []
+
+-- node 1 was joined to nobody, and is joined to node 0
+same-others : (w : ℕ) → w ≢ 1 → node_at joined w ≡ node_at alone w
+same-others zero other = refl
+same-others (suc zero) other = absurd (other refl)
+same-others (suc (suc w)) other = refl
+
+takes-up : IsRewired two_nodes alone 1 joined
+takes-up = record { all_nodes = refl; others = same-others; site = refl; state = refl }
+
+-- it knows its new neighbours then
+takes_not-nobody : ¬ IsRewired two_nodes alone 1 alone
+takes_not-nobody is = grind (arith, is.site)
+
+-- and no other node changes
+takes_not-both : ¬ IsRewired two_nodes alone 1 (record no_node { distance = 1 } ∷ joined_to (0 ∷ []) ∷ [])
+takes_not-both is = let same : record no_node { distance = 1 } ≡ no_node = is.others 0 (omega arith) in grind (arith, same)
+
+-- nor its distance
+takes_not-distance : ¬ IsRewired two_nodes alone 1 (no_node ∷ record (joined_to (0 ∷ [])) { distance = 0 } ∷ [])
+takes_not-distance is = grind (arith, is.state)
