@@ -42,18 +42,20 @@ def plain(name):
 
 
 def note():
-    modules = "".join(f"mod {name} {{\n{plain(name)}\n}}\n" for name in ("turns", "loans", "links", "notes"))
+    modules = "".join(f"mod {name} {{\n{plain(name)}\n}}\n" for name in ("turns", "loans", "links", "rounds", "notes"))
     main = """
 fn main() {
     let mut notes = notes::Notes::begin(0, 2_200);
     for turn in 0..20_000_000u64 {
         let desk = loans::DeskSight { has_granted: turn % 7 == 0, lends: turn % 3 == 0 };
         notes.turn_ended(std::hint::black_box(turn * 2_100 + turn % 13 * 20), std::hint::black_box(desk));
+        let machine = rounds::MachineSight { port: 1, value: (turn / 7 % 100) as u16 };
+        notes.note_machine(std::hint::black_box(Some(machine)));
         let id = notes.next_link(std::hint::black_box(64));
         let sight = links::LinkSight { is_up: turn % 5_000 > 0, made: turn / 5_000 };
         notes.note_link(id, std::hint::black_box(sight), turn * 2_100);
     }
-    println!("{}", notes.turns().late + notes.loans().count + notes.link(5).since + notes.limit());
+    println!("{}", notes.turns().late + notes.loans().count + notes.link(5).since + notes.rounds().count + notes.limit());
 }
 """
     with open(f"{folder}/note.rs", "w") as file:

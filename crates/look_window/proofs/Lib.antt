@@ -1,1 +1,3 @@
 pub mod Saying
+pub mod Counting
+mod RowsCounted

@@ -4,7 +4,7 @@ use Rattle.turn_watch.specs.declared.notes.Notes.{Notes}
 use Rattle.node_core.specs.Site.{Site}
 use Rattle.node_core.specs.State.{LocalState}
 use Rattle.node_texts.specs.declared.look_parts.ProcessPart.{ProcessPart}
-use Rattle.node_texts.specs.LookText.{links_text, link_parts, loan_part, rest_text, status_part, turn_part}
+use Rattle.node_texts.specs.LookText.{links_text, link_parts, loan_part, rest_text, rounds_text, status_part, turn_part}
 use Rattle.node_texts.specs.NodeStatus.{NodesWriteTheirLines, line_of}
 use Rattle.look_window.specs.Laws.{LooksSayTheStatus}
 
@@ -12,7 +12,8 @@ use Rattle.look_window.specs.Laws.{LooksSayTheStatus}
 abbrev after-status : Site → Notes → ProcessPart → List ℕ → ℕ → List ℕ
 after-status site notes process version now =
     (codes ",\"links\":[" ++ (links_text (link_parts notes.links now site.neighbours) ++ codes "]"))
-    ++ rest_text (loan_part notes.loans now) (turn_part notes.turns notes.limit now) process version
+    ++ (rest_text (loan_part notes.loans now) (turn_part notes.turns notes.limit now) process version
+    ++ rounds_text notes.rounds.count)
 
 pub says : NodesWriteTheirLines → LooksSayTheStatus
 says writes site s notes process version now =

@@ -1,3 +1,4 @@
 pub mod NodeLook
+pub mod Counted
 pub mod Lookers
 pub mod Laws

@@ -7,8 +7,9 @@ use Rattle.node_texts.specs.declared.look_parts.ProcessPart.{ProcessPart}
 use Rattle.node_texts.specs.LookText.{look_text, link_parts, loan_part, turn_part}
 use Rattle.node_texts.specs.NodeStatus.{line_of}
 
--- the text of what its status line says, of what was noted of its links, loans and turns, and of its process
+-- the text of what its status line says, of what was noted of its links, loans and turns, of its process, and
+-- of how often the token came round
 abbrev pub node_look : Site → LocalState → Notes → ProcessPart → List ℕ → ℕ → List ℕ
 node_look site s notes process version now =
     look_text (line_of site s) (link_parts notes.links now site.neighbours) (loan_part notes.loans now)
-    (turn_part notes.turns notes.limit now) process version
+    (turn_part notes.turns notes.limit now) process version notes.rounds.count

@@ -4,6 +4,7 @@
 //! read from them.
 //!
 //! ```
+//! notes.note_machine(counted_machine(node));                  // after each turn
 //! let line = line_of_node(alloc, node, &notes, &process, now)?;    // the node's own line, as it stands now
 //! for place in 0..COMERS {
 //!     let Some(mut looker) = doors.looker() else { break };
@@ -20,9 +21,11 @@
 //! The trap: a looker that reads nothing before the end came as the 65th. It asks again.
 #![tactic(auto)]
 
+mod counted;
 pub mod laws;
 mod line;
 mod lookers;
 
+pub use counted::counted_machine;
 pub use line::{ProcessSaid, line_of_node};
 pub use lookers::{COMERS, LOOKERS, is_let_in, show};

@@ -18,7 +18,7 @@ pub struct ProcessSaid<'a> {
 }
 
 /// The line for whoever looks at this node at that time, with its newline: what its status line says, and
-/// what was noted of its links, loans and turns.
+/// what was noted of its links, loans and turns, and of the token.
 ///
 /// # Errors
 /// Where memory runs out.
@@ -41,6 +41,7 @@ pub fn line_of_node<A: Allocator>(
         turns: TurnPart::of(notes.turns(), notes.limit(), now),
         process: said.process,
         version: said.version,
+        rounds: notes.rounds().count,
     };
     look_line(alloc, &look)
 }

@@ -19,9 +19,9 @@ down = record { node = 2; is_up = false; since = 70000000; breaks = 0 }
 
 whole : look_text
     (record { node = 1; distance = 1; parent = Some 0; token = true; lent = Some 7; waiting = 2 })
-    (up ∷ []) (record { count = 3; longest = 1204; present = Some 80 }) turns
-    (record { id = Some 4711; start = Some 1790000000000 }) (codes "0.1.0")
-    ≡ codes "{\"node\":1,\"distance\":1,\"parent\":0,\"token\":true,\"lent\":7,\"waiting\":2,\"links\":[{\"node\":0,\"up\":true,\"for_us\":1500,\"breaks\":2}],\"loans\":{\"count\":3,\"longest_us\":1204,\"present_us\":80},\"turns\":{\"count\":512,\"longest_us\":2290,\"lately_us\":2190,\"limit_us\":2200,\"late\":3},\"process\":4711,\"version\":\"0.1.0\",\"start_ms\":1790000000000}\n"
+    (up ∷ []) (record { count = 3; longest = 1204; present = Some 80; lately = 990 }) turns
+    (record { id = Some 4711; start = Some 1790000000000 }) (codes "0.1.0") 58
+    ≡ codes "{\"node\":1,\"distance\":1,\"parent\":0,\"token\":true,\"lent\":7,\"waiting\":2,\"links\":[{\"node\":0,\"up\":true,\"for_us\":1500,\"breaks\":2}],\"loans\":{\"count\":3,\"longest_us\":1204,\"present_us\":80,\"lately_us\":990},\"turns\":{\"count\":512,\"longest_us\":2290,\"lately_us\":2190,\"limit_us\":2200,\"late\":3},\"process\":4711,\"version\":\"0.1.0\",\"start_ms\":1790000000000,\"rounds\":58}\n"
 unfolding turns up digits
 whole = refl
 
@@ -31,7 +31,8 @@ status-none : status_part (record { node = 0; distance = 2; parent = None; token
 unfolding digits
 status-none = refl
 
-loans-none : loan_text (record { count = 0; longest = 0; present = None }) ≡ codes "{\"count\":0,\"longest_us\":0,\"present_us\":null}"
+loans-none : loan_text (record { count = 0; longest = 0; present = None; lately = 0 })
+    ≡ codes "{\"count\":0,\"longest_us\":0,\"present_us\":null,\"lately_us\":0}"
 unfolding digits
 loans-none = refl
 

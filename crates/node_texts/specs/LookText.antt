@@ -32,6 +32,7 @@ loan_part l now = record {
   count = l.count;
   longest = l.longest;
   present = option_map (loan_length now) l.since;
+  lately = longest_lately now l.lately;
 }
 
 abbrev pub turn_part : TurnTimes → ℕ → ℕ → TurnPart
@@ -81,7 +82,8 @@ abbrev pub loan_text : LoanPart → List ℕ
 loan_text l =
     codes "{\"count\":" ++ (decimal l.count
     ++ (codes ",\"longest_us\":" ++ (decimal l.longest
-    ++ (codes ",\"present_us\":" ++ (or_null_text l.present ++ codes "}")))))
+    ++ (codes ",\"present_us\":" ++ (or_null_text l.present
+    ++ (codes ",\"lately_us\":" ++ (decimal l.lately ++ codes "}")))))))
 
 abbrev pub turn_text : TurnPart → List ℕ
 turn_text t =
@@ -91,18 +93,22 @@ turn_text t =
     ++ (codes ",\"limit_us\":" ++ (decimal t.limit
     ++ (codes ",\"late\":" ++ (decimal t.late ++ codes "}")))))))))
 
--- what stands after the links
+-- what stands between the links and the rounds
 abbrev pub rest_text : LoanPart → TurnPart → ProcessPart → List ℕ → List ℕ
 rest_text loans turns process version =
     codes ",\"loans\":" ++ (loan_text loans
     ++ (codes ",\"turns\":" ++ (turn_text turns
     ++ (codes ",\"process\":" ++ (or_null_text process.id
     ++ (codes ",\"version\":\"" ++ (version
-    ++ (codes "\",\"start_ms\":" ++ (or_null_text process.start ++ codes "}\n")))))))))
+    ++ (codes "\",\"start_ms\":" ++ or_null_text process.start))))))))
+
+-- how often the token came round, and the end of the object and of the line
+abbrev pub rounds_text : ℕ → List ℕ
+rounds_text rounds = codes ",\"rounds\":" ++ (decimal rounds ++ codes "}\n")
 
 -- the whole line
-abbrev pub look_text : StatusLine → List LinkPart → LoanPart → TurnPart → ProcessPart → List ℕ → List ℕ
-look_text status links loans turns process version =
+abbrev pub look_text : StatusLine → List LinkPart → LoanPart → TurnPart → ProcessPart → List ℕ → ℕ → List ℕ
+look_text status links loans turns process version rounds =
     (codes "{" ++ status_part status)
     ++ ((codes ",\"links\":[" ++ (links_text links ++ codes "]"))
-    ++ rest_text loans turns process version)
+    ++ (rest_text loans turns process version ++ rounds_text rounds))

@@ -2,7 +2,7 @@
 ghost use Rattle.std.specs.Prelude.{◌≡◌, ◌++◌, IfOk, OnOk, codes, string_bytes};
 ghost use Rattle.node_core.specs.View.{site_in, state_of};
 ghost use Rattle.node_texts.specs.LookText.{look_text, status_part, links_text, other_links_text};
-ghost use Rattle.node_texts.specs.LookText.{link_text, rest_text, link_parts};
+ghost use Rattle.node_texts.specs.LookText.{link_text, rest_text, rounds_text, link_parts};
 ghost use Rattle.node_texts.specs.NodeStatus.{line_of};
 
 use crate::StatusLine;
@@ -28,6 +28,8 @@ pub struct Look<'a> {
     pub process: ProcessPart,
     /// The version of the program, in letters, digits and dots.
     pub version: &'a str,
+    /// How often the token came round.
+    pub rounds: u64,
 }
 
 /// What the status line of a node says.
@@ -70,12 +72,13 @@ pub fn link_parts(
 pub fn look_line(alloc: Global, look: &Look<'_>) -> Result<String, AllocError>
     ensures { IfOk result (λ line. string_bytes line
         ≡ look_text look.now.status look.now.links.now look.now.loans look.now.turns
-        look.now.process look.now.version.now) }
+        look.now.process look.now.version.now look.now.rounds) }
 {
     let mut text = String::new(alloc);
     push_status(&mut text, look.status)?;
     push_links(&mut text, look.links)?;
     push_rest(&mut text, look)?;
+    push_rounds(&mut text, look.rounds)?;
     Ok(text)
 }
 
@@ -119,7 +122,7 @@ fn push_other(text: &mut String, link: &LinkPart) -> Result<(), AllocError>
     write!(text, ",{link}")
 }
 
-/// Adds what is left, and ends the object and the line.
+/// Adds what is left but for the rounds.
 fn push_rest(text: &mut String, look: &Look<'_>) -> Result<(), AllocError>
     ensures { OnOk result (string_bytes text.new
         ≡ string_bytes text.old ++ rest_text look.now.loans look.now.turns look.now.process
@@ -127,10 +130,18 @@ fn push_rest(text: &mut String, look: &Look<'_>) -> Result<(), AllocError>
 {
     let (loans, turns, version) = (look.loans, look.turns, look.version);
     let (process, start) = (OrNull(look.process.id), OrNull(look.process.start));
-    writeln!(
+    write!(
         text,
-        ",\"loans\":{loans},\"turns\":{turns},\"process\":{process},\"version\":\"{version}\",\"start_ms\":{start}}}"
+        ",\"loans\":{loans},\"turns\":{turns},\"process\":{process},\"version\":\"{version}\",\"start_ms\":{start}"
     )
+}
+
+/// Adds how often the token came round, and ends the object and the line.
+fn push_rounds(text: &mut String, rounds: u64) -> Result<(), AllocError>
+    ensures { OnOk result (string_bytes text.new
+        ≡ string_bytes text.old ++ rounds_text rounds) }
+{
+    writeln!(text, ",\"rounds\":{rounds}}}")
 }
 
 /// What the status line says, as members of a JSON object.

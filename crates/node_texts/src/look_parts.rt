@@ -61,6 +61,8 @@ pub struct LoanPart {
     pub longest: u64,
     /// How long the present one has been, if there is one.
     pub present: Option<u64>,
+    /// The longest of those that ended in the last minute.
+    pub lately: u64,
 }
 
 impl LoanPart {
@@ -72,6 +74,7 @@ impl LoanPart {
             count: loans.count,
             longest: loans.longest,
             present: loans.present(now),
+            lately: loans.longest_lately(now),
         }
     }
 }
@@ -85,10 +88,11 @@ impl fmt::Display for LoanPart {
     fn fmt<W: fmt::Write>(&self, f: &mut fmt::Formatter<W>) -> fmt::Result {
         write!(
             f,
-            "{{\"count\":{},\"longest_us\":{},\"present_us\":{}}}",
+            "{{\"count\":{},\"longest_us\":{},\"present_us\":{},\"lately_us\":{}}}",
             self.count,
             self.longest,
-            OrNull(self.present)
+            OrNull(self.present),
+            self.lately
         )
     }
 }

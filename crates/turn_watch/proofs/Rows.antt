@@ -81,12 +81,18 @@ over-since : over.since ≡ None
 unfolding over lent
 over-since = refl
 
-over-short : desk_seen 400 (record { has_granted = true; lends = false }) over ≡ record { count = 2; longest = 250; since = None }
+over-lately : longest_lately 60000350 over.lately ≡ 250
+unfolding over lent
+over-lately = refl
+
+over-short : desk_seen 400 (record { has_granted = true; lends = false }) over
+    ≡ record { count = 2; longest = 250; since = None; lately = record { half = 0; present = 250; before = 0; earlier = 0 } }
 unfolding over lent
 over-short = refl
 
 -- a loan that follows another within one turn ends it
-next-loan : desk_seen 500 (record { has_granted = true; lends = true }) lent ≡ record { count = 2; longest = 400; since = Some 500 }
+next-loan : desk_seen 500 (record { has_granted = true; lends = true }) lent
+    ≡ record { count = 2; longest = 400; since = Some 500; lately = record { half = 0; present = 400; before = 0; earlier = 0 } }
 unfolding lent
 next-loan = refl
 

@@ -1,8 +1,10 @@
 -- Small examples of what is kept of turns, loans and links, part by part, and ones that fail.
-use Rattle.std.proofs.Common.{◌≡◌, true, false, None, Some, [], ◌∷◌, refl, arith}
+use Rattle.std.proofs.Common.{◌≡◌, true, false, Option, None, Some, [], ◌∷◌, refl, arith}
 use Rattle.turn_watch.specs.declared.turns.Lately.{Lately}
-use Rattle.turn_watch.specs.Turns.{half_minute, moved_by, moved_to, gap_noted, turn_ended, begun}
-use Rattle.turn_watch.specs.Loans.{no_loans, loan_length, longest_with, loan_ended, loan_begun, counted_if}
+use Rattle.turn_watch.specs.Turns.{half_minute, moved_by, moved_to, gap_noted, turn_ended, begun, longest_lately, none_kept}
+use Rattle.turn_watch.specs.Loans.{no_loans, loan_length, longest_with, lately_with, loan_ended, loan_begun, counted_if}
+use Rattle.turn_watch.specs.Rounds.{has_moved, machine_seen, no_rounds}
+use Rattle.turn_watch.specs.declared.rounds.MachineSight.{MachineSight}
 use Rattle.turn_watch.specs.Links.{down_since, is_same, link_of}
 use Rattle.turn_watch.specs.Notes.{next_of}
 use Rattle.turn_watch.specs.Laws.{AreUntil}
@@ -71,8 +73,32 @@ longest-longer = refl
 longest_not-shorter : longest_with 350 (Some 300) 70 ≡ 70
 longest_not-shorter = refl
 
-loan-over : loan_ended 350 (record no_loans { since = Some 100 }) ≡ record { count = 0; longest = 250; since = None }
+-- a loan of 250 microseconds that ended in the first half minute of the clock
+abbrev ended : Lately
+ended = record { half = 0; present = 250; before = 0; earlier = 0 }
+
+loan-over : loan_ended 350 (record no_loans { since = Some 100 })
+    ≡ record { count = 0; longest = 250; since = None; lately = ended }
 loan-over = refl
+
+-- one that ended in the next half minute is kept beside it, and is the longest of the last minute
+loan-lately : (loan_ended 30000400 (record no_loans { since = Some 30000000; lately = ended })).lately
+    ≡ record { half = 1; present = 400; before = 250; earlier = 0 }
+loan-lately = refl
+
+lately-longest : longest_lately 30000400 (record { half = 1; present = 400; before = 250; earlier = 0 }) ≡ 400
+lately-longest = refl
+
+-- a minute and a half after the half minute in which it ended began, it is forgotten
+lately-kept : longest_lately 89999999 ended ≡ 250
+lately-kept = refl
+
+lately_not-kept : longest_lately 90000000 ended ≡ 0
+lately_not-kept = refl
+
+-- a loan that never began ended not
+lately_not-none : lately_with 350 None ended ≡ ended
+lately_not-none = refl
 
 -- a loan that runs began when it began
 loan-runs : loan_begun 350 (record no_loans { since = Some 100 }) ≡ record no_loans { since = Some 100 }
@@ -107,3 +133,43 @@ next-node = refl
 
 next-first : next_of 3 2 ≡ 0
 next-first = refl
+
+-- ---- rounds
+
+-- the machine from node 2, with value 6
+abbrev six : Option MachineSight
+six = Some (record { port = 2; value = 6 })
+
+moved-on : has_moved six (Some (record { port = 2; value = 0 })) ≡ true
+moved-on = refl
+
+moved_not-same : has_moved six six ≡ false
+moved_not-same = refl
+
+-- another machine has another value, and did not move
+moved_not-other : has_moved six (Some (record { port = 3; value = 0 })) ≡ false
+moved_not-other = refl
+
+moved_not-first : has_moved None six ≡ false
+moved_not-first = refl
+
+-- it is seen with the values 6, 6 and 0: the token came round once
+seen-once : machine_seen (Some (record { port = 2; value = 0 })) (machine_seen six (machine_seen six no_rounds))
+    ≡ record { count = 1; last = Some (record { port = 2; value = 0 }) }
+seen-once = refl
+
+-- then from another neighbour, and from that one with another value: once more
+seen-other : machine_seen (Some (record { port = 3; value = 1 }))
+    (machine_seen (Some (record { port = 3; value = 0 })) (record { count = 1; last = six }))
+    ≡ record { count = 2; last = Some (record { port = 3; value = 1 }) }
+seen-other = refl
+
+seen-nothing : machine_seen None (record { count = 1; last = six }) ≡ record { count = 1; last = None }
+seen-nothing = refl
+
+-- nothing is kept at the start, in whichever half minute the node starts
+none-first : none_kept 0 ≡ record { half = 0; present = 0; before = 0; earlier = 0 }
+none-first = refl
+
+none-later : (none_kept 60000000).half ≡ 2
+none-later = refl

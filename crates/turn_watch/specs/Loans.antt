@@ -2,11 +2,12 @@
 use Rattle.std.specs.Prelude.{ℕ, ◌-◌, Bool, true, false, ◌||◌, not, max, Option, None, Some}
 use Rattle.turn_watch.specs.declared.loans.DeskSight.{DeskSight}
 use Rattle.turn_watch.specs.declared.loans.LoanTimes.{LoanTimes}
-use Rattle.turn_watch.specs.Turns.{one_more}
+use Rattle.turn_watch.specs.declared.turns.Lately.{Lately}
+use Rattle.turn_watch.specs.Turns.{one_more, none_kept, gap_noted}
 
 -- nothing was lent yet
 abbrev pub no_loans : LoanTimes
-no_loans = record { count = 0; longest = 0; since = None }
+no_loans = record { count = 0; longest = 0; since = None; lately = none_kept 0 }
 
 -- how long a loan has been that began then
 abbrev pub loan_length : ℕ → ℕ → ℕ
@@ -16,9 +17,18 @@ abbrev pub longest_with : ℕ → Option ℕ → ℕ → ℕ
 longest_with now None longest = longest
 longest_with now (Some since) longest = max longest (loan_length now since)
 
+-- the longest loans of the last minute, with one that began then and ended now
+abbrev pub lately_with : ℕ → Option ℕ → Lately → Lately
+lately_with now None lately = lately
+lately_with now (Some since) lately = gap_noted now (loan_length now since) lately
+
 -- the present loan ended, if there is one
 abbrev pub loan_ended : ℕ → LoanTimes → LoanTimes
-loan_ended now l = record l { longest = longest_with now l.since l.longest; since = None }
+loan_ended now l = record l {
+  longest = longest_with now l.since l.longest;
+  since = None;
+  lately = lately_with now l.since l.lately;
+}
 
 abbrev pub since_or : ℕ → Option ℕ → Option ℕ
 since_or now None = Some now

@@ -11,6 +11,10 @@ one_more count = min (count + 1) (2 ^ 64 - 1)
 abbrev pub half_minute : ℕ → ℕ
 half_minute now = now / 30000000
 
+-- nothing ended in the half minutes that are kept at a time
+abbrev pub none_kept : ℕ → Lately
+none_kept now = record { half = half_minute now; present = 0; before = 0; earlier = 0 }
+
 -- no turn has ended yet
 abbrev pub begun : ℕ → TurnTimes
 begun now = record {
@@ -18,7 +22,7 @@ begun now = record {
   ended = now;
   longest = 0;
   late = 0;
-  lately = record { half = half_minute now; present = 0; before = 0; earlier = 0 };
+  lately = none_kept now;
 }
 
 -- so many half minutes later: what ended three half minutes ago or earlier is forgotten
@@ -33,7 +37,7 @@ moved_by steps half l =
 abbrev pub moved_to : ℕ → Lately → Lately
 moved_to now l = moved_by (half_minute now - l.half) (half_minute now) l
 
--- a gap ended
+-- a gap ended, or whatever else has a length
 abbrev pub gap_noted : ℕ → ℕ → Lately → Lately
 gap_noted now gap l = record (moved_to now l) { present = max (moved_to now l).present gap }
 

@@ -1,4 +1,4 @@
-//! What a node notes of its own turns, loans and links, for whoever looks.
+//! What a node notes of its own turns, loans and links, and of the token, for whoever looks.
 //!
 //! The theorems on time rest on premises: that each node takes a turn every so many microseconds, that
 //! connections stand, that loans end. These records say what was true of them so far.
@@ -23,9 +23,11 @@ pub mod laws;
 mod links;
 mod loans;
 mod notes;
+mod rounds;
 mod turns;
 
 pub use links::{LinkSight, LinkTimes};
 pub use loans::{DeskSight, LoanTimes};
 pub use notes::Notes;
+pub use rounds::{MachineSight, RoundCount};
 pub use turns::{Lately, TurnTimes, USUAL_LIMIT};

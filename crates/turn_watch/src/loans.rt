@@ -2,6 +2,9 @@
 ghost use Rattle.std.specs.Prelude.{◌≡◌};
 ghost use Rattle.std.specs.Option.{option_map};
 ghost use Rattle.turn_watch.specs.Loans.{no_loans, loan_ended, loan_begun, desk_seen, loan_length};
+ghost use Rattle.turn_watch.specs.Turns.{longest_lately};
+
+use crate::turns::Lately;
 
 /// What is seen of a node's desk after a turn.
 #[derive(Clone, Copy, Debug, PartialEq, Eq)]
@@ -22,6 +25,8 @@ pub struct LoanTimes {
     pub longest: u64,
     /// When the present loan began, if there is one.
     pub since: Option<u64>,
+    /// The longest of those that ended in the last minute.
+    pub lately: Lately,
 }
 
 impl LoanTimes {
@@ -33,6 +38,7 @@ impl LoanTimes {
             count: 0,
             longest: 0,
             since: None,
+            lately: Lately::begin(0),
         }
     }
 
@@ -56,7 +62,9 @@ impl LoanTimes {
         ensures { self.new ≡ loan_ended now self.old }
     {
         if let Some(since) = self.since {
-            self.longest = self.longest.max(now.saturating_sub(since));
+            let length = now.saturating_sub(since);
+            self.longest = self.longest.max(length);
+            self.lately.note(now, length);
             self.since = None;
         }
     }
@@ -68,6 +76,14 @@ impl LoanTimes {
         if self.since.is_none() {
             self.since = Some(now);
         }
+    }
+
+    /// The longest loan that ended in the last minute, seen at that time. It may be one that ended up
+    /// to half a minute earlier.
+    pub fn longest_lately(&self, now: u64) -> u64
+        ensures { result ≡ longest_lately now self.now.lately }
+    {
+        self.lately.longest(now)
     }
 
     /// How long the present loan has been, if there is one.

@@ -4,19 +4,22 @@ ghost use Rattle.turn_watch.specs.Turns.{begun, turn_ended};
 ghost use Rattle.turn_watch.specs.Loans.{no_loans, desk_seen};
 ghost use Rattle.turn_watch.specs.Links.{down_since, link_seen, link_of};
 ghost use Rattle.turn_watch.specs.Notes.{next_of};
+ghost use Rattle.turn_watch.specs.Rounds.{no_rounds, machine_seen};
 
 use crate::links::{LinkSight, LinkTimes};
 use crate::loans::{DeskSight, LoanTimes};
+use crate::rounds::{MachineSight, RoundCount};
 use crate::turns::TurnTimes;
 
 /// The most nodes of a network.
 const NODES: usize = 64;
 
-/// What a node notes of its turns, loans and links.
+/// What a node notes of its turns, loans and links, and of the token.
 #[derive(Drop)]
 pub struct Notes {
     turns: TurnTimes,
     loans: LoanTimes,
+    rounds: RoundCount,
     /// By the id of the node at the other end.
     links: [LinkTimes; NODES],
     /// After how many microseconds a turn is late.
@@ -30,12 +33,13 @@ impl Notes {
     /// microseconds.
     pub fn begin(now: u64, limit: u64) -> Notes
         ensures { (result.turns ≡ begun now) × (result.loans ≡ no_loans)
-            × (result.links ≡ replicate 64 (down_since now))
+            × (result.rounds ≡ no_rounds) × (result.links ≡ replicate 64 (down_since now))
             × (result.limit ≡ limit) × (result.next ≡ 0) }
     {
         Notes {
             turns: TurnTimes::begin(now),
             loans: LoanTimes::begin(),
+            rounds: RoundCount::begin(),
             links: [LinkTimes::begin(now); NODES],
             limit,
             next: 0,
@@ -66,6 +70,13 @@ impl Notes {
         self.loans.note(now, desk);
     }
 
+    /// Takes note of one of the node's machines after a turn; of none, if the node has no neighbour.
+    pub fn note_machine(&mut self, sight: Option<MachineSight>)
+        ensures { self.new ≡ record self.old { rounds = machine_seen sight self.old.rounds } }
+    {
+        self.rounds.note(sight);
+    }
+
     /// Whose link is to be noted now: that of each node of a network of `nodes` nodes in turn.
     pub fn next_link(&mut self, nodes: u16) -> u16
         ensures next { result ≡ self.old.next }
@@ -84,7 +95,8 @@ impl Notes {
         ensures others { (other : ℕ) → other ≢ id
             → link_of self.new.links other ≡ link_of self.old.links other }
         ensures rest { (self.new.turns ≡ self.old.turns) × (self.new.loans ≡ self.old.loans)
-            × (self.new.limit ≡ self.old.limit) × (self.new.next ≡ self.old.next) }
+            × (self.new.rounds ≡ self.old.rounds) × (self.new.limit ≡ self.old.limit)
+            × (self.new.next ≡ self.old.next) }
     {
         if usize::from(id) < NODES {
             self.links[usize::from(id)].note(sight, now);
@@ -103,6 +115,13 @@ impl Notes {
         ensures { result.now ≡ self.now.loans }
     {
         &self.loans
+    }
+
+    /// How often the token came round.
+    pub fn rounds(&self) -> &RoundCount
+        ensures { result.now ≡ self.now.rounds }
+    {
+        &self.rounds
     }
 
     /// The link to a node; to an id above 63 none was ever made.

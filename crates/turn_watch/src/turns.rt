@@ -1,6 +1,6 @@
 //! How long the times between the ends of a node's turns are.
 ghost use Rattle.std.specs.Prelude.{◌≡◌};
-ghost use Rattle.turn_watch.specs.Turns.{begun, moved_to, gap_noted, longest_lately, turn_ended};
+ghost use Rattle.turn_watch.specs.Turns.{begun, none_kept, moved_to, gap_noted, longest_lately, turn_ended};
 
 /// How long a turn may take to be in time, in microseconds, unless another limit is named: the longest
 /// rest of 2 milliseconds, and a tenth of that for the turn itself.
@@ -9,8 +9,8 @@ pub const USUAL_LIMIT: u64 = 2_200;
 /// Half a minute, in microseconds.
 const HALF_MINUTE: u64 = 30_000_000;
 
-/// The longest gaps of the half minute that runs and of the two before it, so of the last minute and
-/// of at most half a minute more. In microseconds.
+/// The longest gaps, or loans, of the half minute that runs and of the two before it, so of the last
+/// minute and of at most half a minute more. In microseconds.
 #[derive(Clone, Copy, Debug, PartialEq, Eq)]
 pub struct Lately {
     /// Which half minute runs: 0 is the first of the clock.
@@ -25,8 +25,8 @@ pub struct Lately {
 
 impl Lately {
     /// Nothing has ended yet.
-    fn begin(now: u64) -> Lately
-        ensures { result ≡ (begun now).lately }
+    pub(crate) fn begin(now: u64) -> Lately
+        ensures { result ≡ none_kept now }
     {
         Lately {
             half: now / HALF_MINUTE,
@@ -56,7 +56,7 @@ impl Lately {
     }
 
     /// A gap has ended.
-    fn note(&mut self, now: u64, gap: u64)
+    pub(crate) fn note(&mut self, now: u64, gap: u64)
         ensures { self.new ≡ gap_noted now gap self.old }
     {
         self.move_to(now);
@@ -64,7 +64,7 @@ impl Lately {
     }
 
     /// The longest gap of the last minute, seen at that time.
-    fn longest(&self, now: u64) -> u64
+    pub(crate) fn longest(&self, now: u64) -> u64
         ensures { result ≡ longest_lately now self.now }
     {
         let mut kept = *self;

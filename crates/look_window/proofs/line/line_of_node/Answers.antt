@@ -12,4 +12,5 @@ returns-clause-line g c =
       c.of-2.ensures,
       c.turns.ensures,
       c.limit.ensures,
+      c.rounds.ensures,
     ) at c.look_line.ensures
