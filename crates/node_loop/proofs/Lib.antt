@@ -13,3 +13,4 @@ mod Rows
 mod RowsTurns
 mod RowsLives
 mod RowsPorts
+mod RowsVisitors
