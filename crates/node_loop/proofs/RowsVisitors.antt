@@ -1,5 +1,5 @@
 -- Small examples of visitors that say who they are, and some that look like them and do not.
-use Rattle.std.proofs.Common.{◌≡◌, ◌+◌, ℕ, List, [], ◌∷◌, ◌++◌, Option, None, Some, codes, refl, arith}
+use Rattle.std.proofs.Common.{◌≡◌, ◌+◌, ℕ, List, [], ◌++◌, Option, None, Some, codes, refl, arith}
 use Rattle.lock_desk.specs.declared.fault.AskFault.TheVariants.{Full}
 use Rattle.node_loop.specs.declared.lobby.Arrival.TheVariants as arrival
 use Rattle.node_loop.specs.declared.lobby.Visitor.{Visitor}
