@@ -15,3 +15,4 @@ mod RowsTurns
 mod RowsRemembering
 mod RowsLives
 mod RowsPorts
+mod RowsVisitors

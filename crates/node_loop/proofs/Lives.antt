@@ -3,6 +3,7 @@ use Rattle.std.proofs.Common.{◌≡◌, ◌≢◌, ◌⊎◌, ◌<◌, ◌∙�
 use Rattle.std.specs.Prelude.{is_some, IsSome}
 use Rattle.std.proofs.lemmas.Grind.{common_steps}
 use Rattle.std.proofs.lemmas.Bool.Decides.{nat_tests}
+use Rattle.byte_streams.specs.Streams.{Rose}
 use Rattle.slab.specs.Slab.{Slab, get, with_value}
 use Rattle.slab.proofs.SlabLemmas.{Updates-with_value}
 use Rattle.socket_links.specs.Counts.{Counts}
@@ -11,7 +12,7 @@ use Rattle.node_loop.specs.declared.clients.Client.{Client}
 use Rattle.node_loop.specs.declared.clients.Clients.{Clients}
 use Rattle.node_loop.specs.Clients.{is_connected}
 use Rattle.node_loop.proofs.Speaking.{apart}
-use Rattle.node_loop.specs.Lives.{Lives, Stays, Gave, Gives_later, Then, LivesAt, LiveOn, ReadsAt, OthersStay, Admits, StillLive}
+use Rattle.node_loop.specs.Lives.{Lives, Stays, Gave, Gives_later, Then, LivesAt, LiveOn, ReadsAt, OthersStay, Admits, StillLive, FailsAt}
 
 one-of-three : (t k : ℕ) → (t ≡ k) ⊎ ((t < k) ⊎ (k < t))
 one-of-three t k = grind arith
@@ -131,3 +132,10 @@ module _ {P A : Type 0} (gave took : P → Option (List ℕ)) (counts : P → Co
 
   pub still-join : (a b c : Clients P A) → StillLive gave took counts a b → LiveOn gave took counts b c → StillLive gave took counts a c
   still-join a b c f g t was = join-at gave took counts (get a.table t) (get b.table t) (get c.table t) (f t was) (g t)
+
+-- a client of which the pipe failed is written back to its place
+pub failed-here : {P : Type 0} (counts : P → Counts) (s : Slab (Client P)) (k : ℕ) (old new : Client P) → Some old ≡ get s k → Rose (counts old.pipe).failed (counts new.pipe).failed
+    → FailsAt counts (get s k) (get (with_value s k new) k)
+failed-here counts s k old new e rose =
+    let changed : get (with_value s k new) k ≡ Some new = (Updates-with_value s k new (subst (λ x. IsSome x) e refl)).changed in
+    subst (λ x. FailsAt counts x (get (with_value s k new) k)) e (subst (λ y. FailsAt counts (Some old) y) (sym changed) rose)

@@ -9,7 +9,7 @@ use Rattle.socket_links.specs.declared.pipe.ReadAnswer.TheVariants as read
 use Rattle.node_loop.specs.declared.clients.Client.{Client}
 use Rattle.node_loop.specs.declared.clients.Clients.{Clients}
 use Rattle.node_loop.specs.Clients.{SameClients}
-use Rattle.node_loop.specs.Lives.{Lives, Stays, Gave, Gives_later, Took, Takes_later, Then, LivesAt, LiveOn, ReadsAt, OthersStay, Admits, StillLive}
+use Rattle.node_loop.specs.Lives.{FailsAt, Lives, Stays, Gave, Gives_later, Took, Takes_later, Then, LivesAt, LiveOn, ReadsAt, OthersStay, Admits, StillLive}
 
 not-rose : (n m : ℕ) → Rose n m → m ≡ 0 → ⊥
 not-rose n m (inl more) none = omega (arith, more, none)
@@ -64,6 +64,16 @@ module _ {P : Type 0} (gave took : P → Option (List ℕ)) (counts : P → Coun
   -- a read that writes is none
   reads_not-writes : (a b : Client P) → took a.pipe ≡ Some [] → took b.pipe ≡ Some (codes "u") → ¬ ReadsAt gave took counts read.Later [] (Some a) (Some b)
   reads_not-writes a b before after r = grind (arith, before, after, r.1)
+
+module _ {P : Type 0} (counts : P → Counts) (a b : Client P) (before : (counts a.pipe).failed ≡ 0) where
+  fails-once : (counts b.pipe).failed ≡ 1 → FailsAt counts (Some a) (Some b)
+  fails-once after = inl (omega (arith, before, after))
+
+  fails_not-still : (counts b.pipe).failed ≡ 0 → ¬ FailsAt counts (Some a) (Some b)
+  fails_not-still after f = not-rose (counts a.pipe).failed (counts b.pipe).failed f after
+
+  fails_not-nobody : ¬ FailsAt counts None (Some b)
+  fails_not-nobody f = f
 
 module _ {P A : Type 0} (gave took : P → Option (List ℕ)) (counts : P → Counts) (old new : Clients P A) (a b : Client P) (t : ℕ) where
   -- the entry of a client whose connection failed is not kept

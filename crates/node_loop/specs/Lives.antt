@@ -1,5 +1,6 @@
 -- Clients that live on: of whoever is still connected, no read and no write said that it is gone.
 use Rattle.std.specs.Prelude.{◌≡◌, ◌≢◌, ℕ, true, List, Option, None, Some, ⊤}
+use Rattle.byte_streams.specs.Streams.{Rose}
 use Rattle.slab.specs.Slab.{get}
 use Rattle.socket_links.specs.Counts.{Counts}
 use Rattle.socket_links.specs.Pipes.{Reads, Writes}
@@ -44,6 +45,12 @@ module _ {P : Type 0} (gave took : P → Option (List ℕ)) (counts : P → Coun
   ReadsAt answer bytes (Some old) (Some new) =
       Reads answer bytes (gave old.pipe) (gave new.pipe) (counts old.pipe) (counts new.pipe)
       × (took new.pipe ≡ took old.pipe)
+
+-- there is a client, and its pipe failed: that count rose
+abbrev pub FailsAt : {P : Type 0} → (P → Counts) → Option (Client P) → Option (Client P) → Type 0
+FailsAt counts None new = ⊥
+FailsAt counts (Some old) None = ⊥
+FailsAt counts (Some old) (Some new) = Rose (counts old.pipe).failed (counts new.pipe).failed
 
 module _ {P A : Type 0} where
   -- of the client with this ticket alone something may have changed

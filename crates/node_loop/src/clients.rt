@@ -39,7 +39,7 @@ pub(crate) struct Clients<P, A: Allocator + Copy = Global> {
 impl<P: Pipe, A: Allocator + Copy> Clients<P, A> {
     ghost use Rattle.node_loop.specs.Clients.{answers_of, is_connected, room_of};
     ghost use Rattle.node_loop.specs.Clients.{SameClients, GivesWithin};
-    ghost use Rattle.node_loop.specs.Lives.{LivesAt, LiveOn, OthersStay, ReadsAt};
+    ghost use Rattle.node_loop.specs.Lives.{FailsAt, LivesAt, LiveOn, OthersStay, ReadsAt};
 
     /// No clients, with all the room that there ever is. `AllocError` comes only where memory is
     /// refused.
@@ -152,6 +152,8 @@ impl<P: Pipe, A: Allocator + Copy> Clients<P, A> {
         // Unless that fails, its pipe lives on; and nobody else was written to.
         ensures lives { IsTrue result → LivesAt P.gave P.took P.counts
             (get self.old.table ticket) (get self.new.table ticket) }
+        ensures failed { result ≡ false
+            → FailsAt P.counts (get self.old.table ticket) (get self.new.table ticket) }
         ensures others_stay { OthersStay ticket self.old self.new }
         ensures others { (t : ℕ) → t ≢ ticket → answers_of self.new t ≡ answers_of self.old t }
     {
