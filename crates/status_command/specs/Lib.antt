@@ -1,3 +1,5 @@
 pub mod NoticeText
 pub mod Answering
+pub mod Asking
+pub mod Shown
 pub mod Reasons

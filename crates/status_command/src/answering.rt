@@ -1,8 +1,9 @@
 //! What a node answered, of what came from it.
-ghost use Rattle.std.specs.Prelude.{◌≡◌, ◌==◌, IfOk, map, take};
+ghost use Rattle.std.specs.Prelude.{◌≡◌, ◌==◌, IfOk, take};
 ghost use Rattle.std.specs.List.{position};
 ghost use Rattle.std.specs.Option.{option_map};
 ghost use Rattle.status_command.specs.Answering.{first_line, line_said, status_in, answer_in};
+ghost use Rattle.status_command.specs.Asking.{answers_in};
 
 use crate::asking::Asked;
 use node_texts::{MOST_STATUS_BYTES, NodeAnswer, StatusLine};
@@ -58,8 +59,12 @@ fn line_said(line: &[u8]) -> Option<StatusLine>
 ///
 /// # Errors
 /// Where memory runs out.
-pub fn answers(alloc: Global, all: &[Asked]) -> Result<Vec<NodeAnswer>, AllocError> {
-    all.iter()
-        .map(|asked| answer(asked.node, asked.came.as_slice()))
-        .collect(alloc)
+pub fn answers(alloc: Global, all: &[Asked]) -> Result<Vec<NodeAnswer>, AllocError>
+    ensures { IfOk result (λ answers. answers.items ≡ answers_in all.now) }
+{
+    let mut answers = Vec::new(alloc);
+    for asked in all {
+        answers.push(answer(asked.node, asked.came.as_slice()))?;
+    }
+    Ok(answers)
 }

@@ -1,4 +1,7 @@
 //! Nodes that are asked for a line, all at once.
+ghost use Rattle.std.specs.Prelude.{◌≡◌, ◌%◌, ◌==◌, IfOk, ◌++◌, OnOk};
+ghost use Rattle.status_command.specs.Asking.{nodes_in, is_answered};
+
 use crate::answering::first_line;
 use crate::question::Question;
 use mio::net::UnixStream;
@@ -43,7 +46,8 @@ pub struct Asked {
 }
 
 /// Asks each of the nodes, all at once, and waits for their lines, for as many milliseconds as there are
-/// looks at most. A node that closes the connection, as one does that has no room, is asked again.
+/// looks at most. A node that closes the connection, as one does that has no room, is asked again. What
+/// came stands in the order of the nodes.
 ///
 /// # Errors
 /// What the system or memory has not to give, which is no node's silence.
@@ -54,7 +58,9 @@ pub fn ask_all<R: Net + Clock>(
     folder: &str,
     nodes: &[u16],
     looks: u32,
-) -> io::Result<Vec<Asked>> {
+) -> io::Result<Vec<Asked>>
+    ensures { IfOk result (λ all. nodes_in all.items ≡ nodes.now) }
+{
     let mut all = Vec::new(alloc);
     for node in nodes {
         all.push(ask(rt, alloc, question, folder, *node)?)?;
@@ -64,10 +70,11 @@ pub fn ask_all<R: Net + Clock>(
 }
 
 /// Waits until no line is waited for any more, for this many looks at most.
-fn wait_for_all<R: Net + Clock>(rt: &R, all: &mut [Asked], looks: u32) -> io::Result<()> {
+fn wait_for_all<R: Net + Clock>(rt: &R, all: &mut [Asked], looks: u32) -> io::Result<()>
+    ensures { nodes_in all.new ≡ nodes_in all.old }
+{
     for look in 0..looks {
-        let is_time = look % LOOKS_AGAIN == LOOKS_AGAIN - 1;
-        if !look_at_all(rt, all, is_time)? {
+        if !look_at_all(rt, all, is_time_again(look))? {
             break;
         }
         thread::sleep(rt, Duration::from_millis(BETWEEN_LOOKS));
@@ -75,17 +82,34 @@ fn wait_for_all<R: Net + Clock>(rt: &R, all: &mut [Asked], looks: u32) -> io::Re
     Ok(())
 }
 
+/// Whether nodes that closed the connection are asked again at this look: at each hundredth.
+fn is_time_again(look: u32) -> bool
+    ensures { result ≡ (look % 100 == 99) }
+{
+    look % LOOKS_AGAIN == LOOKS_AGAIN - 1
+}
+
 /// Looks at what came of each, and asks those again that closed the connection, if it is time to.
 /// Whether a line is still waited for.
-fn look_at_all<R: Net>(rt: &R, all: &mut [Asked], is_time: bool) -> io::Result<bool> {
+fn look_at_all<R: Net>(rt: &R, all: &mut [Asked], is_time: bool) -> io::Result<bool>
+    ensures { nodes_in all.new ≡ nodes_in all.old }
+{
     let mut waits = false;
-    for asked in all {
-        if is_time {
-            asked.ask_again(rt);
-        }
-        waits |= asked.look()?;
+    for place in 0..all.len() {
+        waits |= look_at(rt, &mut all[place], is_time)?;
     }
     Ok(waits)
+}
+
+/// Looks at what came of one, and asks it again, if it is time to and it closed the connection. Whether its
+/// line is still waited for.
+fn look_at<R: Net>(rt: &R, asked: &mut Asked, is_time: bool) -> io::Result<bool>
+    ensures { asked.new.node ≡ asked.old.node }
+{
+    if is_time {
+        asked.ask_again(rt);
+    }
+    asked.look()
 }
 
 /// Asks one node.
@@ -95,7 +119,9 @@ fn ask<R: Net>(
     question: Question,
     folder: &str,
     node: u16,
-) -> io::Result<Asked> {
+) -> io::Result<Asked>
+    ensures { IfOk result (λ asked. asked.node ≡ node) }
+{
     let path = question.path(alloc, folder, node)?;
     let contact = connect(rt, question, path.as_str())?;
     Ok(Asked {
@@ -124,7 +150,9 @@ fn connect<R: Net>(rt: &R, question: Question, path: &str) -> io::Result<Contact
 impl Asked {
     /// Connects once more, if the node closed the connection. If nobody listens any more, no line is
     /// waited for.
-    fn ask_again<R: Net>(&mut self, rt: &R) {
+    fn ask_again<R: Net>(&mut self, rt: &R)
+        ensures { self.new.node ≡ self.old.node }
+    {
         if let Contact::Closed = self.contact {
             self.came.clear();
             self.contact = match connect(rt, self.question, self.path.as_str()) {
@@ -135,7 +163,9 @@ impl Asked {
     }
 
     /// Reads what came; whether the line is still waited for.
-    fn look(&mut self) -> io::Result<bool> {
+    fn look(&mut self) -> io::Result<bool>
+        ensures { self.new.node ≡ self.old.node }
+    {
         let mut piece = [0u8; PIECE];
         let Contact::Open(stream) = &mut self.contact else {
             return Ok(matches!(self.contact, Contact::Closed));
@@ -151,13 +181,22 @@ impl Asked {
         Ok(!matches!(self.contact, Contact::Done))
     }
 
-    /// Takes these bytes. With the first line, or more bytes than it may have, the answer is there.
-    fn take(&mut self, piece: &[u8]) -> io::Result<()> {
+    /// Takes these bytes. No more are waited for if the answer is there.
+    fn take(&mut self, piece: &[u8]) -> io::Result<()>
+        ensures node { self.new.node ≡ self.old.node }
+        ensures came { OnOk result (self.new.came.items ≡ self.old.came.items ++ piece.now) }
+    {
         self.came.extend_from_slice(piece)?;
-        let came = self.came.as_slice();
-        if first_line(came).is_some() || came.len() > self.question.most() {
+        if is_answered(self.question, self.came.as_slice()) {
             self.contact = Contact::Done;
         }
         Ok(())
     }
+}
+
+/// Whether the answer is there: with the first line, or with more bytes than it may have.
+fn is_answered(question: Question, came: &[u8]) -> bool
+    ensures { result ≡ is_answered question came.now }
+{
+    first_line(came).is_some() || came.len() > question.most()
 }

@@ -80,8 +80,14 @@ fn see_folder<'a, R: Files + AllocGlobal>(
 }
 
 /// The nodes of a network, by ascending id.
-fn nodes_of(alloc: Global, net: &Net) -> Result<Vec<u16>, AllocError> {
-    (0..net.nodes()).collect(alloc)
+fn nodes_of(alloc: Global, net: &Net) -> Result<Vec<u16>, AllocError>
+    ensures { IfOk result (λ nodes. nodes.items ≡ range_with_len 0 net.now.nodes) }
+{
+    let mut nodes = Vec::new(alloc);
+    for node in 0..net.nodes() {
+        nodes.push(node)?;
+    }
+    Ok(nodes)
 }
 
 /// What three readings say.

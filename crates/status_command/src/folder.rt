@@ -1,5 +1,6 @@
 //! Which nodes have a socket in a folder.
-ghost use Rattle.std.specs.Prelude.{◌≡◌, IfOk, nat_le};
+ghost use Rattle.std.specs.Prelude.{◌≡◌, ◌≢◌, [], IfOk, IsSorted, nat_le};
+ghost use Rattle.std.specs.Ordering.{nat_cmp};
 ghost use Rattle.std.specs.List.{find};
 ghost use Rattle.status_command.specs.Reasons.{why_no_nodes};
 
@@ -20,7 +21,11 @@ pub fn nodes_asked<'a, R: Files + AllocGlobal>(
     rt: &R,
     folder: &'a str,
     named: &[u16],
-) -> Result<Vec<u16>, Notice<'a>> {
+) -> Result<Vec<u16>, Notice<'a>>
+    ensures named { IfOk result (λ nodes. named.now ≢ [] → nodes.items ≡ named.now) }
+    ensures ascending { IfOk result (λ nodes. named.now ≡ [] → IsSorted nat_cmp nodes.items) }
+    ensures some { IfOk result (λ nodes. nodes.items ≢ []) }
+{
     let nodes = if named.is_empty() {
         sockets_in(rt, rt.alloc(), folder)
     } else {
@@ -57,7 +62,9 @@ pub fn sockets_in<R: Files + AllocGlobal>(
     rt: &R,
     alloc: Global,
     folder: &str,
-) -> io::Result<Vec<u16>> {
+) -> io::Result<Vec<u16>>
+    ensures { IfOk result (λ nodes. IsSorted nat_cmp nodes.items) }
+{
     let mut nodes = Vec::new(alloc);
     add_sockets(rt, folder, &mut nodes)?;
     nodes.sort_unstable();

@@ -1,5 +1,6 @@
 //! `status --premises` and `status --links`: what nodes say at their sockets for whoever looks.
-ghost use Rattle.std.specs.Prelude.{◌≤◌};
+ghost use Rattle.std.specs.Prelude.{◌≡◌, ◌≤◌, IfOk};
+ghost use Rattle.status_command.specs.Asking.{text_or_empty, text_in, loans_in};
 
 use crate::answering::first_line;
 use crate::asking::{Asked, ask_all};
@@ -81,11 +82,23 @@ fn print_said<'a, R: Print + AllocGlobal>(
     }
 }
 
-/// The line that came from a node, as text.
-fn line_of(asked: &Asked) -> &str {
+/// The line that came from a node, if it is a text; else the empty one.
+fn line_of(asked: &Asked) -> &str
+    ensures { result.now ≡ text_in asked.now }
+{
     match first_line(asked.came.as_slice()) {
-        Some(line) => str::from_utf8(line).unwrap_or(""),
+        Some(line) => text_or_empty(line),
         None => "",
+    }
+}
+
+/// These bytes, if they are a text; else the empty one.
+fn text_or_empty(line: &[u8]) -> &str
+    ensures { result.now ≡ text_or_empty line.now }
+{
+    match str::from_utf8(line) {
+        Ok(text) => text,
+        Err(_) => "",
     }
 }
 
@@ -115,11 +128,13 @@ fn links_text(alloc: Global, all: &[Asked]) -> Result<(String, bool), AllocError
     Ok((text, lines.iter().all(|line| line.links.is_some())))
 }
 
-/// What each node said of its loans.
+/// What each node said of its loans, in their order.
 ///
 /// # Errors
 /// Where memory runs out.
-pub fn loans_of(alloc: Global, all: &[Asked]) -> Result<Vec<NodeLoans>, AllocError> {
+pub fn loans_of(alloc: Global, all: &[Asked]) -> Result<Vec<NodeLoans>, AllocError>
+    ensures { IfOk result (λ loans. loans.items ≡ loans_in all.now) }
+{
     let mut loans = Vec::new(alloc);
     for asked in all {
         loans.push(NodeLoans {

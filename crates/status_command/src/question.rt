@@ -1,4 +1,7 @@
 //! What a node is asked.
+ghost use Rattle.std.specs.Prelude.{◌≡◌, IfOk, string_bytes};
+ghost use Rattle.status_command.specs.Asking.{question_path, AreWordsOf, most_bytes};
+
 use lock_client::spelled;
 use lock_desk::ClientLine;
 use node_texts::MOST_STATUS_BYTES;
@@ -22,7 +25,9 @@ impl Question {
     ///
     /// # Errors
     /// Where memory runs out.
-    pub fn path(&self, alloc: Global, folder: &str, node: u16) -> Result<String, AllocError> {
+    pub fn path(&self, alloc: Global, folder: &str, node: u16) -> Result<String, AllocError>
+        ensures { IfOk result (λ path. string_bytes path ≡ question_path self.now folder.now node) }
+    {
         match self {
             Question::Status => desk_path(alloc, folder, node),
             Question::Look => look_path(alloc, folder, node),
@@ -30,7 +35,9 @@ impl Question {
     }
 
     /// What is written there.
-    pub fn words(&self) -> &'static [u8] {
+    pub fn words(&self) -> &'static [u8]
+        ensures { AreWordsOf self.now result.now }
+    {
         match self {
             Question::Status => spelled(ClientLine::Status),
             Question::Look => b"",
@@ -38,7 +45,9 @@ impl Question {
     }
 
     /// The most bytes that the answer's line has.
-    pub fn most(&self) -> usize {
+    pub fn most(&self) -> usize
+        ensures { result ≡ most_bytes self.now }
+    {
         match self {
             Question::Status => MOST_STATUS_BYTES,
             Question::Look => MOST_LOOK_BYTES,

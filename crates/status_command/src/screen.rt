@@ -1,5 +1,9 @@
 //! Where a watch is shown: in its place on a terminal, or as blocks one after the other.
-ghost use Rattle.std.specs.Prelude.{◌≡◌, ◌==◌, ◌||◌};
+ghost use Rattle.std.specs.Prelude.{◌≡◌, ◌==◌, ◌||◌, true, false, OnOk};
+ghost use Rattle.status_command.specs.declared.screen.End.TheVariants.{NotYet};
+ghost use Rattle.status_command.specs.declared.screen.Screen.TheVariants.{Lines};
+ghost use Rattle.status_command.specs.declared.status.Form.TheVariants.{Json};
+ghost use Rattle.status_command.specs.Shown.{after_block, is_in_place};
 
 use crate::status::Form;
 use std::alloc::{AllocError, Global};
@@ -43,7 +47,10 @@ impl Screen {
     pub fn begin<R: Files<File = File> + Print + Processes + AllocGlobal>(
         rt: &R,
         form: Form,
-    ) -> Screen {
+    ) -> Screen
+        // JSON is for programs, wherever it goes.
+        ensures { form ≡ Json → result ≡ Lines }
+    {
         if form == Form::Json {
             return Screen::Lines;
         }
@@ -60,7 +67,9 @@ impl Screen {
     ///
     /// # Errors
     /// If the output does not take it, or memory runs out.
-    pub fn show<R: Print + AllocGlobal>(&mut self, rt: &R, block: &str) -> io::Result<()> {
+    pub fn show<R: Print + AllocGlobal>(&mut self, rt: &R, block: &str) -> io::Result<()>
+        ensures { OnOk result (self.new ≡ after_block self.old) }
+    {
         match self {
             Screen::Terminal(_) => rt.print(in_place(rt.alloc(), block)?.as_str())?,
             Screen::Blocks(has_shown) => {
@@ -76,7 +85,10 @@ impl Screen {
     }
 
     /// Rests for so many milliseconds, or until somebody types that it is to end.
-    pub fn rest<R: Clock + Input>(&self, rt: &R, millis: u64) -> End {
+    pub fn rest<R: Clock + Input>(&self, rt: &R, millis: u64) -> End
+        // Keys are read of a terminal alone.
+        ensures { is_in_place self.now ≡ false → result ≡ NotYet }
+    {
         match self {
             Screen::Terminal(_) => typed_end(rt, Duration::from_millis(millis)),
             _ => {

@@ -1,5 +1,7 @@
 //! `status`: how nodes stand.
-ghost use Rattle.std.specs.Prelude.{◌≡◌, ◌≤◌};
+ghost use Rattle.std.specs.Prelude.{◌≡◌, ◌≤◌, IfOk, string_bytes};
+ghost use Rattle.status_command.specs.Asking.{nodes_of};
+ghost use Rattle.status_command.specs.Shown.{IsTextOf};
 ghost use Rattle.status_command.specs.Reasons.{why_not_asked};
 
 use crate::answering::answers;
@@ -68,7 +70,7 @@ fn print_status<'a, R: Net + Files + Clock + Print + Eprint + AllocGlobal>(
     }
 }
 
-/// What the nodes answer within so many milliseconds.
+/// What the nodes answer within so many milliseconds, in their order.
 ///
 /// # Errors
 /// What the system or memory has not to give.
@@ -78,7 +80,9 @@ pub fn answers_of<R: Net + Clock>(
     folder: &str,
     nodes: &[u16],
     wait: u32,
-) -> io::Result<Vec<NodeAnswer>> {
+) -> io::Result<Vec<NodeAnswer>>
+    ensures { IfOk result (λ answers. nodes_of answers.items ≡ nodes.now) }
+{
     let all = ask_all(rt, alloc, Question::Status, folder, nodes, wait)?;
     Ok(answers(alloc, all.as_slice())?)
 }
@@ -116,7 +120,9 @@ fn print_answers<'a, R: Files + Print + Eprint + AllocGlobal>(
 ///
 /// # Errors
 /// Where memory runs out.
-pub fn text_of(alloc: Global, answers: &[NodeAnswer], form: Form) -> Result<String, AllocError> {
+pub fn text_of(alloc: Global, answers: &[NodeAnswer], form: Form) -> Result<String, AllocError>
+    ensures { IfOk result (λ text. IsTextOf form answers.now (string_bytes text)) }
+{
     match form {
         Form::Lines => report(alloc, answers),
         Form::Json => {

@@ -1,4 +1,9 @@
 //! `status --watch`: how nodes stand, again and again.
+ghost use Rattle.std.specs.Prelude.{◌≡◌, ◌≤◌, IfOk, OnOk, string_bytes};
+ghost use Rattle.status_readings.specs.Minute.{rates_of};
+ghost use Rattle.status_readings.specs.Picture.{picture_text};
+ghost use Rattle.status_command.specs.Shown.{minute_after};
+
 use crate::asking::ask_all;
 use crate::folder::nodes_asked;
 use crate::looks::loans_of;
@@ -39,7 +44,9 @@ pub struct Watch<'a> {
 pub fn run<R: Net + Files<File = File> + Clock + Input + Print + Eprint + Processes + AllocGlobal>(
     rt: &R,
     watch: &Watch,
-) -> u8 {
+) -> u8
+    ensures { result ≤ 1 }
+{
     let mut screen = Screen::begin(rt, watch.form);
     let done = show_all(rt, watch, &mut screen);
     screen.end(rt);
@@ -118,14 +125,19 @@ fn block<R: Net + Clock>(
     Ok(picture_at(alloc, at, answers.as_slice(), loans.as_slice(), minute)?)
 }
 
-/// The picture of a reading at this time, in milliseconds.
+/// The picture of a reading at this time, in milliseconds, with the loans of the minute up to it.
 fn picture_at(
     alloc: Global,
     at: u64,
     answers: &[NodeAnswer],
     loans: &[NodeLoans],
     minute: &mut Minute,
-) -> Result<String, AllocError> {
+) -> Result<String, AllocError>
+    ensures picture { IfOk result (λ text. string_bytes text
+        ≡ picture_text answers.now loans.now (rates_of minute.new.samples.items)) }
+    ensures minute { OnOk result (minute.new.samples.items
+        ≡ minute_after at loans.now minute.old.samples.items) }
+{
     if let Some(sample) = Sample::of(at, loans) {
         minute.push(sample)?;
     }

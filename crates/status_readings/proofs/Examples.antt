@@ -2,12 +2,9 @@
 use Rattle.std.proofs.Common.{◌≡◌, true, false, None, Some, List, [], ◌∷◌, codes, refl}
 use Rattle.std.specs.Fmt.{digits}
 use Rattle.topology.specs.Network.{Network}
-use Rattle.node_texts.specs.declared.status_line.StatusLine.{StatusLine}
 use Rattle.node_texts.specs.declared.answers.NodeAnswer.{NodeAnswer}
-use Rattle.status_readings.specs.declared.check_line.Figures.{Figures}
-use Rattle.status_readings.specs.declared.minute.NodeLoans.{NodeLoans}
 use Rattle.status_readings.specs.declared.findings.Finding.TheVariants.{AllWell, Silent, Wrong, TwoLentOnce, Nobody, TwoLend}
-use Rattle.status_readings.specs.CheckText.{check_line}
+use Rattle.status_readings.specs.CheckText.{check_line, figure_text}
 use Rattle.status_readings.specs.Picture.{picture_text}
 use Rattle.status_readings.specs.Verdict.{finding}
 
@@ -66,13 +63,17 @@ finds-not-nobody : finding line nobody nobody well ≡ Silent 0
 finds-not-nobody = refl
 
 says-silent : check_line (Silent 2) (record { nodes = 3; answering = 2; wrong = 0; privileged = 1; lending = 1 })
-    ≡ codes "tokentree WARNING - node 2 does not answer | nodes=3 answering=2 wrong=0 privileged=1 lending=1"
-unfolding digits
+    ≡ codes "tokentree WARNING - node 2 does not answer | nodes=3;;;0;3 answering=2;;;0;3 wrong=0;;;0;3 privileged=1;;;0;3 lending=1;;;0;3"
+unfolding figure_text digits
 says-silent = refl
+
+figure-one : figure_text (codes "answering") 11 12 ≡ codes " answering=11;;;0;12"
+unfolding figure_text digits
+figure-one = refl
 
 -- the tree by indentation; a node without an answer stands at the left
 shows : picture_text (root ∷ middle ∷ silent ∷ [])
-    (record { node = 1; said = Some (record { count = 5; longest = 9000; present = Some 1204567 }) } ∷ []) None
+    (record { node = 1; said = Some (record { count = 5; lately = 9000; present = Some 1204567; rounds = 0 }) } ∷ []) None
     ≡ codes "node 0 distance 0\n  node 1 distance 1 token lent 7 for 1.204 s waiting 2\nnode 2 no answer\nprivileged 1 lending 1\n"
 unfolding digits
 shows = refl

@@ -1,3 +1,4 @@
 pub mod Trees
 pub mod Verdicts
 pub mod Examples
+pub mod MinuteRows

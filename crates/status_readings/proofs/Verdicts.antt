@@ -11,9 +11,9 @@ use Rattle.node_texts.specs.Report.{lends, line_lends, has_answered}
 use Rattle.status_readings.specs.declared.findings.Finding.{Finding}
 use Rattle.status_readings.specs.declared.findings.Finding.TheVariants.{AllWell, TwoLentOnce, Nobody, TwoLend}
 use Rattle.status_readings.specs.declared.findings.Severity.TheVariants.{Fine, Warning, Critical}
-use Rattle.status_readings.specs.Verdict.{finding, lesser_finding, lent_finding, first_fault, is_faulty, fault_of, line_fault}
+use Rattle.status_readings.specs.Verdict.{lesser_finding, is_faulty, fault_of, line_fault}
 use Rattle.status_readings.specs.Verdict.{is_nobody, two_lend, severity}
-use Rattle.status_readings.specs.Laws.{OneLends, IsWell, OneLoanIsNotCritical, FineIsTrue}
+use Rattle.status_readings.specs.Laws.{OneLends, OneLoanIsNotCritical, FineIsTrue}
 
 -- where one lends, somebody answered
 answered-step : (a : NodeAnswer) (o : Option StatusLine) (xs : List NodeAnswer)

@@ -36,15 +36,20 @@ finding_text TwoLentOnce = codes "two nodes lent in a reading, but not in each"
 finding_text Nobody = codes "no node answers"
 finding_text TwoLend = codes "two nodes lend in each reading"
 
--- each figure by its name
+-- a figure, after a space: its name, how many there are, no limits, and that there can be from 0 to so many
+unfoldable pub figure_text : List ℕ → ℕ → ℕ → List ℕ
+figure_text label value most =
+    codes " " ++ (label ++ (codes "=" ++ (decimal value ++ (codes ";;;0;" ++ decimal most))))
+
+-- each figure
 abbrev pub figures_text : Figures → List ℕ
 figures_text f =
-    codes "nodes=" ++ (decimal f.nodes ++ (codes " answering=" ++ (decimal f.answering
-    ++ (codes " wrong=" ++ (decimal f.wrong ++ (codes " privileged=" ++ (decimal f.privileged
-    ++ (codes " lending=" ++ decimal f.lending))))))))
+    figure_text (codes "nodes") f.nodes f.nodes ++ (figure_text (codes "answering") f.answering f.nodes
+    ++ (figure_text (codes "wrong") f.wrong f.nodes ++ (figure_text (codes "privileged") f.privileged f.nodes
+    ++ figure_text (codes "lending") f.lending f.nodes)))
 
 -- the whole line
 abbrev pub check_line : Finding → Figures → List ℕ
 check_line finding figures =
     codes "tokentree " ++ (severity_word (severity finding)
-    ++ (codes " - " ++ (finding_text finding ++ (codes " | " ++ figures_text figures))))
+    ++ (codes " - " ++ (finding_text finding ++ (codes " |" ++ figures_text figures))))

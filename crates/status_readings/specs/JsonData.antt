@@ -1,7 +1,8 @@
 -- What `status --json` prints, as data. An object has its members in the order of their names.
-use Rattle.std.specs.Prelude.{ℕ, List, [], ◌∷◌, map, length, filter, Option, None, Some, is_some, codes}
+use Rattle.std.specs.Prelude.{◌≡◌, ℕ, List, ◌++◌, map, length, filter, Option, None, Some, is_some, codes}
 use Rattle.serde_json.specs.Data.{Data, Items, Members, null, boolean, number, unsigned, array, object, no_members, put}
 use Rattle.serde_json.specs.View.{items_of}
+use Rattle.serde_json.specs.Written.{IsInOrder}
 use Rattle.node_texts.specs.declared.status_line.StatusLine.{StatusLine}
 use Rattle.node_texts.specs.declared.answers.NodeAnswer.{NodeAnswer}
 use Rattle.node_texts.specs.Report.{is_privileged, lends}
@@ -48,3 +49,7 @@ status_members answers others =
 
 abbrev pub status_data : List NodeAnswer → Data
 status_data answers = object (status_members answers no_members)
+
+-- a text is one line of JSON with that
+abbrev pub IsStatusLine : List NodeAnswer → List ℕ → Type 0
+IsStatusLine answers text = (line : List ℕ) × IsInOrder line (status_data answers) × (text ≡ line ++ codes "\n")

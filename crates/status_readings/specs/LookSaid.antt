@@ -1,5 +1,5 @@
--- What a node's line for whoever looks says of its loans and its links.
-use Rattle.std.specs.Prelude.{ℕ, Bool, List, [], ◌∷◌, Option, None, Some, codes, option_and_then}
+-- What a node's line for whoever looks says of its loans, of the token, and of its links.
+use Rattle.std.specs.Prelude.{ℕ, ◌==◌, if◌then◌else◌, Bool, List, [], ◌∷◌, Option, None, Some, codes, option_and_then}
 use Rattle.serde_json.specs.Data.{Data, Items, no_items, item}
 use Rattle.serde_json.specs.Find.{get, as_bool, as_array}
 use Rattle.serde_json.specs.Read.{read}
@@ -7,20 +7,30 @@ use Rattle.node_texts.specs.PremisesText.{member_number}
 use Rattle.status_readings.specs.declared.looks.LoansSaid.{LoansSaid}
 use Rattle.status_readings.specs.declared.looks.LinkSaid.{LinkSaid}
 
--- two numbers, if each is there, and one that may be absent
-abbrev pub all_loans : Option ℕ → Option ℕ → Option ℕ → Option LoansSaid
-all_loans (Some count) (Some longest) present =
-    Some (record { count = count; longest = longest; present = present })
-all_loans _ _ _ = None
+-- three numbers, if each is there, and one that may be absent
+abbrev pub all_loans : Option ℕ → Option ℕ → Option ℕ → Option ℕ → Option LoansSaid
+all_loans (Some count) (Some lately) present (Some rounds) =
+    Some (record { count = count; lately = lately; present = present; rounds = rounds })
+all_loans _ _ _ _ = None
 
-abbrev pub members_loans : Data → Option LoansSaid
-members_loans loans =
-    all_loans (member_number (codes "count") loans) (member_number (codes "longest_us") loans)
-    (member_number (codes "present_us") loans)
+-- what an object says of loans, beside the rounds
+abbrev pub members_loans : Option ℕ → Data → Option LoansSaid
+members_loans rounds loans =
+    all_loans (member_number (codes "count") loans) (member_number (codes "lately_us") loans)
+    (member_number (codes "present_us") loans) rounds
+
+abbrev pub at_root : Option ℕ → Option ℕ → Option ℕ
+at_root (Some distance) (Some rounds) = Some (if distance == 0 then rounds else 0)
+at_root _ _ = None
+
+-- how often the token came round at a node that takes itself for the root; 0 of any other one
+abbrev pub root_rounds : Data → Option ℕ
+root_rounds value =
+    at_root (member_number (codes "distance") value) (member_number (codes "rounds") value)
 
 -- what a JSON value says of a node's loans
 abbrev pub loans_said : Data → Option LoansSaid
-loans_said value = option_and_then members_loans (get (codes "loans") value)
+loans_said value = option_and_then (members_loans (root_rounds value)) (get (codes "loans") value)
 
 -- what a line says of them, if it is JSON
 abbrev pub line_loans : List ℕ → Option LoansSaid

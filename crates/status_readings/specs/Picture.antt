@@ -51,16 +51,29 @@ abbrev pub row_lines : List NodeLoans → List Row → List ℕ
 row_lines loans [] = []
 row_lines loans (row ∷ rows) = row_text loans row ++ row_lines loans rows
 
--- the loans of the last minute, if they are known
-abbrev pub rates_line : Option Rates → List ℕ
-rates_line None = []
-rates_line (Some rates) =
-    codes "last minute: " ++ (decimal (rates.tenths / 10) ++ (codes "." ++ (decimal (rates.tenths % 10)
-    ++ (codes " loans a second, longest " ++ (seconds_text rates.longest ++ codes " s\n")))))
+-- so many tenths, with a decimal
+abbrev pub tenths_text : ℕ → List ℕ
+tenths_text tenths = decimal (tenths / 10) ++ (codes "." ++ decimal (tenths % 10))
+
+-- how many loans there were, and how long the longest was
+abbrev pub loans_line : Rates → List ℕ
+loans_line rates =
+    codes "last minute: " ++ (tenths_text rates.tenths
+    ++ (codes " loans a second, longest " ++ (seconds_text rates.longest ++ codes " s\n")))
+
+-- how often the token came round
+abbrev pub rounds_line : Rates → List ℕ
+rounds_line rates =
+    codes "last minute: the token came round " ++ (tenths_text rates.rounds ++ codes " times a second\n")
+
+-- both, if they are known
+abbrev pub rates_lines : Option Rates → List ℕ
+rates_lines None = []
+rates_lines (Some rates) = loans_line rates ++ rounds_line rates
 
 -- all lines
 abbrev pub picture_text : List NodeAnswer → List NodeLoans → Option Rates → List ℕ
 picture_text answers loans rates =
     row_lines loans (tree_rows answers)
     ++ (counts_line (length (filter is_privileged answers)) (length (filter lends answers))
-    ++ rates_line rates)
+    ++ rates_lines rates)

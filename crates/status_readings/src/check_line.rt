@@ -76,6 +76,39 @@ impl fmt::Display for Finding {
     }
 }
 
+/// A count of nodes. Printed, it is a figure of the line, with a space in front.
+#[derive(Clone, Copy, Debug, PartialEq, Eq, Drop)]
+struct Figure {
+    /// What is counted.
+    label: &'static str,
+    /// How many there are.
+    value: usize,
+    /// How many there can be.
+    most: usize,
+}
+
+impl Figure {
+    /// So many of so many.
+    fn new(label: &'static str, value: usize, most: usize) -> Figure
+        ensures label { result.label.now ≡ label.now }
+        ensures counts { (result.value ≡ value) × (result.most ≡ most) }
+    {
+        Figure { label, value, most }
+    }
+}
+
+impl fmt::Display for Figure {
+    ghost use Rattle.std.specs.Prelude.{Some};
+    ghost use Rattle.status_readings.specs.CheckText.{figure_text};
+
+    ghost output = { λ figure. Some (figure_text figure.label.now figure.value figure.most) };
+
+    #[tactic(auto, unfolding(crate::specs::CheckText::figure_text))]
+    fn fmt<W: fmt::Write>(&self, f: &mut fmt::Formatter<W>) -> fmt::Result {
+        write!(f, " {}={};;;0;{}", self.label, self.value, self.most)
+    }
+}
+
 impl fmt::Display for Figures {
     ghost use Rattle.std.specs.Prelude.{Some};
     ghost use Rattle.status_readings.specs.CheckText.{figures_text};
@@ -83,11 +116,14 @@ impl fmt::Display for Figures {
     ghost output = { λ figures. Some (figures_text figures) };
 
     fn fmt<W: fmt::Write>(&self, f: &mut fmt::Formatter<W>) -> fmt::Result {
-        let (nodes, answering, wrong) = (self.nodes, self.answering, self.wrong);
-        let (privileged, lending) = (self.privileged, self.lending);
         write!(
             f,
-            "nodes={nodes} answering={answering} wrong={wrong} privileged={privileged} lending={lending}"
+            "{}{}{}{}{}",
+            Figure::new("nodes", self.nodes, self.nodes),
+            Figure::new("answering", self.answering, self.nodes),
+            Figure::new("wrong", self.wrong, self.nodes),
+            Figure::new("privileged", self.privileged, self.nodes),
+            Figure::new("lending", self.lending, self.nodes)
         )
     }
 }
@@ -111,6 +147,6 @@ impl fmt::Display for CheckLine {
     fn fmt<W: fmt::Write>(&self, f: &mut fmt::Formatter<W>) -> fmt::Result {
         let word = self.finding.severity().word();
         let (finding, figures) = (self.finding, self.figures);
-        write!(f, "tokentree {word} - {finding} | {figures}")
+        write!(f, "tokentree {word} - {finding} |{figures}")
     }
 }

@@ -2,7 +2,7 @@
 ghost use Rattle.std.specs.Prelude.{◌≡◌, ◌++◌, IfOk, OnOk, length, filter, string_bytes};
 ghost use Rattle.node_texts.specs.Report.{counts_line, is_privileged, lends};
 ghost use Rattle.status_readings.specs.Picture.{indent, said_text, lent_text, waiting_text, row_text, row_lines};
-ghost use Rattle.status_readings.specs.Picture.{rates_line, picture_text};
+ghost use Rattle.status_readings.specs.Picture.{loans_line, rounds_line, rates_lines, picture_text};
 
 use crate::counts::{lending, privileged};
 use crate::minute::{NodeLoans, Rates, present_at};
@@ -10,10 +10,11 @@ use crate::seconds::Seconds;
 use crate::tree::{Row, rows};
 use node_texts::{NodeAnswer, StatusLine};
 use std::alloc::{AllocError, Global};
+use std::fmt;
 use std::fmt::Write;
 
 /// The lines of a reading: a line for each node, under its parent; how many are privileged, and lend; and
-/// the loans of the last minute, if they are known.
+/// the loans of the last minute and how often the token came round, if they are known.
 ///
 /// # Errors
 /// Where memory runs out.
@@ -108,18 +109,52 @@ fn push_counts(text: &mut String, privileged: usize, lending: usize) -> Result<(
     writeln!(text, "privileged {privileged} lending {lending}")
 }
 
-/// Adds the loans of the last minute, if they are known.
+/// Adds the loans of the last minute and how often the token came round, if they are known.
 fn push_rates(text: &mut String, rates: Option<Rates>) -> Result<(), AllocError>
-    ensures { OnOk result (string_bytes text.new ≡ string_bytes text.old ++ rates_line rates) }
+    ensures { OnOk result (string_bytes text.new ≡ string_bytes text.old ++ rates_lines rates) }
 {
     match rates {
-        Some(rates) => writeln!(
-            text,
-            "last minute: {}.{} loans a second, longest {} s",
-            rates.tenths / 10,
-            rates.tenths % 10,
-            Seconds(rates.longest)
-        ),
+        Some(rates) => {
+            push_loans(text, rates)?;
+            push_rounds(text, rates)
+        }
         None => Ok(()),
+    }
+}
+
+/// Adds how many loans there were, and how long the longest was.
+fn push_loans(text: &mut String, rates: Rates) -> Result<(), AllocError>
+    ensures { OnOk result (string_bytes text.new ≡ string_bytes text.old ++ loans_line rates) }
+{
+    let (loans, longest) = (Tenths(rates.tenths), Seconds(rates.longest));
+    writeln!(
+        text,
+        "last minute: {loans} loans a second, longest {longest} s"
+    )
+}
+
+/// Adds how often the token came round.
+fn push_rounds(text: &mut String, rates: Rates) -> Result<(), AllocError>
+    ensures { OnOk result (string_bytes text.new ≡ string_bytes text.old ++ rounds_line rates) }
+{
+    let rounds = Tenths(rates.rounds);
+    writeln!(
+        text,
+        "last minute: the token came round {rounds} times a second"
+    )
+}
+
+/// So many tenths, printed with a decimal.
+#[derive(Drop)]
+struct Tenths(u64);
+
+impl fmt::Display for Tenths {
+    ghost use Rattle.std.specs.Prelude.{Some};
+    ghost use Rattle.status_readings.specs.Picture.{tenths_text};
+
+    ghost output = { λ tenths. Some (tenths_text tenths.0) };
+
+    fn fmt<W: fmt::Write>(&self, f: &mut fmt::Formatter<W>) -> fmt::Result {
+        write!(f, "{}.{}", self.0 / 10, self.0 % 10)
     }
 }

@@ -3,7 +3,8 @@ ghost use Rattle.std.specs.Prelude.{◌≡◌, ◌++◌, IfOk, OnOk, string_byte
 ghost use Rattle.std.specs.Option.{option_map};
 ghost use Rattle.serde_json.specs.View.{view, items_view};
 ghost use Rattle.node_texts.specs.PremisesText.{member_number};
-ghost use Rattle.status_readings.specs.LookSaid.{loans_said, line_loans, member_truth, link_said, links_in};
+ghost use Rattle.status_readings.specs.LookSaid.{loans_said, root_rounds, line_loans, member_truth};
+ghost use Rattle.status_readings.specs.LookSaid.{link_said, links_in};
 ghost use Rattle.status_readings.specs.LookSaid.{links_listed, links_said, line_links};
 ghost use Rattle.status_readings.specs.LinksText.{link_line, link_lines, links_text, links_lines};
 
@@ -13,19 +14,22 @@ use std::alloc::{AllocError, Global};
 use std::fmt;
 use std::fmt::Write;
 
-/// The loans of a node, as its line for whoever looks says. In microseconds.
+/// The loans of a node, and how often the token came round, as its line for whoever looks says. Lengths
+/// are in microseconds.
 #[derive(Clone, Copy, Debug, PartialEq, Eq, Drop)]
 pub struct LoansSaid {
     /// The loans so far.
     pub count: u64,
-    /// The longest of those that ended.
-    pub longest: u64,
+    /// The longest of those that ended in the last minute.
+    pub lately: u64,
     /// How long the present one has been, if there is one.
     pub present: Option<u64>,
+    /// How often the token came round, if the node takes itself for the root; else 0.
+    pub rounds: u64,
 }
 
 impl LoansSaid {
-    /// What a line says, if it is a JSON object whose member `loans` has the numbers.
+    /// What a line says, if it is a JSON object with all these numbers.
     ///
     /// # Errors
     /// Where memory runs out.
@@ -47,9 +51,19 @@ fn loans_said(value: &Value) -> Option<LoansSaid>
     let loans = value.get("loans")?;
     Some(LoansSaid {
         count: member_number(loans, "count")?,
-        longest: member_number(loans, "longest_us")?,
+        lately: member_number(loans, "lately_us")?,
         present: member_number(loans, "present_us"),
+        rounds: root_rounds(value)?,
     })
+}
+
+/// How often the token came round at a node that takes itself for the root; 0 of any other one.
+fn root_rounds(value: &Value) -> Option<u64>
+    ensures { result ≡ root_rounds (view value.now) }
+{
+    let distance = member_number(value, "distance")?;
+    let rounds = member_number(value, "rounds")?;
+    Some(if distance == 0 { rounds } else { 0 })
 }
 
 /// The number that is a member of an object.

@@ -1,6 +1,8 @@
-//! The loans of the last minute, by what nodes said of them.
-ghost use Rattle.std.specs.Prelude.{◌≡◌};
-ghost use Rattle.status_readings.specs.Minute.{loans_at, present_at, rates_between};
+//! The loans of the last minute, and how often the token came round in it, by what nodes said.
+ghost use Rattle.std.specs.Prelude.{◌≡◌, [], OnOk, filter, nat_le};
+ghost use Rattle.status_readings.specs.Minute.{loans_at, present_at, nothing_at, sample_with, sample_of};
+ghost use Rattle.status_readings.specs.Minute.{with_sample, in_ten_seconds, rates_between, rates_of};
+ghost use Rattle.status_readings.specs.Minute.{longest_present};
 
 use crate::looks::LoansSaid;
 use std::alloc::{AllocError, Global};
@@ -35,45 +37,61 @@ pub struct Sample {
     pub at: u64,
     /// The loans so far.
     pub count: u64,
-    /// The longest of those that ended, in microseconds.
-    pub longest: u64,
+    /// The longest of those that ended in the last minute, in microseconds.
+    pub lately: u64,
     /// How long the longest of the present ones has been, in microseconds.
     pub present: u64,
+    /// How often the token came round at the root.
+    pub rounds: u64,
 }
 
 impl Sample {
     /// The loans at this time; none if a node did not say them.
-    pub fn of(at: u64, loans: &[NodeLoans]) -> Option<Sample> {
-        let mut sample = Sample {
+    pub fn of(at: u64, loans: &[NodeLoans]) -> Option<Sample>
+        ensures { result ≡ sample_of at loans.now }
+    {
+        match loans {
+            [first, others @ ..] => Some(Sample::of(at, others)?.with(&first.said?)),
+            [] => Some(Sample::nothing(at)),
+        }
+    }
+
+    /// Nothing was lent.
+    fn nothing(at: u64) -> Sample
+        ensures { result ≡ nothing_at at }
+    {
+        Sample {
             at,
             count: 0,
-            longest: 0,
+            lately: 0,
             present: 0,
-        };
-        for loan in loans {
-            sample = sample.with(&loan.said?);
+            rounds: 0,
         }
-        Some(sample)
     }
 
     /// The same with those of one more node.
-    fn with(&self, said: &LoansSaid) -> Sample {
+    fn with(&self, said: &LoansSaid) -> Sample
+        ensures { result ≡ sample_with said.now self.now }
+    {
         Sample {
             at: self.at,
             count: self.count.saturating_add(said.count),
-            longest: self.longest.max(said.longest),
+            lately: self.lately.max(said.lately),
             present: self.present.max(said.present.unwrap_or(0)),
+            rounds: self.rounds.saturating_add(said.rounds),
         }
     }
 }
 
-/// The loans between two times.
+/// The loans between two times, and how often the token came round.
 #[derive(Clone, Copy, Debug, PartialEq, Eq, Drop)]
 pub struct Rates {
-    /// How many there were in ten seconds, rounded down.
+    /// How many loans there were in ten seconds, rounded down.
     pub tenths: u64,
-    /// The longest that was seen, in microseconds.
+    /// The longest, in microseconds.
     pub longest: u64,
+    /// How often the token came round in ten seconds, rounded down.
+    pub rounds: u64,
 }
 
 /// How many milliseconds a minute has.
@@ -87,7 +105,9 @@ pub struct Minute {
 
 impl Minute {
     /// No samples yet.
-    pub fn new(alloc: Global) -> Minute {
+    pub fn new(alloc: Global) -> Minute
+        ensures { result.samples.items ≡ [] }
+    {
         Minute {
             samples: Vec::new(alloc),
         }
@@ -97,48 +117,66 @@ impl Minute {
     ///
     /// # Errors
     /// Where memory runs out.
-    pub fn push(&mut self, sample: Sample) -> Result<(), AllocError> {
-        let oldest = sample.at.saturating_sub(MINUTE);
-        self.samples.retain(|old| old.at >= oldest);
+    pub fn push(&mut self, sample: Sample) -> Result<(), AllocError>
+        ensures { OnOk result (self.new.samples.items ≡ with_sample sample self.old.samples.items) }
+    {
+        self.drop_older(sample.at.saturating_sub(MINUTE));
         self.samples.push(sample)?;
         Ok(())
     }
 
-    /// The loans of the minute; none with fewer than two samples.
-    pub fn rates(&self) -> Option<Rates> {
-        let samples = self.samples.as_slice();
-        match (samples.first(), samples.last()) {
-            (Some(first), Some(last)) if samples.len() > 1 => {
-                Some(rates_between(first, last, longest_present(samples)))
-            }
-            _ => None,
-        }
+    /// Drops the samples from before that time.
+    fn drop_older(&mut self, oldest: u64)
+        ensures { self.new.samples.items
+            ≡ filter (λ old. nat_le oldest old.at) self.old.samples.items }
+    {
+        self.samples.retain(|old| old.at >= oldest);
     }
+
+    /// The loans of the minute; none with fewer than two samples.
+    pub fn rates(&self) -> Option<Rates>
+        ensures { result ≡ rates_of self.now.samples.items }
+    {
+        rates_of(self.samples.as_slice())
+    }
+}
+
+/// The loans between the first and the last of these samples; none with fewer than two.
+fn rates_of(samples: &[Sample]) -> Option<Rates>
+    ensures { result ≡ rates_of samples.now }
+{
+    if samples.len() < 2 {
+        return None;
+    }
+    let (first, last) = (samples.first()?, samples.last()?);
+    Some(rates_between(first, last, longest_present(samples)))
 }
 
 /// How long the longest loan has been that was seen to stand.
-fn longest_present(samples: &[Sample]) -> u64 {
-    let mut longest = 0;
-    for sample in samples {
-        longest = sample.present.max(longest);
+fn longest_present(samples: &[Sample]) -> u64
+    ensures { result ≡ longest_present samples.now }
+{
+    match samples {
+        [first, others @ ..] => first.present.max(longest_present(others)),
+        [] => 0,
     }
-    longest
 }
 
-/// The loans between two samples, between which a loan of this length was seen to stand. If the longest
-/// that ended is another one now, it ended between them.
+/// The loans between two samples, between which a loan of this length was seen to stand.
 fn rates_between(first: &Sample, last: &Sample, present: u64) -> Rates
     ensures { result ≡ rates_between first.now last.now present }
 {
-    let millis = last.at.saturating_sub(first.at).max(1);
-    let count = last.count.saturating_sub(first.count);
-    let ended = if last.longest > first.longest {
-        last.longest
-    } else {
-        0
-    };
+    let millis = last.at.saturating_sub(first.at);
     Rates {
-        tenths: count.saturating_mul(10_000) / millis,
-        longest: ended.max(present),
+        tenths: in_ten_seconds(last.count.saturating_sub(first.count), millis),
+        longest: last.lately.max(present),
+        rounds: in_ten_seconds(last.rounds.saturating_sub(first.rounds), millis),
     }
+}
+
+/// How many there were in ten seconds, of so many in so many milliseconds.
+fn in_ten_seconds(count: u64, millis: u64) -> u64
+    ensures { result ≡ in_ten_seconds count millis }
+{
+    count.saturating_mul(10_000) / millis.max(1)
 }

@@ -1,0 +1,26 @@
+-- Lists of what was asked, and of numbers.
+use Rattle.std.proofs.Common.{◌≡◌, ◌∙◌, ℕ, zero, suc, ◌+◌, List, [], ◌∷◌, ◌++◌, ◌<◌, set, get_or, refl, ap, arith, length}
+use Rattle.std.specs.List.{range_with_len}
+use Rattle.status_command.specs.declared.asking.Asked.{Asked}
+use Rattle.status_command.specs.Asking.{nodes_in, nodes_of, answers_in}
+
+count-on : (a n j : ℕ) → a + n ≡ j → range_with_len a (suc n) ≡ range_with_len a n ++ j ∷ []
+count-on a zero j e = let same : a ≡ j = omega (arith, e) in ap (λ k. k ∷ []) same
+count-on a (suc n) j e = ap (λ l. a ∷ l) (count-on (a + 1) n j (omega (arith, e)))
+
+-- one number more
+pub counted-on : (a n j : ℕ) → a + n ≡ j → range_with_len a (n + 1) ≡ range_with_len a n ++ j ∷ []
+counted-on a n j e = let on : n + 1 ≡ suc n = omega arith in ap (range_with_len a) on ∙ count-on a n j e
+
+-- answers are of the nodes that were asked
+pub nodes-answer : (all : List Asked) → nodes_of (answers_in all) ≡ nodes_in all
+nodes-answer [] = refl
+nodes-answer (asked ∷ all) = ap (λ nodes. asked.node ∷ nodes) (nodes-answer all)
+
+-- a node that is looked at stays the same node
+pub same-nodes : (all : List Asked) (i : ℕ) (old new : Asked) → i < length all → new.node ≡ (get_or all i old).node
+    → nodes_in (set all i new) ≡ nodes_in all
+same-nodes [] i old new within same = absurd (omega (arith, within))
+same-nodes (asked ∷ all) zero old new within same = ap (λ node. node ∷ nodes_in all) same
+same-nodes (asked ∷ all) (suc i) old new within same =
+    ap (λ nodes. asked.node ∷ nodes) (same-nodes all i old new (omega (arith, within)) same)
