@@ -1,9 +1,24 @@
--- How a program ends whose reader is gone.
-use Rattle.std.specs.Prelude.{ℕ, Option, Some, None}
+-- How a write to standard output went, and how a program ends after it.
+use Rattle.std.specs.Prelude.{ℕ, Result, Ok, Err}
+use Rattle.std.specs.IoError.{error_kind}
+use Rattle.std.specs.declared.io.Error.{Error}
 use Rattle.std.specs.declared.io.ErrorKind.{ErrorKind}
 use Rattle.std.specs.declared.io.ErrorKind.TheVariants.{BrokenPipe}
+use Rattle.fault_hints.specs.declared.output.Wrote.{Wrote}
+use Rattle.fault_hints.specs.declared.output.Wrote.TheVariants.{All, Closed, Failed}
 
--- 128 and the number of SIGPIPE, 13
-abbrev pub closed_pipe_status : ErrorKind → Option ℕ
-closed_pipe_status BrokenPipe = Some 141
-closed_pipe_status _ = None
+-- a refused write: the reader is gone if the system says that the pipe is broken
+abbrev pub refused_for : ErrorKind → Wrote
+refused_for BrokenPipe = Closed
+refused_for _ = Failed
+
+-- how a write went, by what the system answered
+abbrev pub how_written : {X : Type 0} → Result X Error → Wrote
+how_written (Ok done) = All
+how_written (Err error) = refused_for (error_kind error)
+
+-- 0 if all was written; 128 and the number of SIGPIPE, 13, if the reader is gone; else the status of a fault
+abbrev pub write_status : Wrote → ℕ → ℕ
+write_status All fault = 0
+write_status Closed fault = 141
+write_status Failed fault = fault

@@ -1,6 +1,6 @@
 //! Files that are refused.
-ghost use Rattle.std.specs.Prelude.{◌≡◌, option_map};
-ghost use Rattle.fault_hints.specs.Kinds.{kind_text};
+ghost use Rattle.std.specs.Prelude.{◌≡◌, ◌↔◌, IsTrue, option_map};
+ghost use Rattle.fault_hints.specs.Kinds.{kind_text, AreSwapped};
 
 use network_file::NetworkFault;
 use network_hints::hint;
@@ -48,18 +48,13 @@ pub fn explain_network<R: Files + Eprint + AllocGlobal>(rt: &R, file: &str, faul
 
 /// Says why a network file cannot be read.
 fn explain_unreadable<R: Files + Eprint>(rt: &R, file: &str) {
-    match found(rt, file) {
+    match fs::metadata(rt, file) {
         Err(error) => say(rt, file, error),
         Ok(found) => match kind_fault(found.is_dir(), found.is_file(), found.len()) {
             Some(what) => say(rt, file, what),
             None => explain_reading(rt, file),
         },
     }
-}
-
-/// What the system says of a file.
-fn found<F: Files>(files: &F, path: &str) -> io::Result<Metadata> {
-    fs::metadata(files, path)
 }
 
 /// Says what is wrong with the text of a network file.
@@ -95,17 +90,19 @@ pub fn explain_writing<R: Files + Eprint>(rt: &R, path: &str) {
 
 /// Says so if FILE is a folder and DIR a file.
 pub fn explain_swap<R: Files + Eprint>(rt: &R, file: &str, dir: &str) {
-    if is_folder(rt, file) && is_plain(rt, dir) {
+    if are_swapped(&fs::metadata(rt, file), &fs::metadata(rt, dir)) {
         let _ = eprintln!(rt;
             "tokentree: {file} is a folder, and {dir} a file: FILE comes before DIR"
         );
     }
 }
 
-fn is_folder<F: Files>(files: &F, path: &str) -> bool {
-    matches!(found(files, path), Ok(found) if found.is_dir())
-}
-
-fn is_plain<F: Files>(files: &F, path: &str) -> bool {
-    matches!(found(files, path), Ok(found) if found.is_file())
+/// Whether the first is a folder, and the second a plain file.
+fn are_swapped(file: &io::Result<Metadata>, dir: &io::Result<Metadata>) -> bool
+    ensures { IsTrue result ↔ AreSwapped file.now dir.now }
+{
+    match (file, dir) {
+        (Ok(file), Ok(dir)) => file.is_dir() && dir.is_file(),
+        _ => false,
+    }
 }

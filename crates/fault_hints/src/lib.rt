@@ -4,13 +4,13 @@
 //! ```
 //! explain_network(rt, "x.toml", fault);                // tokentree: x.toml: no key 'lease'
 //! explain_reading(rt, "absent.txt");                   // tokentree: absent.txt: No such file or directory
-//! let status = output_status(rt);                      // Some(141) if the reader of the output is gone
+//! let wrote = how_written(rt, rt.println("nodes 2"));  // Wrote::Closed if the reader is gone
 //! ```
 //!
 //! A hint is said besides, and no status rests on it: a file is read again for it, so it may be another
 //! one by then.
 //!
-//! The trap: standard output is asked for its fault by one more newline. Ask only after a write failed.
+//! The trap: `why_refused` asks standard output by one more newline. Ask only after a write failed.
 #![tactic(auto)]
 
 mod files;
@@ -19,4 +19,4 @@ mod output;
 
 pub use files::{explain_network, explain_reading, explain_swap, explain_writing};
 pub use mistakes::one_line;
-pub use output::{CLOSED_PIPE, output_status};
+pub use output::{CLOSED_PIPE, Wrote, how_written, why_refused};

@@ -39,5 +39,5 @@ pub use lines::{AnswerReader, spelled};
 pub use outcome::{CommandEnd, Outcome};
 pub use processes::has_entry;
 pub use signals::{Signal, Signals};
-pub use status_lines::{SignalState, StatusEntry, StatusReader};
+pub use status_lines::{SignalState, StatusEntry, StatusReader, state_said};
 pub use words::{GuardWord, WordReader};

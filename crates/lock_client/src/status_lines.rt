@@ -93,6 +93,20 @@ impl StatusReader {
     }
 }
 
+/// How a process stands to signals, by all that the system says of it.
+pub fn state_said(lines: &[u8]) -> SignalState
+    ensures { result ≡ signal_state (status_entries lines.now) }
+{
+    let mut state = SignalState::unknown();
+    let mut reader = StatusReader::new();
+    for byte in lines {
+        if let Some(entry) = reader.push(*byte) {
+            state = state.noted(entry);
+        }
+    }
+    state
+}
+
 /// What a line says. None of interest has more than 32 bytes.
 struct Entries;
 

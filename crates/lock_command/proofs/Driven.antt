@@ -1,11 +1,13 @@
 -- A client that was told all that happened.
-use Rattle.std.proofs.Common.{◌≡◌, Bool, Option, Some, List, [], ◌∷◌, ◌++◌, option_map, refl, arith}
+use Rattle.std.proofs.Common.{◌≡◌, ◌≢◌, Bool, true, false, Option, Some, List, [], ◌∷◌, ◌++◌, option_map, refl, arith}
 use Rattle.std.proofs.lemmas.Grind.{common_steps}
 use Rattle.lock_client.specs.declared.client.Event.{Event}
+use Rattle.lock_client.specs.declared.client.Event.TheVariants.{Ended}
+use Rattle.lock_client.specs.declared.outcome.CommandEnd.{CommandEnd}
 use Rattle.lock_client.specs.declared.client.Stage.{Stage}
-use Rattle.lock_client.specs.declared.client.Stage.TheVariants.{Asking, Over}
+use Rattle.lock_client.specs.declared.client.Stage.TheVariants.{Asking, Holding, Losing, Returning, Over}
 use Rattle.lock_client.specs.declared.client.Deed.{Deed}
-use Rattle.lock_client.specs.declared.client.Deed.TheVariants.{Finish}
+use Rattle.lock_client.specs.declared.client.Deed.TheVariants.{Finish, Start}
 use Rattle.lock_client.specs.declared.outcome.Outcome.{Outcome}
 use Rattle.lock_client.specs.Steps.{stage_after, stage_after_all, deed_between}
 
@@ -42,3 +44,21 @@ steps keeps had from now next after stage new e same under told acted is none =
 pub closes : (keeps : Bool) (e : Event) (before after : Stage) (deed : Deed) (outcome : Outcome) → deed ≡ deed_between keeps e before after
     → deed ≡ Finish outcome → after ≡ Over outcome
 closes keeps e before after deed outcome is same = grind (arith, common_steps)
+
+-- a command runs only while its client holds the lock, or has lost it
+abbrev pub RunsAt : Bool → Stage → Type 0
+RunsAt runs Asking = runs ≡ false
+RunsAt runs Holding = Unit {0}
+RunsAt runs Losing = Unit {0}
+RunsAt runs (Returning end) = runs ≡ false
+RunsAt runs (Over outcome) = runs ≡ false
+
+-- the same after a step: no command starts but by the deed for it, and none runs whose end is told
+pub runs_on : (keeps : Bool) (e : Event) (before after : Stage) (deed : Deed) (was is will : Bool) → RunsAt was before
+    → after ≡ stage_after keeps e before → deed ≡ deed_between keeps e before after → (is ≡ true → was ≡ true)
+    → ((end : CommandEnd) → e ≡ Ended end → is ≡ false) → (deed ≢ Start → will ≡ is) → RunsAt will after
+runs_on keeps e before after deed was is will at so does none ended starts = grind (arith, common_steps)
+
+-- so none runs once all is over
+pub runs_over : (runs : Bool) (stage : Stage) (outcome : Outcome) → stage ≡ Over outcome → RunsAt runs stage → runs ≡ false
+runs_over runs stage outcome over at = grind (arith, common_steps)

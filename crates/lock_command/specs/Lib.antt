@@ -7,3 +7,7 @@ pub mod Driving
 pub mod GuardDriving
 pub mod Reaching
 pub mod Reading
+pub mod Working
+pub mod Watching
+pub mod Marks
+pub mod Held

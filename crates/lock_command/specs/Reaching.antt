@@ -1,5 +1,5 @@
 -- Why a desk is not reached, by what the system answered.
-use Rattle.std.specs.Prelude.{◌≡◌, ◌⊎◌, ℕ, List, Bool, true, false}
+use Rattle.std.specs.Prelude.{◌≡◌, ◌⊎◌, ℕ, List, Bool, true, false, Option, Some, None}
 use Rattle.std.specs.Borrow.{Bor}
 use Rattle.std.specs.declared.io.ErrorKind.{ErrorKind}
 use Rattle.std.specs.declared.io.ErrorKind.TheVariants as kind
@@ -44,3 +44,16 @@ abbrev pub IsUnanswered : Bor (List ℕ) → Notice → Type 0
 IsUnanswered folder notice =
     (notice ≡ NoSockets folder) ⊎ ((notice ≡ NobodyListens folder) ⊎ ((notice ≡ NoAnswer folder)
     ⊎ ((notice ≡ Memory) ⊎ IsUnread folder notice)))
+
+-- a session does not begin: the system has no clock or poll to give, or memory ran out
+abbrev pub IsUnbegun : Notice → Type 0
+IsUnbegun notice = (notice ≡ System) ⊎ (notice ≡ Memory)
+
+-- the desk of the node that is asked is not reached, or that of any node
+abbrev pub IsUnreachable : Bor (List ℕ) → Option ℕ → Notice → Type 0
+IsUnreachable folder (Some node) notice = IsUnreached folder node notice
+IsUnreachable folder None notice = IsUnanswered folder notice
+
+-- the lock is not even asked for
+abbrev pub IsUnasked : Bor (List ℕ) → Option ℕ → Notice → Type 0
+IsUnasked folder node notice = IsUnreachable folder node notice ⊎ IsUnbegun notice

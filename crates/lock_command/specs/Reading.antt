@@ -1,5 +1,7 @@
 -- What a read says that gave nothing.
-use Rattle.std.specs.Prelude.{Bool, true, false}
+use Rattle.std.specs.Prelude.{ℕ, ◌==◌, Bool, true, false, not, Result, Ok, Err}
+use Rattle.std.specs.IoError.{error_kind}
+use Rattle.std.specs.declared.io.Error.{Error}
 use Rattle.std.specs.declared.io.ErrorKind.{ErrorKind}
 use Rattle.std.specs.declared.io.ErrorKind.TheVariants.{WouldBlock, Interrupted}
 
@@ -8,3 +10,8 @@ abbrev pub is_for_later : ErrorKind → Bool
 is_for_later WouldBlock = true
 is_for_later Interrupted = true
 is_for_later _ = false
+
+-- whoever has ended gives no byte more, or a fault that stays
+abbrev pub is_end : Result ℕ Error → Bool
+is_end (Ok count) = count == 0
+is_end (Err error) = not (is_for_later (error_kind error))

@@ -83,7 +83,9 @@ impl Desk {
     }
 
     /// The next line that came, if one did.
-    pub fn hear(&mut self) -> Heard {
+    pub fn hear(&mut self) -> Heard
+        ensures { self.new.node ≡ self.old.node }
+    {
         for _ in 0..READS {
             if let Some(answer) = self.next_line() {
                 return Heard::Line(answer);
@@ -102,7 +104,9 @@ impl Desk {
     }
 
     /// The first line that ends in the bytes not yet read.
-    fn next_line(&mut self) -> Option<Answer> {
+    fn next_line(&mut self) -> Option<Answer>
+        ensures { self.new.node ≡ self.old.node }
+    {
         for at in self.next..self.end.min(PIECE) {
             self.next = at + 1;
             let line = self.reader.push(self.bytes[at]);

@@ -1,7 +1,10 @@
 //! The machine of a client, driven by what happens around it.
-ghost use Rattle.std.specs.Prelude.{◌≡◌, Some, [], ◌∷◌, ◌++◌, List, Option};
+ghost use Rattle.std.specs.Prelude.{◌≡◌, ◌≢◌, Some, [], ◌∷◌, ◌++◌, List, Option, Bool, true, false};
 ghost use Rattle.std.specs.Option.{option_map};
 ghost use Rattle.lock_client.specs.declared.client.Event.{Event};
+ghost use Rattle.lock_client.specs.declared.client.Event.TheVariants.{Ended};
+ghost use Rattle.lock_client.specs.declared.client.Deed.TheVariants.{Start};
+ghost use Rattle.lock_client.specs.declared.outcome.CommandEnd.{CommandEnd};
 ghost use Rattle.lock_command.specs.Driving.{IsOutcomeOf};
 
 use lock_client::{Deed, Event, LockClient, Outcome};
@@ -12,20 +15,29 @@ pub trait Surroundings {
     /// What it has said happened, in order; none if nobody keeps that.
     ghost told: { Self → Option (List Event) };
 
-    /// Waits for the next thing that happens, and says what it is.
-    fn next_event(&mut self) -> Event
-        ensures { told self.new ≡ option_map (λ events. events ++ result ∷ []) (told self.old) };
+    /// Whether a command runs.
+    ghost runs: { Self → Bool };
 
-    /// Does what is to be done now that this happened.
+    /// Waits for the next thing that happens, and says what it is. No command starts meanwhile, and none
+    /// runs whose end is said.
+    fn next_event(&mut self) -> Event
+        ensures told { told self.new ≡ option_map (λ events. events ++ result ∷ []) (told self.old) }
+        ensures starts_none { runs self.new ≡ true → runs self.old ≡ true }
+        ensures ended { (end : CommandEnd) → result ≡ Ended end → runs self.new ≡ false };
+
+    /// Does what is to be done now that this happened. A command starts only if that is to be done.
     fn act(&mut self, event: Event, deed: Deed)
-        ensures { told self.new ≡ told self.old };
+        ensures told { told self.new ≡ told self.old }
+        ensures starts { deed ≢ Start → runs self.new ≡ runs self.old };
 }
 
 /// Lets happen what happens, until all is over: each thing is told to a client, and what the client
-/// answers is done. How it ended is the client's own word over all that happened.
+/// answers is done. How it ended is the client's own word over all that happened. It does not end as long as
+/// a command runs that it started.
 pub fn drive<R: Wait, S: Surroundings>(rt: &R, surroundings: &mut S, keeps_running: bool) -> Outcome
-    ensures { S.told surroundings.old ≡ Some []
+    ensures outcome { S.told surroundings.old ≡ Some []
         → IsOutcomeOf keeps_running (S.told surroundings.new) result }
+    ensures over { S.runs surroundings.old ≡ false → S.runs surroundings.new ≡ false }
 {
     let mut client = LockClient::new(keeps_running);
     for _ in rt.forever() {

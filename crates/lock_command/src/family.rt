@@ -1,4 +1,7 @@
 //! The processes of a command: it, and whatever it started.
+ghost use Rattle.std.specs.Prelude.{IfOk, string_bytes};
+ghost use Rattle.lock_command.specs.Marks.{IsMark, EndsIn};
+
 use lock_client::has_entry;
 use std::alloc::{AllocError, Global};
 use std::path::AsPath;
@@ -14,7 +17,9 @@ pub const MARKS: &str = "TOKENTREE_LOCK";
 ///
 /// # Errors
 /// If memory runs out.
-pub fn new_mark<R: Files + Clock + AllocGlobal>(rt: &R) -> Result<String, AllocError> {
+pub fn new_mark<R: Files + Clock + AllocGlobal>(rt: &R) -> Result<String, AllocError>
+    ensures { IfOk result (λ mark. IsMark (string_bytes mark)) }
+{
     let nanos = match SystemTime::now(rt) {
         Ok(now) => match now.duration_since(UNIX_EPOCH) {
             Ok(time) => time.as_nanos(),
@@ -23,16 +28,25 @@ pub fn new_mark<R: Files + Clock + AllocGlobal>(rt: &R) -> Result<String, AllocE
         Err(_) => 0,
     };
     match fs::read_link(rt, "/proc/self") {
-        Ok(process) => format!(in rt.alloc(); "{}.{nanos};", process.path_text()),
-        Err(_) => format!(in rt.alloc(); "0.{nanos};"),
+        Ok(process) => mark_of(rt.alloc(), process.path_text(), nanos),
+        Err(_) => mark_of(rt.alloc(), "0", nanos),
     }
+}
+
+/// The mark of a process at a time.
+fn mark_of(alloc: Global, process: &str, nanos: u128) -> Result<String, AllocError>
+    ensures { IfOk result (λ mark. IsMark (string_bytes mark)) }
+{
+    format!(in alloc; "{process}.{nanos};")
 }
 
 /// The marks of a command: this one after those of the locks under which this process runs itself.
 ///
 /// # Errors
 /// If memory runs out.
-pub fn with_marks_before<R: Env + AllocGlobal>(rt: &R, mark: &str) -> Result<String, AllocError> {
+pub fn with_marks_before<R: Env + AllocGlobal>(rt: &R, mark: &str) -> Result<String, AllocError>
+    ensures { IfOk result (λ marks. EndsIn mark.now (string_bytes marks)) }
+{
     match env::var(rt, MARKS) {
         Ok(before) => format!(in rt.alloc(); "{before}{mark}"),
         Err(_) => String::from_str(rt.alloc(), mark),

@@ -1,8 +1,9 @@
 //! The guard of a command: a second process of this program, which holds the lock as long as the
 //! command runs if the first one is killed.
-ghost use Rattle.std.specs.Prelude.{◌≡◌, ◌⊎◌};
-ghost use Rattle.lock_client.specs.declared.guard.GuardEvent.TheVariants.{Said};
+ghost use Rattle.std.specs.Prelude.{◌≡◌, ◌≢◌, ◌⊎◌, true, is_some, IfSome, None, string_bytes, if◌then◌else◌};
+ghost use Rattle.lock_client.specs.declared.guard.GuardEvent.TheVariants.{Said, GraceIsOver};
 ghost use Rattle.lock_command.specs.GuardDriving.{named};
+ghost use Rattle.lock_command.specs.Marks.{IsClosed};
 
 use crate::family::{lives, members, send};
 use crate::guard_driver::{Guarded, drive_guard};
@@ -52,7 +53,18 @@ pub fn run<R: Env + Files + Processes + Clock + Input + Eprint + AllocGlobal + W
 ) -> u8
     ensures { (result ≡ 0) ⊎ (result ≡ 2) }
 {
-    let Some(mark) = told_mark(rt) else {
+    run_marked(rt, told_mark(rt), keeps_running)
+}
+
+/// The same of the command that has this mark: the status is 2 if there is none.
+pub fn run_marked<R: Files + Processes + Clock + Input + Eprint + AllocGlobal + Wait>(
+    rt: &R,
+    mark: Option<String>,
+    keeps_running: bool,
+) -> u8
+    ensures { result ≡ (if is_some mark then 0 else 2) }
+{
+    let Some(mark) = mark else {
         return NO_MARK;
     };
     let mut watch = Watch {
@@ -68,7 +80,9 @@ pub fn run<R: Env + Files + Processes + Clock + Input + Eprint + AllocGlobal + W
 }
 
 /// The mark of the command, which the environment has without the semicolon at its end.
-fn told_mark<R: Env + AllocGlobal>(rt: &R) -> Option<String> {
+pub fn told_mark<R: Env + AllocGlobal>(rt: &R) -> Option<String>
+    ensures { IfSome result (λ mark. IsClosed (string_bytes mark)) }
+{
     let told = env::var(rt, GUARDED).ok()?;
     format!(in rt.alloc(); "{told};").ok()
 }
@@ -82,9 +96,11 @@ where
 {}
 
 impl<R: GuardSystem> Guarded for Watch<'_, R> {
-    ghost use Rattle.std.specs.Prelude.{None};
+    ghost use Rattle.std.specs.Prelude.{None, is_some};
 
     ghost told = { λ _. None };
+
+    ghost grants = { λ watch. is_some watch.kill_due };
 
     fn next_event(&mut self, deed: GuardDeed, rest: u64) -> GuardEvent {
         if deed == GuardDeed::Listen {
@@ -114,7 +130,9 @@ impl<R: GuardSystem> Guarded for Watch<'_, R> {
 
 impl<R: GuardSystem> Watch<'_, R> {
     /// What the client says next. A line that cannot be read is the end.
-    fn listen(&mut self) -> GuardEvent {
+    fn listen(&mut self) -> GuardEvent
+        ensures { result ≢ GraceIsOver }
+    {
         let mut byte = [0u8];
         for _ in self.rt.forever() {
             match self.rt.reader().read(&mut byte) {
@@ -143,7 +161,10 @@ impl<R: GuardSystem> Watch<'_, R> {
     }
 
     /// Whether the command's grace is over, the first time that this is seen.
-    fn is_grace_over(&mut self) -> bool {
+    fn is_grace_over(&mut self) -> bool
+        ensures granted { result ≡ true → is_some self.old.kill_due ≡ true }
+        ensures once { result ≡ true → self.new.kill_due ≡ None }
+    {
         let is_over = match (self.kill_due, Instant::now(self.rt)) {
             (Some(due), Ok(now)) => due <= now,
             _ => false,

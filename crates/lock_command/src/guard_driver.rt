@@ -1,7 +1,9 @@
 //! The machine of a guard, driven by what happens around it.
-ghost use Rattle.std.specs.Prelude.{◌≡◌, Some, [], ◌∷◌, ◌++◌, List, Option};
+ghost use Rattle.std.specs.Prelude.{◌≡◌, ◌≢◌, Some, [], ◌∷◌, ◌++◌, List, Option, Bool, true, false};
 ghost use Rattle.std.specs.Option.{option_map};
 ghost use Rattle.lock_client.specs.declared.guard.GuardEvent.{GuardEvent};
+ghost use Rattle.lock_client.specs.declared.guard.GuardEvent.TheVariants.{GraceIsOver};
+ghost use Rattle.lock_client.specs.declared.guard.GuardDeed.TheVariants.{Ask};
 ghost use Rattle.lock_command.specs.GuardDriving.{IsOver};
 
 use lock_client::{Guard, GuardDeed, GuardEvent};
@@ -12,14 +14,20 @@ pub trait Guarded {
     /// What it has said happened, in order; none if nobody keeps that.
     ghost told: { Self → Option (List GuardEvent) };
 
-    /// Waits for the next thing that happens, and says what it is: for what the client says, or for
-    /// what a look finds after a rest of so many milliseconds, as `deed` has it.
-    fn next_event(&mut self, deed: GuardDeed, rest: u64) -> GuardEvent
-        ensures { told self.new ≡ option_map (λ events. events ++ result ∷ []) (told self.old) };
+    /// Whether a grace runs that a command has to end.
+    ghost grants: { Self → Bool };
 
-    /// Does what is to be done now.
+    /// Waits for the next thing that happens, and says what it is: for what the client says, or for
+    /// what a look finds after a rest of so many milliseconds, as `deed` has it. A grace is over only if
+    /// one runs, and once.
+    fn next_event(&mut self, deed: GuardDeed, rest: u64) -> GuardEvent
+        ensures told { told self.new ≡ option_map (λ events. events ++ result ∷ []) (told self.old) }
+        ensures over { result ≡ GraceIsOver → (grants self.old ≡ true) × (grants self.new ≡ false) };
+
+    /// Does what is to be done now. A grace begins only if the command is asked to end.
     fn act(&mut self, deed: GuardDeed)
-        ensures { told self.new ≡ told self.old };
+        ensures told { told self.new ≡ told self.old }
+        ensures grace { deed ≢ Ask → grants self.new ≡ grants self.old };
 }
 
 /// Lets happen what happens, until the lock is given back: a guard hears each thing, and what the

@@ -1,4 +1,7 @@
 //! The guard of a command, as the client has it that started it.
+ghost use Rattle.std.specs.Prelude.{◌≡◌};
+ghost use Rattle.lock_command.specs.Reading.{is_end};
+
 use crate::desk::is_for_later;
 use mio::net::UnixStream;
 use std::io::{Read, Write};
@@ -60,11 +63,17 @@ impl GuardLink {
 
     /// Whether the guard has ended. It says nothing itself.
     pub fn is_gone(&mut self) -> bool {
-        match self.stream.read(&mut [0; 8]) {
-            Ok(0) => true,
-            Ok(_) => false,
-            Err(error) => !is_for_later(error.kind()),
-        }
+        is_end(&self.stream.read(&mut [0; 8]))
+    }
+}
+
+/// Whether a read that was answered so shows that the other end is gone.
+fn is_end(answer: &io::Result<usize>) -> bool
+    ensures { result ≡ is_end answer.now }
+{
+    match answer {
+        Ok(count) => *count == 0,
+        Err(error) => !is_for_later(error.kind()),
     }
 }
 

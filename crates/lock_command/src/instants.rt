@@ -1,4 +1,7 @@
 //! The clock of one time that the lock is taken.
+ghost use Rattle.std.specs.Prelude.{◌≡◌, ◌/◌, min};
+ghost use Rattle.std.specs.Duration.{as_nanos};
+
 use std::time::{Clock, Duration, Instant};
 
 /// A clock that shows milliseconds since it was started. One that cannot be read stands still.
@@ -24,6 +27,8 @@ impl Stopwatch {
 }
 
 /// A time in whole milliseconds.
-fn whole_millis(time: Duration) -> u64 {
+fn whole_millis(time: Duration) -> u64
+    ensures { result ≡ min (as_nanos time / 1000000) 18446744073709551615 }
+{
     u64::try_from(time.as_millis()).unwrap_or(u64::MAX)
 }

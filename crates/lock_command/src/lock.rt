@@ -1,5 +1,7 @@
 //! `lock`: a command is run under the lock.
-ghost use Rattle.std.specs.Prelude.{◌≡◌, ℕ, Some, IfOk};
+ghost use Rattle.std.specs.Prelude.{◌≡◌, ℕ, Some, IfOk, IfErr};
+ghost use Rattle.lock_command.specs.Held.{held_status};
+ghost use Rattle.lock_command.specs.Reaching.{IsUnreachable, IsUnasked};
 
 use crate::desk::Desk;
 use crate::driver::drive;
@@ -54,12 +56,20 @@ pub fn run<R: Env + Net + Files + Processes + Clock + Input + Print + Eprint + A
     rt: &R,
     request: &Request,
 ) -> u8 {
-    match hold(rt, request) {
-        Ok(outcome) => outcome.status_or(request.lost),
-        Err(notice) => {
-            let _ = rt.eprintln(NoticeLine(notice));
-            Outcome::NoService.status()
-        }
+    let held = hold(rt, request);
+    if let Err(notice) = &held {
+        let _ = rt.eprintln(NoticeLine(*notice));
+    }
+    held_status(&held, request.lost)
+}
+
+/// The status to end with, if the lock was asked for and it all ended so, or if it was not asked for.
+fn held_status(held: &Result<Outcome, Notice>, lost: u8) -> u8
+    ensures { result ≡ held_status held.now lost }
+{
+    match held {
+        Ok(outcome) => outcome.status_or(lost),
+        Err(_) => Outcome::NoService.status(),
     }
 }
 
@@ -67,7 +77,9 @@ pub fn run<R: Env + Net + Files + Processes + Clock + Input + Print + Eprint + A
 fn hold<'a, R: Env + Net + Files + Processes + Clock + Input + Print + Eprint + AllocGlobal + Wait>(
     rt: &R,
     request: &Request<'a>,
-) -> Result<Outcome, Notice<'a>> {
+) -> Result<Outcome, Notice<'a>>
+    ensures { IfErr result (IsUnasked request.now.folder request.now.node) }
+{
     let desk = desk_of(rt, request)?;
     if request.is_verbose {
         let _ = rt.eprintln(NoticeLine(Notice::Waiting(desk.node())));
@@ -84,7 +96,9 @@ pub fn desk_of<'a, R: Net + Files + Clock + AllocGlobal>(
     rt: &R,
     request: &Request<'a>,
 ) -> Result<Desk, Notice<'a>>
-    ensures { (node : ℕ) → request.now.node ≡ Some node → IfOk result (λ desk. desk.node ≡ node) }
+    ensures desk { (node : ℕ) → request.now.node ≡ Some node
+        → IfOk result (λ desk. desk.node ≡ node) }
+    ensures why { IfErr result (IsUnreachable request.now.folder request.now.node) }
 {
     match request.node {
         Some(node) => reach(rt, request.folder, node),

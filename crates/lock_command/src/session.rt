@@ -1,7 +1,12 @@
 //! One time that the lock is taken.
-ghost use Rattle.std.specs.Prelude.{◌≡◌, None, IfOk};
+ghost use Rattle.std.specs.Prelude.{◌≡◌, ◌≢◌, None, Some, IfOk, IfErr, IfSome, true, false};
+ghost use Rattle.lock_client.specs.declared.client.Event.TheVariants.{Ended};
+ghost use Rattle.lock_client.specs.declared.client.Deed.TheVariants.{Start};
+ghost use Rattle.lock_client.specs.declared.outcome.CommandEnd.{CommandEnd};
 ghost use Rattle.lock_command.specs.Course.{lacks_room, asked_course};
 ghost use Rattle.lock_command.specs.Notices.{vain_notice, no_wait_notice};
+ghost use Rattle.lock_command.specs.Reaching.{IsUnbegun};
+ghost use Rattle.lock_command.specs.Working.{is_running};
 
 use crate::course::Course;
 use crate::desk::{Desk, Heard};
@@ -75,6 +80,8 @@ pub struct Live<'a, R, S> {
 impl<'a, R: System> Surroundings for Live<'_, R, Session<'a, R::Started>> {
     ghost told = { λ _. None };
 
+    ghost runs = { λ live. is_running live.session.work };
+
     fn next_event(&mut self) -> Event {
         self.session.wait_for_event(self.rt)
     }
@@ -96,6 +103,8 @@ impl<'a, P: OpenProcess + Drop> Session<'a, P> {
     ) -> Result<Session<'a, P>, Notice<'a>>
         ensures node { IfOk result (λ s. s.node ≡ desk.node) }
         ensures course { IfOk result (λ s. s.course ≡ asked_course request.entry.limit) }
+        ensures runs { IfOk result (λ s. is_running s.work ≡ false) }
+        ensures why { IfErr result IsUnbegun }
     {
         let node = desk.node();
         let Some(stopwatch) = Stopwatch::start(rt) else {
@@ -126,6 +135,7 @@ impl<'a, P: OpenProcess + Drop> Session<'a, P> {
     ) -> Session<'a, P>
         ensures node { result.node ≡ node }
         ensures course { result.course ≡ asked_course request.entry.limit }
+        ensures runs { is_running result.work ≡ false }
     {
         Session {
             request,
@@ -149,7 +159,10 @@ impl<'a, P: OpenProcess + Drop> Session<'a, P> {
     fn wait_for_event<R: Files + Processes + Clock + Input + Eprint + AllocGlobal + Wait>(
         &mut self,
         rt: &R,
-    ) -> Event {
+    ) -> Event
+        ensures starts_none { is_running self.new.work ≡ true → is_running self.old.work ≡ true }
+        ensures ended { (end : CommandEnd) → result ≡ Ended end → is_running self.new.work ≡ false }
+    {
         for _ in rt.forever() {
             self.look_at_the_clock(rt);
             if let Some(event) = self.from_others() {
@@ -165,7 +178,9 @@ impl<'a, P: OpenProcess + Drop> Session<'a, P> {
 
     /// Notes what time it is, and kills a command that has had its grace. A clock that cannot be
     /// read stands still.
-    fn look_at_the_clock<R: Files + Processes + Clock + AllocGlobal>(&mut self, rt: &R) {
+    fn look_at_the_clock<R: Files + Processes + Clock + AllocGlobal>(&mut self, rt: &R)
+        ensures { is_running self.new.work ≡ is_running self.old.work }
+    {
         let now = self.stopwatch.millis(rt);
         self.course.set_time(now);
         if self.course.takes_kill() {
@@ -174,7 +189,10 @@ impl<'a, P: OpenProcess + Drop> Session<'a, P> {
     }
 
     /// What the node or the guard lets happen.
-    fn from_others(&mut self) -> Option<Event> {
+    fn from_others(&mut self) -> Option<Event>
+        ensures work { self.new.work ≡ self.old.work }
+        ensures ended { (end : CommandEnd) → result ≢ Some (Ended end) }
+    {
         if self.is_unserved {
             self.is_unserved = false;
             return Some(Event::Unserved);
@@ -197,7 +215,9 @@ impl<'a, P: OpenProcess + Drop> Session<'a, P> {
     }
 
     /// What the node says.
-    fn heard_from_node(&mut self) -> Heard {
+    fn heard_from_node(&mut self) -> Heard
+        ensures { self.new.work ≡ self.old.work }
+    {
         match &mut self.desk {
             Some(_) if self.has_failed => Heard::Gone,
             Some(desk) => desk.hear(),
@@ -206,7 +226,9 @@ impl<'a, P: OpenProcess + Drop> Session<'a, P> {
     }
 
     /// Whether there was a guard, which has ended.
-    fn has_lost_its_guard(&mut self) -> bool {
+    fn has_lost_its_guard(&mut self) -> bool
+        ensures { self.new.work ≡ self.old.work }
+    {
         match &mut self.guard {
             Some(guard) => guard.is_gone(),
             None => false,
@@ -214,7 +236,11 @@ impl<'a, P: OpenProcess + Drop> Session<'a, P> {
     }
 
     /// What the user, the command or the clock lets happen.
-    fn from_here<R: Files + Input + Eprint + AllocGlobal>(&mut self, rt: &R) -> Option<Event> {
+    fn from_here<R: Files + Input + Eprint + AllocGlobal>(&mut self, rt: &R) -> Option<Event>
+        ensures starts_none { is_running self.new.work ≡ true → is_running self.old.work ≡ true }
+        ensures ended { (end : CommandEnd) → result ≡ Some (Ended end)
+            → is_running self.new.work ≡ false }
+    {
         if let Some(signal) = self.new_signal(rt) {
             return Some(self.event_of_signal(signal));
         }
@@ -230,7 +256,9 @@ impl<'a, P: OpenProcess + Drop> Session<'a, P> {
     }
 
     /// A signal that came and is held back, the first time that it is seen.
-    fn new_signal<R: Files + AllocGlobal>(&mut self, rt: &R) -> Option<Signal> {
+    fn new_signal<R: Files + AllocGlobal>(&mut self, rt: &R) -> Option<Signal>
+        ensures { self.new.work ≡ self.old.work }
+    {
         if !self.holds_signals_back {
             return None;
         }
@@ -240,7 +268,10 @@ impl<'a, P: OpenProcess + Drop> Session<'a, P> {
     }
 
     /// What a signal lets happen: without a command, it ends the time for which the lock is held.
-    fn event_of_signal(&mut self, signal: Signal) -> Event {
+    fn event_of_signal(&mut self, signal: Signal) -> Event
+        ensures starts_none { is_running self.new.work ≡ is_running self.old.work }
+        ensures ended { (end : CommandEnd) → result ≡ Ended end → is_running self.new.work ≡ false }
+    {
         match self.work {
             Work::Input => {
                 self.work = Work::None;
@@ -255,7 +286,10 @@ impl<'a, P: OpenProcess + Drop> Session<'a, P> {
         &mut self,
         rt: &R,
         has_input: bool,
-    ) -> Option<CommandEnd> {
+    ) -> Option<CommandEnd>
+        ensures starts_none { is_running self.new.work ≡ true → is_running self.old.work ≡ true }
+        ensures ended { IfSome result (λ _. is_running self.new.work ≡ false) }
+    {
         if let Some(end) = self.work.ended(rt, has_input) {
             if !self.awaits_family {
                 return Some(self.dismiss_guard(end));
@@ -270,6 +304,7 @@ impl<'a, P: OpenProcess + Drop> Session<'a, P> {
     fn dismiss_guard(&mut self, end: CommandEnd) -> CommandEnd
         ensures end { result ≡ end }
         ensures gone { self.new.guard ≡ None }
+        ensures work { self.new.work ≡ self.old.work }
     {
         if let Some(guard) = &mut self.guard {
             guard.say("done\n");
@@ -281,7 +316,9 @@ impl<'a, P: OpenProcess + Drop> Session<'a, P> {
     /// Does what is to be done now that this happened.
     fn do_deed<
         R: Env + Net + Files + Processes<Started = P> + Clock + Print + Eprint + AllocGlobal,
-    >(&mut self, rt: &R, event: Event, deed: Deed) {
+    >(&mut self, rt: &R, event: Event, deed: Deed)
+        ensures { deed ≢ Start → is_running self.new.work ≡ is_running self.old.work }
+    {
         self.report_course(rt, event, deed);
         match deed {
             Deed::Wait => {}
@@ -303,14 +340,18 @@ impl<'a, P: OpenProcess + Drop> Session<'a, P> {
     }
 
     /// Writes a line to the node.
-    fn write_line(&mut self, line: ClientLine) {
+    fn write_line(&mut self, line: ClientLine)
+        ensures { self.new.work ≡ self.old.work }
+    {
         if let Some(desk) = &mut self.desk {
             self.has_failed = desk.write(line).is_err();
         }
     }
 
     /// Connects again, after a rest, and asks for the lock.
-    fn connect_again<R: Net + Files + Clock + Eprint + AllocGlobal>(&mut self, rt: &R) {
+    fn connect_again<R: Net + Files + Clock + Eprint + AllocGlobal>(&mut self, rt: &R)
+        ensures { self.new.work ≡ self.old.work }
+    {
         thread::sleep(rt, Duration::from_millis(FULL_REST));
         match desk_of(rt, &self.request) {
             Ok(mut desk) => {
@@ -411,7 +452,9 @@ impl<'a, P: OpenProcess + Drop> Session<'a, P> {
     }
 
     /// Asks the command to end, and has it killed later.
-    fn end_command<R: Files + Processes + Eprint + AllocGlobal>(&mut self, rt: &R, event: Event) {
+    fn end_command<R: Files + Processes + Eprint + AllocGlobal>(&mut self, rt: &R, event: Event)
+        ensures { is_running self.new.work ≡ is_running self.old.work }
+    {
         self.report_loss(rt, event, Fate::Ended);
         self.awaits_family = true;
         self.course.ask_to_end();
@@ -457,7 +500,9 @@ impl<'a, P: OpenProcess + Drop> Session<'a, P> {
     }
 
     /// Waits for what happens next.
-    fn wait_a_while(&mut self) {
+    fn wait_a_while(&mut self)
+        ensures { self.new.work ≡ self.old.work }
+    {
         let age = self.course.age(self.work.is_running());
         let left = self.course.left(self.work.is_family());
         self.waiter.wait(rest(age, left, self.holds_signals_back));

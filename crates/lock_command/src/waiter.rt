@@ -1,4 +1,8 @@
 //! Waiting for sockets and for standard input at once.
+ghost use Rattle.std.specs.Prelude.{◌≡◌, IfOk};
+ghost use Rattle.lock_command.specs.Watching.{has_input, IsWatched, IsTaken, IsAwaited};
+ghost use Rattle.lock_command.specs.declared.waiter.Watch.TheVariants.{Not};
+
 use mio::event::Source;
 use mio::net::UnixStream;
 use mio::unix::SourceFd;
@@ -40,12 +44,27 @@ enum Watch {
     Always,
 }
 
+impl Watch {
+    /// How it is watched after the system was asked to say when it has something to read: it may refuse.
+    fn after(is_registered: bool) -> Watch
+        ensures { IsWatched result }
+    {
+        if is_registered {
+            Watch::Waiting
+        } else {
+            Watch::Always
+        }
+    }
+}
+
 impl Waiter {
     /// Waits for a connection alone.
     ///
     /// # Errors
     /// What the system answers; `OutOfMemory`.
-    pub fn new<R: Net>(rt: &R, alloc: Global, desk: &mut UnixStream) -> io::Result<Waiter> {
+    pub fn new<R: Net>(rt: &R, alloc: Global, desk: &mut UnixStream) -> io::Result<Waiter>
+        ensures { IfOk result (λ waiter. waiter.input ≡ Not) }
+    {
         let waiter = Waiter {
             poll: Poll::new(rt)?,
             events: Events::with_capacity(alloc, 4)?,
@@ -76,19 +95,21 @@ impl Waiter {
     }
 
     /// Waits for standard input too, from now on.
-    pub fn watch_input(&mut self) {
+    pub fn watch_input(&mut self)
+        ensures { IsWatched self.new.input }
+    {
         let registered = self
             .poll
             .registry()
             .register(&mut SourceFd(&INPUT), STANDARD_INPUT, Interest::READABLE);
-        self.input = match registered {
-            Ok(()) => Watch::Waiting,
-            Err(_) => Watch::Always,
-        };
+        self.input = Watch::after(registered.is_ok());
     }
 
     /// Whether standard input has something to read, or has ended. Who asks reads it once.
-    pub fn takes_input(&mut self) -> bool {
+    pub fn takes_input(&mut self) -> bool
+        ensures takes { result ≡ has_input self.old.input }
+        ensures after { IsTaken self.old.input self.new.input }
+    {
         match self.input {
             Watch::Not | Watch::Waiting => false,
             Watch::Always => true,
@@ -101,19 +122,20 @@ impl Waiter {
 
     /// Has the system say once more when standard input has something to read: at once, where
     /// something is left.
-    fn watch_again(&mut self) {
+    fn watch_again(&mut self)
+        ensures { IsWatched self.new.input }
+    {
         let registered = self
             .poll
             .registry()
             .reregister(&mut SourceFd(&INPUT), STANDARD_INPUT, Interest::READABLE);
-        self.input = match registered {
-            Ok(()) => Watch::Waiting,
-            Err(_) => Watch::Always,
-        };
+        self.input = Watch::after(registered.is_ok());
     }
 
     /// Waits until something comes, for `millis` milliseconds at most.
-    pub fn wait(&mut self, millis: u64) {
+    pub fn wait(&mut self, millis: u64)
+        ensures { IsAwaited self.old.input self.new.input }
+    {
         let rest = match self.input {
             Watch::Always => 0,
             _ => millis,

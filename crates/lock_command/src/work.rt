@@ -1,4 +1,8 @@
 //! What is done under the lock: a command, or waiting for the end of standard input.
+ghost use Rattle.std.specs.Prelude.{◌≡◌, ◌⊎◌, Some, None};
+ghost use Rattle.lock_client.specs.declared.outcome.CommandEnd.TheVariants.{Exited, Killed};
+ghost use Rattle.lock_command.specs.Working.{is_running, is_family, EndsSo, FamilyEndsSo, GoesOn, IsAsked, IsKilled};
+
 use crate::family::{MARKS, members, send};
 use crate::notice::{Notice, NoticeLine};
 use lock_client::{CommandEnd, UNKNOWN_STATUS, command_end};
@@ -45,18 +49,25 @@ pub fn start<R: Processes>(
 
 impl<P: OpenProcess + Drop> Work<P> {
     /// Whether a command runs, whose end is seen only by looking.
-    pub fn is_running(&self) -> bool {
+    pub fn is_running(&self) -> bool
+        ensures { result ≡ is_running self.now }
+    {
         matches!(self, Work::Running(_))
     }
 
     /// Whether what a command started is awaited.
-    pub fn is_family(&self) -> bool {
+    pub fn is_family(&self) -> bool
+        ensures { result ≡ is_family self.now }
+    {
         matches!(self, Work::Family(_))
     }
 
     /// How it ended, the first time that this is known. Standard input is read if it has something to
     /// read, and what it holds is dropped.
-    pub fn ended<R: Input + Eprint>(&mut self, rt: &R, has_input: bool) -> Option<CommandEnd> {
+    pub fn ended<R: Input + Eprint>(&mut self, rt: &R, has_input: bool) -> Option<CommandEnd>
+        ensures end { EndsSo self.old has_input result }
+        ensures after { GoesOn result self.old self.new }
+    {
         let end = match self {
             Work::None | Work::Family(_) => None,
             Work::Running(child) => look(rt, child),
@@ -71,11 +82,10 @@ impl<P: OpenProcess + Drop> Work<P> {
     }
 
     /// How the command ended, once nobody with this mark is left.
-    pub fn family_ended<R: Files + AllocGlobal>(
-        &mut self,
-        rt: &R,
-        mark: &str,
-    ) -> Option<CommandEnd> {
+    pub fn family_ended<R: Files + AllocGlobal>(&mut self, rt: &R, mark: &str) -> Option<CommandEnd>
+        ensures end { FamilyEndsSo self.old result }
+        ensures after { GoesOn result self.old self.new }
+    {
         let Work::Family(end) = *self else {
             return None;
         };
@@ -88,7 +98,9 @@ impl<P: OpenProcess + Drop> Work<P> {
 
     /// Asks the command, and whatever it started and has this mark, to end, by SIGTERM; kills the
     /// command if nobody can be asked. Standard input is awaited no more.
-    pub fn end<R: Files + Processes + AllocGlobal>(&mut self, rt: &R, mark: &str) {
+    pub fn end<R: Files + Processes + AllocGlobal>(&mut self, rt: &R, mark: &str)
+        ensures { IsAsked (Exited 0) self.old self.new }
+    {
         match self {
             Work::Running(child) => {
                 let family = family_of(rt, child.id(), mark);
@@ -102,7 +114,9 @@ impl<P: OpenProcess + Drop> Work<P> {
     }
 
     /// Hands SIGTERM on to the command alone.
-    pub fn pass_on<R: Processes + AllocGlobal>(&mut self, rt: &R) {
+    pub fn pass_on<R: Processes + AllocGlobal>(&mut self, rt: &R)
+        ensures { IsAsked (Killed 15) self.old self.new }
+    {
         match self {
             Work::Running(child) => {
                 let _ = send(rt, "TERM", &[child.id()]);
@@ -113,7 +127,9 @@ impl<P: OpenProcess + Drop> Work<P> {
     }
 
     /// Kills the command, and whatever it started and has this mark, by SIGKILL.
-    pub fn kill<R: Files + Processes + AllocGlobal>(&mut self, rt: &R, mark: &str) {
+    pub fn kill<R: Files + Processes + AllocGlobal>(&mut self, rt: &R, mark: &str)
+        ensures { IsKilled self.old self.new }
+    {
         if let Work::Running(child) = self {
             let _ = child.kill();
         }
@@ -149,7 +165,9 @@ fn look<R: Eprint, P: OpenProcess>(rt: &R, child: &mut Child<P>) -> Option<Comma
 }
 
 /// Reads standard input once: whether it has ended, or cannot be read.
-fn read_input<R: Input>(rt: &R) -> Option<CommandEnd> {
+fn read_input<R: Input>(rt: &R) -> Option<CommandEnd>
+    ensures { (result ≡ None) ⊎ (result ≡ Some (Exited 0)) }
+{
     let mut piece = [0u8; 4096];
     match rt.reader().read(&mut piece) {
         Ok(0) => Some(CommandEnd::Exited(0)),

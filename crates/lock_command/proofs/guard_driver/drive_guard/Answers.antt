@@ -11,7 +11,7 @@ returns-in-End g c = λ none.
     watches c.args.keeps_running c.loop.guard.keeps_running (told c.args.guarded.now) (told c.loop.guarded)
     (told c.next_event-event.new.self)
     (told c.next_event-event.new.self) c.loop.guard.stage new.stage c.next_event-event.result c.loop.invariant.2
-    c.loop.invariant.3 c.next_event-event.ensures
+    c.loop.invariant.3 c.next_event-event.ensures.told
     refl stage in
     let so = under none in
     let over = ends c.loop.guard.stage new.stage c.step-next.result c.step-next.ensures.deed c.in-End.is in
@@ -27,6 +27,6 @@ loop-preserved g c =
     watches c.args.keeps_running c.loop.guard.keeps_running (told c.args.guarded.now) (told c.loop.guarded)
     (told c.next_event-event.new.self)
     (told c.act.new.self) c.loop.guard.stage new.stage c.next_event-event.result c.loop.invariant.2
-    c.loop.invariant.3 c.next_event-event.ensures
-    c.act.ensures stage in
+    c.loop.invariant.3 c.next_event-event.ensures.told
+    c.act.ensures.told stage in
     (tt, tt, rw keeps c.loop.invariant.2, under)

@@ -1,0 +1,14 @@
+-- The mark of a command, by which it and whatever it starts are found.
+use Rattle.std.specs.Prelude.{◌≡◌, ℕ, List, ◌++◌, codes, decimal}
+
+-- the id of a process, or 0 if that is not known, and what time it is in nanoseconds: `12.34;`
+abbrev pub IsMark : List ℕ → Type 0
+IsMark mark = (process : List ℕ) × (nanos : ℕ) × (mark ≡ process ++ (codes "." ++ (decimal nanos ++ codes ";")))
+
+-- this mark stands after those of the locks around it
+abbrev pub EndsIn : List ℕ → List ℕ → Type 0
+EndsIn mark marks = (before : List ℕ) × (marks ≡ before ++ mark)
+
+-- a mark ends with a semicolon
+abbrev pub IsClosed : List ℕ → Type 0
+IsClosed mark = EndsIn (codes ";") mark

@@ -1,0 +1,48 @@
+-- What is done under the lock, how it goes on, and how it ends.
+use Rattle.std.specs.Prelude.{◌≡◌, ◌⊎◌, Bool, true, false, Option, Some, None}
+use Rattle.lock_client.specs.declared.outcome.CommandEnd.{CommandEnd}
+use Rattle.lock_client.specs.declared.outcome.CommandEnd.TheVariants.{Exited, Killed}
+use Rattle.lock_command.specs.declared.work.Work.{Work}
+use Rattle.lock_command.specs.declared.work.Work.TheVariants as work
+
+-- a command runs, whose end is seen only by looking
+abbrev pub is_running : {P A B C : Type 0} → Work P A B C → Bool
+is_running (work.Running child) = true
+is_running _ = false
+
+-- the command has ended, and what it started is awaited
+abbrev pub is_family : {P A B C : Type 0} → Work P A B C → Bool
+is_family (work.Family end) = true
+is_family _ = false
+
+-- how it ended: what is done is told as it is; a command as the system says, if it has ended; standard input only if it has something to
+-- read, and it ends with 0
+abbrev pub EndsSo : {P A B C : Type 0} → Work P A B C → Bool → Option CommandEnd → Type 0
+EndsSo work.None has_input end = end ≡ None
+EndsSo (work.Running child) has_input end = Unit {0}
+EndsSo (work.Family told) has_input end = end ≡ None
+EndsSo work.Input false end = end ≡ None
+EndsSo work.Input true end = (end ≡ None) ⊎ (end ≡ Some (Exited 0))
+EndsSo (work.Done told) has_input end = end ≡ Some told
+
+-- once what the command started is gone, its end is told
+abbrev pub FamilyEndsSo : {P A B C : Type 0} → Work P A B C → Option CommandEnd → Type 0
+FamilyEndsSo (work.Family told) end = (end ≡ None) ⊎ (end ≡ Some told)
+FamilyEndsSo _ end = end ≡ None
+
+-- what has ended is over; else it goes on, a command as one that runs
+abbrev pub GoesOn : {P A B C : Type 0} → Option CommandEnd → Work P A B C → Work P A B C → Type 0
+GoesOn (Some end) old new = new ≡ work.None
+GoesOn None (work.Running child) new = is_running new ≡ true
+GoesOn None old new = new ≡ old
+
+-- after it was asked to end: a command runs until it has ended; standard input is awaited no more, as if it had ended so
+abbrev pub IsAsked : {P A B C : Type 0} → CommandEnd → Work P A B C → Work P A B C → Type 0
+IsAsked end (work.Running child) new = is_running new ≡ true
+IsAsked end work.Input new = new ≡ work.Done end
+IsAsked end old new = new ≡ old
+
+-- after it was killed: a command runs until its end is seen
+abbrev pub IsKilled : {P A B C : Type 0} → Work P A B C → Work P A B C → Type 0
+IsKilled (work.Running child) new = is_running new ≡ true
+IsKilled old new = new ≡ old
