@@ -1,11 +1,9 @@
 -- What is asked, answered and shown, by hand.
 use Rattle.std.proofs.Common.{◌≡◌, true, false, None, Some, [], ◌∷◌, codes, refl}
 use Rattle.std.specs.Fmt.{digits}
-use Rattle.node_texts.specs.declared.answers.NodeAnswer.{NodeAnswer}
-use Rattle.status_readings.specs.declared.minute.NodeLoans.{NodeLoans}
 use Rattle.status_readings.specs.declared.minute.Sample.{Sample}
 use Rattle.status_command.specs.declared.question.Question.TheVariants.{Status, Look}
-use Rattle.status_command.specs.declared.screen.Screen.TheVariants.{Terminal, Blocks, Lines}
+use Rattle.status_command.specs.declared.screen.Screen.TheVariants.{Blocks, Lines}
 use Rattle.status_command.specs.Asking.{question_path, AreWordsOf, is_answered, line_or_empty, nodes_of}
 use Rattle.status_command.specs.Shown.{after_block, is_in_place, minute_after}
 
