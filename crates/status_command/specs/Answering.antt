@@ -1,5 +1,5 @@
 -- What a node answered, of the bytes that came from it.
-use Rattle.std.specs.Prelude.{ℕ, ◌==◌, nat_lt, if◌then◌else◌, List, length, take, Option, None, Some, option_and_then}
+use Rattle.std.specs.Prelude.{ℕ, ◌==◌, if◌then◌else◌, List, take, Option, None, Some, option_and_then}
 use Rattle.std.specs.List.{position}
 use Rattle.std.specs.Option.{option_map}
 use Rattle.node_texts.specs.declared.status_line.StatusLine.{StatusLine}

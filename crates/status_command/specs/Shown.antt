@@ -9,7 +9,7 @@ use Rattle.status_readings.specs.Minute.{sample_of, with_sample}
 use Rattle.status_command.specs.declared.status.Form.{Form}
 use Rattle.status_command.specs.declared.status.Form.TheVariants as form
 use Rattle.status_command.specs.declared.screen.Screen.{Screen}
-use Rattle.status_command.specs.declared.screen.Screen.TheVariants.{Terminal, Blocks, Lines}
+use Rattle.status_command.specs.declared.screen.Screen.TheVariants.{Terminal, Blocks}
 
 -- the answers as lines, or as JSON on a line of its own
 abbrev pub IsTextOf : Form → List NodeAnswer → List ℕ → Type 0

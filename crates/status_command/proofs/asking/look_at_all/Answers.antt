@@ -1,4 +1,4 @@
-use Rattle.std.proofs.Common.{◌≡◌, ◌∙◌, ◌<◌, length, arith}
+use Rattle.std.proofs.Common.{◌∙◌, ◌<◌, length, arith}
 use Rattle.status_command.proofs.Lists.{same-nodes}
 use Rattle.status_command.proofs.asking.look_at_all.Goals as goal
 

@@ -1,0 +1,63 @@
+-- What is asked, answered and shown, by hand.
+use Rattle.std.proofs.Common.{◌≡◌, true, false, None, Some, [], ◌∷◌, codes, refl}
+use Rattle.std.specs.Fmt.{digits}
+use Rattle.status_readings.specs.declared.minute.Sample.{Sample}
+use Rattle.status_command.specs.declared.question.Question.TheVariants.{Status, Look}
+use Rattle.status_command.specs.declared.screen.Screen.TheVariants.{Blocks, Lines}
+use Rattle.status_command.specs.Asking.{question_path, AreWordsOf, is_answered, line_or_empty, nodes_of}
+use Rattle.status_command.specs.Shown.{after_block, is_in_place, minute_after}
+
+-- each is asked at its own socket
+path-status : question_path Status (codes "run") 2 ≡ codes "run/desk-2.sock"
+unfolding digits
+path-status = refl
+
+path-look : question_path Look (codes "run") 2 ≡ codes "run/look-2.sock"
+unfolding digits
+path-look = refl
+
+-- a desk reads the word with its newline alone
+words-status : AreWordsOf Status (codes "status\n")
+words-status = refl
+
+words_not-whole : ¬ AreWordsOf Status (codes "status")
+words_not-whole e = absurd (cc)
+
+words_not-look : ¬ AreWordsOf Look (codes "status\n")
+words_not-look e = absurd (cc)
+
+-- no answer is there before its line ends
+answered-line : is_answered Status (codes "node\n") ≡ true
+answered-line = refl
+
+answered_not-half : is_answered Status (codes "node") ≡ false
+answered_not-half = refl
+
+-- no line is the empty one
+line-none : line_or_empty None ≡ []
+line-none = refl
+
+nodes-two : nodes_of (record { node = 4; line = None } ∷ record { node = 1; line = None } ∷ []) ≡ 4 ∷ 1 ∷ []
+nodes-two = refl
+
+-- a line goes between two blocks, not in front of the first
+block-first : after_block (Blocks false) ≡ Blocks true
+block-first = refl
+
+block_not-lines : after_block Lines ≡ Lines
+block_not-lines = refl
+
+in-place-blocks : is_in_place (Blocks true) ≡ false
+in-place-blocks = refl
+
+-- a node that says nothing leaves the minute as it was
+abbrev old : Sample
+old = record { at = 1000; count = 3; lately = 70; present = 0; rounds = 9 }
+
+minute_not-silent : minute_after 1500 (record { node = 2; said = None } ∷ []) (old ∷ []) ≡ old ∷ []
+minute_not-silent = refl
+
+minute-said : minute_after 1500
+    (record { node = 2; said = Some (record { count = 4; lately = 80; present = None; rounds = 12 }) } ∷ []) (old ∷ [])
+    ≡ old ∷ record { at = 1500; count = 4; lately = 80; present = 0; rounds = 12 } ∷ []
+minute-said = refl
