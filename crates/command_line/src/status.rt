@@ -96,11 +96,12 @@ than the node's --turn allows. Both are read at DIR/look-ID.sock.
 names, null for none, and answer, which is false for a node that gave none.
 
 --watch shows the nodes each half second, or each --every seconds, each under its parent, with the time that a loan has
-taken so far and the loans of the last minute. On a terminal it stays in its place; Ctrl-C or q ends it. Elsewhere there is
-a block a time, with an empty line between. With --json it is a line a time.
+taken so far; the loans of the last minute, of which the longest may have ended up to half a minute earlier; and how often
+the token came round. On a terminal it stays in its place; Ctrl-C or q ends it. Elsewhere there is a block a time, with an
+empty line between. With --json it is a line a time.
 
   $ tokentree status /run/tokentree --check ring.toml
-  tokentree OK - each node is in its place, and at most one lends | nodes=3 answering=3 wrong=0 ..
+  tokentree OK - each node is in its place, and at most one lends | nodes=3;;;0;3 answering=3;;;0;3 wrong=0;;;0;3 ..
 
 --check looks three times, a second apart, at each node of the network of FILE. Statuses and words are those of monitoring
 plugins: 0 OK, if each time each node answers, with the distance and parent that the network gives, and at most one lends; 1

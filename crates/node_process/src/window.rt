@@ -9,9 +9,11 @@ ghost use Rattle.turn_watch.specs.Loans.{no_loans, desk_seen};
 ghost use Rattle.turn_watch.specs.Links.{down_since, link_seen, link_of};
 ghost use Rattle.turn_watch.specs.Notes.{next_of};
 ghost use Rattle.turn_watch.specs.declared.links.LinkSight.{LinkSight};
+ghost use Rattle.turn_watch.specs.Rounds.{no_rounds, machine_seen};
+ghost use Rattle.look_window.specs.Counted.{counted_machine};
 ghost use Rattle.look_window.specs.NodeLook.{node_look};
 
-use look_window::{ProcessSaid, line_of_node};
+use look_window::{ProcessSaid, counted_machine, line_of_node};
 use node_loop::{Doors, NodeRun, Turned};
 use node_state_file::Store;
 use node_texts::ProcessPart;
@@ -38,6 +40,7 @@ impl<'a> Window<'a> {
         now: u64,
     ) -> Window<'a>
         ensures notes { (result.notes.turns ≡ begun now) × (result.notes.loans ≡ no_loans)
+            × (result.notes.rounds ≡ no_rounds)
             × (result.notes.links ≡ replicate 64 (down_since now))
             × (result.notes.limit ≡ limit) }
         ensures version { result.said.version ≡ version.entry }
@@ -79,6 +82,9 @@ impl<'a> Window<'a> {
           has_granted = grants turned.now.ticked.act;
           lends = is_some (state_of run.now.node).desk.lent;
         }) self.old.notes.loans }
+        ensures rounds { self.new.notes.rounds
+            ≡ machine_seen (counted_machine (site_in run.now.node) (state_of run.now.node))
+            self.old.notes.rounds }
         ensures link { (sight : LinkSight) → self.old.notes.next < 64
             → link_at (slice_get run.now.ports.items self.old.notes.next) ≡ Some sight
             → link_of self.new.notes.links self.old.notes.next
@@ -94,6 +100,7 @@ impl<'a> Window<'a> {
             lends: run.node().lent().is_some(),
         };
         self.notes.turn_ended(now, desk);
+        self.notes.note_machine(counted_machine(run.node()));
         let id = self.notes.next_link(run.net().nodes());
         if let Some(sight) = run.link(id) {
             self.notes.note_link(id, sight, now);
