@@ -19,4 +19,4 @@ mod output;
 
 pub use files::{explain_network, explain_reading, explain_swap, explain_writing};
 pub use mistakes::one_line;
-pub use output::{CLOSED_PIPE, Wrote, how_written, why_refused};
+pub use output::{CLOSED_PIPE, Wrote, how_written, output_status, why_refused};

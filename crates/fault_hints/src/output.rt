@@ -1,5 +1,5 @@
 //! Standard output that takes no more.
-ghost use Rattle.std.specs.Prelude.{◌≡◌, ◌≢◌};
+ghost use Rattle.std.specs.Prelude.{◌≡◌, ◌≢◌, IfSome};
 ghost use Rattle.fault_hints.specs.Output.{how_written, write_status};
 ghost use Rattle.fault_hints.specs.declared.output.Wrote.TheVariants.{All};
 
@@ -56,5 +56,16 @@ pub fn why_refused<R: Print + Eprint>(rt: &R) -> Wrote
     match how_written(rt, rt.print("\n")) {
         Wrote::All => Wrote::Failed,
         refused => refused,
+    }
+}
+
+/// After standard output has refused a write: the status to end with quietly if its reader is gone. Else
+/// the system's words are said, and none is answered.
+pub fn output_status<R: Print + Eprint>(rt: &R) -> Option<u8>
+    ensures { IfSome result (λ status. status ≡ 141) }
+{
+    match why_refused(rt) {
+        Wrote::Closed => Some(CLOSED_PIPE),
+        Wrote::All | Wrote::Failed => None,
     }
 }

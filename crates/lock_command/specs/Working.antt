@@ -1,7 +1,7 @@
 -- What is done under the lock, how it goes on, and how it ends.
 use Rattle.std.specs.Prelude.{◌≡◌, ◌⊎◌, Bool, true, false, Option, Some, None}
 use Rattle.lock_client.specs.declared.outcome.CommandEnd.{CommandEnd}
-use Rattle.lock_client.specs.declared.outcome.CommandEnd.TheVariants.{Exited, Killed}
+use Rattle.lock_client.specs.declared.outcome.CommandEnd.TheVariants.{Exited}
 use Rattle.lock_command.specs.declared.work.Work.{Work}
 use Rattle.lock_command.specs.declared.work.Work.TheVariants as work
 

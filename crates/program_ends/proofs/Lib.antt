@@ -1,2 +1,1 @@
 mod RowsFaults
-mod RowsShown

@@ -1,2 +1,1 @@
 pub mod FaultLine
-pub mod Shown

@@ -1,15 +1,14 @@
 //! The statuses that the program ends with.
-ghost use Rattle.std.specs.Prelude.{◌≡◌, ◌≢◌, if◌then◌else◌};
+ghost use Rattle.std.specs.Prelude.{◌≡◌, ◌≢◌, ◌≤◌, ◌⊎◌, if◌then◌else◌, IfOk, IfErr};
 ghost use Rattle.std.specs.Process.{exit_status};
 ghost use Rattle.clap.specs.Values.{kind_of};
-ghost use Rattle.fault_hints.specs.Output.{write_status};
-ghost use Rattle.program_ends.specs.Shown.{shown_status, fault_status, refused_status};
-ghost use Rattle.program_ends.specs.Shown.{IsPrinted};
+ghost use Rattle.clap.specs.declared.error.kind.ErrorKind.TheVariants.{DisplayHelp, DisplayVersion};
+ghost use Rattle.clap.specs.declared.error.kind.ErrorKind.TheVariants.{OutOfMemory};
 
 use crate::fault_line::FaultLine;
 use clap::error::ErrorKind;
 use command_parts::Fault;
-use fault_hints::{Wrote, one_line, how_written};
+use fault_hints::{one_line, output_status};
 use std::alloc::AllocError;
 use std::process::ExitCode;
 
@@ -18,35 +17,29 @@ pub const LINE_REFUSED: u8 = 2;
 
 /// The status of a fault: `lock` has one of its own, since 1 may be that of its command.
 pub fn fault_status(is_lock: bool) -> u8
-    ensures { result ≡ fault_status is_lock }
+    ensures { result ≡ (if is_lock then 125 else 1) }
 {
     if is_lock { 125 } else { 1 }
 }
 
-/// Prints the help that was asked for, if some was, and says how that went.
-pub fn print_help<R: Print + Eprint>(rt: &R, error: &clap::Error) -> Wrote
-    ensures { IsPrinted (kind_of error.now) result }
-{
-    match error.kind() {
-        ErrorKind::DisplayHelp | ErrorKind::DisplayVersion => how_written(rt, error.print(rt)),
-        _ => Wrote::All,
-    }
-}
-
-/// Ends after help was printed so; or says why the command line was refused, or that memory ran out before
-/// it was read. A refusal is one line, which names the help of the command that was meant.
+/// Shows the help that was asked for, or why the command line was refused, or that memory ran out
+/// before it was read. A refusal is one line, which names the help of the command that was meant.
 pub fn shows<R: Print + Eprint + AllocGlobal>(
     rt: &R,
     error: &clap::Error,
-    wrote: Wrote,
     is_lock: bool,
     command: Option<&str>,
 ) -> ExitCode
-    ensures { exit_status result ≡ shown_status (kind_of error.now) wrote is_lock }
+    ensures mistake { kind_of error.now ≢ DisplayHelp → kind_of error.now ≢ DisplayVersion
+        → kind_of error.now ≢ OutOfMemory → exit_status result ≡ 2 }
+    ensures memory { kind_of error.now ≡ OutOfMemory
+        → exit_status result ≡ (if is_lock then 125 else 1) }
+    ensures help { kind_of error.now ≡ DisplayHelp
+        → (exit_status result ≤ 1) ⊎ (exit_status result ≡ 141) }
 {
     match error.kind() {
         ErrorKind::OutOfMemory => fails(rt, Fault::Memory, fault_status(is_lock)),
-        ErrorKind::DisplayHelp | ErrorKind::DisplayVersion => write_ends(rt, wrote),
+        ErrorKind::DisplayHelp | ErrorKind::DisplayVersion => help_status(rt, error.print(rt)),
         _ => {
             say_mistake(rt, error, command);
             ExitCode::from(LINE_REFUSED)
@@ -80,25 +73,27 @@ fn mistake_line<R: AllocGlobal>(
     one_line(rt.alloc(), text.as_str(), command)
 }
 
-/// Ends after what was asked for was written so: a fault is shown if it was refused, but for a reader that
-/// is gone.
-pub fn write_ends<R: Eprint>(rt: &R, wrote: Wrote) -> ExitCode
-    ensures { exit_status result ≡ write_status wrote 1 }
+/// The status of help that was asked for, by what printing it answered: a fault is shown if it could not
+/// be printed, but for a reader that is gone.
+fn help_status<R: Print + Eprint, E: Drop>(rt: &R, printed: Result<(), E>) -> ExitCode
+    ensures printed { IfOk printed (λ _. exit_status result ≡ 0) }
+    ensures refused { IfErr printed
+        (λ _. (exit_status result ≡ 1) ⊎ (exit_status result ≡ 141)) }
 {
-    match wrote {
-        Wrote::All => ExitCode::SUCCESS,
-        Wrote::Closed | Wrote::Failed => output_fails(rt, wrote, fault_status(false)),
+    match printed {
+        Ok(()) => ExitCode::SUCCESS,
+        Err(_) => output_fails(rt, fault_status(false)),
     }
 }
 
-/// Ends after standard output has refused a write for this: quietly if its reader is gone, else with its
-/// fault and this status.
-pub fn output_fails<R: Eprint>(rt: &R, refused: Wrote, status: u8) -> ExitCode
-    ensures { exit_status result ≡ refused_status refused status }
+/// Ends after standard output has refused a write: quietly if its reader is gone, else with its fault and
+/// this status.
+pub fn output_fails<R: Print + Eprint>(rt: &R, status: u8) -> ExitCode
+    ensures { (exit_status result ≡ status) ⊎ (exit_status result ≡ 141) }
 {
-    match refused {
-        Wrote::Closed => ExitCode::from(refused.status(status)),
-        Wrote::All | Wrote::Failed => fails(rt, Fault::Output, status),
+    match output_status(rt) {
+        Some(status) => ExitCode::from(status),
+        None => fails(rt, Fault::Output, status),
     }
 }
 

@@ -5,8 +5,7 @@
 //! fill_standard_streams(rt);                           // before anything is opened
 //! let status = fails(rt, Fault::NoNode, 1);            // prints `tokentree: id NoNode`
 //! let status = fault_status(true);                     // 125: `lock` keeps 1 for its command
-//! let wrote = print_help(rt, &error);                  // Wrote::Closed if the reader is gone
-//! let status = shows(rt, &error, wrote, false, None);  // 0, 1 or 141 for help, 2 for a refused line
+//! let status = shows(rt, &error, false, Some("bound")); // 0 for help, 2 for a refused line
 //! ```
 //!
 //! The trap: what standard error does not take is left out; the status is the same.
@@ -19,7 +18,7 @@ mod path_fault_line;
 mod streams;
 
 pub use arguments::own_words;
-pub use ends::{LINE_REFUSED, fails, fault_status, output_fails, print_help, shows, write_ends};
+pub use ends::{LINE_REFUSED, fails, fault_status, output_fails, shows};
 pub use fault_line::FaultLine;
 pub use path_fault_line::PathFaultLine;
 pub use streams::fill_standard_streams;

@@ -1,4 +1,4 @@
-use Rattle.std.proofs.Common.{◌≡◌, ap}
+use Rattle.std.proofs.Common.{ap}
 use Rattle.lock_command.proofs.Driven.{IsUnderWay, RunsAt, steps, closes, runs_on, runs_over}
 use Rattle.lock_command.proofs.driver.drive.Goals as goal
 

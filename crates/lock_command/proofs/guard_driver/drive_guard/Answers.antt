@@ -1,4 +1,4 @@
-use Rattle.std.proofs.Common.{◌≡◌, ap, refl}
+use Rattle.std.proofs.Common.{ap, refl}
 use Rattle.lock_command.proofs.GuardDriven.{IsOnGuard, watches, ends}
 use Rattle.lock_command.proofs.guard_driver.drive_guard.Goals as goal
 
