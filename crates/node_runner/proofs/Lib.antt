@@ -9,3 +9,4 @@ pub mod PortLists
 pub mod PortDeeds
 pub mod Rounds
 mod RowsRounds
+mod RowsDeeds

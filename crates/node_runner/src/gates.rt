@@ -1,4 +1,5 @@
 //! What holds nodes back at their turns.
+ghost use Rattle.std.specs.Prelude.{◌≡◌};
 
 use std::sync::atomic::{AtomicBool, AtomicU64, Ordering};
 use std::thread;
@@ -24,7 +25,7 @@ impl Gate for Open {
     fn after(&self, _node: u16, _turn: u32) {}
 }
 
-/// How often a gate looks, in one call, before it gives up.
+/// How often a gate looks, in one call, before it gives up, if nothing else is said.
 const POLLS: u32 = 100_000_000;
 
 /// After how many looks a waiting thread lets others run.
@@ -36,13 +37,18 @@ const POLLS_A_YIELD: u32 = 16;
 struct Rally {
     count: AtomicU64,
     gave_up: AtomicBool,
+    /// How often a wait looks before it was in vain.
+    polls: u32,
 }
 
 impl Rally {
-    fn new() -> Rally {
+    fn new(polls: u32) -> Rally
+        ensures { result.polls ≡ polls }
+    {
         Rally {
             count: AtomicU64::new(0),
             gave_up: AtomicBool::new(false),
+            polls,
         }
     }
 
@@ -62,7 +68,7 @@ impl Rally {
 
     /// Waits until as many are counted.
     fn wait_for(&self, wanted: u64) {
-        for poll in 0..POLLS {
+        for poll in 0..self.polls {
             if self.is_over(wanted) {
                 return;
             }
@@ -75,7 +81,7 @@ impl Rally {
 }
 
 /// Holds each node before its first turn until every node stands there, so that all run at the same
-/// time. It gives up after 100,000,000 looks.
+/// time. It gives up after 100,000,000 looks, or as many as it is given.
 #[derive(Drop)]
 pub struct Meet {
     nodes: u16,
@@ -84,10 +90,19 @@ pub struct Meet {
 
 impl Meet {
     /// A gate for as many nodes. It takes no memory.
-    pub fn new(nodes: u16) -> Meet {
+    pub fn new(nodes: u16) -> Meet
+        ensures { (result.nodes ≡ nodes) × (result.here.polls ≡ 100000000) }
+    {
+        Meet::within(nodes, POLLS)
+    }
+
+    /// The same, which gives up after as many looks.
+    pub fn within(nodes: u16, polls: u32) -> Meet
+        ensures { (result.nodes ≡ nodes) × (result.here.polls ≡ polls) }
+    {
         Meet {
             nodes,
-            here: Rally::new(),
+            here: Rally::new(polls),
         }
     }
 
@@ -109,7 +124,7 @@ impl Gate for Meet {
 }
 
 /// Holds each node before a turn until every node has done the turn before, so that no node is more
-/// than one turn ahead of another. It gives up after 100,000,000 looks.
+/// than one turn ahead of another. It gives up after 100,000,000 looks, or as many as it is given.
 #[derive(Drop)]
 pub struct Pace {
     nodes: u16,
@@ -118,10 +133,19 @@ pub struct Pace {
 
 impl Pace {
     /// A gate for as many nodes. It takes no memory.
-    pub fn new(nodes: u16) -> Pace {
+    pub fn new(nodes: u16) -> Pace
+        ensures { (result.nodes ≡ nodes) × (result.done.polls ≡ 100000000) }
+    {
+        Pace::within(nodes, POLLS)
+    }
+
+    /// The same, which gives up after as many looks.
+    pub fn within(nodes: u16, polls: u32) -> Pace
+        ensures { (result.nodes ≡ nodes) × (result.done.polls ≡ polls) }
+    {
         Pace {
             nodes,
-            done: Rally::new(),
+            done: Rally::new(polls),
         }
     }
 
