@@ -5,4 +5,5 @@ pub mod Plans
 pub mod Steps
 pub mod Stretches
 pub mod Watching
-mod RowsMeasured
+pub mod RowsMeasured
+mod RowsScheduled

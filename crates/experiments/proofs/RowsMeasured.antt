@@ -62,7 +62,7 @@ stretch-round : (g : Lcg) → stretch_of scheduler.Rounds two_nodes g ≡ (Tick 
 stretch-round g = refl
 
 -- node 1 lends to ticket 7
-abbrev lending : World
+abbrev pub lending : World
 lending = with_desk start 1 (record { waiting = 8 ∷ []; lent = Some 7; left = 0; served = false })
 
 -- whoever has the lock gives it back, and who waits does not leave
@@ -152,7 +152,7 @@ front-serves : (front back : List Event) → [] ≡ front ++ back → IsServing 
 front-serves [] back parts = calm-serves
 front-serves (e ∷ front) back parts = grind (arith, parts)
 
-last_not-now : (sweeps : ℕ) → ¬ FailedLast calm [] (Some sweeps)
+pub last_not-now : (sweeps : ℕ) → ¬ FailedLast calm [] (Some sweeps)
 last_not-now sweeps failed = failed.fails (front-serves failed.front failed.back failed.parts)
 
 abbrev recovery : ℕ → ℕ → Recovery
