@@ -1,4 +1,4 @@
--- Small examples of what is told and written, and some that look like them and are none.
+-- Small examples of what is reported and written, and some that look like them and are none.
 use Rattle.std.proofs.Common.{◌≡◌, ◌≢◌, ℕ, List, [], ◌∷◌, Option, Some, None, Ok, Err, codes, decimal, refl, inl, inr, arith}
 use Rattle.std.proofs.lemmas.Fmt.{decimal_digit}
 use Rattle.topology.specs.Network.{Network}
@@ -68,7 +68,7 @@ tells_not-output = grind arith
 tells-path : path_fault_text (path.Fault fault.Threads) ≡ codes "threads Refused"
 tells-path = refl
 
--- each fault of a simulation is told as its own
+-- each fault of a simulation is reported as its own
 told-read : fault_of simulation.Read ≡ fault.EventsUnreadable
 told-read = refl
 
@@ -83,14 +83,14 @@ told_not-write = grind arith
 abbrev start : World
 start = default_world (record { nodes = 2; root = 0; capacity = 1; lease = 0; edges = (0, 1) ∷ [] })
 
--- output that is refused once all is simulated is told as output
+-- output that is refused once all is simulated is reported as output
 tells-output : (summary : Summary) → IsToldAs (Ok summary) fault.Output
 tells-output summary = refl
 
 tells_not-long : (summary : Summary) → ¬ IsToldAs (Ok summary) fault.EventsLong
 tells_not-long summary told = grind (arith, told)
 
--- where memory is refused nothing is read or written, and memory is told
+-- where memory is refused nothing is read or written, and memory is reported
 fails-memory : IsFailed start (codes "tick 0") (Some (codes "tick 0")) (Some []) (Some []) fault.Memory
 fails-memory = record { answer = Err simulation.Memory; simulated = (refl, refl); cause = refl }
 

@@ -1,4 +1,4 @@
--- How a fault of the program is told.
+-- How a fault of the program is reported.
 use Rattle.std.specs.Prelude.{ℕ, List, ◌++◌, codes}
 use Rattle.network_file.specs.FaultText.{network_fault_text}
 use Rattle.command_parts.specs.declared.fault.Fault.{Fault}

@@ -1,4 +1,4 @@
--- How a fault of a command that changes a file is told.
+-- How a fault of a command that changes a file is reported.
 use Rattle.std.specs.Prelude.{ℕ, List, ◌++◌, codes}
 use Rattle.command_parts.specs.FaultText.{fault_text}
 use Rattle.command_parts.specs.declared.path_fault.PathFault.{PathFault}

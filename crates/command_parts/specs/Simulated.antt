@@ -9,20 +9,20 @@ use Rattle.command_parts.specs.declared.fault.Fault.{Fault}
 use Rattle.command_parts.specs.declared.fault.Fault.TheVariants.{EventsUnreadable, Output}
 use Rattle.command_parts.specs.SimulationFault.{fault_of}
 
--- a simulation's fault is told as its own fault of the program; one that is done, as output that
+-- a simulation's fault is reported as its own fault of the program; one that is done, as output that
 -- was refused
 abbrev pub IsToldAs : Result Summary SimFault → Fault → Type 0
 IsToldAs (Ok _) told = told ≡ Output
 IsToldAs (Err fault) told = told ≡ fault_of fault
 
--- Something was simulated, and its fault is told, or that its output was refused.
+-- Something was simulated, and its fault is reported, or that its output was refused.
 pub record IsFailed (start : World) (bytes : List ℕ) (rest before after : Option (List ℕ))
     (told : Fault) : Type 0 where
   pub answer : Result Summary SimFault
   pub simulated : IsSimulated start bytes rest before after answer
   pub cause : IsToldAs answer told
 
--- these bytes were simulated, and the summary is the simulation's; or a fault is told
+-- these bytes were simulated, and the summary is the simulation's; or a fault is reported
 abbrev pub IsDone : World → List ℕ → Option (List ℕ) → Option (List ℕ) → Option (List ℕ)
     → Result Summary Fault → Type 0
 IsDone start bytes rest before after (Ok summary) =

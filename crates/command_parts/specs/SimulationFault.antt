@@ -1,4 +1,4 @@
--- As which fault of the program a simulation's fault is told.
+-- As which fault of the program a simulation's fault is reported.
 use Rattle.command_parts.specs.declared.fault.Fault.{Fault}
 use Rattle.command_parts.specs.declared.fault.Fault.TheVariants.{EventsUnreadable, EventsLong, Memory, Output}
 use Rattle.world.specs.declared.simulation.SimFault.{SimFault}

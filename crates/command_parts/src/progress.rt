@@ -1,4 +1,4 @@
-//! A line on standard error that tells how far a long command has come.
+//! A line on standard error that shows how far a long command has come.
 use std::sync::atomic::{AtomicU64, Ordering};
 use std::time::{Clock, Instant};
 

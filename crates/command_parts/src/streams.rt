@@ -1,7 +1,7 @@
 //! Readers and writers as the ends of a simulation.
 //!
 //! Std's readers and writers may tell their bytes to contracts (`remaining`, `contents`). A file
-//! tells nothing of them, so neither do these ends; but each of their calls says what it read of
+//! says nothing of them, so neither do these ends; but each of their calls says what it read of
 //! such a reader, or wrote to such a writer.
 ghost use Rattle.std.specs.Prelude.{◌≡◌, ◌≤◌, ℕ, List, [], None, OnOk, length};
 ghost use Rattle.std.specs.Io.Buffered.{writer_buffer, writer_contents};
@@ -40,7 +40,7 @@ impl<R: Read> Source for ReadSource<R> {
     fn read(&mut self, buffer: &mut [u8]) -> Result<usize, Failed>
         ensures len { length buffer.new ≡ length buffer.old }
         ensures reads { Reads result None None buffer.new self.old.failures self.new.failures }
-        // What it gave is what the reader gave, where the reader tells.
+        // What it gave is what the reader gave, if the reader says it.
         ensures bytes { ReadConsumes (R.remaining self.old.reader)
             (R.remaining self.new.reader) result buffer.new }
     {
@@ -96,7 +96,7 @@ impl<W: Write + Drop> Flush for WriteSink<W> {
 
     fn flush(&mut self) -> Result<(), Failed>
         ensures written { OnOk result (writer_buffer self.new.writer ≡ []) }
-        // The writer and its buffer hold the same bytes as before, where the writer tells.
+        // The writer and its buffer hold the same bytes as before, if the writer says them.
         ensures bytes { Keeps (writer_contents W.contents self.old.writer)
             (writer_contents W.contents self.new.writer) }
         ensures cause { CountsFailures result self.old.failures self.new.failures }
@@ -115,7 +115,7 @@ impl<W: Write + Drop> Sink for WriteSink<W> {
 
     fn write(&mut self, bytes: &[u8]) -> Result<usize, Failed>
         ensures writes { Writes result bytes.now None None self.old.failures self.new.failures }
-        // All bytes stand behind those before, in the writer or in its buffer.
+        // All bytes stand after those before, in the writer or in its buffer.
         ensures all { OnOk result
             (Appends (writer_contents W.contents self.old.writer)
             (writer_contents W.contents self.new.writer) bytes.now) }

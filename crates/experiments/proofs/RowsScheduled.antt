@@ -94,7 +94,7 @@ scrambles_not-start = grind arith
 
 -- ---- watched runs
 
--- behind an event that is refused all is as before
+-- after an event that is refused all is as before
 serves-behind : ServesBehindEach calm (Tick 2 ∷ [])
 serves-behind = (calm-serves, tt)
 

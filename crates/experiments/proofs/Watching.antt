@@ -22,7 +22,7 @@ pub serves-more : (w : World) (es : List Event) (e : Event) → ServesBehindEach
 serves-more w [] e each last = (last, tt)
 serves-more w (x ∷ es) e each last = (each.0, serves-more (step w x) es e each.1 last)
 
--- the failure is the last one still where the network serves behind one more event
+-- the failure is the last one still where the network serves after one more event
 failure-stays : (start : World) (es : List Event) (e : Event) (sweeps : ℕ) → IsLastFailure start es sweeps → IsServing (run start (es ++ e ∷ []))
     → IsLastFailure start (es ++ e ∷ []) sweeps
 failure-stays start es e sweeps f serves =

@@ -1,4 +1,4 @@
--- Behind how many sweeps a run serves.
+-- After how many sweeps a run serves.
 use Rattle.std.specs.Prelude.{◌≡◌, ℕ, ◌+◌, List, [], ◌∷◌, ◌++◌, Option, Some, None, ◌⊎◌}
 use Rattle.run_model.specs.World.{World}
 use Rattle.run_model.specs.Step.{step}
@@ -15,12 +15,12 @@ pub record WatchView : Type 0 where
   pub judge : JudgeView
   pub last : Option ℕ
 
--- the network serves behind each of these events
+-- the network serves after each of these events
 abbrev pub ServesBehindEach : World → List Event → Type 0
 ServesBehindEach w [] = Unit {0}
 ServesBehindEach w (e ∷ es) = IsServing (step w e) × ServesBehindEach (step w e) es
 
--- The run failed to serve behind these first events, among which there were that many sweeps, and
+-- The run failed to serve after these first events, among which there were that many sweeps, and
 -- not any more from then on.
 pub record IsLastFailure (start : World) (es : List Event) (sweeps : ℕ) : Type 0 where
   pub front : List Event

@@ -1,15 +1,15 @@
 //! Experiments: how fast a network recovers in fact, beside what the theorem allows.
 //!
-//! A [`Watch`] lets events happen, one by one, and keeps behind how many sweeps the network has
+//! A [`Watch`] lets events happen, one by one, and keeps after how many sweeps the network has
 //! served ever since. [`measure_run`] watches one run: a world that is scrambled by a seed, and a
-//! schedule up to the sharper bound. [`summary_of`] tells the least, the median and the most of many.
+//! schedule up to the sharper bound. [`summary_of`] gives the least, the median and the most of many.
 //!
 //! ```
 //! let run = measure_run(alloc, &net, Scheduler::Rounds, 7)?;
-//! // behind run.sweeps sweeps it served; there were run.seen of them
+//! // after run.sweeps sweeps it served; there were run.seen of them
 //! ```
 //!
-//! The trap: a loan that the scramble wrote has no client who would ever give the lock back. Behind
+//! The trap: a loan that the scramble wrote has no client who would ever give the lock back. After
 //! each round the experiment gives it back in that client's name, since a network without a lease
 //! would else wait for ever.
 #![tactic(auto)]

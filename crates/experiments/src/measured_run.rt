@@ -32,7 +32,7 @@ pub enum Scheduler {
 pub struct Recovery {
     /// The seed that it was made of.
     pub seed: u64,
-    /// Behind how many sweeps the network served at each moment of the run.
+    /// After how many sweeps the network served at each moment of the run.
     pub sweeps: u64,
     /// How many sweeps there were.
     pub seen: u64,
@@ -50,7 +50,7 @@ const PLAIN: Chances = Chances {
 
 /// Scrambles a world by a seed, and lets the scheduler's events happen until there have been as
 /// many sweeps as the sharper bound says, or 1000 stretches for each of them. A stretch is a round,
-/// or as many random steps as there are nodes and four times the edges; behind it, whoever has the
+/// or as many random steps as there are nodes and four times the edges; after it, whoever has the
 /// lock gives it back.
 ///
 /// # Errors

@@ -12,7 +12,7 @@ pub struct Summary {
     pub most: u64,
 }
 
-/// Sorts the numbers, and tells the least, the median and the most of them; none where there is no
+/// Sorts the numbers, and gives the least, the median and the most of them; none if there is no
 /// number.
 pub fn summary_of(numbers: &mut [u64]) -> Option<Summary>
     ensures { IsSummaryOf numbers.old result }

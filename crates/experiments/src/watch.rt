@@ -69,7 +69,7 @@ impl<A: Allocator + Copy> Watch<A> {
         self.judge.sweeps()
     }
 
-    /// Behind how many sweeps the network has served at every moment: the least such number.
+    /// After how many sweeps the network has served at every moment: the least such number.
     pub fn served_behind(&self) -> u64
         ensures { result ≡ counted_from self.now.last }
     {
@@ -95,7 +95,7 @@ impl<A: Allocator + Copy> EventSink for Watch<A> {
     ghost failures = { λ w. 0 };
 
     /// It never fails. The whole network is looked at only where the node that the event touches
-    /// looks otherwise behind it, and at harms.
+    /// looks otherwise after it, and at harms.
     fn take(&mut self, event: &Event) -> Result<(), Failed>
         ensures taken { GoesOn self.old.judge self.old.last (event.now ∷ []) self.new.judge
             self.new.last }

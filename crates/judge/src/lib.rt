@@ -17,7 +17,7 @@
 //!
 //! What a number of sweeps leads to is said where the theorem is known: by the crate `world`.
 //!
-//! Who runs the nodes by other means, as on threads, takes a world apart, and puts it together
+//! Whoever runs the nodes by other means, as on threads, takes a world apart, and puts it together
 //! again:
 //!
 //! ```

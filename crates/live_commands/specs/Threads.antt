@@ -26,7 +26,7 @@ pub record IsStateWritten (start : World) (events : List Event) (last : World) (
   pub counted : IsSweepCount start events count
   pub text : Takes (state_text last (counted_up_to count)) before after
 
--- as which fault of the program it is told that nodes cannot run on threads
+-- as which fault of the program it is reported that nodes cannot run on threads
 abbrev pub refused : RunFault → Fault
 refused (MemoryRefused _) = Memory
 refused (Spawn _) = Threads

@@ -29,7 +29,7 @@ pub struct Wanted {
 /// network of a file, as SVG 1.1.
 ///
 /// What is unproved: that the events of a file are the bytes that were read, and that the picture
-/// stands in standard output; neither tells its bytes.
+/// stands in standard output; neither says what its bytes are.
 ///
 /// # Errors
 /// Where no network is read of the file, the events cannot be read or are too long, memory runs

@@ -34,7 +34,7 @@ use world::{Event, World};
 /// Lets each node of the network of a file do its turns on a thread of its own, from nodes as they
 /// start and empty links on, and prints the state that they lead to, with the sweeps of what they
 /// did. What they did is written to the file `events`, where one is named, as an events text. Where
-/// `tells` says so, a line of standard error tells meanwhile how far they are.
+/// `tells` says so, a line of standard error shows meanwhile how far they are.
 ///
 /// # Errors
 /// Where no network is read of the file, memory runs out, a thread is refused, the events cannot be
@@ -54,7 +54,7 @@ pub fn run<R: Files + Clock + Print + Eprint + Threads + Wait + Sync + AllocGlob
     show(rt, start, &woven, events)
 }
 
-/// What the nodes of a network do on threads, with a line that tells how far they are if wanted.
+/// What the nodes of a network do on threads, with a line that shows how far they are if wanted.
 fn run_watched<R: Clock + Eprint + Threads + Wait + Sync + AllocGlobal>(
     rt: &R,
     net: &Net,
@@ -127,7 +127,7 @@ fn refused(fault: &RunFault) -> Fault
 
 /// Writes the events text of what nodes did to a file, line by line.
 ///
-/// What is unproved: that the text stands in the file, which tells nothing of its bytes.
+/// What is unproved: that the text stands in the file, which says nothing of its bytes.
 fn write_file<R: Files + AllocGlobal>(rt: &R, path: &str, events: &[Event]) -> Result<(), Fault>
     ensures { IfErr result IsUnwritten }
 {
@@ -140,7 +140,7 @@ fn write_file<R: Files + AllocGlobal>(rt: &R, path: &str, events: &[Event]) -> R
 
 /// Writes the line of each event, and sees to it that all of them are written.
 fn write_events<W: Write + Drop>(events: &[Event], text: &mut EventText<W>) -> Result<(), Fault>
-    // Where the writer tells its bytes, they are the text.
+    // If the writer says what its bytes are, they are the text.
     ensures text { OnOk result (GrowsByText (writer_contents W.contents text.old.writer) events.now
         (writer_contents W.contents text.new.writer)) }
     ensures written { OnOk result (writer_buffer text.new.writer ≡ []) }
@@ -173,7 +173,7 @@ fn give_events<S: EventSink>(events: &[Event], sink: &mut S) -> Result<(), Faile
 
 /// Prints the state to which nodes have led a start.
 ///
-/// What is unproved: that the text stands in standard output, which tells nothing of its bytes.
+/// What is unproved: that the text stands in standard output, which says nothing of its bytes.
 fn print_state<R: Print + AllocGlobal>(rt: &R, start: World, woven: &Woven) -> Result<(), Fault>
     ensures { IfErr result IsUnwritten }
 {

@@ -26,7 +26,7 @@ pub enum Fate {
     NoCommand,
 }
 
-/// What is told on standard error, in one line each. Printed, it is that line behind the program's
+/// What is said on standard error, in one line each. Printed, it is that line after the program's
 /// name.
 #[derive(Clone, Copy, Debug, PartialEq, Eq, Drop)]
 pub enum Notice<'a> {

@@ -105,7 +105,7 @@ impl Waiter {
         self.input = Watch::after(registered.is_ok());
     }
 
-    /// Whether standard input has something to read, or has ended. Who asks reads it once.
+    /// Whether standard input has something to read, or has ended. Whoever asks reads it once.
     pub fn takes_input(&mut self) -> bool
         ensures takes { result ≡ has_input self.old.input }
         ensures after { IsTaken self.old.input self.new.input }

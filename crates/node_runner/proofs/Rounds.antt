@@ -1,4 +1,4 @@
--- What a node does, one thing behind the other.
+-- What a node does, one thing after the other.
 use Rattle.std.proofs.Common.{◌≡◌, ◌⊎◌, inl, inr, ℕ, zero, suc, ◌+◌, ◌*◌, ◌<◌, ◌≤◌, min, IsTrue, List, [], ◌∷◌, ◌++◌, All, length, ap, refl, sym, subst, ◌∙◌, arith, append_assoc, append-nil, slice_index_or, length-append, take}
 use Rattle.std.proofs.lemmas.Grind.{common_steps}
 use Rattle.std.proofs.lemmas.List.Elements.{All-push}
@@ -122,7 +122,7 @@ mul-step n k a b some one = grind arith
 
 -- ---- what is due
 
--- more deeds behind leave what was sent and taken
+-- more deeds after leave what was sent and taken
 more-sent : (u n : ℕ) (ds es : List Note) → n < length (sent_to u ds) → n < length (sent_to u (ds ++ es))
 more-sent u n ds es some = let a = ap length (sent-on u ds es) in let b = length-append (sent_to u ds) (sent_to u es) in omega (arith, a, b, some)
 

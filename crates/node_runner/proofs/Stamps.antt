@@ -13,7 +13,7 @@ above-push [] (b ∷ ys) x y all same later = absurd (omega (arith, same))
 above-push (a ∷ xs) [] x y all same later = absurd (omega (arith, same))
 above-push (a ∷ xs) (b ∷ ys) x y all same later = (all.0, above-push xs ys x y all.1 (omega (arith, same)) later)
 
--- what stands behind the second list does not matter
+-- what stands after the second list does not matter
 pub above-longer : (xs ys zs : List ℕ) → AreAbove xs ys → AreAbove xs (ys ++ zs)
 above-longer [] ys zs all = tt
 above-longer (x ∷ xs) [] zs all = absurd all

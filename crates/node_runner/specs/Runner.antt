@@ -12,14 +12,14 @@ use Rattle.node_runner.specs.declared.runner.Runner.{Runner}
 use Rattle.node_runner.specs.Stamps.{last_stamp}
 use Rattle.node_runner.specs.Ports.{IsSender, IsReceiver, SameOutgoing, SameIncoming}
 
--- The ends of v's links to and from a neighbour have seen what the account tells, in a run that
+-- The ends of v's links to and from a neighbour have seen what the account says, in a run that
 -- began with this world.
 abbrev pub IsPortTold : {A : Type 0} → World → ℕ → List Note → Port A → Type 0
 IsPortTold w v account p =
     IsSender w.net.capacity (w.link v p.neighbour) (sent_to p.neighbour account) p.outgoing
     × IsReceiver w.net.capacity (length (w.link p.neighbour v)) (taken_from p.neighbour account) p.incoming
 
--- The account tells all that v did since it was as in this world: its journal has the entries, with
+-- The account says all that v did since it was as in this world: its journal has the entries, with
 -- stamps that rise and are not above its clock, its state is where the account leads, and the ends
 -- of its links have seen it.
 pub record IsTold {A : Type 0} (w : World) (v : ℕ) (account : List Note) (r : Runner A) : Type 0 where
@@ -54,7 +54,7 @@ abbrev pub AreSamePorts : {A : Type 0} → List (Port A) → List (Port A) → T
 AreSamePorts {A} ps qs = (length qs ≡ length ps) × ((k : ℕ) (d : Port A) → k < length ps → IsSamePort (slice_index_or ps k d) (slice_index_or qs k d))
 
 -- Between two moments a node did this: whatever account told of it before, with this after it
--- tells of it now. An entry was made for each note, in the room that was there.
+-- says of it now. An entry was made for each note, in the room that was there.
 pub record Does {A : Type 0} (notes : List Note) (old new : Runner A) : Type 0 where
   pub told : (w : World) (v : ℕ) (past : List Note) → IsTold w v past old → IsTold w v (past ++ notes) new
   pub ready : IsReady new

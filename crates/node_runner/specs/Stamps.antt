@@ -11,7 +11,7 @@ last_stamp = 2 ^ 62
 abbrev pub last_place : ℕ
 last_place = 2 ^ 61
 
--- the stamp of an event behind two others, unless it is above the last one
+-- the stamp of an event after two others, unless it is above the last one
 abbrev pub stamp_behind : ℕ → ℕ → Option ℕ
 stamp_behind a b = if nat_lt (max a b) last_stamp then Some (max a b + 1) else None
 

@@ -4,7 +4,7 @@ ghost use Rattle.std.specs.Prelude.{◌≡◌};
 use std::sync::atomic::{AtomicBool, AtomicU64, Ordering};
 use std::thread;
 
-/// Holds each node back before and behind each of its turns, for as long as it likes. Nothing is
+/// Holds each node back before and after each of its turns, for as long as it likes. Nothing is
 /// claimed of a gate but that its calls return: what nodes do is a run whatever the gate does, and
 /// a gate decides only how far one thread may be ahead of another.
 pub trait Gate: Sync {

@@ -37,7 +37,7 @@ impl Protocol<u64> for StampBound {
     ghost allows = { λ before x. x ≤ last_place };
 }
 
-/// The stamp of an event behind two others; none where it would be above 2^62.
+/// The stamp of an event after two others; none where it would be above 2^62.
 fn stamp_behind(one: u64, other: u64) -> Option<u64>
     ensures { result ≡ stamp_behind one other }
 {

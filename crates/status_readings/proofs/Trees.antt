@@ -11,7 +11,7 @@ pub below-at : (all : List NodeAnswer) (left : ℕ) (answer : NodeAnswer) → 1 
 below-at all zero answer some = absurd (omega (arith, some))
 below-at all (suc left) answer some = let e : suc left - 1 ≡ left = omega arith in rw e refl
 
--- what was there with that row behind it, and the rows of the children, are all
+-- what was there with that row after it, and the rows of the children, are all
 pub begun : (old new : List Row) (all : List NodeAnswer) (left : ℕ) (answer : NodeAnswer) (depth : ℕ) → 1 ≤ left
     → depth ≡ length all - left → new ≡ old ++ ((record { depth = depth; answer = answer }) ∷ [])
     → old ++ below all left answer ≡ new ++ child_rows (below all (left - 1)) answer.node all

@@ -10,7 +10,7 @@ use Rattle.experiments.specs.Summary.{IsSummaryOf}
 use Rattle.subcommands.specs.Bound.{number_line}
 use Rattle.subcommands.specs.declared.measure.Plan.{Plan}
 
--- a run had as many sweeps as the bound says, and served behind that many of them
+-- a run had as many sweeps as the bound says, and served after that many of them
 abbrev pub has_served : Recovery → ℕ → Bool
 has_served r bound = nat_le bound r.seen && nat_le r.sweeps bound
 
@@ -29,7 +29,7 @@ abbrev pub run_lines : ℕ → Bool → List Recovery → List ℕ
 run_lines bound table [] = []
 run_lines bound table (r ∷ rs) = shown_line bound table r ++ run_lines bound table rs
 
--- behind how many sweeps those runs served that did
+-- after how many sweeps those runs served that did
 abbrev pub served_sweeps : List Recovery → ℕ → List ℕ
 served_sweeps [] bound = []
 served_sweeps (r ∷ rs) bound = if has_served r bound then r.sweeps ∷ served_sweeps rs bound else served_sweeps rs bound

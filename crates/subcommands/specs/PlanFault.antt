@@ -1,4 +1,4 @@
--- As which fault of the program a schedule's fault is told.
+-- As which fault of the program a schedule's fault is reported.
 use Rattle.experiments.specs.declared.plan.PlanFault.{PlanFault}
 use Rattle.experiments.specs.declared.plan.PlanFault.TheVariants.{Memory as MemoryRefused, Sink}
 use Rattle.command_parts.specs.declared.fault.Fault.{Fault}

@@ -25,7 +25,7 @@ pub fn run<'a, R: Files>(rt: &R, path: &'a str, most: u32) -> Result<ExitCode, P
     }
 }
 
-/// Shortens a file, whose bytes are not read. What a file holds is told to no contract, so this has
+/// Shortens a file, whose bytes are not read. No contract says what a file holds, so this has
 /// none; tests look at the files.
 fn shorten<R: Files>(rt: &R, path: &str, most: u64) -> io::Result<()> {
     if !fs::metadata(rt, path)?.is_file() {

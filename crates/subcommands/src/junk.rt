@@ -31,7 +31,7 @@ pub fn run<R: Print + AllocGlobal>(rt: &R, seed: u32, lines: u32) -> Result<Exit
 
 /// Writes that many lines of junk, all of them.
 ///
-/// What is unproved: that the text stands in standard output, which tells no bytes.
+/// What is unproved: that the text stands in standard output, which says nothing of its bytes.
 ///
 /// # Errors
 /// Where the sink fails.

@@ -13,13 +13,13 @@
 //! let status = scramble::run(rt, "two-nodes.toml", 1, "node-1.state", 7)?;
 //! let status = cut::run(rt, "node-1.state", 33)?;
 //! let status = junk::run(rt, 7, 10)?;
-//! // prints a scramble, and the events of 100 rounds behind it
+//! // prints a scramble, and the events of 100 rounds after it
 //! let status = schedule::run(rt, "two-nodes.toml", Some(7), Turns::Rounds(100))?;
-//! // prints behind how many sweeps 1000 scrambled worlds served
+//! // prints after how many sweeps 1000 scrambled worlds served
 //! let status = measure::run(rt, "two-nodes.toml", &plan)?;
 //! ```
 //!
-//! The trap: what was printed before a fault stays printed; `simulate` tells the refused lines of
+//! The trap: what was printed before a fault stays printed; `simulate` names the refused lines of
 //! all that it had read.
 #![tactic(auto)]
 

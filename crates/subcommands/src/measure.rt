@@ -1,4 +1,4 @@
-//! `measure FILE`: behind how many sweeps scrambled worlds served.
+//! `measure FILE`: after how many sweeps scrambled worlds served.
 ghost use Rattle.std.specs.Prelude.{◌≡◌, ◌↔◌, ◌+◌, ◌++◌, ◌⊎◌, OnOk, IfOk, IfErr, IsOk, IsTrue};
 ghost use Rattle.std.specs.Prelude.{string_bytes, if◌then◌else◌};
 ghost use Rattle.std.specs.Process.{exit_status};
@@ -31,11 +31,11 @@ pub struct Plan {
     pub scheduler: Scheduler,
     /// Whether each run has a line.
     pub table: bool,
-    /// Whether it is told on standard error how many runs are done.
+    /// Whether standard error shows how many runs are done.
     pub progress: bool,
 }
 
-/// Prints behind how many sweeps the runs served.
+/// Prints after how many sweeps the runs served.
 ///
 /// # Errors
 /// Where no network is read of the file, memory runs out, or standard output does not take the
@@ -135,7 +135,7 @@ fn make_runs<R: Eprint + Clock + Threads + Sync>(
         .collect(rt, alloc)?
 }
 
-/// Whether a run had as many sweeps as the sharper bound says, and served behind that many of them.
+/// Whether a run had as many sweeps as the sharper bound says, and served after that many of them.
 pub fn has_served(run: &Recovery, bound: u32) -> bool
     ensures { result ≡ has_served run.now bound }
 {
@@ -212,7 +212,7 @@ fn push_shown(text: &mut String, run: &Recovery, bound: u32, table: bool) -> Res
     }
 }
 
-/// Adds the line of a run: its seed, and behind how many sweeps it served, or `none`.
+/// Adds the line of a run: its seed, and after how many sweeps it served, or `none`.
 fn push_run(text: &mut String, run: &Recovery, bound: u32) -> Result<(), AllocError>
     ensures { OnOk result (string_bytes text.new
         ≡ string_bytes text.old ++ run_line bound run.now) }
@@ -224,7 +224,7 @@ fn push_run(text: &mut String, run: &Recovery, bound: u32) -> Result<(), AllocEr
     }
 }
 
-/// The sweeps behind which those runs served that did.
+/// The sweeps after which those runs served that did.
 pub(crate) fn served_sweeps(
     alloc: Global,
     runs: &[Recovery],

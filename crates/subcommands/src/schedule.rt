@@ -79,7 +79,7 @@ fn fault_of(fault: PlanFault) -> Fault
 /// Prints the events text of a schedule for the network of a file: the harms of a scramble by a
 /// seed, where one is given, and then its turns.
 ///
-/// What is unproved: that the text stands in standard output, which tells nothing of its bytes.
+/// What is unproved: that the text stands in standard output, which says nothing of its bytes.
 ///
 /// # Errors
 /// Where no network is read of the file, memory runs out, or standard output does not take the
@@ -114,7 +114,7 @@ pub fn write_plan<W: Write + Drop>(
     turns: Turns,
     text: &mut EventText<W>,
 ) -> Result<(), Fault>
-    // Where the writer tells its bytes, they are the text.
+    // If the writer says what its bytes are, they are the text.
     ensures text { OnOk result (GrowsByText (writer_contents W.contents text.old.writer)
         (planned net.now (option_map seeded scramble) (order_of turns))
         (writer_contents W.contents text.new.writer)) }

@@ -5,7 +5,7 @@ use Rattle.link_model.specs.declared.item.Item.{Item}
 use Rattle.node_runner.specs.declared.runner.Port.{Port}
 use Rattle.thread_net.specs.Cables.{AreCabled, ids_in, row, reach, rows_reach, neighbours_below, left_between, port_to, IsFlushedBetween, AreSettleable}
 
--- the pair of a and the greater b is that of u and v, or comes behind it
+-- the pair of a and the greater b is that of u and v, or comes after it
 abbrev pub is_from : ℕ → ℕ → ℕ → ℕ → Bool
 is_from u v a b = nat_lt u a || ((a == u) && nat_le v b)
 

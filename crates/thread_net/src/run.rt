@@ -115,7 +115,7 @@ pub fn prepare_world<A: Allocator + Copy>(
 
 /// Runs each node of a world on a thread of its own, as many turns each, and waits for all. A turn
 /// is a tick, then to each neighbour at most one send, then from each at most two takes; the gate
-/// holds a node before and behind each. What the nodes did, in one list, is a run from the world
+/// holds a node before and after each. What the nodes did, in one list, is a run from the world
 /// handed in to the one that comes back, whatever the scheduler did.
 ///
 /// All memory is taken before the first thread starts, but what the start of a thread takes.

@@ -45,7 +45,7 @@ pub struct Listeners {
 /// Doors over three listening Unix sockets, and the addresses of all nodes. A wait ends as soon as
 /// anything comes.
 ///
-/// A poll tells of a socket once, when something new comes. So a listener is asked again until it
+/// A poll reports a socket once, when something new comes. So a listener is asked again until it
 /// has nobody more, and only then is a call left out.
 #[derive(Drop)]
 pub struct UnixDoors<'a, N> {

@@ -11,7 +11,7 @@
 //! is not known to contracts, so the functions that call it say little: that failures are counted,
 //! that an end is no `later`, and that the clock never goes back.
 //!
-//! The trap: a poll tells of a socket once, when something new comes.
+//! The trap: a poll reports a socket once, when something new comes.
 #![tactic(auto)]
 
 mod clock;

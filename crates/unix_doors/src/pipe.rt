@@ -10,7 +10,7 @@ use std::io::{self, ErrorKind, Read, Write};
 use std::os::fd::AsRawFd;
 
 /// A connection over a Unix socket, which never waits. It is closed where it is dropped. The bytes
-/// that a socket gives and takes are the system's, so it tells contracts nothing of them.
+/// that a socket gives and takes are the system's, so contracts say nothing of them.
 #[derive(Drop)]
 pub struct UnixPipe {
     stream: UnixStream,

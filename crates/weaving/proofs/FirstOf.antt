@@ -9,7 +9,7 @@ use Rattle.weaving.specs.declared.journal.Entry.{Entry}
 use Rattle.weaving.specs.Woven.{AreRising, Placed, IsNoLater, entries_of, IsWoven}
 use Rattle.weaving.proofs.Changed.{at-each, at-here, at-other}
 
--- what holds of the entries of a node holds of those behind the first
+-- what holds of the entries of a node holds of those after the first
 behind : (P : Placed → Type 0) (v : ℕ) (p : Placed) (ps : List Placed) → AllByRecursion (λ e. P (record { node = v; entry = e })) (entries_of v (p ∷ ps))
     → AllByRecursion (λ e. P (record { node = v; entry = e })) (entries_of v ps)
 behind P v p ps all = go (p.node == v) all where

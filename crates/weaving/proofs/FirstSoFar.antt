@@ -96,7 +96,7 @@ first-on xs n first [] is h = first-passes xs n first is h
 first-on xs n None (x ∷ later) is h = first-changes xs n None x later is tt h
 first-on xs n (Some (v, e)) (x ∷ later) is h = by-stamps xs n v e x later is h
 
--- what is behind k entries is one more entry, and what is behind k + 1
+-- what is after k entries is one more entry, and what is after k + 1
 pub drop-some : (k : ℕ) (es : List Entry) → k < length es → (x : Entry) × (drop k es ≡ x ∷ drop (suc k) es) × (slice_get es k ≡ Some x)
 drop-some k [] l = absurd (omega arith)
 drop-some zero (e ∷ es) l = (e, refl, refl)

@@ -14,7 +14,7 @@ entries-here p ps = grind (arith, common_steps)
 entries-there : (p : Placed) (ps : List Placed) (v : ℕ) → v ≢ p.node → entries_of v (p ∷ ps) ≡ entries_of v ps
 entries-there p ps v apart = grind (arith, common_steps)
 
--- none of those behind is earlier, a node's first among them
+-- none of those after is earlier, a node's first among them
 first-no-earlier : (q : Placed) (qs : List Placed) (v : ℕ) (e : Entry) (es : List Entry) → AllByRecursion (IsNoLater q) qs → entries_of v qs ≡ e ∷ es
     → IsNoLater q (record { node = v; entry = e })
 first-no-earlier q [] v e es all is = absurd cc

@@ -19,7 +19,7 @@ frame = after_tick 0 1 2
 abbrev noise : Stamped
 noise = record { stamp = 3; item = Noise }
 
--- ---- what a journal tells
+-- ---- what a journal says
 
 tells-send : entry_of 0 (Sent 1 frame) ≡ record { stamp = 2; event = Send 0 1 }
 tells-send = refl

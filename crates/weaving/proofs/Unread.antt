@@ -5,7 +5,7 @@ use Rattle.topology.specs.At.{at}
 use Rattle.weaving.specs.declared.journal.Entry.{Entry}
 use Rattle.weaving.specs.Journals.{journal_of, unread, entry_count}
 
--- what is behind the first of what is left
+-- what is after the first of what is left
 pub drop-behind : {X : Type 0} (k : ℕ) (xs : List X) (x : X) (rest : List X) → drop k xs ≡ x ∷ rest → drop (suc k) xs ≡ rest
 drop-behind zero [] x rest h = absurd cc
 drop-behind zero (y ∷ ys) x rest h = cc

@@ -19,7 +19,7 @@ pub data Note : Type 0 where
   Sent : ℕ → Stamped → Note
   Took : ℕ → Stamped → Note
 
--- the entry of v's journal that tells of a note
+-- the entry of v's journal for a note
 abbrev pub entry_of : ℕ → Note → Entry
 entry_of v (Ticked t) = record { stamp = t; event = Tick v }
 entry_of v (Sent u s) = record { stamp = s.stamp; event = Send v u }

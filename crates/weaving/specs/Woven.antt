@@ -19,7 +19,7 @@ abbrev pub IsNoLater : Placed → Placed → Type 0
 IsNoLater p q =
     (p.entry.stamp < q.entry.stamp) ⊎ ((p.entry.stamp ≡ q.entry.stamp) × (p.node ≤ q.node))
 
--- each comes no later than those behind it
+-- each comes no later than those after it
 abbrev pub AreOrdered : List Placed → Type 0
 AreOrdered [] = Unit {0}
 AreOrdered (p ∷ ps) = AllByRecursion (IsNoLater p) ps × AreOrdered ps

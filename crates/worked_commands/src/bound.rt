@@ -105,7 +105,7 @@ static SHARP: [Row<'static>; 3] = [
     (4, 1, &[(0, 1), (0, 2), (1, 3), (2, 3)], "sharp 71\n"),
 ];
 
-/// Whether a network is shown as these lines and those behind them.
+/// Whether a network is shown as these lines and those after them.
 fn shows(
     alloc: Global,
     net: &Net,

@@ -7,7 +7,7 @@ use std::{fs, io};
 use subcommands::cut::run;
 use test_parts::is_told;
 
-/// To how many bytes a file of six is cut, each time behind the one before, and what it holds then.
+/// To how many bytes a file of six is cut, each time after the one before, and what it holds then.
 const CUTS: [(u32, &str); 8] = [
     (1_000_000, "abcdef"),
     (7, "abcdef"),

@@ -12,7 +12,7 @@ use test_parts::{as_told, is_told};
 use topology::Net;
 use world::World;
 
-/// A run of a seed that served behind `sweeps` sweeps, of 35.
+/// A run of a seed that served after `sweeps` sweeps, of 35.
 macro_rules! run {
     ($seed:expr, $sweeps:expr) => {
         Recovery {
@@ -150,7 +150,7 @@ fn watch_of(alloc: Global, net: &Net) -> Result<Watch, Fail> {
     Ok(Watch::new(World::new(alloc, net)?))
 }
 
-/// How many sweeps there were in as many rounds of a network as they start, and behind how many of
+/// How many sweeps there were in as many rounds of a network as they start, and after how many of
 /// them it served.
 fn watched_in(alloc: Global, net: &Net, rounds: u64) -> Result<(u64, u64), Fail> {
     let mut watch = watch_of(alloc, net)?;
@@ -164,7 +164,7 @@ fn watched(alloc: Global, rounds: u64) -> Result<(u64, u64), Fail> {
     watched_in(alloc, &net, rounds)
 }
 
-/// How many rounds there were, how many sweeps, and behind how many of them two nodes served.
+/// How many rounds there were, how many sweeps, and after how many of them two nodes served.
 ///
 /// By hand: in the first round each node takes the other's first words, which say nothing; the first
 /// sweep ends with what node 0 takes. In the second node 1 takes the root's distance, which ends the
@@ -207,7 +207,7 @@ fn measured(alloc: Global, scheduler: Scheduler, seed: u64) -> Result<Recovery, 
     Ok(measure_run(alloc, &net, scheduler, seed)?)
 }
 
-/// Whether a run bears its seed, and had 35 sweeps at least, behind 35 of which at most it served.
+/// Whether a run bears its seed, and had 35 sweeps at least, after 35 of which at most it served.
 fn is_within(run: Recovery, seed: u64) -> bool {
     run.seed == seed && run.seen >= 35 && run.sweeps <= 35
 }

@@ -1,4 +1,4 @@
-//! The networks and the files that rows are told of.
+//! The networks and the files of the rows.
 use std::alloc::Global;
 use std::{fs, io};
 use topology::{Net, NetFault};

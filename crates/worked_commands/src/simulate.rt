@@ -108,7 +108,7 @@ fn simulates(
     Ok(answer == want && taken.as_slice() == text)
 }
 
-/// What three refused lines without a sweep are told as.
+/// How three refused lines without a sweep are reported.
 const THREE: Summary = Summary {
     refused: 3,
     sweeps: 0,
@@ -139,7 +139,7 @@ static FAILED: [Answer<'static>; 3] = [
     Answer::Bytes(b" 0\nTick 0"),
 ];
 
-/// What is told of the lines before the failure.
+/// What is said of the lines before the failure.
 const TOLD: &[u8] = b"line 1: NoNode\nline 2: NoLink\n";
 
 #[test]

@@ -29,7 +29,7 @@ const WITNESS: &str =
     "mkdir \"$0/witness\" || exit 9; echo taken >>\"$0/log\"; sleep 0.01; rmdir \"$0/witness\"";
 
 /// What a copy of this program does that is started with words: what the program does with them, and
-/// it tells the status.
+/// it says the status.
 #[test]
 fn acts_as_the_program(rt: HostRuntime) -> Result<(), Fail> {
     fill_standard_streams(&rt);
@@ -259,7 +259,7 @@ fn appears(rt: &HostRuntime, path: &str) -> Result<bool, Fail> {
     Ok(false)
 }
 
-/// How often a copy told that it ended well.
+/// How often a copy said that it ended well.
 fn good_ends(rt: &HostRuntime, child: Child) -> Result<usize, Fail> {
     let output = child.wait_with_output(rt.alloc())?;
     count_of(output.stdout.as_slice(), "status 0")
@@ -359,7 +359,7 @@ fn is_lost_with_its_node(rt: &HostRuntime, dir: &str, one: &mut Child) -> Result
     Ok(ends(rt, held, "status 122", told)? && is_held)
 }
 
-/// Who asks for node 1 misses it.
+/// Whoever asks for node 1 misses it.
 fn is_missed(rt: &HostRuntime, dir: &str) -> Result<bool, Fail> {
     let words = format!(in rt.alloc(); "tokentree\nstatus\n{dir}")?;
     let child = copy(rt, words.as_str(), "1")?;

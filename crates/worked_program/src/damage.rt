@@ -42,7 +42,7 @@ const ROWS: [(&str, u8); 29] = [
 const FILES: [(&str, &str); 1] = [("net.toml", TWO_NODES)];
 
 /// The place of the first command line that ends with another status, and how many bytes the state
-/// file has behind them all.
+/// file has after them all.
 fn does_damage<R: Runtime>(rt: &R) -> Result<(Option<usize>, u64), Fail> {
     let other = first_other_beside(rt, &FILES, &ROWS)?;
     let length = fs::metadata(rt, "one.state")?.len();

@@ -6,7 +6,7 @@ use std::alloc::AllocError;
 use std::test::Fail;
 use test_parts::is_told;
 
-/// What stands in front of a number and behind it; the most that the number may be, and one more;
+/// What stands in front of a number and after it; the most that the number may be, and one more;
 /// and the status of the line with the most.
 type Row = (&'static str, &'static str, &'static str, &'static str, u8);
 

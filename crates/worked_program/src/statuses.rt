@@ -197,7 +197,7 @@ fn first_other_refusal<R: Runtime>(rt: &R, rows: &[(&str, &str)]) -> Result<Opti
     Ok(None)
 }
 
-/// Tries those files, one behind the other in the same place.
+/// Tries those files, one after the other in the same place.
 fn tries_refusals<R: Runtime>(rt: &R) -> Result<Option<usize>, Fail> {
     let other = first_other_refusal(rt, &REFUSED)?;
     fs::remove_file(rt, "refused.toml")?;

@@ -1,4 +1,4 @@
-//! Runs of events, judged: what they lead to was worked out by hand. A row tells its events as a
+//! Runs of events, judged: what they lead to was worked out by hand. A row gives its events as a
 //! text, a line each.
 use crate::texts::{FORGED, ROUND, round_of};
 use crate::worlds::{event_of, first_unlike, net_of, start};
@@ -59,7 +59,7 @@ fn events_of(alloc: Global, text: &str) -> Result<Vec<Event>, Fail> {
     Ok(events)
 }
 
-/// The events of `rounds` rounds of two nodes over links of one place, and of a text behind them.
+/// The events of `rounds` rounds of two nodes over links of one place, and of a text after them.
 fn events_behind(alloc: Global, rounds: usize, text: &str) -> Result<Vec<Event>, Fail> {
     let mut events = Vec::new(alloc);
     for _ in 0..rounds {
@@ -78,13 +78,13 @@ fn counts_of(alloc: Global, events: &[Event]) -> Result<Counts, Fail> {
     Ok((events.len(), report.sweeps, report.refused, report.visited))
 }
 
-/// What is counted of rounds and of a text behind them.
+/// What is counted of rounds and of a text after them.
 fn counts(alloc: Global, rounds: usize, text: &str) -> Result<Counts, Fail> {
     let events = events_behind(alloc, rounds, text)?;
     counts_of(alloc, &events)
 }
 
-/// The place of the first row, of a number of rounds and a text behind them, of which not this is
+/// The place of the first row, of a number of rounds and a text after them, of which not this is
 /// counted, if there is one.
 fn first_miscounted(alloc: Global, rows: &[(usize, &str, Counts)]) -> Result<Option<usize>, Fail> {
     for (at, (rounds, text, want)) in rows.iter().enumerate() {
@@ -112,7 +112,7 @@ fn each_round_is_a_sweep_and_the_third_visits_the_other_node(rt: HostRuntime) ->
     as_told(first_miscounted(rt.alloc(), &ROUNDS), &None)
 }
 
-/// Rounds with damage behind them.
+/// Rounds with damage after them.
 const DAMAGED: [(usize, &str, Counts); 4] = [
     // the token is at node 1
     (3, "harm empty 0 1", (31, 0, 0, 2)),
@@ -120,7 +120,7 @@ const DAMAGED: [(usize, &str, Counts); 4] = [
     (3, "harm empty 0 2", (31, 3, 1, 3)),
     // the machine of node 1 is written what it sees, and the token is gone
     (3, "harm value 1 0 1", (31, 0, 0, 0)),
-    // the root had the token right behind the damage, and its tick sends it on
+    // the root had the token right after the damage, and its tick sends it on
     (1, "harm empty 0 1\ntick 0", (12, 0, 0, 1)),
 ];
 
@@ -203,7 +203,7 @@ fn each_refusal_has_its_name(rt: HostRuntime) -> Result<(), Fail> {
     as_told(first_unlike_of_three(rt.alloc()), &None)
 }
 
-/// A round and a harm behind it, each event with the number of tallies at which a judge looks.
+/// A round and a harm after it, each event with the number of tallies at which a judge looks.
 const LOOKS: [(&str, u32); 11] = [
     ("tick 0", 0),
     ("tick 1", 0),

@@ -35,7 +35,7 @@ const CHANGES: [(&str, Result<(), EventFault>); 14] = [
     ("take 0 3", Ok(())),
 ];
 
-/// What is shown behind them, with 5 sweeps.
+/// What is shown after them, with 5 sweeps.
 const SHOWN: &str = "\
 node 0 distance 4 parent none token no lent none waiting 0
 node 1 distance 4 parent none token no lent none waiting 0

@@ -20,7 +20,7 @@ fn replayed_right(alloc: Global, events: &[Event], came: &World) -> Result<[bool
 /// and by single steps.
 type Told = ([usize; 3], Option<Tree>, [bool; 3], [bool; 2]);
 
-/// What a run is told as.
+/// How a run is reported.
 fn told_of(alloc: Global, ended: &Result<Woven, RunFault>) -> Result<Told, Fail> {
     let Ok(woven) = ended else {
         return Err(Fail::new("the run was refused"));
@@ -31,7 +31,7 @@ fn told_of(alloc: Global, ended: &Result<Woven, RunFault>) -> Result<Told, Fail>
     Ok((ticks(events), tree(&woven.world), judged, replayed))
 }
 
-/// What 4,000 turns in step are told as, and whether the gate gave up.
+/// How 4,000 turns in step are reported, and whether the gate gave up.
 fn in_step<R: Threads + Wait + Sync>(rt: &R, alloc: Global) -> Result<(Told, bool), Fail> {
     let world = line(alloc)?;
     let gate = Pace::new(3);

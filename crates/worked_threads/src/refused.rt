@@ -12,7 +12,7 @@ use test_parts::as_told;
 use thread_net::{Open, RunFault, Woven};
 use world::Event;
 
-/// The variable that tells a copy of this program to run nodes.
+/// The variable that asks a copy of this program to run nodes.
 const COPY: &str = "TOKENTREE_TEST_COPY";
 
 /// How often each of two nodes ticked.
@@ -68,7 +68,7 @@ fn in_a_copy(rt: HostRuntime) -> Result<(), Fail> {
 }
 
 /// The line by which a shell becomes its first word with as many kilobytes of addresses as the
-/// second tells, 8,192 of them a thread's stack.
+/// second says, 8,192 of them a thread's stack.
 const LIMITED: &str = "ulimit -S -s 8192; ulimit -v $1; exec \"$0\" refused::in_a_copy";
 
 /// The words for that shell.

@@ -30,7 +30,7 @@
 //! A [`Judge`] does the same event by event, and lends the [`Configuration`], nodes and links as
 //! they are now. Judging takes no memory: its room is the world's.
 //!
-//! Who runs the nodes by other means, as on threads, takes a world apart, and puts it together
+//! Whoever runs the nodes by other means, as on threads, takes a world apart, and puts it together
 //! again:
 //!
 //! ```

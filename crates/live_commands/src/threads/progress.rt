@@ -8,11 +8,11 @@ use thread_net::Gate;
 /// Node 0 looks at the clock before each 64th of its turns.
 const TURNS_A_LOOK: u32 = 64;
 
-/// A gate that holds nobody back, and tells how many turns node 0 has done, where that is wanted.
+/// A gate that holds nobody back, and shows how many turns node 0 has done, if that is wanted.
 #[derive(Drop)]
 pub struct Watch<'a, R> {
     rt: &'a R,
-    /// None where nothing is told.
+    /// None if nothing is reported.
     progress: Option<Progress>,
 }
 
@@ -37,7 +37,7 @@ impl<'a, R: Eprint + Clock> Watch<'a, R> {
     }
 }
 
-/// Only node 0 tells, so that no two threads write.
+/// Only node 0 reports, so that no two threads write.
 impl<R: Eprint + Clock + Sync> Gate for Watch<'_, R> {
     fn before(&self, node: u16, turn: u32) {
         if node == 0 && turn % TURNS_A_LOOK == 0 {

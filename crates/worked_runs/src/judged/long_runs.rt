@@ -32,7 +32,7 @@ fn is_settled(world: &World, tree: &[(u16, Option<u16>)]) -> bool {
     settled
 }
 
-/// How many are privileged and how many lend behind events.
+/// How many are privileged and how many lend after events.
 fn counted_behind(world: World, events: &[Event]) -> (usize, usize) {
     let forged = judged(world, events).world;
     (forged.privileged(), forged.lending())

@@ -20,7 +20,7 @@ harm frame 0 1 4 3 0 none 6
 harm empty 0 1
 ";
 
-/// Whether forged tokens lend at both nodes of a world, also behind a round, and each other kind of
+/// Whether forged tokens lend at both nodes of a world, also after a round, and each other kind of
 /// event happens then.
 fn takes_each_kind<A: Allocator + Copy>(world: &mut World<A>) -> bool {
     happen(world, FORGED)
@@ -46,7 +46,7 @@ fn a_world_takes_no_memory(rt: HostRuntime) -> Result<(), Fail> {
     as_told(takes_each_kind_without_memory(rt.alloc()), &(true, 0))
 }
 
-/// What happens behind a round, of which the last is followed by one loan.
+/// What happens after a round, of which the last is followed by one loan.
 const LENDING: [&str; 3] = ["ask 0 5", "tick 0", "harm junk 0 1"];
 
 /// Whether a judge accepts each of these events.

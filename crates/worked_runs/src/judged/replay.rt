@@ -205,7 +205,7 @@ fn events_with_gaps(alloc: Global, net: &Net, count: usize) -> Result<Vec<Event>
 }
 
 /// What the judge and the plain count of a world come to: the number of events, the first one
-/// behind which they differ, and the sweeps.
+/// after which they differ, and the sweeps.
 fn compared(world: World, events: &[Event]) -> (usize, Option<usize>, u64) {
     let mut plain = Plain::new(world.net().edges());
     let mut judge = Judge::new(world);
@@ -213,7 +213,7 @@ fn compared(world: World, events: &[Event]) -> (usize, Option<usize>, u64) {
     (events.len(), difference, sweeps)
 }
 
-/// The same of a network, behind `count` events of its rounds.
+/// The same of a network, after `count` events of its rounds.
 fn compared_on(
     alloc: Global,
     net: &Net,
@@ -234,7 +234,7 @@ fn compared_on_square(
     Ok((events, difference, sweeps >= least))
 }
 
-/// Each link takes at least once a round, right behind a send, and at most one of its items is old:
+/// Each link takes at least once a round, right after a send, and at most one of its items is old:
 /// so of two whole rounds each renews it. A stretch has at most one round more, in parts, and no
 /// round has more than 36 events.
 const LEAST_SWEEPS: u64 = 10_000 / (3 * 36);

@@ -43,7 +43,7 @@ fn first_unlike_stage(world: &mut World, stages: &[Stage<'_>]) -> Option<usize> 
     None
 }
 
-/// Three rounds, and a ticket that asks behind them.
+/// Three rounds, and a ticket that asks after them.
 const STAGES: [Stage<'_>; 5] = [
     Stage {
         events: "",
