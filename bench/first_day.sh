@@ -1,7 +1,8 @@
 #!/bin/sh
 # Does what a new user and an operator do on their first day, slips included, and says what is not as it should be: which
 # line on standard error names a mistake, how the program ends when its reader goes or the disk is full, that examples
-# recover, that nodes end by `stop`, what the completions of bash offer. Status 1 if anything is wrong.
+# recover, that nodes end by `stop` and `up` by signals, what a node says of its file, who may do what with `--group-locks`, what
+# the completions of bash offer. Status 1 if anything is wrong.
 #
 #   bench/first_day.sh
 #
@@ -123,6 +124,109 @@ ends 0 '' stop run
 [ ! -e run/stop-0 ] && [ ! -e run/stop-1 ] || wrong "a stop file stays"
 wait
 running=
+
+# A node says which edges came and went, and why it does not take a file up. `scramble` and `cut` say that it runs.
+network 'lease = 0' >live.toml
+"$program" node live.toml 0 live >node-0 2>said </dev/null &
+running=$!
+for _ in $(seq 100); do grep -qs ready node-0 && break; sleep 0.1; done
+sed 's/, \[0, 2\]//' live.toml >new.toml && mv new.toml live.toml && sleep 2
+sed 's/nodes = 3/nodes = 4/; s/\[1, 2\]/[1, 2], [2, 3]/' live.toml >new.toml && mv new.toml live.toml && sleep 2
+echo '[' >new.toml && mv new.toml live.toml && sleep 2
+[ "$(cat said)" = "tokentree: node 0 takes up live.toml: edges that came: none; that went: [0, 2]
+tokentree: node 0 does not take up live.toml: while nodes run, only edges may change
+tokentree: node 0 does not take up live.toml: network NotToml" ] || wrong "of its file a node says $(cat said)"
+ends 0 "tokentree: live/state-0.tkt: node 0 runs, and writes this file again within half a second; kill it before, or stop it first" \
+    scramble ring.toml 0 live/state-0.tkt 7
+ends 0 "tokentree: live/state-0.tkt: node 0 runs, and writes this file again within half a second; kill it before, or stop it first" \
+    cut live/state-0.tkt 33
+ends 0 '' stop live
+ends 0 '' cut live/state-0.tkt 33
+wait
+running=
+
+# `up` runs on with nothing as its input, ends its nodes at a signal, and kills them at the second.
+for round in once twice; do
+    setsid env --default-signal=INT --block-signal=HUP,INT,TERM,TTIN "$program" up ring.toml "up-$round" >up.out 2>&1 </dev/null &
+    running=$!
+    for _ in $(seq 100); do [ "$(grep -c ' ready' up.out)" -eq 3 ] && break; sleep 0.1; done
+    sleep 1
+    kill -0 $running || wrong "up does not run on with nothing as its input: $(cat up.out)"
+    if [ $round = once ]; then
+        kill -TERM $running
+        wanted='node 0 has ended node 1 has ended node 2 has ended '
+    else
+        # Both come to the whole group, as from a terminal.
+        kill -STOP "$(pgrep -g $running -f ' 1 up-twice$')"
+        kill -INT -- -$running && sleep 2 && kill -INT -- -$running
+        wanted='node 0 has ended node 1 was ended by signal 9 node 2 has ended '
+    fi
+    wait $running || wrong "up does not end well"
+    [ "$(grep -v -e start -e ready up.out | sort | tr '\n' ' ')" = "$wanted" ] || wrong "asked $round, up says $(cat up.out)"
+    running=
+done
+
+# A member of the group takes the lock, and can do nothing else.
+if [ "$(id -u)" -eq 0 ] && command -v setpriv >/dev/null; then
+    chmod 755 . && install -d -o 54321 -g 54321 grouped && cp "$program" tokentree && chmod 755 tokentree
+    as() { setpriv --reuid="$1" --regid=54321 --clear-groups sh -c "umask 022; exec $2"; }
+    printf 'nodes = 2\nroot = 0\ncapacity = 64\nlease = 0\nedges = [[0, 1]]\n' >two.toml
+    as 54321 "./tokentree node --group-locks two.toml 0 grouped/nodes" >node-0 2>&1 </dev/null &
+    running=$!
+    as 54321 "./tokentree node --group-locks two.toml 1 grouped/nodes" >node-1 2>&1 </dev/null &
+    running="$running $!"
+    for _ in $(seq 100); do grep -qs ready node-0 && grep -qs ready node-1 && break; sleep 0.1; done
+    sleep 1
+    [ "$(as 12345 './tokentree lock --timeout 20 grouped/nodes 1 -- echo locked')" = locked ] ||
+        wrong "no member of the group gets the lock"
+    for deed in 'touch grouped/nodes/stop-0' 'rm -f grouped/nodes/state-0.tkt' 'cat grouped/nodes/state-0.tkt' \
+        './tokentree stop grouped/nodes 0' 'mv grouped/nodes/desk-0.sock grouped/nodes/desk-9.sock'; do
+        as 12345 "$deed" >output 2>said && wrong "a member of the group may $deed"
+    done
+    modes=$(stat -c '%a %n' grouped/nodes grouped/nodes/*-0.sock grouped/nodes/state-0.tkt grouped/nodes/lock-0 | tr '\n' ' ')
+    [ "$modes" = "750 grouped/nodes 660 grouped/nodes/desk-0.sock 600 grouped/nodes/look-0.sock 600 grouped/nodes/node-0.sock 600\
+ grouped/nodes/state-0.tkt 600 grouped/nodes/lock-0 " ] || wrong "the rights are $modes"
+    as 54321 "./tokentree stop grouped/nodes" >output || wrong "the nodes' user cannot stop them"
+    wait
+    running=
+fi
+
+# A node's log, at two levels, one of them for a journal; nothing without the option.
+printf 'nodes = 2\nroot = 0\ncapacity = 64\nlease = 0\nedges = [[0, 1]]\n' >two.toml
+"$program" node --log 6 two.toml 0 logged >node-0 2>said </dev/null &
+running=$!
+JOURNAL_STREAM=1:1 "$program" node --log 4 two.toml 1 logged >node-1 2>said-1 </dev/null &
+running="$running $!"
+for _ in $(seq 100); do grep -qs ready node-0 && grep -qs ready node-1 && break; sleep 0.1; done
+"$program" lock --timeout 20 logged 0 -- true || wrong "no lock from nodes with a log"
+sleep 1
+"$program" stop logged 0 >output && sleep 1 && "$program" stop logged 1 >output
+wait
+running=
+[ "$(sed 's/ticket [0-9]*/ticket N/' said)" = "tokentree: node 0: begins
+tokentree: node 0: the link to node 1 is up
+tokentree: node 0: ticket N is granted the lock
+tokentree: node 0: ticket N has given the lock back
+tokentree: node 0: ends" ] || wrong "the log of a node is $(cat said)"
+[ "$(cat said-1)" = "<4>tokentree: node 1: the link to node 0 is down" ] || wrong "the log of a node for a journal is $(cat said-1)"
+
+# A service manager hears that a node is ready, by a path and by an abstract name.
+if command -v python3 >/dev/null; then
+    for name in "$made/notify" "@tokentree-$$"; do
+        python3 - "$name" "$program" <<'PYTHON' || wrong "no READY=1 comes to $name"
+import os, socket, subprocess, sys
+name, program = sys.argv[1:]
+manager = socket.socket(socket.AF_UNIX, socket.SOCK_DGRAM)
+manager.bind("\0" + name[1:] if name[0] == "@" else name)
+manager.settimeout(20)
+node = subprocess.Popen([program, "node", "ring.toml", "0", "told"], env={**os.environ, "NOTIFY_SOCKET": name},
+                        stdout=subprocess.DEVNULL)
+heard = manager.recv(100)
+subprocess.run([program, "stop", "told"], check=True, stdout=subprocess.DEVNULL)
+sys.exit(heard != b"READY=1" or node.wait() != 0)
+PYTHON
+    done
+fi
 
 # What bash offers.
 command -v bash >/dev/null && bash --norc --noprofile -c '

@@ -51,7 +51,7 @@ Architecture: $architecture
 Maintainer: $maintainer
 Installed-Size: $size
 Depends: libc6 (>= $libc), adduser
-Recommends: socat, openssl
+Recommends: acl, openssl, socat
 Section: admin
 Priority: optional
 Description: self-stabilising lock service

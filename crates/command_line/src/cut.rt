@@ -1,10 +1,11 @@
 //! The words of `cut`.
+use crate::program::Runtime;
 use crate::refusal::{Refusal, ended};
 use clap::{ArgMatches, Command};
 use command_grammar::{Grammar, Number, Parameter, given_number, with_command, word};
+use node_stopping::warn_of_runner;
 use std::alloc::{AllocError, Global};
 use std::process::ExitCode;
-use std::rt::Files;
 use subcommands::cut;
 
 /// What `cut` takes.
@@ -28,7 +29,8 @@ pub fn add_to<'a>(parser: Command<'a>, alloc: Global) -> Result<Command<'a>, All
 
 /// What follows the options in its help.
 const HELP: &str = "\
-A file that is not longer stays as it is.
+A file that is not longer stays as it is. If it is the state file of a node that runs, a line on standard error says
+so, since the node writes it again within half a second: stop the node first, or cut and kill it at once.
 
   $ tokentree cut node-1.state 33
 
@@ -44,11 +46,12 @@ const LENGTH: Number<'static> = Number {
 };
 
 /// Does what the words of `cut` say.
-pub fn run<R: Files + Eprint + AllocGlobal>(
-    rt: &R,
-    given: &ArgMatches,
-) -> Result<ExitCode, Refusal> {
+pub fn run<R: Runtime>(rt: &R, given: &ArgMatches) -> Result<ExitCode, Refusal> {
     let path = word(given, "PATH")?;
     let length = given_number(given, LENGTH)? as u32;
-    Ok(ended(rt, path, cut::run(rt, path, length)))
+    let done = cut::run(rt, path, length);
+    if done.is_ok() {
+        warn_of_runner(rt, path);
+    }
+    Ok(ended(rt, path, done))
 }

@@ -1,5 +1,8 @@
 //! The words of `node`.
-use crate::node_words::{FOLDER, HOLD_HELP, REPEAT_HELP, TURN_HELP, ended, late_after, manner};
+use crate::node_words::{
+    FOLDER, GROUP_HELP, HOLD_HELP, LOG_HELP, REPEAT_HELP, TURN_HELP, ended, late_after, log_level,
+    manner, rights,
+};
 use crate::program::{NETWORK_FILE, Runtime, TOKENTREE};
 use crate::refusal::Refusal;
 use clap::{ArgMatches, Command};
@@ -20,6 +23,8 @@ const NODE: Grammar<'static> = Grammar {
         Parameter::Value("hold", "MICROSECONDS", HOLD_HELP),
         Parameter::Value("repeat", "MICROSECONDS", REPEAT_HELP),
         Parameter::Value("turn", "MILLISECONDS", TURN_HELP),
+        Parameter::Flag("group-locks", GROUP_HELP),
+        Parameter::Value("log", "LEVEL", LOG_HELP),
         Parameter::Flag(
             "child",
             "Name the node in each line, and end as standard input does, for `up`",
@@ -53,7 +58,8 @@ It ends with status 0 within 256 turns, at most half a second, once a file DIR/s
 
   $ touch run/stop-0
 
-As often it saves its state and reads FILE again: edges may join and go while it runs; any other change means nothing.
+As often it saves its state and reads FILE again: edges may join and go while it runs, and it says which did; any other
+change means nothing, and it says why.
 
 The network's capacity is a premise of what is proved. On a link of two processes 36 frames may be under way; give it 64
 or more.
@@ -61,6 +67,13 @@ or more.
 --hold is how long a node keeps news to itself where nobody wants the lock, --repeat after what time it sends a frame
 again; both in microseconds. Less of either is more work and less waiting. The node counts the turns that end more than
 --turn milliseconds after the turn before (0.001 to 3600000, with at most 3 decimals), for whoever looks.
+
+Whoever may write in DIR can stop nodes, and whoever can open desk-ID.sock can take the lock. With --group-locks the group
+of the user enters DIR and opens desk-ID.sock; all else is for the user alone.
+
+With --log 6 the node says on standard error, in a line each, when it begins and ends, when a link comes and goes, and who
+is granted the lock, loses it and gives it back; --log 5 leaves out grants, and --log 4 says only what is amiss. It says at
+most 20 lines in a second, and how many it left out. If JOURNAL_STREAM is set, a line begins with its priority, as <4>.
 
 Statuses: 0 ended by the stop file; 1 it cannot run, with the reason on standard error; 2 the command line was refused.";
 
@@ -81,6 +94,8 @@ pub fn run<R: Runtime>(rt: &R, given: &ArgMatches) -> Result<ExitCode, Refusal> 
         manner: manner(given)?,
         turn: late_after(given)?,
         version: TOKENTREE.version,
+        rights: rights(given),
+        log: log_level(given)?,
         is_child: given.get_flag("child"),
     };
     let done = node::run(rt, &words);

@@ -1,14 +1,16 @@
 //! What `node` and `up` have in common: options, and how they end.
-ghost use Rattle.std.specs.Prelude.{◌≡◌, IfOk, IfErr, if◌then◌else◌, is_ok};
+ghost use Rattle.std.specs.Prelude.{◌≡◌, Some, None, IfOk, IfErr, if◌then◌else◌, is_ok, codes};
 ghost use Rattle.std.specs.Process.{exit_status};
-ghost use Rattle.clap.specs.Matches.{found_of};
+ghost use Rattle.clap.specs.Matches.{found_of, first_value, one_text};
+ghost use Rattle.node_process.specs.declared.rights.Rights.TheVariants.{Usual, GroupLocks};
 ghost use Rattle.command_line.specs.Manner.{IsMannerOf, IsMannerRefused};
 ghost use Rattle.command_line.specs.Manner.{IsLimitOf, IsLimitRefused};
 
 use clap::ArgMatches;
 use command_grammar::{Number, WordFault, number_if_given};
 use fault_hints::{explain_network, explain_swap};
-use node_process::{NodeFault, Refusal, USUAL_LIMIT};
+use node_log::Level;
+use node_process::{NodeFault, Refusal, Rights, USUAL_LIMIT};
 use pace::Manner;
 use recovery_times::{TimeFault, micros_of};
 use std::process::ExitCode;
@@ -41,6 +43,47 @@ pub const REPEAT_HELP: &str = "When a frame is sent again, at most 100000 [defau
 
 /// After how many milliseconds a turn is late, as the help says it.
 pub const TURN_HELP: &str = "After which time a turn is late [default: 2.2]";
+
+/// From which level on a node says what happens, by the numbers of syslog.
+pub const LOG: Number<'static> = Number {
+    id: "log",
+    name: "--log",
+    least: 4,
+    most: 6,
+};
+
+/// The same, as the help says it.
+pub const LOG_HELP: &str = "Say what happens: 4 what is amiss, 5 links too, 6 grants too";
+
+/// What a node is to say of itself, as the words of `node` or `up` say; nothing if they do not.
+///
+/// # Errors
+/// If a word spells no number from 4 to 6.
+pub fn log_level(given: &ArgMatches) -> Result<Option<Level>, WordFault<'static>>
+    ensures left_out { first_value (found_of given.now) (codes "log") ≡ None
+        → IfOk result (λ level. level ≡ None) }
+{
+    match number_if_given(given, LOG)? {
+        Some(priority) => Ok(Level::of_priority(priority)),
+        None => Ok(None),
+    }
+}
+
+/// What `--group-locks` does, as the help says it.
+pub const GROUP_HELP: &str = "Let the group take the lock, and nobody but the user write in DIR";
+
+/// Who may use the folder and the sockets, as the words of `node` or `up` say.
+pub fn rights(given: &ArgMatches) -> Rights
+    ensures given { one_text (found_of given.now) (codes "group-locks") ≡ Some (codes "true")
+        → result ≡ GroupLocks }
+    ensures left_out { one_text (found_of given.now) (codes "group-locks") ≡ None → result ≡ Usual }
+{
+    if given.get_flag("group-locks") {
+        Rights::GroupLocks
+    } else {
+        Rights::Usual
+    }
+}
 
 /// After how many microseconds a turn is late, as the words of `node` or `up` say; 2200 if they do not.
 ///

@@ -1,11 +1,11 @@
 //! The words of `scramble`.
-use crate::program::NETWORK_FILE;
+use crate::program::{NETWORK_FILE, Runtime};
 use crate::refusal::{Refusal, ended};
 use clap::{ArgMatches, Command};
 use command_grammar::{Grammar, Number, Parameter, given_number, with_command, word};
+use node_stopping::warn_of_runner;
 use std::alloc::{AllocError, Global};
 use std::process::ExitCode;
-use std::rt::Files;
 use subcommands::scramble;
 
 /// What `scramble` takes.
@@ -36,7 +36,8 @@ leading zero. The desk is no part of a state file: a lock that was lent is forgo
 
   $ tokentree scramble examples/two-nodes.toml 1 node-1.state 7
 
-A node that runs writes its file again within a second: scramble first, then kill the node at once.
+A node that runs writes its file again within half a second, and the damage is gone; a line on standard error says
+that it runs. So stop the node first, or scramble and kill it at once.
 
 Statuses: 0 done; 1 the network, the id or the file was refused, with its fault on standard error;
 2 the command line was refused. Where the file cannot be opened for writing, or is no plain file,
@@ -59,13 +60,14 @@ const SEED: Number<'static> = Number {
 };
 
 /// Does what the words of `scramble` say.
-pub fn run<R: Files + Eprint + AllocGlobal>(
-    rt: &R,
-    given: &ArgMatches,
-) -> Result<ExitCode, Refusal> {
+pub fn run<R: Runtime>(rt: &R, given: &ArgMatches) -> Result<ExitCode, Refusal> {
     let network = word(given, "FILE")?;
     let path = word(given, "PATH")?;
     let id = given_number(given, ID)? as u16;
     let seed = given_number(given, SEED)? as u32;
-    Ok(ended(rt, network, scramble::run(rt, network, id, path, seed)))
+    let done = scramble::run(rt, network, id, path, seed);
+    if done.is_ok() {
+        warn_of_runner(rt, path);
+    }
+    Ok(ended(rt, network, done))
 }

@@ -1,5 +1,8 @@
 //! The words of `up`.
-use crate::node_words::{FOLDER, HOLD_HELP, REPEAT_HELP, TURN_HELP, ended, late_after, manner};
+use crate::node_words::{
+    FOLDER, GROUP_HELP, HOLD_HELP, LOG_HELP, REPEAT_HELP, TURN_HELP, ended, late_after, log_level,
+    manner, rights,
+};
 use crate::program::{NETWORK_FILE, Runtime};
 use crate::refusal::Refusal;
 use clap::{ArgMatches, Command};
@@ -11,7 +14,7 @@ use std::process::ExitCode;
 /// What `up` takes.
 const UP: Grammar<'static> = Grammar {
     name: "up",
-    about: "Runs all nodes of a network, and starts again what ends, until standard input ends",
+    about: "Runs all nodes of a network, and starts again what ends, until Ctrl-C",
     help: HELP,
     parameters: &[
         Parameter::Place("FILE", NETWORK_FILE),
@@ -19,6 +22,8 @@ const UP: Grammar<'static> = Grammar {
         Parameter::Value("hold", "MICROSECONDS", HOLD_HELP),
         Parameter::Value("repeat", "MICROSECONDS", REPEAT_HELP),
         Parameter::Value("turn", "MILLISECONDS", TURN_HELP),
+        Parameter::Flag("group-locks", GROUP_HELP),
+        Parameter::Value("log", "LEVEL", LOG_HELP),
     ],
     needs: &[],
     excludes: &[],
@@ -40,19 +45,27 @@ Each node of the network of FILE runs as a process of its own, with its files in
   node 1 start default Absent
   ...
 
-A node that ends, in whatever way, is started again within a second, and a line tells so. End it by the end of its
-standard input (Ctrl-D on a terminal): the nodes save their states and end, and what has not ended after five seconds
-is killed. Where `up` itself is killed the nodes end as well. Each node is given --hold, --repeat and --turn (see `help
-node`).
+A node that ends, in whatever way, is started again within a second, and a line says so. Each node is given --hold,
+--repeat, --turn, --group-locks and --log (see `help node`).
 
-Statuses: 0 standard input has ended, and all nodes have; 1 it cannot run, with the reason on standard error; 2 the
-command line was refused.";
+SIGINT (Ctrl-C), SIGTERM or SIGHUP ends it, and so does the end of its standard input, if that is a terminal (Ctrl-D)
+or a pipe; with a file or /dev/null there it runs on. Then the nodes save their states and end, a line for each. What
+has not ended after five seconds is killed, or at once if Ctrl-C or another signal comes meanwhile. Each node ends well
+too if `up` itself is killed.
+
+The launcher ./tokentree, or env --block-signal=HUP,INT,TERM,TTIN tokentree up .., holds signals back from up, so that it
+waits for its nodes and says that they have ended. Otherwise up ends at once, and the nodes within half a second.
+
+Statuses: 0 it was asked to end, and all nodes have ended; 1 it cannot run, or no node stays up, with the reason on
+standard error; 2 the command line was refused.";
 
 /// Does what the words of `up` say.
 pub fn run<R: Runtime>(rt: &R, given: &ArgMatches) -> Result<ExitCode, Refusal> {
     let file = word(given, "FILE")?;
     let dir = word(given, "DIR")?;
-    let done = match OwnProgram::new(rt, file, dir, manner(given)?, late_after(given)?) {
+    let (manner, turn) = (manner(given)?, late_after(given)?);
+    let log = log_level(given)?;
+    let done = match OwnProgram::new(rt, file, dir, manner, turn, rights(given), log) {
         Ok(program) => up::run(rt, &program, file, dir),
         Err(fault) => Err(fault),
     };

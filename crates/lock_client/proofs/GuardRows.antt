@@ -1,17 +1,13 @@
--- Small examples of what a guard does, of its words and of masks of signals, and ones that fail.
+-- Small examples of what a guard does and of its words, and ones that fail.
 use Rattle.std.proofs.Common.{◌≡◌, ◌++◌, true, false, [], ◌∷◌, Some, None, refl, codes, arith}
 use Rattle.lock_client.specs.declared.guard.GuardStage.TheVariants.{Idle, Searching, Waiting, Over}
 use Rattle.lock_client.specs.declared.guard.GuardEvent.{GuardEvent}
 use Rattle.lock_client.specs.declared.guard.GuardEvent.TheVariants.{Said, Closed, Looked, GraceIsOver}
 use Rattle.lock_client.specs.declared.guard.GuardDeed.TheVariants.{Listen, Look, Ask, Kill, End}
 use Rattle.lock_client.specs.declared.words.GuardWord.TheVariants.{Start, Runs, Done, Other}
-use Rattle.lock_client.specs.declared.signals.Signal.TheVariants.{Interrupt, Terminate}
-use Rattle.lock_client.specs.declared.status_lines.StatusEntry.TheVariants as entry
 use Rattle.lock_client.specs.Guards.{guard_after_all, guard_deeds}
 use Rattle.lock_client.specs.GuardLaws.{quiet_looks, IsUnannounced, AsksFirst}
 use Rattle.lock_client.specs.Words.{guard_word, guard_words}
-use Rattle.lock_client.specs.Signals.{signals_of, holds, has_any, no_signals, first_besides, including}
-use Rattle.lock_client.specs.StatusLines.{status_entry, signal_state}
 
 somebody : GuardEvent
 somebody = Looked (record { somebody = true; signalled = false })
@@ -96,43 +92,3 @@ reads_not-sign = refl
 
 reads_not-upper : guard_word (codes "Done") ≡ Other
 reads_not-upper = refl
-
--- SIGINT is the second bit, SIGTERM the fifteenth
-has-interrupt : holds Interrupt (signals_of (codes "0000000000000002")) ≡ true
-has-interrupt = refl
-
-has-terminate : holds Terminate (signals_of (codes "000000000000400a")) ≡ true
-has-terminate = refl
-
-has_not-terminate : holds Terminate (signals_of (codes "ffffffffffffbfff")) ≡ false
-has_not-terminate = refl
-
-has-none : has_any (signals_of (codes "fffffffffff8bff8")) ≡ false
-has-none = refl
-
-has_not-empty : signals_of [] ≡ no_signals
-has_not-empty = refl
-
--- the lines of a process that holds SIGINT back, which has come
-held_back : signal_state (status_entry (codes "SigPnd:" ++ 9 ∷ codes "0000000000000000")
-    ∷ status_entry (codes "ShdPnd:" ++ 9 ∷ codes "0000000000000002")
-    ∷ status_entry (codes "SigBlk:" ++ 9 ∷ codes "0000000000004006")
-    ∷ status_entry (codes "SigIgn:" ++ 9 ∷ codes "0000000000004007") ∷ [])
-    ≡ record {
-      pending = record { hang_up = false; interrupt = true; quit = false; terminate = false };
-      blocked = record { hang_up = false; interrupt = true; quit = true; terminate = true };
-    }
-held_back = refl
-
-other-line : status_entry (codes "SigPnd: 0000000000000002") ≡ entry.Other
-other-line = refl
-
--- a signal is answered once
-fresh : first_besides no_signals (signals_of (codes "4002")) ≡ Some Terminate
-fresh = refl
-
-fresh-next : first_besides (including Terminate no_signals) (signals_of (codes "4002")) ≡ Some Interrupt
-fresh-next = refl
-
-fresh_not-seen : first_besides (signals_of (codes "4002")) (signals_of (codes "4002")) ≡ None
-fresh_not-seen = refl

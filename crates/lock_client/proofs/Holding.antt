@@ -5,7 +5,7 @@ use Rattle.lock_client.specs.declared.answer.Answer.TheVariants as answer
 use Rattle.lock_client.specs.declared.outcome.CommandEnd.{CommandEnd}
 use Rattle.lock_client.specs.declared.outcome.Outcome.{Outcome}
 use Rattle.lock_client.specs.declared.outcome.Outcome.TheVariants.{Done, Lost, NotInTime, NoService, Stopped}
-use Rattle.lock_client.specs.declared.signals.Signal as signals
+use Rattle.held_signals.specs.declared.signals.Signal as signals
 use Rattle.lock_client.specs.declared.client.Stage.TheVariants.{Asking, Holding, Losing, Returning, Over}
 use Rattle.lock_client.specs.declared.client.Event.{Event}
 use Rattle.lock_client.specs.declared.client.Event.TheVariants.{Line, Gone, Unserved, TimeIsUp, Ended, GuardGone, Signal}

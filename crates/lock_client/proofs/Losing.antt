@@ -4,9 +4,9 @@ use Rattle.std.proofs.lemmas.Grind.{common_steps}
 use Rattle.lock_client.specs.declared.outcome.Outcome.{Outcome}
 use Rattle.lock_client.specs.declared.outcome.Outcome.TheVariants.{Lost, NotInTime, NoService, Stopped}
 use Rattle.lock_client.specs.declared.answer.Answer.TheVariants as answer
-use Rattle.lock_client.specs.declared.signals.Signal.TheVariants.{HangUp, Interrupt, Quit, Terminate}
+use Rattle.held_signals.specs.declared.signals.Signal.TheVariants.{HangUp, Interrupt, Quit, Terminate}
 use Rattle.lock_client.specs.declared.client.Event.TheVariants as event
-use Rattle.lock_client.specs.declared.signals.Signal.{Signal}
+use Rattle.held_signals.specs.declared.signals.Signal.{Signal}
 use Rattle.lock_client.specs.declared.client.Stage.{Stage}
 use Rattle.lock_client.specs.declared.client.Stage.TheVariants.{Asking, Holding, Losing, Over}
 use Rattle.lock_client.specs.declared.client.Event.{Event}

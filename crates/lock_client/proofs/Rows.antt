@@ -2,7 +2,7 @@
 use Rattle.std.proofs.Common.{◌≡◌, ◌++◌, true, false, List, [], ◌∷◌, refl, codes, inl, inr, arith}
 use Rattle.lock_client.specs.declared.answer.Answer.TheVariants as answer
 use Rattle.lock_client.specs.declared.outcome.CommandEnd.TheVariants.{Exited, Killed, CannotRun, NotThere, NotGuarded}
-use Rattle.lock_client.specs.declared.signals.Signal.TheVariants.{Interrupt, Terminate}
+use Rattle.held_signals.specs.declared.signals.Signal.TheVariants.{Interrupt, Terminate}
 use Rattle.lock_client.specs.declared.outcome.Outcome.TheVariants.{Done, Lost, NotInTime, NoService, Stopped}
 use Rattle.lock_client.specs.declared.client.Stage.TheVariants.{Asking, Over}
 use Rattle.lock_client.specs.declared.client.Event.{Event}

@@ -3,7 +3,7 @@ use Rattle.std.proofs.Common.{◌≡◌, true, false, [], ◌∷◌, None, Some,
 use Rattle.lock_client.specs.declared.answer.Answer.TheVariants as answer
 use Rattle.lock_client.specs.declared.outcome.CommandEnd.TheVariants.{Exited, Killed, CannotRun}
 use Rattle.lock_client.specs.declared.outcome.Outcome.TheVariants.{Done, Lost}
-use Rattle.lock_client.specs.declared.signals.Signal.TheVariants.{Terminate, Quit}
+use Rattle.held_signals.specs.declared.signals.Signal.TheVariants.{Terminate, Quit}
 use Rattle.lock_client.specs.declared.client.Stage.TheVariants.{Asking, Holding, Losing, Returning, Over}
 use Rattle.lock_client.specs.declared.client.Event.TheVariants.{Line, Gone, TimeIsUp, Ended, GuardGone, Signal}
 use Rattle.lock_client.specs.declared.client.Deed.TheVariants.{Wait, AskAgain, Start, PassOn, GiveBack, EndCommand, SayLost, Finish}
@@ -16,7 +16,7 @@ use Rattle.lock_client.specs.Steps.{asking_after, holding_after, losing_after, r
 use Rattle.lock_client.specs.Laws.{IsHarmless, IsReleasedNext, IsHeldToTheEnd, IsWaiting, is_start, is_giving_back, is_ending, is_loss}
 use Rattle.lock_client.specs.Guards.{idle_after, watching_after, unseen, searching_after, asked_after, killed_after, waiting_after, guard_deed, look_rest}
 use Rattle.lock_client.specs.GuardLaws.{is_asking}
-use Rattle.lock_client.specs.Signals.{signal_number}
+use Rattle.held_signals.specs.Signals.{signal_number}
 use Rattle.lock_client.specs.Words.{are_digits, process_number}
 
 -- ---- a client

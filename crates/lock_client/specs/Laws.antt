@@ -5,8 +5,8 @@ use Rattle.lock_client.specs.declared.answer.Answer.TheVariants as answer
 use Rattle.lock_client.specs.declared.outcome.CommandEnd.{CommandEnd}
 use Rattle.lock_client.specs.declared.outcome.Outcome.{Outcome}
 use Rattle.lock_client.specs.declared.outcome.Outcome.TheVariants.{Done, Lost, NotInTime, NoService, Stopped}
-use Rattle.lock_client.specs.declared.signals.Signal.{Signal}
-use Rattle.lock_client.specs.declared.signals.Signal.TheVariants.{Terminate}
+use Rattle.held_signals.specs.declared.signals.Signal.{Signal}
+use Rattle.held_signals.specs.declared.signals.Signal.TheVariants.{Terminate}
 use Rattle.lock_client.specs.declared.client.Stage.TheVariants.{Asking, Holding, Losing, Returning, Over}
 use Rattle.lock_client.specs.declared.client.Event.{Event}
 use Rattle.lock_client.specs.declared.client.Event.TheVariants as event

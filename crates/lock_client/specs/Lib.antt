@@ -1,6 +1,4 @@
 pub mod Lines
-pub mod Signals
-pub mod StatusLines
 pub mod Outcome
 pub mod Ends
 pub mod Steps

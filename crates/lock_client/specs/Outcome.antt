@@ -4,7 +4,7 @@ use Rattle.lock_client.specs.declared.outcome.CommandEnd.{CommandEnd}
 use Rattle.lock_client.specs.declared.outcome.CommandEnd.TheVariants.{Exited, Killed, CannotRun, NotThere, NotGuarded}
 use Rattle.lock_client.specs.declared.outcome.Outcome.{Outcome}
 use Rattle.lock_client.specs.declared.outcome.Outcome.TheVariants.{Done, Lost, NotInTime, NoService, Stopped}
-use Rattle.lock_client.specs.Signals.{signal_number}
+use Rattle.held_signals.specs.Signals.{signal_number}
 
 -- the command's own status; 128 and the number of the signal that ended it, and at most 255; 126
 -- if it cannot be run, and 127 if it is not there, as env has it; 125 if it had no guard

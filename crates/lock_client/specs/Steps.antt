@@ -4,7 +4,7 @@ use Rattle.lock_client.specs.declared.answer.Answer.TheVariants as answer
 use Rattle.lock_client.specs.declared.outcome.CommandEnd.{CommandEnd}
 use Rattle.lock_client.specs.declared.outcome.Outcome.{Outcome}
 use Rattle.lock_client.specs.declared.outcome.Outcome.TheVariants.{Done, Lost, NotInTime, NoService, Stopped}
-use Rattle.lock_client.specs.declared.signals.Signal.TheVariants.{Terminate}
+use Rattle.held_signals.specs.declared.signals.Signal.TheVariants.{Terminate}
 use Rattle.lock_client.specs.declared.client.Stage.{Stage}
 use Rattle.lock_client.specs.declared.client.Stage.TheVariants.{Asking, Holding, Losing, Returning, Over}
 use Rattle.lock_client.specs.declared.client.Event.{Event}

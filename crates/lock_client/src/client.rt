@@ -5,7 +5,8 @@ ghost use Rattle.lock_client.specs.Steps.{returning_after, in_doubt};
 ghost use Rattle.lock_client.specs.Steps.{deed_between, asking_deed, running_deed, losing_deed};
 ghost use Rattle.lock_client.specs.Steps.{lost_deed};
 
-use crate::{Answer, CommandEnd, Outcome, Signal};
+use crate::{Answer, CommandEnd, Outcome};
+use held_signals::Signal;
 
 /// How far a client is.
 #[derive(Clone, Copy, Debug, PartialEq, Eq)]

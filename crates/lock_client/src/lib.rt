@@ -27,8 +27,6 @@ pub mod laws;
 mod lines;
 mod outcome;
 mod processes;
-mod signals;
-mod status_lines;
 mod words;
 
 pub use answer::Answer;
@@ -38,6 +36,4 @@ pub use guard::{Guard, GuardDeed, GuardEvent, GuardStage, QUIET_LOOKS, Sight};
 pub use lines::{AnswerReader, spelled};
 pub use outcome::{CommandEnd, Outcome};
 pub use processes::has_entry;
-pub use signals::{Signal, Signals};
-pub use status_lines::{SignalState, StatusEntry, StatusReader, state_said};
 pub use words::{GuardWord, WordReader};

@@ -2,7 +2,7 @@
 ghost use Rattle.std.specs.Prelude.{◌≡◌};
 ghost use Rattle.lock_client.specs.Outcome.{end_status, outcome_status, chosen_status};
 
-use crate::signals::Signal;
+use held_signals::Signal;
 
 /// How a command ended.
 #[derive(Clone, Copy, Debug, PartialEq, Eq)]

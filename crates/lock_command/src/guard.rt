@@ -9,7 +9,7 @@ use crate::family::{lives, members, send};
 use crate::guard_driver::{Guarded, drive_guard};
 use crate::guard_link::GUARDED;
 use crate::notice::{Notice, NoticeLine};
-use crate::signals::signal_state;
+use held_signals::state_now;
 use lock_client::{GuardDeed, GuardEvent, GuardWord, Sight, WordReader};
 use std::io::{ErrorKind, Input, Read};
 use std::process::Processes;
@@ -113,7 +113,7 @@ impl<R: GuardSystem> Guarded for Watch<'_, R> {
         self.seen = self.look_for_all();
         GuardEvent::Looked(Sight {
             somebody: !self.seen.is_empty(),
-            signalled: signal_state(self.rt).pending.any(),
+            signalled: state_now(self.rt).pending.any(),
         })
     }
 

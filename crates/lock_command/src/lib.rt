@@ -27,7 +27,6 @@ mod reach;
 mod rest;
 mod seconds;
 mod session;
-mod signals;
 mod system;
 mod waiter;
 mod work;

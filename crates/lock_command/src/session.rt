@@ -20,11 +20,11 @@ use crate::notice::{
 };
 use crate::rest::rest;
 use crate::seconds::Seconds;
-use crate::signals::signal_state;
 use crate::system::System;
 use crate::waiter::Waiter;
 use crate::work::{Work, start};
-use lock_client::{CommandEnd, Deed, Event, Outcome, Signal, Signals, spawn_end};
+use held_signals::{Signal, Signals, state_now};
+use lock_client::{CommandEnd, Deed, Event, Outcome, spawn_end};
 use lock_desk::ClientLine;
 use std::io::{ErrorKind, Input};
 use std::net::Net;
@@ -120,7 +120,7 @@ impl<'a, P: OpenProcess + Drop> Session<'a, P> {
         let has_failed = desk.write(ClientLine::Lock).is_err();
         let mut session = Session::waiting(request, node, desk, stopwatch, mark, waiter);
         session.has_failed = has_failed;
-        session.holds_signals_back = signal_state(rt).blocked.any();
+        session.holds_signals_back = state_now(rt).blocked.any();
         Ok(session)
     }
 
@@ -262,7 +262,7 @@ impl<'a, P: OpenProcess + Drop> Session<'a, P> {
         if !self.holds_signals_back {
             return None;
         }
-        let signal = signal_state(rt).pending.first_besides(self.seen)?;
+        let signal = state_now(rt).pending.first_besides(self.seen)?;
         self.seen = self.seen.including(signal);
         Some(signal)
     }

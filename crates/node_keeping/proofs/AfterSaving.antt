@@ -25,22 +25,22 @@ on-place sights lost h = grind (arith, common_steps)
 on-stop : (sights : Sights) (lost : Lost) → after_save sights ≡ GoOn lost → sights.stop ≡ Absent
 on-stop sights lost h = grind (arith, common_steps)
 
-on-input : (sights : Sights) (lost : Lost) → after_save sights ≡ GoOn lost → sights.has_input_ended ≡ false
-on-input sights lost h = grind (arith, common_steps)
+on-asked : (sights : Sights) (lost : Lost) → after_save sights ≡ GoOn lost → sights.is_asked ≡ false
+on-asked sights lost h = grind (arith, common_steps)
 
 -- what is made again by whoever runs on; another value for whoever ends
 abbrev lost_in : Lost → AfterSave → Lost
 lost_in other (GoOn lost) = lost
 lost_in other _ = other
 
-by-input : (lost : Lost) (ended : Bool) → lost_in lost (if ended then Stop else GoOn lost) ≡ lost
-by-input lost true = refl
-by-input lost false = refl
+by-asked : (lost : Lost) (ended : Bool) → lost_in lost (if ended then Stop else GoOn lost) ≡ lost
+by-asked lost true = refl
+by-asked lost false = refl
 
 by-stop : (sights : Sights) (stop : StopSight) → lost_in (lost_of sights) (in_place sights stop) ≡ lost_of sights
 by-stop sights Stays = refl
 by-stop sights Removed = refl
-by-stop sights Absent = by-input (lost_of sights) sights.has_input_ended
+by-stop sights Absent = by-asked (lost_of sights) sights.is_asked
 
 by-place : (sights : Sights) (own : Bool)
     → lost_in (lost_of sights) (if own then in_place sights sights.stop else Displaced) ≡ lost_of sights
@@ -52,14 +52,14 @@ on-lost sights lost h =
     subst (λ next. lost_in (lost_of sights) next ≡ lost_of sights) h (by-place sights (looks_for_stop sights.place))
 
 pub runs_on : (sights : Sights) (lost : Lost) → after_save sights ≡ GoOn lost
-    → (sights.place ≢ NotOwn) × (sights.stop ≡ Absent) × (sights.has_input_ended ≡ false)
+    → (sights.place ≢ NotOwn) × (sights.stop ≡ Absent) × (sights.is_asked ≡ false)
     × (lost ≡ lost_of sights)
 runs_on sights lost h = (
   on-place sights lost h,
   on-stop sights lost h,
-  on-input sights lost h,
+  on-asked sights lost h,
   on-lost sights lost h,
 )
 
-pub stops : (sights : Sights) → after_save sights ≡ Stop → sights.stop ≡ Absent → sights.has_input_ended ≡ true
+pub stops : (sights : Sights) → after_save sights ≡ Stop → sights.stop ≡ Absent → sights.is_asked ≡ true
 stops sights h absent = grind (arith, common_steps)

@@ -8,9 +8,9 @@ use Rattle.node_texts.specs.declared.lines.End.TheVariants.{Status}
 use Rattle.node_keeping.specs.declared.keeper.Stage.{Stage}
 use Rattle.node_keeping.specs.declared.keeper.Stage.TheVariants.{Waits, Starts, Runs, Closes, Left, Over}
 use Rattle.node_keeping.specs.declared.keeper.Seen.{Seen}
-use Rattle.node_keeping.specs.declared.keeper.Seen.TheVariants.{Nothing, Started, Ended, InputEnded}
+use Rattle.node_keeping.specs.declared.keeper.Seen.TheVariants.{Nothing, Started, Ended, Asked}
 use Rattle.node_keeping.specs.declared.keeper.Deed.TheVariants.{Rest, Start, SayAgain, Kill}
-use Rattle.node_keeping.specs.Steps.{stage_after, stage_after_all, failures_after, deed_at, deeds, input_after, looks}
+use Rattle.node_keeping.specs.Steps.{stage_after, stage_after_all, failures_after, deed_at, deeds, asked_after, looks}
 use Rattle.node_keeping.specs.Steps.{is_failed, failures_now}
 use Rattle.node_keeping.specs.Laws.{is_start, is_kill}
 
@@ -20,7 +20,7 @@ is_ending (Closes looks) = true
 is_ending Over = true
 is_ending _ = false
 
-ends : (stage : Stage) → is_ending (input_after stage) ≡ true
+ends : (stage : Stage) → is_ending (asked_after stage) ≡ true
 ends stage = grind (arith, common_steps)
 
 ending-stays : (seen : Seen) (failures : ℕ) (stage : Stage) → is_ending stage ≡ true → is_ending (stage_after seen failures stage) ≡ true
@@ -36,8 +36,8 @@ nobody failures stage (s ∷ ss) h =
     let rest : _ = nobody (failures_after s stage failures) (stage_after s failures stage) ss (ending-stays s failures stage h) in
     grind (arith, common_steps)
 
-pub nobody_starts : (failures : ℕ) (stage : Stage) (seen : List Seen) → filter is_start (deeds failures (input_after stage) seen) ≡ []
-nobody_starts failures stage seen = nobody failures (input_after stage) seen (ends stage)
+pub nobody_starts : (failures : ℕ) (stage : Stage) (seen : List Seen) → filter is_start (deeds failures (asked_after stage) seen) ≡ []
+nobody_starts failures stage seen = nobody failures (asked_after stage) seen (ends stage)
 
 -- how often a node may still be killed
 abbrev kills_left : Stage → ℕ

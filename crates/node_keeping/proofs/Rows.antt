@@ -10,8 +10,8 @@ use Rattle.node_keeping.specs.declared.saved.Lost.{Lost}
 use Rattle.node_keeping.specs.declared.saved.AfterSave.TheVariants.{Displaced, StopStays, Stop, GoOn}
 use Rattle.node_keeping.specs.declared.keeper.Stage.TheVariants.{Waits, Runs, Left}
 use Rattle.node_keeping.specs.declared.keeper.Seen.{Seen}
-use Rattle.node_keeping.specs.declared.keeper.Seen.TheVariants.{Nothing, Started, Ended, InputEnded}
-use Rattle.node_keeping.specs.declared.keeper.Deed.TheVariants.{Rest, Start, SayAgain, SayLeft, CloseInput, Kill}
+use Rattle.node_keeping.specs.declared.keeper.Seen.TheVariants.{Nothing, Started, Ended, Asked}
+use Rattle.node_keeping.specs.declared.keeper.Deed.TheVariants.{Rest, Start, SayAgain, SayLeft, SayGone, CloseInput, Kill}
 use Rattle.node_keeping.specs.Sight.{file_sight}
 use Rattle.node_keeping.specs.AfterSave.{after_save}
 use Rattle.node_keeping.specs.Steps.{deeds, stage_after_all}
@@ -43,7 +43,7 @@ none-lost : Lost
 none-lost = record { links = false; clients = false; looks = false }
 
 well : Sights
-well = record { place = Own; stop = Absent; has_input_ended = false; links = Own; clients = Own; looks = Own }
+well = record { place = Own; stop = Absent; is_asked = false; links = Own; clients = Own; looks = Own }
 
 saves-on : after_save well ≡ GoOn none-lost
 unfolding well none-lost
@@ -61,15 +61,15 @@ saves-stop : after_save (record well { place = Unseen; stop = Removed }) ≡ Sto
 unfolding well
 saves-stop = refl
 
-saves-input : after_save (record well { has_input_ended = true; links = NotOwn }) ≡ Stop
+saves-asked : after_save (record well { is_asked = true; links = NotOwn }) ≡ Stop
 unfolding well
-saves-input = refl
+saves-asked = refl
 
-saves-stays : after_save (record well { stop = Stays; has_input_ended = true }) ≡ StopStays
+saves-stays : after_save (record well { stop = Stays; is_asked = true }) ≡ StopStays
 unfolding well
 saves-stays = refl
 
-saves-displaced : after_save (record well { place = NotOwn; has_input_ended = true; links = NotOwn }) ≡ Displaced
+saves-displaced : after_save (record well { place = NotOwn; is_asked = true; links = NotOwn }) ≡ Displaced
 unfolding well
 saves-displaced = refl
 
@@ -97,14 +97,14 @@ does-late = refl
 does-well : deeds 2 (Runs 3) (Ended (Status 0) ∷ []) ≡ SayAgain (Status 0) ∷ []
 does-well = refl
 
--- as the input ends a node that runs is asked to end, and one that waits is not started
-does-ended : deeds 0 (Runs 7) (InputEnded ∷ Nothing ∷ Ended (Status 0) ∷ Nothing ∷ []) ≡ CloseInput ∷ Rest ∷ Rest ∷ Rest ∷ []
+-- as `up` is asked to end, a node that runs is asked too, and one that waits is not started
+does-ended : deeds 0 (Runs 7) (Asked ∷ Nothing ∷ Ended (Status 0) ∷ Nothing ∷ []) ≡ CloseInput ∷ Rest ∷ SayGone (Status 0) ∷ Rest ∷ []
 does-ended = refl
 
-does-ended_waiting : deeds 0 (Waits 0) (InputEnded ∷ Nothing ∷ []) ≡ Rest ∷ Rest ∷ []
+does-ended_waiting : deeds 0 (Waits 0) (Asked ∷ Nothing ∷ []) ≡ Rest ∷ Rest ∷ []
 does-ended_waiting = refl
 
-does_not-ended_waiting : deeds 0 (Waits 0) (InputEnded ∷ Nothing ∷ []) ≢ Rest ∷ Start ∷ []
+does_not-ended_waiting : deeds 0 (Waits 0) (Asked ∷ Nothing ∷ []) ≢ Rest ∷ Start ∷ []
 does_not-ended_waiting = grind arith
 
 left-alone : stage_after_all 2 (Runs 5) (Ended (Status 1) ∷ Nothing ∷ Started ∷ []) ≡ Left

@@ -6,10 +6,10 @@ use Rattle.node_keeping.specs.declared.saved.StopSight.TheVariants.{Removed}
 use Rattle.node_keeping.specs.declared.saved.AfterSave.TheVariants.{Stop}
 use Rattle.node_keeping.specs.declared.keeper.Stage.TheVariants.{Waits, Starts, Runs, Closes, Left, Over}
 use Rattle.node_keeping.specs.declared.keeper.Seen.TheVariants.{Nothing, Ended}
-use Rattle.node_keeping.specs.declared.keeper.Deed.TheVariants.{Rest, Start, SayAgain, SayLeft, CloseInput, Kill}
+use Rattle.node_keeping.specs.declared.keeper.Deed.TheVariants.{Rest, Start, SayAgain, SayLeft, SayGone, CloseInput, Kill}
 use Rattle.node_keeping.specs.AfterSave.{looks_for_stop, is_lost, in_place}
 use Rattle.node_keeping.specs.Laws.{is_start, is_kill}
-use Rattle.node_keeping.specs.Steps.{new_keeper, is_kept, is_failed, looked_at, looked_deed, failures_now, ended_after, ended_deed, input_after, input_deed, started_after, failures_after, looks}
+use Rattle.node_keeping.specs.Steps.{new_keeper, is_kept, is_failed, looked_at, looked_deed, failures_now, ended_after, ended_deed, asked_after, asked_deed, urged_deed, started_after, failures_after, looks}
 
 -- a stop file in a folder that is another's is not this node's
 looks-unseen : looks_for_stop Unseen ≡ true
@@ -24,7 +24,7 @@ lost = refl
 lost_not-unseen : is_lost Unseen ≡ false
 lost_not-unseen = refl
 
-stops-in-place : in_place (record { place = Own; stop = Removed; has_input_ended = false; links = Own; clients = Own; looks = Own }) Removed ≡ Stop
+stops-in-place : in_place (record { place = Own; stop = Removed; is_asked = false; links = Own; clients = Own; looks = Own }) Removed ≡ Stop
 stops-in-place = refl
 
 -- ---- a keeper
@@ -110,24 +110,34 @@ says-again = refl
 says-left : ended_deed (Status 1) 2 (Runs 5) ≡ SayLeft (Status 1)
 says-left = refl
 
-says_not-closed : ended_deed (Status 1) 2 (Closes 5) ≡ Rest
-says_not-closed = refl
+says-gone : ended_deed (Status 1) 2 (Closes 5) ≡ SayGone (Status 1)
+says-gone = refl
 
--- at the end of its input `up` closes what runs, and starts nobody
-input-runs : input_after (Runs 5) ≡ Closes 500
-input-runs = refl
+says_not-over : ended_deed (Status 1) 2 Over ≡ Rest
+says_not-over = refl
 
-input-waits : input_after (Waits 5) ≡ Over
-input-waits = refl
+-- once asked to end `up` closes what runs, and starts nobody
+asked-runs : asked_after (Runs 5) ≡ Closes 500
+asked-runs = refl
 
-input_not-again : input_after (Closes 3) ≡ Closes 3
-input_not-again = refl
+asked-waits : asked_after (Waits 5) ≡ Over
+asked-waits = refl
 
-closes : input_deed (Runs 5) ≡ CloseInput
+asked_not-again : asked_after (Closes 3) ≡ Closes 3
+asked_not-again = refl
+
+closes : asked_deed (Runs 5) ≡ CloseInput
 closes = refl
 
-closes_not-waiting : input_deed (Waits 5) ≡ Rest
+closes_not-waiting : asked_deed (Waits 5) ≡ Rest
 closes_not-waiting = refl
+
+-- asked again it kills what is there
+urged : urged_deed (Closes 400) ≡ Kill
+urged = refl
+
+urged_not-waiting : urged_deed (Waits 3) ≡ Rest
+urged_not-waiting = refl
 
 started : started_after Starts ≡ Runs 0
 started = refl

@@ -27,13 +27,13 @@ lost_of sights = record {
   looks = is_lost sights.looks;
 }
 
--- a node with a place of its own ends by its stop file, with a fault if that stays, and with its
--- input; else it runs on, and takes back each name that is lost
+-- a node with a place of its own ends by its stop file, with a fault if that stays, and as it is
+-- asked to; else it runs on, and takes back each name that is lost
 abbrev pub in_place : Sights → StopSight → AfterSave
 in_place sights Stays = StopStays
 in_place sights Removed = Stop
 in_place sights Absent =
-    if sights.has_input_ended then Stop else GoOn (lost_of sights)
+    if sights.is_asked then Stop else GoOn (lost_of sights)
 
 -- a node whose lock file is gone or another's ends at once
 abbrev pub after_save : Sights → AfterSave

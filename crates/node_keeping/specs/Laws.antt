@@ -11,11 +11,11 @@ use Rattle.node_keeping.specs.declared.saved.AfterSave.TheVariants.{Displaced, S
 use Rattle.node_keeping.specs.declared.keeper.Stage.{Stage}
 use Rattle.node_keeping.specs.declared.keeper.Stage.TheVariants.{Waits, Runs, Closes, Left, Over}
 use Rattle.node_keeping.specs.declared.keeper.Seen.{Seen}
-use Rattle.node_keeping.specs.declared.keeper.Seen.TheVariants.{Nothing, Ended, InputEnded}
+use Rattle.node_keeping.specs.declared.keeper.Seen.TheVariants.{Nothing, Ended, Asked, Urged}
 use Rattle.node_keeping.specs.declared.keeper.Deed.{Deed}
-use Rattle.node_keeping.specs.declared.keeper.Deed.TheVariants.{Rest, Start, SayAgain, Kill, CloseInput}
+use Rattle.node_keeping.specs.declared.keeper.Deed.TheVariants.{Rest, Start, SayAgain, SayGone, Kill, CloseInput}
 use Rattle.node_keeping.specs.AfterSave.{after_save, lost_of}
-use Rattle.node_keeping.specs.Steps.{stage_after, stage_after_all, deeds, input_after, looks, is_failed}
+use Rattle.node_keeping.specs.Steps.{stage_after, stage_after_all, deeds, asked_after, looks, is_failed}
 
 -- a node whose lock file is not its own ends at once, whatever else it sees
 abbrev pub EndsWhereDisplaced : Type 0
@@ -26,14 +26,14 @@ EndsWhereDisplaced = (sights : Sights) → (after_save sights ≡ Displaced) ↔
 abbrev pub RunsOnInPlace : Type 0
 RunsOnInPlace =
     (sights : Sights) (lost : Lost) → after_save sights ≡ GoOn lost
-    → (sights.place ≢ NotOwn) × (sights.stop ≡ Absent) × (sights.has_input_ended ≡ false)
+    → (sights.place ≢ NotOwn) × (sights.stop ≡ Absent) × (sights.is_asked ≡ false)
     × (lost ≡ lost_of sights)
 
--- a node ends well by its stop file or its input, and nothing else
+-- a node ends well by its stop file or as it is asked to, and by nothing else
 abbrev pub StopsWhenTold : Type 0
 StopsWhenTold =
     (sights : Sights) → after_save sights ≡ Stop
-    → (sights.stop ≡ Absent) → sights.has_input_ended ≡ true
+    → (sights.stop ≡ Absent) → sights.is_asked ≡ true
 
 abbrev pub is_start : Deed → Bool
 is_start Start = true
@@ -43,11 +43,11 @@ abbrev pub is_kill : Deed → Bool
 is_kill Kill = true
 is_kill _ = false
 
--- once the input of `up` is at its end nobody is started, whatever is seen
+-- once `up` is asked to end nobody is started, whatever is seen
 abbrev pub NobodyStartsAfterTheEnd : Type 0
 NobodyStartsAfterTheEnd =
     (failures : ℕ) (stage : Stage) (seen : List Seen)
-    → filter is_start (deeds failures (input_after stage) seen) ≡ []
+    → filter is_start (deeds failures (asked_after stage) seen) ≡ []
 
 -- a node that ended is started again after 10 looks, unless it failed at its start
 abbrev pub IsStartedAgain : Type 0
@@ -79,3 +79,16 @@ IsKilledInTime =
     (failures n : ℕ) →
     (stage_after_all failures (Closes n) (looks (n + 1)) ≡ Over)
     × (length (filter is_kill (deeds failures (Closes n) (looks (n + 1)))) ≡ 1)
+
+-- a node that is to end and ends is named, with how it ended
+abbrev pub IsNamedAtItsEnd : Type 0
+IsNamedAtItsEnd =
+    (failures n : ℕ) (end : End)
+    → deeds failures (Closes n) (Ended end ∷ []) ≡ SayGone end ∷ []
+
+-- once `up` is asked again, a node that is to end is killed at once, and is over then
+abbrev pub IsKilledAtOnce : Type 0
+IsKilledAtOnce =
+    (failures n : ℕ) →
+    (deeds failures (Closes n) (Urged ∷ []) ≡ Kill ∷ [])
+    × (stage_after Urged failures (Closes n) ≡ Over)

@@ -2,3 +2,5 @@ pub mod Sight
 pub mod AfterSave
 pub mod Steps
 pub mod Laws
+pub mod Course
+pub mod CourseLaws

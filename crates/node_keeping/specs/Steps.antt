@@ -5,9 +5,9 @@ use Rattle.node_texts.specs.declared.lines.End.TheVariants.{Status, Signal, Unkn
 use Rattle.node_keeping.specs.declared.keeper.Stage.{Stage}
 use Rattle.node_keeping.specs.declared.keeper.Stage.TheVariants.{Waits, Starts, Runs, Closes, Left, Over}
 use Rattle.node_keeping.specs.declared.keeper.Seen.{Seen}
-use Rattle.node_keeping.specs.declared.keeper.Seen.TheVariants.{Nothing, Started, Ended, InputEnded}
+use Rattle.node_keeping.specs.declared.keeper.Seen.TheVariants.{Nothing, Started, Ended, Asked, Urged}
 use Rattle.node_keeping.specs.declared.keeper.Deed.{Deed}
-use Rattle.node_keeping.specs.declared.keeper.Deed.TheVariants.{Rest, Start, SayAgain, SayLeft, CloseInput, Kill}
+use Rattle.node_keeping.specs.declared.keeper.Deed.TheVariants.{Rest, Start, SayAgain, SayLeft, SayGone, CloseInput, Kill}
 use Rattle.node_keeping.specs.declared.keeper.Keeper.{Keeper}
 
 -- a node that is started at the first look
@@ -55,21 +55,29 @@ abbrev pub ended_deed : End → ℕ → Stage → Deed
 ended_deed end failures Starts = SayAgain end
 ended_deed end failures (Runs looks) =
     if nat_lt (failures_now end looks failures) 3 then SayAgain end else SayLeft end
+ended_deed end failures (Closes looks) = SayGone end
 ended_deed end failures _ = Rest
 
--- once the input of `up` is at its end, what runs is to end within 500 looks, and nothing is started
-abbrev pub input_after : Stage → Stage
-input_after (Waits looks) = Over
-input_after Starts = Closes 500
-input_after (Runs looks) = Closes 500
-input_after (Closes looks) = Closes looks
-input_after Left = Over
-input_after Over = Over
+-- once `up` is asked to end, what runs is to end within 500 looks, and nothing is started
+abbrev pub asked_after : Stage → Stage
+asked_after (Waits looks) = Over
+asked_after Starts = Closes 500
+asked_after (Runs looks) = Closes 500
+asked_after (Closes looks) = Closes looks
+asked_after Left = Over
+asked_after Over = Over
 
-abbrev pub input_deed : Stage → Deed
-input_deed Starts = CloseInput
-input_deed (Runs looks) = CloseInput
-input_deed _ = Rest
+abbrev pub asked_deed : Stage → Deed
+asked_deed Starts = CloseInput
+asked_deed (Runs looks) = CloseInput
+asked_deed _ = Rest
+
+-- once it is asked again, what is there is killed
+abbrev pub urged_deed : Stage → Deed
+urged_deed Starts = Kill
+urged_deed (Runs looks) = Kill
+urged_deed (Closes looks) = Kill
+urged_deed _ = Rest
 
 -- a node that was started runs
 abbrev pub started_after : Stage → Stage
@@ -81,7 +89,8 @@ abbrev pub stage_after : Seen → ℕ → Stage → Stage
 stage_after Nothing failures stage = looked_at stage
 stage_after Started failures stage = started_after stage
 stage_after (Ended end) failures stage = ended_after end failures stage
-stage_after InputEnded failures stage = input_after stage
+stage_after Asked failures stage = asked_after stage
+stage_after Urged failures stage = Over
 
 -- how often in a row a node has failed, after what was seen
 abbrev pub failures_after : Seen → Stage → ℕ → ℕ
@@ -93,7 +102,8 @@ abbrev pub deed_at : Seen → ℕ → Stage → Deed
 deed_at Nothing failures stage = looked_deed stage
 deed_at Started failures stage = Rest
 deed_at (Ended end) failures stage = ended_deed end failures stage
-deed_at InputEnded failures stage = input_deed stage
+deed_at Asked failures stage = asked_deed stage
+deed_at Urged failures stage = urged_deed stage
 
 -- the stage after all that was seen, one after the other
 abbrev pub stage_after_all : ℕ → Stage → List Seen → Stage

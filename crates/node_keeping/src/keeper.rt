@@ -2,7 +2,7 @@
 ghost use Rattle.std.specs.Prelude.{◌≡◌, true};
 ghost use Rattle.node_keeping.specs.Steps.{stage_after, deed_at, failures_after, is_kept};
 ghost use Rattle.node_keeping.specs.Steps.{looked_at, looked_deed, ended_after, ended_deed, is_failed};
-ghost use Rattle.node_keeping.specs.Steps.{input_after, input_deed};
+ghost use Rattle.node_keeping.specs.Steps.{asked_after, asked_deed, urged_deed};
 
 use node_texts::End;
 
@@ -44,8 +44,10 @@ pub enum Seen {
     Started,
     /// It ended so, or could not be started.
     Ended(End),
-    /// The input of `up` is at its end.
-    InputEnded,
+    /// `up` is asked to end.
+    Asked,
+    /// It is asked again, and waits for nobody any more.
+    Urged,
 }
 
 /// What is to be done with a node.
@@ -61,6 +63,8 @@ pub enum Deed {
     SayLeft(End),
     /// Its input is closed, so that it ends.
     CloseInput,
+    /// It is said that it ended so, as it was to.
+    SayGone(End),
     /// It is killed.
     Kill,
 }
@@ -76,7 +80,7 @@ pub struct Keeper {
 impl Keeper {
     ghost use Rattle.std.specs.Prelude.{nat_lt, if◌then◌else◌};
     ghost use Rattle.node_keeping.specs.Steps.{new_keeper};
-    ghost use Rattle.node_keeping.specs.declared.keeper.Stage.TheVariants.{Waits, Left};
+    ghost use Rattle.node_keeping.specs.declared.keeper.Stage.TheVariants.{Waits, Left, Over};
     ghost use Rattle.node_keeping.specs.declared.keeper.Seen.TheVariants.{Started, Ended};
     ghost use Rattle.node_keeping.specs.declared.keeper.Deed.TheVariants.{Rest, SayAgain, SayLeft};
 
@@ -108,7 +112,8 @@ impl Keeper {
             Seen::Nothing => self.look(),
             Seen::Started => self.begin(),
             Seen::Ended(end) => self.end(end),
-            Seen::InputEnded => self.close(),
+            Seen::Asked => self.close(),
+            Seen::Urged => self.cut_short(),
         }
     }
 
@@ -160,7 +165,7 @@ impl Keeper {
             }
             Stage::Closes(_) => {
                 self.stage = Stage::Over;
-                Deed::Rest
+                Deed::SayGone(end)
             }
             _ => Deed::Rest,
         }
@@ -191,8 +196,8 @@ impl Keeper {
 
     /// It is not started any more.
     fn close(&mut self) -> Deed
-        ensures stage { self.new ≡ record self.old { stage = input_after self.old.stage } }
-        ensures deed { result ≡ input_deed self.old.stage }
+        ensures stage { self.new ≡ record self.old { stage = asked_after self.old.stage } }
+        ensures deed { result ≡ asked_deed self.old.stage }
     {
         match self.stage {
             Stage::Starts | Stage::Runs(_) => {
@@ -205,6 +210,19 @@ impl Keeper {
             }
             Stage::Closes(_) | Stage::Over => Deed::Rest,
         }
+    }
+
+    /// It is waited for no longer.
+    fn cut_short(&mut self) -> Deed
+        ensures stage { self.new ≡ record self.old { stage = Over } }
+        ensures deed { result ≡ urged_deed self.old.stage }
+    {
+        let is_there = matches!(
+            self.stage,
+            Stage::Starts | Stage::Runs(_) | Stage::Closes(_)
+        );
+        self.stage = Stage::Over;
+        if is_there { Deed::Kill } else { Deed::Rest }
     }
 }
 

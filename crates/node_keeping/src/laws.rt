@@ -2,6 +2,8 @@
 ghost use Rattle.node_keeping.specs.Laws.{EndsWhereDisplaced, RunsOnInPlace, StopsWhenTold};
 ghost use Rattle.node_keeping.specs.Laws.{NobodyStartsAfterTheEnd, IsStartedAgain};
 ghost use Rattle.node_keeping.specs.Laws.{IsLeftAfterThreeFailures, IsKilledOnce, IsKilledInTime};
+ghost use Rattle.node_keeping.specs.Laws.{IsNamedAtItsEnd, IsKilledAtOnce};
+ghost use Rattle.node_keeping.specs.CourseLaws.{RunsUnasked, AsksOnce, UrgesOnce};
 
 /// A node lends only in a folder that is its own: whoever removes the folder of a network and makes
 /// another there relies on it.
@@ -17,9 +19,19 @@ pub fn a_node_is_started_again()
     ensures left { IsLeftAfterThreeFailures }
 {}
 
-/// Once the input of `up` is at its end nobody is started, and whoever does not end is killed once.
+/// Once `up` is asked to end nobody is started, each node that ends is named, and whoever does not end
+/// is killed once: after 500 looks, or as soon as `up` is asked again.
 pub fn up_leaves_nobody()
     ensures nobody { NobodyStartsAfterTheEnd }
     ensures once { IsKilledOnce }
     ensures in_time { IsKilledInTime }
+    ensures named { IsNamedAtItsEnd }
+    ensures at_once { IsKilledAtOnce }
+{}
+
+/// `up` runs on as long as nothing asks it to end. It asks its nodes to end once, and urges them once.
+pub fn up_ends_when_asked()
+    ensures unasked { RunsUnasked }
+    ensures asks { AsksOnce }
+    ensures urges { UrgesOnce }
 {}

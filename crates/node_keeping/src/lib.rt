@@ -9,6 +9,7 @@
 //! keeper.step(Seen::Nothing);                          // Deed::Start
 //! keeper.step(Seen::Started);                          // Deed::Rest
 //! keeper.step(Seen::Ended(End::Status(0)));            // Deed::SayAgain: it is started again
+//! let word = course.step(sights);                      // Some(Seen::Asked), as Ctrl-C came to `up`
 //! after_save(Sights { place: FileSight::NotOwn, ..sights });   // AfterSave::Displaced
 //! ```
 //!
@@ -16,11 +17,13 @@
 //! choose: 50 milliseconds while nodes run, 10 while they end.
 #![tactic(auto)]
 
+mod course;
 mod keeper;
 pub mod laws;
 mod saved;
 mod sight;
 
+pub use course::{UpCourse, UpSights, UpStage};
 pub use keeper::{Deed, Keeper, LOOKS_BEFORE_KILL, LOOKS_BEFORE_START, Seen, Stage};
 pub use saved::{AfterSave, Complaint, Lost, Sights, StopSight, after_save, looks_for_stop};
 pub use sight::{FileId, FileSight, sight_of};

@@ -22,8 +22,9 @@ pub struct Sights {
     pub place: FileSight,
     /// Its stop file.
     pub stop: StopSight,
-    /// Whether its standard input, if it is to end with it, is at its end.
-    pub has_input_ended: bool,
+    /// Whether it is asked to end in another way: by the end of its standard input, if it is to end with
+    /// that, or by a signal that is held back.
+    pub is_asked: bool,
     /// Its socket for neighbours.
     pub links: FileSight,
     /// Its socket for clients.
@@ -73,7 +74,7 @@ pub fn after_save(sights: Sights) -> AfterSave
         _ if !looks_for_stop(sights.place) => AfterSave::Displaced,
         StopSight::Stays => AfterSave::StopStays,
         StopSight::Removed => AfterSave::Stop,
-        StopSight::Absent if sights.has_input_ended => AfterSave::Stop,
+        StopSight::Absent if sights.is_asked => AfterSave::Stop,
         StopSight::Absent => AfterSave::GoOn(Lost {
             links: is_lost(sights.links),
             clients: is_lost(sights.clients),

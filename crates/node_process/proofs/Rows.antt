@@ -1,14 +1,17 @@
 -- Small examples of each definition, and ones that fail.
 use Rattle.std.proofs.Common.{◌≡◌, ◌≢◌, true, false, Some, None, [], ◌∷◌, refl, codes, arith}
 use Rattle.std.specs.Fmt.{digits}
-use Rattle.node_texts.specs.declared.lines.End.TheVariants.{Unstarted}
+use Rattle.node_texts.specs.declared.lines.End.TheVariants.{Unstarted, Status, Signal}
 use Rattle.node_keeping.specs.declared.saved.AfterSave.TheVariants as save
 use Rattle.node_process.specs.declared.fault.NodeFault.TheVariants.{NoNode, Folder, Running, Links, Looks, System, Memory, Displaced, StopStays}
 use Rattle.node_process.specs.declared.start.Stage.TheVariants.{Begun, Checked, Entered, Held, Listening}
 use Rattle.node_process.specs.Start.{may_end}
-use Rattle.node_process.specs.Children.{child_words}
+use Rattle.node_process.specs.declared.rights.Rights.TheVariants.{Usual, GroupLocks}
+use Rattle.node_process.specs.Children.{rights_options, log_options, child_words}
+use Rattle.node_log.specs.declared.event.Level.TheVariants.{Notice}
+use Rattle.node_process.specs.Rights.{folder_mode, own_mode, clients_mode}
 use Rattle.node_process.specs.Ends.{end_fault, ends_by}
-use Rattle.node_process.specs.Texts.{last_end, blocked_line}
+use Rattle.node_process.specs.Texts.{last_end, gone_line, blocked_line}
 
 -- a wrong id ends a start before the folder is made, and not after
 ends-wrong_id : may_end Begun (NoNode 3) ≡ true
@@ -59,13 +62,47 @@ goes_not-on = refl
 says-left : last_end Unstarted ≡ codes "cannot be started"
 says-left = refl
 
+says-gone : gone_line 1 (Status 0) ≡ codes "node 1 has ended"
+unfolding digits
+says-gone = refl
+
+says-gone_killed : gone_line 1 (Signal 9) ≡ codes "node 1 was ended by signal 9"
+unfolding digits
+says-gone_killed = refl
+
+says_not-well : gone_line 1 (Status 1) ≡ codes "node 1 ended with status 1"
+unfolding digits
+says_not-well = refl
+
 says-blocked : blocked_line (codes "run/desk-1.sock")
     ≡ codes "tokentree: run/desk-1.sock: cannot be made again; remove what stands there: the node runs on, and tries again"
 says-blocked = refl
 
 -- a child gets all options, its turns' time in milliseconds
-tells-child : child_words (record { hold = 2000; repeat = 8000 }) 2250 (codes "ring.toml") 1 (codes "run")
+tells-child : child_words (record { hold = 2000; repeat = 8000 }) 2250 GroupLocks (Some Notice) (codes "ring.toml") 1 (codes "run")
     ≡ codes "node" ∷ codes "--child" ∷ codes "--hold" ∷ codes "2000" ∷ codes "--repeat" ∷ codes "8000"
-    ∷ codes "--turn" ∷ codes "2.250" ∷ codes "--" ∷ codes "ring.toml" ∷ codes "1" ∷ codes "run" ∷ []
+    ∷ codes "--turn" ∷ codes "2.250" ∷ codes "--group-locks" ∷ codes "--log" ∷ codes "5" ∷ codes "--" ∷ codes "ring.toml" ∷ codes "1" ∷ codes "run" ∷ []
 unfolding digits
 tells-child = refl
+
+says_not-rights : rights_options Usual ≡ []
+says_not-rights = refl
+
+says_not-log : log_options None ≡ []
+says_not-log = refl
+
+-- octal 0750, 0660 and 0600
+mode-folder : folder_mode GroupLocks ≡ 488
+mode-folder = refl
+
+mode_not-written : folder_mode GroupLocks ≢ 504
+mode_not-written = grind arith
+
+mode-clients : clients_mode GroupLocks ≡ Some 432
+mode-clients = refl
+
+mode-own : own_mode GroupLocks ≡ Some 384
+mode-own = refl
+
+mode_not-usual : own_mode Usual ≡ None
+mode_not-usual = refl

@@ -1,9 +1,13 @@
 -- The command lines of the nodes that `up` keeps running, and how they end.
-use Rattle.std.specs.Prelude.{ℕ, ◌/◌, ◌%◌, ◌==◌, if◌then◌else◌, List, [], ◌∷◌, ◌++◌, codes, decimal}
+use Rattle.std.specs.Prelude.{ℕ, ◌/◌, ◌%◌, ◌==◌, if◌then◌else◌, Option, None, Some, List, [], ◌∷◌, ◌++◌, codes, decimal}
 use Rattle.std.specs.Process.{status_bits}
 use Rattle.std.specs.declared.process.status.ExitStatus.{ExitStatus}
 use Rattle.pace.specs.declared.pace.Manner.{Manner}
+use Rattle.node_process.specs.declared.rights.Rights.{Rights}
+use Rattle.node_process.specs.declared.rights.Rights.TheVariants.{Usual, GroupLocks}
 use Rattle.node_texts.specs.PremisesText.{millis_text}
+use Rattle.node_log.specs.Events.{priority_of}
+use Rattle.node_log.specs.declared.event.Level.{Level}
 use Rattle.node_texts.specs.declared.lines.End.{End}
 use Rattle.node_texts.specs.declared.lines.End.TheVariants.{Status, Signal, Unknown}
 
@@ -16,10 +20,20 @@ child_options manner turn =
     ∷ codes "--repeat" ∷ decimal manner.repeat
     ∷ codes "--turn" ∷ millis_text turn ∷ []
 
--- the same for node `id` of a network; after `--` a FILE or DIR that begins with a hyphen is one too
-abbrev pub child_words : Manner → ℕ → List ℕ → ℕ → List ℕ → List (List ℕ)
-child_words manner turn file id dir =
-    child_options manner turn ++ codes "--" ∷ file ∷ decimal id ∷ dir ∷ []
+-- and whether the group may take the lock
+abbrev pub rights_options : Rights → List (List ℕ)
+rights_options Usual = []
+rights_options GroupLocks = codes "--group-locks" ∷ []
+
+-- and from which level on it says what happens
+abbrev pub log_options : Option Level → List (List ℕ)
+log_options None = []
+log_options (Some level) = codes "--log" ∷ decimal (priority_of level) ∷ []
+
+-- the words of node `id` of a network; after `--` a FILE or DIR that begins with a hyphen is one too
+abbrev pub child_words : Manner → ℕ → Rights → Option Level → List ℕ → ℕ → List ℕ → List (List ℕ)
+child_words manner turn rights log file id dir =
+    child_options manner turn ++ (rights_options rights ++ (log_options log ++ codes "--" ∷ file ∷ decimal id ∷ dir ∷ []))
 
 -- how a process ended, by POSIX's wait status: the low seven bits are 0 if it ended by itself, with
 -- the status in the next byte, and else the signal that ended it; 127 there is no end

@@ -2,3 +2,4 @@ pub mod Children
 pub mod Texts
 pub mod Start
 pub mod Ends
+pub mod Rights

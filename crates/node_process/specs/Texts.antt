@@ -1,9 +1,9 @@
 -- What a node's process, and the process that keeps nodes running, say where they do not run.
-use Rattle.std.specs.Prelude.{ℕ, List, ◌++◌, codes, decimal}
+use Rattle.std.specs.Prelude.{ℕ, ◌==◌, if◌then◌else◌, List, ◌++◌, codes, decimal}
 use Rattle.network_file.specs.FaultText.{network_fault_text}
 use Rattle.node_process.specs.declared.fault.NodeFault.{NodeFault}
 use Rattle.node_process.specs.declared.fault.NodeFault.TheVariants.{Network, NoNode, LongName}
-use Rattle.node_process.specs.declared.fault.NodeFault.TheVariants.{Folder, Lock, Running, Links}
+use Rattle.node_process.specs.declared.fault.NodeFault.TheVariants.{Folder, Rights, Lock, Running, Links}
 use Rattle.node_process.specs.declared.fault.NodeFault.TheVariants.{Clients, Looks, System, Input, Memory}
 use Rattle.node_process.specs.declared.fault.NodeFault.TheVariants.{UpLock, UpRunning}
 use Rattle.node_process.specs.declared.fault.NodeFault.TheVariants.{Displaced, StopStays, NoneStays}
@@ -20,6 +20,8 @@ refusal_text file dir id LongName =
     dir ++ codes ": a socket there has a name of more than 107 bytes; choose a shorter DIR"
 refusal_text file dir id Folder =
     dir ++ codes ": cannot be made; make this folder, or choose another DIR"
+refusal_text file dir id Rights =
+    dir ++ codes ": its rights cannot be set; choose a DIR that is yours"
 refusal_text file dir id Lock =
     dir ++ (codes "/lock-" ++ (decimal id
     ++ codes ": cannot be opened; choose a DIR that is yours"))
@@ -68,3 +70,11 @@ abbrev pub left_line : ℕ → End → List ℕ
 left_line id end =
     codes "node " ++ (decimal id ++ (codes " " ++ (last_end end
     ++ codes " for the third time at its start, and is left alone; mend what it says, and start up again")))
+
+-- how a node ended that was to end; one that ended well has ended
+abbrev pub good_end : End → List ℕ
+good_end (Status status) = if status == 0 then codes "has ended" else last_end (Status status)
+good_end end = last_end end
+
+abbrev pub gone_line : ℕ → End → List ℕ
+gone_line id end = codes "node " ++ (decimal id ++ (codes " " ++ good_end end))

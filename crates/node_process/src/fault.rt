@@ -19,6 +19,8 @@ pub enum NodeFault {
     LongName,
     /// The folder is not there, and cannot be made.
     Folder,
+    /// The rights of the folder cannot be set.
+    Rights,
     /// The file by which a node says that it runs cannot be opened.
     Lock,
     /// Another process is the node already.
@@ -107,6 +109,12 @@ impl fmt::Display for Refusal<'_> {
                 write!(
                     f,
                     "{dir}: cannot be made; make this folder, or choose another DIR"
+                )
+            }
+            NodeFault::Rights => {
+                write!(
+                    f,
+                    "{dir}: its rights cannot be set; choose a DIR that is yours"
                 )
             }
             NodeFault::Lock => {

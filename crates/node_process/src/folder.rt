@@ -1,29 +1,27 @@
 //! The folder of a network: it is made if it is missing, and a node takes its place in it.
-ghost use Rattle.std.specs.Prelude.{◌≡◌, ◌<◌, ◌≤◌, ◌⊎◌, IfOk, IfErr, length};
+ghost use Rattle.std.specs.Prelude.{◌≡◌, ◌<◌, ◌≤◌, ◌⊎◌, None, IfOk, IfErr, is_ok, true, length};
 ghost use Rattle.node_texts.specs.Names.{longest_socket_name};
 ghost use Rattle.node_process.specs.declared.fault.NodeFault.TheVariants.{LongName, Memory};
-ghost use Rattle.node_process.specs.declared.fault.NodeFault.TheVariants.{Folder, Lock, Running};
+ghost use Rattle.node_process.specs.declared.fault.NodeFault.TheVariants.{Folder, Rights, Lock, Running};
 ghost use Rattle.node_process.specs.declared.fault.NodeFault.TheVariants.{Links, Clients, Looks};
 ghost use Rattle.node_process.specs.declared.start.Stage.TheVariants.{Checked, Entered, Held};
 ghost use Rattle.node_process.specs.declared.start.Stage.TheVariants.{Listening};
 
 use crate::fault::NodeFault;
+use crate::rights::Rights;
 use crate::start::Stage;
 use mio::net::UnixListener;
 use node_keeping::{FileId, FileSight, sight_of};
 use node_texts::{LONGEST_SOCKET_NAME, NodePaths, links_name, longest_socket_name};
 use std::alloc::Global;
-use std::fs::{DirBuilder, File, Metadata, OpenOptions};
+use std::fs::{DirBuilder, File, Metadata, OpenOptions, Permissions};
 use std::io::ErrorKind;
 use std::net::Net;
-use std::os::unix::fs::{DirBuilderExt, MetadataExt, OpenOptionsExt};
+use std::os::unix::fs::{DirBuilderExt, MetadataExt, OpenOptionsExt, PermissionsExt};
 use std::os::unix::net::SocketAddr;
 use std::rt::Files;
 use std::{fs, io};
 use unix_doors::Listeners;
-
-/// Who may enter a folder that is made here: its owner.
-const FOLDER_MODE: u32 = 0o700;
 
 /// Who may open a file that is made here: its owner.
 const FILE_MODE: u32 = 0o600;
@@ -43,21 +41,41 @@ pub fn check_names(alloc: Global, dir: &str, nodes: u16) -> Result<(), NodeFault
     Ok(())
 }
 
-/// Makes the folder if it is missing, but none above it. Only its owner can enter it then.
+/// Makes the folder if it is missing, but none above it, with these rights. Those of the group are set in a
+/// folder that is there, too.
 ///
 /// # Errors
-/// `Folder` if there is none and none can be made.
-pub fn make_folder<F: Files>(files: &F, dir: &str, stage: &mut Stage) -> Result<(), NodeFault>
+/// `Folder` if there is none and none can be made; `Rights` if its rights cannot be set.
+pub fn make_folder<F: Files>(
+    files: &F,
+    dir: &str,
+    rights: Rights,
+    stage: &mut Stage,
+) -> Result<(), NodeFault>
     requires { stage.old ≡ Checked }
     ensures ok { IfOk result (λ _. stage.new ≡ Entered) }
-    ensures err { IfErr result (λ fault. (fault ≡ Folder) × (stage.new ≡ Checked)) }
+    ensures err { IfErr result
+        (λ fault. ((fault ≡ Folder) ⊎ (fault ≡ Rights)) × (stage.new ≡ Checked)) }
 {
-    let made = DirBuilder::new().mode(FOLDER_MODE).create(files, dir);
+    let made = DirBuilder::new().mode(rights.folder()).create(files, dir);
     if made.is_err() && !is_folder(files, dir) {
         return Err(NodeFault::Folder);
     }
+    if rights == Rights::GroupLocks && set_mode(files, dir, Some(rights.folder())).is_err() {
+        return Err(NodeFault::Rights);
+    }
     *stage = Stage::Entered;
     Ok(())
+}
+
+/// Sets the mode of a file, if one is given.
+pub fn set_mode<F: Files>(files: &F, path: &str, mode: Option<u32>) -> io::Result<()>
+    ensures { mode ≡ None → is_ok result ≡ true }
+{
+    match mode {
+        Some(mode) => fs::set_permissions(files, path, Permissions::from_mode(mode)),
+        None => Ok(()),
+    }
 }
 
 /// Whether a folder stands there.
@@ -174,6 +192,7 @@ pub struct NodeSockets {
 pub fn make_sockets<R: Files + Net>(
     rt: &R,
     paths: &NodePaths,
+    rights: Rights,
     stage: &mut Stage,
 ) -> Result<NodeSockets, NodeFault>
     requires { stage.old ≡ Held }
@@ -181,13 +200,13 @@ pub fn make_sockets<R: Files + Net>(
     ensures err { IfErr result (λ fault. ((fault ≡ Links) ⊎ ((fault ≡ Clients) ⊎ (fault ≡ Looks)))
         × (stage.new ≡ Held)) }
 {
-    let Ok(links) = bind_again(rt, paths.links.as_str()) else {
+    let Ok(links) = bind_again(rt, paths.links.as_str(), rights.own()) else {
         return Err(NodeFault::Links);
     };
-    let Ok(clients) = bind_again(rt, paths.clients.as_str()) else {
+    let Ok(clients) = bind_again(rt, paths.clients.as_str(), rights.clients()) else {
         return Err(NodeFault::Clients);
     };
-    let Ok(looks) = bind_again(rt, paths.looks.as_str()) else {
+    let Ok(looks) = bind_again(rt, paths.looks.as_str(), rights.own()) else {
         return Err(NodeFault::Looks);
     };
     *stage = Stage::Listening;
@@ -208,13 +227,14 @@ fn joined(links: Listener, clients: Listener, looks: Listener) -> NodeSockets {
     }
 }
 
-/// A socket of this name, in place of a file that stands there.
+/// A socket of this name and mode, if one is given, in place of a file that stands there.
 ///
 /// # Errors
 /// If what stands there cannot be removed, as a folder, or the system makes none.
-pub fn bind_again<R: Files + Net>(rt: &R, path: &str) -> io::Result<Listener> {
+pub fn bind_again<R: Files + Net>(rt: &R, path: &str, mode: Option<u32>) -> io::Result<Listener> {
     remove(rt, path)?;
     let socket = UnixListener::bind(rt, path)?;
+    set_mode(rt, path, mode)?;
     let file = id_of(&fs::symlink_metadata(rt, path)?);
     Ok(Listener { socket, file })
 }

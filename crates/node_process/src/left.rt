@@ -1,4 +1,4 @@
-//! The line which says that a node is left alone.
+//! The lines which say that a node is left alone, or has ended as it was to.
 use node_texts::End;
 use std::fmt;
 
@@ -24,6 +24,45 @@ impl fmt::Display for LeftLine {
             "node {id} {end} for the third time at its start, and is left alone; mend what it says, and \
             start up again"
         )
+    }
+}
+
+/// The line which says that a node has ended that was to end, and how.
+#[derive(Drop)]
+pub struct GoneLine {
+    /// The node.
+    pub id: u16,
+    /// How it ended.
+    pub end: End,
+}
+
+impl fmt::Display for GoneLine {
+    ghost use Rattle.std.specs.Prelude.{Some};
+    ghost use Rattle.node_process.specs.Texts.{gone_line};
+
+    ghost output = { λ line. Some (gone_line line.id line.end) };
+
+    fn fmt<W: fmt::Write>(&self, f: &mut fmt::Formatter<W>) -> fmt::Result {
+        let (id, end) = (self.id, GoodEnd(self.end));
+        write!(f, "node {id} {end}")
+    }
+}
+
+/// How a node ended that was to end.
+#[derive(Drop)]
+struct GoodEnd(End);
+
+impl fmt::Display for GoodEnd {
+    ghost use Rattle.std.specs.Prelude.{Some};
+    ghost use Rattle.node_process.specs.Texts.{good_end};
+
+    ghost output = { λ end. Some (good_end end.0) };
+
+    fn fmt<W: fmt::Write>(&self, f: &mut fmt::Formatter<W>) -> fmt::Result {
+        match self.0 {
+            End::Status(0) => f.write_str("has ended"),
+            end => f.write(LastEnd(end)),
+        }
     }
 }
 

@@ -5,7 +5,7 @@
 //! let words = NodeWords { file: "ring.toml", id: 1, dir: "run", manner, turn, version, is_child: false };
 //! node::run(rt, &words)?;                         // prints `start default Absent`, then `ready`
 //! let program = OwnProgram::new(rt, "ring.toml", "run", manner, turn)?;
-//! up::run(rt, &program, "ring.toml", "run")?;     // until standard input ends
+//! up::run(rt, &program, "ring.toml", "run")?;     // until it is asked to end
 //! ```
 //!
 //! Node U of a network uses these files of a folder, and touches nothing outside it: `state-U.tkt`
@@ -24,11 +24,15 @@
 //! owner can enter it.
 #![tactic(auto)]
 
+mod asks;
 mod fault;
 mod folder;
+mod journal;
 mod left;
 mod names;
 pub mod node;
+mod observer;
+mod rights;
 mod start;
 pub mod up;
 mod window;
@@ -36,5 +40,6 @@ mod window;
 pub use fault::{NodeFault, Refusal};
 pub use left::LeftLine;
 pub use node::NodeWords;
+pub use rights::Rights;
 pub use turn_watch::USUAL_LIMIT;
 pub use up::{NodeProgram, OwnProgram};

@@ -2,6 +2,7 @@
 ghost use Rattle.std.specs.Prelude.{◌≡◌, ◌↔◌, true, false, IfOk, IsErr, IsTrue};
 
 use crate::folder::{Place, bind_again, sight_at};
+use network_news::FileNews;
 use node_keeping::{Complaint, FileId, FileSight, Lost};
 use node_texts::NodePaths;
 use std::net::Net as Sockets;
@@ -13,19 +14,22 @@ use unix_doors::UnixDoors;
 #[derive(Drop)]
 pub struct Name<'a> {
     path: &'a str,
+    /// The mode that its socket is given, if any.
+    mode: Option<u32>,
     /// The file that it led to when the socket was made.
     file: FileId,
     complaint: Complaint,
 }
 
 impl<'a> Name<'a> {
-    /// The name of a socket that was just made.
-    pub fn new(path: &'a str, file: FileId) -> Name<'a>
-        ensures { (result.path ≡ path.entry) × (result.file ≡ file)
+    /// The name of a socket that was just made, with this mode.
+    pub fn new(path: &'a str, mode: Option<u32>, file: FileId) -> Name<'a>
+        ensures { (result.path ≡ path.entry) × (result.mode ≡ mode) × (result.file ≡ file)
             × (result.complaint.lasts ≡ false) }
     {
         Name {
             path,
+            mode,
             file,
             complaint: Complaint::new(),
         }
@@ -41,7 +45,7 @@ impl<'a> Name<'a> {
     fn note<R: Eprint>(&mut self, rt: &R, made: io::Result<FileId>)
         ensures made { IfOk made (λ file. self.new.file ≡ file) }
         ensures unmade { IsErr made → self.new.file ≡ self.old.file }
-        ensures path { self.new.path ≡ self.old.path }
+        ensures path { (self.new.path ≡ self.old.path) × (self.new.mode ≡ self.old.mode) }
         ensures lasts { IsTrue self.new.complaint.lasts ↔ IsErr made }
     {
         if let Ok(file) = &made {
@@ -66,6 +70,8 @@ pub struct Names<'a> {
     pub clients: Name<'a>,
     /// Its socket for whoever looks.
     pub looks: Name<'a>,
+    /// What it has said of its network file.
+    pub news: FileNews,
 }
 
 impl<'a> Names<'a> {
@@ -77,21 +83,22 @@ impl<'a> Names<'a> {
         doors: &mut UnixDoors<'a, R>,
         lost: Lost,
     )
-        ensures place { (self.new.paths ≡ self.old.paths) × (self.new.place ≡ self.old.place) }
+        ensures place { (self.new.paths ≡ self.old.paths) × (self.new.place ≡ self.old.place)
+            × (self.new.news ≡ self.old.news) }
         ensures links { lost.links ≡ false → self.new.links ≡ self.old.links }
         ensures clients { lost.clients ≡ false → self.new.clients ≡ self.old.clients }
         ensures looks { lost.looks ≡ false → self.new.looks ≡ self.old.looks }
     {
         if lost.links {
-            let heard = hear_links(rt, doors, self.links.path);
+            let heard = hear_links(rt, doors, &self.links);
             self.links.note(rt, heard);
         }
         if lost.clients {
-            let heard = hear_clients(rt, doors, self.clients.path);
+            let heard = hear_clients(rt, doors, &self.clients);
             self.clients.note(rt, heard);
         }
         if lost.looks {
-            let heard = hear_looks(rt, doors, self.looks.path);
+            let heard = hear_looks(rt, doors, &self.looks);
             self.looks.note(rt, heard);
         }
     }
@@ -101,9 +108,9 @@ impl<'a> Names<'a> {
 fn hear_links<'a, R: Files + Sockets>(
     rt: &'a R,
     doors: &mut UnixDoors<'a, R>,
-    path: &str,
+    name: &Name<'_>,
 ) -> io::Result<FileId> {
-    let made = bind_again(rt, path)?;
+    let made = bind_again(rt, name.path, name.mode)?;
     doors.listen_for_links(made.socket)?;
     Ok(made.file)
 }
@@ -112,9 +119,9 @@ fn hear_links<'a, R: Files + Sockets>(
 fn hear_clients<'a, R: Files + Sockets>(
     rt: &'a R,
     doors: &mut UnixDoors<'a, R>,
-    path: &str,
+    name: &Name<'_>,
 ) -> io::Result<FileId> {
-    let made = bind_again(rt, path)?;
+    let made = bind_again(rt, name.path, name.mode)?;
     doors.listen_for_clients(made.socket)?;
     Ok(made.file)
 }
@@ -123,9 +130,9 @@ fn hear_clients<'a, R: Files + Sockets>(
 fn hear_looks<'a, R: Files + Sockets>(
     rt: &'a R,
     doors: &mut UnixDoors<'a, R>,
-    path: &str,
+    name: &Name<'_>,
 ) -> io::Result<FileId> {
-    let made = bind_again(rt, path)?;
+    let made = bind_again(rt, name.path, name.mode)?;
     doors.listen_for_looks(made.socket)?;
     Ok(made.file)
 }

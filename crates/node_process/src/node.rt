@@ -1,5 +1,6 @@
 //! `node FILE ID DIR`: a node of a network as a process.
 ghost use Rattle.std.specs.Prelude.{◌≡◌, ◌↔◌, ◌<◌, ◌≤◌, ◌⊎◌, true, false, Some, None, IfOk, IfErr, IsTrue};
+ghost use Rattle.topology.specs.Change.{is_same_frame};
 ghost use Rattle.node_keeping.specs.AfterSave.{looks_for_stop};
 ghost use Rattle.node_keeping.specs.declared.saved.StopSight.TheVariants.{Absent};
 ghost use Rattle.node_process.specs.Start.{may_end};
@@ -10,14 +11,19 @@ ghost use Rattle.node_process.specs.declared.start.Stage.TheVariants.{Listening,
 
 use crate::fault::{NodeFault, fault_of};
 use crate::folder::{
-    Place, addresses_of, check_names, hold_place, make_folder, make_sockets, remove,
+    Place, addresses_of, check_names, hold_place, make_folder, make_sockets, remove, set_mode,
 };
 use crate::names::{Name, Names};
+use crate::observer::Observer;
+use crate::rights::Rights;
 use crate::start::Stage;
 use crate::window::Window;
+use held_signals::state_now;
 use look_window::{COMERS, is_let_in, show};
-use network_file::read_network;
+use network_file::{NetworkFault, read_network};
+use network_news::{FileNews, found_in, news_line};
 use node_keeping::{AfterSave, Sights, StopSight, after_save, looks_for_stop};
+use node_log::{Event, Level};
 use node_loop::NodeRun;
 use node_state_file::{FileStore, start};
 use node_texts::{CapacityLine, NodePaths, Note, NoteLine, SOCKET_FRAMES};
@@ -28,9 +34,9 @@ use std::fs::File;
 use std::io::Input;
 use std::net::Net as Sockets;
 use std::os::unix::net::SocketAddr;
-use std::rt::{Clock, Files};
+use std::rt::{Clock, Env, Files};
 use topology::Net;
-use unix_doors::{Listeners, Stopwatch, UnixDoors};
+use unix_doors::{Listeners, Stopwatch, UnixDoors, tell_ready};
 
 /// What the command line says.
 #[derive(Clone, Copy)]
@@ -47,6 +53,10 @@ pub struct NodeWords<'a> {
     pub turn: u64,
     /// The version of the program, in letters, digits and dots.
     pub version: &'a str,
+    /// Who may use its folder and its sockets.
+    pub rights: Rights,
+    /// How urgent what it says of itself is at least, if it says anything.
+    pub log: Option<Level>,
     /// Whether `up` has started it: its lines begin with its name, and it ends with its input.
     pub is_child: bool,
 }
@@ -65,11 +75,11 @@ pub type Run<'a, R> = NodeRun<UnixDoors<'a, R>, FileStore<'a, R>>;
 /// Or why it ends: its stop file cannot be removed, or its place in DIR is not its own any more.
 pub fn run<R>(rt: &R, words: &NodeWords<'_>) -> Result<(), NodeFault>
 where
-    R: Files<File = File> + Sockets + Clock + Input + Print + Eprint + AllocGlobal,
+    R: Files<File = File> + Sockets + Clock + Env + Input + Print + Eprint + AllocGlobal,
 {
     let mut stage = Stage::Begun;
     let net = check_words(rt, words, &mut stage)?;
-    make_folder(rt, words.dir, &mut stage)?;
+    make_folder(rt, words.dir, words.rights, &mut stage)?;
     let paths = NodePaths::new(rt.alloc(), words.dir, words.id)?;
     // Held until the node ends.
     let place = hold_place(rt, paths.lock.as_str(), &mut stage)?;
@@ -114,20 +124,20 @@ fn check_id(id: u16, net: &Net) -> Result<(), NodeFault>
 /// Runs the node whose place in the folder is held.
 fn run_in_place<'a, R>(
     rt: &'a R,
-    words: &NodeWords<'_>,
+    words: &NodeWords<'a>,
     paths: &'a NodePaths,
     place: &'a Place,
     net: Net,
     mut stage: Stage,
 ) -> Result<(), NodeFault>
 where
-    R: Files<File = File> + Sockets + Clock + Input + Print + Eprint + AllocGlobal,
+    R: Files<File = File> + Sockets + Clock + Env + Input + Print + Eprint + AllocGlobal,
     requires node { words.now.id < net.nodes }
     requires held { stage ≡ Held }
 {
     let (mut run, mut names) = start_node(rt, words, paths, place, net, &mut stage)?;
     let end = match Stopwatch::start(rt) {
-        Ok(mut watch) => run_turns(rt, words, &mut watch, &mut names, &mut run),
+        Ok(watch) => run_turns(rt, words, watch, &mut names, &mut run),
         Err(_) => return Err(NodeFault::System),
     };
     if end != AfterSave::Displaced {
@@ -165,7 +175,7 @@ fn start_node<'a, R>(
     stage: &mut Stage,
 ) -> Result<(Run<'a, R>, Names<'a>), NodeFault>
 where
-    R: Files + Sockets + Print + Eprint + AllocGlobal,
+    R: Files + Sockets + Env + Print + Eprint + AllocGlobal,
     requires node { words.now.id < net.nodes }
     requires held { stage.old ≡ Held }
     ensures ok { IfOk result (λ _. stage.new ≡ Ready) }
@@ -200,13 +210,15 @@ where
     ensures err { IfErr result (λ fault. may_end stage.new fault ≡ true) }
 {
     let addresses = addresses_of(rt.alloc(), words.dir, net.nodes())?;
-    let made = make_sockets(rt, paths, stage)?;
+    let rights = words.rights;
+    let made = make_sockets(rt, paths, rights, stage)?;
     let names = Names {
         paths,
         place,
-        links: Name::new(paths.links.as_str(), made.links),
-        clients: Name::new(paths.clients.as_str(), made.clients),
-        looks: Name::new(paths.looks.as_str(), made.looks),
+        links: Name::new(paths.links.as_str(), rights.own(), made.links),
+        clients: Name::new(paths.clients.as_str(), rights.clients(), made.clients),
+        looks: Name::new(paths.looks.as_str(), rights.own(), made.looks),
+        news: FileNews::new(),
     };
     let mut doors = make_doors(rt, made.listeners, addresses)?;
     if !words.is_child {
@@ -232,23 +244,25 @@ fn make_doors<'a, R: Sockets + AllocGlobal>(
 }
 
 /// Takes turns until the node is to end, and says how it is to.
-fn run_turns<'a, R: Files + Sockets + Clock + Input + Eprint + AllocGlobal>(
+fn run_turns<'a, R: Files + Sockets + Clock + Env + Input + Eprint + AllocGlobal>(
     rt: &'a R,
-    words: &NodeWords<'_>,
-    watch: &mut Stopwatch<'a, R>,
+    words: &NodeWords<'a>,
+    watch: Stopwatch<'a, R>,
     names: &mut Names<'a>,
     run: &mut Run<'a, R>,
 ) -> AfterSave {
-    let mut window = Window::open(rt, words.turn, words.version, watch.now());
+    let mut observer = Observer::open(rt, words, watch);
     for _ in 0..u64::MAX {
-        run.wait(watch.last());
-        let now = watch.now();
+        run.wait(observer.watch.last());
+        let now = observer.watch.now();
         if !run.is_turn_due(now) {
             run.attend(now);
-            window.attended(run, watch.now());
-        } else if take_turn(rt.alloc(), watch, &mut window, run, now) {
+            let ended = observer.watch.now();
+            observer.window.attended(run, ended);
+        } else if take_turn(rt.alloc(), &mut observer, run, now) {
             let next = look(rt, words, names, run);
             if ends(next) {
+                observer.journal.say(Event::Ends, now);
                 return next;
             }
         }
@@ -256,22 +270,22 @@ fn run_turns<'a, R: Files + Sockets + Clock + Input + Eprint + AllocGlobal>(
     AfterSave::Stop
 }
 
-/// Takes a turn, notes it, and shows whoever looks how the node stands then. Whether the node's files are looked
-/// at now: after each 256th turn, whatever the store answered.
-fn take_turn<'a, R: Files + Sockets + Clock>(
+/// Takes a turn, notes it, says what happened in it, and shows whoever looks how the node stands then. Whether
+/// the node's files are looked at now: after each 256th turn, whatever the store answered.
+fn take_turn<'a, R: Files + Sockets + Clock + Eprint>(
     alloc: Global,
-    watch: &mut Stopwatch<'a, R>,
-    window: &mut Window<'_>,
+    observer: &mut Observer<'a, R>,
     run: &mut Run<'a, R>,
     now: u64,
 ) -> bool
     ensures { IsTrue result ↔ (run.old.turns ≡ 255) }
 {
     let turned = run.turn(now);
-    let ended = watch.now();
-    window.turn_ended(run, &turned, ended);
+    let ended = observer.watch.now();
+    observer.window.turn_ended(run, &turned, ended);
+    observer.journal.turn_ended(run, &turned, ended);
     if run.doors().may_be_looked_at() {
-        show_all(alloc, window, run, ended);
+        show_all(alloc, &observer.window, run, ended);
     }
     turned.is_to_look()
 }
@@ -317,13 +331,15 @@ where
 {
     let next = after_save(see(rt, words, names, run.doors()));
     if let AfterSave::GoOn(lost) = next {
-        rewire_by_file(rt, words.file, run);
+        let _ = set_mode(rt, names.paths.state.as_str(), words.rights.own());
+        rewire_by_file(rt, words, &mut names.news, run);
         names.take_back(rt, run.doors(), lost);
     }
     next
 }
 
-/// What a node sees after a turn that saved. In a folder that is another's no file is touched.
+/// What a node sees after a turn that saved. In a folder that is another's no file is touched. One that
+/// `up` has started is asked to end by the end of its input, or by a SIGTERM, which is held back from it.
 fn see<'a, R>(
     rt: &'a R,
     words: &NodeWords<'_>,
@@ -331,7 +347,7 @@ fn see<'a, R>(
     doors: &mut UnixDoors<'a, R>,
 ) -> Sights
 where
-    R: Files + Sockets + Input,
+    R: Files + Sockets + Input + AllocGlobal,
     ensures { looks_for_stop result.place ≡ false → result.stop ≡ Absent }
 {
     let place = names.place.sight(rt, names.paths.lock.as_str());
@@ -343,7 +359,7 @@ where
     Sights {
         place,
         stop,
-        has_input_ended: words.is_child && doors.has_input_ended(rt),
+        is_asked: words.is_child && (doors.has_input_ended(rt) || state_now(rt).heeded().terminate),
         links: names.links.sight(rt),
         clients: names.clients.sight(rt),
         looks: names.looks.sight(rt),
@@ -359,20 +375,47 @@ fn look_for_stop<F: Files>(files: &F, stop: &str) -> StopSight {
     }
 }
 
-/// Reads the network file again, and takes up its edges. A file that is refused, or whose network
-/// differs in more than edges, changes nothing; nor do the edges that the node has already.
-fn rewire_by_file<'a, R: Files + Sockets + AllocGlobal>(rt: &R, file: &str, run: &mut Run<'a, R>) {
-    if let Ok(read) = read_network(rt, file) {
-        let _ = run.rewire(&read);
+/// Reads the network file again, takes up its edges, and says what is new in it. A file that is refused, or
+/// whose network differs in more than edges, changes nothing; nor do the edges that the node has already.
+fn rewire_by_file<'a, R: Files + Sockets + Eprint + AllocGlobal>(
+    rt: &R,
+    words: &NodeWords<'_>,
+    news: &mut FileNews,
+    run: &mut Run<'a, R>,
+)
+    // More than its edges never changes.
+    ensures { IsTrue (is_same_frame run.old.net run.new.net) }
+{
+    let read = read_network(rt, words.file);
+    if news.step(found_in(run.net(), &read)) {
+        say_news(rt, words, run.net(), &read);
+    }
+    if let Ok(net) = &read {
+        let _ = run.rewire(net);
     }
 }
 
-/// Says that the node is ready, whose sockets listen.
-fn say_ready<R: Print + AllocGlobal>(rt: &R, words: &NodeWords<'_>, stage: &mut Stage)
+/// Says what a node that has this network found in its file.
+fn say_news<R: Eprint + AllocGlobal>(
+    rt: &R,
+    words: &NodeWords<'_>,
+    own: &Net,
+    read: &Result<Net, NetworkFault>,
+) {
+    if let Ok(line) = news_line(rt.alloc(), words.id, words.file, own, read) {
+        let _ = rt.eprintln(line);
+    }
+}
+
+/// Says that the node is ready, whose sockets listen; to a service manager too, if that has started it.
+fn say_ready<R: Env + Print + AllocGlobal>(rt: &R, words: &NodeWords<'_>, stage: &mut Stage)
     requires { stage.old ≡ Listening }
     ensures { stage.new ≡ Ready }
 {
     say(rt, words, Note::Ready);
+    if !words.is_child {
+        tell_ready(rt);
+    }
     *stage = Stage::Ready;
 }
 

@@ -1,28 +1,31 @@
-//! `up FILE DIR`: all nodes of a network as processes, for as long as standard input lasts.
-ghost use Rattle.std.specs.Prelude.{◌≡◌, ◌≢◌, ◌⊎◌, ◌++◌, ◌∷◌, [], true, None};
+//! `up FILE DIR`: all nodes of a network as processes, until it is asked to end.
+ghost use Rattle.std.specs.Prelude.{◌≡◌, ◌≢◌, ◌⊎◌, ◌++◌, ◌∷◌, [], true, None, Some};
 ghost use Rattle.std.specs.Prelude.{OnOk, IfOk, IfErr};
 ghost use Rattle.std.specs.Prelude.{codes, decimal, length};
 ghost use Rattle.std.specs.Process.{command_args};
 ghost use Rattle.node_keeping.specs.Steps.{new_keeper, stage_after, deed_at};
 ghost use Rattle.node_keeping.specs.declared.keeper.Stage.TheVariants.{Runs, Waits, Starts};
+ghost use Rattle.node_keeping.specs.declared.keeper.Seen.{Seen};
 ghost use Rattle.node_keeping.specs.declared.keeper.Seen.TheVariants.{Nothing};
 ghost use Rattle.node_keeping.specs.declared.keeper.Deed.TheVariants.{Start};
 ghost use Rattle.node_texts.specs.PremisesText.{millis_text};
-ghost use Rattle.node_process.specs.Children.{child_options, child_words, end_of};
+ghost use Rattle.node_process.specs.Children.{child_options, rights_options, log_options, child_words, end_of};
 ghost use Rattle.node_process.specs.Start.{may_end};
 ghost use Rattle.node_process.specs.declared.fault.NodeFault.TheVariants.{Lock, Running};
 ghost use Rattle.node_process.specs.declared.fault.NodeFault.TheVariants.{UpLock, UpRunning};
 ghost use Rattle.node_process.specs.declared.fault.NodeFault.TheVariants.{System};
 ghost use Rattle.node_process.specs.declared.start.Stage.TheVariants.{Begun, Checked};
 
-use crate::fault::NodeFault;
+use crate::asks::Asks;
+use crate::fault::{NodeFault, fault_of};
 use crate::folder::{check_names, hold_place, make_folder};
-use crate::left::LeftLine;
+use crate::left::{GoneLine, LeftLine};
 use crate::node::warn_of_capacity;
+use crate::rights::Rights;
 use crate::start::Stage;
-use mio::{Events, Poll, Token};
 use network_file::read_network;
-use node_keeping::{Deed, Keeper, Seen};
+use node_keeping::{Deed, Keeper, Seen, UpCourse};
+use node_log::Level;
 use node_texts::{End, EndLine};
 use pace::Manner;
 use std::alloc::{AllocError, Global};
@@ -34,19 +37,14 @@ use std::os::unix::process::ExitStatusExt;
 use std::path::PathBuf;
 use std::process::{Child, Command, ExitStatus, OpenProcess, Processes, Stdio};
 use std::rt::{Clock, Env, Files};
-use std::time::Duration;
-use std::{env, io, thread};
+use std::{env, io};
 use topology::Net;
-use unix_doors::{has_input_ended, watch_input};
 
-/// How long one look at the processes takes at most, in milliseconds.
-const LOOK: u64 = 50;
+/// Where a program is that starts another one, from which signals are held back.
+const ENV: &str = "/usr/bin/env";
 
-/// How long one look takes while the processes are to end, in milliseconds.
-const LOOK_AT_END: u64 = 10;
-
-/// Standard input in a poll.
-const INPUT: Token = Token(0);
+/// Which of its options does that, for those that a terminal or a service manager sends to all processes.
+const HOLD_SIGNALS_BACK: &str = "--block-signal=HUP,INT,QUIT,TERM";
 
 /// How the processes of nodes are started.
 pub trait NodeProgram {
@@ -56,18 +54,29 @@ pub trait NodeProgram {
     /// # Errors
     /// Where memory runs out.
     fn command(&self, alloc: Global, id: u16) -> io::Result<Command>;
+
+    /// Who may use the folder and the nodes' sockets.
+    fn rights(&self) -> Rights {
+        Rights::Usual
+    }
 }
 
 /// This very program, with the command `node`.
 #[derive(Drop)]
 pub struct OwnProgram<'a> {
     program: PathBuf,
+    /// Whether signals are held back from the nodes.
+    holds_signals_back: bool,
     file: &'a str,
     dir: &'a str,
     /// The trade between quiet and haste, the same for each node.
     manner: Manner,
     /// After how many microseconds a turn is late.
     turn: u64,
+    /// Who may use the folder and the nodes' sockets.
+    rights: Rights,
+    /// How urgent what nodes say of themselves is at least, if they say anything.
+    log: Option<Level>,
 }
 
 impl<'a> OwnProgram<'a> {
@@ -75,24 +84,29 @@ impl<'a> OwnProgram<'a> {
     ///
     /// # Errors
     /// Where the system does not tell which program this is.
-    pub fn new<R: Env + Files + AllocGlobal>(
+    pub fn new<R: Env + Files + Processes + AllocGlobal>(
         rt: &R,
         file: &'a str,
         dir: &'a str,
         manner: Manner,
         turn: u64,
+        rights: Rights,
+        log: Option<Level>,
     ) -> Result<OwnProgram<'a>, NodeFault>
         ensures words { IfOk result (λ own. (own.file ≡ file.entry) × (own.dir ≡ dir.entry)
-            × (own.manner ≡ manner) × (own.turn ≡ turn)) }
+            × (own.manner ≡ manner) × (own.turn ≡ turn) × (own.rights ≡ rights) × (own.log ≡ log)) }
         ensures fault { IfErr result (λ fault. fault ≡ System) }
     {
         match env::current_exe(rt) {
             Ok(program) => Ok(OwnProgram {
                 program,
+                holds_signals_back: can_hold_back(rt).unwrap_or(false),
                 file,
                 dir,
                 manner,
                 turn,
+                rights,
+                log,
             }),
             Err(_) => Err(NodeFault::System),
         }
@@ -101,27 +115,53 @@ impl<'a> OwnProgram<'a> {
 
 impl NodeProgram for OwnProgram<'_> {
     fn command(&self, alloc: Global, id: u16) -> io::Result<Command> {
-        let mut command = Command::new(alloc, self.program.as_path())?;
-        let options = (self.manner, self.turn);
+        let mut command = if self.holds_signals_back {
+            held_back(alloc, &self.program)?
+        } else {
+            Command::new(alloc, self.program.as_path())?
+        };
+        let options = (self.manner, self.turn, self.rights, self.log);
         add_words(alloc, &mut command, options, self.file, id, self.dir)?;
         Ok(command)
     }
+
+    fn rights(&self) -> Rights {
+        self.rights
+    }
+}
+
+/// Whether the system's `env` holds signals back from what it starts: that of GNU does, since 8.31.
+fn can_hold_back<R: Processes + AllocGlobal>(rt: &R) -> io::Result<bool> {
+    let mut command = Command::new(rt.alloc(), ENV)?;
+    command.arg(HOLD_SIGNALS_BACK)?.arg("true")?;
+    command.stdout(Stdio::null()).stderr(Stdio::null());
+    Ok(command.status(rt)?.success())
+}
+
+/// A command that starts this program, from which signals are held back.
+fn held_back(alloc: Global, program: &PathBuf) -> io::Result<Command> {
+    let mut command = Command::new(alloc, ENV)?;
+    command.arg(HOLD_SIGNALS_BACK)?;
+    command.arg(program.as_path())?;
+    Ok(command)
 }
 
 /// Adds the words by which this program is node `id` of the network of FILE in DIR, as a child.
 fn add_words(
     alloc: Global,
     command: &mut Command,
-    options: (Manner, u64),
+    options: (Manner, u64, Rights, Option<Level>),
     file: &str,
     id: u16,
     dir: &str,
 ) -> io::Result<()>
     ensures { OnOk result (command_args command.new
-        ≡ command_args command.old ++ child_words options.0 options.1 file.now id dir.now) }
+        ≡ command_args command.old ++ child_words options.0 options.1 options.2 options.3 file.now id dir.now) }
 {
-    let (manner, turn) = options;
+    let (manner, turn, rights, log) = options;
     add_options(alloc, command, manner, turn)?;
+    add_rights(command, rights)?;
+    add_log(alloc, command, log)?;
     add_place(alloc, command, file, id, dir)
 }
 
@@ -134,6 +174,28 @@ fn add_options(alloc: Global, command: &mut Command, manner: Manner, turn: u64) 
     add_two(command, "node", "--child")?;
     add_manner(alloc, command, manner)?;
     add_turn(alloc, command, turn)
+}
+
+/// Adds whether the group may take the lock.
+fn add_rights(command: &mut Command, rights: Rights) -> io::Result<()>
+    ensures { OnOk result (command_args command.new
+        ≡ command_args command.old ++ rights_options rights) }
+{
+    if rights == Rights::GroupLocks {
+        command.arg("--group-locks")?;
+    }
+    Ok(())
+}
+
+/// Adds what nodes say of themselves.
+fn add_log(alloc: Global, command: &mut Command, log: Option<Level>) -> io::Result<()>
+    ensures { OnOk result (command_args command.new
+        ≡ command_args command.old ++ log_options log) }
+{
+    if let Some(level) = log {
+        add_option(alloc, command, "--log", u64::from(level.priority()))?;
+    }
+    Ok(())
 }
 
 /// Adds the trade between quiet and haste.
@@ -230,18 +292,24 @@ impl<P: OpenProcess + Drop> Kept<P> {
         }
     }
 
-    /// Kills its process.
-    fn kill(&mut self)
+    /// Kills its process, and says how it ended.
+    fn kill(&mut self) -> End
         ensures { (self.new.id ≡ self.old.id) × (self.new.keeper ≡ self.old.keeper) }
     {
-        if let Some(child) = &mut self.child {
-            let _ = child.kill();
-            let _ = child.wait();
+        let Some(child) = &mut self.child else {
+            return End::Unknown;
+        };
+        let _ = child.kill();
+        match child.wait() {
+            Ok(status) => end_of(status),
+            Err(_) => End::Unknown,
         }
     }
 }
 
-/// Keeps all nodes of the network of FILE running in DIR until standard input is at its end.
+/// Keeps all nodes of the network of FILE running in DIR until it is asked to end: by a signal, if its
+/// start held signals back, or by the end of its standard input, if that is a terminal or a pipe. Its nodes
+/// then save their states and end, each with a line, and are killed if it is asked again.
 ///
 /// # Errors
 /// Why it does not begin, or that no node stays up. Once it has begun, all processes that it started
@@ -252,7 +320,7 @@ where
 {
     let mut stage = Stage::Begun;
     let net = check_network(rt, file, dir, &mut stage)?;
-    make_folder(rt, dir, &mut stage)?;
+    make_folder(rt, dir, program.rights(), &mut stage)?;
     let lock = format!(in rt.alloc(); "{dir}/lock-up")?;
     // Held until it ends.
     let _place = hold_place(rt, lock.as_str(), &mut stage).map_err(fault_of_up)?;
@@ -287,18 +355,16 @@ fn run_in_place<R, C: NodeProgram>(rt: &R, program: &C, net: &Net) -> Result<(),
 where
     R: Files + Sockets + Clock + Input + Print + Eprint + Processes + AllocGlobal,
 {
-    let mut poll = Poll::new(rt).map_err(|_| NodeFault::System)?;
-    watch_input(poll.registry(), INPUT, true).map_err(|_| NodeFault::Input)?;
-    let mut events = Events::with_capacity(rt.alloc(), 1)?;
+    let mut asks = Asks::new(rt).map_err(|error| fault_of(error.kind()))?;
     warn_of_capacity(rt, net.capacity());
     let mut kept = all_new(rt.alloc(), net.nodes())?;
-    keep_running(rt, program, &mut poll, &mut events, &mut kept);
-    let is_left = !any_is_kept(&kept);
-    end_all(rt, program, &mut kept);
-    if is_left {
-        return Err(NodeFault::NoneStays);
+    let is_asked = keep_running(rt, program, &mut asks, &mut kept);
+    asks.close();
+    if is_asked {
+        Ok(())
+    } else {
+        Err(NodeFault::NoneStays)
     }
-    Ok(())
 }
 
 /// All nodes of a network of `nodes` nodes, none of which was started.
@@ -317,55 +383,51 @@ fn any_is_kept<P: OpenProcess + Drop>(kept: &[Kept<P>]) -> bool {
     kept.iter().any(|one| one.keeper.is_kept())
 }
 
-/// Looks at each node again and again, until standard input is at its end, or no node is kept.
+/// Looks at each node again and again, until no node is kept. Whether that was asked for.
 fn keep_running<R, C: NodeProgram>(
     rt: &R,
     program: &C,
-    poll: &mut Poll,
-    events: &mut Events,
+    asks: &mut Asks<R::Started>,
     kept: &mut Vec<Kept<R::Started>>,
+) -> bool
+where
+    R: Files + Clock + Input + Print + Processes + AllocGlobal,
+{
+    let mut course = UpCourse::new();
+    let mut word = None;
+    for _ in 0..u64::MAX {
+        for one in kept.iter_mut() {
+            note_of_one(rt, program, one, word);
+        }
+        if !any_is_kept(kept) {
+            break;
+        }
+        word = course.step(asks.sights(rt, course.is_ending()));
+    }
+    course.is_ending()
+}
+
+/// Takes note of what was seen of `up` itself; of what a look at the node shows, if that is nothing.
+fn note_of_one<R, C: NodeProgram>(
+    rt: &R,
+    program: &C,
+    kept: &mut Kept<R::Started>,
+    word: Option<Seen>,
 )
 where
-    R: Input + Print + Processes + AllocGlobal,
-{
-    for _ in 0..u64::MAX {
-        look_at_all(rt, program, kept);
-        if !any_is_kept(kept) {
-            return;
-        }
-        let waited = poll.poll(events, Some(Duration::from_millis(LOOK)));
-        if waited.is_err() || (!events.is_empty() && is_at_end(rt, poll)) {
-            return;
-        }
-    }
-}
-
-/// Looks at each node once.
-fn look_at_all<R, C: NodeProgram>(rt: &R, program: &C, kept: &mut Vec<Kept<R::Started>>)
-where
     R: Print + Processes + AllocGlobal,
+    ensures id { kept.new.id ≡ kept.old.id }
+    // What was seen of `up` itself comes to the keeper.
+    ensures told { (seen : Seen) → word ≡ Some seen
+        → deed_at seen kept.old.keeper.failures kept.old.keeper.stage ≢ Start
+        → kept.new.keeper.stage
+        ≡ stage_after seen kept.old.keeper.failures kept.old.keeper.stage }
 {
-    for one in kept.iter_mut() {
-        let seen = one.sight();
-        take_note(rt, program, one, seen);
-    }
-}
-
-/// Ends all processes: their inputs end, so that they save and go, and what is left is killed.
-fn end_all<R, C: NodeProgram>(rt: &R, program: &C, kept: &mut Vec<Kept<R::Started>>)
-where
-    R: Clock + Print + Processes + AllocGlobal,
-{
-    for one in kept.iter_mut() {
-        take_note(rt, program, one, Seen::InputEnded);
-    }
-    for _ in 0..u64::MAX {
-        look_at_all(rt, program, kept);
-        if !any_is_kept(kept) {
-            return;
-        }
-        thread::sleep(rt, Duration::from_millis(LOOK_AT_END));
-    }
+    let seen = match word {
+        Some(seen) => seen,
+        None => kept.sight(),
+    };
+    take_note(rt, program, kept, seen);
 }
 
 /// What stands in the way of `up` if it takes its place in a folder as a node does.
@@ -378,11 +440,6 @@ fn fault_of_up(fault: NodeFault) -> NodeFault
         NodeFault::Running => NodeFault::UpRunning,
         other => other,
     }
-}
-
-/// Reads what standard input has, and says whether it is at its end. A poll says it again.
-fn is_at_end<R: Input>(rt: &R, poll: &Poll) -> bool {
-    has_input_ended(rt) || watch_input(poll.registry(), INPUT, false).is_err()
 }
 
 /// Does what is to be done with a node of which this was seen.
@@ -401,8 +458,12 @@ where
         Deed::Start => try_start(rt, program, kept),
         Deed::SayAgain(end) => say_again(rt, kept, end),
         Deed::SayLeft(end) => say_left(rt, kept, end),
+        Deed::SayGone(end) => say_gone(rt, kept, end),
         Deed::CloseInput => kept.close_input(),
-        Deed::Kill => kept.kill(),
+        Deed::Kill => {
+            let end = kept.kill();
+            say_gone(rt, kept, end);
+        }
     }
 }
 
@@ -468,6 +529,18 @@ where
 {
     kept.child = None;
     let line = LeftLine { id: kept.id, end };
+    print_line(rt, &line);
+}
+
+/// Says how the process of a node ended that was to end.
+fn say_gone<R, P: OpenProcess + Drop>(rt: &R, kept: &mut Kept<P>, end: End)
+where
+    R: Print + AllocGlobal,
+    ensures stays { (kept.new.id ≡ kept.old.id) × (kept.new.keeper ≡ kept.old.keeper) }
+    ensures gone { kept.new.child ≡ None }
+{
+    kept.child = None;
+    let line = GoneLine { id: kept.id, end };
     print_line(rt, &line);
 }
 

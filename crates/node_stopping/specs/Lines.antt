@@ -17,3 +17,13 @@ ending_line dir id Hidden =
 ending_line dir id Unasked =
     codes "tokentree: " ++ (dir ++ (codes "/stop-" ++ (decimal id
     ++ codes ": cannot be made; stop nodes as the user that runs them")))
+
+-- the state file of a node of a folder
+abbrev pub state_path : List ℕ → ℕ → List ℕ
+state_path dir id = dir ++ (codes "/state-" ++ (decimal id ++ codes ".tkt"))
+
+-- a node that runs writes its state file again
+abbrev pub runner_line : List ℕ → ℕ → List ℕ
+runner_line path id =
+    codes "tokentree: " ++ (path ++ (codes ": node " ++ (decimal id
+    ++ codes " runs, and writes this file again within half a second; kill it before, or stop it first")))

@@ -2,6 +2,7 @@
 //!
 //! ```
 //! let status = run(rt, "/run/nodes", &[1], 10);        // prints `node 1 has ended`; 0
+//! warn_of_runner(rt, "/run/nodes/state-1.tkt");         // says so if node 1 runs there
 //! ```
 //!
 //! A node runs if its lock file is held. What is done with one that is to end [`next`] decides, by what was
@@ -11,9 +12,11 @@
 #![tactic(auto)]
 
 mod lines;
+mod runner;
 mod steps;
 mod stopping;
 
 pub use lines::{Ending, EndingLine};
+pub use runner::{RunnerLine, warn_of_runner};
 pub use steps::{Sight, Step, next};
 pub use stopping::run;

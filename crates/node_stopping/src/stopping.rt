@@ -42,7 +42,7 @@ where
 {
     if is_kept_up(rt, dir) {
         let _ = eprintln!(rt;
-            "tokentree: {dir}/lock-up: up keeps these nodes running; end its input instead (Ctrl-D)"
+            "tokentree: {dir}/lock-up: up keeps these nodes running; end up itself (Ctrl-C, or SIGTERM)"
         );
         return false;
     }
@@ -68,7 +68,7 @@ fn is_kept_up<R: Files<File = File> + AllocGlobal>(rt: &R, dir: &str) -> bool {
 }
 
 /// Whether a process holds a lock file.
-fn is_held<F: Files<File = File>>(files: &F, path: &str) -> bool {
+pub fn is_held<F: Files<File = File>>(files: &F, path: &str) -> bool {
     look_at(files, path) == Sight::Held
 }
 

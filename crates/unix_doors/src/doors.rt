@@ -2,7 +2,7 @@
 ghost use Rattle.std.specs.Prelude.{◌≡◌, true, false, None, IfOk, OnOk, IsErr, IsSome};
 ghost use Rattle.node_loop.specs.Doors.{Opens};
 
-use crate::input::{has_input_ended, watch_input};
+use crate::input::{InputSight, read_input, watch_input};
 use crate::pipe::{UnixPipe, hold_few, is_passing};
 use mio::net::{UnixListener, UnixStream};
 use mio::{Events, Interest, Poll, Token};
@@ -115,7 +115,8 @@ impl<'a, N: Net> UnixDoors<'a, N> {
             return false;
         }
         self.input_has_news = false;
-        has_input_ended(rt) || watch_input(self.poll.registry(), INPUT, false).is_err()
+        read_input(rt) != InputSight::Open
+            || watch_input(self.poll.registry(), INPUT, false).is_err()
     }
 
     /// Listens for neighbours at this socket from now on, in place of that before.

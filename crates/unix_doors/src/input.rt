@@ -1,4 +1,7 @@
 //! When standard input is at its end.
+ghost use Rattle.std.specs.Prelude.{◌≡◌};
+ghost use Rattle.unix_doors.specs.InputSights.{input_sight};
+
 use mio::unix::SourceFd;
 use mio::{Interest, Registry, Token};
 use std::io;
@@ -6,6 +9,17 @@ use std::io::{ErrorKind, Input, Read};
 
 /// The descriptor of standard input.
 const STANDARD_INPUT: i32 = 0;
+
+/// What standard input has.
+#[derive(Clone, Copy, Debug, PartialEq, Eq)]
+pub enum InputSight {
+    /// It is open.
+    Open,
+    /// It is at its end.
+    Ended,
+    /// It cannot be read, as a terminal by a process in the background.
+    Unreadable,
+}
 
 /// Has a poll tell, under this token, when standard input can be read or is at its end; again each
 /// time that it is called.
@@ -21,11 +35,20 @@ pub fn watch_input(registry: &Registry, token: Token, is_first: bool) -> io::Res
     }
 }
 
-/// Reads what standard input has now, of which a poll has told, and says whether it is at its end.
-pub fn has_input_ended<R: Input>(rt: &R) -> bool {
+/// Reads what standard input has now, of which a poll has told, and says what it has.
+pub fn read_input<R: Input>(rt: &R) -> InputSight {
     let mut buffer = [0; 512];
-    match rt.reader().read(&mut buffer) {
-        Ok(count) => count == 0,
-        Err(error) => error.kind() != ErrorKind::Interrupted,
+    input_sight(&rt.reader().read(&mut buffer))
+}
+
+/// What standard input has, by what a read of it answered.
+fn input_sight(answer: &io::Result<usize>) -> InputSight
+    ensures { result ≡ input_sight answer.now }
+{
+    match answer {
+        Ok(0) => InputSight::Ended,
+        Ok(_) => InputSight::Open,
+        Err(error) if error.kind() == ErrorKind::Interrupted => InputSight::Open,
+        Err(_) => InputSight::Unreadable,
     }
 }

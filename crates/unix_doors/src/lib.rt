@@ -17,9 +17,11 @@
 mod clock;
 mod doors;
 mod input;
+mod notify;
 mod pipe;
 
 pub use clock::Stopwatch;
 pub use doors::{Listeners, UnixDoors};
-pub use input::{has_input_ended, watch_input};
+pub use input::{InputSight, read_input, watch_input};
+pub use notify::tell_ready;
 pub use pipe::UnixPipe;

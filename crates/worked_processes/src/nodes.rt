@@ -1,7 +1,7 @@
 //! Nodes as processes: copies of this test program, which talk over sockets.
 use crate::copies::{copy, copy_at, shell, started};
 use crate::hold::hold;
-use node_process::{NodeFault, NodeProgram, NodeWords, Refusal, USUAL_LIMIT, node, up};
+use node_process::{NodeFault, NodeProgram, NodeWords, Refusal, Rights, USUAL_LIMIT, node, up};
 use node_texts::desk_file::desk_path;
 use node_texts::{CapacityLine, End, EndLine, NodePaths, links_name};
 use pace::Manner;
@@ -59,6 +59,8 @@ fn run_node(
         manner: Manner::usual(),
         turn: USUAL_LIMIT,
         version: "0.1.0",
+        rights: Rights::Usual,
+        log: None,
         is_child,
     };
     Ok(node::run(rt, &words))
@@ -418,9 +420,40 @@ fn serve_and_stop(
     third: &mut Child,
 ) -> Result<(), Fail> {
     serve_and_rewire(rt, dir)?;
-    hold(stops(rt, dir, 0, first)?, "node 0 does not stop")?;
-    hold(stops(rt, dir, 1, second)?, "node 1 does not stop")?;
-    hold(stops(rt, dir, 2, third)?, "node 2 does not stop again")
+    hold(
+        stops_rewired(rt, dir, 0, first)?,
+        "node 0 does not stop, or tells something else",
+    )?;
+    hold(stops_late(rt, dir, 1, second)?, "node 1 does not stop")?;
+    hold(
+        stops_rewired(rt, dir, 2, third)?,
+        "node 2 does not stop again, or tells something else",
+    )
+}
+
+/// What a node tells that takes up the edge which makes the line a ring.
+fn rewired(alloc: Global, dir: &str, id: u16) -> Result<String, AllocError> {
+    format!(in alloc;
+        "tokentree: node {id} takes up {dir}.toml: edges that came: [0, 2]; that went: none\n"
+    )
+}
+
+/// Makes the stop file of a node. Whether it ends well, and has told just that it took up an edge.
+fn stops_rewired(rt: &HostRuntime, dir: &str, id: u16, child: &mut Child) -> Result<bool, Fail> {
+    let told = rewired(rt.alloc(), dir, id)?;
+    stops_with(rt, dir, id, child, told.as_str())
+}
+
+/// The same of a node that may be stopped before it reads the file again: then it tells nothing.
+fn stops_late(rt: &HostRuntime, dir: &str, id: u16, child: &mut Child) -> Result<bool, Fail> {
+    stop(rt, dir, id)?;
+    let Some(errors) = &mut child.stderr else {
+        return Ok(false);
+    };
+    let told = rest(rt.alloc(), errors)?;
+    let want = rewired(rt.alloc(), dir, id)?;
+    let is_told = told.is_empty() || told.as_slice() == want.as_bytes();
+    Ok(is_told && ends_well(child)?)
 }
 
 /// Runs node 2 beside two nodes that run: it starts again from any state.
@@ -759,6 +792,72 @@ fn keep_running(rt: &HostRuntime, dir: &str) -> Result<(), Fail> {
 #[test]
 fn up_starts_again_what_ends_and_leaves_nothing(rt: HostRuntime) -> Result<(), Fail> {
     in_folder(&rt, "up", LINE, |dir| keep_running(&rt, dir))
+}
+
+/// What starts a copy of a program of tests that keeps nodes running, from which signals are held back.
+const HELD: &str = "exec env --block-signal=HUP,INT,TERM \"$0\" nodes::acts_as_up";
+
+/// Starts a copy that keeps the nodes running, from which signals are held back, and whose input has no end.
+fn held_keeper(rt: &HostRuntime, dir: &str) -> Result<Child, Fail> {
+    let program = env::current_exe(rt)?;
+    let variables = [("TOKENTREE_UP", dir)];
+    started(
+        rt,
+        shell(rt.alloc(), HELD, program.path_text(), &variables)?,
+        Stdio::null(),
+    )
+}
+
+/// Sends a signal to a process by a script, which finds its id as `$0`.
+fn send(rt: &HostRuntime, process: &str, script: &str) -> Result<bool, Fail> {
+    succeeds(rt, shell(rt.alloc(), script, process, &[])?)
+}
+
+/// Sends a signal to a copy by a script.
+fn send_to(rt: &HostRuntime, child: &Child, script: &str) -> Result<bool, Fail> {
+    let process = format!(in rt.alloc(); "{}", child.id())?;
+    send(rt, process.as_str(), script)
+}
+
+/// Whether a process that is to end says so of node 1 in this line, and ends with status 0.
+fn takes_leave(rt: &HostRuntime, up: &mut Child, line: &str) -> Result<bool, Fail> {
+    Ok(says(rt, up, line)? && ends_well(up)?)
+}
+
+/// A copy whose input is nothing runs until a SIGTERM comes, and names a node that has ended.
+fn end_by_signal(rt: &HostRuntime, dir: &str) -> Result<(), Fail> {
+    let mut up = held_keeper(rt, dir)?;
+    hold(says_all_are_ready(rt, &mut up)?, "not all nodes are ready")?;
+    hold(send_to(rt, &up, "kill -TERM \"$0\"")?, "no signal is sent")?;
+    hold(
+        takes_leave(rt, &mut up, "node 1 has ended")?,
+        "up does not end by SIGTERM, or in silence",
+    )?;
+    hold(first_listening(rt, dir)?.is_none(), "a node still listens")
+}
+
+#[test]
+fn up_ends_its_nodes_by_a_signal(rt: HostRuntime) -> Result<(), Fail> {
+    in_folder(&rt, "asked", LINE, |dir| end_by_signal(&rt, dir))
+}
+
+/// A copy that has one signal, and then another, waits no longer for a node that stands still.
+fn end_by_two_signals(rt: &HostRuntime, dir: &str) -> Result<(), Fail> {
+    let mut up = held_keeper(rt, dir)?;
+    hold(says_all_are_ready(rt, &mut up)?, "not all nodes are ready")?;
+    let frozen = process_of(rt, dir, 1)?;
+    let is_frozen = send(rt, frozen.as_str(), "kill -STOP \"$0\"")?;
+    let is_asked = send_to(rt, &up, "kill -INT \"$0\"; sleep 1; kill -TERM \"$0\"")?;
+    hold(is_frozen && is_asked, "no signal is sent")?;
+    hold(
+        takes_leave(rt, &mut up, "node 1 was ended by signal 9")?,
+        "up waits for a node that stands still",
+    )
+}
+
+#[test]
+fn up_kills_as_it_is_asked_again(rt: HostRuntime) -> Result<(), Fail> {
+    in_folder(&rt, "urged", LINE, |dir| end_by_two_signals(&rt, dir))
 }
 
 /// A program that ends with status 1 at once, whichever node it is to be.

@@ -1,12 +1,21 @@
-use Rattle.std.proofs.Common.{◌∷◌, [], codes, decimal}
+use Rattle.std.proofs.Common.{◌∷◌, [], ◌++◌, codes, decimal}
 use Rattle.std.specs.Process.{command_args}
-use Rattle.node_process.specs.Children.{child_options}
+use Rattle.node_process.specs.Children.{child_options, rights_options, log_options}
 use Rattle.node_process.proofs.Words.{added}
 use Rattle.node_process.proofs.up.add_words.Goals as goal
 
 pub returns : goal.returns
 returns c =
     let place = codes "--" ∷ c.args.file.now ∷ decimal c.args.id ∷ c.args.dir.now ∷ [] in
-    added c.add_place.result (command_args c.add_place.new.command) (command_args c.add_options.new.command)
-    (command_args c.args.command.now) (child_options c.args.options.0 c.args.options.1) place
-    c.add_place.ensures c.in_ok-add_options.ensures
+    let rights = rights_options c.args.options.2 in
+    let log = log_options c.args.options.3 in
+    let new = command_args c.add_place.new.command in
+    let first = command_args c.add_options.new.command in
+    let second = command_args c.add_rights.new.command in
+    added c.add_place.result new first
+    (command_args c.args.command.now) (child_options c.args.options.0 c.args.options.1) (rights ++ (log ++ place))
+    (added c.add_place.result new second first rights (log ++ place)
+    (added c.add_place.result new (command_args c.add_log.new.command) second log place
+    c.add_place.ensures c.in_ok-add_log.ensures)
+    c.in_ok-add_rights.ensures)
+    c.in_ok-add_options.ensures

@@ -1,7 +1,7 @@
 use Rattle.std.proofs.Common.{◌≡◌, take}
 use Rattle.byte_lines.specs.Kept.{StandsAfter}
-use Rattle.lock_client.specs.StatusLines.{signal_state, status_entries}
-use Rattle.lock_client.proofs.status_lines.state_said.Given as goal
+use Rattle.held_signals.specs.StatusLines.{signal_state, status_entries}
+use Rattle.held_signals.proofs.status_lines.state_said.Given as goal
 
 abbrev pub invariant-loop-byte : goal.invariant-loop-byte
 invariant-loop-byte l =

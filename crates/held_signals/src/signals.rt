@@ -1,8 +1,8 @@
 //! Signals that end a program by default and that its user sends to it, or to all of a terminal.
 ghost use Rattle.std.specs.Prelude.{◌≡◌, ◌<◌};
-ghost use Rattle.lock_client.specs.Signals.{signal_number, in_mask, signals_of, no_signals, holds};
-ghost use Rattle.lock_client.specs.Signals.{first_besides, including};
-ghost use Rattle.lock_client.specs.Signals.{both_signals, has_any, digit_value};
+ghost use Rattle.held_signals.specs.Signals.{signal_number, in_mask, signals_of, no_signals, holds};
+ghost use Rattle.held_signals.specs.Signals.{first_besides, including};
+ghost use Rattle.held_signals.specs.Signals.{both_signals, signals_without, has_any, digit_value};
 
 /// A signal by which a user or the system asks a program to end.
 #[derive(Clone, Copy, Debug, PartialEq, Eq)]
@@ -78,6 +78,18 @@ impl Signals {
             interrupt: self.interrupt || others.interrupt,
             quit: self.quit || others.quit,
             terminate: self.terminate || others.terminate,
+        }
+    }
+
+    /// These but for those.
+    pub fn without(self, others: Signals) -> Signals
+        ensures { result ≡ signals_without others self }
+    {
+        Signals {
+            hang_up: self.hang_up && !others.hang_up,
+            interrupt: self.interrupt && !others.interrupt,
+            quit: self.quit && !others.quit,
+            terminate: self.terminate && !others.terminate,
         }
     }
 

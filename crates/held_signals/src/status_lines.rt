@@ -2,8 +2,8 @@
 ghost use Rattle.std.specs.Prelude.{◌≡◌, ◌≤◌, ◌++◌, ◌∷◌, [], List, ℕ, length};
 ghost use Rattle.std.specs.Option.{option_to_list};
 ghost use Rattle.byte_lines.specs.Kept.{StandsAfter};
-ghost use Rattle.lock_client.specs.StatusLines.{status_entry, status_entries, entry_of, pending_of};
-ghost use Rattle.lock_client.specs.StatusLines.{shared_of, noted, signal_state};
+ghost use Rattle.held_signals.specs.StatusLines.{status_entry, status_entries, entry_of, pending_of};
+ghost use Rattle.held_signals.specs.StatusLines.{shared_of, ignored_of, noted, signal_state, heeded};
 
 use crate::Signals;
 use byte_lines::{HalfLine, LineReading};
@@ -16,6 +16,8 @@ pub enum StatusEntry {
     Pending(Signals),
     /// `SigBlk`: these signals are held back when they come.
     Blocked(Signals),
+    /// `SigIgn`: these signals mean nothing to the process.
+    Ignored(Signals),
     /// Any other line.
     Other,
 }
@@ -27,6 +29,8 @@ pub struct SignalState {
     pub pending: Signals,
     /// Those that are held back when they come.
     pub blocked: Signals,
+    /// Those that mean nothing to it, as SIGHUP under `nohup`.
+    pub ignored: Signals,
 }
 
 impl SignalState {
@@ -37,6 +41,7 @@ impl SignalState {
         SignalState {
             pending: Signals::none(),
             blocked: Signals::none(),
+            ignored: Signals::none(),
         }
     }
 
@@ -47,14 +52,26 @@ impl SignalState {
         match entry {
             StatusEntry::Pending(signals) => SignalState {
                 pending: self.pending.with(signals),
-                blocked: self.blocked,
+                ..self
             },
             StatusEntry::Blocked(signals) => SignalState {
-                pending: self.pending,
                 blocked: self.blocked.with(signals),
+                ..self
+            },
+            StatusEntry::Ignored(signals) => SignalState {
+                ignored: self.ignored.with(signals),
+                ..self
             },
             StatusEntry::Other => self,
         }
+    }
+
+    /// The signals that came, are held back, and mean something to the process. The system keeps one
+    /// that is held back even if it is ignored.
+    pub fn heeded(self) -> Signals
+        ensures { result ≡ heeded self }
+    {
+        self.pending.without(self.ignored)
     }
 }
 
@@ -150,6 +167,16 @@ fn shared_of(line: &[u8]) -> StatusEntry
 {
     match line.strip_prefix(b"ShdPnd:\t") {
         Some(digits) => StatusEntry::Pending(Signals::of_mask(digits)),
+        None => ignored_of(line),
+    }
+}
+
+/// What a line says that tells neither which signals are held back nor which came.
+fn ignored_of(line: &[u8]) -> StatusEntry
+    ensures { result ≡ ignored_of line.now }
+{
+    match line.strip_prefix(b"SigIgn:\t") {
+        Some(digits) => StatusEntry::Ignored(Signals::of_mask(digits)),
         None => StatusEntry::Other,
     }
 }

@@ -2,18 +2,23 @@
 use Rattle.std.specs.Prelude.{ℕ, Bool, ◌==◌, if◌then◌else◌, nat_lt, List, [], ◌∷◌, ◌++◌, map, fold, length, drop, codes}
 use Rattle.std.specs.List.{starts_with}
 use Rattle.byte_lines.specs.Lines.{whole_lines}
-use Rattle.lock_client.specs.Signals.{signals_of, no_signals, both_signals}
-use Rattle.lock_client.specs.declared.status_lines.StatusEntry.{StatusEntry}
-use Rattle.lock_client.specs.declared.status_lines.StatusEntry.TheVariants.{Pending, Blocked, Other}
-use Rattle.lock_client.specs.declared.status_lines.SignalState.{SignalState}
+use Rattle.held_signals.specs.Signals.{signals_of, no_signals, both_signals, signals_without}
+use Rattle.held_signals.specs.declared.status_lines.StatusEntry.{StatusEntry}
+use Rattle.held_signals.specs.declared.status_lines.StatusEntry.TheVariants.{Pending, Blocked, Ignored, Other}
+use Rattle.held_signals.specs.declared.signals.Signals.{Signals}
+use Rattle.held_signals.specs.declared.status_lines.SignalState.{SignalState}
 
 -- after this name and a tab stand the digits of a mask
 abbrev pub is_named : List ℕ → List ℕ → Bool
 is_named name line = starts_with (λ a b. a == b) line (name ++ 9 ∷ [])
 
+-- signals that mean nothing to the process
+abbrev pub ignored_of : List ℕ → StatusEntry
+ignored_of line = if is_named (codes "SigIgn:") line then Ignored (signals_of (drop 8 line)) else Other
+
 -- signals that came to the process and are held back
 abbrev pub shared_of : List ℕ → StatusEntry
-shared_of line = if is_named (codes "ShdPnd:") line then Pending (signals_of (drop 8 line)) else Other
+shared_of line = if is_named (codes "ShdPnd:") line then Pending (signals_of (drop 8 line)) else ignored_of line
 
 -- signals that came to the thread and are held back
 abbrev pub pending_of : List ℕ → StatusEntry
@@ -33,10 +38,19 @@ status_entries bytes = map status_entry (whole_lines bytes)
 
 -- what is known after a line
 abbrev pub noted : SignalState → StatusEntry → SignalState
-noted s (Pending signals) = record { pending = both_signals s.pending signals; blocked = s.blocked }
-noted s (Blocked signals) = record { pending = s.pending; blocked = both_signals s.blocked signals }
+noted s (Pending signals) = record s { pending = both_signals s.pending signals }
+noted s (Blocked signals) = record s { blocked = both_signals s.blocked signals }
+noted s (Ignored signals) = record s { ignored = both_signals s.ignored signals }
 noted s Other = s
+
+-- nothing is known
+abbrev pub no_state : SignalState
+no_state = record { pending = no_signals; blocked = no_signals; ignored = no_signals }
 
 -- what is known after some lines
 abbrev pub signal_state : List StatusEntry → SignalState
-signal_state entries = fold noted (record { pending = no_signals; blocked = no_signals }) entries
+signal_state entries = fold noted no_state entries
+
+-- the signals that came, are held back, and mean something to the process
+abbrev pub heeded : SignalState → Signals
+heeded s = signals_without s.ignored s.pending

@@ -1,9 +1,9 @@
 -- The signals by which a user or the system asks a program to end, and masks of signals.
 use Rattle.std.specs.Prelude.{ℕ, ◌+◌, ◌-◌, ◌/◌, ◌%◌, ◌==◌, Bool, true, false, List, length, ◌&&◌, ◌||◌, Option, Some, None, not, if◌then◌else◌, nat_lt, nat_le}
 use Rattle.std.specs.List.{slice_index}
-use Rattle.lock_client.specs.declared.signals.Signal.{Signal}
-use Rattle.lock_client.specs.declared.signals.Signal.TheVariants.{HangUp, Interrupt, Quit, Terminate}
-use Rattle.lock_client.specs.declared.signals.Signals.{Signals}
+use Rattle.held_signals.specs.declared.signals.Signal.{Signal}
+use Rattle.held_signals.specs.declared.signals.Signal.TheVariants.{HangUp, Interrupt, Quit, Terminate}
+use Rattle.held_signals.specs.declared.signals.Signals.{Signals}
 
 -- their numbers, by POSIX
 abbrev pub signal_number : Signal → ℕ
@@ -45,6 +45,15 @@ both_signals a b = record {
   interrupt = a.interrupt || b.interrupt;
   quit = a.quit || b.quit;
   terminate = a.terminate || b.terminate;
+}
+
+-- the signals of the second that are none of the first
+abbrev pub signals_without : Signals → Signals → Signals
+signals_without a b = record {
+  hang_up = b.hang_up && not a.hang_up;
+  interrupt = b.interrupt && not a.interrupt;
+  quit = b.quit && not a.quit;
+  terminate = b.terminate && not a.terminate;
 }
 
 abbrev pub has_any : Signals → Bool

@@ -1,0 +1,93 @@
+//! When `up` ends its nodes.
+ghost use Rattle.std.specs.Prelude.{◌≡◌};
+ghost use Rattle.node_keeping.specs.Course.{is_asked, is_urged, stage_then, seen_then, word_then};
+
+use crate::keeper::Seen;
+use held_signals::Signals;
+
+/// How far `up` is.
+#[derive(Clone, Copy, Debug, PartialEq, Eq)]
+pub enum UpStage {
+    /// It keeps its nodes running.
+    Running,
+    /// Its nodes are to end.
+    Ending,
+    /// Its nodes are killed.
+    Killing,
+}
+
+/// What `up` sees of itself between two looks at its nodes.
+#[derive(Clone, Copy, Debug, PartialEq, Eq)]
+pub struct UpSights {
+    /// The signals that have come to it since its start.
+    pub signals: Signals,
+    /// Whether its standard input, if that has an end, came to it.
+    pub has_input_ended: bool,
+    /// Whether a signal ended the process that is beside it once it was asked to end: so Ctrl-C came
+    /// again.
+    pub is_pressed: bool,
+}
+
+/// Whether `up` keeps its nodes running.
+#[derive(Clone, Copy, Debug, PartialEq, Eq, Drop)]
+pub struct UpCourse {
+    stage: UpStage,
+    /// The signals that had come when it was asked to end.
+    seen: Signals,
+}
+
+impl UpCourse {
+    ghost use Rattle.std.specs.Prelude.{true, false};
+    ghost use Rattle.node_keeping.specs.Course.{new_course, is_ending};
+
+    /// Nothing has asked it to end.
+    pub fn new() -> UpCourse
+        ensures { result ≡ new_course }
+    {
+        UpCourse {
+            stage: UpStage::Running,
+            seen: Signals::none(),
+        }
+    }
+
+    /// Whether its nodes are to end.
+    pub fn is_ending(&self) -> bool
+        ensures { result ≡ is_ending self.now.stage }
+    {
+        self.stage != UpStage::Running
+    }
+
+    /// Takes note of what was seen, and says of what each node's keeper takes note then, if of anything.
+    pub fn step(&mut self, sights: UpSights) -> Option<Seen>
+        ensures stage { self.new.stage ≡ stage_then sights self.old.seen self.old.stage }
+        ensures seen { self.new.seen ≡ seen_then sights self.old.seen self.old.stage }
+        ensures word { result ≡ word_then sights self.old.seen self.old.stage }
+    {
+        match self.stage {
+            UpStage::Running if is_asked(sights) => {
+                self.stage = UpStage::Ending;
+                self.seen = sights.signals;
+                Some(Seen::Asked)
+            }
+            UpStage::Ending if is_urged(sights, self.seen) => {
+                self.stage = UpStage::Killing;
+                Some(Seen::Urged)
+            }
+            _ => None,
+        }
+    }
+}
+
+/// Whether anything asks `up` to end.
+fn is_asked(sights: UpSights) -> bool
+    ensures { result ≡ is_asked sights }
+{
+    sights.has_input_ended || sights.signals.any()
+}
+
+/// Whether anything asks `up` again, to which these signals had come before.
+fn is_urged(sights: UpSights, seen: Signals) -> bool
+    ensures { result ≡ is_urged sights seen }
+{
+    sights.is_pressed || sights.signals.without(seen).any()
+}

@@ -1,0 +1,144 @@
+-- Small examples of what a node says of itself, and ones that fail.
+use Rattle.std.proofs.Common.{◌≡◌, ◌≢◌, true, false, Some, None, [], ◌∷◌, refl, codes, arith}
+use Rattle.std.specs.Fmt.{digits}
+use Rattle.lock_desk.specs.declared.act.DeskAct.TheVariants as act
+use Rattle.node_log.specs.declared.event.Event.TheVariants.{Begins, Up, Down, Granted, Lost, GivenBack}
+use Rattle.node_log.specs.declared.event.Level.TheVariants.{Warning, Notice, Info}
+use Rattle.node_log.specs.declared.rate.LineRate.{LineRate}
+use Rattle.node_log.specs.Events.{level_of, priority_of, level_with, is_said_at}
+use Rattle.node_log.specs.Rate.{new_rate, second_of, said_in, answer_at, rate_after, answers}
+use Rattle.node_log.specs.Turns.{gave_back, by_act, changed, by_link, next_of, admitted, rate_then}
+use Rattle.node_log.specs.Line.{event_text, priority_text, left_out_text, log_line}
+use Rattle.node_log.specs.Laws.{is_said}
+
+urgent-lost : level_of (Lost 7) ≡ Warning
+urgent-lost = refl
+
+urgent_not-grant : level_of (Granted 7) ≢ Notice
+urgent_not-grant = grind arith
+
+number-info : priority_of Info ≡ 6
+number-info = refl
+
+number-notice : level_with 5 ≡ Some Notice
+number-notice = refl
+
+number_not-debug : level_with 7 ≡ None
+number_not-debug = refl
+
+said-warning : is_said_at Warning Notice ≡ true
+said-warning = refl
+
+said_not-info : is_said_at Info Notice ≡ false
+said_not-info = refl
+
+-- twenty lines were said in the third second, and one was left out
+full : LineRate
+full = record { second = 2; said = 20; left_out = 1 }
+
+second-third : second_of 2999999 ≡ 2
+second-third = refl
+
+counts-third : said_in 2999999 full ≡ 20
+unfolding full
+counts-third = refl
+
+counts_not-fourth : said_in 3000000 full ≡ 0
+unfolding full
+counts_not-fourth = refl
+
+leaves-out : answer_at 2999999 full ≡ None
+unfolding full
+leaves-out = refl
+
+says-again : answer_at 3000000 full ≡ Some 1
+unfolding full
+says-again = refl
+
+counts-left_out : rate_after 2999999 full ≡ record { second = 2; said = 20; left_out = 2 }
+unfolding full
+counts-left_out = refl
+
+counts-anew : rate_after 3000000 full ≡ record { second = 3; said = 1; left_out = 0 }
+unfolding full
+counts-anew = refl
+
+says-both : answers full (2999999 ∷ 3000000 ∷ []) ≡ false ∷ true ∷ []
+unfolding full
+says-both = refl
+
+begins-quiet : answer_at 5 new_rate ≡ Some 0
+begins-quiet = refl
+
+is-said : is_said true ≡ true
+is-said = refl
+
+is_not-said : is_said false ≡ false
+is_not-said = refl
+
+-- the lock: given back and granted in one turn, lost, given back alone, still lent
+back-granted : gave_back (Some 3) (act.Granted 4) (Some 4) ≡ Some (GivenBack 3)
+back-granted = refl
+
+back_not-lost : gave_back (Some 3) (act.Lost 3) None ≡ None
+back_not-lost = refl
+
+back-gone : gave_back (Some 3) act.Quiet None ≡ Some (GivenBack 3)
+back-gone = refl
+
+back_not-lent : gave_back (Some 3) act.Quiet (Some 3) ≡ None
+back_not-lent = refl
+
+act-granted : by_act (act.Granted 4) ≡ Some (Granted 4)
+act-granted = refl
+
+act_not-quiet : by_act act.Quiet ≡ None
+act_not-quiet = refl
+
+-- links: node 1 was up
+link-down : by_link 1 false (false ∷ true ∷ []) ≡ Some (Down 1)
+link-down = refl
+
+link_not-again : by_link 1 true (false ∷ true ∷ []) ≡ None
+link_not-again = refl
+
+link_not-beyond : by_link 64 true [] ≡ None
+link_not-beyond = refl
+
+change-up : changed 2 true false ≡ Some (Up 2)
+change-up = refl
+
+next-first : next_of 3 2 ≡ 0
+next-first = refl
+
+next_not-first : next_of 3 1 ≡ 2
+next_not-first = refl
+
+admits : admitted (Some Notice) (Up 1) 5 new_rate ≡ Some 0
+admits = refl
+
+admits_not-info : admitted (Some Notice) (Granted 1) 5 new_rate ≡ None
+admits_not-info = refl
+
+counts_not-info : rate_then (Some Notice) (Granted 1) 5 new_rate ≡ new_rate
+counts_not-info = refl
+
+-- the words
+words-up : event_text (Up 2) ≡ codes "the link to node 2 is up"
+unfolding digits
+words-up = refl
+
+words-priority : priority_text (Lost 3) true ≡ codes "<4>"
+unfolding digits
+words-priority = refl
+
+words_not-priority : priority_text Begins false ≡ []
+words_not-priority = refl
+
+words_not-none : left_out_text 0 ≡ []
+words_not-none = refl
+
+words-line : log_line 1 (GivenBack 3) 12 true
+    ≡ codes "<6>tokentree: node 1: ticket 3 has given the lock back (12 lines were left out before)"
+unfolding digits
+words-line = refl

@@ -1,0 +1,31 @@
+-- How urgent it is what a node says of itself.
+use Rattle.std.specs.Prelude.{ℕ, Bool, ◌==◌, nat_le, if◌then◌else◌, Option, None, Some}
+use Rattle.node_log.specs.declared.event.Event.{Event}
+use Rattle.node_log.specs.declared.event.Event.TheVariants.{Begins, Ends, Up, Down, Granted, Lost, GivenBack}
+use Rattle.node_log.specs.declared.event.Level.{Level}
+use Rattle.node_log.specs.declared.event.Level.TheVariants.{Warning, Notice, Info}
+
+-- a link that is gone and a lock that is lost are amiss; grants go on all the time
+abbrev pub level_of : Event → Level
+level_of (Down id) = Warning
+level_of (Lost ticket) = Warning
+level_of (Granted ticket) = Info
+level_of (GivenBack ticket) = Info
+level_of _ = Notice
+
+-- the severities of RFC 5424, 6.2.1
+abbrev pub priority_of : Level → ℕ
+priority_of Warning = 4
+priority_of Notice = 5
+priority_of Info = 6
+
+abbrev pub level_with : ℕ → Option Level
+level_with priority =
+    if priority == 4 then Some Warning
+    else if priority == 5 then Some Notice
+    else if priority == 6 then Some Info
+    else None
+
+-- a log says what is as urgent as its level, or more
+abbrev pub is_said_at : Level → Level → Bool
+is_said_at level least = nat_le (priority_of level) (priority_of least)

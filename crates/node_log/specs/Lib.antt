@@ -1,0 +1,5 @@
+pub mod Events
+pub mod Rate
+pub mod Turns
+pub mod Line
+pub mod Laws

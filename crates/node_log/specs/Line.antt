@@ -1,0 +1,29 @@
+-- A line of a node's log.
+use Rattle.std.specs.Prelude.{ℕ, Bool, nat_lt, if◌then◌else◌, List, [], ◌++◌, codes, decimal}
+use Rattle.node_log.specs.declared.event.Event.{Event}
+use Rattle.node_log.specs.declared.event.Event.TheVariants.{Begins, Ends, Up, Down, Granted, Lost, GivenBack}
+use Rattle.node_log.specs.Events.{level_of, priority_of}
+
+abbrev pub event_text : Event → List ℕ
+event_text Begins = codes "begins"
+event_text Ends = codes "ends"
+event_text (Up id) = codes "the link to node " ++ (decimal id ++ codes " is up")
+event_text (Down id) = codes "the link to node " ++ (decimal id ++ codes " is down")
+event_text (Granted ticket) = codes "ticket " ++ (decimal ticket ++ codes " is granted the lock")
+event_text (Lost ticket) = codes "ticket " ++ (decimal ticket ++ codes " has lost the lock")
+event_text (GivenBack ticket) = codes "ticket " ++ (decimal ticket ++ codes " has given the lock back")
+
+-- the priority in angle brackets, as the journal of systemd reads it in front of a line (sd-daemon)
+abbrev pub priority_text : Event → Bool → List ℕ
+priority_text event has_priority =
+    if has_priority then codes "<" ++ (decimal (priority_of (level_of event)) ++ codes ">") else []
+
+-- how many lines were left out
+abbrev pub left_out_text : ℕ → List ℕ
+left_out_text count =
+    if nat_lt 0 count then codes " (" ++ (decimal count ++ codes " lines were left out before)") else []
+
+abbrev pub log_line : ℕ → Event → ℕ → Bool → List ℕ
+log_line id event left_out has_priority =
+    priority_text event has_priority
+    ++ (codes "tokentree: node " ++ (decimal id ++ (codes ": " ++ (event_text event ++ left_out_text left_out))))

@@ -1,0 +1,78 @@
+//! What is said.
+ghost use Rattle.std.specs.Prelude.{◌≡◌};
+ghost use Rattle.node_log.specs.Events.{level_of, level_with, priority_of, is_said_at};
+
+/// What a node may say of itself.
+#[derive(Clone, Copy, Debug, PartialEq, Eq)]
+pub enum Event {
+    /// Its sockets listen, and its turns begin.
+    Begins,
+    /// It ends.
+    Ends,
+    /// A connection to this neighbour stands.
+    Up(u16),
+    /// No connection to this neighbour stands any more.
+    Down(u16),
+    /// The client with this ticket was granted the lock.
+    Granted(u16),
+    /// The client with this ticket lost the lock: its lease was over, or the node was damaged.
+    Lost(u16),
+    /// The client with this ticket gave the lock back, or went away.
+    GivenBack(u16),
+}
+
+/// How urgent it is.
+#[derive(Clone, Copy, Debug, PartialEq, Eq)]
+pub enum Level {
+    /// Something is amiss.
+    Warning,
+    /// All is well, and something changed that an operator may want to know.
+    Notice,
+    /// What goes on all the time.
+    Info,
+}
+
+impl Event {
+    /// How urgent it is.
+    pub fn level(self) -> Level
+        ensures { result ≡ level_of self }
+    {
+        match self {
+            Event::Down(_) | Event::Lost(_) => Level::Warning,
+            Event::Begins | Event::Ends | Event::Up(_) => Level::Notice,
+            Event::Granted(_) | Event::GivenBack(_) => Level::Info,
+        }
+    }
+}
+
+impl Level {
+    /// The level of this priority, by the numbers of syslog; none has another.
+    pub fn of_priority(priority: u64) -> Option<Level>
+        ensures { result ≡ level_with priority }
+    {
+        match priority {
+            4 => Some(Level::Warning),
+            5 => Some(Level::Notice),
+            6 => Some(Level::Info),
+            _ => None,
+        }
+    }
+
+    /// Its priority, by the numbers of syslog: the less, the more urgent.
+    pub fn priority(self) -> u8
+        ensures { result ≡ priority_of self }
+    {
+        match self {
+            Level::Warning => 4,
+            Level::Notice => 5,
+            Level::Info => 6,
+        }
+    }
+
+    /// Whether what is so urgent is said by a log that goes down to `least`.
+    pub fn is_said_at(self, least: Level) -> bool
+        ensures { result ≡ is_said_at self least }
+    {
+        self.priority() <= least.priority()
+    }
+}

@@ -1,0 +1,26 @@
+//! What a node says of itself while it runs, for whoever keeps its lines: when a link comes and goes, and who
+//! is granted the lock, loses it or gives it back.
+//!
+//! ```
+//! let mut log = NodeLog::new(Some(Level::Info));       // None says nothing
+//! for event in log.turn_ended(sight).into_iter().flatten() {
+//!     if let Some(left_out) = log.admit(event, now) {  // at most 20 in a second
+//!         let line = LogLine { id, event, left_out, has_priority };
+//!     }
+//! }
+//! ```
+//!
+//! The trap: of the links one is looked at in each turn, so a link that goes and comes again between two
+//! looks is not said.
+#![tactic(auto)]
+
+mod event;
+pub mod laws;
+mod line;
+mod log;
+mod rate;
+
+pub use event::{Event, Level};
+pub use line::LogLine;
+pub use log::{NodeLog, TurnSight};
+pub use rate::{LineRate, MOST_LINES};

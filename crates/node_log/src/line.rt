@@ -1,0 +1,93 @@
+//! The line of what is said.
+use crate::event::Event;
+use std::fmt;
+
+/// A line of a node's log, without a newline.
+#[derive(Clone, Copy, Debug, PartialEq, Eq)]
+pub struct LogLine {
+    /// The node.
+    pub id: u16,
+    /// What it says.
+    pub event: Event,
+    /// How many lines were left out before.
+    pub left_out: u64,
+    /// Whether its priority stands in front, as journals read it.
+    pub has_priority: bool,
+}
+
+impl fmt::Display for LogLine {
+    ghost use Rattle.std.specs.Prelude.{Some};
+    ghost use Rattle.node_log.specs.Line.{log_line};
+
+    ghost output = { λ line. Some (log_line line.id line.event line.left_out line.has_priority) };
+
+    fn fmt<W: fmt::Write>(&self, f: &mut fmt::Formatter<W>) -> fmt::Result {
+        let (id, what) = (self.id, What(self.event));
+        let priority = Priority(self.event, self.has_priority);
+        let left_out = LeftOut(self.left_out);
+        write!(f, "{priority}tokentree: node {id}: {what}{left_out}")
+    }
+}
+
+/// The priority in front of a line, if it stands there.
+#[derive(Drop)]
+struct Priority(Event, bool);
+
+impl fmt::Display for Priority {
+    ghost use Rattle.std.specs.Prelude.{Some};
+    ghost use Rattle.node_log.specs.Line.{priority_text};
+
+    ghost output = { λ line. Some (priority_text line.0 line.1) };
+
+    fn fmt<W: fmt::Write>(&self, f: &mut fmt::Formatter<W>) -> fmt::Result {
+        if self.1 {
+            let priority = self.0.level().priority();
+            write!(f, "<{priority}>")
+        } else {
+            Ok(())
+        }
+    }
+}
+
+/// How many lines were left out, if any.
+#[derive(Drop)]
+struct LeftOut(u64);
+
+impl fmt::Display for LeftOut {
+    ghost use Rattle.std.specs.Prelude.{Some};
+    ghost use Rattle.node_log.specs.Line.{left_out_text};
+
+    ghost output = { λ line. Some (left_out_text line.0) };
+
+    fn fmt<W: fmt::Write>(&self, f: &mut fmt::Formatter<W>) -> fmt::Result {
+        let count = self.0;
+        if count > 0 {
+            write!(f, " ({count} lines were left out before)")
+        } else {
+            Ok(())
+        }
+    }
+}
+
+/// What is said.
+#[derive(Drop)]
+struct What(Event);
+
+impl fmt::Display for What {
+    ghost use Rattle.std.specs.Prelude.{Some};
+    ghost use Rattle.node_log.specs.Line.{event_text};
+
+    ghost output = { λ what. Some (event_text what.0) };
+
+    fn fmt<W: fmt::Write>(&self, f: &mut fmt::Formatter<W>) -> fmt::Result {
+        match self.0 {
+            Event::Begins => f.write_str("begins"),
+            Event::Ends => f.write_str("ends"),
+            Event::Up(id) => write!(f, "the link to node {id} is up"),
+            Event::Down(id) => write!(f, "the link to node {id} is down"),
+            Event::Granted(ticket) => write!(f, "ticket {ticket} is granted the lock"),
+            Event::Lost(ticket) => write!(f, "ticket {ticket} has lost the lock"),
+            Event::GivenBack(ticket) => write!(f, "ticket {ticket} has given the lock back"),
+        }
+    }
+}

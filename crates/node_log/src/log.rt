@@ -1,0 +1,151 @@
+//! The log of a node.
+ghost use Rattle.std.specs.Prelude.{◌≡◌, ◌≢◌, ◌<◌, ◌×◌, ℕ, [], ◌∷◌, None, false, is_some, replicate};
+ghost use Rattle.std.specs.List.{slice_index_or};
+ghost use Rattle.node_log.specs.Turns.{gave_back, by_act, by_link, admitted, rate_then, next_of};
+
+use crate::event::{Event, Level};
+use crate::rate::LineRate;
+use lock_desk::DeskAct;
+
+/// How many nodes a network has at most.
+const NODES: usize = 64;
+
+/// What is seen of a node after a turn.
+#[derive(Clone, Copy, Debug, PartialEq, Eq)]
+pub struct TurnSight {
+    /// What the tick did at its desk.
+    pub act: DeskAct,
+    /// The ticket that has the lock, if any.
+    pub lent: Option<u16>,
+    /// The node to which the link was looked at.
+    pub link: u16,
+    /// Whether a connection to it stands.
+    pub is_up: bool,
+}
+
+/// What a node says of itself, and what it has seen.
+#[derive(Drop)]
+pub struct NodeLog {
+    /// How urgent what is said is at least; nothing is said if it is none.
+    least: Option<Level>,
+    rate: LineRate,
+    /// By id, whether a connection stood at the last look.
+    up: [bool; NODES],
+    /// The node to which the link is looked at next.
+    next: u16,
+    /// The ticket that had the lock after the last turn.
+    lent: Option<u16>,
+}
+
+impl NodeLog {
+    ghost use Rattle.node_log.specs.Rate.{new_rate};
+
+    /// A log which says what is so urgent; nothing if that is none.
+    pub fn new(least: Option<Level>) -> NodeLog
+        ensures level { result.least ≡ least }
+        ensures rest { (result.rate ≡ new_rate) × (result.up ≡ replicate 64 false) × (result.next ≡ 0)
+            × (result.lent ≡ None) }
+    {
+        NodeLog {
+            least,
+            rate: LineRate::new(),
+            up: [false; NODES],
+            next: 0,
+            lent: None,
+        }
+    }
+
+    /// Whether it says anything.
+    pub fn is_on(&self) -> bool
+        ensures { result ≡ is_some self.now.least }
+    {
+        self.least.is_some()
+    }
+
+    /// The node to which the link is looked at after this turn, of so many; that to the next after the next.
+    pub fn next_link(&mut self, nodes: u16) -> u16
+        ensures next { result ≡ self.old.next }
+        ensures after { self.new ≡ record self.old { next = next_of nodes self.old.next } }
+    {
+        let link = self.next;
+        let after = link.saturating_add(1);
+        self.next = if after < nodes { after } else { 0 };
+        link
+    }
+
+    /// What happened in a turn, by what is seen after it: who gave the lock back, who was granted it or lost
+    /// it, and whether the link is up or down now. Of an id above 63 nothing is said.
+    pub fn turn_ended(&mut self, sight: TurnSight) -> [Option<Event>; 3]
+        ensures events { result ≡ gave_back self.old.lent sight.act sight.lent ∷ by_act sight.act
+            ∷ by_link sight.link sight.is_up self.old.up ∷ [] }
+        ensures lent { self.new.lent ≡ sight.lent }
+        ensures link { sight.link < 64 → slice_index_or self.new.up sight.link false ≡ sight.is_up }
+        ensures others { (other : ℕ) → other ≢ sight.link
+            → slice_index_or self.new.up other false ≡ slice_index_or self.old.up other false }
+        ensures rest { (self.new.least ≡ self.old.least) × (self.new.rate ≡ self.old.rate)
+            × (self.new.next ≡ self.old.next) }
+    {
+        let back = gave_back(self.lent, sight.act, sight.lent);
+        let link = self.see_link(sight.link, sight.is_up);
+        self.lent = sight.lent;
+        [back, by_act(sight.act), link]
+    }
+
+    /// Takes note of the link to a node, and says whether it came or went.
+    fn see_link(&mut self, id: u16, is_up: bool) -> Option<Event>
+        ensures event { result ≡ by_link id is_up self.old.up }
+        ensures link { id < 64 → slice_index_or self.new.up id false ≡ is_up }
+        ensures others { (other : ℕ) → other ≢ id
+            → slice_index_or self.new.up other false ≡ slice_index_or self.old.up other false }
+        ensures rest { (self.new.least ≡ self.old.least) × (self.new.rate ≡ self.old.rate)
+            × (self.new.next ≡ self.old.next) × (self.new.lent ≡ self.old.lent) }
+    {
+        let place = usize::from(id);
+        if place >= NODES || self.up[place] == is_up {
+            return None;
+        }
+        self.up[place] = is_up;
+        Some(if is_up {
+            Event::Up(id)
+        } else {
+            Event::Down(id)
+        })
+    }
+
+    /// Whether an event is said at this time, in microseconds: none if it is not, and else how many were left
+    /// out since the last that was said. Only what is urgent enough counts.
+    pub fn admit(&mut self, event: Event, now: u64) -> Option<u64>
+        ensures answer { result ≡ admitted self.old.least event now self.old.rate }
+        ensures rate { self.new.rate ≡ rate_then self.old.least event now self.old.rate }
+        ensures rest { (self.new.least ≡ self.old.least) × (self.new.up ≡ self.old.up)
+            × (self.new.next ≡ self.old.next) × (self.new.lent ≡ self.old.lent) }
+    {
+        match self.least {
+            Some(least) if event.level().is_said_at(least) => self.rate.admit(now),
+            _ => None,
+        }
+    }
+}
+
+/// Who gave the lock back that had it, by what the tick did and who has it now. A tick that grants began with
+/// nobody who had it.
+fn gave_back(before: Option<u16>, act: DeskAct, now: Option<u16>) -> Option<Event>
+    ensures { result ≡ gave_back before act now }
+{
+    match (before, act, now) {
+        (Some(ticket), DeskAct::Granted(_), _) => Some(Event::GivenBack(ticket)),
+        (Some(ticket), DeskAct::Quiet, None) => Some(Event::GivenBack(ticket)),
+        _ => None,
+    }
+}
+
+/// Who was granted the lock or lost it.
+fn by_act(act: DeskAct) -> Option<Event>
+    ensures { result ≡ by_act act }
+{
+    match act {
+        DeskAct::Granted(ticket) => Some(Event::Granted(ticket)),
+        DeskAct::Lost(ticket) => Some(Event::Lost(ticket)),
+        DeskAct::Quiet => None,
+    }
+}

@@ -1,0 +1,155 @@
+//! What asks `up` to end: signals that it holds back, and its standard input.
+ghost use Rattle.std.specs.Prelude.{◌≡◌, true, false, None, IfOk};
+ghost use Rattle.held_signals.specs.Signals.{no_signals};
+
+use held_signals::{Signals, state_now};
+use mio::{Events, Poll, Token};
+use node_keeping::UpSights;
+use std::io::Input;
+use std::net::Net as Sockets;
+use std::os::unix::process::ExitStatusExt;
+use std::process::{Child, Command, OpenProcess, Processes, Stdio};
+use std::rt::{Clock, Files};
+use std::time::Duration;
+use std::{io, thread};
+use unix_doors::{InputSight, read_input, watch_input};
+
+/// How long one look at the processes takes at most, in milliseconds.
+const LOOK: u64 = 50;
+
+/// How long one look takes while the processes are to end, in milliseconds.
+const LOOK_AT_END: u64 = 10;
+
+/// Standard input in a poll.
+const INPUT: Token = Token(0);
+
+/// For how many seconds a process waits for a second Ctrl-C: longer than any node is waited for.
+const SECONDS: &str = "9";
+
+/// What may ask `up` to end. Signals are looked at if any is held back. The end of standard input is
+/// waited for if a poll waits for it: no file has one, nor has `/dev/null`.
+#[derive(Drop)]
+pub struct Asks<P: OpenProcess + Drop> {
+    poll: Poll,
+    events: Events,
+    watches_input: bool,
+    holds_signals_back: bool,
+    /// A process beside this one, which holds no signal back: a signal that is held back shows once, and
+    /// so a second Ctrl-C shows by the end of this process.
+    beside: Option<Child<P>>,
+}
+
+impl<P: OpenProcess + Drop> Asks<P> {
+    /// Nothing was asked yet.
+    ///
+    /// # Errors
+    /// If the system gives no poll, or memory runs out.
+    pub fn new<R: Files + Sockets + AllocGlobal>(rt: &R) -> io::Result<Asks<P>>
+        ensures { IfOk result (λ asks. asks.beside ≡ None) }
+    {
+        let poll = Poll::new(rt)?;
+        let watches_input = watch_input(poll.registry(), INPUT, true).is_ok();
+        Ok(Asks {
+            poll,
+            events: Events::with_capacity(rt.alloc(), 1)?,
+            watches_input,
+            holds_signals_back: state_now(rt).blocked.any(),
+            beside: None,
+        })
+    }
+
+    /// Waits for as long as a look takes at most, and says what asks `up` to end.
+    pub fn sights<R>(&mut self, rt: &R, is_ending: bool) -> UpSights
+    where
+        R: Files + Clock + Input + Processes<Started = P> + AllocGlobal,
+        ensures held { self.old.holds_signals_back ≡ false → result.signals ≡ no_signals }
+        // An input for which no poll waits never ends, nor does one that is not looked at.
+        ensures endless { self.old.watches_input ≡ false → result.has_input_ended ≡ false }
+        ensures ending { is_ending ≡ true → result.has_input_ended ≡ false }
+        ensures alone { is_ending ≡ false → self.old.beside ≡ None → result.is_pressed ≡ false }
+        ensures stays { self.new.holds_signals_back ≡ self.old.holds_signals_back }
+    {
+        let has_input_ended = if is_ending {
+            self.stand_by(rt);
+            false
+        } else {
+            self.await_input(rt)
+        };
+        UpSights {
+            signals: self.signals(rt),
+            has_input_ended,
+            is_pressed: self.is_pressed(),
+        }
+    }
+
+    /// Waits for standard input, and says whether it is at its end.
+    fn await_input<R: Clock + Input>(&mut self, rt: &R) -> bool
+        ensures endless { self.old.watches_input ≡ false → result ≡ false }
+        ensures stays { (self.new.holds_signals_back ≡ self.old.holds_signals_back)
+            × (self.new.beside ≡ self.old.beside) }
+    {
+        let rest = Duration::from_millis(LOOK);
+        if self.poll.poll(&mut self.events, Some(rest)).is_err() {
+            thread::sleep(rt, rest);
+            return false;
+        }
+        if self.events.is_empty() || !self.watches_input {
+            return false;
+        }
+        let sight = read_input(rt);
+        self.watches_input = sight == InputSight::Open
+            && watch_input(self.poll.registry(), INPUT, false).is_ok();
+        sight == InputSight::Ended
+    }
+
+    /// Waits while the nodes are to end, beside a process that a second Ctrl-C ends.
+    fn stand_by<R: Clock + Processes<Started = P> + AllocGlobal>(&mut self, rt: &R)
+        ensures { self.new.holds_signals_back ≡ self.old.holds_signals_back }
+    {
+        if self.beside.is_none() && self.holds_signals_back {
+            self.beside = sleeper(rt).ok();
+        }
+        thread::sleep(rt, Duration::from_millis(LOOK_AT_END));
+    }
+
+    /// The signals that came, are held back, and mean something to this process.
+    fn signals<R: Files + AllocGlobal>(&self, rt: &R) -> Signals
+        ensures { self.now.holds_signals_back ≡ false → result ≡ no_signals }
+    {
+        if self.holds_signals_back {
+            state_now(rt).heeded()
+        } else {
+            Signals::none()
+        }
+    }
+
+    /// Whether a signal ended the process beside this one.
+    fn is_pressed(&mut self) -> bool
+        ensures alone { self.old.beside ≡ None → result ≡ false }
+        ensures stays { self.new.holds_signals_back ≡ self.old.holds_signals_back }
+    {
+        match &mut self.beside {
+            Some(child) => match child.try_wait() {
+                Ok(Some(status)) => status.signal().is_some(),
+                Ok(None) | Err(_) => false,
+            },
+            None => false,
+        }
+    }
+
+    /// Ends the process beside this one.
+    pub fn close(&mut self) {
+        if let Some(child) = &mut self.beside {
+            let _ = child.kill();
+            let _ = child.wait();
+        }
+    }
+}
+
+/// A process that waits, and holds no signal back.
+fn sleeper<R: Processes + AllocGlobal>(rt: &R) -> io::Result<Child<R::Started>> {
+    let mut command = Command::new(rt.alloc(), "sleep")?;
+    command.arg(SECONDS)?;
+    command.stdin(Stdio::null()).stdout(Stdio::null());
+    command.spawn(rt)
+}

@@ -1,0 +1,87 @@
+//! What a node says of itself on standard error while it runs.
+ghost use Rattle.std.specs.Prelude.{◌≡◌, None};
+
+use crate::node::NodeWords;
+use node_log::{Event, LogLine, NodeLog, TurnSight};
+use node_loop::{Doors, NodeRun, Turned};
+use node_state_file::Store;
+use std::env;
+use std::rt::Env;
+
+/// A node's log, which goes to standard error.
+#[derive(Drop)]
+pub struct Journal<'a, R> {
+    rt: &'a R,
+    /// The node.
+    id: u16,
+    /// Whether a journal reads the lines, which takes priorities.
+    has_priority: bool,
+    log: NodeLog,
+}
+
+impl<'a, R: Eprint> Journal<'a, R> {
+    /// The log of a node that is started with these words, at that time.
+    pub fn begin(rt: &'a R, words: &NodeWords<'_>, now: u64) -> Journal<'a, R>
+    where
+        R: Env + AllocGlobal,
+        ensures { result.log.least ≡ words.now.log }
+    {
+        let mut journal = Journal {
+            rt,
+            id: words.id,
+            has_priority: env::var(rt, "JOURNAL_STREAM").is_ok(),
+            log: NodeLog::new(words.log),
+        };
+        journal.say(Event::Begins, now);
+        journal
+    }
+
+    /// Says what happened in a turn that ended at that time. A log that is off sees nothing.
+    pub fn turn_ended<D: Doors, S: Store + Drop>(
+        &mut self,
+        run: &NodeRun<D, S>,
+        turned: &Turned,
+        now: u64,
+    )
+        ensures off { self.old.log.least ≡ None → self.new ≡ self.old }
+        ensures level { self.new.log.least ≡ self.old.log.least }
+    {
+        if !self.log.is_on() {
+            return;
+        }
+        let link = self.log.next_link(run.net().nodes());
+        let events = self.log.turn_ended(TurnSight {
+            act: turned.ticked.act,
+            lent: run.node().lent(),
+            link,
+            is_up: matches!(run.link(link), Some(sight) if sight.is_up),
+        });
+        self.say_if(events[0], now);
+        self.say_if(events[1], now);
+        self.say_if(events[2], now);
+    }
+
+    /// Says what happened, if anything did.
+    fn say_if(&mut self, event: Option<Event>, now: u64)
+        ensures level { self.new.log.least ≡ self.old.log.least }
+        ensures nothing { event ≡ None → self.new ≡ self.old }
+    {
+        if let Some(event) = event {
+            self.say(event, now);
+        }
+    }
+
+    /// Says what happened at that time, unless it is not urgent enough, or too much is said.
+    pub fn say(&mut self, event: Event, now: u64)
+        ensures level { self.new.log.least ≡ self.old.log.least }
+    {
+        if let Some(left_out) = self.log.admit(event, now) {
+            let _ = self.rt.eprintln(LogLine {
+                id: self.id,
+                event,
+                left_out,
+                has_priority: self.has_priority,
+            });
+        }
+    }
+}

@@ -1,0 +1,2 @@
+pub mod InputSights
+pub mod Notify

@@ -1,0 +1,56 @@
+//! Says to the service manager that started this process that it is ready.
+ghost use Rattle.std.specs.Prelude.{◌≡◌, ◌≤◌, IfSome, take};
+ghost use Rattle.unix_doors.specs.Notify.{address_bytes};
+
+use libc::close;
+use libc::net::{_SS_SIZE, AF_UNIX, MSG_NOSIGNAL, SOCK_CLOEXEC, SOCK_DGRAM, sendto, socket};
+use std::env;
+use std::rt::Env;
+
+/// The most bytes that the name of a Unix socket has.
+const LONGEST_NAME: usize = 107;
+
+/// What the manager is told.
+const READY: &[u8] = b"READY=1";
+
+/// Says to the socket that `NOTIFY_SOCKET` names, if there is one, that this process is ready. Nothing
+/// comes of a socket that takes nothing: the manager then waits, and says so.
+pub fn tell_ready<R: Env + AllocGlobal>(rt: &R) {
+    if let Ok(name) = env::var(rt, "NOTIFY_SOCKET")
+        && let Some((address, length)) = address_of(name.as_str())
+    {
+        send(&address, length, READY);
+    }
+}
+
+/// The address of a Unix socket, and how many of its bytes count: of a path, or of an abstract name, which
+/// begins with `@`. None if the name is neither, or too long.
+fn address_of(name: &str) -> Option<([u8; _SS_SIZE], u32)>
+    ensures { IfSome result (λ found. (found.1 ≤ 109)
+        × (take found.1 found.0 ≡ address_bytes name.now)) }
+{
+    let bytes = name.as_bytes();
+    let is_abstract = matches!(bytes, [b'@', ..]);
+    if bytes.len() > LONGEST_NAME || !(is_abstract || matches!(bytes, [b'/', ..])) {
+        return None;
+    }
+    let mut address = [0; _SS_SIZE];
+    address[0] = AF_UNIX as u8;
+    address[2..2 + bytes.len()].copy_from_slice(bytes);
+    if is_abstract {
+        address[2] = 0;
+    }
+    Some((address, bytes.len() as u32 + 2))
+}
+
+/// Sends a datagram to the Unix socket of an address, which waits for nobody's answer.
+fn send(address: &[u8; _SS_SIZE], length: u32, bytes: &[u8])
+    requires { length ≤ 109 }
+{
+    let socket = unsafe { socket(AF_UNIX, SOCK_DGRAM | SOCK_CLOEXEC, 0) };
+    if socket < 0 {
+        return;
+    }
+    let _ = unsafe { sendto(socket, bytes, MSG_NOSIGNAL, address, length) };
+    let _ = close(socket);
+}
