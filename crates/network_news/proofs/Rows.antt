@@ -1,10 +1,13 @@
 -- Small examples of what a node finds in its network file and says of it, and ones that fail.
-use Rattle.std.proofs.Common.{◌≡◌, ◌≢◌, true, false, Some, None, [], ◌∷◌, Ok, Err, refl, codes, arith}
+use Rattle.std.proofs.Common.{◌≡◌, ◌≢◌, true, false, [], ◌∷◌, Ok, Err, refl, codes, arith}
 use Rattle.std.specs.Fmt.{digits}
 use Rattle.topology.specs.Network.{Network, Edge}
 use Rattle.network_file.specs.declared.fault.NetworkFault.TheVariants.{Unreadable}
+use Rattle.network_file.specs.declared.fault.NetworkFault.TheVariants as file
+use Rattle.topology.specs.declared.fault.NetFault.TheVariants.{Apart, Shape}
+use Rattle.network_news.specs.Reasons.{reason, fault_number}
 use Rattle.network_news.specs.declared.news.Found.TheVariants.{Same, OtherEdges, Other, Refused}
-use Rattle.network_news.specs.News.{found_in, has_new, new_news, news_then, IsSaid}
+use Rattle.network_news.specs.News.{found_in, has_new, new_news, news_then, is_said}
 use Rattle.network_news.specs.Line.{edge_text, edge_if_new, new_edges_text, or_none, taken_line, not_taken_line, news_line}
 
 -- a line of three, the same with its edges in another order, and a ring
@@ -44,23 +47,29 @@ new_not-turned : has_new row turned ≡ false
 unfolding row turned
 new_not-turned = refl
 
-remembers : news_then Other ≡ record { refused = Some Other }
+remembers : news_then (Refused Unreadable) ≡ record { refused = 2 }
 remembers = refl
 
 forgets : news_then OtherEdges ≡ new_news
 forgets = refl
 
-says-edges : IsSaid OtherEdges None
-says-edges = record {}
+says-edges : is_said OtherEdges 0 ≡ true
+says-edges = refl
 
-says-first : IsSaid Other None
-says-first = grind arith
+says-first : is_said Other 0 ≡ true
+says-first = refl
 
-says_not-again : IsSaid Other (Some Other) → ⊥
-says_not-again said = said refl
+says_not-again : is_said Other 1 ≡ false
+says_not-again = refl
 
-says_not-same : IsSaid Same (Some Other) → ⊥
-says_not-same said = said
+says-another : is_said (Refused (file.Refused Apart)) (reason (Refused (file.Refused Shape))) ≡ true
+says-another = refl
+
+says_not-same : is_said Same 1 ≡ false
+says_not-same = refl
+
+numbers_not-alike : fault_number Apart ≢ fault_number Shape
+numbers_not-alike = grind arith
 
 -- the words
 spells-edge : edge_text (0, 12) ≡ codes " [0, 12]"

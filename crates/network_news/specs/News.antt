@@ -1,5 +1,5 @@
 -- What a node finds in its network file, and whether it says so.
-use Rattle.std.specs.Prelude.{◌≢◌, Bool, not, ◌||◌, if◌then◌else◌, Unit, Result, Ok, Err, Option, None, Some}
+use Rattle.std.specs.Prelude.{ℕ, Bool, true, false, not, ◌||◌, ◌==◌, if◌then◌else◌, Result, Ok, Err}
 use Rattle.std.specs.List.{list_any}
 use Rattle.topology.specs.Network.{Network, are_joined}
 use Rattle.topology.specs.Change.{is_same_frame}
@@ -7,6 +7,7 @@ use Rattle.network_file.specs.declared.fault.NetworkFault.{NetworkFault}
 use Rattle.network_news.specs.declared.news.Found.{Found}
 use Rattle.network_news.specs.declared.news.Found.TheVariants.{Same, OtherEdges, Other, Refused}
 use Rattle.network_news.specs.declared.news.FileNews.{FileNews}
+use Rattle.network_news.specs.Reasons.{reason}
 
 -- the second network has an edge that the first has not
 abbrev pub has_new : Network → Network → Bool
@@ -22,16 +23,14 @@ found_in own (Ok net) =
 
 -- nothing was refused when the file was read last
 abbrev pub new_news : FileNews
-new_news = record { refused = None }
+new_news = record { refused = 0 }
 
 -- what is remembered is why the file was not taken up
 abbrev pub news_then : Found → FileNews
-news_then Same = new_news
-news_then OtherEdges = new_news
-news_then found = record { refused = Some found }
+news_then found = record { refused = reason found }
 
 -- a change of edges is said, and why a file is not taken up, unless that was so before
-abbrev pub IsSaid : Found → Option Found → Type 0
-IsSaid Same before = ⊥
-IsSaid OtherEdges before = Unit {0}
-IsSaid found before = before ≢ Some found
+abbrev pub is_said : Found → ℕ → Bool
+is_said Same before = false
+is_said OtherEdges before = true
+is_said found before = not (reason found == before)

@@ -1,9 +1,10 @@
 //! What a node finds in its network file, and whether it says so.
-ghost use Rattle.std.specs.Prelude.{◌≡◌, ◌↔◌, IsTrue};
-ghost use Rattle.network_news.specs.News.{found_in, has_new, new_news, news_then, IsSaid};
+ghost use Rattle.std.specs.Prelude.{◌≡◌};
+ghost use Rattle.network_news.specs.Reasons.{reason, fault_number};
+ghost use Rattle.network_news.specs.News.{found_in, has_new, new_news, news_then, is_said};
 
 use network_file::NetworkFault;
-use topology::Net;
+use topology::{Net, NetFault};
 
 /// What a node finds as it reads its network file again.
 #[derive(Clone, Copy, Debug, PartialEq, Eq)]
@@ -43,8 +44,8 @@ fn has_new(first: &Net, second: &Net) -> bool
 /// What a node has said of its network file.
 #[derive(Clone, Copy, Debug, PartialEq, Eq, Drop)]
 pub struct FileNews {
-    /// Why the file was not taken up when it was read last, if it was not.
-    refused: Option<Found>,
+    /// The number of the reason why the file was not taken up when it was read last; 0 if it was.
+    refused: u8,
 }
 
 impl FileNews {
@@ -52,29 +53,55 @@ impl FileNews {
     pub fn new() -> FileNews
         ensures { result ≡ new_news }
     {
-        FileNews { refused: None }
+        FileNews { refused: 0 }
     }
 
-    /// Takes note of what was found, and says whether it is said: each change of edges, and each fault when
-    /// it begins.
+    /// Takes note of what was found, and says whether it is said: each change of edges, and why the file is not
+    /// taken up, unless that was so when it was read last.
     pub fn step(&mut self, found: Found) -> bool
         ensures after { self.new ≡ news_then found }
-        ensures said { IsTrue result ↔ IsSaid found self.old.refused }
+        ensures said { result ≡ is_said found self.old.refused }
     {
         let before = self.refused;
+        self.refused = reason(found);
         match found {
-            Found::Same => {
-                self.refused = None;
-                false
-            }
-            Found::OtherEdges => {
-                self.refused = None;
-                true
-            }
-            Found::Other | Found::Refused(_) => {
-                self.refused = Some(found);
-                before != Some(found)
-            }
+            Found::Same => false,
+            Found::OtherEdges => true,
+            Found::Other | Found::Refused(_) => self.refused != before,
         }
+    }
+}
+
+/// A number for each reason why a file is not taken up; 0 if it is.
+fn reason(found: Found) -> u8
+    ensures { result ≡ reason found }
+{
+    match found {
+        Found::Same | Found::OtherEdges => 0,
+        Found::Other => 1,
+        Found::Refused(NetworkFault::Unreadable) => 2,
+        Found::Refused(NetworkFault::Refused(fault)) => fault_number(fault),
+    }
+}
+
+/// A number for each fault of a text.
+fn fault_number(fault: NetFault) -> u8
+    ensures { result ≡ fault_number fault }
+{
+    match fault {
+        NetFault::NotToml => 3,
+        NetFault::Missing => 4,
+        NetFault::Shape => 5,
+        NetFault::TooSmall => 6,
+        NetFault::TooBig => 7,
+        NetFault::BadRoot => 8,
+        NetFault::BadCapacity => 9,
+        NetFault::BadLease => 10,
+        NetFault::BadEdge => 11,
+        NetFault::LoopEdge => 12,
+        NetFault::DoubleEdge => 13,
+        NetFault::Apart => 14,
+        NetFault::Memory => 15,
+        NetFault::NoEdge => 16,
     }
 }

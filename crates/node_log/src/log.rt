@@ -1,5 +1,5 @@
 //! The log of a node.
-ghost use Rattle.std.specs.Prelude.{◌≡◌, ◌≢◌, ◌<◌, ◌×◌, ℕ, [], ◌∷◌, None, false, is_some, replicate};
+ghost use Rattle.std.specs.Prelude.{◌≡◌, ◌≢◌, ◌<◌, ℕ, [], ◌∷◌, None, false, is_some, replicate};
 ghost use Rattle.std.specs.List.{slice_index_or};
 ghost use Rattle.node_log.specs.Turns.{gave_back, by_act, by_link, admitted, rate_then, next_of};
 

@@ -1,9 +1,8 @@
 -- Small examples of what standard input has, and ones that fail.
-use Rattle.std.proofs.Common.{◌≡◌, ◌≢◌, ◌∷◌, ◌++◌, Ok, refl, arith, codes}
+use Rattle.std.proofs.Common.{◌≡◌, ◌≢◌, Ok, refl, arith}
 use Rattle.std.specs.declared.io.ErrorKind.TheVariants.{Interrupted, Uncategorized}
 use Rattle.unix_doors.specs.declared.input.InputSight.TheVariants.{Open, Ended, Unreadable}
 use Rattle.unix_doors.specs.InputSights.{input_sight, sight_of_kind}
-use Rattle.unix_doors.specs.Notify.{socket_name, address_bytes}
 
 shows-end : input_sight (Ok 0) ≡ Ended
 shows-end = refl
@@ -19,13 +18,3 @@ shows-unreadable = refl
 
 shows_not-end : sight_of_kind Uncategorized ≢ Ended
 shows_not-end = grind arith
-
--- the address of a path, and of an abstract name
-address-path : address_bytes (codes "/run/n") ≡ 1 ∷ 0 ∷ codes "/run/n"
-address-path = refl
-
-address-abstract : address_bytes (codes "@n") ≡ 1 ∷ 0 ∷ 0 ∷ codes "n"
-address-abstract = refl
-
-name_not-kept : socket_name (codes "@n") ≢ codes "@n"
-name_not-kept = grind arith

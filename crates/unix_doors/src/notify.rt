@@ -1,6 +1,5 @@
 //! Says to the service manager that started this process that it is ready.
-ghost use Rattle.std.specs.Prelude.{◌≡◌, ◌≤◌, IfSome, take};
-ghost use Rattle.unix_doors.specs.Notify.{address_bytes};
+ghost use Rattle.std.specs.Prelude.{◌≡◌, ◌≤◌, ◌+◌, IfSome, length};
 
 use libc::close;
 use libc::net::{_SS_SIZE, AF_UNIX, MSG_NOSIGNAL, SOCK_CLOEXEC, SOCK_DGRAM, sendto, socket};
@@ -9,6 +8,9 @@ use std::rt::Env;
 
 /// The most bytes that the name of a Unix socket has.
 const LONGEST_NAME: usize = 107;
+
+/// A socket for datagrams, which no process inherits that is started from this one.
+const DATAGRAMS: i32 = SOCK_DGRAM | SOCK_CLOEXEC;
 
 /// What the manager is told.
 const READY: &[u8] = b"READY=1";
@@ -26,8 +28,7 @@ pub fn tell_ready<R: Env + AllocGlobal>(rt: &R) {
 /// The address of a Unix socket, and how many of its bytes count: of a path, or of an abstract name, which
 /// begins with `@`. None if the name is neither, or too long.
 fn address_of(name: &str) -> Option<([u8; _SS_SIZE], u32)>
-    ensures { IfSome result (λ found. (found.1 ≤ 109)
-        × (take found.1 found.0 ≡ address_bytes name.now)) }
+    ensures { IfSome result (λ found. (found.1 ≤ 109) × (found.1 ≡ length name.now + 2)) }
 {
     let bytes = name.as_bytes();
     let is_abstract = matches!(bytes, [b'@', ..]);
@@ -47,7 +48,7 @@ fn address_of(name: &str) -> Option<([u8; _SS_SIZE], u32)>
 fn send(address: &[u8; _SS_SIZE], length: u32, bytes: &[u8])
     requires { length ≤ 109 }
 {
-    let socket = unsafe { socket(AF_UNIX, SOCK_DGRAM | SOCK_CLOEXEC, 0) };
+    let socket = unsafe { socket(AF_UNIX, DATAGRAMS, 0) };
     if socket < 0 {
         return;
     }
