@@ -67,7 +67,7 @@ fn runs_by<R: Files<File = File> + AllocGlobal>(
 
 /// The folder in which a path is the state file of node `id`, if it is one.
 fn folder_of<'a>(alloc: Global, path: &'a str, id: u16) -> Result<Option<&'a str>, AllocError>
-    ensures { IfOk result (λ found. IfSome found (λ dir. path.entry ≡ state_path dir.now id)) }
+    ensures { IfOk result (λ found. IfSome found (λ dir. path.now ≡ state_path dir.now id)) }
 {
     let name = format!(in alloc; "/state-{id}.tkt")?;
     Ok(path.strip_suffix(name.as_str()))
