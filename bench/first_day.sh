@@ -158,7 +158,9 @@ for round in once twice; do
     else
         # Both come to the whole group, as from a terminal.
         kill -STOP "$(pgrep -g $running -f ' 1 up-twice$')"
-        kill -INT -- -$running && sleep 2 && kill -INT -- -$running
+        kill -INT "-$running"
+        for _ in $(seq 45); do [ "$(grep -c ' has ended' up.out)" -eq 2 ] && break; sleep 0.1; done
+        kill -INT "-$running"
         wanted='node 0 has ended node 1 was ended by signal 9 node 2 has ended '
     fi
     wait $running || wrong "up does not end well"

@@ -4,7 +4,7 @@ use Rattle.node_process.specs.declared.start.Stage.{Stage}
 use Rattle.node_process.specs.declared.start.Stage.TheVariants.{Begun, Checked, Entered, Held, Listening, Ready}
 use Rattle.node_process.specs.declared.fault.NodeFault.{NodeFault}
 use Rattle.node_process.specs.declared.fault.NodeFault.TheVariants.{Network, NoNode, LongName}
-use Rattle.node_process.specs.declared.fault.NodeFault.TheVariants.{Folder, Rights, Lock, Running}
+use Rattle.node_process.specs.declared.fault.NodeFault.TheVariants.{Folder, RightsStay, Lock, Running}
 use Rattle.node_process.specs.declared.fault.NodeFault.TheVariants.{Links, Clients, Looks, System, Input, Memory}
 
 -- words that are refused end a start before anything is made; a folder that cannot be had ends it
@@ -16,7 +16,7 @@ may_end Begun (Network fault) = true
 may_end Begun (NoNode nodes) = true
 may_end Begun LongName = true
 may_end Checked Folder = true
-may_end Checked Rights = true
+may_end Checked RightsStay = true
 may_end Entered Lock = true
 may_end Entered Running = true
 may_end Held Links = true

@@ -3,7 +3,7 @@ use Rattle.std.specs.Prelude.{ℕ, ◌==◌, if◌then◌else◌, List, ◌++◌
 use Rattle.network_file.specs.FaultText.{network_fault_text}
 use Rattle.node_process.specs.declared.fault.NodeFault.{NodeFault}
 use Rattle.node_process.specs.declared.fault.NodeFault.TheVariants.{Network, NoNode, LongName}
-use Rattle.node_process.specs.declared.fault.NodeFault.TheVariants.{Folder, Rights, Lock, Running, Links}
+use Rattle.node_process.specs.declared.fault.NodeFault.TheVariants.{Folder, RightsStay, Lock, Running, Links}
 use Rattle.node_process.specs.declared.fault.NodeFault.TheVariants.{Clients, Looks, System, Input, Memory}
 use Rattle.node_process.specs.declared.fault.NodeFault.TheVariants.{UpLock, UpRunning}
 use Rattle.node_process.specs.declared.fault.NodeFault.TheVariants.{Displaced, StopStays, NoneStays}
@@ -20,7 +20,7 @@ refusal_text file dir id LongName =
     dir ++ codes ": a socket there has a name of more than 107 bytes; choose a shorter DIR"
 refusal_text file dir id Folder =
     dir ++ codes ": cannot be made; make this folder, or choose another DIR"
-refusal_text file dir id Rights =
+refusal_text file dir id RightsStay =
     dir ++ codes ": its rights cannot be set; choose a DIR that is yours"
 refusal_text file dir id Lock =
     dir ++ (codes "/lock-" ++ (decimal id

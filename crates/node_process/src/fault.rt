@@ -20,7 +20,7 @@ pub enum NodeFault {
     /// The folder is not there, and cannot be made.
     Folder,
     /// The rights of the folder cannot be set.
-    Rights,
+    RightsStay,
     /// The file by which a node says that it runs cannot be opened.
     Lock,
     /// Another process is the node already.
@@ -111,7 +111,7 @@ impl fmt::Display for Refusal<'_> {
                     "{dir}: cannot be made; make this folder, or choose another DIR"
                 )
             }
-            NodeFault::Rights => {
+            NodeFault::RightsStay => {
                 write!(
                     f,
                     "{dir}: its rights cannot be set; choose a DIR that is yours"

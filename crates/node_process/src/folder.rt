@@ -2,7 +2,7 @@
 ghost use Rattle.std.specs.Prelude.{◌≡◌, ◌<◌, ◌≤◌, ◌⊎◌, None, IfOk, IfErr, is_ok, true, length};
 ghost use Rattle.node_texts.specs.Names.{longest_socket_name};
 ghost use Rattle.node_process.specs.declared.fault.NodeFault.TheVariants.{LongName, Memory};
-ghost use Rattle.node_process.specs.declared.fault.NodeFault.TheVariants.{Folder, Rights, Lock, Running};
+ghost use Rattle.node_process.specs.declared.fault.NodeFault.TheVariants.{Folder, RightsStay, Lock, Running};
 ghost use Rattle.node_process.specs.declared.fault.NodeFault.TheVariants.{Links, Clients, Looks};
 ghost use Rattle.node_process.specs.declared.start.Stage.TheVariants.{Checked, Entered, Held};
 ghost use Rattle.node_process.specs.declared.start.Stage.TheVariants.{Listening};
@@ -45,7 +45,7 @@ pub fn check_names(alloc: Global, dir: &str, nodes: u16) -> Result<(), NodeFault
 /// folder that is there, too.
 ///
 /// # Errors
-/// `Folder` if there is none and none can be made; `Rights` if its rights cannot be set.
+/// `Folder` if there is none and none can be made; `RightsStay` if its rights cannot be set.
 pub fn make_folder<F: Files>(
     files: &F,
     dir: &str,
@@ -55,14 +55,14 @@ pub fn make_folder<F: Files>(
     requires { stage.old ≡ Checked }
     ensures ok { IfOk result (λ _. stage.new ≡ Entered) }
     ensures err { IfErr result
-        (λ fault. ((fault ≡ Folder) ⊎ (fault ≡ Rights)) × (stage.new ≡ Checked)) }
+        (λ fault. ((fault ≡ Folder) ⊎ (fault ≡ RightsStay)) × (stage.new ≡ Checked)) }
 {
     let made = DirBuilder::new().mode(rights.folder()).create(files, dir);
     if made.is_err() && !is_folder(files, dir) {
         return Err(NodeFault::Folder);
     }
     if rights == Rights::GroupLocks && set_mode(files, dir, Some(rights.folder())).is_err() {
-        return Err(NodeFault::Rights);
+        return Err(NodeFault::RightsStay);
     }
     *stage = Stage::Entered;
     Ok(())

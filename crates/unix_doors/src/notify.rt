@@ -1,5 +1,5 @@
 //! Says to the service manager that started this process that it is ready.
-ghost use Rattle.std.specs.Prelude.{◌≡◌, ◌≤◌, ◌+◌, IfSome, length};
+ghost use Rattle.std.specs.Prelude.{◌≡◌, ◌≤◌, ◌+◌, None, IfSome, length};
 
 use libc::close;
 use libc::net::{_SS_SIZE, AF_UNIX, MSG_NOSIGNAL, SOCK_CLOEXEC, SOCK_DGRAM, sendto, socket};
@@ -18,30 +18,31 @@ const READY: &[u8] = b"READY=1";
 /// Says to the socket that `NOTIFY_SOCKET` names, if there is one, that this process is ready. Nothing
 /// comes of a socket that takes nothing: the manager then waits, and says so.
 pub fn tell_ready<R: Env + AllocGlobal>(rt: &R) {
+    let mut address = [0; _SS_SIZE];
     if let Ok(name) = env::var(rt, "NOTIFY_SOCKET")
-        && let Some((address, length)) = address_of(name.as_str())
+        && let Some(length) = write_address(name.as_str(), &mut address)
     {
         send(&address, length, READY);
     }
 }
 
-/// The address of a Unix socket, and how many of its bytes count: of a path, or of an abstract name, which
-/// begins with `@`. None if the name is neither, or too long.
-fn address_of(name: &str) -> Option<([u8; _SS_SIZE], u32)>
-    ensures { IfSome result (λ found. (found.1 ≤ 109) × (found.1 ≡ length name.now + 2)) }
+/// Writes the address of a Unix socket over zeroes, and says how many of its bytes count: of a path, or of an
+/// abstract name, which begins with `@`. None, and nothing is written, if the name is neither, or too long.
+fn write_address(name: &str, address: &mut [u8; _SS_SIZE]) -> Option<u32>
+    ensures length { IfSome result (λ count. (count ≤ 109) × (count ≡ length name.now + 2)) }
+    ensures nothing { result ≡ None → address.new ≡ address.old }
 {
     let bytes = name.as_bytes();
     let is_abstract = matches!(bytes, [b'@', ..]);
     if bytes.len() > LONGEST_NAME || !(is_abstract || matches!(bytes, [b'/', ..])) {
         return None;
     }
-    let mut address = [0; _SS_SIZE];
     address[0] = AF_UNIX as u8;
     address[2..2 + bytes.len()].copy_from_slice(bytes);
     if is_abstract {
         address[2] = 0;
     }
-    Some((address, bytes.len() as u32 + 2))
+    Some(bytes.len() as u32 + 2)
 }
 
 /// Sends a datagram to the Unix socket of an address, which waits for nobody's answer.
