@@ -124,7 +124,7 @@ fn check_id(id: u16, net: &Net) -> Result<(), NodeFault>
 /// Runs the node whose place in the folder is held.
 fn run_in_place<'a, R>(
     rt: &'a R,
-    words: &NodeWords<'a>,
+    words: &NodeWords<'_>,
     paths: &'a NodePaths,
     place: &'a Place,
     net: Net,
@@ -246,7 +246,7 @@ fn make_doors<'a, R: Sockets + AllocGlobal>(
 /// Takes turns until the node is to end, and says how it is to.
 fn run_turns<'a, R: Files + Sockets + Clock + Env + Input + Eprint + AllocGlobal>(
     rt: &'a R,
-    words: &NodeWords<'a>,
+    words: &NodeWords<'_>,
     watch: Stopwatch<'a, R>,
     names: &mut Names<'a>,
     run: &mut Run<'a, R>,
@@ -274,7 +274,7 @@ fn run_turns<'a, R: Files + Sockets + Clock + Env + Input + Eprint + AllocGlobal
 /// the node's files are looked at now: after each 256th turn, whatever the store answered.
 fn take_turn<'a, R: Files + Sockets + Clock + Eprint>(
     alloc: Global,
-    observer: &mut Observer<'a, R>,
+    observer: &mut Observer<'a, '_, R>,
     run: &mut Run<'a, R>,
     now: u64,
 ) -> bool

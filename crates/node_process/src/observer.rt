@@ -9,18 +9,22 @@ use unix_doors::Stopwatch;
 
 /// What watches a node while it runs.
 #[derive(Drop)]
-pub struct Observer<'a, R> {
+pub struct Observer<'a, 'w, R> {
     /// Its clock.
     pub watch: Stopwatch<'a, R>,
     /// What it notes of itself, for whoever looks.
-    pub window: Window<'a>,
+    pub window: Window<'w>,
     /// What it says of itself.
     pub journal: Journal<'a, R>,
 }
 
-impl<'a, R: Files + Clock + Env + Eprint + AllocGlobal> Observer<'a, R> {
+impl<'a, 'w, R: Files + Clock + Env + Eprint + AllocGlobal> Observer<'a, 'w, R> {
     /// What watches a node from now on that is started with these words.
-    pub fn open(rt: &'a R, words: &NodeWords<'a>, mut watch: Stopwatch<'a, R>) -> Observer<'a, R>
+    pub fn open(
+        rt: &'a R,
+        words: &NodeWords<'w>,
+        mut watch: Stopwatch<'a, R>,
+    ) -> Observer<'a, 'w, R>
         ensures level { result.journal.log.least ≡ words.now.log }
         ensures limit { result.window.notes.limit ≡ words.now.turn }
     {
