@@ -1,7 +1,6 @@
 -- Nodes that have no room for a client, by hand.
-use Rattle.std.proofs.Common.{◌≡◌, true, false, None, Some, [], ◌∷◌, codes, refl}
+use Rattle.std.proofs.Common.{◌≡◌, true, false, None, Some, [], ◌∷◌, refl}
 use Rattle.node_texts.specs.declared.answers.NodeAnswer.{NodeAnswer}
-use Rattle.node_texts.specs.declared.status_line.StatusLine.{StatusLine}
 use Rattle.status_command.specs.Windows.{is_closed, filled}
 use Rattle.status_command.specs.declared.asking.Contact.TheVariants.{Closed, Done}
 

@@ -4,12 +4,11 @@ ghost use Rattle.status_command.specs.Asking.{nodes_of};
 ghost use Rattle.status_command.specs.Shown.{IsTextOf};
 ghost use Rattle.status_command.specs.Reasons.{why_not_asked};
 
-use crate::answering::answers;
 use crate::asking::ask_all;
 use crate::folder::{nodes_asked, was_never};
 use crate::notice::{Notice, NoticeLine, told};
 use crate::question::Question;
-use crate::windows::{filled, without_room};
+use crate::windows::{answers_with, without_room};
 use node_texts::{NodeAnswer, all_answered, report};
 use status_readings::status_json;
 use std::alloc::{AllocError, Global};
@@ -88,8 +87,7 @@ pub fn answers_of<R: Net + Clock>(
     let desks = ask_all(rt, alloc, Question::Status, folder, nodes, wait)?;
     let closed = without_room(alloc, desks.as_slice())?;
     let windows = ask_all(rt, alloc, Question::Look, folder, closed.as_slice(), wait)?;
-    let said = answers(alloc, desks.as_slice())?;
-    Ok(filled(alloc, said.as_slice(), windows.as_slice())?)
+    Ok(answers_with(alloc, desks.as_slice(), windows.as_slice())?)
 }
 
 /// Why nodes are not asked, by what the system answered.

@@ -1,8 +1,10 @@
 //! Nodes that have no room for a client: how they stand is read at their sockets for whoever looks.
 ghost use Rattle.std.specs.Prelude.{◌≡◌, ◌==◌, IfOk};
 ghost use Rattle.status_command.specs.Windows.{is_without_room, without_room, own_standing, standing_in};
+ghost use Rattle.status_command.specs.Asking.{nodes_in, nodes_of, answers_in};
 ghost use Rattle.status_command.specs.Windows.{filled_one, filled};
 
+use crate::answering::answers;
 use crate::asking::Asked;
 use crate::looks::line_of;
 use node_texts::{NodeAnswer, StatusLine};
@@ -25,11 +27,28 @@ pub fn without_room(alloc: Global, all: &[Asked]) -> Result<Vec<u16>, AllocError
     Ok(nodes)
 }
 
+/// What each node said at its desk; of one that gave no line there, what it says at its window.
+///
+/// # Errors
+/// Where memory runs out.
+pub fn answers_with(
+    alloc: Global,
+    desks: &[Asked],
+    windows: &[Asked],
+) -> Result<Vec<NodeAnswer>, AllocError>
+    ensures answers { IfOk result (λ all. all.items ≡ filled windows.now (answers_in desks.now)) }
+    ensures nodes { IfOk result (λ all. nodes_of all.items ≡ nodes_in desks.now) }
+{
+    let said = answers(alloc, desks)?;
+    let all = filled(alloc, said.as_slice(), windows)?;
+    Ok(all)
+}
+
 /// The answers; of a node that gave no line, what it says at its window.
 ///
 /// # Errors
 /// Where memory runs out.
-pub fn filled(
+fn filled(
     alloc: Global,
     answers: &[NodeAnswer],
     windows: &[Asked],
@@ -68,10 +87,12 @@ fn standing_in(
 ) -> Result<Option<StatusLine>, AllocError>
     ensures { IfOk result (λ said. said ≡ standing_in node windows.now) }
 {
-    match windows.iter().find(|asked| asked.node == node) {
-        Some(asked) => own_standing(alloc, asked),
-        None => Ok(None),
+    for asked in windows {
+        if asked.node == node {
+            return own_standing(alloc, asked);
+        }
     }
+    Ok(None)
 }
 
 /// How the node stands that was asked, by its own line.
