@@ -111,6 +111,44 @@ for seed in 1 2 3 4 5 6 7; do
     recovers || wrong "the schedule of seed $seed does not recover: $(tail -n 1 output)"
 done
 
+
+# Without a lease they do if the lock is given back; else a line says what holds up the sweeps, and only then.
+held='tokentree: a node lends the lock without a lease: no sweep ends until its ticket leaves'
+seen=0
+for seed in 1 2 3 4 5 6 7; do
+    "$program" schedule ring.toml --scramble $seed --rounds 100 --give-back 1 >schedule.txt
+    "$program" simulate ring.toml schedule.txt >output 2>said
+    { recovers && [ ! -s said ]; } || wrong "the schedule of seed $seed with --give-back: $(tail -n 1 output) $(cat said)"
+    "$program" schedule ring.toml --scramble $seed --rounds 100 >schedule.txt
+    "$program" simulate ring.toml schedule.txt >output 2>said
+    if [ "$(tail -n 1 output | cut -d ' ' -f 2)" = 0 ]; then
+        seen=$((seen + 1))
+        [ "$(cat said)" = "$held" ] || wrong "seed $seed without a lease says $(cat said)"
+    else
+        [ ! -s said ] || wrong "seed $seed says $(cat said)"
+    fi
+done
+[ $seen -gt 0 ] || wrong 'no seed has a loan that holds up the sweeps'
+
+# Threads begin together and take turns: a thousand turns hold sweeps, and each node finds its place.
+"$program" threads "$examples/square.toml" 1000 >output
+recovers || wrong "1,000 turns on threads do not recover: $(tail -n 1 output)"
+[ "$(head -n 4 output | cut -d ' ' -f 4,6 | tr '\n' ',')" = '0 none,1 0,1 0,2 1,' ] || wrong "threads: $(head -n 4 output)"
+
+# Lines that end in CRLF are refused, and a line says why, once.
+printf 'tick 0\r\ntick 1\r\n' >crlf.txt
+ends 3 'tokentree: the events have carriage returns (CRLF): a line ends in a newline alone' simulate ring.toml crlf.txt
+printf 'tick 0\nTick 1\n' >plain.txt
+ends 3 '' simulate ring.toml plain.txt
+
+# Help fits a terminal of 80 columns.
+for words in 'help bound' 'help simulate' 'help lock' 'help status' 'help junk' 'help network' 'help schedule' \
+    'help measure' 'help threads'; do
+    # shellcheck disable=SC2086
+    "$program" $words >output 2>said
+    [ "$(awk 'length > 80' output | wc -l)" -eq 0 ] || wrong "$words has lines over 80 columns: $(awk 'length > 80' output)"
+done
+
 # Nodes are ended by `stop`, and not twice.
 for node in 0 1 2; do
     "$program" node ring.toml $node run >"node-$node" 2>&1 </dev/null &

@@ -286,6 +286,10 @@ def crowd():
         full.append(made)
     time.sleep(0.3)
     shows("a node with 128 clients, and no room in time", ["--timeout", "1", RUN, "1", "--", "true"], 124)
+    status = subprocess.run([program, "status", RUN, "1"], stdout=subprocess.PIPE, text=True)
+    line = status.stdout.splitlines()[0]
+    known = status.returncode == 0 and line.startswith("node 1 distance ")
+    report("a node with 128 clients, asked for its status", [] if known else [f"status {status.returncode}: {line}"])
     waiting = lock([RUN, "1"], ["true"])
     time.sleep(0.5)
     for made in full:

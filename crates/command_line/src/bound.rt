@@ -12,25 +12,22 @@ use subcommands::{bound, bound_json};
 /// What `bound` takes.
 const BOUND: Grammar<'static> = Grammar {
     name: "bound",
-    about: "Shows a network's numbers, distances and parents, and after how many sweeps its lock works from any state",
+    about: "Shows a network's numbers, and after how many sweeps its lock works",
     help: HELP,
     parameters: &[
         Parameter::Place("FILE", NETWORK_FILE),
-        Parameter::Flag(
-            "sharp",
-            "Show the bound in which the capacity has no part, too",
-        ),
+        Parameter::Flag("sharp", "Show the bound without the capacity, too"),
         Parameter::Flag("json", "Show a JSON object, on one line"),
         Parameter::Flag("time", "Show how long recovery and a grant take, too"),
         Parameter::Value(
             "turn",
             MILLISECONDS,
-            "Each node gets a whole turn in this time [default: 2.2]",
+            "Each node gets a turn in this time [default: 2.2]",
         ),
         Parameter::Value(
             "delay",
             MILLISECONDS,
-            "A frame can be taken after this time [default: 0.1]",
+            "A frame arrives within this time [default: 0.1]",
         ),
         Parameter::Value(
             "loan",
@@ -40,7 +37,7 @@ const BOUND: Grammar<'static> = Grammar {
         Parameter::Value(
             "repeat",
             MILLISECONDS,
-            "A frame is sent again after this time [default: 8]",
+            "A frame is repeated after this time [default: 8]",
         ),
     ],
     needs: &[
@@ -63,8 +60,9 @@ const MILLISECONDS: &str = "MILLISECONDS";
 
 /// What follows the options in its help.
 const HELP: &str = "\
-A network file names its nodes 0 to nodes-1, the root, how many items each direction of an edge holds, for how many
-ticks the lock is lent at most (0: no limit), and the edges:
+A network file names its nodes 0 to nodes-1, the root, how many items each
+direction of an edge holds, for how many ticks the lock is lent at most (0: no
+limit), and the edges:
 
   nodes = 2
   root = 0
@@ -82,10 +80,12 @@ ticks the lock is lent at most (0: no limit), and the edges:
   parents none 0
   sweeps 69
 
-counter and ring are the moduli of the links' counters and of the token's values; distances and parents are those of
-the nodes 0, 1, .. in the tree to the root. From whatever state, the lock works after 69 sweeps: stretches of a run in
-each of which every node makes a full tick, one after which it lends to nobody, and takes from each neighbour an item
-that was sent within the stretch. With --sharp one more line is shown, here sharp 35: a bound in which the capacity has
+counter and ring are the moduli of the links' counters and of the token's
+values; distances and parents are those of the nodes 0, 1, .. in the tree to the
+root. From whatever state, the lock works after 69 sweeps: stretches of a run in
+each of which every node makes a full tick, one after which it lends to nobody,
+and takes from each neighbour an item that was sent within the stretch. With
+--sharp one more line is shown, here sharp 35: a bound in which the capacity has
 no part, and which is never above the other one.
 
 With --time three more lines are shown, here for the default times:
@@ -94,15 +94,18 @@ With --time three more lines are shown, here for the default times:
   recovers within 438 ms
   lends within 200 ms
 
-They hold if the machine keeps these premises. Each node gets a whole turn in each stretch of --turn. A node sends its
-frame again after --repeat, at the latest. A frame is taken in the first turn that begins --delay after it was sent, so
-every connection is up. A loan ends within --loan, as its node sees it. Then each window holds a sweep: so after the last
-fault the lock works within the first time, from whatever state, and from then on one who waits alone is granted the
-lock within the second. Times are milliseconds up to 3600000 (an hour), with at most 3 decimals; --turn and --repeat are
-above 0. What is shown is rounded up.
+They hold if the machine keeps these premises. Each node gets a whole turn in
+each stretch of --turn. A node sends its frame again after --repeat, at the
+latest. A frame is taken in the first turn that begins --delay after it was
+sent, so every connection is up. A loan ends within --loan, as its node sees it.
+Then each window holds a sweep: so after the last fault the lock works within
+the first time, from whatever state, and from then on one who waits alone is
+granted the lock within the second. Times are milliseconds up to 3600000 (an
+hour), with at most 3 decimals; --turn and --repeat are above 0. What is shown
+is rounded up.
 
-With --json the same is one JSON object: the names are those of the lines, with window_us in microseconds, and
-recovers_within_ms and lends_within_ms.";
+With --json the same is one JSON object: the names are those of the lines, with
+window_us in microseconds, and recovers_within_ms and lends_within_ms.";
 
 /// Does what the words of `bound` say.
 pub fn run<R: Files + Print + AllocGlobal>(

@@ -11,13 +11,13 @@ use crate::{
 };
 use clap::{ArgMatches, Command};
 use command_grammar::parser;
-use command_parts::Fault;
 use fault_hints::{explain_network, explain_reading, explain_writing};
 use lock_words::whole_words;
 use program_ends::{fails, fault_status, output_fails, shows};
 use std::alloc::{AllocError, Global};
 use std::convert::AsStr;
 use std::process::ExitCode;
+use subcommands::Fault;
 
 /// Does what the words say, of which the first is the program's name, and says with which status it
 /// is done. Progress is told where standard error is a terminal.
@@ -162,9 +162,18 @@ fn act<R: Runtime>(
 ) -> Result<ExitCode, Refusal> {
     let (name, given) = matches.subcommand().ok_or(Refusal::NoCommand)?;
     match name {
+        "lock" => lock::run(rt, given, is_dashed),
+        "measure" => measure::run(rt, given, on_terminal),
+        "threads" => threads::run(rt, given, on_terminal),
+        _ => act_plainly(rt, name, given),
+    }
+}
+
+/// Does what the words of a command say that needs no more than these.
+fn act_plainly<R: Runtime>(rt: &R, name: &str, given: &ArgMatches) -> Result<ExitCode, Refusal> {
+    match name {
         "bound" => bound::run(rt, given),
         "simulate" => simulate::run(rt, given),
-        "lock" => lock::run(rt, given, is_dashed),
         "status" => crate::status::run(rt, given),
         "scramble" => scramble::run(rt, given),
         "cut" => cut::run(rt, given),
@@ -174,9 +183,7 @@ fn act<R: Runtime>(
         "stop" => stop::run(rt, given),
         "network" => network::run(rt, given),
         "schedule" => schedule::run(rt, given),
-        "measure" => measure::run(rt, given, on_terminal),
         "draw" => draw::run(rt, given),
-        "threads" => threads::run(rt, given, on_terminal),
         _ => Err(Refusal::NoCommand),
     }
 }

@@ -27,13 +27,14 @@ pub fn add_to<'a>(parser: Command<'a>, alloc: Global) -> Result<Command<'a>, All
 
 /// What follows the options in its help.
 const HELP: &str = "\
-A line has 0 to 40 bytes from ! to ~. The same seed gives the same lines, on any machine.
+A line has 0 to 40 bytes from ! to ~. The same seed gives the same lines, on any
+machine.
 
   $ tokentree junk 7 2
   +(==lkMfO]!#B{X}whq}R*SbyZPz$`#?5I3
   .Vnn)AQDz\"jU}#08]yttOpOL9&sj
 
-Statuses: 0 done; 1 standard output did not take the text; 2 the command line was refused.";
+Statuses: 0 done; 1 standard output did not take the text; 2 invalid arguments.";
 
 /// Which seed is taken.
 const SEED: Number<'static> = Number {

@@ -19,7 +19,7 @@ const LOCK: Grammar<'static> = Grammar {
         Parameter::Value(
             "timeout",
             "SECONDS",
-            "Give up if the lock is not granted within this time: 0 to 65535 seconds, as 5 or 0.2",
+            "Give up after 0 to 65535 seconds, as 5 or 0.2",
         ),
         Parameter::Flag(
             "no-wait",
@@ -29,16 +29,16 @@ const LOCK: Grammar<'static> = Grammar {
             "lost-status",
             "STATUS",
             "122",
-            "End with this status if the lock was lost: 1 to 255 (-E)",
+            "Status of a lost lock, 1-255 (-E)",
         ),
         Parameter::Flag(
             "verbose",
-            "Report on standard error that the lock is waited for, granted and given back",
+            "Report wait, grant and release on standard error",
         ),
         Parameter::Flag("keep", "Let the command run on if the lock is lost"),
         Parameter::Flag(
             "wait-children",
-            "Hold the lock until all that the command started has ended too, in the background as well",
+            "Hold the lock until what the command started ends",
         ),
         // With it the program starts its own guard.
         Parameter::HiddenFlag("guard"),
@@ -48,11 +48,11 @@ const LOCK: Grammar<'static> = Grammar {
         Parameter::Place("DIR", SOCKETS_FOLDER),
         Parameter::Place(
             "ID",
-            "The node that is asked, by its id, or any: whichever node of DIR answers first",
+            "The node that is asked, or any: whichever of DIR answers first",
         ),
         Parameter::Rest(
             "COMMAND",
-            "The command and its arguments; none to hold the lock until standard input ends",
+            "Command and arguments; none holds the lock until input ends",
         ),
     ],
     needs: &[],
@@ -67,52 +67,64 @@ pub fn add_to<'a>(parser: Command<'a>, alloc: Global) -> Result<Command<'a>, All
 
 /// What follows the options in its help.
 const HELP: &str = "\
-Waits until node ID, whose socket is DIR/desk-ID.sock, grants the lock, runs the command with the standard streams of
-this one, releases the lock, and ends with the command's status. Before it, -- may stand, and must if its name begins
-with a hyphen.
+Waits until node ID, whose socket is DIR/desk-ID.sock, grants the lock, runs the
+command with the standard streams of this one, releases the lock, and ends with
+the command's status. Before it, -- may stand, and must if its name begins with
+a hyphen.
 
   $ tokentree lock /run/tokentree 1 -- make deploy
   $ tokentree lock --timeout 0.2 /run/tokentree any -- ./backup.sh /srv
-  $ tokentree lock -n -E 75 /run/tokentree 1 -- ./backup.sh /srv || echo not today
+  $ tokentree lock -n -E 75 /run/tokentree 1 -- ./backup.sh /srv || echo later
   $ tokentree lock --verbose /run/tokentree 1 -- true
   tokentree: waiting at node 1
   tokentree: node 1 granted the lock
   tokentree: node 1 took the lock back
 
-any asks all nodes of DIR and takes the one that answers first, so that a node which is down keeps nobody from the lock.
--n gives up at once: half a second is longer than the token takes to come round if nobody holds the lock. -E is the
+any asks all nodes of DIR and takes the one that answers first, so that a node
+which is down keeps nobody from the lock. -n gives up at once: half a second is
+longer than the token takes to come round if nobody holds the lock. -E is the
 status of a lost lock, for a command that ends with 122 itself.
 
-If DIR or ID is left out, the variables TOKENTREE_DIR and TOKENTREE_NODE stand in for it, and -- stands before COMMAND:
+If DIR or ID is left out, the variables TOKENTREE_DIR and TOKENTREE_NODE stand
+in for it, and -- stands before COMMAND:
 
   $ export TOKENTREE_DIR=/run/tokentree TOKENTREE_NODE=1
   $ tokentree lock -- make deploy
 
-Without a command it prints granted and holds the lock until its standard input ends:
+Without a command it prints granted and holds the lock until its standard input
+ends:
 
   $ tokentree lock /run/tokentree 1
   granted
 
-The lock is lost if its lease is over, if the node goes away, and if the node is damaged. Then lock reports it, asks
-the command and what it started to end (SIGTERM), kills them 3 seconds later, and ends with 122; with --keep they run on,
-and the command's status counts. A command whose status is lock's held the lock from its start to its end.
+The lock is lost if its lease is over, if the node goes away, and if the node is
+damaged. Then lock reports it, asks the command and what it started to end
+(SIGTERM), kills them 3 seconds later, and ends with 122; with --keep they run
+on, and the command's status counts. A command whose status is lock's held the
+lock from its start to its end.
 
-While the command runs, lock is two processes, and either of them holds the lock. If the first one is killed, the second
-one ends the command in the same way, and gives the lock back when nobody of it is left. If a signal came to the whole
-group, as Ctrl-C on a terminal, the command has had it too: the second process only waits until the command has ended.
-So a command that catches the signal and cleans up still has the lock. If the second one is killed, the lock counts as
-lost.
+While the command runs, lock is two processes, and either of them holds the
+lock. If the first one is killed, the second one ends the command in the same
+way, and gives the lock back when nobody of it is left. If a signal came to the
+whole group, as Ctrl-C on a terminal, the command has had it too: the second
+process only waits until the command has ended. So a command that catches the
+signal and cleans up still has the lock. If the second one is killed, the lock
+counts as lost.
 
-The launcher ./tokentree, or env --block-signal=INT,QUIT,TERM tokentree lock .., holds signals back from lock itself: it
-then outlives Ctrl-C, hands SIGTERM on to the command, and ends as the command does.
+The launcher ./tokentree, or env --block-signal=INT,QUIT,TERM tokentree lock ..,
+holds signals back from lock itself: it then outlives Ctrl-C, hands SIGTERM on
+to the command, and ends as the command does.
 
-The lock is given back when the command itself has ended. What it left in the background runs on without the lock, other
-than under flock, whose open file children keep; with --wait-children lock waits for them.
+The lock is given back when the command itself has ended. What it left in the
+background runs on without the lock, other than under flock, whose open file
+children keep; with --wait-children lock waits for them.
 
-Statuses: the command's own, or 128 and the number of the signal that ended it; 122 (or STATUS of -E) the lock was
-lost, or may have been; 124 it was not granted in time, or the node has no room for a client; 125 there is no lock
-service at DIR, or it or the system failed, or the second process could not be started; 126 the command cannot be run;
-127 there is no such command; 2 invalid arguments. A signal that ends lock while it waits gives 128 and its number.";
+Statuses: the command's own, or 128 and the number of the signal that ended it;
+122 (or STATUS of -E) the lock was lost, or may have been; 124 it was not
+granted in time, or the node has no room for a client; 125 there is no lock
+service at DIR, or it or the system failed, or the second process could not be
+started; 126 the command cannot be run; 127 there is no such command; 2 invalid
+arguments. A signal that ends lock while it waits gives 128 and its number.";
 
 /// Which ids are taken; which nodes there are the folder says.
 const ID: Number<'static> = Number {

@@ -7,19 +7,18 @@ use crate::program::NETWORK_FILE;
 use crate::refusal::Refusal;
 use clap::{ArgMatches, Command};
 use command_grammar::{Grammar, Number, Parameter, WordFault, given_number, with_command, word};
-use experiments::Scheduler;
 use std::alloc::{AllocError, Global};
 use std::process::ExitCode;
 use std::rt::Files;
 use std::thread::Threads;
 use std::time::Clock;
 use subcommands::measure::Plan;
-use subcommands::{measure, measure_json};
+use subcommands::{Scheduler, measure, measure_json};
 
 /// What `measure` takes.
 const MEASURE: Grammar<'static> = Grammar {
     name: "measure",
-    about: "Scrambles a network again and again, and shows after how many sweeps it worked",
+    about: "Scrambles a network, and shows after how many sweeps it worked again",
     help: HELP,
     parameters: &[
         Parameter::Place("FILE", NETWORK_FILE),
@@ -28,7 +27,7 @@ const MEASURE: Grammar<'static> = Grammar {
             "seed",
             "SEED",
             "0",
-            "The first run's seed; each other run has the next one",
+            "The first seed; each run has the next one",
         ),
         Parameter::Flag("rounds", "Run by rounds, as where nothing is said"),
         Parameter::Flag("random", "Run by steps that are drawn"),
@@ -47,10 +46,12 @@ pub fn add_to<'a>(parser: Command<'a>, alloc: Global) -> Result<Command<'a>, All
 
 /// What follows the options in its help.
 const HELP: &str = "\
-Each run begins in a world that is scrambled by its seed, and goes on by rounds, or by random steps of the same seed,
-until there have been as many sweeps as the sharper bound says. Behind each round, or as many random steps as there are
-nodes and four times the edges, whoever has the lock gives it back. A run's sweeps are the least number behind which the
-network served at each moment of the run: all distances and parents true, one node privileged at most, one lending.
+Each run begins in a world that is scrambled by its seed, and goes on by rounds,
+or by random steps of the same seed, until there have been as many sweeps as the
+sharper bound says. After each round, or as many random steps as there are nodes
+and four times the edges, whoever has the lock gives it back. A run's sweeps are
+the least number after which the network served at each moment of the run: all
+distances and parents true, one node privileged at most, one lending.
 
   $ tokentree measure two-nodes.toml --runs 100
   runs 100
@@ -58,17 +59,19 @@ network served at each moment of the run: all distances and parents true, one no
   sharp 35
   sweeps-bound 69
 
-Of an even number of runs the median is the lower one of the two in the middle. With --table each run has a line 'seed S
-sweeps K' before these. 'sweeps none' stands for a run that did not serve behind the sharper bound, or that had fewer
-sweeps than it says after 1000 rounds, or stretches of random steps, for each of them; it is always shown, and the
-status is 1. 'schedule FILE --scramble S --rounds N' prints the events of such a run, but for the lock that is given
-back.
+Of an even number of runs the median is the lower one of the two in the middle.
+With --table each run has a line 'seed S sweeps K' before these. 'sweeps none'
+stands for a run that did not serve after the sharper bound, or that had fewer
+sweeps than it says after 1000 rounds, or stretches of random steps, for each of
+them; it is always shown, and the status is 1. 'schedule FILE --scramble S
+--rounds N --give-back 1' prints the events of such a run by rounds.
 
-With --json the same is one JSON object: runs, least, median, most, sharp and sweeps-bound, and seeds, a list with the seed
-and the sweeps of each run that would have a line; null for none.
+With --json the same is one JSON object: runs, least, median, most, sharp and
+sweeps-bound, and seeds, a list with the seed and the sweeps of each run that
+would have a line; null for none.
 
-Statuses: 0 done; 1 a file, memory or standard output was refused, with its fault on standard error, or a run did not
-serve; 2 the command line was refused.";
+Statuses: 0 done; 1 a file, memory or standard output was refused, and a line on
+standard error says which, or a run did not serve; 2 invalid arguments.";
 
 /// How many runs are measured.
 const RUNS: Number<'static> = Number {

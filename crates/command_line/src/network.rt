@@ -16,7 +16,7 @@ use subcommands::network::Wanted;
 /// What `network` takes.
 const NETWORK: Grammar<'static> = Grammar {
     name: "network",
-    about: "Prints the network file of a line, a ring, a star, a grid, a tree, a complete or a random graph",
+    about: "Prints a network file: a line, ring, star, grid, tree or other graph",
     help: HELP,
     parameters: &[
         Parameter::Place("KIND", "line, ring, star, complete, tree, grid or random"),
@@ -27,24 +27,16 @@ const NETWORK: Grammar<'static> = Grammar {
             "capacity",
             "C",
             "1",
-            "How many items a link holds: 1 to 4096; processes need 64",
+            "How many items a link holds, 1 to 4096",
         ),
         Parameter::ValueOr(
             "lease",
             "TICKS",
             "0",
-            "For how many ticks the lock is lent at most: 0 to 65535; 0 is no limit",
+            "How many ticks a loan lasts; 0 is no limit",
         ),
-        Parameter::Value(
-            "edges",
-            "E",
-            "Of a random graph, how many edges there are; twice as many as a tree has, if left out",
-        ),
-        Parameter::Value(
-            "seed",
-            "SEED",
-            "Of a random graph, what it is drawn from: 0 to 4294967295; 0, if left out",
-        ),
+        Parameter::Value("edges", "E", "How many edges a random graph has"),
+        Parameter::Value("seed", "SEED", "The seed of a random graph; 0 if left out"),
     ],
     needs: &[],
     excludes: &[],
@@ -65,12 +57,18 @@ const HELP: &str = "\
   line N       node v is joined to v+1; 2 to 64 nodes
   ring N       a line whose ends are joined; 3 to 64
   star N       node 0 is joined to each other node; 2 to 64
-  complete N   each node is joined to each other node; 2 to 23, since a network has 256 edges at most
+  complete N   each node is joined to each other node; 2 to 23, since a network
+               has 256 edges at most
   tree N       a binary tree: the children of node u are 2u+1 and 2u+2; 2 to 64
-  grid N M     N rows of M nodes, each joined to those beside, above and below it; 2 to 64 nodes
-  random N     each node is joined to an earlier one that is drawn, and then further pairs are drawn; 2 to 64
+  grid N M     N rows of M nodes, each joined to those beside, above and below;
+               2 to 64 nodes
+  random N     each node is joined to an earlier one that is drawn, and then
+               further pairs are drawn; 2 to 64
 
-The same words give the same text on any machine. What is printed is accepted as a network file, always.
+Networks of processes need --capacity 64. If --edges is left out, a random graph
+has twice as many edges as a tree. --lease is 0 to 65535 ticks, --seed 0 to
+4294967295. The same words give the same text on any machine. What is printed is
+always a network file that is accepted.
 
 Statuses: 0 done; 1 memory or standard output was refused; 2 invalid arguments.";
 

@@ -51,7 +51,7 @@ pub const SOCKETS_FOLDER: &str = "The folder of the nodes' sockets";
 /// The program `tokentree`.
 pub const TOKENTREE: Program<'static> = Program {
     name: "tokentree",
-    about: "A self-stabilising lock service: one token for a network of nodes, whatever state they start from",
+    about: "A self-stabilising lock for a network of nodes, whatever state they are in",
     help: HELP,
     version: "0.1.0",
 };
@@ -61,11 +61,13 @@ const HELP: &str = "\
 Examples:
   tokentree bound examples/square.toml
   tokentree simulate examples/two-nodes.toml events.txt
-  tokentree schedule examples/square.toml --scramble 7 --rounds 100 | tokentree simulate examples/square.toml -
+  tokentree schedule examples/square.toml --scramble 7 --rounds 100 > run.txt
+  tokentree simulate examples/square.toml run.txt
   tokentree measure examples/square.toml --runs 100
   tokentree network ring 5
   tokentree threads examples/square.toml 1000
   tokentree help simulate
 
-Statuses: 0 done; 1 a file, memory or standard output was refused, with its fault on standard error; 2 the command line
-was refused; 3 simulate is done, and refused some lines of its events.";
+Statuses: 0 done; 1 a file, memory or standard output was refused, with its
+fault on standard error; 2 invalid arguments; 3 simulate is done, and refused
+some lines of its events.";

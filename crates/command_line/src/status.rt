@@ -6,11 +6,11 @@ use crate::program::{Runtime, SOCKETS_FOLDER};
 use crate::refusal::Refusal;
 use clap::{ArgMatches, Command};
 use command_grammar::{Grammar, Number, Parameter, WordFault, with_command, word};
-use command_parts::Fault;
 use recovery_times::micros_of;
 use status_command::{Form, Notice, Part, Watch, check, looks, refused, status, watch};
 use std::alloc::{AllocError, Global};
 use std::process::ExitCode;
+use subcommands::Fault;
 
 /// What `status` takes.
 const STATUS: Grammar<'static> = Grammar {
@@ -22,18 +22,18 @@ const STATUS: Grammar<'static> = Grammar {
         Parameter::Value(
             "check",
             "FILE",
-            "Say in a line and by the status whether the network of this file serves, for monitors",
+            "Say for a monitor whether the network of FILE serves",
         ),
         Parameter::Flag(
             "premises",
-            "Show how long the longest times between two turns of each node were",
+            "Show the longest times between two turns of each node",
         ),
         Parameter::Flag("links", "Show how the links of each node stand"),
         Parameter::Flag("watch", "Show the nodes again and again, until Ctrl-C"),
         Parameter::Value(
             "every",
             "SECONDS",
-            "The time between two looks of a watch, 0.1 to 3600 [default: 0.5]",
+            "The time between two looks, 0.1 to 3600 [default: 0.5]",
         ),
         Parameter::Place("DIR", SOCKETS_FOLDER),
         Parameter::Places(
@@ -72,14 +72,17 @@ Asks each node for its status line, for a second at most:
   node 2 no answer
   privileged 1 lending 1
 
-distance and parent are the node's place in the tree to the root; token is yes where it is privileged, which lets it
-lend the lock; lent is the ticket that it lends to; waiting is how many wait at it. The last line counts those with
-token yes, and those that lend.
+distance and parent are the node's place in the tree to the root; token is yes
+where it is privileged, which lets it lend the lock; lent is the ticket that it
+lends to; waiting is how many wait at it. The last line counts those with token
+yes, and those that lend.
 
-The nodes answer one after the other while the token goes round: so it may be seen at two of them, or at none. Two that
-lend at once are seen only after damage, until the lock has recovered. A node that is cut off shows the place that it had;
---links shows that it is. Of a node without an answer, whose socket and state DIR does not have either, a line on standard
-error says that it never ran there.
+The nodes answer one after the other while the token goes round: so it may be
+seen at two of them, or at none. Two that lend at once are seen only after
+damage, until the lock has recovered. A node that is cut off shows the place
+that it had; --links shows that it is. Of a node without an answer, whose socket
+and state DIR does not have either, a line on standard error says that it never
+ran there.
 
   $ tokentree status /run/tokentree --links
   node 0 link 1 up for 86.001 s breaks 0
@@ -88,30 +91,38 @@ error says that it never ran there.
   $ tokentree status /run/tokentree --premises
   node 0 turns 51200 longest 3.104 ms lately 2.290 ms late 3
 
---links says for each neighbour whether a connection stands, since when, and how often one broke. --premises says how long
-the longest time between two turns of a node was, since its start and within the last minute, and how many turns came later
-than the node's --turn allows. Both are read at DIR/look-ID.sock.
+--links says for each neighbour whether a connection stands, since when, and how
+often one broke. --premises says how long the longest time between two turns of
+a node was, since its start and within the last minute, and how many turns came
+later than the node's --turn allows. Both are read at DIR/look-ID.sock.
 
---json shows the same as the lines in one JSON object: nodes, privileged, lending; of each node the words of its line as
-names, null for none, and answer, which is false for a node that gave none.
+--json shows the same as the lines in one JSON object: nodes, privileged,
+lending; of each node the words of its line as names, null for none, and answer,
+which is false for a node that gave none.
 
---watch shows the nodes each half second, or each --every seconds, each under its parent, with the time that a loan has
-taken so far; the loans of the last minute, of which the longest may have ended up to half a minute earlier; and how often
-the token came round. On a terminal it stays in its place; Ctrl-C or q ends it. Elsewhere there is a block a time, with an
-empty line between. With --json it is a line a time.
+--watch shows the nodes each half second, or each --every seconds, each under
+its parent, with the time that a loan has taken so far; the loans of the last
+minute, of which the longest may have ended up to half a minute earlier; and how
+often the token came round. On a terminal it stays in its place; Ctrl-C or q
+ends it. Elsewhere there is a block a time, with an empty line between. With
+--json it is a line a time.
 
   $ tokentree status /run/tokentree --check ring.toml
-  tokentree OK - each node is in its place, and at most one lends | nodes=3;;;0;3 answering=3;;;0;3 wrong=0;;;0;3 ..
+  tokentree OK - each node is in its place, and at most one lends | nodes=3;; ..
 
---check looks three times, a second apart, at each node of the network of FILE. Statuses and words are those of monitoring
-plugins: 0 OK, if each time each node answers, with the distance and parent that the network gives, and at most one lends; 1
-WARNING, if one does not, or two lend in some reading; 2 CRITICAL, if nobody answers, or two lend each time; 3 UNKNOWN, if
-it cannot look, or DIR has a node that the network has not. A reading is of no one instant, so two that lend in one may
-have lent one after the other; in three readings on end that is unlikely, and no proof of two locks. OK does not say that
-nothing happened between the readings. The figures are those of the last.
+--check looks three times, a second apart, at each node of the network of FILE.
+Statuses and words are those of monitoring plugins: 0 OK, if each time each node
+answers, with the distance and parent that the network gives, and at most one
+lends; 1 WARNING, if one does not, or two lend in some reading; 2 CRITICAL, if
+nobody answers, or two lend each time; 3 UNKNOWN, if it cannot look, or DIR has
+a node that the network has not. A reading is of no one instant, so two that
+lend in one may have lent one after the other; in three readings on end that is
+unlikely, and no proof of two locks. OK does not say that nothing happened
+between the readings. The figures are those of the last.
 
-Statuses: 0 each node answered; 1 one gave no answer, or none is there; 2 the command line was refused; with --check those
-above; 0 for a watch that was ended by a key.";
+Statuses: 0 each node answered; 1 one gave no answer, or none is there; 2
+invalid arguments; with --check those above; 0 for a watch that was ended by a
+key.";
 
 /// Which ids are taken; which nodes there are the folder says.
 const ID: Number<'static> = Number {

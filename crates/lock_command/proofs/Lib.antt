@@ -1,3 +1,5 @@
 pub mod Driven
 pub mod GuardDriven
 mod RowsWork
+mod RowsCourse
+mod RowsNotices

@@ -1,9 +1,9 @@
 -- What is read of a line for whoever looks, and what is printed of it, by hand.
-use Rattle.std.proofs.Common.{◌≡◌, None, Some, codes, refl}
+use Rattle.std.proofs.Common.{◌≡◌, None, Some, [], ◌∷◌, codes, refl}
 use Rattle.serde_json.proofs.OnLiterals.{serde_json_on_literals}
 use Rattle.std.specs.Fmt.{digits}
 use Rattle.node_texts.specs.declared.premises.TurnsSaid.{TurnsSaid}
-use Rattle.node_texts.specs.PremisesText.{line_said, millis_text, premises_line}
+use Rattle.node_texts.specs.PremisesText.{line_said, millis_text, premises_line, premises_text}
 
 said : TurnsSaid
 said = record { count = 512; longest = 2290; lately = 2190; late = 3 }
@@ -42,3 +42,12 @@ millis-small = refl
 millis-great : millis_text 1200070 ≡ codes "1200.070"
 unfolding digits
 millis-great = refl
+
+-- the lines of two nodes, in their order, and of none
+printed-two : premises_text (record { node = 1; said = Some said } ∷ record { node = 12; said = None } ∷ [])
+    ≡ codes "node 1 turns 512 longest 2.290 ms lately 2.190 ms late 3\nnode 12 no answer\n"
+unfolding said digits
+printed-two = refl
+
+printed-nobody : premises_text [] ≡ []
+printed-nobody = refl

@@ -1,5 +1,5 @@
 -- Small examples of names, lines and reports, and some that look like them and are none.
-use Rattle.std.proofs.Common.{◌≡◌, ◌≢◌, true, false, [], ◌∷◌, ◌++◌, Some, None, codes, decimal, refl, arith}
+use Rattle.std.proofs.Common.{◌≡◌, ◌≢◌, ℕ, List, true, false, [], ◌∷◌, ◌++◌, Some, None, codes, decimal, string_bytes, refl, arith}
 use Rattle.std.proofs.lemmas.Fmt.{decimal_digit}
 use Rattle.node_core.specs.Site.{Site}
 use Rattle.node_core.specs.State.{default_node}
@@ -8,9 +8,10 @@ use Rattle.node_state_file.specs.declared.starting.StartFault.TheVariants.{File,
 use Rattle.node_texts.specs.declared.answers.NodeAnswer.{NodeAnswer}
 use Rattle.node_texts.specs.declared.lines.Note.TheVariants.{Started, Ready}
 use Rattle.node_texts.specs.declared.lines.End.TheVariants.{Status, Signal, Unknown, Unstarted}
+use Rattle.node_texts.specs.declared.paths.NodePaths.{NodePaths}
 use Rattle.node_texts.specs.declared.status_line.StatusLine.{StatusLine}
-use Rattle.node_texts.specs.DeskFile.{desk_path}
-use Rattle.node_texts.specs.Names.{file_name, longest_socket_name}
+use Rattle.node_texts.specs.DeskFile.{desk_path, look_path}
+use Rattle.node_texts.specs.Names.{AreNamed, file_name, longest_socket_name}
 use Rattle.node_texts.specs.NodeStatus.{line_of}
 use Rattle.node_texts.specs.NoteText.{capacity_line, end_line, note_line}
 use Rattle.node_texts.specs.Report.{has_answered, report_text}
@@ -41,6 +42,20 @@ names-desk = rw two-is
 -- of three nodes the last has the longest name
 names-longest : longest_socket_name (codes "run") 3 ≡ codes "run/node-2.sock"
 names-longest = rw two-is
+
+looks-path : look_path (codes "run") 2 ≡ codes "run/look-2.sock"
+looks-path = rw two-is
+
+-- all of node 2's files in the folder `run`; the state file of node 1 is none of them
+module _ (paths : NodePaths) where
+  are-named : string_bytes paths.state ≡ codes "run/state-2.tkt" → string_bytes paths.links ≡ codes "run/node-2.sock"
+      → string_bytes paths.clients ≡ codes "run/desk-2.sock" → string_bytes paths.looks ≡ codes "run/look-2.sock"
+      → string_bytes paths.stop ≡ codes "run/stop-2" → string_bytes paths.lock ≡ codes "run/lock-2" → AreNamed (codes "run") 2 paths
+  are-named state links clients looks stop lock = rw two-is (state, links, clients, looks, stop, lock)
+
+  named_not-other : string_bytes paths.state ≡ codes "run/state-1.tkt" → ¬ AreNamed (codes "run") 2 paths
+  named_not-other state are =
+      let e : ◌≡◌ {A = List ℕ} (codes "run/state-1.tkt") (codes "run/state-2.tkt") = rw (state, two-is) at are.0 in grind (arith, e)
 
 -- ---- what processes print
 

@@ -1,9 +1,11 @@
 -- Premises by words, times of networks, and what is refused; by hand.
-use Rattle.std.proofs.Common.{◌≡◌, None, Some, [], Ok, Err, refl, codes}
+use Rattle.std.proofs.Common.{◌≡◌, ◌∷◌, None, Some, [], Ok, Err, refl, codes}
+use Rattle.std.specs.Fmt.{digits}
 use Rattle.topology.specs.Network.{Network}
 use Rattle.recovery_times.specs.declared.words.TimeFault.TheVariants.{Turn, Delay, Loan, Repeat}
-use Rattle.recovery_times.specs.Times.{usual, lending_of}
+use Rattle.recovery_times.specs.Times.{usual, lending_of, recovery_of}
 use Rattle.recovery_times.specs.Reading.{point_at, digits_up_to, whole_of, thousandths_of, after_point, part_of, within_an_hour}
+use Rattle.recovery_times.specs.Text.{times_text}
 use Rattle.recovery_times.specs.Words.{no_less, time_or, or_fault, premises_of, option_name, least_text, time_fault_text}
 
 -- a ring of three: 51 sweeps and 8 * 2 * 2 for one who waits alone, of 12.5 ms each
@@ -15,6 +17,20 @@ lends-alone = refl
 
 lends-third : lending_of ring_of_three 2 usual ≡ 800000
 lends-third = refl
+
+-- two nodes serve after 35 sweeps at the latest
+abbrev two_nodes : Network
+two_nodes = record { nodes = 2; root = 0; capacity = 1; lease = 0; edges = (0, 1) ∷ [] }
+
+recovers : recovery_of two_nodes usual ≡ 437500
+recovers = refl
+
+recovers_not-sooner : recovery_of two_nodes (record usual { turn = 2300 }) ≡ 444500
+recovers_not-sooner = refl
+
+times-shown : times_text two_nodes usual ≡ codes "window 12.5 ms\nrecovers within 438 ms\nlends within 200 ms\n"
+unfolding digits
+times-shown = refl
 
 -- ---- parts of a word
 

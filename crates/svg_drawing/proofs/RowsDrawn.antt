@@ -1,15 +1,20 @@
 -- Small examples of colours, lengths, elements and their text, and some that look like them and are
 -- none.
-use Rattle.std.proofs.Common.{◌≡◌, ◌≢◌, ℕ, List, [], ◌∷◌, codes, decimal, refl, arith}
+use Rattle.std.proofs.Common.{◌≡◌, ◌≢◌, ℕ, List, [], ◌∷◌, codes, decimal, string_bytes, ap, refl, arith}
 use Rattle.std.proofs.lemmas.Fmt.{decimal_digit}
 use Rattle.std.proofs.lemmas.Grind.{common_steps}
+use Rattle.svg_drawing.specs.declared.canvas.Canvas.{Canvas}
+use Rattle.svg_drawing.specs.declared.canvas.Stroke.{Stroke}
+use Rattle.svg_drawing.specs.declared.element.Attribute.{Attribute}
+use Rattle.svg_drawing.specs.declared.element.Drawing.{Drawing}
+use Rattle.svg_drawing.specs.declared.element.Element.{Element as CodeElement}
 use Rattle.svg_drawing.specs.declared.colours.Colour.TheVariants.{Pale, Red, Ink}
 use Rattle.svg_drawing.specs.declared.canvas.Anchor.TheVariants.{Start, Middle, End}
 use Rattle.svg_drawing.specs.Colours.{colour_code}
-use Rattle.svg_drawing.specs.Drawn.{anchor_code, circle_shown, form_shown, heading_shown, line_shown, note_shown, numbered, path_shown, rect_shown, whole}
-use Rattle.svg_drawing.specs.Drawn.{with_given, with_text, words_shown}
+use Rattle.svg_drawing.specs.Drawn.{anchor_code, circle_shown, drawn, form_shown, given_of, heading_shown, line_shown, note_shown, numbered, path_shown, pen_of, rect_shown, shown_of, whole}
+use Rattle.svg_drawing.specs.Drawn.{Shown, with_given, with_text, words_shown}
 use Rattle.svg_drawing.specs.Lengths.{px}
-use Rattle.svg_drawing.specs.Spelling.{end_tag, escaped, start_tag}
+use Rattle.svg_drawing.specs.Spelling.{attribute_text, drawing_text, element_text, end_tag, escaped, escaped_byte, start_tag}
 use Rattle.svg_drawing.specs.Xml.{IsContent}
 use Rattle.svg_drawing.specs.Xml.IsContent.{Nothing, Text, Element}
 
@@ -119,3 +124,41 @@ no_tag (Text (byte ∷ more) rest) e = grind (arith, common_steps, e)
 no_tag (Element [] [] inside rest) e = grind (arith, e)
 no_tag (Element [] (given ∷ others) inside rest) e = grind (arith, e)
 no_tag (Element (byte ∷ name) attributes inside rest) e = grind (arith, e)
+
+-- ---- what the code's elements show, and their text
+
+escapes-byte : escaped_byte 38 ≡ codes "&amp;"
+escapes-byte = refl
+
+escapes_not-letter : escaped_byte 97 ≡ codes "a"
+escapes_not-letter = refl
+
+module _ (a : Attribute) (name : a.name.now ≡ codes "id") (value : string_bytes a.value ≡ codes "<1>") where
+  given-id : given_of a ≡ record { name = codes "id"; value = codes "<1>" }
+  given-id = rw (name, value) refl
+
+  attribute-id : attribute_text a ≡ codes " id=\"&lt;1&gt;\""
+  attribute-id = rw (name, value) refl
+
+module _ (e : CodeElement) (name : e.name.now ≡ codes "title") (none : e.attributes.items ≡ []) (text : string_bytes e.text ≡ codes "a & b") where
+  shown-title : shown_of e ≡ note_shown (codes "title") (codes "a & b")
+  shown-title = rw (name, none, text) refl
+
+  shown_not-other : shown_of e ≢ note_shown (codes "title") (codes "a")
+  shown_not-other same = (let e : ◌≡◌ {A = List ℕ} (codes "a & b") (codes "a") = rw text at (ap (λ (s : Shown). s.text) same) in grind (arith, e))
+
+  element-title : element_text e ≡ codes "<title>a &amp; b</title>\n"
+  element-title = rw (name, none, text) refl
+
+  -- the undermost element first
+  drawn-one : (canvas : Canvas) → canvas.elements.items ≡ e ∷ [] → drawn canvas ≡ shown_of e ∷ []
+  drawn-one canvas one = rw one refl
+
+  drawing-one : (d : Drawing) → d.attributes.items ≡ [] → d.elements.items ≡ e ∷ [] → drawing_text d ≡ codes "<svg>\n<title>a &amp; b</title>\n</svg>\n"
+  drawing-one d bare one = rw (bare, one, name, none, text) refl
+
+drawing-none : (d : Drawing) → d.attributes.items ≡ [] → d.elements.items ≡ [] → drawing_text d ≡ codes "<svg>\n</svg>\n"
+drawing-none d bare none = rw (bare, none) refl
+
+pen-dashed : (stroke : Stroke) → stroke.colour ≡ Ink → stroke.width.0 ≡ 2 → stroke.dashes.now ≡ codes "4 2" → pen_of stroke ≡ record { colour = Ink; width = 2; dashes = codes "4 2" }
+pen-dashed stroke colour width dashes = rw (colour, width, dashes) refl

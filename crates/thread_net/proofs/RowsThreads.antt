@@ -1,6 +1,7 @@
 -- Rows: two nodes that did one turn each on threads of their own, and what is no such run.
 use Rattle.std.proofs.Common.{◌≡◌, ◌⊎◌, ℕ, zero, suc, ◌<◌, ◌≤◌, min, IsTrue, List, [], ◌∷◌, All, length, inl, inr, ap, refl, ◌∙◌, sym, arith}
 use Rattle.std.proofs.lemmas.Grind.{common_steps}
+use Rattle.std.specs.declared.alloc.Global.{Global}
 use Rattle.std.proofs.lemmas.Bool.{false≢true}
 use Rattle.std.proofs.lemmas.Bool.Decides.{nat_tests}
 use Rattle.std.proofs.lemmas.List.Elements.{All-nil, All-cons}
@@ -21,7 +22,10 @@ use Rattle.weaving.proofs.RowsRun.{start, after_tick}
 use Rattle.node_runner.specs.Rounds.{AreRounds, IsRound}
 use Rattle.node_runner.specs.FirstTurn.{IsFirstTurn, count_of, deeds_of, is_tick_of, is_send_on, is_take_on, before_tick}
 use Rattle.thread_net.specs.ThreadRun.{IsThreadRun}
-use Rattle.thread_net.specs.Fault.{IsPartRun}
+use Rattle.configuration.specs.ConfigurationView.{ConfigurationView, no_node, world_of}
+use Rattle.thread_net.specs.Fault.{IsFault, IsPartRun}
+use Rattle.thread_net.specs.declared.run.RunFault.TheVariants as fault
+use Rattle.thread_net.specs.declared.run.Woven.{Woven}
 
 -- what v sends in its first turn
 abbrev first_frame : ℕ → ℕ → Stamped
@@ -196,3 +200,14 @@ no-half w part =
       | inl all ↦ omega (arith, ticks, all)
       | inr none ↦ omega (arith, ticks, none)
     ]
+
+-- if memory was refused, the world that comes back is the one handed in, and no other
+fault-memory : (world : ConfigurationView) → IsFault 3 world (fault.Memory world)
+fault-memory world = refl
+
+not-fault-changed : (world : ConfigurationView) → ¬ IsFault 3 world (fault.Memory (record world { nodes = no_node ∷ world.nodes }))
+not-fault-changed world same = let more = ap (λ (c : ConfigurationView). length c.nodes) same in omega (arith, more)
+
+-- no thread was refused if each node did its turn
+not-fault-all : (world : ConfigurationView) (woven : Woven Global) → world_of world ≡ start → woven.events.items ≡ events → world_of woven.world ≡ last → ¬ IsFault 1 world (fault.Spawn woven)
+not-fault-all world woven from did to spawned = no-part (rw (from, did, to) at spawned)

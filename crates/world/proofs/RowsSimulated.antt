@@ -7,7 +7,7 @@ use Rattle.run_model.specs.Start.{default_world}
 use Rattle.run_model.specs.declared.event.Event.TheVariants.{Ask, Tick}
 use Rattle.events_text.specs.declared.text_line.TextLine.TheVariants.{Passed, Unread, Told}
 use Rattle.events_text.specs.EventsText.{text_lines}
-use Rattle.world.specs.SimulatedText.{refusal_line, refusals_of, refused_lines, told_events, simulated_text}
+use Rattle.world.specs.SimulatedText.{refusal_line, refusals_of, refused_lines, simulated_start, told_events, simulated_text}
 use Rattle.world.specs.StateText.{link_line, counts_line, sweeps_line}
 
 abbrev two_nodes : Network
@@ -79,3 +79,10 @@ shown-empty = rw (zero-is, one-is, two-is)
 -- and of a line that is refused
 shown-refused : simulated_text start (codes "Tick 0") 0 ≡ codes "line 1: Unread\n" ++ nothing_happened
 shown-refused = rw (zero-is, one-is, two-is)
+
+-- a simulation begins with 8 spare pairs of links, and as nodes start
+starts-with_spares : simulated_start two_nodes ≡ record start { spares = 8 }
+starts-with_spares = refl
+
+starts_not-without : (simulated_start two_nodes).spares ≡ 0 → ⊥
+starts_not-without none = omega (arith, none)
