@@ -1,9 +1,8 @@
 -- What `up` tells its nodes, whatever it sees.
-use Rattle.std.proofs.Common.{◌≡◌, ◌≤◌, ◌+◌, ℕ, Bool, true, false, not, if◌then◌else◌, Option, Some, None, List, [], ◌∷◌, length, filter, arith, refl}
+use Rattle.std.proofs.Common.{◌≡◌, ◌≤◌, ◌+◌, ℕ, Bool, true, false, not, if◌then◌else◌, Some, None, List, [], ◌∷◌, length, filter, arith, refl}
 use Rattle.std.proofs.lemmas.Grind.{common_steps}
 use Rattle.std.specs.List.{list_all}
 use Rattle.held_signals.specs.declared.signals.Signals.{Signals}
-use Rattle.node_keeping.specs.declared.keeper.Seen.{Seen}
 use Rattle.node_keeping.specs.declared.keeper.Seen.TheVariants.{Asked, Urged}
 use Rattle.node_keeping.specs.declared.course.UpStage.{UpStage}
 use Rattle.node_keeping.specs.declared.course.UpStage.TheVariants.{Running, Ending, Killing}

@@ -1,15 +1,15 @@
 -- What `up` makes of a node, whatever it sees.
-use Rattle.std.proofs.Common.{◌≡◌, ◌≢◌, ◌<◌, ◌≤◌, ◌+◌, ℕ, zero, suc, Bool, true, false, if◌then◌else◌, List, [], ◌∷◌}
+use Rattle.std.proofs.Common.{◌≡◌, ◌≢◌, ◌≤◌, ◌+◌, ℕ, zero, suc, Bool, true, false, if◌then◌else◌, List, [], ◌∷◌}
 use Rattle.std.proofs.Common.{length, filter, arith, refl}
 use Rattle.std.proofs.lemmas.Grind.{common_steps}
 use Rattle.std.proofs.lemmas.Bool.Decides.{nat_tests}
 use Rattle.node_texts.specs.declared.lines.End.{End}
 use Rattle.node_texts.specs.declared.lines.End.TheVariants.{Status}
 use Rattle.node_keeping.specs.declared.keeper.Stage.{Stage}
-use Rattle.node_keeping.specs.declared.keeper.Stage.TheVariants.{Waits, Starts, Runs, Closes, Left, Over}
+use Rattle.node_keeping.specs.declared.keeper.Stage.TheVariants.{Runs, Closes, Left, Over}
 use Rattle.node_keeping.specs.declared.keeper.Seen.{Seen}
-use Rattle.node_keeping.specs.declared.keeper.Seen.TheVariants.{Nothing, Started, Ended, Asked}
-use Rattle.node_keeping.specs.declared.keeper.Deed.TheVariants.{Rest, Start, SayAgain, Kill}
+use Rattle.node_keeping.specs.declared.keeper.Seen.TheVariants.{Ended}
+use Rattle.node_keeping.specs.declared.keeper.Deed.TheVariants.{Rest, Start, SayAgain}
 use Rattle.node_keeping.specs.Steps.{stage_after, stage_after_all, failures_after, deed_at, deeds, asked_after, looks}
 use Rattle.node_keeping.specs.Steps.{is_failed, failures_now}
 use Rattle.node_keeping.specs.Laws.{is_start, is_kill}

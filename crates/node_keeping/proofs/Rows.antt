@@ -1,5 +1,5 @@
 -- Small examples of each definition, and ones that fail.
-use Rattle.std.proofs.Common.{◌≡◌, ◌≢◌, ℕ, true, false, List, [], ◌∷◌, Ok, Err, refl, arith}
+use Rattle.std.proofs.Common.{◌≡◌, ◌≢◌, true, false, List, [], ◌∷◌, Ok, Err, refl, arith}
 use Rattle.std.specs.declared.io.ErrorKind.TheVariants.{NotFound, PermissionDenied}
 use Rattle.node_texts.specs.declared.lines.End.TheVariants.{Status, Signal}
 use Rattle.node_keeping.specs.declared.sight.FileId.{FileId}
@@ -11,7 +11,7 @@ use Rattle.node_keeping.specs.declared.saved.AfterSave.TheVariants.{Displaced, S
 use Rattle.node_keeping.specs.declared.keeper.Stage.TheVariants.{Waits, Runs, Left}
 use Rattle.node_keeping.specs.declared.keeper.Seen.{Seen}
 use Rattle.node_keeping.specs.declared.keeper.Seen.TheVariants.{Nothing, Started, Ended, Asked}
-use Rattle.node_keeping.specs.declared.keeper.Deed.TheVariants.{Rest, Start, SayAgain, SayLeft, SayGone, CloseInput, Kill}
+use Rattle.node_keeping.specs.declared.keeper.Deed.TheVariants.{Rest, Start, SayAgain, SayLeft, SayGone, CloseInput}
 use Rattle.node_keeping.specs.Sight.{file_sight}
 use Rattle.node_keeping.specs.AfterSave.{after_save}
 use Rattle.node_keeping.specs.Steps.{deeds, stage_after_all}

@@ -1,7 +1,7 @@
 -- What a node does after a turn that saved its state.
 use Rattle.std.specs.Prelude.{Bool, true, false, if◌then◌else◌}
 use Rattle.node_keeping.specs.declared.sight.FileSight.{FileSight}
-use Rattle.node_keeping.specs.declared.sight.FileSight.TheVariants.{Own, NotOwn, Unseen}
+use Rattle.node_keeping.specs.declared.sight.FileSight.TheVariants.{NotOwn}
 use Rattle.node_keeping.specs.declared.saved.StopSight.{StopSight}
 use Rattle.node_keeping.specs.declared.saved.StopSight.TheVariants.{Absent, Removed, Stays}
 use Rattle.node_keeping.specs.declared.saved.Sights.{Sights}

@@ -1,5 +1,5 @@
 -- Laws of when `up` ends its nodes.
-use Rattle.std.specs.Prelude.{◌≡◌, ◌≤◌, ℕ, Bool, true, false, not, Option, None, Some, List, filter, length}
+use Rattle.std.specs.Prelude.{◌≡◌, ◌≤◌, Bool, true, false, not, Option, None, Some, List, filter, length}
 use Rattle.std.specs.List.{list_all}
 use Rattle.held_signals.specs.declared.signals.Signals.{Signals}
 use Rattle.node_keeping.specs.declared.keeper.Seen.{Seen}

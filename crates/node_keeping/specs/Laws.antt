@@ -1,19 +1,18 @@
 -- Laws of what a node's process and `up` decide.
-use Rattle.std.specs.Prelude.{◌≡◌, ◌≢◌, ◌<◌, ◌≤◌, ◌↔◌, ℕ, ◌+◌, Bool, true, false, not, List, [], ◌∷◌, ◌++◌, filter, length}
-use Rattle.std.specs.List.{list_all}
+use Rattle.std.specs.Prelude.{◌≡◌, ◌≢◌, ◌≤◌, ◌↔◌, ℕ, ◌+◌, Bool, true, false, List, [], ◌∷◌, filter, length}
 use Rattle.node_texts.specs.declared.lines.End.{End}
-use Rattle.node_texts.specs.declared.lines.End.TheVariants.{Status, Signal}
+use Rattle.node_texts.specs.declared.lines.End.TheVariants.{Status}
 use Rattle.node_keeping.specs.declared.sight.FileSight.TheVariants.{NotOwn}
-use Rattle.node_keeping.specs.declared.saved.StopSight.TheVariants.{Absent, Removed}
+use Rattle.node_keeping.specs.declared.saved.StopSight.TheVariants.{Absent}
 use Rattle.node_keeping.specs.declared.saved.Sights.{Sights}
 use Rattle.node_keeping.specs.declared.saved.Lost.{Lost}
 use Rattle.node_keeping.specs.declared.saved.AfterSave.TheVariants.{Displaced, Stop, GoOn}
 use Rattle.node_keeping.specs.declared.keeper.Stage.{Stage}
-use Rattle.node_keeping.specs.declared.keeper.Stage.TheVariants.{Waits, Runs, Closes, Left, Over}
+use Rattle.node_keeping.specs.declared.keeper.Stage.TheVariants.{Runs, Closes, Left, Over}
 use Rattle.node_keeping.specs.declared.keeper.Seen.{Seen}
-use Rattle.node_keeping.specs.declared.keeper.Seen.TheVariants.{Nothing, Ended, Asked, Urged}
+use Rattle.node_keeping.specs.declared.keeper.Seen.TheVariants.{Ended, Urged}
 use Rattle.node_keeping.specs.declared.keeper.Deed.{Deed}
-use Rattle.node_keeping.specs.declared.keeper.Deed.TheVariants.{Rest, Start, SayAgain, SayGone, Kill, CloseInput}
+use Rattle.node_keeping.specs.declared.keeper.Deed.TheVariants.{Rest, Start, SayAgain, SayGone, Kill}
 use Rattle.node_keeping.specs.AfterSave.{after_save, lost_of}
 use Rattle.node_keeping.specs.Steps.{stage_after, stage_after_all, deeds, asked_after, looks, is_failed}
 

@@ -1,7 +1,7 @@
 -- What `up` makes of a node that it keeps running.
 use Rattle.std.specs.Prelude.{ℕ, zero, suc, ◌+◌, ◌-◌, Bool, true, false, ◌&&◌, not, ◌==◌, nat_lt, if◌then◌else◌, List, [], ◌∷◌}
 use Rattle.node_texts.specs.declared.lines.End.{End}
-use Rattle.node_texts.specs.declared.lines.End.TheVariants.{Status, Signal, Unknown, Unstarted}
+use Rattle.node_texts.specs.declared.lines.End.TheVariants.{Status}
 use Rattle.node_keeping.specs.declared.keeper.Stage.{Stage}
 use Rattle.node_keeping.specs.declared.keeper.Stage.TheVariants.{Waits, Starts, Runs, Closes, Left, Over}
 use Rattle.node_keeping.specs.declared.keeper.Seen.{Seen}

@@ -3,7 +3,7 @@ use Rattle.std.proofs.Common.{◌≡◌, ◌≢◌, true, false, Some, None, [],
 use Rattle.std.specs.Fmt.{digits}
 use Rattle.node_texts.specs.declared.lines.End.TheVariants.{Unstarted, Status, Signal}
 use Rattle.node_keeping.specs.declared.saved.AfterSave.TheVariants as save
-use Rattle.node_process.specs.declared.fault.NodeFault.TheVariants.{NoNode, Folder, Running, Links, Looks, System, Memory, Displaced, StopStays}
+use Rattle.node_process.specs.declared.fault.NodeFault.TheVariants.{NoNode, Running, Links, Looks, System, Memory, Displaced, StopStays}
 use Rattle.node_process.specs.declared.start.Stage.TheVariants.{Begun, Checked, Entered, Held, Listening}
 use Rattle.node_process.specs.Start.{may_end}
 use Rattle.node_process.specs.declared.rights.Rights.TheVariants.{Usual, GroupLocks}

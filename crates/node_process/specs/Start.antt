@@ -1,7 +1,7 @@
 -- Which fault ends a start, by how far it was.
 use Rattle.std.specs.Prelude.{Bool, true, false}
 use Rattle.node_process.specs.declared.start.Stage.{Stage}
-use Rattle.node_process.specs.declared.start.Stage.TheVariants.{Begun, Checked, Entered, Held, Listening, Ready}
+use Rattle.node_process.specs.declared.start.Stage.TheVariants.{Begun, Checked, Entered, Held, Listening}
 use Rattle.node_process.specs.declared.fault.NodeFault.{NodeFault}
 use Rattle.node_process.specs.declared.fault.NodeFault.TheVariants.{Network, NoNode, LongName}
 use Rattle.node_process.specs.declared.fault.NodeFault.TheVariants.{Folder, RightsStay, Lock, Running}
