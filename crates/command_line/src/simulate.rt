@@ -12,7 +12,7 @@ use subcommands::simulate;
 /// What `simulate` takes.
 const SIMULATE: Grammar<'static> = Grammar {
     name: "simulate",
-    about: "Lets a list of events happen on a network, tells which are refused, and shows the state they lead to",
+    about: "Replays a list of events, and shows the state that they lead to",
     help: HELP,
     parameters: &[
         Parameter::Place("FILE", NETWORK_FILE),
@@ -30,54 +30,69 @@ pub fn add_to<'a>(parser: Command<'a>, alloc: Global) -> Result<Command<'a>, All
 
 /// What follows the options in its help.
 const HELP: &str = "\
-Nothing happens but what the events text says, one event a line, from nodes as they start and empty links on:
+Nothing happens but what the events text says, one event a line, from nodes as
+they start and empty links on:
 
-  tick 0                        node 0 does its part: its distance and parent, its desk, its machines
-  send 0 1                      node 0 sends a frame to node 1; it is lost where the link is full
-  take 0 1                      node 1 takes the oldest item of the link from node 0, if one is there
-  lose 0 1 2                    item 2 of that link is lost; item 0 is the oldest
-  ask 1 7                       ticket 7 asks at node 1 for the lock
-  leave 1 7                     ticket 7 gives the lock back at node 1, or waits no longer
+  tick 0                   node 0 does its part: its place, its desk, the token
+  send 0 1                 node 0 sends a frame to node 1; a full link loses it
+  take 0 1                 node 1 takes the oldest item from node 0, if any
+  lose 0 1 2               item 2 of that link is lost; item 0 is the oldest
+  ask 1 7                  ticket 7 asks at node 1 for the lock
+  leave 1 7                ticket 7 gives the lock back, or waits no longer
 
 Lines that begin with harm write any state, as a fault would:
 
-  harm own 1 2 none             node 1 has distance 2 and no parent
-  harm counters 1 0 3 4         its port to node 0 sends under number 3, and last heard number 4
-  harm staged 1 0 2 none 5      what it sends there: distance 2, parent none, ring value 5
-  harm copy 1 0 0 none 6        what it has copied from there: distance 0, parent none, ring value 6
-  harm value 1 0 5              its machine that comes in from node 0 has the value 5
-  harm desk 1 7 0 no            its desk lends to ticket 7 for 0 more ticks, and has not served (yes or no)
-  harm desk 1 none 0 yes        its desk lends to nobody, and has served
-  harm frame 0 1 4 3 0 none 6   a frame, of number 4, acknowledging 3, on the link from node 0 to node 1
-  harm junk 0 1                 noise on that link
-  harm empty 0 1                nothing is on that link any more
+  harm own 1 2 none        node 1 has distance 2 and no parent
+  harm counters 1 0 3 4    its port to node 0 sends under 3, and last heard 4
+  harm staged 1 0 2 none 5 what it sends there: distance, parent, ring value
+  harm copy 1 0 0 none 6   what it has copied from there: the same three
+  harm value 1 0 5         its machine that comes in from node 0 has the value 5
+  harm desk 1 7 0 no       its desk lends to ticket 7 for 0 more ticks, and has
+                           not served (yes or no)
+  harm desk 1 none 0 yes   its desk lends to nobody, and has served
+  harm frame 0 1 4 3 0 none 6
+                           a frame is on the link from node 0 to node 1: number
+                           4, acknowledging 3, then distance, parent, ring value
+  harm junk 0 1            noise on that link
+  harm empty 0 1           nothing is on that link any more
 
-Edges join and go as well, while all else goes on; up to 8 edges more than the network's may stand at a time:
+Edges join and go as well, while all else goes on; up to 8 edges more than the
+network's may stand at a time:
 
-  harm join 0 2                 an edge joins nodes 0 and 2, which keep their other ports; its links are empty
-  harm part 0 1                 the edge between nodes 0 and 1 goes, with its ports and what is on its links
+  harm join 0 2            an edge joins nodes 0 and 2; its links are empty, and
+                           their other ports stay
+  harm part 0 1            the edge between nodes 0 and 1 goes, with its ports
+                           and what is on its links
 
-Words are parted by exactly one space; a number is decimal, 0 to 65535, with no leading zero. An empty line, and a
-line that begins with #, is passed over, and counted. The text may have 1,073,741,824 bytes.
+Words are parted by exactly one space; a number is decimal, 0 to 65535, with no
+leading zero. An empty line, and a line that begins with #, is passed over, and
+counted. The text may have 1,073,741,824 bytes.
 
-A line that is refused changes nothing, and is told by its number: 'line 4: Unread' where it spells no event (or has
-more than 64 bytes), and else the first that holds of
+A line that is refused changes nothing, and is told by its number: 'line 4:
+Unread' where it spells no event (or has more than 64 bytes), and else the first
+that holds of
 
   NoNode        there is no such node
   NoLink        the two nodes are not neighbours
   NoItem        there is no such item to lose
-  OutOfRange    no state has such a value; the link is full, where a frame or noise is put on it; or the two nodes
-                to join are one, or are joined already, or there are 256 edges
+  OutOfRange    no state has such a value; a frame or noise is put on a full
+                link; or the two nodes to join are one, or are joined already,
+                or there are 256 edges
   Full          64 tickets wait already
   Twice         the ticket waits already, or has the lock
   Stranger      the ticket neither waits nor has the lock
   NoSpare       8 edges have joined more than have gone
   Apart         without that edge some node cannot reach the root
 
-After the last line the state is shown: each node; how many items are on each link that stands; how many nodes are privileged,
-which is to hold the token, and how many lend; and the sweeps that have passed since the last damage, of as many as are
-proved to be enough (see bound). The first number may be greater than the second. It stays 0 while a node lends: without
-a lease a loan ends only by a leave, so give the network one.
+After the last line the state is shown: each node; how many items are on each
+link that stands; how many nodes are privileged, which is to hold the token, and
+how many lend; and last the sweeps, as in `sweeps 331 of 69`: 331 sweeps have
+passed since the last damage, and 69 are proved to be enough (see bound), so the
+network has had more than it needs. No sweep ends while a node lends, and if the
+network has no lease, a loan ends only by a leave.
+
+A line on standard error says so if such a loan holds up the sweeps; and if
+lines were refused of a text with carriage returns, whose lines end in CRLF.
 
   $ printf 'tick 0\\ntick 2\\n' | tokentree simulate two-nodes.toml -
   line 2: NoNode
@@ -90,11 +105,12 @@ a lease a loan ends only by a leave, so give the network one.
 
 The output is buffered: refusals come when the buffer is full, and at the end.
 
-Statuses: 0 done; 1 a file, memory or standard output was refused, with its fault on standard error; 2 the command line
-was refused; 3 done, and some lines were refused.";
+Statuses: 0 done; 1 a file, memory or standard output was refused, with its
+fault on standard error; 2 invalid arguments; 3 done, and some lines were
+refused.";
 
 /// Does what the words of `simulate` say.
-pub fn run<R: Files + Input + Print + AllocGlobal>(
+pub fn run<R: Files + Input + Print + Eprint + AllocGlobal>(
     rt: &R,
     given: &ArgMatches,
 ) -> Result<ExitCode, Refusal> {

@@ -1,5 +1,7 @@
+pub use Rattle.world.specs as world
 pub mod SimulationFault
 pub mod Simulated
 pub mod FaultText
 pub mod PathFaultText
 pub mod EventText
+pub mod Returns

@@ -17,6 +17,7 @@ mod event_text;
 mod fault;
 mod path_fault;
 mod progress;
+mod returns;
 mod simulation;
 mod streams;
 
@@ -26,6 +27,7 @@ pub use line_words::decimal_number;
 pub use network_file::{NetworkFault, network_of, read_network};
 pub use path_fault::PathFault;
 pub use progress::Progress;
+pub use returns::Returns;
 pub use simulation::{STANDARD_INPUT, events_status, simulate_between};
 pub use streams::{Flush, ReadSource, WriteSink};
 pub use world::simulation::Summary;

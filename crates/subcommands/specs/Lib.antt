@@ -9,3 +9,4 @@ pub mod BoundData
 pub mod MeasuredData
 pub use Rattle.command_parts.specs as command_parts
 pub use Rattle.experiments.specs as experiments
+pub mod Hints

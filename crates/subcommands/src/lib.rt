@@ -14,7 +14,7 @@
 //! let status = cut::run(rt, "node-1.state", 33)?;
 //! let status = junk::run(rt, 7, 10)?;
 //! // prints a scramble, and the events of 100 rounds after it
-//! let status = schedule::run(rt, "two-nodes.toml", Some(7), Turns::Rounds(100))?;
+//! let status = schedule::run(rt, "two-nodes.toml", Some(7), Some(1), Turns::Rounds(100))?;
 //! // prints after how many sweeps 1000 scrambled worlds served
 //! let status = measure::run(rt, "two-nodes.toml", &plan)?;
 //! ```

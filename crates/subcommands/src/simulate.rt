@@ -1,9 +1,10 @@
 //! `simulate FILE EVENTS`: what a list of events leads to on a network.
-ghost use Rattle.std.specs.Prelude.{◌≡◌, ◌⊎◌, IfOk};
+ghost use Rattle.std.specs.Prelude.{◌≡◌, ◌⊎◌, IfOk, option_map};
 ghost use Rattle.std.specs.Process.{exit_status};
+ghost use Rattle.subcommands.specs.Hints.{loan_hint, return_hint};
 
 use command_parts::{
-    Fault, ReadSource, STANDARD_INPUT, Summary, WriteSink, events_status, read_network,
+    Fault, ReadSource, Returns, STANDARD_INPUT, Summary, WriteSink, events_status, read_network,
     simulate_between,
 };
 use std::fs;
@@ -13,12 +14,13 @@ use std::rt::Files;
 use topology::Net;
 
 /// Prints what the events of a file, or of standard input for `-`, lead to on the network of a
-/// file.
+/// file. Then it says on standard error why lines were refused that end in a carriage return, and
+/// what holds up the sweeps, a line each.
 ///
 /// # Errors
 /// Where no network is read of the file, the events cannot be read or are too long, memory runs
 /// out, or standard output does not take the text: the first of these that is met.
-pub fn run<R: Files + Input + Print + AllocGlobal>(
+pub fn run<R: Files + Input + Print + Eprint + AllocGlobal>(
     rt: &R,
     network: &str,
     events: &str,
@@ -35,8 +37,8 @@ pub fn run<R: Files + Input + Print + AllocGlobal>(
     Ok(events_status(summary.refused))
 }
 
-/// Prints what the events that a reader gives lead to.
-fn print_simulation<R: Print + AllocGlobal, E: Read + Drop>(
+/// Prints what the events that a reader gives lead to, and says then what there is to say of it.
+fn print_simulation<R: Print + Eprint + AllocGlobal, E: Read + Drop>(
     rt: &R,
     net: &Net,
     events: E,
@@ -44,7 +46,39 @@ fn print_simulation<R: Print + AllocGlobal, E: Read + Drop>(
     let Ok(output) = BufWriter::new(rt.alloc(), writer(rt)) else {
         return Err(Fault::Memory);
     };
-    let mut source = ReadSource::new(events);
+    let mut source = Returns::new(ReadSource::new(events));
     let mut sink = WriteSink::new(output);
-    simulate_between(rt.alloc(), net, &mut source, &mut sink)
+    let summary = simulate_between(rt.alloc(), net, &mut source, &mut sink)?;
+    say(rt, return_hint(&summary, source.were_seen()));
+    say(rt, loan_hint(net.lease(), net.bound(), &summary));
+    Ok(summary)
+}
+
+/// Says a line, if there is one.
+fn say<R: Eprint>(rt: &R, hint: Option<&str>) {
+    if let Some(hint) = hint {
+        let _ = eprintln!(rt; "tokentree: {hint}");
+    }
+}
+
+/// What is said of lines that were refused, if the text has carriage returns.
+fn return_hint(summary: &Summary, were_returns_seen: bool) -> Option<&'static str>
+    ensures { option_map (λ text. text.now) result ≡ return_hint summary.now were_returns_seen }
+{
+    if summary.refused > 0 && were_returns_seen {
+        Some("the events have carriage returns (CRLF): a line ends in a newline alone")
+    } else {
+        None
+    }
+}
+
+/// What is said if there were too few sweeps so far, and a loan that no lease ends keeps others away.
+fn loan_hint(lease: u16, bound: u32, summary: &Summary) -> Option<&'static str>
+    ensures { option_map (λ text. text.now) result ≡ loan_hint lease bound summary.now }
+{
+    if lease == 0 && summary.lending > 0 && summary.sweeps < u64::from(bound) {
+        Some("a node lends the lock without a lease: no sweep ends until its ticket leaves")
+    } else {
+        None
+    }
 }

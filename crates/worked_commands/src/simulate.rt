@@ -112,6 +112,7 @@ fn simulates(
 const THREE: Summary = Summary {
     refused: 3,
     sweeps: 0,
+    lending: 0,
 };
 
 /// The events, between interruptions.

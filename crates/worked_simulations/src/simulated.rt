@@ -112,11 +112,24 @@ fn is_output(output: &str, row: &Row<'_>) -> bool {
     output.strip_prefix(row.refusals) == Some(row.state)
 }
 
-/// What a row is reported as: with as many refused lines as are reported.
+/// How many nodes lend in a state of two nodes.
+fn lending_in(state: &str) -> usize {
+    if state.contains(" lending 2\n") {
+        2
+    } else if state.contains(" lending 1\n") {
+        1
+    } else {
+        0
+    }
+}
+
+/// What a row is reported as: with as many refused lines as are reported, and as many nodes that lend as
+/// its state says.
 fn summary_of(row: &Row<'_>) -> Summary {
     Summary {
         refused: row.refusals.lines().count() as u64,
         sweeps: row.sweeps,
+        lending: lending_in(row.state),
     }
 }
 

@@ -4,6 +4,7 @@ use Rattle.std.proofs.lemmas.Grind.{common_steps}
 use Rattle.std.proofs.Math.Seq.{take-length, drop-length}
 use Rattle.run_model.specs.World.{World}
 use Rattle.run_model.specs.Run.{run}
+use Rattle.run_model.specs.NodeCounts.{lending_count}
 use Rattle.run_model.specs.Count.{IsSweepCount}
 use Rattle.world.specs.declared.simulation.Summary.{Summary}
 use Rattle.world.specs.declared.simulation.SimFault.{SimFault}
@@ -31,13 +32,15 @@ module _ (start : World) (bytes : List ℕ) (before between after : Option (List
   same_text = ap (λ w. state_text w sweeps) h.seen.judging.now_is ∙ ap (state_text (run start (events_of bytes))) counted.2
 
   -- the text of the world was written
-  pub is_shown : Takes (state_text (world_of s.judge.configuration) sweeps) between after → IsShown start bytes before after (record { refused = s.refused; sweeps = sweeps })
-  is_shown written = record {
+  pub is_shown : (lending : ℕ) → lending ≡ lending_count (world_of s.judge.configuration) → Takes (state_text (world_of s.judge.configuration) sweeps) between after
+      → IsShown start bytes before after (record { refused = s.refused; sweeps = sweeps; lending = lending })
+  is_shown lending is_lending written = record {
     count = counted.0;
     counted = counted.1;
     written = takes_both (refusals_of start (text_lines bytes)) shown_text before between after h.written (rw same_text at written);
     sweeps = counted.2;
     refused = h.refused_are;
+    lending = is_lending ∙ ap lending_count h.seen.judging.now_is;
   }
 
   -- only a beginning of it was written

@@ -1,6 +1,8 @@
 -- What the answers of a simulation say of what was read and written.
 use Rattle.std.specs.Prelude.{◌≡◌, ℕ, ◌<◌, ◌≤◌, List, [], Option, Some, Result, Ok, Err, take, length, ◌⊎◌}
 use Rattle.run_model.specs.World.{World}
+use Rattle.run_model.specs.Run.{run}
+use Rattle.run_model.specs.NodeCounts.{lending_count}
 use Rattle.run_model.specs.Count.{IsSweepCount}
 use Rattle.world.specs.declared.simulation.Summary.{Summary}
 use Rattle.world.specs.declared.simulation.SimFault.{SimFault}
@@ -21,6 +23,7 @@ pub record IsShown (start : World) (bytes : List ℕ) (before after : Option (Li
   pub written : Takes (simulated_text start bytes count) before after
   pub sweeps : summary.sweeps ≡ counted_up_to count
   pub refused : summary.refused ≡ counted_up_to (refused_lines start (text_lines bytes))
+  pub lending : summary.lending ≡ lending_count (run start (events_of bytes))
 
 -- Only a beginning of the simulated text of these bytes was written.
 pub record IsHalfShown (start : World) (bytes : List ℕ) (before after : Option (List ℕ)) : Type 0 where

@@ -3,7 +3,7 @@
 //! ```
 //! let mut source = MemorySource::new(b"tick 0\nsend 0 1\ntake 0 1\n", 4096);
 //! let mut sink = MemorySink::new(alloc, 4096)?;
-//! let Summary { refused, sweeps } = simulate(alloc, &net, &mut source, &mut sink)?;
+//! let Summary { refused, sweeps, lending } = simulate(alloc, &net, &mut source, &mut sink)?;
 //! ```
 //!
 //! The events text may be as long as [`LONGEST_TEXT`] says; whatever its length, memory is taken
@@ -46,6 +46,8 @@ pub struct Summary {
     pub refused: u64,
     /// The sweeps since the last accepted damage; the count stays at its greatest value.
     pub sweeps: u64,
+    /// How many nodes lend the lock at the end.
+    pub lending: usize,
 }
 
 /// Why a simulation ended without its work.

@@ -140,6 +140,7 @@ fn the_far_corner_of_the_square_finds_its_other_parent(rt: HostRuntime) -> Resul
     let want = Summary {
         refused: 0,
         sweeps: 461,
+        lending: 0,
     };
     as_told(simulated_for_long(rt.alloc()), &(want, true))
 }

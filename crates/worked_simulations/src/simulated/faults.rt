@@ -52,6 +52,7 @@ fn refusals_within(alloc: Global, bytes: usize) -> Result<String, AllocError> {
 const ALL: Summary = Summary {
     refused: 7,
     sweeps: 0,
+    lending: 0,
 };
 
 /// What came of a simulation, a call of which may fail.
@@ -334,6 +335,7 @@ const LENGTHS: [(usize, Result<Summary, SimFault>, &str); 2] = [
         Ok(Summary {
             refused: 1,
             sweeps: 0,
+            lending: 0,
         }),
         "\
 line 1: Unread

@@ -57,6 +57,7 @@ fn first_unsettled(
     let want = Summary {
         refused: 0,
         sweeps: run.rounds as u64,
+        lending: 0,
     };
     for piece in PIECES {
         if simulated(alloc, net, text, piece, |output| is_settled(output, run))? != (want, true) {

@@ -116,6 +116,7 @@ impl<A: Allocator + Copy> Simulation<A> {
         Ok(Summary {
             refused: self.refused,
             sweeps,
+            lending: self.judge.configuration().lending(),
         })
     }
 

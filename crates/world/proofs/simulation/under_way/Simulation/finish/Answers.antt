@@ -1,4 +1,6 @@
-use Rattle.std.proofs.Common.{inr}
+use Rattle.std.proofs.Common.{◌≡◌, ◌∙◌, ap, inr}
+use Rattle.run_model.specs.NodeCounts.{lending_count}
+use Rattle.configuration.specs.ConfigurationView.{world_of}
 use Rattle.world.proofs.SimulatedEnd.{is_shown, is_half_shown}
 use Rattle.world.proofs.simulation.under_way.Simulation.finish.Goals as goal
 
@@ -14,4 +16,6 @@ returns-clause-text g c =
     λ start bytes before h.
     let ran = rw (← c.self.view_is) at (c.in-Ok.ensures.runs start bytes before h) in
     let wrote = c.in-Ok-write_state.ensures in
-    is_shown start bytes before _ _ _ c.sweeps-sweeps.result c.sweeps-sweeps.ensures.sweeps ran (rw c.configuration.ensures at wrote.0)
+    let now : c.lending.result ≡ lending_count (world_of c.self.inside.judge.configuration) =
+    c.lending.ensures ∙ ap (λ j. lending_count (world_of j)) c.configuration-2.ensures in
+    is_shown start bytes before _ _ _ c.sweeps-sweeps.result c.sweeps-sweeps.ensures.sweeps ran c.lending.result now (rw c.configuration.ensures at wrote.0)

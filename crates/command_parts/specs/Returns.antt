@@ -1,0 +1,12 @@
+-- Carriage returns, which end no line of a text of events.
+use Rattle.std.specs.Prelude.{ℕ, Bool, false, is_some, List, Result, Ok, Err, take}
+use Rattle.memchr.specs.Find.{first_of, is_byte, places}
+
+-- one of the bytes is a carriage return, 13
+abbrev pub has_return : List ℕ → Bool
+has_return bytes = is_some (first_of (places (is_byte 13) bytes))
+
+-- one was among the bytes that a read gave, the first ones of its buffer
+abbrev pub gave_return : {E : Type 0} → Result ℕ E → List ℕ → Bool
+gave_return (Ok count) buffer = has_return (take count buffer)
+gave_return (Err _) buffer = false
