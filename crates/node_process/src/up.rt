@@ -2,8 +2,9 @@
 ghost use Rattle.std.specs.Prelude.{◌≡◌, ◌≢◌, ◌⊎◌, ◌++◌, ◌∷◌, [], true, None, Some};
 ghost use Rattle.std.specs.Prelude.{OnOk, IfOk, IfErr};
 ghost use Rattle.std.specs.Prelude.{codes, decimal, length};
+ghost use Rattle.std.specs.List.{list_any};
 ghost use Rattle.std.specs.Process.{command_args};
-ghost use Rattle.node_keeping.specs.Steps.{new_keeper, stage_after, deed_at};
+ghost use Rattle.node_keeping.specs.Steps.{new_keeper, stage_after, deed_at, is_kept};
 ghost use Rattle.node_keeping.specs.declared.keeper.Stage.TheVariants.{Runs, Waits, Starts};
 ghost use Rattle.node_keeping.specs.declared.keeper.Seen.{Seen};
 ghost use Rattle.node_keeping.specs.declared.keeper.Seen.TheVariants.{Nothing};
@@ -56,9 +57,7 @@ pub trait NodeProgram {
     fn command(&self, alloc: Global, id: u16) -> io::Result<Command>;
 
     /// Who may use the folder and the nodes' sockets.
-    fn rights(&self) -> Rights {
-        Rights::Usual
-    }
+    fn rights(&self) -> Rights;
 }
 
 /// This very program, with the command `node`.
@@ -379,7 +378,9 @@ fn all_new<P: OpenProcess + Drop>(alloc: Global, nodes: u16) -> Result<Vec<Kept<
 }
 
 /// Whether there is more to do with any node.
-fn any_is_kept<P: OpenProcess + Drop>(kept: &[Kept<P>]) -> bool {
+fn any_is_kept<P: OpenProcess + Drop>(kept: &[Kept<P>]) -> bool
+    ensures { result ≡ list_any (λ one. is_kept one.keeper.stage) kept.now }
+{
     kept.iter().any(|one| one.keeper.is_kept())
 }
 

@@ -628,6 +628,10 @@ impl NodeProgram for TestProgram<'_> {
         let number = format!(in alloc; "{id}")?;
         Ok(kept_at(alloc, self.program, self.dir, number.as_str())?)
     }
+
+    fn rights(&self) -> Rights {
+        Rights::Usual
+    }
 }
 
 /// Keeps the nodes of this network file running in a folder. What becomes of it.
@@ -867,6 +871,10 @@ struct NoNode;
 impl NodeProgram for NoNode {
     fn command(&self, alloc: Global, _: u16) -> io::Result<Command> {
         Ok(Command::new(alloc, "/bin/false")?)
+    }
+
+    fn rights(&self) -> Rights {
+        Rights::Usual
     }
 }
 
