@@ -8,7 +8,7 @@ use Rattle.lock_client.specs.declared.client.Deed.TheVariants as deed
 use Rattle.lock_client.specs.declared.client.Event.TheVariants as event
 use Rattle.lock_client.specs.declared.outcome.CommandEnd.TheVariants.{Exited}
 use Rattle.lock_client.specs.declared.outcome.Outcome.TheVariants as outcome
-use Rattle.lock_client.specs.declared.signals.Signal.TheVariants.{Terminate}
+use Rattle.held_signals.specs.declared.signals.Signal.TheVariants.{Terminate}
 use Rattle.lock_command.specs.declared.notice.Cause.TheVariants as cause
 use Rattle.lock_command.specs.declared.notice.Fate.TheVariants as fate
 use Rattle.lock_command.specs.declared.notice.Notice.{Notice}
