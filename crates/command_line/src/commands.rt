@@ -162,9 +162,18 @@ fn act<R: Runtime>(
 ) -> Result<ExitCode, Refusal> {
     let (name, given) = matches.subcommand().ok_or(Refusal::NoCommand)?;
     match name {
+        "lock" => lock::run(rt, given, is_dashed),
+        "measure" => measure::run(rt, given, on_terminal),
+        "threads" => threads::run(rt, given, on_terminal),
+        _ => act_plainly(rt, name, given),
+    }
+}
+
+/// Does what the words of a command say that needs no more than these.
+fn act_plainly<R: Runtime>(rt: &R, name: &str, given: &ArgMatches) -> Result<ExitCode, Refusal> {
+    match name {
         "bound" => bound::run(rt, given),
         "simulate" => simulate::run(rt, given),
-        "lock" => lock::run(rt, given, is_dashed),
         "status" => crate::status::run(rt, given),
         "scramble" => scramble::run(rt, given),
         "cut" => cut::run(rt, given),
@@ -174,9 +183,7 @@ fn act<R: Runtime>(
         "stop" => stop::run(rt, given),
         "network" => network::run(rt, given),
         "schedule" => schedule::run(rt, given),
-        "measure" => measure::run(rt, given, on_terminal),
         "draw" => draw::run(rt, given),
-        "threads" => threads::run(rt, given, on_terminal),
         _ => Err(Refusal::NoCommand),
     }
 }
