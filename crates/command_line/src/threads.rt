@@ -10,7 +10,7 @@ use std::process::ExitCode;
 /// What `threads` takes.
 const THREADS: Grammar<'static> = Grammar {
     name: "threads",
-    about: "Runs each node of a network on a thread of its own, and shows the state they lead to",
+    about: "Runs each node on a thread of its own, and shows the state reached",
     help: HELP,
     parameters: &[
         Parameter::Place("FILE", NETWORK_FILE),
@@ -33,28 +33,35 @@ pub fn add_to<'a>(parser: Command<'a>, alloc: Global) -> Result<Command<'a>, All
 
 /// What follows the options in its help.
 const HELP: &str = "\
-Each node does TURNS turns, from nodes as they start and empty links on, each on a thread of its own: in a turn it
-ticks, then sends to each neighbour where a place is free, and takes up to two items from each. Nobody holds the
-threads back, so what happens differs from run to run; but it is always a list of events that could have happened one
-after the other. The state that they lead to is shown as simulate shows it, with the sweeps in that list:
+Each node does TURNS turns, from nodes as they start and empty links on, each on
+a thread of its own: in a turn it ticks, then sends to each neighbour if a place
+is free, and takes up to two items from each. All begin together, and wait for
+one another after each 16 turns. Between these the system decides who runs, so
+what happens differs from run to run; but it is always a list of events that
+could have happened one after the other. The state that they lead to is shown as
+simulate shows it, with the sweeps in that list:
 
-  $ tokentree threads two-nodes.toml 1000 --events done.events
+  $ tokentree threads examples/square.toml 1000 --events run.txt
   node 0 distance 0 parent none token no lent none waiting 0
-  node 1 distance 1 parent 0 token yes lent none waiting 0
-  link 0 1 items 1
-  link 1 0 items 0
-  privileged 1 lending 0
-  sweeps 331 of 69
+  node 1 distance 1 parent 0 token no lent none waiting 0
+  node 2 distance 1 parent 0 token no lent none waiting 0
+  node 3 distance 2 parent 1 token no lent none waiting 0
+  ..
+  privileged 0 lending 0
+  sweeps 22 of 461
 
-With --events the list is written to a file, and simulate shows the same of it:
+22 sweeps have passed, and 461 are proved to be enough from whatever state: from
+its start this network needs far fewer. With --events the list is written to a
+file, and simulate shows the same of it:
 
-  $ tokentree simulate two-nodes.toml done.events
+  $ tokentree simulate examples/square.toml run.txt
 
-All memory is taken before the first turn: a run that does not fit is refused at once. Nothing is printed before the
-end; on a terminal, one line of standard error tells meanwhile how many turns node 0 has done.
+All memory is taken before the first turn: a run that does not fit is refused at
+once. Nothing is printed before the end; on a terminal, one line of standard
+error shows meanwhile how many turns node 0 has done.
 
-Statuses: 0 done; 1 a file, memory, a thread or standard output was refused, with its fault on standard error; 2 the
-command line was refused.";
+Statuses: 0 done; 1 a file, memory, a thread or standard output was refused, and
+a line on standard error says which; 2 invalid arguments.";
 
 /// How many turns a node does on a thread.
 const TURNS: Number<'static> = Number {

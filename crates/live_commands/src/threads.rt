@@ -12,6 +12,7 @@ ghost use Rattle.command_parts.specs.declared.fault.Fault.TheVariants.{EventsUnw
 ghost use Rattle.command_parts.specs.declared.fault.Fault.TheVariants.{Output};
 
 mod progress;
+mod together;
 
 use command_parts::{EventText, Fault, Flush, WriteSink, read_network};
 use progress::Watch;
@@ -63,7 +64,7 @@ fn run_watched<R: Clock + Eprint + Threads + Wait + Sync + AllocGlobal>(
 ) -> Result<Woven, Fault>
     ensures { IfOk result (AllRan turns net.now) }
 {
-    let watch = Watch::start(rt, turns, tells);
+    let watch = Watch::start(rt, net.nodes(), turns, tells);
     let ran = run_nodes(rt, rt.alloc(), net, turns, &watch);
     watch.end();
     ran

@@ -1,6 +1,7 @@
-//! How far nodes on threads are, told on a terminal.
+//! How far nodes on threads are, shown on a terminal.
 ghost use Rattle.std.specs.Prelude.{◌≡◌, None, false};
 
+use super::together::Together;
 use command_parts::Progress;
 use std::time::Clock;
 use thread_net::Gate;
@@ -8,17 +9,19 @@ use thread_net::Gate;
 /// Node 0 looks at the clock before each 64th of its turns.
 const TURNS_A_LOOK: u32 = 64;
 
-/// A gate that holds nobody back, and shows how many turns node 0 has done, if that is wanted.
+/// A gate at which nodes wait for one another, and which shows how many turns node 0 has done, if that is
+/// wanted.
 #[derive(Drop)]
 pub struct Watch<'a, R> {
     rt: &'a R,
+    together: Together,
     /// None if nothing is reported.
     progress: Option<Progress>,
 }
 
 impl<'a, R: Eprint + Clock> Watch<'a, R> {
-    /// The watch of a run that starts now, in which each node does `turns` turns.
-    pub fn start(rt: &'a R, turns: u32, tells: bool) -> Watch<'a, R>
+    /// The watch of a run that starts now, in which each of `nodes` nodes does `turns` turns.
+    pub fn start(rt: &'a R, nodes: u16, turns: u32, tells: bool) -> Watch<'a, R>
         ensures { tells ≡ false → result.progress ≡ None }
     {
         let progress = if tells {
@@ -26,7 +29,11 @@ impl<'a, R: Eprint + Clock> Watch<'a, R> {
         } else {
             None
         };
-        Watch { rt, progress }
+        Watch {
+            rt,
+            together: Together::new(nodes),
+            progress,
+        }
     }
 
     /// Takes the line away, where it was written.
@@ -40,6 +47,7 @@ impl<'a, R: Eprint + Clock> Watch<'a, R> {
 /// Only node 0 reports, so that no two threads write.
 impl<R: Eprint + Clock + Sync> Gate for Watch<'_, R> {
     fn before(&self, node: u16, turn: u32) {
+        self.together.before(node, turn);
         if node == 0 && turn % TURNS_A_LOOK == 0 {
             if let Some(progress) = &self.progress {
                 progress.tell(self.rt, u64::from(turn));

@@ -1,0 +1,39 @@
+//! Nodes on threads that take turns fairly.
+use thread_net::{Gate, Pace};
+
+/// How many turns a node does before it waits for the others. Fewer hold the threads up more often; with
+/// more, a short run on few processors has fewer sweeps.
+const TURNS_A_BLOCK: u32 = 16;
+
+/// How often a node looks in one wait before it waits no longer: for half a second or so. So a thread that
+/// was refused does not hold up the others for long.
+const LOOKS: u32 = 10_000_000;
+
+/// A gate at which all nodes meet before their first turn, and again after each 16 turns. So no node runs
+/// far ahead of another, however the system shares out its processors.
+#[derive(Drop)]
+pub struct Together {
+    /// A node has done its part of a meeting when it stands there.
+    meetings: Pace,
+}
+
+impl Together {
+    /// A gate for as many nodes. It takes no memory.
+    pub fn new(nodes: u16) -> Together {
+        Together {
+            meetings: Pace::within(nodes, LOOKS),
+        }
+    }
+}
+
+impl Gate for Together {
+    fn before(&self, node: u16, turn: u32) {
+        if turn % TURNS_A_BLOCK == 0 {
+            let meeting = turn / TURNS_A_BLOCK;
+            self.meetings.after(node, meeting);
+            self.meetings.before(node, meeting + 1);
+        }
+    }
+
+    fn after(&self, _node: u16, _turn: u32) {}
+}
