@@ -39,11 +39,11 @@ start = default_world two_nodes
 plans-none : harms_of two_nodes None ≡ []
 plans-none = refl
 
-plans-round : planned two_nodes None (order.Rounds 1)
+plans-round : planned two_nodes None None (order.Rounds 1)
     ≡ Tick 0 ∷ Tick 1 ∷ Send 0 1 ∷ Take 0 1 ∷ Send 0 1 ∷ Take 0 1 ∷ Send 1 0 ∷ Take 1 0 ∷ Send 1 0 ∷ Take 1 0 ∷ []
 plans-round = refl
 
-plans_not-more : planned two_nodes None (order.Rounds 0) ≢ Tick 0 ∷ []
+plans_not-more : planned two_nodes None None (order.Rounds 0) ≢ Tick 0 ∷ []
 plans_not-more = grind arith
 
 -- that the sink failed is answered only if its count rose
