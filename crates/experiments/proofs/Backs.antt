@@ -49,14 +49,14 @@ due-accepted w more v (Some t) left below same =
 
 if-there : (P : List Event → Type 0) (v n : ℕ) (one other : List Event × List ℕ) → (v < n → P one.0) → P other.0
     → P (if nat_lt v n then one else other).0
-if-there P v n one other there no = go (nat_lt v n) (λ h. there (below h))
+if-there P v n one other there elsewhere = go (nat_lt v n) (λ h. there (below h))
   where
     below : nat_lt v n ≡ true → v < n
     below h = grind (arith, nat_tests)
 
     go : (b : Bool) → (b ≡ true → P one.0) → P (if b then one else other).0
     go true h = h refl
-    go false h = no
+    go false h = elsewhere
 
 at-accepted : (more : ℕ) (w : World) (left : List ℕ) (v : ℕ) → AreAccepted w (back_at more w left v).0
 at-accepted more w left v =
@@ -219,6 +219,13 @@ round-went net n old mid new is_n first back =
       left_is = back.left_is ∙ ap (λ (b : List Event × List ℕ). b.1) same;
       more_is = back.more_is ∙ first.more_is;
     }
+
+-- what is given back after a tick that happened
+pub after-tick : (more : ℕ) (w w1 : World) (left : List ℕ) (e next : Event) (v : ℕ) → e ≡ next → w1 ≡ step w e → e ≡ Tick v
+    → (back_at more w1 left v).0 ≡ (back_after more (step w next) left next).0
+after-tick more w w1 left e next v is_next is_w is_tick =
+    ap (λ (x : World). (back_at more x left v).0) (is_w ∙ ap (step w) is_next)
+    ∙ ap (λ (x : Event). (back_after more (step w next) left x).0) (sym is_tick ∙ is_next)
 
 pub on-ok : {T E P Q : Type 0} (r : Result T E) → (P → Q) → OnOk r P → OnOk r Q
 on-ok (Ok x) f h = f h

@@ -1,7 +1,6 @@
 -- Rows: when a ticket leaves, and what is given back, on two nodes of which node 1 lends to ticket 7.
-use Rattle.std.proofs.Common.{◌≡◌, ◌≢◌, ℕ, List, [], ◌∷◌, Option, Some, None, refl, arith}
+use Rattle.std.proofs.Common.{◌≡◌, ◌≢◌, [], ◌∷◌, Some, None, refl, arith}
 use Rattle.run_model.specs.Start.{default_world}
-use Rattle.run_model.specs.declared.event.Event.{Event}
 use Rattle.run_model.specs.declared.event.Event.TheVariants.{Leave, Send, Take, Tick}
 use Rattle.run_model.proofs.RowsTwo.{two_nodes}
 use Rattle.experiments.specs.GivenBack.{due, back_at_all, back_after, rounds_back}

@@ -1,4 +1,4 @@
-use Rattle.std.proofs.Common.{◌∙◌, ap, sym, arith}
+use Rattle.std.proofs.Common.{◌∙◌, ap, arith}
 use Rattle.configuration.specs.ConfigurationView.{world_of}
 use Rattle.experiments.specs.GivenBack.{back_at}
 use Rattle.experiments.proofs.Backs.{all-leads, all-split, backs_from}
