@@ -1,6 +1,7 @@
 //! The words of `schedule`.
-ghost use Rattle.std.specs.Prelude.{IfOk, IfErr};
+ghost use Rattle.std.specs.Prelude.{IfOk, IfErr, codes};
 ghost use Rattle.clap.specs.Matches.{found_of};
+ghost use Rattle.command_grammar.specs.Given.{IsGiven, IsRefused};
 ghost use Rattle.command_line.specs.Turns.{AreTurnsOf, AreTurnsRefused};
 
 use crate::program::NETWORK_FILE;
@@ -20,19 +21,19 @@ use subcommands::{Chances, schedule};
 /// the parser asks for no `--random`.
 const SCHEDULE: Grammar<'static> = Grammar {
     name: "schedule",
-    about: "Prints a schedule for a network as an events text, which simulate reads",
+    about: "Prints a list of events for simulate: damage, rounds, random steps",
     help: HELP,
     parameters: &[
         Parameter::Place("FILE", NETWORK_FILE),
         Parameter::Value(
             "scramble",
             "SEED",
-            "Begin with harms that write every part of the world, drawn from this seed",
+            "Begin with damage to everything, drawn from this seed",
         ),
         Parameter::Value(
             "rounds",
             "N",
-            "Rounds: each node ticks, and each link carries one item more than it holds",
+            "Rounds, in each of which every node and link acts",
         ),
         Parameter::Value(
             "random",
@@ -43,11 +44,16 @@ const SCHEDULE: Grammar<'static> = Grammar {
         Parameter::Value(
             "loss",
             "PERCENT",
-            "Of a hundred random takes, how many are losses: 0 to 100",
+            "How many of a hundred takes are losses, 0 to 100",
         ),
         Parameter::Flag(
             "clients",
-            "Random steps of a fourth kind, too: a client asks, or leaves",
+            "Random steps of clients too: one asks, or leaves",
+        ),
+        Parameter::Value(
+            "give-back",
+            "TICKS",
+            "Give the lock back after so many ticks, 1 to 65535",
         ),
     ],
     needs: &[
@@ -74,25 +80,36 @@ pub fn add_to<'a>(parser: Command<'a>, alloc: Global) -> Result<Command<'a>, All
 
 /// What follows the options in its help.
 const HELP: &str = "\
-  $ tokentree schedule square.toml --scramble 7 --rounds 100 | tokentree simulate square.toml -
+If the network has no lease (lease = 0), give --give-back 1 with --scramble: a
+scramble may write a loan that nobody ends, and then there are no sweeps.
 
-A round: each node ticks, by ascending id; then for each direction of each edge, by ascending source and destination,
-one time more than it holds items: a send and a take. Each round is a sweep where no node lends the lock behind its
-tick. A scramble may write a loan at a node that is privileged: it ends with its lease, and where the network has none
-(lease = 0) there are no sweeps from then on.
+  $ tokentree schedule ring.toml --scramble 7 --rounds 100 --give-back 1 |
+      tokentree simulate ring.toml -
 
-Random steps: each is a tick, a send or a take, one as likely as the other, at a node or a direction of an edge. With
---loss some takes are losses of the oldest item. With --clients a fourth kind is as likely: a client with one of 16
-tickets asks at a node, or leaves. A step that would be refused, as a loss where nothing is under way, is a tick of its
-node in its place. The words of the generator (PCG32, from the seed) are used in this order, each modulo how many there
-are to choose from: the kind, 3 or 4; of a tick the node; of the others the edge as the file lists it and 2 for its
-direction; of a take 100 for the loss; of a client the node, 16 for the ticket, and 2 for asking or leaving.
+A round: each node ticks, by ascending id; then for each direction of each edge,
+by ascending source and destination, one time more than it holds items: a send
+and a take. A round is a sweep if no node lends the lock after its tick.
 
---scramble begins with harms that write every part of the world, drawn from its own seed. None of the events is refused,
-and the same words give the same text on any machine. SEED, N and EVENTS are 0 to 4294967295.
+With --give-back, whoever has the lock gives it back once its node has lent it
+for so many ticks on end: after the round, or right after that tick among random
+steps. --rounds with --give-back 1 is a run that measure watches.
 
-Statuses: 0 done; 1 a file, memory or standard output was refused, with its fault on standard error; 2 the command line
-was refused.";
+Random steps: each is a tick, a send or a take, one as likely as the other, at a
+node or a direction of an edge. With --loss some takes are losses of the oldest
+item. With --clients a fourth kind is as likely: a client with one of 16 tickets
+asks at a node, or leaves. A step that would be refused, as a loss where nothing
+is under way, is a tick of its node in its place. The words of the generator
+(PCG32, from the seed) are used in this order, each modulo how many there are to
+choose from: the kind, 3 or 4; of a tick the node; of the others the edge as the
+file lists it and 2 for its direction; of a take 100 for the loss; of a client
+the node, 16 for the ticket, and 2 for asking or leaving.
+
+--scramble begins with harms that write every part of the world, drawn from its
+own seed. None of the events is refused, and the same words give the same text
+on any machine. SEED, N and EVENTS are 0 to 4294967295.
+
+Statuses: 0 done; 1 a file, memory or standard output was refused, and a line on
+standard error says which; 2 invalid arguments.";
 
 /// Which seeds a scramble takes.
 const SCRAMBLE: Number<'static> = Number {
@@ -134,6 +151,14 @@ const LOSS: Number<'static> = Number {
     most: 100,
 };
 
+/// After how many ticks the lock is given back.
+const GIVE_BACK: Number<'static> = Number {
+    id: "give-back",
+    name: "--give-back",
+    least: 1,
+    most: 65_535,
+};
+
 /// Does what the words of `schedule` say.
 pub fn run<R: Files + Print + AllocGlobal>(
     rt: &R,
@@ -141,7 +166,22 @@ pub fn run<R: Files + Print + AllocGlobal>(
 ) -> Result<ExitCode, Refusal> {
     let network = word(given, "FILE")?;
     let scramble = number_if_given(given, SCRAMBLE)?.map(|seed| seed as u32);
-    Ok(schedule::run(rt, network, scramble, turns(given)?)?)
+    let loan = loan(given)?;
+    Ok(schedule::run(rt, network, scramble, loan, turns(given)?)?)
+}
+
+/// After how many ticks the lock is given back, if that is asked for.
+///
+/// # Errors
+/// If the word spells no number in its range.
+fn loan(given: &ArgMatches) -> Result<Option<u16>, WordFault<'static>>
+    ensures ok { IfOk result (IsGiven (found_of given.now) (codes "give-back") 1 65535) }
+    ensures err { IfErr result (IsRefused (found_of given.now) (codes "give-back") 1 65535) }
+{
+    match number_if_given(given, GIVE_BACK)? {
+        None => Ok(None),
+        Some(ticks) => Ok(Some(ticks as u16)),
+    }
 }
 
 /// The turns that the words of `schedule` say.

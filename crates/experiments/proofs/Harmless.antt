@@ -26,7 +26,7 @@ first-false : (p q r : Bool) → (p || q) ≡ false → r ≡ false → (p || r)
 first-false true q r h k = absurd (grind arith)
 first-false false q r h k = k
 
-undamaged-append : (w : World) (xs ys : List Event) → IsUndamaged w xs → ((v : World) → IsUndamaged v ys) → IsUndamaged w (xs ++ ys)
+pub undamaged-append : (w : World) (xs ys : List Event) → IsUndamaged w xs → ((v : World) → IsUndamaged v ys) → IsUndamaged w (xs ++ ys)
 undamaged-append w [] ys a b = b w
 undamaged-append w (x ∷ xs) ys a b =
     first-false (is_damage w x) (has_damage (step w x) xs) (has_damage (step w x) (xs ++ ys)) a

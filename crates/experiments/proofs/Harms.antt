@@ -1,5 +1,5 @@
 -- Events that happen, and are taken, one after the other.
-use Rattle.std.proofs.Common.{ℕ, ◌+◌, ◌≤◌, List, ◌++◌, Result, Ok, Err, OnOk, arith, inl, inr}
+use Rattle.std.proofs.Common.{ℕ, ◌≤◌, List, ◌++◌, Result, Ok, Err, OnOk, arith, inl, inr}
 use Rattle.byte_streams.specs.Streams.{Rose}
 use Rattle.run_model.specs.declared.event.Event.{Event}
 use Rattle.schedules.specs.Taking.{TakesBoth}

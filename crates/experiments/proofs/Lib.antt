@@ -1,3 +1,4 @@
+pub mod Backs
 pub mod Bounded
 pub mod Harmless
 pub mod Harms
@@ -5,5 +6,6 @@ pub mod Plans
 pub mod Steps
 pub mod Stretches
 pub mod Watching
+mod RowsGivenBack
 pub mod RowsMeasured
 mod RowsScheduled

@@ -1,11 +1,10 @@
 -- Small examples of plans, of what a run has shown, and of summaries, and some that look like them
 -- and are none.
-use Rattle.std.proofs.Common.{◌≡◌, ◌≢◌, ℕ, ◌<◌, ◌≤◌, true, false, zero, suc, List, [], ◌∷◌, ◌++◌, length, Option, Some, None, Ok, Err, refl, ap, sym, inl, inr, arith}
+use Rattle.std.proofs.Common.{◌≡◌, ◌≢◌, ℕ, ◌<◌, true, false, zero, suc, List, [], ◌∷◌, ◌++◌, length, Option, Some, None, Err, refl, inl, inr, arith}
 use Rattle.std.proofs.lemmas.Grind.{common_steps}
 use Rattle.std.specs.Ordering.{nat_cmp}
-use Rattle.std.specs.List.Sorted.{IsPermutation, IsSorted}
+use Rattle.std.specs.List.Sorted.{IsSorted}
 use Rattle.rand_pcg.specs.Lcg.{Lcg}
-use Rattle.topology.specs.Network.{Network}
 use Rattle.topology.specs.Eccentricity.{sharp_of}
 use Rattle.run_model.specs.World.{World}
 use Rattle.run_model.specs.Step.{with_desk}
@@ -24,7 +23,7 @@ use Rattle.experiments.specs.declared.plan.Order.TheVariants as order
 use Rattle.experiments.specs.declared.plan.PlanFault.TheVariants.{Memory, Sink}
 use Rattle.experiments.specs.declared.summary.Summary.{Summary}
 use Rattle.experiments.specs.Plan.{CountsSinkFailures, harms_of, planned}
-use Rattle.experiments.specs.Recovery.{counted_from, FailedLast, IsLastFailure, IsLastNow, ServesBehindEach}
+use Rattle.experiments.specs.Recovery.{counted_from, FailedLast, IsLastNow}
 use Rattle.experiments.specs.Scheduled.{HasEnough, leave_at, leaves, plain, stretch_of, stretches}
 use Rattle.experiments.specs.Shown.{IsRunOf, IsShown}
 use Rattle.experiments.specs.Summary.{IsSummary, IsSummaryOf}
@@ -39,11 +38,11 @@ start = default_world two_nodes
 plans-none : harms_of two_nodes None ≡ []
 plans-none = refl
 
-plans-round : planned two_nodes None (order.Rounds 1)
+plans-round : planned two_nodes None None (order.Rounds 1)
     ≡ Tick 0 ∷ Tick 1 ∷ Send 0 1 ∷ Take 0 1 ∷ Send 0 1 ∷ Take 0 1 ∷ Send 1 0 ∷ Take 1 0 ∷ Send 1 0 ∷ Take 1 0 ∷ []
 plans-round = refl
 
-plans_not-more : planned two_nodes None (order.Rounds 0) ≢ Tick 0 ∷ []
+plans_not-more : planned two_nodes None None (order.Rounds 0) ≢ Tick 0 ∷ []
 plans_not-more = grind arith
 
 -- that the sink failed is answered only if its count rose

@@ -1,7 +1,7 @@
 -- Rows: what an order says, what is scrambled, who gives the lock back, and when a watched run goes on.
 -- The words of the generators were worked out apart from this code, by the rules of O'Neill, "PCG", 2014, and of
 -- `seed_from_u64` in `rand_core`.
-use Rattle.std.proofs.Common.{◌≡◌, ◌≢◌, ℕ, List, [], ◌∷◌, Option, Some, None, refl, arith}
+use Rattle.std.proofs.Common.{◌≡◌, ◌≢◌, [], ◌∷◌, Some, None, refl, arith}
 use Rattle.rand_core.specs.Pcg32Seed.{pcg32_seed}
 use Rattle.rand_core.specs.Steps.{u32_at, word_bytes}
 use Rattle.rand_pcg.specs.Lcg.{Lcg}

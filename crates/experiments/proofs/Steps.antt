@@ -36,7 +36,7 @@ node-below net (Ask v t) h = h
 node-below net (Leave v t) h = h
 node-below net (Damage h) out = absurd out
 
-net-stays : NetworkStays → (w : World) (e : Event) → IsStepOf w.net e → (step w e).net ≡ w.net
+pub net-stays : NetworkStays → (w : World) (e : Event) → IsStepOf w.net e → (step w e).net ≡ w.net
 net-stays network w (Send u v) h = network w (Send u v ∷ []) refl
 net-stays network w (Take u v) h = network w (Take u v ∷ []) refl
 net-stays network w (Lose u v i) h = network w (Lose u v i ∷ []) refl
@@ -52,7 +52,7 @@ none-or-some : (r : Option EventFault) → (r ≡ None) ⊎ ((f : EventFault) ×
 none-or-some None = inl refl
 none-or-some (Some f) = inr (f, refl)
 
-admitted-accepted : (w : World) (e : Event) → IsStepOf w.net e → refusal w (admitted w e) ≡ None
+pub admitted-accepted : (w : World) (e : Event) → IsStepOf w.net e → refusal w (admitted w e) ≡ None
 admitted-accepted w e s =
     elim (none-or-some (refusal w e)) [
       | inl ok ↦ ap (λ r. refusal w (if is_some r then Tick (node_at e) else e)) ok ∙ ok
@@ -68,7 +68,7 @@ either-drawn : (P : Event → Type 0) (b : Bool) (x y : Event × Lcg) → P x.0 
 either-drawn P true x y a c = a
 either-drawn P false x y a c = c
 
-admitted-step : (w : World) (e : Event) → IsStepOf w.net e → IsStepOf w.net (admitted w e)
+pub admitted-step : (w : World) (e : Event) → IsStepOf w.net e → IsStepOf w.net (admitted w e)
 admitted-step w e s = either (IsStepOf w.net) (is_some (refusal w e)) (Tick (node_at e)) e (node-below w.net e s) s
 
 -- ---- what is drawn is a step

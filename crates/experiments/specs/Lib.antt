@@ -5,3 +5,4 @@ pub mod Scheduled
 pub mod Shown
 pub mod Summary
 pub mod Watched
+pub mod GivenBack

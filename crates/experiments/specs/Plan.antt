@@ -1,5 +1,5 @@
 -- A whole schedule, as the list of its events.
-use Rattle.std.specs.Prelude.{ℕ, ◌≤◌, List, [], ◌++◌, Option, Some, None, Result, Ok, Err}
+use Rattle.std.specs.Prelude.{ℕ, ◌-◌, ◌≤◌, List, [], ◌++◌, Option, Some, None, Result, Ok, Err}
 use Rattle.rand_pcg.specs.Lcg.{Lcg}
 use Rattle.byte_streams.specs.Streams.{Rose}
 use Rattle.topology.specs.Network.{Network}
@@ -10,6 +10,7 @@ use Rattle.run_model.specs.declared.event.Event.{Event}
 use Rattle.damage_tool.specs.Harms.{draw_world}
 use Rattle.schedules.specs.Rounds.{rounds}
 use Rattle.schedules.specs.Random.{random_steps}
+use Rattle.experiments.specs.GivenBack.{ordered_back}
 use Rattle.experiments.specs.declared.plan.Order.{Order}
 use Rattle.experiments.specs.declared.plan.Order.TheVariants.{Rounds, Random}
 use Rattle.experiments.specs.declared.plan.PlanFault.{PlanFault}
@@ -25,9 +26,14 @@ abbrev pub ordered : Network → World → Order → List Event
 ordered net w (Rounds count) = rounds net count
 ordered net w (Random steps chances g) = random_steps w chances steps g
 
+-- the same, if each loan lasts so many ticks, at least one; for ever, if nothing is said
+abbrev pub turns : Network → World → Option ℕ → Order → List Event
+turns net w None order = ordered net w order
+turns net w (Some ticks) order = ordered_back net (ticks - 1) w order
+
 -- the harms, and then, from where they lead, what the order says
-abbrev pub planned : Network → Option Lcg → Order → List Event
-planned net scramble order = harms_of net scramble ++ ordered net (run (default_world net) (harms_of net scramble)) order
+abbrev pub planned : Network → Option Lcg → Option ℕ → Order → List Event
+planned net scramble loan order = harms_of net scramble ++ turns net (run (default_world net) (harms_of net scramble)) loan order
 
 -- that the sink failed is answered only where its count of failures rose
 abbrev pub CountsSinkFailures : {T : Type 0} → Result T PlanFault → ℕ → ℕ → Type 0

@@ -14,6 +14,7 @@
 //! would else wait for ever.
 #![tactic(auto)]
 
+mod giving_back;
 pub mod laws;
 mod measured_run;
 mod plan;

@@ -3,8 +3,9 @@ ghost use Rattle.std.specs.Prelude.{◌≡◌, OnOk};
 ghost use Rattle.byte_streams.specs.Streams.{CountsFailures};
 ghost use Rattle.configuration.specs.ConfigurationView.{world_of};
 ghost use Rattle.run_model.specs.Run.{run};
-ghost use Rattle.experiments.specs.Plan.{harms_of, ordered, planned, CountsSinkFailures};
+ghost use Rattle.experiments.specs.Plan.{harms_of, ordered, planned, turns, CountsSinkFailures};
 
+use crate::giving_back::{Lending, give_order_back};
 use byte_streams::Failed;
 use configuration::Configuration;
 use damage_tool::scramble_world;
@@ -61,8 +62,9 @@ impl From<Failed> for PlanFault {
 }
 
 /// Gives the sink a whole schedule for a network: the harms that a scramble draws from its
-/// generator, where there is one, and then what the order says. It begins in the default world, and
-/// there none of the events is refused. Of memory it takes a world and the list of the harms.
+/// generator, if there is one, and then what the order says. If `loan` says so, whoever has the lock
+/// gives it back after so many ticks of its node; 0 counts as 1. The schedule begins in the default
+/// world, and there none of the events is refused. Of memory it takes a world and the list of the harms.
 ///
 /// # Errors
 /// `Memory` where that is refused; `Sink` where the sink failed, and then it took a beginning of
@@ -71,16 +73,42 @@ pub fn give_plan<A: Allocator + Copy, S: EventSink>(
     alloc: A,
     net: &Net<A>,
     scramble: Option<Lcg64Xsh32>,
+    loan: Option<u16>,
     order: Order,
     sink: &mut S,
 ) -> Result<(), PlanFault>
     ensures taken { OnOk result
-        (S.takes sink.old (planned net.now scramble order) sink.new) }
+        (S.takes sink.old (planned net.now scramble loan order) sink.new) }
     ensures cause { CountsSinkFailures result (S.failures sink.old) (S.failures sink.new) }
 {
     let mut configuration = Configuration::new(alloc, net)?;
     give_scramble(alloc, net, scramble, &mut configuration, sink)?;
-    give_order(net, order, &mut configuration, sink)
+    give_turns(net, loan, order, configuration, sink)
+}
+
+/// Gives the sink what the order says, with what is given back if loans have an end.
+fn give_turns<A: Allocator + Copy, S: EventSink>(
+    net: &Net<A>,
+    loan: Option<u16>,
+    order: Order,
+    configuration: Configuration<A>,
+    sink: &mut S,
+) -> Result<(), PlanFault>
+    ensures taken { OnOk result
+        (S.takes sink.old (turns net.now (world_of configuration) loan order) sink.new) }
+    ensures cause { CountsSinkFailures result (S.failures sink.old) (S.failures sink.new) }
+{
+    match loan {
+        None => {
+            let mut configuration = configuration;
+            give_order(net, order, &mut configuration, sink)
+        }
+        Some(ticks) => {
+            let mut lending = Lending::new(configuration, ticks);
+            give_order_back(net, order, &mut lending, sink)?;
+            Ok(())
+        }
+    }
 }
 
 /// Draws the harms of a scramble where there is a generator, lets them happen, and gives them to

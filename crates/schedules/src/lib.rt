@@ -32,4 +32,4 @@ mod random;
 
 pub use by_rounds::{give_round, give_rounds};
 pub use event_sink::EventSink;
-pub use random::{Chances, draw_step, give_random};
+pub use random::{Chances, draw_step, give_random, next_step};

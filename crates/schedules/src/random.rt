@@ -106,8 +106,8 @@ fn node_at(event: &Event) -> u16
     }
 }
 
-/// Lets one drawn step happen, or a tick of its node where it would be refused, and answers which.
-fn next_step<A: Allocator + Copy>(
+/// Lets one drawn step happen, or a tick of its node if it would be refused, and answers which.
+pub fn next_step<A: Allocator + Copy>(
     configuration: &mut Configuration<A>,
     chances: Chances,
     generator: &mut Lcg64Xsh32,

@@ -77,7 +77,7 @@ fn fault_of(fault: PlanFault) -> Fault
 }
 
 /// Prints the events text of a schedule for the network of a file: the harms of a scramble by a
-/// seed, where one is given, and then its turns.
+/// seed, if one is given, and then its turns, with loans that last `loan` ticks, if that is given.
 ///
 /// What is unproved: that the text stands in standard output, which says nothing of its bytes.
 ///
@@ -88,6 +88,7 @@ pub fn run<R: Files + Print + AllocGlobal>(
     rt: &R,
     network: &str,
     scramble: Option<u32>,
+    loan: Option<u16>,
     turns: Turns,
 ) -> Result<ExitCode, Fault>
     ensures { IfOk result (λ status. exit_status status ≡ 0) }
@@ -97,13 +98,13 @@ pub fn run<R: Files + Print + AllocGlobal>(
         return Err(Fault::Memory);
     };
     let mut text = EventText::new(output);
-    write_plan(rt.alloc(), &net, scramble, turns, &mut text)?;
+    write_plan(rt.alloc(), &net, scramble, loan, turns, &mut text)?;
     Ok(ExitCode::SUCCESS)
 }
 
 /// Writes the lines of a schedule's events, the harms of a scramble by a seed, if one is given, and
 /// then its turns; and sees to it that all of them are written: after a fault too, as far as it had
-/// come.
+/// come. If `loan` says so, whoever has the lock gives it back after so many ticks of its node.
 ///
 /// # Errors
 /// Where memory runs out, or the writer fails.
@@ -111,19 +112,20 @@ pub fn write_plan<W: Write + Drop>(
     alloc: Global,
     net: &Net,
     scramble: Option<u32>,
+    loan: Option<u16>,
     turns: Turns,
     text: &mut EventText<W>,
 ) -> Result<(), Fault>
     // If the writer says what its bytes are, they are the text.
     ensures text { OnOk result (GrowsByText (writer_contents W.contents text.old.writer)
-        (planned net.now (option_map seeded scramble) (order_of turns))
+        (planned net.now (option_map seeded scramble) loan (order_of turns))
         (writer_contents W.contents text.new.writer)) }
     ensures written { OnOk result (writer_buffer text.new.writer ≡ []) }
     // A fault is one of memory or of the output, and of the output only where the writer failed.
     ensures fault { IfErr result (λ fault. (fault ≡ Memory) ⊎ (fault ≡ Output)) }
     ensures cause { result ≡ Err Output → Rose text.old.failures text.new.failures }
 {
-    let given = give_plan(alloc, net, scramble.map(seeded), turns.order(), text);
+    let given = give_plan(alloc, net, scramble.map(seeded), loan, turns.order(), text);
     let flushed = text.flush();
     match (given, flushed) {
         (Err(fault), _) => Err(fault_of(fault)),

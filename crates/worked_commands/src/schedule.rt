@@ -32,7 +32,7 @@ fn write<W: Write + Drop>(
     turns: Turns,
     text: &mut EventText<W>,
 ) -> Result<(), Fault> {
-    write_plan(alloc, net, None, turns, text)
+    write_plan(alloc, net, None, None, turns, text)
 }
 
 /// Writes a schedule for a network to a shelf.

@@ -58,19 +58,28 @@ impl EventSink for Keeper {
 enum Kind {
     /// What the seed 7 scrambles, and three rounds.
     Rounds,
+    /// The same, with loans of one tick.
+    GivenBack,
     /// Sixty steps that the seed 3 draws, with losses and clients.
     Random,
 }
 
-/// What is scrambled in front of a schedule, and its steps.
-fn parts(kind: Kind) -> (Option<Lcg64Xsh32>, Order) {
+/// What is scrambled in front of a schedule, how long its loans last, and its steps.
+fn parts(kind: Kind) -> (Option<Lcg64Xsh32>, Option<u16>, Order) {
     match kind {
         Kind::Rounds => (
             Some(Lcg64Xsh32::seed_from_u64(7)),
+            None,
+            Order::Rounds { count: 3 },
+        ),
+        Kind::GivenBack => (
+            Some(Lcg64Xsh32::seed_from_u64(7)),
+            Some(1),
             Order::Rounds { count: 3 },
         ),
         Kind::Random => (
             None,
+            Some(2),
             Order::Random {
                 steps: 60,
                 chances: Chances {
@@ -90,8 +99,8 @@ fn given<A: Allocator + Copy>(
     kind: Kind,
     keeper: &mut Keeper,
 ) -> Result<(), PlanFault> {
-    let (scramble, order) = parts(kind);
-    give_plan(alloc, net, scramble, order, keeper)
+    let (scramble, loan, order) = parts(kind);
+    give_plan(alloc, net, scramble, loan, order, keeper)
 }
 
 /// The events of a schedule that is given to its end.
@@ -148,6 +157,12 @@ fn cut_behind_each(alloc: Global, kind: Kind) -> Result<(usize, Option<usize>), 
 #[test]
 fn each_event_of_rounds_is_once_not_taken(rt: HostRuntime) -> Result<(), Fail> {
     let (count, uncut) = cut_behind_each(rt.alloc(), Kind::Rounds)?;
+    is_told(&(count >= 44, uncut), &(true, None))
+}
+
+#[test]
+fn each_event_of_rounds_with_loans_is_once_not_taken(rt: HostRuntime) -> Result<(), Fail> {
+    let (count, uncut) = cut_behind_each(rt.alloc(), Kind::GivenBack)?;
     is_told(&(count >= 44, uncut), &(true, None))
 }
 
