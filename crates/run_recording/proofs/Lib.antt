@@ -2,8 +2,10 @@ pub mod Marks
 pub mod Columns
 pub mod Strips
 pub mod Marking
+pub mod Sights
 pub mod Recordings
 pub mod Visits
 pub mod RunsOfMarks
 pub mod Rows
 mod RowsMarks
+mod RowsSights

@@ -21,7 +21,7 @@ mod column;
 mod mark;
 mod recording;
 mod runs;
-mod seen;
+mod sight;
 mod strip;
 mod tour;
 mod window;

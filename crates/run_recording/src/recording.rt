@@ -7,12 +7,12 @@ ghost use Rattle.world.specs.judge.JudgeView.{AreSweepsSeen};
 ghost use Rattle.world.specs.SimulatedText.{events_of, simulated_start, told_events};
 ghost use Rattle.run_recording.specs.declared.column.Column.{Column};
 ghost use Rattle.run_recording.specs.Strips.{Shows};
-ghost use Rattle.run_recording.specs.Recordings.{moment_of, shown_if, RecordsNext, IsRecorded};
-ghost use Rattle.run_recording.specs.Recordings.{IsReading};
+ghost use Rattle.run_recording.specs.Recordings.{shown_if, RecordsNext, IsRecorded, IsReading};
 ghost use Rattle.run_recording.specs.RecordingSteps.{EndsThere, IsDamageWhere, ReadsAll, ReadsNext};
+ghost use Rattle.run_recording.specs.RecordingSteps.{IsMomentSeen};
 
 use crate::column::Column;
-use crate::seen::marks_of;
+use crate::sight::Sight;
 use crate::strip::Strip;
 use crate::window::Window;
 use byte_streams::Source;
@@ -44,6 +44,8 @@ pub struct Before {
 #[derive(Drop)]
 pub struct Recording<A: Allocator + Copy = Global> {
     judge: Judge<A>,
+    /// What is seen of the nodes now.
+    sight: Sight,
     reader: EventReader,
     strip: Strip<A>,
     window: Window,
@@ -58,7 +60,9 @@ pub struct Recording<A: Allocator + Copy = Global> {
 
 impl<A: Allocator + Copy> Model for Recording<A> {
     ghost use Rattle.std.specs.Prelude.{◌+◌, ◌≤◌};
+    ghost use Rattle.configuration.specs.ConfigurationView.{world_of};
     ghost use Rattle.run_recording.specs.Recordings.{RecordingView};
+    ghost use Rattle.run_recording.specs.Seen.{IsSightOf};
 
     ghost Value = { RecordingView };
 
@@ -73,7 +77,8 @@ impl<A: Allocator + Copy> Model for Recording<A> {
       before = r.before;
     } };
 
-    ghost invariant = { λ r. r.strip.moments ≤ r.events + 1 };
+    ghost invariant = { λ r. (r.strip.moments ≤ r.events + 1)
+        × IsSightOf (world_of r.judge.configuration) r.sight };
 }
 
 /// Reads an events text, lets its events happen on a network, from its default nodes, empty links
@@ -104,26 +109,26 @@ pub fn record<A: Allocator + Copy, N: Allocator + Copy, R: Source>(
     Ok(recording)
 }
 
-/// What is seen of a moment, at which the sweeps since the last damage have become `after`, from
-/// `before`.
+/// What a column shows of a moment that is seen, at which the sweeps since the last damage have
+/// become `after`, from `before`.
 fn moment_of<A: Allocator + Copy>(
-    configuration: &Configuration<A>,
+    sight: &Sight,
+    net: &Net<A>,
     damaged: bool,
     before: u64,
     after: u64,
 ) -> Column
-    ensures { result ≡ moment_of (world_of configuration.now) damaged before after }
+    ensures { IsMomentSeen sight.now net.now damaged before after result }
 {
-    let net = configuration.net();
     let ends = before < after;
     Column {
-        marks: marks_of(configuration),
-        privileged: configuration.privileged(),
-        lending: configuration.lending(),
+        marks: sight.marks,
+        privileged: sight.privileged,
+        lending: sight.lending,
         sweeps: u64::from(ends),
         damaged,
-        sharp: ends & (after == u64::from(net.sharp_bound())),
-        bound: ends & (after == u64::from(net.bound())),
+        sharp: ends && after == u64::from(net.sharp_bound()),
+        bound: ends && after == u64::from(net.bound()),
     }
 }
 
@@ -148,10 +153,12 @@ impl<A: Allocator + Copy> Recording<A> {
         ensures events { result.events ≡ 0 }
     {
         let judge = Judge::new(world);
-        let start = moment_of(judge.configuration(), false, 0, 0);
+        let sight = Sight::of(judge.configuration());
+        let start = moment_of(&sight, judge.configuration().net(), false, 0, 0);
         keep(&mut strip, window, 0, &start);
         Recording {
             judge,
+            sight,
             reader: EventReader::new(),
             strip,
             window,
@@ -249,8 +256,10 @@ impl<A: Allocator + Copy> Recording<A> {
     {
         let before = self.judge.sweeps();
         let accepted = self.judge.step(event).is_ok();
+        self.sight.follow(self.judge.configuration(), event);
         let moment = moment_of(
-            self.judge.configuration(),
+            &self.sight,
+            self.judge.configuration().net(),
             is_damage(event, accepted),
             before,
             self.judge.sweeps(),

@@ -1,0 +1,76 @@
+-- Small examples of what is seen of a world and of what an event changes of it, and some that look
+-- like them and are none.
+use Rattle.std.proofs.Common.{◌≡◌, ◌≢◌, true, false, [], ◌∷◌, None, Some, ap, refl, arith}
+use Rattle.std.proofs.lemmas.Grind.{common_steps}
+use Rattle.lock_desk.specs.Desk.{no_desk}
+use Rattle.run_model.specs.World.{World}
+use Rattle.run_model.specs.Start.{default_world}
+use Rattle.run_model.specs.Step.{with_desk}
+use Rattle.run_model.proofs.RowsTwo.{two_nodes, calm}
+use Rattle.run_recording.specs.declared.mark.Mark.TheVariants.{Settled, Privileged, Lending}
+use Rattle.run_recording.specs.declared.sight.Sight.{Sight}
+use Rattle.run_recording.specs.Seen.{is_at, look_at, look_of, mark_of_look, nothing, nowhere, place_at, sight_of, IsSightOf}
+use Rattle.run_recording.specs.SightSteps.{recounted, with_look, DiffersAt}
+
+-- ---- one node
+
+-- the child's true place is below the root
+place-child : place_at two_nodes 1 ≡ record { distance = 1; parent = Some 0 }
+place-child = refl
+
+place-no_node : place_at two_nodes 2 ≡ nowhere
+place-no_node = refl
+
+place_not-near : is_at (record { distance = 2; parent = Some 0 }) (place_at two_nodes 1) ≡ false
+place_not-near = refl
+
+look-root : look_of calm 0 ≡ record { settled = true; privileged = true; lent = None }
+look-root = refl
+
+look_not-settled : (look_of (default_world two_nodes) 1).settled ≡ false
+look_not-settled = refl
+
+look-no_node : look_at calm 2 ≡ nothing
+look-no_node = refl
+
+-- one that lends shows that, though it is privileged too
+mark-lending : mark_of_look (record { settled = true; privileged = true; lent = Some 7 }) ≡ Lending 7
+mark-lending = refl
+
+-- ---- all nodes
+
+all-calm : IsSightOf calm (sight_of calm)
+all-calm = record { is = refl }
+
+-- of two nodes that know their places one is privileged, not both
+all_not-both : ¬ (IsSightOf calm (record (sight_of calm) { privileged = 2 }))
+all_not-both h = absurd (omega (arith, ap (λ s. s.privileged) h.is))
+
+-- ---- what changes
+
+recounted-more : recounted 3 false true ≡ 4
+recounted-more = refl
+
+recounted-fewer : recounted 3 true false ≡ 2
+recounted-fewer = refl
+
+recounted_not-twice : recounted 3 true true ≢ 4
+recounted_not-twice = grind arith
+
+abbrev one : Sight
+one = record { places = nowhere ∷ []; looks = nothing ∷ []; marks = Settled ∷ []; privileged = 0; lending = 0 }
+
+-- a node that was nothing becomes privileged: its mark and the count say so
+changed-one : with_look one 0 (record { settled = true; privileged = true; lent = None })
+    ≡ record { places = nowhere ∷ []; looks = record { settled = true; privileged = true; lent = None } ∷ []; marks = Privileged ∷ []; privileged = 1; lending = 0 }
+changed-one = refl
+
+abbrev lends : World
+lends = with_desk calm 1 (record no_desk { lent = Some 7 })
+
+-- node 1 lends, and nothing else is changed
+differs-child : DiffersAt 1 calm lends
+differs-child = record { net = refl; nodes = λ u other. grind (arith, common_steps, other); nowhere = λ beyond. absurd (omega (arith, beyond)) }
+
+differs_not-root : ¬ (DiffersAt 0 calm lends)
+differs_not-root h = absurd (grind (arith, ap (λ s. s.desk.lent) (h.nodes 1 (omega arith))))
