@@ -8,4 +8,4 @@ pub mod Stretches
 pub mod Watching
 mod RowsGivenBack
 pub mod RowsMeasured
-mod RowsScheduled
+pub mod RowsScheduled

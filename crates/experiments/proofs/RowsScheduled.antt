@@ -20,7 +20,7 @@ use Rattle.experiments.specs.Shown.{scrambled, seeded}
 use Rattle.experiments.specs.Watched.{GoesOn, GoesOnBy}
 use Rattle.experiments.proofs.RowsMeasured.{lending, last_not-now}
 
-abbrev still : Lcg
+abbrev pub still : Lcg
 still = record { state = 0; increment = 1 }
 
 abbrev start : World
