@@ -1,0 +1,3 @@
+mod Directed
+mod TourWalk
+mod Walking

@@ -1,0 +1,6 @@
+pub mod Carried
+pub mod Payloads
+pub mod RingWalk
+pub mod Settled
+pub mod Stages
+pub mod TreeShown
