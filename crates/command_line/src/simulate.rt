@@ -17,6 +17,7 @@ const SIMULATE: Grammar<'static> = Grammar {
     parameters: &[
         Parameter::Place("FILE", NETWORK_FILE),
         Parameter::Place("EVENTS", EVENTS_TEXT),
+        Parameter::Flag("layers", "Show at the end what has settled, too"),
     ],
     needs: &[],
     excludes: &[],
@@ -88,6 +89,19 @@ a lease a loan ends only by a leave, so give the network one.
   privileged 0 lending 0
   sweeps 0 of 69
 
+With --layers six lines follow, which show what has settled, from the bottom up. Each is what the proof means by the word:
+
+  links 1 of 2                  so many directed links are stable, of two for each edge: the numbers of their frames count
+                                rightly, and each copy is what was sent under its number
+  stage 1 of 2                  up to which stage distances are right: at stage 1 the root's, at stage 2 those of its
+                                neighbours too, and so on; no other distance that is written is smaller than the stage
+  tree no                       whether each node has its true distance and parent, says so, and is copied so
+  ring no                       whether one token goes round: values equal to the special machine's, then only one less
+  loans yes                     whether each node that lends is privileged
+  legitimate no                 whether all links are stable, and tree, ring and loans are yes: then it serves, and stays so
+
+A line above one that is not there yet may be right by chance, and not stay. Only damage ends legitimate.
+
 The output is buffered: refusals come when the buffer is full, and at the end.
 
 Statuses: 0 done; 1 a file, memory or standard output was refused, with its fault on standard error; 2 the command line
@@ -98,5 +112,6 @@ pub fn run<R: Files + Input + Print + AllocGlobal>(
     rt: &R,
     given: &ArgMatches,
 ) -> Result<ExitCode, Refusal> {
-    Ok(simulate::run(rt, word(given, "FILE")?, word(given, "EVENTS")?)?)
+    let (network, events) = (word(given, "FILE")?, word(given, "EVENTS")?);
+    Ok(simulate::run(rt, network, events, given.get_flag("layers"))?)
 }

@@ -3,6 +3,7 @@ use Rattle.std.specs.Prelude.{◌≡◌, ℕ, List, Option, Result, Ok, Err}
 use Rattle.run_model.specs.World.{World}
 use Rattle.world.specs.declared.simulation.Summary.{Summary}
 use Rattle.world.specs.declared.simulation.SimFault.{SimFault}
+use Rattle.world.specs.LayersText.{IsLayersSimulated}
 use Rattle.world.specs.Simulating.{IsSimulated}
 use Rattle.byte_streams.specs.Streams.{Rose}
 use Rattle.command_parts.specs.declared.fault.Fault.{Fault}
@@ -28,6 +29,21 @@ abbrev pub IsDone : World → List ℕ → Option (List ℕ) → Option (List �
 IsDone start bytes rest before after (Ok summary) =
     IsSimulated start bytes rest before after (Ok summary)
 IsDone start bytes rest before after (Err fault) = IsFailed start bytes rest before after fault
+
+-- something was simulated, with the layers, and its fault is reported, or that its output was refused
+pub record HasLayersFailed (start : World) (bytes : List ℕ) (rest before after : Option (List ℕ))
+    (told : Fault) : Type 0 where
+  pub answer : Result Summary SimFault
+  pub simulated : IsLayersSimulated start bytes rest before after answer
+  pub cause : IsToldAs answer told
+
+-- these bytes were simulated, and what has settled was written too; or a fault is reported
+abbrev pub AreLayersDone : World → List ℕ → Option (List ℕ) → Option (List ℕ) → Option (List ℕ)
+    → Result Summary Fault → Type 0
+AreLayersDone start bytes rest before after (Ok summary) =
+    IsLayersSimulated start bytes rest before after (Ok summary)
+AreLayersDone start bytes rest before after (Err fault) =
+    HasLayersFailed start bytes rest before after fault
 
 -- that events cannot be read is answered only where the source's count of failures rose, and that
 -- output is refused only where the sink's rose

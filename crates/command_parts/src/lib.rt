@@ -26,5 +26,5 @@ pub use line_words::decimal_number;
 pub use network_file::{NetworkFault, network_of, read_network};
 pub use path_fault::PathFault;
 pub use progress::Progress;
-pub use simulation::{STANDARD_INPUT, events_status, simulate_between};
+pub use simulation::{STANDARD_INPUT, events_status, simulate_between, simulate_layers_between};
 pub use streams::{Flush, ReadSource, WriteSink};

@@ -2,14 +2,14 @@
 ghost use Rattle.std.specs.Prelude.{◌≡◌, ℕ, List, [], Some, ◌==◌, if◌then◌else◌, OnOk};
 ghost use Rattle.std.specs.Process.{exit_status};
 ghost use Rattle.world.specs.SimulatedText.{simulated_start};
-ghost use Rattle.command_parts.specs.Simulated.{IsCaused, IsDone};
+ghost use Rattle.command_parts.specs.Simulated.{AreLayersDone, IsCaused, IsDone};
 
 use crate::fault::Fault;
 use crate::streams::Flush;
 use std::alloc::Global;
 use std::process::ExitCode;
 use topology::Net;
-use world::simulation::{Summary, simulate};
+use world::simulation::{Summary, simulate, simulate_layers};
 use world::streams::Source;
 
 /// The name of standard input, where a file of events is wanted.
@@ -44,6 +44,35 @@ pub fn simulate_between<S: Source, W: Flush>(
         (W.failures sink.old) (W.failures sink.new) }
 {
     let simulated = simulate(alloc, net, source, sink);
+    let flushed = sink.flush();
+    let summary = simulated?;
+    match flushed {
+        Ok(()) => Ok(summary),
+        Err(_) => Err(Fault::Output),
+    }
+}
+
+/// The same, and then what has settled in the world to which the events lead, as
+/// [`simulate_layers`] writes it.
+///
+/// # Errors
+/// As those of [`simulate_between`].
+pub fn simulate_layers_between<S: Source, W: Flush>(
+    alloc: Global,
+    net: &Net,
+    source: &mut S,
+    sink: &mut W,
+) -> Result<Summary, Fault>
+    // Where both ends tell their bytes, the answer is that of a simulation of them.
+    ensures text { (bytes : List ℕ) → S.rest source.old ≡ Some bytes
+        → AreLayersDone (simulated_start net.now) bytes (S.rest source.new) (W.taken sink.old)
+        (W.taken sink.new) result }
+    ensures written { OnOk result (W.unwritten sink.new ≡ []) }
+    // A fault of the events only where the source failed, one of the output only where the sink did.
+    ensures cause { IsCaused result (S.failures source.old) (S.failures source.new)
+        (W.failures sink.old) (W.failures sink.new) }
+{
+    let simulated = simulate_layers(alloc, net, source, sink);
     let flushed = sink.flush();
     let summary = simulated?;
     match flushed {

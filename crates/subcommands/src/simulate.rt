@@ -4,6 +4,7 @@ ghost use Rattle.std.specs.Process.{exit_status};
 
 use command_parts::{
     Fault, ReadSource, STANDARD_INPUT, WriteSink, events_status, read_network, simulate_between,
+    simulate_layers_between,
 };
 use std::fs;
 use std::io::{BufWriter, Input, Read, writer};
@@ -13,7 +14,7 @@ use topology::Net;
 use world::simulation::Summary;
 
 /// Prints what the events of a file, or of standard input for `-`, lead to on the network of a
-/// file.
+/// file; with `layers`, also what has settled in the world to which they lead.
 ///
 /// # Errors
 /// Where no network is read of the file, the events cannot be read or are too long, memory runs
@@ -22,29 +23,35 @@ pub fn run<R: Files + Input + Print + AllocGlobal>(
     rt: &R,
     network: &str,
     events: &str,
+    layers: bool,
 ) -> Result<ExitCode, Fault>
     ensures { IfOk result (λ status. (exit_status status ≡ 0) ⊎ (exit_status status ≡ 3)) }
 {
     let net = read_network(rt, network)?;
     let summary = if events == STANDARD_INPUT {
-        print_simulation(rt, &net, rt.reader())?
+        print_simulation(rt, &net, rt.reader(), layers)?
     } else {
         let file = fs::open(rt, events).map_err(|_| Fault::EventsUnreadable)?;
-        print_simulation(rt, &net, file)?
+        print_simulation(rt, &net, file, layers)?
     };
     Ok(events_status(summary.refused))
 }
 
-/// Prints what the events that a reader gives lead to.
+/// Prints what the events that a reader gives lead to, and with `layers` what has settled there.
 fn print_simulation<R: Print + AllocGlobal, E: Read + Drop>(
     rt: &R,
     net: &Net,
     events: E,
+    layers: bool,
 ) -> Result<Summary, Fault> {
     let Ok(output) = BufWriter::new(rt.alloc(), writer(rt)) else {
         return Err(Fault::Memory);
     };
     let mut source = ReadSource::new(events);
     let mut sink = WriteSink::new(output);
-    simulate_between(rt.alloc(), net, &mut source, &mut sink)
+    if layers {
+        simulate_layers_between(rt.alloc(), net, &mut source, &mut sink)
+    } else {
+        simulate_between(rt.alloc(), net, &mut source, &mut sink)
+    }
 }

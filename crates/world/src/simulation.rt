@@ -9,6 +9,7 @@
 //! The events text may be as long as [`LONGEST_TEXT`] says; whatever its length, memory is taken
 //! for the network alone.
 ghost use Rattle.std.specs.Prelude.{◌≡◌, ◌≤◌, List, ℕ, Some, IfErr};
+ghost use Rattle.world.specs.LayersText.{IsLayersSimulated};
 ghost use Rattle.world.specs.Simulating.{IsSimulated, HasCause};
 ghost use Rattle.world.specs.SimulatedText.{simulated_start};
 ghost use Rattle.world.specs.StateText.{state_text};
@@ -18,11 +19,14 @@ ghost use Rattle.world.specs.declared.simulation.SimFault.TheVariants.{Write};
 
 mod line;
 mod refusal;
+mod settled;
 mod state;
 mod under_way;
 
 use byte_streams::{Sink, Source};
 use judge::World;
+use layers::layers_of;
+use settled::write_layers;
 use state::write_state;
 use std::alloc::{AllocError, Allocator};
 use thiserror::Error;
@@ -130,4 +134,39 @@ pub fn simulate<A: Allocator + Copy, N: Allocator + Copy, R: Source, W: Sink>(
     let mut simulation = Simulation::new(world);
     simulation.read_all(source, sink)?;
     simulation.finish(sink)
+}
+
+/// Runs the events of a text and writes what comes of them, as [`simulate`] does; and then, in six
+/// lines, what has settled in the world to which they lead: `links A of B`, how many directed links
+/// are stable; `stage A of B`, up to which stage the distances are right; and with `yes` or `no`
+/// `tree`, `ring`, `loans` and `legitimate`, as `layers` says it.
+///
+/// # Errors
+/// As those of [`simulate`].
+pub fn simulate_layers<A: Allocator + Copy, N: Allocator + Copy, R: Source, W: Sink>(
+    alloc: A,
+    net: &Net<N>,
+    source: &mut R,
+    sink: &mut W,
+) -> Result<Summary, SimFault>
+    // If the source says its bytes: what was read and written of them, case by case.
+    ensures text { (bytes : List ℕ) → R.rest source.old ≡ Some bytes
+        → IsLayersSimulated (simulated_start net.now) bytes (R.rest source.new)
+        (W.taken sink.old) (W.taken sink.new) result }
+    // Failures are counted, and no count falls.
+    ensures counts { (R.failures source.old ≤ R.failures source.new)
+        × (W.failures sink.old ≤ W.failures sink.new) }
+    // A fault of the source or the sink is answered only where that one failed.
+    ensures cause { HasCause result (R.failures source.old) (R.failures source.new)
+        (W.failures sink.old) (W.failures sink.new) }
+{
+    let world = World::with_spares(alloc, net, SPARE_PAIRS)?;
+    let mut simulation = Simulation::new(world);
+    simulation.read_all(source, sink)?;
+    let summary = simulation.finish(sink)?;
+    let seen = layers_of(simulation.configuration());
+    let Ok(()) = write_layers(&seen, sink) else {
+        return Err(SimFault::Write);
+    };
+    Ok(summary)
 }

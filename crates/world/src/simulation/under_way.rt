@@ -6,13 +6,14 @@ ghost use Rattle.byte_streams.specs.Streams.{CountsFailures};
 ghost use Rattle.world.specs.declared.simulation.SimFault.TheVariants.{Write};
 ghost use Rattle.world.specs.SimulatedText.{line_refusal};
 ghost use Rattle.world.specs.UnderWay.{HasSeenLine, IsUnderWay, RunsNext, RunsLast, TakesNext};
-ghost use Rattle.world.specs.UnderWay.{ReadsAll, EndsThere};
+ghost use Rattle.world.specs.UnderWay.{ReadsAll, EndsThere, HasLed};
 ghost use Rattle.configuration.specs.ConfigurationView.{world_of};
 
 use super::refusal::{UNREAD, fault_name, write_refusal};
 use super::state::write_state;
 use super::{LONGEST_TEXT, PIECE, SimFault, Summary};
 use byte_streams::{Failed, Sink, Source};
+use configuration::Configuration;
 use events_text::{EventReader, TextLine};
 use judge::{Judge, World};
 use std::alloc::{Allocator, Global};
@@ -103,6 +104,8 @@ impl<A: Allocator + Copy> Simulation<A> {
         requires { self.old.lines < 2 ^ 64 - 1 }
         // The last line counts also where no newline ended it; then comes the state.
         ensures text { EndsThere self.old (W.taken sink.old) result (W.taken sink.new) }
+        // The world is that to which all events have led.
+        ensures world { HasLed self.old (W.taken sink.old) result self.new }
         ensures failures { CountsFailures result (W.failures sink.old) (W.failures sink.new) }
         ensures err { IfErr result (λ fault. fault ≡ Write) }
     {
@@ -117,6 +120,13 @@ impl<A: Allocator + Copy> Simulation<A> {
             refused: self.refused,
             sweeps,
         })
+    }
+
+    /// The nodes and links now.
+    pub fn configuration(&self) -> &Configuration<A>
+        ensures { result.now ≡ self.now.judge.configuration }
+    {
+        self.judge.configuration()
     }
 
     /// The last line of the text, if no newline ended it.
