@@ -1,12 +1,14 @@
 -- The legs of the tour are met one after the other by whoever goes from stop to stop.
-use Rattle.std.proofs.Common.{◌≡◌, ◌∙◌, ap, sym, subst, ℕ, zero, suc, ◌+◌, ◌*◌, ◌-◌, refl, List, [], ◌∷◌, ◌++◌, length, arith}
+use Rattle.std.proofs.Common.{◌≡◌, ◌∙◌, ap, sym, subst, ℕ, zero, suc, ◌+◌, ◌*◌, ◌-◌, ◌≤◌, refl, List, [], ◌∷◌, ◌++◌, length, arith}
 use Rattle.std.proofs.lemmas.Grind.{flat_map-append}
-use Rattle.std.specs.Prelude.{flat_map}
-use Rattle.topology.specs.Network.{Network}
+use Rattle.std.specs.Prelude.{◌↔◌, flat_map}
+use Rattle.topology.specs.Network.{Network, ring_of}
+use Rattle.k_state.specs.Ring.{IsFrontThen, IsGood}
 use Rattle.euler_ring.specs.Tour.{Stop, tour}
 use Rattle.euler_ring.specs.Laws.{GoesTo, stop_after}
 use Rattle.run_model.specs.World.{World}
-use Rattle.token_ring.specs.Ring.{Leg, legs, legs_to, first_here, leg_values, token_ring}
+use Rattle.token_ring.specs.Ring.{Leg, legs, legs_to, first_here, leg_values, token_ring, IsTokenRingGood}
+use Rattle.layers.specs.RingWalk.{IsHead, IsOneLess}
 
 -- the leg that comes to a stop
 abbrev pub leg_at : Network → Stop → Leg
@@ -53,3 +55,11 @@ pub ring-walked : (w : World) (s : Stop) (rest : List Stop) → tour w.net ≡ s
     → token_ring w ≡ walked_values w s (2 * (w.net.nodes - 1))
 ring-walked w s rest begins round all =
     ap (flat_map (leg_values w)) (legs-round w.net s (tour w.net) rest begins round ∙ ap (walked_legs w.net s) all)
+
+-- so it is good exactly if these are, beside the special machine's value
+pub ring-good : (w : World) (s : Stop) (n : ℕ) → 1 ≤ n → token_ring w ≡ walked_values w s n
+    → IsTokenRingGood w ↔ IsFrontThen (IsHead ((w.node s.1).value s.0)) (IsOneLess ((w.node s.1).value s.0) (ring_of w.net)) (walked_values w s n)
+ring-good w s zero some is = absurd (omega (arith, some))
+ring-good w s (suc m) some is =
+    subst (λ xs. IsGood (ring_of w.net) xs ↔ IsFrontThen (IsHead ((w.node s.1).value s.0)) (IsOneLess ((w.node s.1).value s.0) (ring_of w.net)) (walked_values w s (suc m)))
+    (sym is) (λ a. a, λ a. a)
