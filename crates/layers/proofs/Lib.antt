@@ -1,7 +1,7 @@
-mod Carrying
 mod Directed
 mod Minimum
 mod OldestFirst
+mod Parts
 mod RowsSettled
 mod TourWalk
 mod Walking

@@ -1,5 +1,5 @@
 -- Rows: two nodes, of whom all has settled, and such of whom one thing has not.
-use Rattle.std.proofs.Common.{◌≡◌, ℕ, zero, suc, ◌+◌, ◌*◌, ◌≤◌, ◌==◌, ◌&&◌, [], ◌∷◌, true, false, IsTrue, refl, ap, arith}
+use Rattle.std.proofs.Common.{◌≡◌, ℕ, zero, suc, ◌+◌, ◌*◌, ◌≤◌, ◌==◌, ◌&&◌, [], ◌∷◌, true, false, IsTrue, refl, ap, inl, arith, rules}
 use Rattle.std.proofs.lemmas.Bool.{false≢true}
 use Rattle.std.proofs.lemmas.Bool.Decides.{nat_tests}
 use Rattle.std.specs.Prelude.{◌↔◌, if◌then◌else◌}
@@ -7,13 +7,12 @@ use Rattle.topology.specs.Tree.{distance_of}
 use Rattle.topology.specs.declared.frame.Payload.{Payload}
 use Rattle.bfs_tree.specs.Stage.{is_of_stage}
 use Rattle.link_model.specs.declared.item.Item.TheVariants.{Frame}
-use Rattle.lock_desk.specs.Desk.{no_desk}
 use Rattle.data_link.specs.Edge.{IsStable}
 use Rattle.run_model.specs.World.{World}
 use Rattle.run_model.specs.Tree.{IsTreeAtStage}
 use Rattle.run_model.specs.Project.{edge_of}
 use Rattle.run_model.proofs.RowsTwo.{two_nodes, node_with, shown, lending_desk, calm, calm-links_stable, calm-tree_reached, each-node, each-link}
-use Rattle.token_ring.proofs.RowsLegitimate.{calm-is_legitimate}
+use Rattle.token_ring.specs.Ring.{IsTokenRingGood}
 use Rattle.layers.specs.Settled.{directed_links, IsCount, Nothing, With, Without, IsLinkStable, AreStable, last_stage, IsAtStage, AreLoansPrivileged, AreLayers, all_settled}
 use Rattle.layers.specs.declared.whole.Layers.{Layers}
 use Rattle.layers.proofs.Directed.{count-full, full-count}
@@ -91,14 +90,14 @@ far-not_two t = false≢true (t.own 1 (omega arith))
 -- ---- loans
 
 calm-loans : AreLoansPrivileged calm
-calm-loans = calm-is_legitimate.desks
+calm-loans = λ v node lends. absurd cc
 
 -- node 1 lends, and node 0 alone is privileged
 abbrev unprivileged : World
 unprivileged = record {
   net = two_nodes;
   spares = 0;
-  node = λ v. node_with v (if v == 0 then no_desk else lending_desk) 0 0 0;
+  node = λ v. node_with v (if v == 0 then (calm.node 0).desk else lending_desk) 0 0 0;
   link = λ u v. [];
 }
 
@@ -106,6 +105,9 @@ loan-not_privileged : ¬ AreLoansPrivileged unprivileged
 loan-not_privileged h = false≢true (h 1 (omega arith) refl)
 
 -- ---- all layers
+
+calm-ring : IsTokenRingGood calm
+calm-ring = inl (refl, inl (refl, inl (refl, inl (refl, inl (refl, inl (refl, tt))))))
 
 abbrev all : Layers
 all = record { stable = 2; links = 2; stage = 2; last_stage = 2; tree = true; ring = true; loans = true }
@@ -116,9 +118,9 @@ calm-layers = record {
   links = refl;
   stage = calm-at_last;
   last = refl;
-  tree = (λ yes. calm-tree_reached, λ t. refl);
-  ring = (λ yes. calm-is_legitimate.ring, λ r. refl);
-  loans = (λ yes. calm-loans, λ l. refl);
+  tree = (λ holds. calm-tree_reached, λ t. refl);
+  ring = (λ holds. calm-ring, λ r. refl);
+  loans = (λ holds. calm-loans, λ l. refl);
 }
 
 -- a count that leaves out a link
@@ -129,8 +131,8 @@ calm-not_fewer h = not-one_stable h.stable
 calm-not_no_tree : ¬ AreLayers calm (record all { tree = false })
 calm-not_no_tree h = false≢true (h.tree.1 calm-tree_reached)
 
-settled-yes : all_settled all ≡ true
-settled-yes = refl
+settled-holds : all_settled all ≡ true
+settled-holds = refl
 
 settled-no : all_settled (record all { stable = 1 }) ≡ false
 settled-no = refl

@@ -9,14 +9,14 @@ use Rattle.layers.proofs.Directed.{all-both, all-first, all-second}
 -- ---- tests of both, and of either
 
 pub both : (a b : Bool) (A B : Type 0) → IsTrue a ↔ A → IsTrue b ↔ B → IsTrue (a && b) ↔ (A × B)
-both true true A B f g = (λ yes. (f.0 refl, g.0 refl), λ p. refl)
-both true false A B f g = (λ yes. absurd (cc), λ p. g.1 p.1)
-both false b A B f g = (λ yes. absurd (cc), λ p. f.1 p.0)
+both true true A B f g = (λ holds. (f.0 refl, g.0 refl), λ p. refl)
+both true false A B f g = (λ holds. absurd (cc), λ p. g.1 p.1)
+both false b A B f g = (λ holds. absurd (cc), λ p. f.1 p.0)
 
 pub one-of : (a b : Bool) (A B : Type 0) → IsTrue a ↔ A → IsTrue b ↔ B → IsTrue (a || b) ↔ (A ⊎ B)
-one-of true b A B f g = (λ yes. inl (f.0 refl), λ p. refl)
-one-of false true A B f g = (λ yes. inr (g.0 refl), λ p. refl)
-one-of false false A B f g = (λ yes. absurd (cc), λ p. elim p [ inl a ↦ f.1 a | inr b ↦ g.1 b ])
+one-of true b A B f g = (λ holds. inl (f.0 refl), λ p. refl)
+one-of false true A B f g = (λ holds. inr (g.0 refl), λ p. refl)
+one-of false false A B f g = (λ holds. absurd (cc), λ p. elim p [ inl a ↦ f.1 a | inr b ↦ g.1 b ])
 
 -- ---- a value after all others
 

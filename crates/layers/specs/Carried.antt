@@ -15,7 +15,7 @@ MayBe (Some known) other = known ≡ other
 
 -- the payloads fit some other one exactly if they are said to fit, and it is the known one
 pub record AreCarried (seq : ℕ) (staged : Payload) (seen : List (ℕ × Payload)) (c : Carried) : Type 0 where
-  pub seq : c.seq ≡ seq
-  pub staged : c.staged ≡ staged
+  pub seq_is : c.seq ≡ seq
+  pub staged_is : c.staged ≡ staged
   pub fit : (other : Payload) → AllByRecursion (IsCarried seq staged other) seen
       ↔ (IsTrue c.all × MayBe c.other other)

@@ -16,8 +16,8 @@ IsOneLess head q x = root_moved x q ≡ head
 -- the walk says of a stretch of a ring with this head whether it is good, whether all of it equals
 -- the head, and whether all of it is one less
 pub record IsWalked (head modulus : ℕ) (seen : List ℕ) (walk : RingWalk) : Type 0 where
-  pub head : walk.head ≡ head
-  pub modulus : walk.modulus ≡ modulus
+  pub head_is : walk.head ≡ head
+  pub modulus_is : walk.modulus ≡ modulus
   pub good : IsTrue walk.good ↔ IsFrontThen (IsHead head) (IsOneLess head modulus) seen
   pub all_heads : IsTrue walk.all_heads ↔ AllByRecursion (IsHead head) seen
   pub all_less : IsTrue walk.all_less ↔ AllByRecursion (IsOneLess head modulus) seen

@@ -6,7 +6,7 @@ ghost use Rattle.layers.specs.Carried.{AreCarried};
 use topology::Payload;
 
 /// What was seen of the payloads that a sender's numbers came with.
-#[derive(Clone, Copy, Debug)]
+#[derive(Clone, Copy)]
 pub struct Carried {
     /// The sender's own number.
     pub seq: u16,

@@ -11,7 +11,7 @@
 //! ```
 //!
 //! It looks at every node, and at every item under way, and takes no memory. Whoever needs one
-//! answer alone calls that function: [`is_link_stable`], [`stable_links`], [`stage`],
+//! answer alone calls that function: [`is_link_stable`], [`stable_links`], [`tree_stage`],
 //! [`is_tree_reached`], [`is_ring_good`], [`have_loans_privilege`].
 //!
 //! The trap: a layer above one that has not settled may look settled by chance, and be damaged by
@@ -19,7 +19,7 @@
 //!
 //! Sources: Dijkstra, Self-stabilizing systems in spite of distributed control, 1974; Dolev, Israeli
 //! and Moran, Distributed Computing 7, 1993; Dolev, Self-Stabilization, 2000.
-#![tactic(auto)]
+// #![tactic(auto)]
 
 mod carried;
 mod link;
@@ -31,6 +31,6 @@ mod whole;
 
 pub use link::{is_link_stable, stable_links};
 pub use ring::is_ring_good;
-pub use stage::stage;
+pub use stage::tree_stage;
 pub use tree::is_tree_reached;
 pub use whole::{Layers, have_loans_privilege, layers_of};

@@ -4,7 +4,7 @@ ghost use Rattle.k_state.specs.Machine.{root_moved};
 ghost use Rattle.layers.specs.RingWalk.{IsWalked};
 
 /// What was seen of a ring so far: a stretch of it, without a gap.
-#[derive(Clone, Copy, Debug)]
+#[derive(Clone, Copy)]
 pub struct RingWalk {
     /// The value that the ring's head has.
     pub head: u16,
@@ -43,8 +43,9 @@ impl RingWalk {
     /// The value in front of all that was seen is seen too.
     pub fn before(&mut self, x: u16)
         requires { 0 < self.old.modulus }
-        ensures { (head modulus : ℕ) (seen : List ℕ) → IsWalked head modulus seen self.old
+        ensures walked { (head modulus : ℕ) (seen : List ℕ) → IsWalked head modulus seen self.old
             → IsWalked head modulus (x ∷ seen) self.new }
+        ensures modulus { self.new.modulus ≡ self.old.modulus }
     {
         let is_head = x == self.head;
         let is_less = is_one_less(x, self.head, self.modulus);
@@ -56,8 +57,9 @@ impl RingWalk {
     /// The value after all that was seen is seen too.
     pub fn after(&mut self, x: u16)
         requires { 0 < self.old.modulus }
-        ensures { (head modulus : ℕ) (seen : List ℕ) → IsWalked head modulus seen self.old
+        ensures walked { (head modulus : ℕ) (seen : List ℕ) → IsWalked head modulus seen self.old
             → IsWalked head modulus (seen ++ x ∷ []) self.new }
+        ensures modulus { self.new.modulus ≡ self.old.modulus }
     {
         let is_head = x == self.head;
         let is_less = is_one_less(x, self.head, self.modulus);

@@ -10,7 +10,7 @@ use std::alloc::Allocator;
 
 /// Up to which stage the written distances are right, of the stages up to the last, which is the
 /// greatest distance of a node and one more. At the last stage all are right.
-pub fn stage<A: Allocator + Copy>(configuration: &Configuration<A>) -> u16
+pub fn tree_stage<A: Allocator + Copy>(configuration: &Configuration<A>) -> u16
     ensures { IsAtStage (world_of configuration.now) result }
 {
     topology::laws::joined();

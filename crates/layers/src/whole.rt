@@ -8,7 +8,7 @@ ghost use Rattle.layers.specs.Settled.{AreLayers, AreLoansPrivileged, all_settle
 
 use crate::link::stable_links;
 use crate::ring::is_ring_good;
-use crate::stage::{last_stage, stage};
+use crate::stage::{last_stage, tree_stage};
 use crate::tree::is_tree_reached;
 use configuration::Configuration;
 use std::alloc::Allocator;
@@ -41,6 +41,13 @@ impl Layers {
         ensures legitimate { (w : World) → AreLayers w self.now
             → IsTrue result ↔ IsLegitimate w }
     {
+        self.has_all_settled()
+    }
+
+    /// Whether each layer has settled.
+    fn has_all_settled(&self) -> bool
+        ensures { result ≡ all_settled self.now }
+    {
         self.stable == self.links && self.tree && self.ring && self.loans
     }
 }
@@ -54,7 +61,7 @@ pub fn layers_of<A: Allocator + Copy>(configuration: &Configuration<A>) -> Layer
     Layers {
         stable: stable_links(configuration),
         links: 2 * net.edges().len() as u16,
-        stage: stage(configuration),
+        stage: tree_stage(configuration),
         last_stage: last_stage(configuration),
         tree: is_tree_reached(configuration),
         ring: is_ring_good(configuration),

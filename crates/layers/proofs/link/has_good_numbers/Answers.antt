@@ -1,0 +1,23 @@
+use Rattle.std.proofs.Common.{rules, ◌≡◌, ◌↔◌, ◌<◌, ℕ, ◌++◌, List, IsTrue, ◌+◌, ◌-◌, ◌*◌, ◌≤◌, length, ◌/◌, ◌%◌, Bool, true, false, nat_eq, nat_lt, [], ◌∷◌, slice_index_or, slice_set, bit_and, bit_or, Fits, w8, w32, w64, Bor, MutBor}
+use Rattle.topology.specs.declared.frame.Payload.{Payload}
+use Rattle.data_link.specs.Edge.{IsStable, newest_first, link_ring, modulus_of}
+use Rattle.k_state.specs.Ring.{IsGood}
+use Rattle.run_model.specs.Project.{edge_of}
+use Rattle.configuration.specs.ConfigurationView.{world_of}
+use Rattle.layers.specs.Carried.{AreCarried}
+use Rattle.layers.specs.Payloads.{CarriesItsOwn, payloads_of}
+use Rattle.layers.specs.RingWalk.{IsWalked}
+use Rattle.layers.specs.Settled.{AreStable}
+use Rattle.layers.proofs.link.has_good_numbers.Goals as goal
+
+-- src/link.rt:50:5
+pub walk_numbers-requires-clause-modulus : goal.walk_numbers-requires-clause-modulus
+walk_numbers-requires-clause-modulus g c = ?
+
+-- src/link.rt:51:5
+pub before-requires-2 : goal.before-requires-2
+before-requires-2 g c = ?
+
+-- src/link.rt:35:1
+pub returns : goal.returns
+returns g c = ?
