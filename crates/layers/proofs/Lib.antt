@@ -3,5 +3,6 @@ mod Minimum
 mod OldestFirst
 mod Parts
 mod RowsSettled
+mod Stops
 mod TourWalk
 mod Walking

@@ -19,7 +19,7 @@
 //!
 //! Sources: Dijkstra, Self-stabilizing systems in spite of distributed control, 1974; Dolev, Israeli
 //! and Moran, Distributed Computing 7, 1993; Dolev, Self-Stabilization, 2000.
-// #![tactic(auto)]
+#![tactic(auto)]
 
 mod carried;
 mod link;
