@@ -1,0 +1,2 @@
+pub mod Stills
+pub mod Reels
