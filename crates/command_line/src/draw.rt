@@ -1,14 +1,14 @@
 //! The words of `draw`.
 ghost use Rattle.std.specs.Prelude.{IfOk, IfErr};
 ghost use Rattle.clap.specs.Matches.{found_of};
-ghost use Rattle.command_line.specs.Wanted.{IsWantedOf, IsWantedRefused, IsWindowOf, IsWindowRefused};
+ghost use Rattle.command_line.specs.Wanted.{IsFilmOf, IsFilmRefused, IsWantedOf, IsWantedRefused, IsWindowOf, IsWindowRefused};
 
 use crate::program::{EVENTS_TEXT, NETWORK_FILE};
 use crate::refusal::Refusal;
 use clap::{ArgMatches, Command};
 use command_grammar::{Grammar, Number, Parameter, number_if_given, with_command, word};
 use live_commands::draw;
-use live_commands::draw::{MOST_COLUMNS, Wanted};
+use live_commands::draw::{MOST_COLUMNS, Wanted, WantedFilm};
 use run_picture::Window;
 use std::alloc::{AllocError, Global};
 use std::io::Input;
@@ -26,9 +26,18 @@ const DRAW: Grammar<'static> = Grammar {
         Parameter::Value("columns", "N", "The most columns, 1 to 1200"),
         Parameter::Value("from", "SWEEP", "Begin where as many sweeps have ended"),
         Parameter::Value("to", "SWEEP", "End where more sweeps have ended"),
+        Parameter::Flag(
+            "film",
+            "Write a film: a picture of the network that plays in a browser",
+        ),
+        Parameter::Value(
+            "seconds",
+            "N",
+            "How long the film plays, 2 to 600 [default: 20]",
+        ),
     ],
-    needs: &[],
-    excludes: &[],
+    needs: &[("seconds", "film")],
+    excludes: &[("film", "columns")],
     choice: None,
 };
 
@@ -50,7 +59,15 @@ The events text is that of simulate. Where it has more events than there are col
 legend says, and shows the worst of them: lending over privileged over wrong. With --from and --to the picture shows
 only the moments at which that many sweeps have ended since the start.
 
+With --film it writes a picture that moves: the network, the root at the top and each node as far below as its true
+distance. In each node stands the distance that it has, and an arrow goes towards the parent that it has. A node that is
+wrong is dashed, a privileged one has two circles, one that lends a frame, and lightning shows where damage strikes. It
+plays in a browser and on pages that show pictures, holds the end for three seconds, and begins again; what plays no
+film shows the end. Moments that look alike share a still. If there are more than fit, calm stretches are shown by their
+last moment; moments with damage, or with two privileged or two lending nodes, are left out last, and the film says so.
+
   $ tokentree draw examples/two-nodes.toml examples/forged-tokens.txt > run.svg
+  $ tokentree draw examples/two-nodes.toml examples/forged-tokens.txt --film --seconds 30 > film.svg
 
 Statuses: 0 done; 1 a file, memory or standard output was refused, with its fault on standard error; 2 the command line
 was refused; 3 done, and some lines were refused.";
@@ -61,6 +78,14 @@ const COLUMNS: Number<'static> = Number {
     name: "--columns",
     least: 1,
     most: 1200,
+};
+
+/// For how many seconds a film may play.
+const SECONDS: Number<'static> = Number {
+    id: "seconds",
+    name: "--seconds",
+    least: 2,
+    most: 600,
 };
 
 /// Where a picture may begin, in sweeps.
@@ -86,7 +111,26 @@ pub fn run<R: Files + Input + Print + AllocGlobal>(
 ) -> Result<ExitCode, Refusal> {
     let network = word(given, "FILE")?;
     let events = word(given, "EVENTS")?;
+    if given.get_flag("film") {
+        return Ok(draw::run_film(rt, network, events, wanted_film(given)?)?);
+    }
     Ok(draw::run(rt, network, events, wanted(given)?)?)
+}
+
+/// What film the words of `draw` ask for.
+///
+/// # Errors
+/// If a word spells no number in its range, or the window ends before it begins.
+fn wanted_film(given: &ArgMatches) -> Result<WantedFilm, Refusal>
+    ensures ok { IfOk result (IsFilmOf (found_of given.now)) }
+    ensures err { IfErr result (IsFilmRefused (found_of given.now)) }
+{
+    let window = window(given)?;
+    let seconds = match number_if_given(given, SECONDS)? {
+        None => 20,
+        Some(seconds) => seconds as u16,
+    };
+    Ok(WantedFilm { seconds, window })
 }
 
 /// What the words of `draw` ask for.

@@ -4,6 +4,7 @@ ghost use Rattle.std.specs.Io.KnownBytes.{Appends};
 ghost use Rattle.command_parts.specs.declared.fault.Fault.TheVariants.{Output};
 
 use command_parts::{Fault, ReadSource, STANDARD_INPUT, events_status, read_network};
+use run_film::{Pace, film, record_film, spelled_scene};
 use run_picture::{Recording, Window, draw, record, spelled};
 use std::alloc::{AllocError, Global};
 use std::fs;
@@ -69,6 +70,66 @@ pub fn write_picture<S: Source, W: Write>(
         Ok(text) => put(output, text.as_slice(), events_status(recording.refused())),
         Err(_) => Err(Fault::Memory),
     }
+}
+
+/// What film a run makes.
+#[derive(Clone, Copy)]
+pub struct WantedFilm {
+    /// For how many seconds it plays, 2 to 600.
+    pub seconds: u16,
+    /// The moments that are shown.
+    pub window: Window,
+}
+
+/// Prints the film of what the events of a file, or of standard input for `-`, lead to on the
+/// network of a file, as SVG.
+///
+/// What is unproved, and the errors: as for [`run`].
+pub fn run_film<R: Files + Input + Print + AllocGlobal>(
+    rt: &R,
+    network: &str,
+    events: &str,
+    wanted: WantedFilm,
+) -> Result<ExitCode, Fault> {
+    let net = read_network(rt, network)?;
+    if events == STANDARD_INPUT {
+        let mut source = ReadSource::new(rt.reader());
+        write_film(rt.alloc(), &net, &mut source, &mut writer(rt), wanted)
+    } else {
+        let file = fs::open(rt, events).map_err(|_| Fault::EventsUnreadable)?;
+        let mut source = ReadSource::new(file);
+        write_film(rt.alloc(), &net, &mut source, &mut writer(rt), wanted)
+    }
+}
+
+/// Writes the film of what the events that a source gives lead to.
+///
+/// # Errors
+/// Where memory runs out, the source fails or gives too many bytes, or the writer fails.
+pub fn write_film<S: Source, W: Write>(
+    alloc: Global,
+    net: &Net,
+    source: &mut S,
+    output: &mut W,
+    wanted: WantedFilm,
+) -> Result<ExitCode, Fault> {
+    let pace = Pace::of(net, wanted.seconds);
+    let recording = record_film(alloc, net, source, pace.most(), wanted.window)?;
+    match film_text(alloc, net, &recording, pace) {
+        Ok(text) => put(output, text.as_slice(), events_status(recording.refused())),
+        Err(_) => Err(Fault::Memory),
+    }
+}
+
+/// The film of a recording, as a text.
+fn film_text(
+    alloc: Global,
+    net: &Net,
+    recording: &Recording,
+    pace: Pace,
+) -> Result<Vec<u8>, AllocError> {
+    let scene = film(alloc, net, recording, pace)?;
+    spelled_scene(alloc, &scene)
 }
 
 /// The picture of a recording, as a text.

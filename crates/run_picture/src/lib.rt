@@ -19,5 +19,8 @@
 mod layout;
 
 pub use layout::draw;
-pub use run_recording::{Before, Column, Mark, Recording, Strip, Window, first_visits, record};
+pub use run_recording::{
+    Before, Column, Look, Mark, Place, Recording, Still, Strip, Window, first_visits, record,
+    record_film,
+};
 pub use svg_drawing::{Attribute, Drawing, Element, spelled};

@@ -2,6 +2,7 @@ pub mod Marks
 pub mod Columns
 pub mod Strips
 pub mod Marking
+pub mod Sights
 pub mod Recordings
 pub mod Visits
 pub mod RunsOfMarks

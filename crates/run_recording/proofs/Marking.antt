@@ -1,25 +1,45 @@
--- Marks written one after the other.
-use Rattle.std.proofs.Common.{◌≡◌, ap, refl, ℕ, zero, suc, ◌+◌, ◌<◌, List, [], ◌∷◌, ◌++◌, length, take, slice_set, arith}
+-- Places of an array written one after the other.
+use Rattle.std.proofs.Common.{◌≡◌, ap, refl, ℕ, zero, suc, ◌+◌, ◌<◌, List, [], ◌∷◌, ◌++◌, length, take, map, get_or, slice_set, arith}
 use Rattle.std.proofs.lemmas.Grind.{common_steps}
-use Rattle.run_recording.specs.declared.mark.Mark.{Mark}
+use Rattle.film_stills.specs.declared.look.Look.{Look}
+use Rattle.run_recording.specs.Seen.{mark_of_look}
 
--- the first marks, where the one after them is written
-suc_written : (marks : List Mark) (v : ℕ) (m : Mark) → v < length marks → take (suc v) (slice_set marks v m) ≡ take v marks ++ m ∷ []
+-- the first items, where the one after them is written
+suc_written : {X : Type 0} (items : List X) (v : ℕ) (m : X) → v < length items → take (suc v) (slice_set items v m) ≡ take v items ++ m ∷ []
 suc_written [] v m room = grind (arith, common_steps)
-suc_written (a ∷ marks) zero m room = refl
-suc_written (a ∷ marks) (suc v) m room = ap (λ xs. a ∷ xs) (suc_written marks v m (omega (arith, room)))
+suc_written (a ∷ items) zero m room = refl
+suc_written (a ∷ items) (suc v) m room = ap (λ xs. a ∷ xs) (suc_written items v m (omega (arith, room)))
 
-pub first_written : (marks : List Mark) (v : ℕ) (m : Mark) → v < length marks → take (v + 1) (slice_set marks v m) ≡ take v marks ++ m ∷ []
-first_written marks v m room =
+pub first_written : {X : Type 0} (items : List X) (v : ℕ) (m : X) → v < length items → take (v + 1) (slice_set items v m) ≡ take v items ++ m ∷ []
+first_written items v m room =
     let next : v + 1 ≡ suc v = omega arith in
-    rw next (suc_written marks v m room)
+    rw next (suc_written items v m room)
 
 -- they are still as many
-pub written-length : (marks : List Mark) (v : ℕ) (m : Mark) → length (slice_set marks v m) ≡ length marks
-written-length marks v m = grind (arith, common_steps)
+pub written-length : {X : Type 0} (items : List X) (v : ℕ) (m : X) → length (slice_set items v m) ≡ length items
+written-length items v m = grind (arith, common_steps)
 
 -- where as many are taken as there are, all are
-pub all_taken : (marks : List Mark) (n : ℕ) → length marks ≡ n → take n marks ≡ marks
+pub all_taken : {X : Type 0} (items : List X) (n : ℕ) → length items ≡ n → take n items ≡ items
 all_taken [] n all = grind (arith, common_steps)
-all_taken (a ∷ marks) zero all = grind (arith, common_steps)
-all_taken (a ∷ marks) (suc n) all = ap (λ xs. a ∷ xs) (all_taken marks n (omega (arith, all)))
+all_taken (a ∷ items) zero all = grind (arith, common_steps)
+all_taken (a ∷ items) (suc n) all = ap (λ xs. a ∷ xs) (all_taken items n (omega (arith, all)))
+
+-- ---- the marks of looks
+
+-- one mark more is that of one look more
+suc_marked : (looks : List Look) (v : ℕ) (d : Look) → v < length looks
+    → take (suc v) (map mark_of_look looks) ≡ take v (map mark_of_look looks) ++ mark_of_look (get_or looks v d) ∷ []
+suc_marked [] v d there = grind (arith, common_steps)
+suc_marked (a ∷ looks) zero d there = refl
+suc_marked (a ∷ looks) (suc v) d there = ap (λ xs. mark_of_look a ∷ xs) (suc_marked looks v d (omega (arith, there)))
+
+pub marked_more : (looks : List Look) (v : ℕ) (d : Look) → v < length looks
+    → take (v + 1) (map mark_of_look looks) ≡ take v (map mark_of_look looks) ++ mark_of_look (get_or looks v d) ∷ []
+marked_more looks v d there =
+    let next : v + 1 ≡ suc v = omega arith in
+    rw next (suc_marked looks v d there)
+
+-- they are as many
+pub marked-length : (looks : List Look) → length (map mark_of_look looks) ≡ length looks
+marked-length looks = grind (arith, common_steps)

@@ -13,7 +13,8 @@ use Rattle.run_recording.specs.declared.runs.Run.{Run}
 use Rattle.run_recording.specs.declared.window.Window.{Window}
 use Rattle.run_recording.specs.Columns.{folded, is_even, last_folded, with_last, worse_column, worst}
 use Rattle.run_recording.specs.Marks.{worse, worse_marks}
-use Rattle.run_recording.specs.Recordings.{is_held, moment_of}
+use Rattle.run_recording.specs.Held.{is_held}
+use Rattle.run_recording.specs.Recordings.{moment_of}
 use Rattle.run_recording.specs.Runs.{AreApart, EndIn, longer, mark_in, StandFrom}
 use Rattle.run_recording.specs.Seen.{is_settled, mark_at, mark_of}
 use Rattle.run_recording.specs.Strips.{StripView, Shows}

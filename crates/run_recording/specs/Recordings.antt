@@ -1,5 +1,5 @@
 -- What is seen of a run, moment by moment.
-use Rattle.std.specs.Prelude.{◌≡◌, ℕ, ◌+◌, ◌==◌, ◌&&◌, Bool, false, not, nat_lt, if◌then◌else◌, List, [], ◌∷◌, ◌++◌, length}
+use Rattle.std.specs.Prelude.{◌≡◌, ℕ, ◌+◌, ◌==◌, ◌&&◌, Bool, false, not, nat_lt, if◌then◌else◌, List, [], ◌∷◌, ◌++◌, length, Option}
 use Rattle.topology.specs.Network.{bound_of}
 use Rattle.topology.specs.Eccentricity.{sharp_of}
 use Rattle.run_model.specs.World.{World}
@@ -9,13 +9,19 @@ use Rattle.run_model.specs.Count.{IsSweepCount}
 use Rattle.run_model.specs.declared.event.Event.{Event}
 use Rattle.byte_lines.specs.Kept.{Kept, StandsAfter}
 use Rattle.events_text.specs.EventsText.{ended_lines}
+use Rattle.configuration.specs.ConfigurationView.{world_of}
 use Rattle.world.specs.judge.JudgeView.{JudgeView, HasSeen}
 use Rattle.world.specs.judge.Judging.{counted_up_to}
 use Rattle.world.specs.SimulatedText.{told_events}
 use Rattle.run_recording.specs.declared.column.Column.{Column}
 use Rattle.run_recording.specs.declared.recording.Before.{Before}
 use Rattle.run_recording.specs.declared.window.Window.{Window}
-use Rattle.run_recording.specs.Seen.{marks_of}
+use Rattle.run_recording.specs.declared.sight.Sight.{Sight}
+use Rattle.film_stills.specs.declared.still.Still.{Still}
+use Rattle.film_stills.specs.Reels.{ReelView}
+use Rattle.run_recording.specs.Held.{is_held}
+use Rattle.run_recording.specs.Filmed.{AreFilmed, IsReeled}
+use Rattle.run_recording.specs.Seen.{marks_of, sight_of}
 use Rattle.run_recording.specs.Strips.{StripView, Shows}
 
 -- What is seen of a world at a moment, at which the sweeps since the last damage have become
@@ -31,10 +37,6 @@ moment_of w damaged before after = record {
   sharp = nat_lt before after && (after == sharp_of w.net);
   bound = nat_lt before after && (after == bound_of w.net);
 }
-
--- a moment is shown where as many sweeps have ended since the start as the window holds
-abbrev pub is_held : Window → ℕ → Bool
-is_held window ended = not (nat_lt ended window.from) && not (nat_lt window.to ended)
 
 abbrev pub shown_if : Window → ℕ → Column → List Column
 shown_if window ended moment = if is_held window ended then moment ∷ [] else []
@@ -77,13 +79,15 @@ abbrev pub IsBeforeAny : Window → World → List Event → List Column → Bef
 IsBeforeAny window start es [] before = Unit {0}
 IsBeforeAny window start es (moment ∷ moments) before = IsBefore window start es before
 
--- what contracts see of what is kept of a run: its judge, what is kept of the line under way, the
--- columns, the window, the sweeps that have ended, how many events there were, how many lines
+-- what contracts see of what is kept of a run: its judge, what is seen of the nodes now, what is kept
+-- of the line under way, the columns, the stills of a film, if one is made, the window, the sweeps that have ended, how many events there were, how many lines
 -- spelled none, and what was before the first moment shown
 pub record RecordingView : Type 0 where
   pub judge : JudgeView
+  pub sight : Sight
   pub reader : Kept
   pub strip : StripView
+  pub reel : Option ReelView
   pub window : Window
   pub ended : ℕ
   pub events : ℕ
@@ -94,9 +98,13 @@ pub record RecordingView : Type 0 where
 -- what was before the first of them
 pub record IsRecorded (start : World) (es : List Event) (r : RecordingView) : Type 0 where
   pub seen : HasSeen r.judge start es
+  pub sight_is : r.sight ≡ sight_of (world_of r.judge.configuration)
   pub moments : List Column
   pub are : AreMoments r.window start es r.ended moments
   pub shown : Shows r.strip moments
+  pub stills : List Still
+  pub filmed : AreFilmed r.window start es r.ended stills
+  pub reeled : IsReeled r.reel stills
   pub events_are : r.events ≡ length es
   pub before_is : IsBeforeAny r.window start es moments r.before
 

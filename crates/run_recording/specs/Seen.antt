@@ -1,17 +1,26 @@
 -- What is seen of the nodes of a world.
-use Rattle.std.specs.Prelude.{ℕ, Bool, true, false, ◌==◌, ◌&&◌, if◌then◌else◌, nat_lt, List, Option, None, Some, map}
+use Rattle.std.specs.Prelude.{◌≡◌, ◌≢◌, ℕ, ◌+◌, ◌-◌, Bool, true, false, ◌==◌, ◌&&◌, if◌then◌else◌, nat_lt, is_some, List, Option, None, Some, map, slice_set, slice_index_or}
 use Rattle.std.specs.List.{range_with_len}
+use Rattle.topology.specs.Network.{Network}
 use Rattle.topology.specs.Tree.{distance_of, parent_of}
 use Rattle.run_model.specs.World.{World}
 use Rattle.run_model.specs.Privilege.{is_privileged}
+use Rattle.run_model.specs.NodeCounts.{privileged_count, lending_count}
 use Rattle.run_recording.specs.declared.mark.Mark.{Mark}
 use Rattle.run_recording.specs.declared.mark.Mark.TheVariants.{Settled, Wrong, Privileged, Lending}
+use Rattle.film_stills.specs.declared.look.Look.{Look}
+use Rattle.film_stills.specs.declared.look.Place.{Place}
+use Rattle.run_recording.specs.declared.sight.Sight.{Sight}
 
 -- both are nobody, or both are the same node
 abbrev pub is_same : Option ℕ → Option ℕ → Bool
 is_same None None = true
 is_same (Some v) (Some w) = v == w
 is_same _ _ = false
+
+-- both are the same place
+abbrev pub is_at : Place → Place → Bool
+is_at a b = (a.distance == b.distance) && is_same a.parent b.parent
 
 -- a node's distance and parent are the true ones
 abbrev pub is_settled : World → ℕ → Bool
@@ -33,3 +42,58 @@ mark_at w v = if nat_lt v w.net.nodes then mark_of w v else Settled
 -- the marks of all ids
 abbrev pub marks_of : World → List Mark
 marks_of w = map (mark_at w) (range_with_len 0 64)
+
+-- ---- the nodes one by one
+
+-- the true place of a node; of an id that is no node's, the distance 0 and no parent
+abbrev pub place_of : Network → ℕ → Place
+place_of net v = record { distance = distance_of net v; parent = parent_of net v }
+
+abbrev pub nowhere : Place
+nowhere = record { distance = 0; parent = None }
+
+abbrev pub place_at : Network → ℕ → Place
+place_at net v = if nat_lt v net.nodes then place_of net v else nowhere
+
+-- the true places of all ids
+abbrev pub places_of : Network → List Place
+places_of net = map (place_at net) (range_with_len 0 64)
+
+-- what is seen of a node, by its true place
+abbrev pub look_by : World → Place → ℕ → Look
+look_by w place v = record {
+  own = record { distance = (w.node v).distance; parent = (w.node v).parent };
+  settled = is_at (record { distance = (w.node v).distance; parent = (w.node v).parent }) place;
+  privileged = is_privileged w v;
+  lent = (w.node v).desk.lent;
+}
+
+-- what is seen of a node: the distance and the parent that it has, whether they are the true ones,
+-- whether it is privileged, and to whom it lends
+abbrev pub look_of : World → ℕ → Look
+look_of w v = look_by w (place_of w.net v) v
+
+-- what is seen where there is no node
+abbrev pub nothing : Look
+nothing = record { own = nowhere; settled = true; privileged = false; lent = None }
+
+abbrev pub look_at : World → ℕ → Look
+look_at w v = if nat_lt v w.net.nodes then look_of w v else nothing
+
+-- what is seen of all ids
+abbrev pub looks_of : World → List Look
+looks_of w = map (look_at w) (range_with_len 0 64)
+
+-- the mark of what is seen
+abbrev pub mark_of_look : Look → Mark
+mark_of_look look = lending_or look.lent (if look.privileged then Privileged else if look.settled then Settled else Wrong)
+
+-- what is seen of a world at one moment
+abbrev pub sight_of : World → Sight
+sight_of w = record {
+  places = places_of w.net;
+  looks = looks_of w;
+  marks = marks_of w;
+  privileged = privileged_count w;
+  lending = lending_count w;
+}

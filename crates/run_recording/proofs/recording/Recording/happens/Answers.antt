@@ -1,7 +1,9 @@
-use Rattle.std.proofs.Common.{◌∙◌, ◌==◌, ap, sym, refl, length, [], ◌∷◌, ◌++◌}
+use Rattle.std.proofs.Common.{◌≡◌, ◌∙◌, ◌==◌, ap, sym, refl, length, [], ◌∷◌, ◌++◌, Some}
 use Rattle.run_model.specs.Run.{run, is_damage}
 use Rattle.configuration.specs.ConfigurationView.{world_of}
 use Rattle.run_recording.specs.Recordings.{moment_of}
+use Rattle.run_recording.specs.Seen.{sight_of}
+use Rattle.run_recording.specs.Filmed.{IsReeled, filmed_if, still_of, take_of}
 use Rattle.run_recording.proofs.Recordings.{accepted_is, recorded_more}
 use Rattle.run_recording.proofs.recording.Recording.happens.Goals as goal
 
@@ -11,16 +13,21 @@ returns-clause-records g c =
     let e = c.args.event.now in
     let now = rw (← c.self.view_is) at h in
     let before = c.sweeps-before.result in
-    let after = c.sweeps.result in
+    let after = c.sweeps-sweeps.result in
+    let world = run start (es ++ e ∷ []) in
     let seen = c.step.ensures.judging start es now.seen in
     let accepted = accepted_is c.step.result _ c.step.ensures.ok c.step.ensures.err ∙ sym c.is_ok-accepted.ensures.value in
-    let damaged = c.is_damage.ensures (world_of c.self.inside.judge.configuration) accepted ∙ ap (λ w. is_damage w e) now.seen.judging.now_is in
+    let damaged = c.is_damage-damaged.ensures (world_of c.self.inside.judge.configuration) accepted ∙ ap (λ w. is_damage w e) now.seen.judging.now_is in
+    let there = ap world_of c.configuration.ensures in
+    let seen_now = c.follow.ensures (world_of c.self.inside.judge.configuration) now.sight_is (there ∙ c.step.ensures.world) in
+    let sight_is = seen_now ∙ ap sight_of there in
+    let sight = sight_is ∙ ap sight_of seen.judging.now_is in
+    let net = c.net.ensures ∙ ap (λ k. (world_of k).net) c.configuration-2.ensures ∙ ap (λ w. w.net) seen.judging.now_is in
     let moment_is =
-    c.moment_of-moment.ensures
-    ∙ ap (λ k. moment_of (world_of k) c.is_damage.result before after) c.configuration.ensures
-    ∙ ap (λ w. moment_of w c.is_damage.result before after) seen.judging.now_is
-    ∙ ap (λ d. moment_of (run start (es ++ e ∷ [])) d before after) damaged in
+    c.moment_of-moment.ensures world sight net
+    ∙ ap (λ d. moment_of world d before after) damaged in
     let empty = c.is_empty.ensures ∙ ap (λ xs. length xs == 0) c.columns.ensures in
+    let kept = c.keep_still.ensures.shows world now.stills sight now.reeled in
     recorded_more start es e _ _ before after c.moment_of-moment.result _ now seen (c.sweeps-before.ensures.sweeps start es now.seen)
-    (c.sweeps.ensures.sweeps start (es ++ e ∷ []) seen) moment_is refl c.saturating_add-self-inside.ensures
-    (c.keep.ensures.shows now.moments now.shown) refl empty c.now_where-self-inside.ensures
+    (c.sweeps-sweeps.ensures.sweeps start (es ++ e ∷ []) seen) moment_is refl c.saturating_add-self-inside.ensures
+    (c.keep.ensures.shows now.moments now.shown) refl empty c.now_where-self-inside.ensures sight_is (rw damaged at kept)

@@ -1,20 +1,29 @@
-use Rattle.std.proofs.Common.{◌∙◌, ap, refl, [], false}
+use Rattle.std.proofs.Common.{◌≡◌, ◌∙◌, ap, refl, [], false, None}
 use Rattle.configuration.specs.ConfigurationView.{world_of}
-use Rattle.run_recording.specs.Recordings.{moment_of}
+use Rattle.run_recording.specs.Seen.{sight_of}
+use Rattle.run_recording.specs.Filmed.{IsReeled, filmed_if, still_of, take_of}
 use Rattle.run_recording.proofs.Recordings.{begun}
 use Rattle.run_recording.proofs.recording.Recording.new.Goals as goal
 
 pub returns-clause-recorded : goal.returns-clause-recorded
 returns-clause-recorded g c =
-    let moment_is =
-    c.moment_of-start.ensures ∙ ap (λ k. moment_of (world_of k) false 0 0) (c.configuration.ensures ∙ c.new-judge.ensures.configuration) in
-    begun (world_of c.args.world) _ c.moment_of-start.result c.new-judge.ensures.judging refl refl refl refl moment_is (c.keep.ensures.shows [] c.requires)
+    let w = world_of c.args.world in
+    let sight : c.of-sight.result ≡ sight_of w = c.of-sight.ensures ∙ ap (λ k. sight_of (world_of k)) (c.configuration.ensures ∙ c.new-judge.ensures.configuration) in
+    let now : c.of-sight.result ≡ sight_of (world_of c.new-judge.result.configuration) = c.of-sight.ensures ∙ ap (λ k. sight_of (world_of k)) c.configuration.ensures in
+    let net = c.net.ensures ∙ ap (λ k. (world_of k).net) (c.configuration-2.ensures ∙ c.new-judge.ensures.configuration) in
+    let moment_is = c.moment_of-start.ensures w sight net in
+    begun w _ c.moment_of-start.result c.new-judge.ensures.judging refl refl refl refl moment_is (c.keep.ensures.shows [] c.requires.strip) now
+    (c.keep_still.ensures.shows w [] sight c.requires.reel)
 
 pub returns-clause-reading : goal.returns-clause-reading
 returns-clause-reading g c =
-    let moment_is =
-    c.moment_of-start.ensures ∙ ap (λ k. moment_of (world_of k) false 0 0) (c.configuration.ensures ∙ c.new-judge.ensures.configuration) in
+    let w = world_of c.args.world in
+    let sight : c.of-sight.result ≡ sight_of w = c.of-sight.ensures ∙ ap (λ k. sight_of (world_of k)) (c.configuration.ensures ∙ c.new-judge.ensures.configuration) in
+    let now : c.of-sight.result ≡ sight_of (world_of c.new-judge.result.configuration) = c.of-sight.ensures ∙ ap (λ k. sight_of (world_of k)) c.configuration.ensures in
+    let net = c.net.ensures ∙ ap (λ k. (world_of k).net) (c.configuration-2.ensures ∙ c.new-judge.ensures.configuration) in
+    let moment_is = c.moment_of-start.ensures w sight net in
     record {
       stands = c.new.ensures;
-      recorded = begun (world_of c.args.world) _ c.moment_of-start.result c.new-judge.ensures.judging refl refl refl refl moment_is (c.keep.ensures.shows [] c.requires);
+      recorded = begun w _ c.moment_of-start.result c.new-judge.ensures.judging refl refl refl refl moment_is (c.keep.ensures.shows [] c.requires.strip) now
+          (c.keep_still.ensures.shows w [] sight c.requires.reel);
     }

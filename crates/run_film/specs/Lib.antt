@@ -1,0 +1,3 @@
+pub mod Beats
+pub mod Tracks
+pub mod Films

@@ -1,0 +1,218 @@
+//! What is seen of all nodes, kept up to date event by event.
+ghost use Rattle.std.specs.Prelude.{◌≡◌, ◌<◌, map};
+ghost use Rattle.configuration.specs.ConfigurationView.{world_of};
+ghost use Rattle.run_model.specs.World.{World};
+ghost use Rattle.run_model.specs.Step.{step};
+ghost use Rattle.run_recording.specs.Seen.{place_at, places_of, look_at, looks_of};
+ghost use Rattle.run_recording.specs.Seen.{is_same, is_at, look_by, mark_of_look, sight_of};
+ghost use Rattle.run_recording.specs.SightSteps.{DiffersAt, recounted, with_look};
+
+use crate::mark::Mark;
+use configuration::Configuration;
+use film_stills::{Look, Place};
+use run_model::Event;
+use std::alloc::Allocator;
+use topology::Net;
+
+/// What is seen of all nodes at one moment, by their ids.
+///
+/// It is kept from event to event, since most events change the look of one node at most, and none
+/// but damage changes the true places.
+#[derive(Clone, Copy)]
+pub struct Sight {
+    /// The true places.
+    pub places: [Place; 64],
+    /// What is seen of each node.
+    pub looks: [Look; 64],
+    /// The marks of these looks.
+    pub marks: [Mark; 64],
+    /// How many nodes are privileged.
+    pub privileged: usize,
+    /// How many nodes lend.
+    pub lending: usize,
+}
+
+/// Whether both are nobody, or both are the same node.
+fn is_same(parent: Option<u16>, other: Option<u16>) -> bool
+    ensures { result ≡ is_same parent other }
+{
+    match (parent, other) {
+        (None, None) => true,
+        (Some(v), Some(w)) => v == w,
+        _ => false,
+    }
+}
+
+/// Whether both are the same place.
+fn is_at(own: Place, place: Place) -> bool
+    ensures { result ≡ is_at own place }
+{
+    own.distance == place.distance && is_same(own.parent, place.parent)
+}
+
+/// What a node shows, whose true place is given.
+fn look_by<A: Allocator + Copy>(configuration: &Configuration<A>, place: Place, v: u16) -> Look
+    requires { v < (world_of configuration.now).net.nodes }
+    ensures { result ≡ look_by (world_of configuration.now) place v }
+{
+    let node = configuration.node(v);
+    let own = Place {
+        distance: node.distance(),
+        parent: node.parent(),
+    };
+    Look {
+        own,
+        settled: is_at(own, place),
+        privileged: node.privileged(),
+        lent: node.lent(),
+    }
+}
+
+/// The mark of a look.
+fn mark_of(look: Look) -> Mark
+    ensures { result ≡ mark_of_look look }
+{
+    match look.lent {
+        Some(ticket) => Mark::Lending { ticket },
+        None if look.privileged => Mark::Privileged,
+        None if look.settled => Mark::Settled,
+        None => Mark::Wrong,
+    }
+}
+
+/// The true place at an id.
+fn place_at<A: Allocator + Copy>(net: &Net<A>, v: u16) -> Place
+    ensures { result ≡ place_at net.now v }
+{
+    if v < net.nodes() {
+        Place {
+            distance: net.distance(v),
+            parent: net.parent(v),
+        }
+    } else {
+        Place::NOWHERE
+    }
+}
+
+/// The true places of all ids.
+fn places_of<A: Allocator + Copy>(net: &Net<A>) -> [Place; 64]
+    ensures { result ≡ places_of net.now }
+{
+    let mut places = [Place::NOWHERE; 64];
+    for v in 0..64 {
+        places[usize::from(v)] = place_at(net, v);
+    }
+    places
+}
+
+/// What is seen at an id.
+fn look_at<A: Allocator + Copy>(
+    configuration: &Configuration<A>,
+    places: &[Place; 64],
+    v: u16,
+) -> Look
+    requires { v < 64 }
+    ensures { places.now ≡ places_of (world_of configuration.now).net
+        → result ≡ look_at (world_of configuration.now) v }
+{
+    if v < configuration.net().nodes() {
+        look_by(configuration, places[usize::from(v)], v)
+    } else {
+        Look::NOTHING
+    }
+}
+
+/// What is seen of all ids.
+fn looks_of<A: Allocator + Copy>(
+    configuration: &Configuration<A>,
+    places: &[Place; 64],
+) -> [Look; 64]
+    ensures { places.now ≡ places_of (world_of configuration.now).net
+        → result ≡ looks_of (world_of configuration.now) }
+{
+    let mut looks = [Look::NOTHING; 64];
+    for v in 0..64 {
+        looks[usize::from(v)] = look_at(configuration, places, v);
+    }
+    looks
+}
+
+/// The marks of looks.
+fn marks_of(looks: &[Look; 64]) -> [Mark; 64]
+    ensures { result ≡ map mark_of_look looks.now }
+{
+    let mut marks = [Mark::Settled; 64];
+    for v in 0..64 {
+        marks[v] = mark_of(looks[v]);
+    }
+    marks
+}
+
+/// A count of nodes, after one of them was or was not counted, and now is or is not.
+fn recounted(count: usize, was: bool, is: bool) -> usize
+    ensures { result ≡ recounted count was is }
+{
+    match (was, is) {
+        (false, true) => count.saturating_add(1),
+        (true, false) => count.saturating_sub(1),
+        _ => count,
+    }
+}
+
+impl Sight {
+    /// What is seen of a configuration.
+    pub fn of<A: Allocator + Copy>(configuration: &Configuration<A>) -> Sight
+        ensures { result ≡ sight_of (world_of configuration.now) }
+    {
+        let places = places_of(configuration.net());
+        let looks = looks_of(configuration, &places);
+        Sight {
+            places,
+            looks,
+            marks: marks_of(&looks),
+            privileged: configuration.privileged(),
+            lending: configuration.lending(),
+        }
+    }
+
+    /// What is seen after an event led to this configuration, if that before it was seen. It looks
+    /// at one node at most, but for damage.
+    pub fn follow<A: Allocator + Copy>(&mut self, configuration: &Configuration<A>, event: &Event)
+        ensures { (w : World) → self.old ≡ sight_of w
+            → world_of configuration.now ≡ step w event.now
+            → self.new ≡ sight_of (world_of configuration.now) }
+    {
+        match *event {
+            Event::Send { .. } => {}
+            Event::Lose { .. } => {}
+            Event::Take { to, .. } => self.look_again(configuration, to),
+            Event::Tick { node } => self.look_again(configuration, node),
+            Event::Ask { node, .. } => self.look_again(configuration, node),
+            Event::Leave { node, .. } => self.look_again(configuration, node),
+            Event::Damage(_) => *self = Sight::of(configuration),
+        }
+    }
+
+    /// What is seen after only this node changed.
+    fn look_again<A: Allocator + Copy>(&mut self, configuration: &Configuration<A>, v: u16)
+        ensures { (w : World) → self.old ≡ sight_of w → DiffersAt v w (world_of configuration.now)
+            → self.new ≡ sight_of (world_of configuration.now) }
+    {
+        if v < configuration.net().nodes() {
+            let place = usize::from(v);
+            self.put(place, look_by(configuration, self.places[place], v));
+        }
+    }
+
+    /// A node has another look.
+    fn put(&mut self, v: usize, look: Look)
+        requires { v < 64 }
+        ensures { self.new ≡ with_look self.old v look }
+    {
+        let was = self.looks[v];
+        self.privileged = recounted(self.privileged, was.privileged, look.privileged);
+        self.lending = recounted(self.lending, was.lent.is_some(), look.lent.is_some());
+        self.marks[v] = mark_of(look);
+        self.looks[v] = look;
+    }
+}
