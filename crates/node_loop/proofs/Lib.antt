@@ -9,6 +9,8 @@ pub mod Turning
 pub mod Loose
 pub mod Accounts
 pub mod Lives
+pub mod Saying
+pub mod Rooms
 pub mod Arrivals
 mod Rows
 mod RowsTurns
@@ -16,3 +18,4 @@ mod RowsRemembering
 mod RowsLives
 mod RowsPorts
 mod RowsVisitors
+mod RowsSaid

@@ -1,5 +1,5 @@
 -- Clients that live on, one call after the other.
-use Rattle.std.proofs.Common.{◌≡◌, ◌≢◌, ◌⊎◌, ◌<◌, ◌∙◌, ◌&&◌, ◌==◌, not, ℕ, Bool, true, false, List, Option, None, Some, refl, sym, subst, ap, inl, inr, arith}
+use Rattle.std.proofs.Common.{◌≡◌, ◌≢◌, ◌⊎◌, ◌<◌, ◌∙◌, ◌&&◌, ◌==◌, not, ℕ, Bool, true, false, List, [], Option, None, Some, refl, sym, subst, ap, inl, inr, arith}
 use Rattle.std.specs.Prelude.{is_some, IsSome}
 use Rattle.std.proofs.lemmas.Grind.{common_steps}
 use Rattle.std.proofs.lemmas.Bool.Decides.{nat_tests}
@@ -10,7 +10,7 @@ use Rattle.socket_links.specs.Counts.{Counts}
 use Rattle.socket_links.specs.declared.pipe.ReadAnswer.TheVariants as read
 use Rattle.node_loop.specs.declared.clients.Client.{Client}
 use Rattle.node_loop.specs.declared.clients.Clients.{Clients}
-use Rattle.node_loop.specs.Clients.{is_connected}
+use Rattle.node_loop.specs.Clients.{answers_of, is_connected}
 use Rattle.node_loop.proofs.Speaking.{apart}
 use Rattle.node_loop.specs.Lives.{Lives, Stays, Gave, Gives_later, Then, LivesAt, LiveOn, ReadsAt, OthersStay, Admits, StillLive, FailsAt}
 
@@ -18,7 +18,7 @@ one-of-three : (t k : ℕ) → (t ≡ k) ⊎ ((t < k) ⊎ (k < t))
 one-of-three t k = grind arith
 
 -- a ticket is this one or another
-tested : (t k : ℕ) → (t ≡ k) ⊎ (t ≢ k)
+pub tested : (t k : ℕ) → (t ≡ k) ⊎ (t ≢ k)
 tested t k =
     elim (one-of-three t k) [
       | inl same ↦ inl same
@@ -26,9 +26,17 @@ tested t k =
       | inr (inr more) ↦ inr (λ same. apart k t more (sym same))
     ]
 
-nobody : {X : Type 0} (x : Option X) → is_some x ≡ false → x ≡ None
+pub nobody : {X : Type 0} (x : Option X) → is_some x ≡ false → x ≡ None
 nobody None e = refl
 nobody (Some c) e = grind (arith, e)
+
+both-ways : (b : Bool) → b ≡ true → b ≡ false → ⊥
+both-ways true p q = absurd cc
+both-ways false p q = absurd cc
+
+is-or-not : (b : Bool) → (b ≡ true) ⊎ (b ≡ false)
+is-or-not true = inl refl
+is-or-not false = inr refl
 
 module _ {P : Type 0} (gave took : P → Option (List ℕ)) (counts : P → Counts) where
   pub stays-at : (x : Option (Client P)) → LivesAt gave took counts x x
@@ -107,28 +115,41 @@ module _ {P A : Type 0} where
 module _ {P A : Type 0} where
   -- nobody came
   pub admits-none : (clients : Clients P A) → Admits clients clients
-  admits-none clients t was = refl
+  admits-none clients t = (λ was. (refl, refl), λ n y. absurd (both-ways (is_connected clients t) y n))
 
   connected-still : (a b : Clients P A) (t : ℕ) → Admits a b → is_connected a t ≡ true → is_connected b t ≡ true
-  connected-still a b t f was = ap (λ x. is_some x) (f t was) ∙ was
+  connected-still a b t f was = ap (λ x. is_some x) ((f t).0 was).0 ∙ was
 
   -- some came, and then some more
   pub admits-join : (a b c : Clients P A) → Admits a b → Admits b c → Admits a c
-  admits-join a b c f g t was = g t (connected-still a b t f was) ∙ f t was
+  admits-join a b c f g t = (
+    λ was. (let more = (g t).0 (connected-still a b t f was) in let first = (f t).0 was in (more.0 ∙ first.0, more.1 ∙ first.1)),
+    λ n y.
+        elim (is-or-not (is_connected b t)) [
+          | inl there ↦ ((g t).0 there).1 ∙ (f t).1 n there
+          | inr none ↦ (g t).1 none y
+        ],
+  )
 
   -- one came, to a ticket that was free
-  pub admits-one : (k : ℕ) (old new : Clients P A) → is_connected old k ≡ false → ((t : ℕ) → t ≢ k → get new.table t ≡ get old.table t) → Admits old new
-  admits-one k old new free others t was =
+  pub admits-one : (k : ℕ) (old new : Clients P A) → is_connected old k ≡ false → ((t : ℕ) → t ≢ k → (get new.table t ≡ get old.table t) × (answers_of new t ≡ answers_of old t))
+      → (is_connected new k ≡ true → answers_of new k ≡ []) → Admits old new
+  admits-one k old new free others silent t =
       elim (tested t k) [
-        | inl same ↦ (let none : is_connected old t ≡ false = subst (λ u. is_connected old u ≡ false) (sym same) free in
-            let e : ◌≡◌ {A = Bool} true false = sym was ∙ none in absurd cc)
-        | inr other ↦ others t other
+        | inl same ↦ (
+          λ was. absurd (both-ways (is_connected old t) was (subst (λ u. is_connected old u ≡ false) (sym same) free)),
+          λ n y. subst (λ u. is_connected new u ≡ true → answers_of new u ≡ []) (sym same) silent y,
+        )
+        | inr other ↦ (
+          λ was. others t other,
+          λ n y. absurd (both-ways (is_connected new t) y (ap (λ x. is_some x) (others t other).0 ∙ n)),
+        )
       ]
 
 module _ {P A : Type 0} (gave took : P → Option (List ℕ)) (counts : P → Counts) where
   -- some came, and all who are there live on
   pub still-live : (a b c : Clients P A) → Admits a b → LiveOn gave took counts b c → StillLive gave took counts a c
-  still-live a b c f g t was = subst (λ x. LivesAt gave took counts x (get c.table t)) (f t was) (g t)
+  still-live a b c f g t was = subst (λ x. LivesAt gave took counts x (get c.table t)) ((f t).0 was).0 (g t)
 
   pub still-join : (a b c : Clients P A) → StillLive gave took counts a b → LiveOn gave took counts b c → StillLive gave took counts a c
   still-join a b c f g t was = join-at gave took counts (get a.table t) (get b.table t) (get c.table t) (f t was) (g t)

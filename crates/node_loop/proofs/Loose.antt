@@ -1,10 +1,11 @@
 -- Ports without a connection, one after the other.
-use Rattle.std.proofs.Common.{◌≡◌, ◌≢◌, ◌<◌, ◌≤◌, ◌+◌, ◌-◌, ◌⊎◌, ◌∷◌, ◌++◌, [], ℕ, false, List, None, Some, Contains, length, slice_get, refl, inl, inr, sym, subst, arith, ◌∙◌}
+use Rattle.std.proofs.Common.{◌≡◌, ◌≢◌, ◌<◌, ◌≤◌, ◌+◌, ◌-◌, ◌⊎◌, ◌∷◌, ◌++◌, [], ℕ, Bool, ◌||◌, true, false, List, Option, None, Some, is_some, IfSome, Contains, length, slice_get, refl, inl, inr, sym, subst, arith, ◌∙◌}
 use Rattle.std.specs.Prelude.{slice_set}
 use Rattle.std.proofs.lemmas.List.{length-set}
 use Rattle.std.proofs.lemmas.Option.{slice_get_past}
 use Rattle.circular_buffer.proofs.Places.{slice_get-set_same, slice_get-last, slice_get-append_left, slice_get-append_right}
 use Rattle.node_loop.specs.declared.port.NodePort.{NodePort}
+use Rattle.node_loop.specs.LinkSights.{link_at}
 use Rattle.node_loop.specs.Loose.{AreKept, AreLoose, is_linked}
 use Rattle.node_loop.proofs.Hearing.{others-set}
 use Rattle.node_loop.proofs.Speaking.{apart, below-or-from, below-or-last, none-below}
@@ -64,3 +65,25 @@ module _ {P : Type 0} where
         | inr (inl less) ↦ rw (slice_get-append_left ports (q ∷ []) w less) (so w not)
         | inr (inr more) ↦ rw (slice_get-append_right ports (q ∷ []) w (w - length ports) (omega arith), slice_get_past (q ∷ []) (w - length ports) (omega arith)) refl
       ]
+
+none-there : (w : ℕ) → Contains {X = ℕ} [] w → ⊥
+none-there w (i, below, e) = omega (arith, below)
+
+left-of : (a b : Bool) → (a || b) ≡ false → a ≡ false
+left-of false b e = refl
+left-of true b e = e
+
+module _ {P : Type 0} where
+  -- where no port has a connection, no stranger's has one
+  pub loose-all : (ns : List ℕ) (ports : List (NodePort P)) → AreLoose [] ports → AreLoose ns ports
+  loose-all ns ports so w not = so w (none-there w)
+
+  -- the port of a neighbour may change
+  pub loose-set : (ns : List ℕ) (ports : List (NodePort P)) (i : ℕ) (q : NodePort P) → Contains ns i → AreLoose ns ports → AreLoose ns (slice_set ports i q)
+  loose-set ns ports i q has so w not =
+      let other : w ≢ i = λ e. elim (not (subst (λ v. Contains ns v) (sym e) has)) [ ] in rw (others-set ports i q w other) (so w not)
+
+  -- the link of a port without a connection is down
+  pub loose-down : (x : Option (NodePort P)) → is_linked x ≡ false → IfSome (link_at x) (λ sight. sight.is_up ≡ false)
+  loose-down None e = tt
+  loose-down (Some port) e = left-of (is_some port.link.pipe) (is_some port.greeting) e

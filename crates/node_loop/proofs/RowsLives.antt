@@ -8,7 +8,7 @@ use Rattle.socket_links.specs.declared.pipe.ReadAnswer.{ReadAnswer}
 use Rattle.socket_links.specs.declared.pipe.ReadAnswer.TheVariants as read
 use Rattle.node_loop.specs.declared.clients.Client.{Client}
 use Rattle.node_loop.specs.declared.clients.Clients.{Clients}
-use Rattle.node_loop.specs.Clients.{SameClients}
+use Rattle.node_loop.specs.Clients.{answers_of, SameClients}
 use Rattle.node_loop.specs.Lives.{FailsAt, Lives, Stays, Gave, Gives_later, Took, Takes_later, Then, LivesAt, LiveOn, ReadsAt, OthersStay, Admits, StillLive}
 
 not-rose : (n m : ℕ) → Rose n m → m ≡ 0 → ⊥
@@ -96,12 +96,17 @@ module _ {P A : Type 0} (gave took : P → Option (List ℕ)) (counts : P → Co
   still-came : ((u : ℕ) → get old.table u ≡ None) → StillLive gave took counts old new
   still-came none u was = (let e : ◌≡◌ {A = Bool} false true = rw (none u) at was in absurd cc)
 
-  -- nobody comes to a ticket that is taken
-  admits-free : ((u : ℕ) → get old.table u ≡ None) → Admits old new
-  admits-free none u was = (let e : ◌≡◌ {A = Bool} false true = rw (none u) at was in absurd cc)
+  -- somebody comes to a ticket that is free, and nothing waits for it
+  admits-free : ((u : ℕ) → get old.table u ≡ None) → ((u : ℕ) → answers_of new u ≡ []) → Admits old new
+  admits-free none silent u = (λ was. (let e : ◌≡◌ {A = Bool} false true = rw (none u) at was in absurd cc), λ n y. silent u)
 
+  -- not to one that is taken
   admits_not-taken : get old.table t ≡ Some a → get new.table t ≡ None → ¬ Admits old new
-  admits_not-taken was is f = (let e : ◌≡◌ {A = Option (Client P)} None (Some a) = rw (was, is) at (f t (rw was refl)) in absurd cc)
+  admits_not-taken was is f = (let e : ◌≡◌ {A = Option (Client P)} None (Some a) = rw (was, is) at ((f t).0 (rw was refl)).0 in absurd cc)
+
+  -- and nothing of whoever had the ticket before waits for it
+  admits_not-told : get old.table t ≡ None → get new.table t ≡ Some b → answers_of new t ≡ codes "lost\n" → ¬ Admits old new
+  admits_not-told was is waits f = (let e : ◌≡◌ {A = List ℕ} (codes "lost\n") [] = rw waits at ((f t).1 (rw was refl) (rw is refl)) in absurd cc)
 
   others_not-changed : (u : ℕ) → t ≢ u → get old.table t ≡ Some a → get new.table t ≡ None → ¬ OthersStay u old new
   others_not-changed u other was is f = (let e : ◌≡◌ {A = Option (Client P)} None (Some a) = rw (was, is) at (f t other) in absurd cc)

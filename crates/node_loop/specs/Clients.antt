@@ -41,14 +41,14 @@ module _ {P A : Type 0} where
       (slice_index_or clients.answers.items t (buffer [] 0)).capacity
       - length (answers_of clients t)
 
-  -- The answer waits behind what waited for the client; or there was no room for it, and the client
+  -- The answer waits after what waited for the client; or there was no room for it, and the client
   -- is closed. Nothing else has changed.
   abbrev pub Tells : List ℕ → ℕ → Clients P A → Clients P A → Type 0
   Tells text t old new =
-      (((answers_of new t ≡ answers_of old t ++ text) × (is_connected new t ≡ is_connected old t))
+      (((answers_of new t ≡ answers_of old t ++ text) × (get new.table t ≡ get old.table t))
       ⊎ ((t < 128 → room_of old t < length text) × (is_connected new t ≡ false)))
       × ((u : ℕ) → u ≢ t
-      → (answers_of new u ≡ answers_of old u) × (is_connected new u ≡ is_connected old u))
+      → (answers_of new u ≡ answers_of old u) × (get new.table u ≡ get old.table u))
 
   -- who is told what by a tick: the client whose loan it began, and the one whose loan it ended
   abbrev pub IsTold : DeskAct → Clients P A → Clients P A → Type 0

@@ -4,6 +4,7 @@ pub mod Deeds
 pub mod Answers
 pub mod Clients
 pub mod Lives
+pub mod Said
 pub mod Arrivals
 pub mod Moments
 pub mod Hearing

@@ -1,5 +1,5 @@
 -- Clients that live on: of whoever is still connected, no read and no write said that it is gone.
-use Rattle.std.specs.Prelude.{◌≡◌, ◌≢◌, ℕ, true, List, Option, None, Some, ⊤}
+use Rattle.std.specs.Prelude.{◌≡◌, ◌≢◌, ℕ, true, false, List, [], Option, None, Some, ⊤}
 use Rattle.byte_streams.specs.Streams.{Rose}
 use Rattle.slab.specs.Slab.{get}
 use Rattle.socket_links.specs.Counts.{Counts}
@@ -9,7 +9,7 @@ use Rattle.socket_links.specs.declared.pipe.ReadAnswer.TheVariants as read
 use Rattle.socket_links.specs.declared.pipe.WriteAnswer.TheVariants as write
 use Rattle.node_loop.specs.declared.clients.Client.{Client}
 use Rattle.node_loop.specs.declared.clients.Clients.{Clients}
-use Rattle.node_loop.specs.Clients.{is_connected}
+use Rattle.node_loop.specs.Clients.{answers_of, is_connected}
 
 -- The pipe became this by reads and writes, if by any; and none of them said that it closed or
 -- failed. A read writes nothing, and a write reads nothing.
@@ -57,9 +57,14 @@ module _ {P A : Type 0} where
   abbrev pub OthersStay : ℕ → Clients P A → Clients P A → Type 0
   OthersStay ticket old new = (t : ℕ) → t ≢ ticket → get new.table t ≡ get old.table t
 
-  -- clients came, if any did; whoever was connected is as before
+  -- Clients came, if any did, and nothing waits for them yet. Whoever was connected is as before, and
+  -- so is what waits for it.
   abbrev pub Admits : Clients P A → Clients P A → Type 0
-  Admits old new = (t : ℕ) → is_connected old t ≡ true → get new.table t ≡ get old.table t
+  Admits old new =
+      (t : ℕ)
+      → (is_connected old t ≡ true
+      → (get new.table t ≡ get old.table t) × (answers_of new t ≡ answers_of old t))
+      × (is_connected old t ≡ false → is_connected new t ≡ true → answers_of new t ≡ [])
 
 module _ {P A : Type 0} (gave took : P → Option (List ℕ)) (counts : P → Counts) where
   -- whoever was connected, and still is, lives on; others may have come

@@ -1,7 +1,8 @@
 //! The clients that are connected to a node.
 ghost use Rattle.std.specs.Prelude.{◌≡◌, ◌≢◌, ◌<◌, ◌≤◌, ◌&&◌, ◌==◌, ◌++◌, ℕ, not, true, false};
 ghost use Rattle.std.specs.Prelude.{IsTrue, []};
-ghost use Rattle.std.specs.Prelude.{IfOk, IfSome, OnSome, IsSome, length};
+ghost use Rattle.std.specs.Prelude.{IfOk, IfSome, OnSome, IsSome, length, slice_index_or};
+ghost use Rattle.circular_buffer.specs.Buffer.{buffer};
 ghost use Rattle.slab.specs.Slab.{get, slab_len};
 
 use circular_buffer::HeapCircularBuffer;
@@ -34,12 +35,15 @@ pub(crate) struct Clients<P, A: Allocator + Copy = Global> {
     answers: Vec<HeapCircularBuffer<u8, A>, A>,
     ghost room: { 128 ≤ table.capacity },
     ghost answers_are: { length answers.items ≡ 128 },
+    ghost rooms: { (t : ℕ) → t < 128
+        → (slice_index_or answers.items t (buffer [] 0)).capacity ≡ 256 },
 }
 
 impl<P: Pipe, A: Allocator + Copy> Clients<P, A> {
     ghost use Rattle.node_loop.specs.Clients.{answers_of, is_connected, room_of};
     ghost use Rattle.node_loop.specs.Clients.{SameClients, GivesWithin};
     ghost use Rattle.node_loop.specs.Lives.{FailsAt, LivesAt, LiveOn, OthersStay, ReadsAt};
+    ghost use Rattle.node_loop.specs.Said.{NothingSaid};
 
     /// No clients, with all the room that there ever is. `AllocError` comes only where memory is
     /// refused.
@@ -65,6 +69,7 @@ impl<P: Pipe, A: Allocator + Copy> Clients<P, A> {
     /// connected client has.
     pub fn admit(&mut self, pipe: P)
         ensures closed { 128 ≤ slab_len self.old.table → self.new ≡ self.old }
+        ensures past { 128 ≤ self.old.table.vacant_key → self.new ≡ self.old }
         ensures was_free { is_connected self.old self.old.table.vacant_key ≡ false }
         ensures others { (t : ℕ) → t ≢ self.old.table.vacant_key
             → (get self.new.table t ≡ get self.old.table t)
@@ -73,7 +78,7 @@ impl<P: Pipe, A: Allocator + Copy> Clients<P, A> {
             → IfSome (get self.new.table self.old.table.vacant_key) (λ client. client.pipe ≡ pipe)
             × (is_connected self.new self.old.table.vacant_key ≡ true) }
         // No answer to whoever had the ticket before waits for the client.
-        ensures silent { slab_len self.old.table < 128 → self.old.table.vacant_key < 128
+        ensures silent { is_connected self.new self.old.table.vacant_key ≡ true
             → answers_of self.new self.old.table.vacant_key ≡ [] }
     {
         let key = self.table.vacant_key();
@@ -105,6 +110,7 @@ impl<P: Pipe, A: Allocator + Copy> Clients<P, A> {
         ensures reads { ReadsAt P.gave P.took P.counts result bytes.new
             (get self.old.table ticket) (get self.new.table ticket) }
         ensures others { OthersStay ticket self.old self.new }
+        ensures answers { self.new.answers ≡ self.old.answers }
     {
         match self.table.get_mut(ticket as usize) {
             Some(client) => client.pipe.try_read(bytes),
@@ -116,6 +122,7 @@ impl<P: Pipe, A: Allocator + Copy> Clients<P, A> {
     pub fn push(&mut self, ticket: u16, byte: u8) -> Option<ClientLine>
         ensures same { SameClients self.old self.new }
         ensures lives { LiveOn P.gave P.took P.counts self.old self.new }
+        ensures nothing { NothingSaid P.took self.old self.new }
         // Only a connected client has lines.
         ensures there { OnSome result (is_connected self.old ticket ≡ true) }
     {
@@ -156,16 +163,19 @@ impl<P: Pipe, A: Allocator + Copy> Clients<P, A> {
             → FailsAt P.counts (get self.old.table ticket) (get self.new.table ticket) }
         ensures others_stay { OthersStay ticket self.old self.new }
         ensures others { (t : ℕ) → t ≢ ticket → answers_of self.new t ≡ answers_of self.old t }
+        // What the pipe took is the front of what waited, and the rest of that waits.
+        ensures nothing { IsTrue result → NothingSaid P.took self.old self.new }
     {
         let key = ticket as usize;
         if key >= PLACES || !self.table.contains(key) {
             return true;
         }
-        let mut bytes = [0; ROOM];
-        let count = self.answers[key].read_into(&mut bytes);
+        let count = self.answers[key].len();
         if count == 0 {
             return true;
         }
+        let mut bytes = [0; ROOM];
+        let _all = self.answers[key].read_into(&mut bytes);
         let Some(client) = self.table.get_mut(key) else {
             return true;
         };

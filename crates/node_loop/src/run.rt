@@ -13,7 +13,8 @@ ghost use Rattle.node_core.specs.View.{site_in, state_of};
 ghost use Rattle.node_state_file.specs.Files.{file_of};
 ghost use Rattle.node_state_file.specs.Stores.{Saves};
 ghost use Rattle.node_loop.specs.Clients.{is_connected};
-ghost use Rattle.node_loop.specs.Loose.{AreLoose};
+ghost use Rattle.node_loop.specs.LinkSights.{link_at};
+ghost use Rattle.node_loop.specs.Loose.{AreKept, AreLoose};
 
 use crate::clients::Clients;
 use crate::doors::{Door, Doors};
@@ -68,17 +69,18 @@ pub struct NodeRun<D: Doors, S: Store + Drop, A: Allocator + Copy = Global> {
     ghost site: { (site_in node).id < net.nodes },
     ghost wired: { site_in node ≡ site_of net (site_in node).id },
     ghost ports_are: { (length ports.items ≡ net.nodes) × (net.nodes ≤ 64) },
+    ghost strangers: { AreLoose (site_in node).neighbours ports.items },
 }
 
 impl<D: Doors, S: Store + Drop, A: Allocator + Copy> NodeRun<D, S, A> {
     ghost use Rattle.node_loop.specs.Clients.{AreConnected, IsTold};
-    ghost use Rattle.node_loop.specs.Loose.{AreKept, AreLoose, is_linked};
+    ghost use Rattle.node_loop.specs.Loose.{is_linked};
     ghost use Rattle.node_loop.specs.Deeds.{Acts, Became, IsLeave};
     ghost use Rattle.node_loop.specs.Hearing.{AreWired, Comes, Hears, Listens, Pulls, TakesAt, Wires};
-    ghost use Rattle.node_loop.specs.LinkSights.{link_at};
     ghost use Rattle.node_loop.specs.Lives.{Admits, LiveOn, StillLive};
     ghost use Rattle.node_loop.specs.Moments.{AtBoth};
     ghost use Rattle.node_loop.specs.Remembering.{Remembers};
+    ghost use Rattle.node_loop.specs.Said.{NothingSaid, HasAnswered, TurnSays};
     ghost use Rattle.node_loop.specs.Speaking.{IsPlanOf, outlook_of, Speaks, SpeaksTo, sent_if};
     ghost use Rattle.node_loop.specs.Turns.{Attends, Turns};
 
@@ -170,6 +172,11 @@ impl<D: Doors, S: Store + Drop, A: Allocator + Copy> NodeRun<D, S, A> {
         // Whoever was connected and still is lives on: of its pipe no read and no write said that it
         // closed or failed.
         ensures lives { StillLive D.P.gave D.P.took D.P.counts self.old.clients self.new.clients }
+        // Whoever stays connected was said the answers to its lines, and then `granted` or `lost` if the
+        // tick began or ended its loan. Nothing else was said, and no byte is lost: the pipe took it,
+        // or it waits.
+        ensures says { TurnSays D.P.took (site_in self.old.node) result.ticked.act self.old.clients
+            self.new.clients }
         // In each 256th turn, and in no other, the state is stored as it is at the turn's end.
         ensures saves { IsSome result.saved ↔ (self.old.turns ≡ 255) }
         ensures counts { self.new.turns ≡ (self.old.turns + 1) % 256 }
@@ -203,6 +210,8 @@ impl<D: Doors, S: Store + Drop, A: Allocator + Copy> NodeRun<D, S, A> {
             }) }
         ensures connected { AreConnected self.new.clients self.new.node }
         ensures lives { StillLive D.P.gave D.P.took D.P.counts self.old.clients self.new.clients }
+        ensures says { TurnSays D.P.took (site_in self.old.node) result.act self.old.clients
+            self.new.clients }
         ensures rest { (self.new.net ≡ self.old.net) × (self.new.turns ≡ self.old.turns)
             × (self.new.store ≡ self.old.store) }
     {
@@ -237,6 +246,9 @@ impl<D: Doors, S: Store + Drop, A: Allocator + Copy> NodeRun<D, S, A> {
         // Whoever was connected and still is lives on: of its pipe no read and no write said that it
         // closed or failed.
         ensures lives { StillLive D.P.gave D.P.took D.P.counts self.old.clients self.new.clients }
+        // Whoever stays connected was said the answers to its lines, and nothing else.
+        ensures answers { HasAnswered D.P.took (site_in self.old.node) self.old.clients
+            self.new.clients }
         // Its network stays, and it stores nothing.
         ensures rest { (self.new.net ≡ self.old.net) × (self.new.turns ≡ self.old.turns)
             × (self.new.store ≡ self.old.store) }
@@ -279,6 +291,9 @@ impl<D: Doors, S: Store + Drop, A: Allocator + Copy> NodeRun<D, S, A> {
         ensures rest { (self.new.node ≡ self.old.node) × (self.new.net ≡ self.old.net)
             × (self.new.ports ≡ self.old.ports) × (self.new.clients ≡ self.old.clients)
             × (self.new.turns ≡ self.old.turns) × (self.new.store ≡ self.old.store) }
+        ensures marks { (self.new.doors ≡ self.old.doors) × (self.new.lobby ≡ self.old.lobby)
+            × (self.new.let_go ≡ self.old.let_go) × (self.new.has_ticked ≡ self.old.has_ticked)
+            × (self.new.has_more ≡ self.old.has_more) }
     {
         self.pace = pace;
     }
@@ -300,6 +315,8 @@ impl<D: Doors, S: Store + Drop, A: Allocator + Copy> NodeRun<D, S, A> {
             }) }
         ensures connected { AreConnected self.new.clients self.new.node }
         ensures lives { StillLive D.P.gave D.P.took D.P.counts self.old.clients self.new.clients }
+        ensures answers { HasAnswered D.P.took (site_in self.old.node) self.old.clients
+            self.new.clients }
         ensures pace { Remembers self.old.pace self.new.pace }
         ensures rest { (self.new.net ≡ self.old.net) × (self.new.turns ≡ self.old.turns)
             × (self.new.store ≡ self.old.store) }
@@ -426,7 +443,8 @@ impl<D: Doors, S: Store + Drop, A: Allocator + Copy> NodeRun<D, S, A> {
     /// Makes a connection to a lower neighbour, if its port is loose. Unless one came, no port
     /// changes.
     fn call_on(&mut self, id: u16)
-        requires { id < self.old.net.nodes }
+        requires node { id < self.old.net.nodes }
+        requires neighbour { Contains (site_in self.old.node).neighbours id }
         ensures node { self.new.node ≡ self.old.node }
         // Whatever the door answers, no link changes, and no port that is not loose.
         ensures links { AtBoth (λ old new. (new.link ≡ old.link) × (new.is_stuck ≡ old.is_stuck))
@@ -451,7 +469,8 @@ impl<D: Doors, S: Store + Drop, A: Allocator + Copy> NodeRun<D, S, A> {
 
     /// Goes on with the hello to a lower neighbour, if there is one.
     fn go_on_greeting(&mut self, id: u16)
-        requires { id < self.old.net.nodes }
+        requires node { id < self.old.net.nodes }
+        requires neighbour { Contains (site_in self.old.node).neighbours id }
         ensures node { self.new.node ≡ self.old.node }
         ensures wires { AtBoth Wires (slice_get self.old.ports.items id)
             (slice_get self.new.ports.items id) }
@@ -564,6 +583,7 @@ impl<D: Doors, S: Store + Drop, A: Allocator + Copy> NodeRun<D, S, A> {
         ensures connected { AreConnected self.old.clients self.old.node
             → AreConnected self.new.clients self.new.node }
         ensures lives { LiveOn D.P.gave D.P.took D.P.counts self.old.clients self.new.clients }
+        ensures nothing { NothingSaid D.P.took self.old.clients self.new.clients }
         ensures rest { (self.new.net ≡ self.old.net) × (self.new.turns ≡ self.old.turns)
             × (self.new.store ≡ self.old.store) }
     {
@@ -636,6 +656,8 @@ impl<D: Doors, S: Store + Drop, A: Allocator + Copy> NodeRun<D, S, A> {
     pub fn rewire(&mut self, net: &Net) -> bool
         ensures answer { result ≡ is_same_frame self.old.net net.now }
         ensures net { IsTrue result → self.new.net ≡ net.now }
+        ensures site { IsTrue result
+            → site_in self.new.node ≡ site_of net.now (site_in self.old.node).id }
         ensures node { IsTrue result → state_of self.new.node
             ≡ rewired (site_in self.old.node).ranges (site_in self.old.node).neighbours
             (neighbours_of net.now (site_in self.old.node).id) (state_of self.old.node) }
@@ -648,6 +670,9 @@ impl<D: Doors, S: Store + Drop, A: Allocator + Copy> NodeRun<D, S, A> {
         ensures rest { (self.new.clients ≡ self.old.clients) × (self.new.turns ≡ self.old.turns)
             × (self.new.pace ≡ self.old.pace) × (self.new.let_go ≡ self.old.let_go)
             × (self.new.store ≡ self.old.store) }
+        ensures marks { (self.new.doors ≡ self.old.doors) × (self.new.lobby ≡ self.old.lobby)
+            × (self.new.has_ticked ≡ self.old.has_ticked)
+            × (self.new.has_more ≡ self.old.has_more) }
         ensures refused { result ≡ false → self.new ≡ self.old }
     {
         if !self.net.same_frame(net) {
@@ -655,21 +680,18 @@ impl<D: Doors, S: Store + Drop, A: Allocator + Copy> NodeRun<D, S, A> {
         }
         self.net.copy_from(net);
         self.node.rewire(net);
-        for id in 0..self.net.nodes() {
-            if !self.node.is_neighbour(id) {
-                self.ports[id as usize].close();
-            }
-        }
+        close_strangers(&mut self.ports, &self.node);
         true
     }
 
     /// What is seen of the link to a node; none if there is no such node in the network. A node that is
     /// no neighbour has a link that is down.
     pub fn link(&self, id: u16) -> Option<LinkSight>
-        ensures { result ≡ link_at (slice_get self.now.ports.items id) }
+        ensures sight { result ≡ link_at (slice_get self.now.ports.items id) }
+        ensures strangers { ¬ Contains (site_in self.now.node).neighbours id
+            → IfSome result (λ sight. sight.is_up ≡ false) }
     {
-        let port = self.ports.get(usize::from(id))?;
-        Some(port.sight())
+        link_seen(&self.ports, id)
     }
 
     /// The network.
@@ -698,6 +720,28 @@ impl<D: Doors, S: Store + Drop, A: Allocator + Copy> NodeRun<D, S, A> {
         ensures { result.now ≡ self.old.doors }
     {
         &mut self.doors
+    }
+}
+
+/// What is seen of the link to a node; none if it has no port.
+fn link_seen<P: Pipe>(ports: &[NodePort<P>], id: u16) -> Option<LinkSight>
+    ensures { result ≡ link_at (slice_get ports.now id) }
+{
+    let port = ports.get(usize::from(id))?;
+    Some(port.sight())
+}
+
+/// Closes the connections of those who are no neighbours of the node.
+fn close_strangers<P: Pipe, A: Allocator + Copy>(ports: &mut Vec<NodePort<P>, A>, node: &Node<A>)
+    requires { length ports.old.items ≤ 64 }
+    ensures kept { AreKept (site_in node.now).neighbours ports.old.items ports.new.items }
+    ensures closed { AreLoose (site_in node.now).neighbours ports.new.items }
+    ensures count { length ports.new.items ≡ length ports.old.items }
+{
+    for id in 0..ports.len() {
+        if !node.is_neighbour(id as u16) {
+            ports[id].close();
+        }
     }
 }
 

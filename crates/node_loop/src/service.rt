@@ -3,9 +3,11 @@ ghost use Rattle.std.specs.Prelude.{◌≡◌, ◌&&◌, ◌==◌, ℕ, not, tru
 ghost use Rattle.lock_desk.specs.Desk.{after_leave, is_ticket};
 ghost use Rattle.node_core.specs.Step.{ticked};
 ghost use Rattle.node_core.specs.View.{site_in, state_of};
+ghost use Rattle.node_loop.specs.Answers.{answer_text};
 ghost use Rattle.node_loop.specs.Clients.{AreConnected, is_connected, IsTold, Tells};
 ghost use Rattle.node_loop.specs.Deeds.{Became, IsLeave, IsOfClient, Acts};
 ghost use Rattle.node_loop.specs.Lives.{LiveOn, OthersStay};
+ghost use Rattle.node_loop.specs.Said.{AreAnswered, NothingSaid, SaidTo};
 
 use crate::answer::{ANSWER, answer};
 use crate::clients::{Clients, PIECE, PLACES};
@@ -68,6 +70,7 @@ pub(crate) fn serve_all<P: Pipe, A: Allocator + Copy>(
     ensures node { Became IsOfClient node.old node.new }
     // A client whose read says that it is gone is connected no more.
     ensures lives { LiveOn P.gave P.took P.counts clients.old clients.new }
+    ensures answers { AreAnswered P.took (site_in node.old) clients.old clients.new }
 {
     let mut has_more = false;
     for ticket in 0..PLACES as u16 {
@@ -87,6 +90,7 @@ fn serve<P: Pipe, A: Allocator + Copy>(
 ) -> bool
     ensures node { Became IsOfClient node.old node.new }
     ensures lives { LiveOn P.gave P.took P.counts clients.old clients.new }
+    ensures answers { AreAnswered P.took (site_in node.old) clients.old clients.new }
 {
     let mut bytes = [0; PIECE];
     match clients.read(ticket, &mut bytes) {
@@ -116,6 +120,7 @@ fn serve_bytes<P: Pipe, A: Allocator + Copy>(
 )
     ensures node { Became IsOfClient node.old node.new }
     ensures lives { LiveOn P.gave P.took P.counts clients.old clients.new }
+    ensures answers { AreAnswered P.took (site_in node.old) clients.old clients.new }
 {
     for byte in bytes {
         if let Some(line) = clients.push(ticket, *byte) {
@@ -133,6 +138,10 @@ fn serve_line<P: Pipe, A: Allocator + Copy>(
 )
     ensures node { Became IsOfClient node.old node.new }
     ensures lives { LiveOn P.gave P.took P.counts clients.old clients.new }
+    // The client is answered, and nobody else.
+    ensures answers { SaidTo P.took
+        (answer_text (site_in node.old) ticket line (state_of node.old)) ticket
+        clients.old clients.new }
 {
     let mut text = [0; ANSWER];
     let count = answer(node, ticket, line, &mut text);
@@ -216,6 +225,7 @@ pub(crate) fn write_all<P: Pipe, A: Allocator + Copy>(
     ensures connected { AreConnected clients.old node.old → AreConnected clients.new node.new }
     // A client to which a write fails is connected no more.
     ensures lives { LiveOn P.gave P.took P.counts clients.old clients.new }
+    ensures nothing { NothingSaid P.took clients.old clients.new }
 {
     for ticket in 0..PLACES as u16 {
         if !clients.write(ticket) {

@@ -1,5 +1,8 @@
+use Rattle.std.proofs.Common.{◌∙◌}
 use Rattle.slab.specs.Slab.{get}
+use Rattle.node_core.specs.View.{site_in}
 use Rattle.node_loop.proofs.Lives.{got-at, later-at, live-one, live-join, live-gone, others-join, closed-gone}
+use Rattle.node_loop.proofs.Saying.{answered-join, answered-nothing, answers-same, nothing-gone, nothing-read}
 use Rattle.node_loop.proofs.service.serve.Goals as goal
 
 pub returns-in-Got-clause-lives : goal.returns-in-Got-clause-lives
@@ -39,3 +42,43 @@ returns-in-Failed-clause-lives g c =
     let t = c.args.ticket in
     live-gone g.P.Pipe.gave g.P.Pipe.took g.P.Pipe.counts t old new (others-join t old read new c.read.ensures.others c.dismiss-in-Failed.ensures.others)
     (closed-gone t read new c.dismiss-in-Failed.ensures.closed)
+
+pub returns-in-Got-clause-answers : goal.returns-in-Got-clause-answers
+returns-in-Got-clause-answers g c =
+    let old = c.args.clients.now in
+    let mid = c.read.new.self in
+    let site = site_in c.args.node.now in
+    answered-join g.P.Pipe.took site old mid c.serve_bytes.new.clients
+    (answered-nothing g.P.Pipe.took site old mid
+    (nothing-read g.P.Pipe.took g.P.Pipe.gave g.P.Pipe.counts c.read.result c.read.new.bytes c.args.ticket old mid c.read.ensures.reads c.read.ensures.others c.read.ensures.answers))
+    c.serve_bytes.ensures.answers
+
+pub returns-in-Later-clause-answers : goal.returns-in-Later-clause-answers
+returns-in-Later-clause-answers g c =
+    let old = c.args.clients.now in
+    let mid = c.read.new.self in
+    answered-nothing g.P.Pipe.took (site_in c.args.node.now) old mid
+    (nothing-read g.P.Pipe.took g.P.Pipe.gave g.P.Pipe.counts c.read.result c.read.new.bytes c.args.ticket old mid c.read.ensures.reads c.read.ensures.others c.read.ensures.answers)
+
+pub returns-in-Closed-clause-answers : goal.returns-in-Closed-clause-answers
+returns-in-Closed-clause-answers g c =
+    let old = c.args.clients.now in
+    let read = c.read.new.self in
+    let written = c.write-written.new.self in
+    let new = c.dismiss.new.clients in
+    let t = c.args.ticket in
+    answered-nothing g.P.Pipe.took (site_in c.args.node.now) old new
+    (nothing-gone g.P.Pipe.took t old new (others-join t old written new (others-join t old read written c.read.ensures.others c.write-written.ensures.others_stay) c.dismiss.ensures.others)
+    (λ u o. answers-same g.P.Pipe.took written new c.dismiss.ensures.answers u ∙ (c.write-written.ensures.others u o ∙ answers-same g.P.Pipe.took old read c.read.ensures.answers u))
+    (closed-gone t written new c.dismiss.ensures.closed))
+
+pub returns-in-Failed-clause-answers : goal.returns-in-Failed-clause-answers
+returns-in-Failed-clause-answers g c =
+    let old = c.args.clients.now in
+    let read = c.read.new.self in
+    let new = c.dismiss-in-Failed.new.clients in
+    let t = c.args.ticket in
+    answered-nothing g.P.Pipe.took (site_in c.args.node.now) old new
+    (nothing-gone g.P.Pipe.took t old new (others-join t old read new c.read.ensures.others c.dismiss-in-Failed.ensures.others)
+    (λ u o. answers-same g.P.Pipe.took read new c.dismiss-in-Failed.ensures.answers u ∙ answers-same g.P.Pipe.took old read c.read.ensures.answers u)
+    (closed-gone t read new c.dismiss-in-Failed.ensures.closed))

@@ -43,3 +43,12 @@ returns-clause-lives g c =
     let spoken = c.speak.new.self.clients in
     still-join g.D.P.Pipe.gave g.D.P.Pipe.took g.D.P.Pipe.counts start acted spoken
     (still-join g.D.P.Pipe.gave g.D.P.Pipe.took g.D.P.Pipe.counts start heard acted c.listen.ensures.lives c.tick-ticked.ensures.lives) c.speak.ensures.lives
+
+pub returns-clause-says : goal.returns-clause-says
+returns-clause-says g c = record {
+  heard = c.listen.new.self.clients;
+  acted = c.tick-ticked.new.self.clients;
+  answers = c.listen.ensures.answers;
+  told = c.tick-ticked.ensures.told;
+  goes_out = c.speak.ensures.nothing;
+}

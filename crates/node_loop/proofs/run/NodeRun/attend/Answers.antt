@@ -1,6 +1,8 @@
 use Rattle.std.proofs.Common.{refl}
 use Rattle.node_loop.proofs.Lives.{still-join}
 use Rattle.node_loop.proofs.Turning.{attend-leads}
+use Rattle.node_core.specs.View.{site_in}
+use Rattle.node_loop.proofs.Saying.{has-nothing}
 use Rattle.node_loop.proofs.run.NodeRun.attend.Goals as goal
 
 pub returns-clause-attends : goal.returns-clause-attends
@@ -27,3 +29,7 @@ returns-clause-attends g c =
 pub returns-clause-lives : goal.returns-clause-lives
 returns-clause-lives g c =
     still-join g.D.P.Pipe.gave g.D.P.Pipe.took g.D.P.Pipe.counts c.args.self.now.clients c.listen.new.self.clients c.speak.new.self.clients c.listen.ensures.lives c.speak.ensures.lives
+
+pub returns-clause-answers : goal.returns-clause-answers
+returns-clause-answers g c =
+    has-nothing g.D.P.Pipe.took (site_in c.args.self.now.node) c.args.self.now.clients c.listen.new.self.clients c.speak.new.self.clients c.listen.ensures.answers c.speak.ensures.nothing

@@ -1,4 +1,4 @@
-use Rattle.std.proofs.Common.{◌∙◌, subst}
+use Rattle.std.proofs.Common.{◌∙◌, ap, subst}
 use Rattle.node_loop.specs.Deeds.{IsOfClient}
 use Rattle.node_loop.specs.Hearing.{AreWired, Hears}
 use Rattle.node_loop.proofs.Became.{joins, leaves-are-clients}
@@ -6,6 +6,8 @@ use Rattle.node_loop.proofs.Hearing.{wired-join}
 use Rattle.node_loop.specs.Lives.{Admits, LiveOn}
 use Rattle.node_loop.proofs.Lives.{still-live}
 use Rattle.node_loop.proofs.Remembering.{remembers-equal, remembers-join}
+use Rattle.node_core.specs.View.{site_in}
+use Rattle.node_loop.specs.Said.{AreAnswered}
 use Rattle.node_loop.proofs.run.NodeRun.listen.Goals as goal
 
 pub returns-clause-listens : goal.returns-clause-listens
@@ -38,3 +40,18 @@ returns-clause-lives g c =
     let heard = c.pull_all.ensures.rest.3 ∙ (c.connect.ensures.rest.3 ∙ c.hear_hellos.ensures.rest.3) in
     still-live g.D.P.Pipe.gave g.D.P.Pipe.took g.D.P.Pipe.counts start admitted served came
     (subst (λ x. LiveOn g.D.P.Pipe.gave g.D.P.Pipe.took g.D.P.Pipe.counts x served) heard c.serve_all.ensures.lives)
+
+pub returns-clause-answers : goal.returns-clause-answers
+returns-clause-answers g c =
+    let start = c.args.self.now in
+    let admitted = c.accept_clients.new.self.clients in
+    let served = c.serve_all.new.clients in
+    let before = c.connect.ensures.node ∙ (c.hear_hellos.ensures.node ∙ (c.accept_clients.ensures.node ∙ c.accept_links.ensures.node)) in
+    let site = c.pull_all.ensures.hears.takes.site ∙ ap (λ x. site_in x) before in
+    let heard = c.pull_all.ensures.rest.3 ∙ (c.connect.ensures.rest.3 ∙ c.hear_hellos.ensures.rest.3) in
+    record {
+      came = admitted;
+      admits = subst (λ x. Admits x admitted) c.accept_links.ensures.rest.3 c.accept_clients.ensures.admits;
+      answers = subst (λ x. AreAnswered g.D.P.Pipe.took x admitted served) site
+          (subst (λ x. AreAnswered g.D.P.Pipe.took (site_in c.pull_all.new.self.node) x served) heard c.serve_all.ensures.answers);
+    }

@@ -1,6 +1,7 @@
 use Rattle.std.proofs.Common.{◌≡◌, ◌≤◌, ◌∙◌, ap, refl, subst, arith}
 use Rattle.node_loop.specs.Lives.{LiveOn}
 use Rattle.node_loop.proofs.Speaking.{spoken-start, spoken-next, spoken-end}
+use Rattle.node_loop.specs.Said.{NothingSaid}
 use Rattle.node_loop.proofs.run.NodeRun.speak.Goals as goal
 
 pub loop-id-init : goal.loop-id-init
@@ -35,3 +36,6 @@ returns-clause-spoken g c =
 pub returns-clause-lives : goal.returns-clause-lives
 returns-clause-lives g c =
     subst (λ x. LiveOn g.D.P.Pipe.gave g.D.P.Pipe.took g.D.P.Pipe.counts x c.write_all.new.clients) c.loop-id.invariant.4 c.write_all.ensures.lives
+
+pub returns-clause-nothing : goal.returns-clause-nothing
+returns-clause-nothing g c = subst (λ x. NothingSaid g.D.P.Pipe.took x c.write_all.new.clients) c.loop-id.invariant.4 c.write_all.ensures.nothing

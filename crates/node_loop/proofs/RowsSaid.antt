@@ -1,0 +1,165 @@
+-- Small examples of what is said to clients, and some that look like them and are not.
+use Rattle.std.proofs.Common.{◌≡◌, ◌≢◌, ◌⊎◌, ◌∙◌, ℕ, Bool, true, false, if◌then◌else◌, List, [], ◌∷◌, ◌++◌, Option, None, Some, codes, refl, sym, subst, ap, inl, inr, arith, append-nil}
+use Rattle.std.specs.Prelude.{option_map}
+use Rattle.std.proofs.lemmas.Grind.{common_steps}
+use Rattle.slab.specs.Slab.{get}
+use Rattle.lock_desk.specs.Desk.{ask_fault, is_stranger}
+use Rattle.lock_desk.specs.declared.act.DeskAct.{DeskAct}
+use Rattle.lock_desk.specs.declared.act.DeskAct.TheVariants.{Quiet, Lost}
+use Rattle.lock_desk.specs.declared.client_line.ClientLine.{ClientLine}
+use Rattle.lock_desk.specs.declared.client_line.ClientLine.TheVariants.{Lock, Unlock, Status, Unknown}
+use Rattle.lock_desk.specs.declared.fault.AskFault.{AskFault}
+use Rattle.lock_desk.specs.declared.fault.AskFault.TheVariants.{Full, Twice}
+use Rattle.node_core.specs.Site.{Site}
+use Rattle.node_core.specs.State.{LocalState}
+use Rattle.socket_links.specs.Pipes.{GoesOn}
+use Rattle.node_loop.specs.declared.clients.Client.{Client}
+use Rattle.node_loop.specs.declared.clients.Clients.{Clients}
+use Rattle.node_loop.specs.Answers.{answer_text, lock_answer}
+use Rattle.node_loop.specs.Clients.{answers_of, is_connected, IsTold, Tells}
+use Rattle.node_loop.specs.Said.{answers_to, AreAnswered, HasAnswered, IsSaid, NothingSaid, said, SaidAt, SaidTo, TurnSays}
+use Rattle.node_loop.proofs.Lives.{admits-none}
+use Rattle.node_loop.proofs.Saying.{is-said-join, nothing-same, told-said}
+
+abbrev bytes-of : Option (List ℕ) → List ℕ
+bytes-of None = []
+bytes-of (Some bytes) = bytes
+
+-- whoever was said nothing was not said that
+not-nothing : (more : List ℕ) (x : ℕ) (xs : List ℕ) → more ++ (x ∷ xs) ≡ [] → ⊥
+not-nothing [] x xs e = absurd cc
+not-nothing (y ∷ more) x xs e = absurd cc
+
+module _ {P : Type 0} (took : P → Option (List ℕ)) (a b : Client P) (before : took a.pipe ≡ Some []) where
+  says-waiting : said took a (codes "lost\n") ≡ Some (codes "lost\n")
+  says-waiting = rw before refl
+
+  -- of what waited a part went out, and the rest waits
+  said-part : took b.pipe ≡ Some (codes "lo") → SaidAt took [] (Some a) (codes "lost\n") (Some b) (codes "st\n")
+  said-part after = rw (before, after) refl
+
+  -- nothing of it is dropped, and nothing goes out twice
+  said_not-dropped : took b.pipe ≡ Some [] → ¬ SaidAt took [] (Some a) (codes "lost\n") (Some b) []
+  said_not-dropped after s = (let e : ◌≡◌ {A = Option (List ℕ)} (Some []) (Some (codes "lost\n")) = rw (before, after) at s in grind (arith, e))
+
+  said_not-twice : took b.pipe ≡ Some (codes "lo") → ¬ SaidAt took [] (Some a) (codes "lost\n") (Some b) (codes "lost\n")
+  said_not-twice after s = (let e : ◌≡◌ {A = Option (List ℕ)} (Some (codes "lolost\n")) (Some (codes "lost\n")) = rw (before, after) at s in grind (arith, e))
+
+  -- nobody comes
+  said_not-newcomer : ¬ SaidAt took [] None [] (Some b) []
+  said_not-newcomer s = s
+
+-- where both took nothing, what waits now is what was said
+plain-said : {P : Type 0} (took : P → Option (List ℕ)) (a b : Client P) (more waits : List ℕ) → took a.pipe ≡ Some [] → took b.pipe ≡ Some [] → SaidAt took more (Some a) [] (Some b) waits → waits ≡ more
+plain-said took a b more waits before after f =
+    let g = subst (λ o. GoesOn more (option_map (λ bytes. bytes ++ []) o) (option_map (λ bytes. bytes ++ waits) (took b.pipe))) before f in
+    let e : ◌≡◌ {A = Option (List ℕ)} (Some waits) (Some more) = subst (λ o. GoesOn more (Some []) (option_map (λ bytes. bytes ++ waits) o)) after g in ap bytes-of e
+
+module _ {P A : Type 0} (old new : Clients P A) where
+  -- the text waits, and of no other client anything changes
+  tells-lost : answers_of old 3 ≡ [] → answers_of new 3 ≡ codes "lost\n" → new.table ≡ old.table → ((t : ℕ) → t ≢ 3 → answers_of new t ≡ answers_of old t) → Tells (codes "lost\n") 3 old new
+  tells-lost before after table others = (inl (rw (before, after) refl, ap (λ x. get x 3) table), λ t o. (others t o, ap (λ x. get x t) table))
+
+  tells_not-silent : answers_of old 3 ≡ [] → answers_of new 3 ≡ [] → is_connected new 3 ≡ true → ¬ Tells (codes "lost\n") 3 old new
+  tells_not-silent before after there (inl told, others) = grind (arith, common_steps, before, after, told.0)
+  tells_not-silent before after there (inr closed, others) = grind (arith, there, closed.1)
+
+  tells_not-elsewhere : get old.table 4 ≡ None → is_connected new 4 ≡ true → ¬ Tells (codes "lost\n") 3 old new
+  tells_not-elsewhere before after (_, others) = grind (arith, common_steps, before, after, (others 4 (λ e. omega (arith, e))).1)
+
+abbrev first-of : List ℕ → ℕ
+first-of [] = 0
+first-of (x ∷ xs) = x
+
+-- no answer to a line says that a loan began
+lock-not : (fault : Option AskFault) (rest : List ℕ) → lock_answer fault ++ rest ≡ codes "granted\n" → lock_answer fault ≡ []
+lock-not None rest e = refl
+lock-not (Some Full) rest e = (let n : 102 ≡ 103 = ap first-of e in absurd (omega (arith, n)))
+lock-not (Some Twice) rest e = (let n : 116 ≡ 103 = ap first-of e in absurd (omega (arith, n)))
+
+unlock-not : (is_none : Bool) (rest : List ℕ) → (if is_none then codes "stranger\n" else codes "released\n") ++ rest ≡ codes "granted\n" → ⊥
+unlock-not true rest e = (let n : 115 ≡ 103 = ap first-of e in omega (arith, n))
+unlock-not false rest e = (let n : 114 ≡ 103 = ap first-of e in omega (arith, n))
+
+text-not : (site : Site) (line : ClientLine) (s : LocalState) (rest : List ℕ) → answer_text site 3 line s ++ rest ≡ codes "granted\n" → answer_text site 3 line s ≡ []
+text-not site Lock s rest e = lock-not (ask_fault 3 s.desk) rest e
+text-not site Unlock s rest e = absurd (unlock-not (is_stranger 3 s.desk) rest e)
+text-not site Status s rest e = (let n : 110 ≡ 103 = ap first-of e in absurd (omega (arith, n)))
+text-not site Unknown s rest e = (let n : 117 ≡ 103 = ap first-of e in absurd (omega (arith, n)))
+
+not-granted : (site : Site) (lines : List (ClientLine × LocalState)) → answers_to site 3 lines ≡ codes "granted\n" → ⊥
+not-granted site [] e = (let n : 0 ≡ 103 = ap first-of e in omega (arith, n))
+not-granted site (x ∷ lines) e =
+    let none = text-not site x.0 x.1 (answers_to site 3 lines) e in
+    not-granted site lines (subst (λ text. text ++ answers_to site 3 lines ≡ codes "granted\n") none e)
+
+-- the answers to two lines, each in the state of its time
+answers-two : (site : Site) (s : LocalState) → answers_to site 3 ((Unknown, s) ∷ ((Unknown, s) ∷ [])) ≡ codes "unknown\nunknown\n"
+answers-two site s = refl
+
+module _ {P A : Type 0} (took : P → Option (List ℕ)) (site : Site) (old new : Clients P A) (a b : Client P) where
+  nothing-still : NothingSaid took old old
+  nothing-still = nothing-same took old old refl refl
+
+  answered-still : AreAnswered took site old old
+  answered-still t = ([], nothing-still t)
+
+  has-answered : HasAnswered took site old old
+  has-answered = record { came = old; admits = admits-none old; answers = answered-still }
+
+  said-to-told : Tells (codes "full\n") 3 old new → SaidTo took (codes "full\n") 3 old new
+  said-to-told tells = told-said took (codes "full\n") 3 old new tells
+
+  -- a turn in which nothing is said
+  turn-quiet : TurnSays took site Quiet old old
+  turn-quiet = record { heard = old; acted = old; answers = has-answered; told = refl; goes_out = nothing-still }
+
+  -- and one in which a client is told that it lost the lock
+  turn-lost : Tells (codes "lost\n") 3 old new → TurnSays took site (Lost 3) old new
+  turn-lost tells = record { heard = old; acted = new; answers = has-answered; told = tells; goes_out = nothing-same took new new refl refl }
+
+  module _ (was : get old.table 3 ≡ Some a) (is : get new.table 3 ≡ Some b) (before : took a.pipe ≡ Some []) (after : took b.pipe ≡ Some []) (waits : answers_of old 3 ≡ []) where
+    -- what waits now is what was said
+    waits-said : (more : List ℕ) → IsSaid took more 3 old new → answers_of new 3 ≡ more
+    waits-said more s =
+        let f = subst (λ x. SaidAt took more x (answers_of old 3) (get new.table 3) (answers_of new 3)) was s in
+        let g = subst (λ y. SaidAt took more (Some a) (answers_of old 3) y (answers_of new 3)) is f in
+        let h = subst (λ xs. SaidAt took more (Some a) xs (Some b) (answers_of new 3)) waits g in plain-said took a b more (answers_of new 3) before after h
+
+    -- what was said in a turn
+    said-in : (act : DeskAct) (text : List ℕ) → ((x y : Clients P A) → IsTold act x y → IsSaid took text 3 x y) → (x : TurnSays took site act old new)
+        → answers_of new 3 ≡ answers_to site 3 (x.answers.answers 3).0 ++ text
+    said-in act text tells x =
+        let lines = (x.answers.answers 3).0 in
+        let came = x.answers.came in
+        let there : is_connected old 3 ≡ true = rw was refl in
+        let same = (x.answers.admits 3).0 there in
+        let answered : IsSaid took (answers_to site 3 lines) 3 old x.heard =
+        subst (λ o. SaidAt took (answers_to site 3 lines) o (answers_of old 3) (get x.heard.table 3) (answers_of x.heard 3)) same.0
+        (subst (λ xs. SaidAt took (answers_to site 3 lines) (get came.table 3) xs (get x.heard.table 3) (answers_of x.heard 3)) same.1 (x.answers.answers 3).1) in
+        let told = is-said-join took (answers_to site 3 lines) text 3 old x.heard x.acted answered (tells x.heard x.acted x.told) in
+        waits-said (answers_to site 3 lines ++ text)
+        (subst (λ all. IsSaid took all 3 old new) (append-nil (answers_to site 3 lines ++ text)) (is-said-join took (answers_to site 3 lines ++ text) [] 3 old x.acted new told (x.goes_out 3)))
+
+    -- whoever lost the lock and was said nothing was not told so
+    turn_not-silent : answers_of new 3 ≡ [] → ¬ TurnSays took site (Lost 3) old new
+    turn_not-silent silent x =
+        let all = said-in (Lost 3) (codes "lost\n") (λ c d told. (told-said took (codes "lost\n") 3 c d told).0) x in
+        not-nothing (answers_to site 3 (x.answers.answers 3).0) 108 (codes "ost\n") (sym all ∙ silent)
+
+    -- nobody is told that it has the lock if no loan began
+    turn_not-granted : answers_of new 3 ≡ codes "granted\n" → ¬ TurnSays took site Quiet old new
+    turn_not-granted text x =
+        let all = said-in Quiet [] (λ c d told. nothing-same took c d (ap (λ z. z.table) told) (ap (λ z. z.answers) told) 3) x in
+        let lines = (x.answers.answers 3).0 in
+        not-granted site lines (sym (append-nil (answers_to site 3 lines)) ∙ (sym all ∙ text))
+
+    said-to_not-silent : answers_of new 3 ≡ [] → ¬ SaidTo took (codes "full\n") 3 old new
+    said-to_not-silent silent s = (let e : ◌≡◌ {A = List ℕ} [] (codes "full\n") = sym silent ∙ waits-said (codes "full\n") s.0 in absurd cc)
+
+    answered_not-granted : answers_of new 3 ≡ codes "granted\n" → ¬ AreAnswered took site old new
+    answered_not-granted text f = not-granted site (f 3).0 (sym (waits-said (answers_to site 3 (f 3).0) (f 3).1) ∙ text)
+
+    -- nothing is said unasked
+    nothing_not-said : answers_of new 3 ≡ codes "x" → ¬ NothingSaid took old new
+    nothing_not-said text s = (let e : ◌≡◌ {A = List ℕ} (codes "x") [] = sym text ∙ waits-said [] (s 3) in absurd cc)

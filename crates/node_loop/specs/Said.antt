@@ -1,0 +1,65 @@
+-- What is said to clients: the bytes that a client's pipe took, and then those that wait for it.
+use Rattle.std.specs.Prelude.{◌≢◌, ℕ, List, [], ◌∷◌, ◌++◌, Option, None, Some, option_map, ⊤}
+use Rattle.slab.specs.Slab.{get}
+use Rattle.lock_desk.specs.declared.act.DeskAct.{DeskAct}
+use Rattle.lock_desk.specs.declared.client_line.ClientLine.{ClientLine}
+use Rattle.node_core.specs.Site.{Site}
+use Rattle.node_core.specs.State.{LocalState}
+use Rattle.socket_links.specs.Pipes.{GoesOn}
+use Rattle.node_loop.specs.declared.clients.Client.{Client}
+use Rattle.node_loop.specs.declared.clients.Clients.{Clients}
+use Rattle.node_loop.specs.Answers.{answer_text}
+use Rattle.node_loop.specs.Clients.{answers_of, IsTold}
+use Rattle.node_loop.specs.Lives.{Admits}
+
+-- the answers to these lines of the client with ticket t, one after the other; each with the state in
+-- which the node was
+abbrev pub answers_to : Site → ℕ → List (ClientLine × LocalState) → List ℕ
+answers_to site t [] = []
+answers_to site t (asked ∷ rest) = answer_text site t asked.0 asked.1 ++ answers_to site t rest
+
+module _ {P : Type 0} (took : P → Option (List ℕ)) where
+  -- all that was said to a client for whom these bytes wait; none if its pipe does not say
+  abbrev pub said : Client P → List ℕ → Option (List ℕ)
+  said client waits = option_map (λ bytes. bytes ++ waits) (took client.pipe)
+
+  -- Whoever has a ticket now had it before, and just these bytes more were said to it. Nothing is
+  -- said of a client that is closed.
+  abbrev pub SaidAt : List ℕ → Option (Client P) → List ℕ → Option (Client P) → List ℕ → Type 0
+  SaidAt more old waited None waits = ⊤
+  SaidAt more None waited (Some new) waits = ⊥
+  SaidAt more (Some old) waited (Some new) waits = GoesOn more (said old waited) (said new waits)
+
+module _ {P A : Type 0} (took : P → Option (List ℕ)) where
+  -- to the client with this ticket just these bytes more were said, unless it is closed
+  abbrev pub IsSaid : List ℕ → ℕ → Clients P A → Clients P A → Type 0
+  IsSaid more t old new =
+      SaidAt took more (get old.table t) (answers_of old t) (get new.table t) (answers_of new t)
+
+  -- nothing more was said to anybody: what waited waits still, or went out
+  abbrev pub NothingSaid : Clients P A → Clients P A → Type 0
+  NothingSaid old new = (t : ℕ) → IsSaid [] t old new
+
+  -- so it is, but to the client with this ticket these bytes were said
+  abbrev pub SaidTo : List ℕ → ℕ → Clients P A → Clients P A → Type 0
+  SaidTo more t old new = IsSaid more t old new × ((u : ℕ) → u ≢ t → IsSaid [] u old new)
+
+  -- to each client just the answers to some of its lines were said, if to any
+  abbrev pub AreAnswered : Site → Clients P A → Clients P A → Type 0
+  AreAnswered site old new =
+      (t : ℕ) → (lines : List (ClientLine × LocalState)) × IsSaid (answers_to site t lines) t old new
+
+  -- clients came, if any did; and then it was so
+  pub record HasAnswered (site : Site) (old new : Clients P A) : Type 0 where
+    pub came : Clients P A
+    pub admits : Admits old came
+    pub answers : AreAnswered site came new
+
+  -- That was so; then the client was told whose loan the tick began or ended; and what waited then
+  -- waits still, or went out.
+  pub record TurnSays (site : Site) (act : DeskAct) (old new : Clients P A) : Type 0 where
+    pub heard : Clients P A
+    pub acted : Clients P A
+    pub answers : HasAnswered site old heard
+    pub told : IsTold act heard acted
+    pub goes_out : NothingSaid acted new
