@@ -1,6 +1,6 @@
 -- What is said to clients, one call after the other.
-use Rattle.std.proofs.Common.{◌≡◌, ◌≢◌, ℕ, true, false, List, [], ◌∷◌, ◌++◌, Option, None, Some, take, drop, slice_index_or, refl, sym, subst, ap, inl, inr, ◌∙◌, append-nil, append_assoc}
-use Rattle.std.specs.Prelude.{option_map, is_some}
+use Rattle.std.proofs.Common.{◌≡◌, ◌≢◌, ℕ, false, List, [], ◌∷◌, ◌++◌, Option, None, Some, take, drop, slice_index_or, refl, sym, subst, ap, inl, inr, ◌∙◌, append-nil, append_assoc}
+use Rattle.std.specs.Prelude.{option_map}
 use Rattle.std.proofs.lemmas.List.{take-append-drop}
 use Rattle.circular_buffer.specs.Buffer.{buffer}
 use Rattle.slab.specs.Slab.{get}
