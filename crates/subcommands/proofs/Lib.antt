@@ -5,3 +5,4 @@ pub mod Spaced
 pub mod Runs
 mod RowsTexts
 pub mod Listed
+mod RowsFiles

@@ -5,3 +5,5 @@
 
 #[cfg(test)]
 mod network;
+#[cfg(test)]
+mod threads;

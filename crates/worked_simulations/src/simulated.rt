@@ -22,7 +22,7 @@ mod sweeps;
 const PIECES: [usize; 3] = [1, 7, 4096];
 
 /// Room for every output.
-const ROOM: usize = 4096;
+const ROOM: usize = 8192;
 
 /// What no events lead to.
 const AT_START: &str = "\

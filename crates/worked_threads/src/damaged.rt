@@ -1,5 +1,5 @@
 //! Damage between runs.
-use crate::ran::{LINE, happen, judged_right, ran, start, tree};
+use crate::ran::{LINE, happen, judged_right, made, ran, start, tree};
 use damage_tool::scramble_world;
 use rand_core::SeedableRng;
 use rand_pcg::Lcg64Xsh32;
@@ -52,14 +52,6 @@ fn is_right(world: &World) -> [bool; 3] {
         world.privileged() <= 1,
         world.lending() <= 1,
     ]
-}
-
-/// What was made; what stands in the way of it is dropped, whatever it is.
-fn made<M: Drop, E: Drop>(made: Result<M, E>) -> Result<M, Fail> {
-    match made {
-        Ok(made) => Ok(made),
-        Err(_refused) => Err(Fail::new("the run was refused")),
-    }
 }
 
 /// Runs 4,000 turns in step. What came of them, and whether the gate held.

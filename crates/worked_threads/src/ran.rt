@@ -43,6 +43,14 @@ pub fn lend<H: Drop, T, F: FnOnce(&H) -> T>(held: H, deed: F) -> T
     deed(&held)
 }
 
+/// What was made; what stands in the way of it is dropped, whatever it is.
+pub fn made<M: Drop, E: Drop>(made: Result<M, E>) -> Result<M, Fail> {
+    match made {
+        Ok(made) => Ok(made),
+        Err(_refused) => Err(Fail::new("the run was refused")),
+    }
+}
+
 /// Runs each node of a world on a thread of its own.
 pub fn ran<R: Threads + Wait + Sync, G: Gate>(
     rt: &R,
