@@ -4,8 +4,8 @@ use Rattle.std.specs.Str.{bytes_eq}
 use Rattle.std.specs.Process.{exit_status}
 use Rattle.std.specs.declared.process.ExitCode.{ExitCode}
 use Rattle.command_grammar.specs.FaultText.{word_fault_text}
-use Rattle.command_parts.specs.FaultText.{fault_text}
-use Rattle.command_parts.specs.declared.fault.Fault.TheVariants.{Output}
+use Rattle.subcommands.specs.command_parts.FaultText.{fault_text}
+use Rattle.subcommands.specs.command_parts.declared.fault.Fault.TheVariants.{Output}
 use Rattle.recovery_times.specs.Words.{time_fault_text}
 use Rattle.command_line.specs.declared.refusal.Refusal.{Refusal}
 use Rattle.command_line.specs.declared.refusal.Refusal.TheVariants.{Word, Time, Limit, Window, Kind, NoWords, NoCommand, Fault}

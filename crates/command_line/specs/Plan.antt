@@ -3,8 +3,8 @@ use Rattle.std.specs.Prelude.{◌≡◌, ◌⊎◌, Bool, true, false, Some, cod
 use Rattle.clap.specs.declared.parser.matches.Found.{Found}
 use Rattle.command_grammar.specs.Given.{IsGiven, IsFlag, IsRefused}
 use Rattle.command_grammar.specs.declared.words.WordFault.{WordFault}
-use Rattle.experiments.specs.declared.measured_run.Scheduler.{Scheduler}
-use Rattle.experiments.specs.declared.measured_run.Scheduler.TheVariants.{Rounds, Random}
+use Rattle.subcommands.specs.experiments.declared.measured_run.Scheduler.{Scheduler}
+use Rattle.subcommands.specs.experiments.declared.measured_run.Scheduler.TheVariants.{Rounds, Random}
 use Rattle.subcommands.specs.declared.measure.Plan.{Plan}
 
 -- the runs go by steps that are drawn

@@ -5,7 +5,7 @@ use Rattle.command_grammar.specs.Given.{IsGivenOr, IsRefused}
 use Rattle.command_line.specs.declared.refusal.Refusal.{Refusal}
 use Rattle.command_line.specs.declared.refusal.Refusal.TheVariants.{Word, Window, Kind, NoCommand, Fault, Time, Limit, NoWords}
 use Rattle.live_commands.specs.declared.draw.Wanted.{Wanted}
-use Rattle.run_recording.specs.declared.window.Window.{Window as Moments}
+use Rattle.live_commands.specs.run_recording.declared.window.Window.{Window as Moments}
 
 -- the greatest number of sweeps
 abbrev pub last_sweep : ℕ

@@ -11,13 +11,13 @@ use crate::{
 };
 use clap::{ArgMatches, Command};
 use command_grammar::parser;
-use command_parts::Fault;
 use fault_hints::{explain_network, explain_reading, explain_writing};
 use lock_words::whole_words;
 use program_ends::{fails, fault_status, output_fails, shows};
 use std::alloc::{AllocError, Global};
 use std::convert::AsStr;
 use std::process::ExitCode;
+use subcommands::Fault;
 
 /// Does what the words say, of which the first is the program's name, and says with which status it
 /// is done. Progress is told where standard error is a terminal.

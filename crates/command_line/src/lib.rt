@@ -36,3 +36,4 @@ mod up;
 
 pub use commands::run_words;
 pub use program::Runtime;
+pub use program_ends::{fill_standard_streams, own_words};

@@ -7,14 +7,13 @@ use crate::program::NETWORK_FILE;
 use crate::refusal::Refusal;
 use clap::{ArgMatches, Command};
 use command_grammar::{Grammar, Number, Parameter, WordFault, given_number, with_command, word};
-use experiments::Scheduler;
 use std::alloc::{AllocError, Global};
 use std::process::ExitCode;
 use std::rt::Files;
 use std::thread::Threads;
 use std::time::Clock;
 use subcommands::measure::Plan;
-use subcommands::{measure, measure_json};
+use subcommands::{Scheduler, measure, measure_json};
 
 /// What `measure` takes.
 const MEASURE: Grammar<'static> = Grammar {

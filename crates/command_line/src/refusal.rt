@@ -4,13 +4,13 @@ ghost use Rattle.std.specs.Process.{exit_status};
 ghost use Rattle.command_line.specs.Ends.{EndsWith};
 
 use command_grammar::WordFault;
-use command_parts::{Fault, PathFault};
 use fault_hints::{explain_network, explain_writing};
 use program_ends::{LINE_REFUSED, PathFaultLine, fails, fault_status, output_fails};
 use recovery_times::TimeFault;
 use std::fmt;
 use std::process::ExitCode;
 use std::rt::Files;
+use subcommands::{Fault, PathFault};
 
 /// Why the words of `network` say no network.
 #[derive(Clone, Copy, Debug, PartialEq, Eq, Drop)]

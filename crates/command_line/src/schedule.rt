@@ -10,12 +10,11 @@ use command_grammar::{
     Choice, Grammar, Number, Parameter, WordFault, given_number, number_if_given, with_command,
     word,
 };
-use schedules::Chances;
 use std::alloc::{AllocError, Global};
 use std::process::ExitCode;
 use std::rt::Files;
-use subcommands::schedule;
 use subcommands::schedule::Turns;
+use subcommands::{Chances, schedule};
 
 /// What `schedule` takes. What only random steps have conflicts with `--rounds` too, beside which
 /// the parser asks for no `--random`.

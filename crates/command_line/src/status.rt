@@ -6,11 +6,11 @@ use crate::program::{Runtime, SOCKETS_FOLDER};
 use crate::refusal::Refusal;
 use clap::{ArgMatches, Command};
 use command_grammar::{Grammar, Number, Parameter, WordFault, with_command, word};
-use command_parts::Fault;
 use recovery_times::micros_of;
 use status_command::{Form, Notice, Part, Watch, check, looks, refused, status, watch};
 use std::alloc::{AllocError, Global};
 use std::process::ExitCode;
+use subcommands::Fault;
 
 /// What `status` takes.
 const STATUS: Grammar<'static> = Grammar {

@@ -28,3 +28,4 @@ pub use path_fault::PathFault;
 pub use progress::Progress;
 pub use simulation::{STANDARD_INPUT, events_status, simulate_between};
 pub use streams::{Flush, ReadSource, WriteSink};
+pub use world::simulation::Summary;

@@ -12,3 +12,5 @@
 
 pub mod draw;
 pub mod threads;
+
+pub use run_picture::Window;

@@ -23,3 +23,4 @@ pub mod Lanes
 pub mod Ruler
 pub mod Axis
 pub mod Picture
+pub use Rattle.run_recording.specs as run_recording

@@ -7,3 +7,5 @@ pub mod Named
 pub mod Turns
 pub mod BoundData
 pub mod MeasuredData
+pub use Rattle.command_parts.specs as command_parts
+pub use Rattle.experiments.specs as experiments

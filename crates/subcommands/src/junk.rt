@@ -6,13 +6,13 @@ ghost use Rattle.subcommands.specs.Damaged.{junk_text, seeded};
 ghost use Rattle.std.specs.Process.{exit_status};
 ghost use Rattle.command_parts.specs.declared.fault.Fault.TheVariants.{Memory, Output};
 
+use byte_streams::{Failed, Sink, write_all};
 use command_parts::{Fault, Flush, WriteSink};
 use damage_tool::junk_line;
 use rand_core::SeedableRng;
 use rand_pcg::Lcg64Xsh32;
 use std::io::{BufWriter, writer};
 use std::process::ExitCode;
-use world::streams::{Failed, Sink, write_all};
 
 /// Prints that many lines of junk, drawn by the generator of that seed.
 ///

@@ -33,3 +33,7 @@ pub mod network;
 pub mod schedule;
 pub mod scramble;
 pub mod simulate;
+
+pub use command_parts::{Fault, PathFault};
+pub use experiments::Scheduler;
+pub use schedules::Chances;

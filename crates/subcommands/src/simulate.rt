@@ -3,14 +3,14 @@ ghost use Rattle.std.specs.Prelude.{◌≡◌, ◌⊎◌, IfOk};
 ghost use Rattle.std.specs.Process.{exit_status};
 
 use command_parts::{
-    Fault, ReadSource, STANDARD_INPUT, WriteSink, events_status, read_network, simulate_between,
+    Fault, ReadSource, STANDARD_INPUT, Summary, WriteSink, events_status, read_network,
+    simulate_between,
 };
 use std::fs;
 use std::io::{BufWriter, Input, Read, writer};
 use std::process::ExitCode;
 use std::rt::Files;
 use topology::Net;
-use world::simulation::Summary;
 
 /// Prints what the events of a file, or of standard input for `-`, lead to on the network of a
 /// file.

@@ -26,8 +26,7 @@
 //! own files.
 #![tactic(auto)]
 
-use command_line::run_words;
-use program_ends::{fill_standard_streams, own_words};
+use command_line::{fill_standard_streams, own_words, run_words};
 use std::io::IsTerminal;
 use std::process::ExitCode;
 
