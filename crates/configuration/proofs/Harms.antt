@@ -1,22 +1,22 @@
 -- Harms that write a node.
 use Rattle.std.proofs.Common.{rules, ◌≡◌, ◌∙◌, ◌↔◌, ◌<◌, ap, sym, arith, refl, ℕ, IsTrue, None, Some, Result, Ok, Err, IsOk, OnOk, OnErr, IfOk, IfErr, nat_lt, slice_set, Bool, true, false, ◌&&◌, ◌++◌, ◌∷◌, [], length, if◌then◌else◌}
 use Rattle.std.proofs.lemmas.Grind.{common_steps}
-use Rattle.node_core.specs.State.{LocalState}
-use Rattle.node_core.specs.View.{NodeView, state_of}
-use Rattle.run_model.specs.World.{World, at_pair, item_fits, with_node}
-use Rattle.run_model.specs.Step.{harm_fault, harm_fits, harm_place_fault, harmed, has_room, link_fault, refusal, step, unless}
-use Rattle.run_model.specs.declared.event.Event.TheVariants.{Damage}
-use Rattle.run_model.specs.declared.event.EventFault.{EventFault}
-use Rattle.run_model.specs.declared.event.EventFault.TheVariants.{OutOfRange}
-use Rattle.run_model.specs.declared.event.Harm.{Harm}
-use Rattle.run_model.specs.declared.event.Harm.TheVariants as harm
+use Rattle.network_links.specs.node_core.State.{LocalState}
+use Rattle.network_links.specs.node_core.View.{NodeView, state_of}
+use Rattle.network_links.specs.run_model.World.{World, at_pair, item_fits, with_node}
+use Rattle.network_links.specs.run_model.Step.{harm_fault, harm_fits, harm_place_fault, harmed, has_room, link_fault, refusal, step, unless}
+use Rattle.network_links.specs.run_model.declared.event.Event.TheVariants.{Damage}
+use Rattle.network_links.specs.run_model.declared.event.EventFault.{EventFault}
+use Rattle.network_links.specs.run_model.declared.event.EventFault.TheVariants.{OutOfRange}
+use Rattle.network_links.specs.run_model.declared.event.Harm.{Harm}
+use Rattle.network_links.specs.run_model.declared.event.Harm.TheVariants as harm
 use Rattle.link_model.specs.declared.item.Item.{Item}
 use Rattle.topology.specs.Ranges.{ranges_of}
 use Rattle.network_links.specs.LinksView.{LinksView, under_way}
 use Rattle.configuration.specs.ConfigurationView.{ConfigurationView, world_of}
 use Rattle.configuration.proofs.NodePlaces.{IsNodeAt}
-use Rattle.run_model.specs.declared.happened.Happened.{Happened}
-use Rattle.run_model.specs.declared.happened.Happened.TheVariants.{Damaged}
+use Rattle.network_links.specs.run_model.declared.happened.Happened.{Happened}
+use Rattle.network_links.specs.run_model.declared.happened.Happened.TheVariants.{Damaged}
 use Rattle.configuration.specs.Answers.{Answers}
 use Rattle.configuration.proofs.WorldSteps.{IsBeside, accepted, first-none, links-world, step-is, unless-holds, unless-fails, node-done, node-refused}
 

@@ -5,9 +5,9 @@ use Rattle.std.proofs.lemmas.Grind.{common_steps}
 use Rattle.std.proofs.lemmas.List.{length-set}
 use Rattle.topology.specs.At.{at}
 use Rattle.topology.specs.Network.{Network, are_joined, neighbours_of}
-use Rattle.node_core.specs.Site.{site_of}
-use Rattle.node_core.specs.View.{NodeView, site_in, state_of}
-use Rattle.run_model.specs.Step.{link_fault}
+use Rattle.network_links.specs.node_core.Site.{site_of}
+use Rattle.network_links.specs.node_core.View.{NodeView, site_in, state_of}
+use Rattle.network_links.specs.run_model.Step.{link_fault}
 use Rattle.configuration.specs.ConfigurationView.{AreNodesOf, ConfigurationView, no_node, node_at, states_of, world_of}
 
 -- the node v stands at place p, and is `old`

@@ -5,10 +5,10 @@ use Rattle.std.proofs.lemmas.Grind.{common_steps}
 use Rattle.topology.specs.At.{at}
 use Rattle.topology.specs.Network.{Edge, Network, neighbours_of}
 use Rattle.topology.specs.Ranges.{ranges_of}
-use Rattle.node_core.specs.Rewire.{rewired}
-use Rattle.node_core.specs.Site.{Site, site_of}
-use Rattle.node_core.specs.State.{LocalState}
-use Rattle.node_core.specs.View.{NodeView, site_in, state_of}
+use Rattle.network_links.specs.node_core.Rewire.{rewired}
+use Rattle.network_links.specs.node_core.Site.{Site, site_of}
+use Rattle.network_links.specs.node_core.State.{LocalState}
+use Rattle.network_links.specs.node_core.View.{NodeView, site_in, state_of}
 use Rattle.configuration.specs.ConfigurationView.{AreNodesOf, node_at, states_of}
 use Rattle.configuration.specs.Rewired.{IsRewired}
 

@@ -1,14 +1,14 @@
 -- What a configuration shows, and what it may answer.
 use Rattle.std.proofs.Common.{◌≡◌, ℕ, List, [], ◌∷◌, Some, None, Ok, Err, refl, ap, arith}
 use Rattle.topology.specs.Ranges.{ranges_of}
-use Rattle.node_core.specs.Site.{Site}
-use Rattle.node_core.specs.State.{default_node}
+use Rattle.network_links.specs.node_core.Site.{Site}
+use Rattle.network_links.specs.node_core.State.{default_node}
 use Rattle.link_model.specs.Link.{link}
-use Rattle.run_model.specs.World.{World}
-use Rattle.run_model.specs.Step.{refusal}
-use Rattle.run_model.specs.declared.event.Event.TheVariants.{Tick, Send}
-use Rattle.run_model.specs.declared.event.EventFault.TheVariants.{NoNode, NoLink}
-use Rattle.run_model.specs.declared.happened.Happened.TheVariants.{FullTick}
+use Rattle.network_links.specs.run_model.World.{World}
+use Rattle.network_links.specs.run_model.Step.{refusal}
+use Rattle.network_links.specs.run_model.declared.event.Event.TheVariants.{Tick, Send}
+use Rattle.network_links.specs.run_model.declared.event.EventFault.TheVariants.{NoNode, NoLink}
+use Rattle.network_links.specs.run_model.declared.happened.Happened.TheVariants.{FullTick}
 use Rattle.run_model.proofs.RowsTwo.{two_nodes}
 use Rattle.network_links.specs.LinksView.{LinksView}
 use Rattle.configuration.specs.Answers.{Answers}

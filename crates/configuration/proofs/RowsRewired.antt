@@ -2,7 +2,7 @@
 use Rattle.std.proofs.Common.{◌≡◌, ◌≢◌, ℕ, zero, suc, List, [], ◌∷◌, refl, arith}
 use Rattle.std.proofs.lemmas.Grind.{common_steps}
 use Rattle.topology.specs.Ranges.{ranges_of}
-use Rattle.node_core.specs.View.{NodeView}
+use Rattle.network_links.specs.node_core.View.{NodeView}
 use Rattle.run_model.proofs.RowsTwo.{two_nodes}
 use Rattle.configuration.specs.ConfigurationView.{no_node, node_at}
 use Rattle.configuration.specs.Rewired.{IsRewired}

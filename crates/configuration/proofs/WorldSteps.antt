@@ -3,26 +3,26 @@ use Rattle.std.proofs.Common.{◌≡◌, ◌∙◌, ◌/◌, sym, ap, Bool, true
 use Rattle.std.proofs.lemmas.Grind.{common_steps}
 use Rattle.link_model.specs.declared.item.Item.{Item}
 use Rattle.link_model.specs.declared.item.Item.TheVariants as item
-use Rattle.run_model.specs.data_link.Port.{frame_of}
-use Rattle.node_core.specs.Site.{site_of}
-use Rattle.node_core.specs.Step.{taken, ticked}
-use Rattle.node_core.specs.View.{NodeView, site_in, state_of}
-use Rattle.run_model.specs.World.{World, at_pair, site, with_link, with_node}
+use Rattle.network_links.specs.run_model.data_link.Port.{frame_of}
+use Rattle.network_links.specs.node_core.Site.{site_of}
+use Rattle.network_links.specs.node_core.Step.{taken, ticked}
+use Rattle.network_links.specs.node_core.View.{NodeView, site_in, state_of}
+use Rattle.network_links.specs.run_model.World.{World, at_pair, site, with_link, with_node}
 use Rattle.lock_desk.specs.Desk.{after_leave, ask_fault, asked, is_number, is_stranger}
 use Rattle.lock_desk.specs.declared.fault.AskFault.{AskFault}
-use Rattle.run_model.specs.Step.{changed, desk_fault, first_fault, handed_over, link_fault, node_fault, refusal, step, ticket_fault, unless}
+use Rattle.network_links.specs.run_model.Step.{changed, desk_fault, first_fault, handed_over, link_fault, node_fault, refusal, step, ticket_fault, unless}
 use Rattle.std.proofs.Math.Path.{fun_ext}
 use Rattle.topology.specs.At.{at}
-use Rattle.node_core.specs.State.{LocalState}
-use Rattle.run_model.specs.declared.event.EventFault.{EventFault}
-use Rattle.run_model.specs.declared.event.EventFault.TheVariants.{NoItem, OutOfRange, Stranger}
-use Rattle.run_model.specs.declared.event.Event.{Event}
-use Rattle.run_model.specs.declared.event.Event.TheVariants.{Send, Take, Lose, Tick, Ask, Leave}
+use Rattle.network_links.specs.node_core.State.{LocalState}
+use Rattle.network_links.specs.run_model.declared.event.EventFault.{EventFault}
+use Rattle.network_links.specs.run_model.declared.event.EventFault.TheVariants.{NoItem, OutOfRange, Stranger}
+use Rattle.network_links.specs.run_model.declared.event.Event.{Event}
+use Rattle.network_links.specs.run_model.declared.event.Event.TheVariants.{Send, Take, Lose, Tick, Ask, Leave}
 use Rattle.network_links.specs.LinksView.{LinksView, spare_pairs, under_way}
 use Rattle.configuration.specs.ConfigurationView.{ConfigurationView, states_of, world_of}
-use Rattle.run_model.specs.Happened.{happened, taken_of}
-use Rattle.run_model.specs.declared.happened.Happened.{Happened}
-use Rattle.run_model.specs.declared.happened.Happened.TheVariants.{FullTick, LendingTick, Taken, NothingTaken, Lost, Other}
+use Rattle.network_links.specs.run_model.Happened.{happened, taken_of}
+use Rattle.network_links.specs.run_model.declared.happened.Happened.{Happened}
+use Rattle.network_links.specs.run_model.declared.happened.Happened.TheVariants.{FullTick, LendingTick, Taken, NothingTaken, Lost, Other}
 use Rattle.configuration.specs.Answers.{Answers}
 use Rattle.configuration.proofs.NodePlaces.{IsNodeAt, state-is, site-is, now-states}
 

@@ -1,10 +1,10 @@
 -- What a configuration answers to an event.
 use Rattle.std.specs.Prelude.{◌≡◌, Result, None, Some, OnOk, IfOk, IfErr}
-use Rattle.run_model.specs.Step.{refusal, step}
-use Rattle.run_model.specs.Happened.{happened}
-use Rattle.run_model.specs.declared.event.Event.{Event}
-use Rattle.run_model.specs.declared.event.EventFault.{EventFault}
-use Rattle.run_model.specs.declared.happened.Happened.{Happened}
+use Rattle.network_links.specs.run_model.Step.{refusal, step}
+use Rattle.network_links.specs.run_model.Happened.{happened}
+use Rattle.network_links.specs.run_model.declared.event.Event.{Event}
+use Rattle.network_links.specs.run_model.declared.event.EventFault.{EventFault}
+use Rattle.network_links.specs.run_model.declared.happened.Happened.{Happened}
 use Rattle.configuration.specs.ConfigurationView.{ConfigurationView, world_of}
 
 -- The event leads from the one configuration to the other. It is answered with what it did, or with

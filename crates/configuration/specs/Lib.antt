@@ -1,4 +1,5 @@
-pub use Rattle.node_core.specs as node_core
+pub use Rattle.network_links.specs.run_model as run_model
+pub use Rattle.network_links.specs.node_core as node_core
 pub mod ConfigurationView
 pub mod Rewired
 pub mod Answers

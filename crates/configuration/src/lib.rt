@@ -18,3 +18,5 @@ mod configuration;
 
 pub use configuration::Configuration;
 pub use network_links::{Links, PairTable};
+pub use network_links::node_core;
+pub use network_links::run_model;

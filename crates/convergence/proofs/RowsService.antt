@@ -15,7 +15,7 @@ use Rattle.run_model.specs.Privilege.{is_privileged, is_lending}
 use Rattle.run_model.specs.declared.event.Event.{Event}
 use Rattle.run_model.specs.declared.event.Event.TheVariants.{Send, Take, Tick, Ask, Leave}
 use Rattle.topology.specs.Ranges.{ranges_of}
-use Rattle.node_core.specs.State.{IsNodeInRange}
+use Rattle.run_model.specs.node_core.State.{IsNodeInRange}
 use Rattle.run_model.proofs.RowsTwo.{two_nodes, is-accepted, each-node, each-link, node_with, calm, calm-links_stable, calm-tree_reached}
 use Rattle.token_ring.specs.Legitimate.{IsLegitimate}
 use Rattle.convergence.specs.Service.{IsAtPlace, is_lent_once, gives_up}

@@ -12,9 +12,9 @@ use Rattle.lock_desk.specs.Desk.{DeskState, is_in, is_ticket, waits, borrows, wi
 use Rattle.lock_desk.specs.Act.{act_between, desk_act}
 use Rattle.lock_desk.specs.Laws.{IsTurn}
 use Rattle.lock_desk.specs.declared.act.DeskAct.TheVariants.{Lost}
-use Rattle.node_core.specs.State.{LocalState}
-use Rattle.node_core.specs.Machines.{is_node_privileged}
-use Rattle.node_core.specs.Step.{ticked, recomputed}
+use Rattle.run_model.specs.node_core.State.{LocalState}
+use Rattle.run_model.specs.node_core.Machines.{is_node_privileged}
+use Rattle.run_model.specs.node_core.Step.{ticked, recomputed}
 use Rattle.run_model.specs.World.{World, site}
 use Rattle.run_model.specs.Step.{refusal, step, changed, sent, handed_over}
 use Rattle.run_model.specs.Run.{run, is_damage, IsUndamaged}

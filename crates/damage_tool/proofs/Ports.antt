@@ -4,8 +4,8 @@ use Rattle.std.proofs.Math.Path.{fun_ext}
 use Rattle.std.proofs.lemmas.Grind.{common_steps}
 use Rattle.topology.specs.At.{at}
 use Rattle.data_link.specs.Port.{PortState}
-use Rattle.node_core.specs.State.{LocalState}
-use Rattle.node_core.specs.Writes.{with_port}
+use Rattle.run_model.specs.node_core.State.{LocalState}
+use Rattle.run_model.specs.node_core.Writes.{with_port}
 use Rattle.damage_tool.specs.declared.draws.PortDraw.{PortDraw}
 use Rattle.damage_tool.specs.Scrambled.{port_written}
 

@@ -1,8 +1,8 @@
 -- Small edges with links of one place, whose numbers are 0 to 4, and what holds of them
 use Rattle.std.proofs.Common.{◌≡◌, ℕ, true, false, None, zero, suc, ◌++◌, List, [], ◌∷◌, refl, ap, arith, rules}
 use Rattle.std.proofs.lemmas.Grind.{common_steps}
-use Rattle.topology.specs.declared.frame.Frame.{Frame}
-use Rattle.topology.specs.declared.frame.Payload.{Payload}
+use Rattle.link_model.specs.topology.declared.frame.Frame.{Frame}
+use Rattle.link_model.specs.topology.declared.frame.Payload.{Payload}
 use Rattle.link_model.specs.declared.item.Item.{Item}
 use Rattle.link_model.specs.declared.item.Item.TheVariants as item
 use Rattle.data_link.specs.Port.{PortState, default_port, port_after, port_fits}

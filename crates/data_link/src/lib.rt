@@ -25,3 +25,4 @@ pub use heard::Heard;
 pub use k_state;
 pub use link_model;
 pub use port::Port;
+pub use link_model::topology;

@@ -1,6 +1,6 @@
 //! One end of an edge.
 ghost use Rattle.std.specs.Prelude.{◌≡◌, ◌↔◌, ◌<◌, IsTrue, IsOk, OnOk, OnErr};
-ghost use Rattle.topology.specs.Ranges.{frame_fits, payload_fits, ranges_of};
+ghost use Rattle.link_model.specs.topology.Ranges.{frame_fits, payload_fits, ranges_of};
 ghost use Rattle.data_link.specs.Heard.{heard_of};
 ghost use Rattle.data_link.specs.Port.{counters_fit, default_port, frame_of, port_after, port_fits};
 
@@ -9,7 +9,7 @@ use crate::heard::Heard;
 use k_state::{copy_move, root_move};
 use std::alloc::Allocator;
 use std::marker::Model;
-use topology::{Frame, Net, Payload, Ranges};
+use link_model::topology::{Frame, Net, Payload, Ranges};
 
 /// What a node keeps of one neighbour: the number of its staged payload, the last number that it
 /// accepted, the staged payload, and the copy of the neighbour's payload. Each field is in its

@@ -2,7 +2,7 @@
 use Rattle.std.proofs.Common.{◌≡◌, ◌∙◌, sym, ap, subst, ℕ, ◌+◌, ◌-◌, ◌^◌, ◌<◌, ◌≤◌, min, Bool, true, false, ◌&&◌, not, nat_lt, if◌then◌else◌, is_none, length, Option, IsTrue, Some, None, List, [], ◌∷◌, ◌++◌, arith, refl}
 use Rattle.std.proofs.lemmas.Grind.{common_steps}
 use Rattle.topology.specs.Network.{Network, are_joined}
-use Rattle.configuration.specs.PairTable.{PairTableView}
+use Rattle.serving.specs.configuration.PairTable.{PairTableView}
 use Rattle.run_model.specs.World.{World}
 use Rattle.run_model.specs.Step.{first_fault, link_fault, node_fault, refusal, step, unless}
 use Rattle.run_model.specs.Run.{is_damage, IsUndamaged}
@@ -16,7 +16,7 @@ use Rattle.run_model.specs.declared.event.EventFault.{EventFault}
 use Rattle.run_model.specs.declared.event.EventFault.TheVariants.{NoItem}
 use Rattle.link_model.specs.declared.item.Item.{Item}
 use Rattle.judge.specs.Tallies.{has_place, no_tally, tally_of, tally_behind}
-use Rattle.configuration.specs.ConfigurationView.{world_of}
+use Rattle.serving.specs.configuration.ConfigurationView.{world_of}
 use Rattle.judge.specs.JudgeView.{JudgeView, HasSeenSame}
 use Rattle.judge.specs.Stretch.{StretchView, with_looks, IsRoomFor, has_bit, is_full_tick_of, names_below, names_place, IsComplete, IsKept}
 use Rattle.judge.specs.Judging.{IsJudging}

@@ -1,7 +1,7 @@
 -- How many tallies are not renewed, as one is written.
 use Rattle.std.proofs.Common.{◌≡◌, ℕ, ◌+◌, ◌-◌, ◌<◌, ◌≤◌, ◌==◌, inl, inr, true, zero, suc, List, [], ◌∷◌, length, replicate, slice_set, slice_index_or, refl, ap, subst, arith}
 use Rattle.std.proofs.lemmas.List.{length-set}
-use Rattle.configuration.specs.PairTable.{value_at}
+use Rattle.serving.specs.configuration.PairTable.{value_at}
 use Rattle.std.proofs.lemmas.Grind.{common_steps}
 use Rattle.judge.specs.declared.tallies.Tally.{Tally}
 use Rattle.judge.specs.Tallies.{TalliesView, IsTallied, no_tally, tally_of, missing, unrenewed_in}

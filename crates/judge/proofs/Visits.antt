@@ -3,8 +3,8 @@ use Rattle.std.proofs.Common.{◌≡◌, ◌∙◌, sym, ap, subst, ℕ, ◌+◌
 use Rattle.std.proofs.lemmas.Bool.{or_right}
 use Rattle.std.proofs.lemmas.Grind.{common_steps}
 use Rattle.link_model.specs.declared.item.Item.{Item}
-use Rattle.node_core.specs.Machines.{is_node_privileged}
-use Rattle.node_core.specs.State.{LocalState}
+use Rattle.serving.specs.node_core.Machines.{is_node_privileged}
+use Rattle.serving.specs.node_core.State.{LocalState}
 use Rattle.run_model.specs.World.{World, IsWorldInRange, site, with_node, with_link}
 use Rattle.run_model.specs.Step.{refusal, step, changed, handed_over, has_room}
 use Rattle.run_model.specs.Run.{run, is_damage}

@@ -11,7 +11,7 @@ use Rattle.judge.specs.Judging.{counted_up_to, refused_in, IsJudging}
 use Rattle.judge.specs.Stretch.{StretchView, has_bit}
 use Rattle.judge.specs.declared.tallies.Tally.{Tally}
 use Rattle.judge.specs.Visited.{AreVisited}
-use Rattle.configuration.specs.ConfigurationView.{ConfigurationView, world_of}
+use Rattle.serving.specs.configuration.ConfigurationView.{ConfigurationView, world_of}
 
 -- nodes and links now, what is kept of the unfinished stretch, the counts, and the mask of the
 -- nodes visited

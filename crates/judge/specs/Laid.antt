@@ -1,6 +1,6 @@
 -- Places of tallies, laid one after the other.
 use Rattle.std.specs.Prelude.{◌≡◌, ℕ, ◌<◌, ◌⊎◌, Bool, IsTrue}
-use Rattle.configuration.specs.PairTable.{PairTableView, value_at}
+use Rattle.serving.specs.configuration.PairTable.{PairTableView, value_at}
 use Rattle.judge.specs.Tallies.{has_place}
 
 -- Each pair that is joined so far has a place of its own below `next`, all others have the first.

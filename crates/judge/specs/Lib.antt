@@ -1,3 +1,5 @@
+pub use Rattle.serving.specs.node_core as node_core
+pub use Rattle.serving.specs.configuration as configuration
 pub mod Tallies
 pub mod Laid
 pub mod Stretch

@@ -1,9 +1,9 @@
 -- What a world is made of.
 use Rattle.std.specs.Prelude.{List}
-use Rattle.node_core.specs.View.{NodeView}
-use Rattle.configuration.specs.LinksView.{LinksView}
+use Rattle.serving.specs.node_core.View.{NodeView}
+use Rattle.serving.specs.configuration.LinksView.{LinksView}
 use Rattle.judge.specs.Stretch.{StretchView, HasRoomFor}
-use Rattle.configuration.specs.ConfigurationView.{AreNodesOf}
+use Rattle.serving.specs.configuration.ConfigurationView.{AreNodesOf}
 
 -- the parts are one world's: there is a node for each id of the network, which knows its own site,
 -- and room for its stretches

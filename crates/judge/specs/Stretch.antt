@@ -8,7 +8,7 @@ use Rattle.run_model.specs.Stretch.{old_items}
 use Rattle.run_model.specs.declared.event.Event.{Event}
 use Rattle.run_model.specs.declared.happened.Happened.{Happened}
 use Rattle.run_model.specs.declared.happened.Happened.TheVariants.{FullTick, LendingTick, Taken, Lost}
-use Rattle.configuration.specs.PairTable.{PairTableView}
+use Rattle.serving.specs.configuration.PairTable.{PairTableView}
 use Rattle.judge.specs.Tallies.{TalliesView, tally_of, has_place}
 
 -- a mask with a bit for each node that still lacks a full tick, and the tallies of the links

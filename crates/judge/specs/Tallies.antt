@@ -7,7 +7,7 @@ use Rattle.run_model.specs.Sweep.{is_link}
 use Rattle.run_model.specs.declared.happened.Happened.{Happened}
 use Rattle.run_model.specs.declared.happened.Happened.TheVariants.{Taken, Lost}
 use Rattle.judge.specs.declared.tallies.Tally.{Tally}
-use Rattle.configuration.specs.PairTable.{PairTableView, value_at}
+use Rattle.serving.specs.configuration.PairTable.{PairTableView, value_at}
 
 -- for each two nodes the place of the tally of the link between them; the tallies, one after the
 -- other; and how often one was looked at

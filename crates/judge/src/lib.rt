@@ -41,3 +41,5 @@ pub use parts::Parts;
 pub use stretch::Stretch;
 pub use tallies::Tally;
 pub use world::World;
+pub use serving::configuration;
+pub use serving::node_core;

@@ -4,11 +4,11 @@ ghost use Rattle.std.specs.Prelude.{IfOk, IsTrue};
 ghost use Rattle.topology.specs.Network.{IsAcceptedNetwork, are_joined};
 ghost use Rattle.data_link.specs.Sweep.{Takes, Loses};
 ghost use Rattle.run_model.specs.World.{at_pair};
-ghost use Rattle.configuration.specs.PairTable.{value_at};
+ghost use Rattle.serving.specs.configuration.PairTable.{value_at};
 ghost use Rattle.judge.specs.Tallies.{has_place, tally_of, tally_after, missing, no_tally};
 ghost use Rattle.judge.specs.Laid.{IsLaid};
 
-use configuration::PairTable;
+use serving::configuration::PairTable;
 use std::alloc::{AllocError, Allocator, Global};
 use std::marker::Model;
 use topology::Net;

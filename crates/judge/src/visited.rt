@@ -1,11 +1,11 @@
 //! The nodes that the privilege has visited, as a mask with a bit for each.
 ghost use Rattle.std.specs.Prelude.{◌≡◌, ◌<◌, ◌==◌, ◌&&◌, ◌||◌, ℕ, nat_lt, IsTrue};
 ghost use Rattle.run_model.specs.Privilege.{is_privileged};
-ghost use Rattle.configuration.specs.ConfigurationView.{world_of};
+ghost use Rattle.serving.specs.configuration.ConfigurationView.{world_of};
 ghost use Rattle.judge.specs.Stretch.{has_bit, names_below};
 ghost use Rattle.judge.specs.Visited.{ticked_or_took};
 
-use configuration::Configuration;
+use serving::configuration::Configuration;
 use run_model::Happened;
 use std::alloc::Allocator;
 

@@ -1,17 +1,17 @@
 //! A network at one moment, with all the memory that a run of it and its judge need.
 ghost use Rattle.std.specs.Prelude.{◌≡◌, ◌↔◌, ◌<◌, ◌≤◌, IfOk, IfErr, OnOk, None, Some, length};
 ghost use Rattle.std.specs.Prelude.{IsTrue};
-ghost use Rattle.node_core.specs.View.{state_of, site_in};
+ghost use Rattle.serving.specs.node_core.View.{state_of, site_in};
 ghost use Rattle.run_model.specs.World.{IsWorldInRange, site};
 ghost use Rattle.run_model.specs.Headline.{IsServing};
 ghost use Rattle.run_model.specs.Start.{default_world, world_with_spares};
 ghost use Rattle.run_model.specs.NodeCounts.{lending_count, privileged_count};
 ghost use Rattle.run_model.specs.Step.{refusal, step};
-ghost use Rattle.configuration.specs.ConfigurationView.{world_of};
+ghost use Rattle.serving.specs.configuration.ConfigurationView.{world_of};
 
 use crate::stretch::Stretch;
-use configuration::Configuration;
-use node_core::Node;
+use serving::configuration::Configuration;
+use serving::node_core::Node;
 use run_model::{Event, EventFault};
 use std::alloc::{AllocError, Allocator, Global};
 use std::marker::Model;
@@ -27,7 +27,7 @@ pub struct World<A: Allocator + Copy = Global> {
 }
 
 impl<A: Allocator + Copy> Model for World<A> {
-    ghost use Rattle.configuration.specs.ConfigurationView.{ConfigurationView};
+    ghost use Rattle.serving.specs.configuration.ConfigurationView.{ConfigurationView};
     ghost use Rattle.judge.specs.Stretch.{HasRoomFor};
 
     ghost Value = { ConfigurationView };

@@ -26,3 +26,4 @@ pub use fault::{Full, NoItem};
 pub use item::Item;
 pub use link::Link;
 pub use topology::{Frame, Payload, Ranges};
+pub use topology;

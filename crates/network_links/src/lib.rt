@@ -22,3 +22,5 @@ mod pair_table;
 
 pub use links::Links;
 pub use pair_table::PairTable;
+pub use run_model;
+pub use run_model::node_core;

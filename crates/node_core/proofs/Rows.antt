@@ -1,9 +1,9 @@
 -- Two nodes, and what they are and do.
 use Rattle.std.proofs.Common.{◌≡◌, ℕ, true, false, [], ◌∷◌, Some, None, refl, arith, codes, decimal}
 use Rattle.std.proofs.lemmas.Fmt.{decimal_digit}
-use Rattle.topology.specs.Network.{Network}
-use Rattle.topology.specs.Ranges.{ranges_of}
-use Rattle.topology.specs.declared.frame.Frame.{Frame}
+use Rattle.registers.specs.topology.Network.{Network}
+use Rattle.registers.specs.topology.Ranges.{ranges_of}
+use Rattle.registers.specs.topology.declared.frame.Frame.{Frame}
 use Rattle.registers.specs.link_model.declared.item.Item.TheVariants as item
 use Rattle.registers.specs.data_link.Port.{default_port}
 use Rattle.lock_desk.specs.Desk.{no_desk}

@@ -2,7 +2,7 @@
 -- tree (Dijkstra 1974).
 use Rattle.std.specs.Prelude.{ℕ, Bool, List, if◌then◌else◌}
 use Rattle.std.specs.List.{list_any}
-use Rattle.topology.specs.declared.frame.Payload.{Payload}
+use Rattle.registers.specs.topology.declared.frame.Payload.{Payload}
 use Rattle.registers.specs.k_state.Machine.{root_moved, is_privileged}
 use Rattle.euler_ring.specs.Cycle.{tree_neighbours, source_for, special, is_named, is_on}
 use Rattle.node_core.specs.Site.{Site}

@@ -1,10 +1,10 @@
 -- What a node does: it takes an item from a neighbour, it ticks, and its clients ask and leave.
 use Rattle.std.specs.Prelude.{ℕ, Bool, true, ◌&&◌, is_none, if◌then◌else◌}
 use Rattle.euler_ring.specs.Cycle.{is_on}
-use Rattle.topology.specs.At.{at}
-use Rattle.topology.specs.Ranges.{frame_fits}
-use Rattle.topology.specs.declared.frame.Frame.{Frame}
-use Rattle.topology.specs.declared.frame.Ranges.{Ranges}
+use Rattle.registers.specs.topology.At.{at}
+use Rattle.registers.specs.topology.Ranges.{frame_fits}
+use Rattle.registers.specs.topology.declared.frame.Frame.{Frame}
+use Rattle.registers.specs.topology.declared.frame.Ranges.{Ranges}
 use Rattle.registers.specs.link_model.declared.item.Item.{Item}
 use Rattle.registers.specs.link_model.declared.item.Item.TheVariants as item
 use Rattle.registers.specs.data_link.Port.{port_after}

@@ -40,3 +40,5 @@ pub use node::{Node, NodeState};
 pub use registers::OutOfRange;
 pub use registers::link_model::{Frame, Item, Payload, Ranges};
 pub use ticked::Ticked;
+pub use registers;
+pub use registers::data_link;

@@ -2,9 +2,9 @@
 ghost use Rattle.std.specs.Prelude.{◌≡◌, ◌↔◌, ◌<◌, ◌≤◌, ℕ, Bool, true, false, not, List, IsTrue};
 ghost use Rattle.std.specs.Prelude.{IfOk, IfErr, IsOk, OnOk, OnErr, Some, None, is_none, Contains};
 ghost use Rattle.std.specs.Prelude.{length, take, drop};
-ghost use Rattle.topology.specs.At.{at};
-ghost use Rattle.topology.specs.Network.{neighbours_of};
-ghost use Rattle.topology.specs.Ranges.{frame_fits, payload_fits, parent_fits, ranges_of};
+ghost use Rattle.registers.specs.topology.At.{at};
+ghost use Rattle.registers.specs.topology.Network.{neighbours_of};
+ghost use Rattle.registers.specs.topology.Ranges.{frame_fits, payload_fits, parent_fits, ranges_of};
 ghost use Rattle.registers.specs.data_link.Port.{counters_fit, frame_of};
 ghost use Rattle.lock_desk.specs.Desk.{ask_fault, asked, is_stranger, after_leave, loan_fits};
 ghost use Rattle.lock_desk.specs.Desk.{with_loan};
@@ -29,7 +29,7 @@ use registers::link_model::Item;
 use registers::{OutOfRange, Registers};
 use std::alloc::{AllocError, Allocator, Global};
 use std::marker::Model;
-use topology::{Frame, Net, Payload, Ranges};
+use registers::topology::{Frame, Net, Payload, Ranges};
 
 /// One node of the network, with all that it keeps.
 #[derive(Drop)]

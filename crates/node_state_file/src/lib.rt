@@ -44,3 +44,4 @@ pub use reading::decode;
 pub use starting::{StartFault, Started, start};
 pub use store::{Store, StoreFault};
 pub use writing::encode;
+pub use node_core;

@@ -1,8 +1,8 @@
 -- Small examples of names, lines and reports, and some that look like them and are none.
 use Rattle.std.proofs.Common.{◌≡◌, ◌≢◌, true, false, [], ◌∷◌, ◌++◌, Some, None, codes, decimal, refl, arith}
 use Rattle.std.proofs.lemmas.Fmt.{decimal_digit}
-use Rattle.node_core.specs.Site.{Site}
-use Rattle.node_core.specs.State.{default_node}
+use Rattle.node_state_file.specs.node_core.Site.{Site}
+use Rattle.node_state_file.specs.node_core.State.{default_node}
 use Rattle.node_state_file.specs.declared.fault.FileFault.TheVariants as read
 use Rattle.node_state_file.specs.declared.starting.StartFault.TheVariants.{File, Absent}
 use Rattle.node_texts.specs.declared.answers.NodeAnswer.{NodeAnswer}

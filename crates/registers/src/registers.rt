@@ -3,9 +3,9 @@ ghost use Rattle.std.specs.Prelude.{◌≡◌, ◌↔◌, ◌<◌, ◌≤◌, �
 ghost use Rattle.std.specs.Prelude.{OnErr, Contains, length, nat_lt, not, ◌&&◌, if◌then◌else◌};
 ghost use Rattle.std.specs.Prelude.{replicate, slice_index, slice_index_or};
 ghost use Rattle.std.specs.Vec.{vec_capacity};
-ghost use Rattle.topology.specs.At.{at};
-ghost use Rattle.topology.specs.Network.{neighbours_of};
-ghost use Rattle.topology.specs.Ranges.{frame_fits, payload_fits, ranges_of};
+ghost use Rattle.data_link.specs.topology.At.{at};
+ghost use Rattle.data_link.specs.topology.Network.{neighbours_of};
+ghost use Rattle.data_link.specs.topology.Ranges.{frame_fits, payload_fits, ranges_of};
 ghost use Rattle.data_link.specs.Heard.{heard_of};
 ghost use Rattle.data_link.specs.Port.{PortState, PortView, counters_fit, default_port, frame_of};
 ghost use Rattle.data_link.specs.Port.{port_after};
@@ -16,7 +16,7 @@ ghost use Rattle.registers.specs.Rewire.{is_among, rewired_ports, rewired_values
 use data_link::{Heard, OutOfRange, Port};
 use std::alloc::{AllocError, Allocator, Global};
 use std::marker::Model;
-use topology::{Frame, Net, Payload, Ranges};
+use data_link::topology::{Frame, Net, Payload, Ranges};
 
 /// What a node keeps of every other node: a port to it, and the value of the machine that comes in
 /// from it.
@@ -66,7 +66,7 @@ impl<A: Allocator + Copy> Registers<A> {
         ensures ports { IfOk result (λ r. port_of r ≡ (λ w. default_port (ranges_of net.now))) }
         ensures values { IfOk result (λ r. value_of r ≡ (λ w. 0)) }
     {
-        topology::laws::neighbours();
+        data_link::topology::laws::neighbours();
         let neighbours = with_room(alloc, net.nodes(), net.neighbours(id))?;
         let ports = default_ports(alloc, net)?;
         let values = vec![in alloc; 0u16; usize::from(net.nodes())]?;
@@ -267,7 +267,7 @@ impl<A: Allocator> Registers<A> {
         ensures values { value_of self.new
             ≡ rewired_values self.old.neighbours (neighbours_of net.now id) (value_of self.old) }
     {
-        topology::laws::neighbours();
+        data_link::topology::laws::neighbours();
         let neighbours = net.neighbours(id);
         let nodes = net.nodes();
         write_ids(&mut self.neighbours, neighbours);

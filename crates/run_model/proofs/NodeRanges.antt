@@ -12,10 +12,10 @@ use Rattle.topology.specs.declared.frame.Frame.{Frame}
 use Rattle.topology.specs.declared.frame.Ranges.{Ranges}
 use Rattle.link_model.specs.declared.item.Item.{Item}
 use Rattle.link_model.specs.declared.item.Item.TheVariants as item
-use Rattle.data_link.specs.Port.{PortState, port_fits, port_after}
+use Rattle.node_core.specs.data_link.Port.{PortState, port_fits, port_after}
 use Rattle.node_core.specs.k_state.Machine.{root_moved}
 use Rattle.topology.specs.Laws.{NeighboursAreJoined}
-use Rattle.data_link.specs.Laws.{PortStaysInRange}
+use Rattle.node_core.specs.data_link.Laws.{PortStaysInRange}
 use Rattle.node_core.specs.bfs_tree.Laws.{StepDistanceFits, StepParentFits}
 use Rattle.lock_desk.specs.Laws.{TicksKeepRanges, AsksKeepRanges, LeavesKeepRanges, LoansKeepRanges}
 use Rattle.node_core.specs.euler_ring.Cycle.{is_on, is_tree_neighbour, highest, below, source_for}

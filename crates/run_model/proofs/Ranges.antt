@@ -13,7 +13,7 @@ use Rattle.topology.specs.Laws.{NeighboursAreJoined}
 use Rattle.topology.specs.declared.frame.Ranges.{Ranges}
 use Rattle.link_model.specs.declared.item.Item.{Item}
 use Rattle.link_model.specs.declared.item.Item.TheVariants.{Frame}
-use Rattle.data_link.specs.Port.{PortState, port_fits, frame_of, default_port}
+use Rattle.node_core.specs.data_link.Port.{PortState, port_fits, frame_of, default_port}
 use Rattle.lock_desk.specs.Desk.{DeskState, desk_fits, no_desk}
 use Rattle.node_core.specs.Site.{site_of}
 use Rattle.node_core.specs.State.{LocalState, IsNodeInRange}

@@ -1,7 +1,7 @@
 -- Edges that join and go on a square, where its nodes and links are not as at the start: what
 -- changes, what stays, and what is refused.
 use Rattle.std.proofs.Common.{◌≡◌, List, [], ◌∷◌, Some, None, true, false, refl, ap}
-use Rattle.data_link.specs.Port.{default_port}
+use Rattle.node_core.specs.data_link.Port.{default_port}
 use Rattle.topology.specs.Network.{Network, Edge, neighbours_of}
 use Rattle.topology.specs.Ranges.{ranges_of}
 use Rattle.topology.specs.Tree.{distance_of}

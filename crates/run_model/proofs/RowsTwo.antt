@@ -6,7 +6,7 @@ use Rattle.std.specs.Prelude.{◌==◌, if◌then◌else◌}
 use Rattle.std.proofs.lemmas.List.Elements.{All-nil, All-cons}
 use Rattle.topology.specs.Network.{Network, are_joined, IsWalk, IsEdgeBelow, IsConnected, IsAcceptedNetwork}
 use Rattle.topology.specs.Tree.{distance_of, parent_of}
-use Rattle.data_link.specs.Edge.{IsStable}
+use Rattle.node_core.specs.data_link.Edge.{IsStable}
 use Rattle.topology.specs.declared.frame.Payload.{Payload}
 use Rattle.lock_desk.specs.Desk.{DeskState, no_desk}
 use Rattle.node_core.specs.State.{LocalState}

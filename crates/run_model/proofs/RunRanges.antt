@@ -11,7 +11,7 @@ use Rattle.topology.specs.Ranges.{ranges_of, payload_fits, parent_fits}
 use Rattle.topology.specs.declared.frame.Payload.{Payload}
 use Rattle.topology.specs.declared.frame.Ranges.{Ranges}
 use Rattle.link_model.specs.declared.item.Item.{Item}
-use Rattle.data_link.specs.Port.{PortState, counters_fit, port_fits}
+use Rattle.node_core.specs.data_link.Port.{PortState, counters_fit, port_fits}
 use Rattle.lock_desk.specs.declared.fault.AskFault.{AskFault}
 use Rattle.lock_desk.specs.Desk.{is_number, ask_fault, asked, after_leave, loan_fits, with_loan}
 use Rattle.node_core.specs.Step.{ticked}

@@ -2,9 +2,9 @@
 use Rattle.std.specs.Prelude.{◌≡◌, ℕ, ◌+◌, ◌<◌, ◌≤◌, true, false, IsTrue, is_some, suc, List, [], ◌∷◌, ◌++◌, ◌||◌, length, if◌then◌else◌}
 use Rattle.topology.specs.Network.{Network, IsAcceptedNetwork, are_joined}
 use Rattle.run_model.specs.SameFrame.{IsSameFrame}
-use Rattle.data_link.specs.Edge.{IsEdgeInRange, edge_step, edge_run}
-use Rattle.data_link.specs.Sweep as edge
-use Rattle.data_link.specs.Sweep.{is_out_renewed, is_back_renewed}
+use Rattle.node_core.specs.data_link.Edge.{IsEdgeInRange, edge_step, edge_run}
+use Rattle.node_core.specs.data_link.Sweep as edge
+use Rattle.node_core.specs.data_link.Sweep.{is_out_renewed, is_back_renewed}
 use Rattle.run_model.specs.World.{World, IsWorldInRange}
 use Rattle.run_model.specs.Start.{world_with_spares}
 use Rattle.run_model.specs.Step.{refusal, step}

@@ -1,7 +1,7 @@
 -- A world and the events of a run, as one edge has them.
 use Rattle.std.specs.Prelude.{ℕ, if◌then◌else◌, List, [], ◌∷◌}
 use Rattle.topology.specs.declared.frame.Payload.{Payload}
-use Rattle.data_link.specs.Edge.{EdgeState, EdgeEvent, SendOut, SendBack, TakeOut, TakeBack, LoseOut, LoseBack, Elsewhere}
+use Rattle.node_core.specs.data_link.Edge.{EdgeState, EdgeEvent, SendOut, SendBack, TakeOut, TakeBack, LoseOut, LoseBack, Elsewhere}
 use Rattle.node_core.specs.Machines.{payload_for}
 use Rattle.run_model.specs.World.{World, site}
 use Rattle.run_model.specs.Step.{step}

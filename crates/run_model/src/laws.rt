@@ -38,7 +38,7 @@ pub fn in_range()
 {
     topology::laws::neighbours();
     topology::laws::changes();
-    data_link::laws::ports();
+    node_core::data_link::laws::ports();
     node_core::bfs_tree::laws::step_in_range();
     lock_desk::laws::ranges_are_kept();
 }
@@ -84,7 +84,7 @@ pub fn strict_sweeps()
 {
     topology::laws::joined();
     topology::laws::neighbours();
-    data_link::laws::sweeps();
+    node_core::data_link::laws::sweeps();
     in_range();
 }
 

@@ -24,3 +24,5 @@ pub mod laws;
 
 pub use event::{Event, EventFault, Harm};
 pub use happened::Happened;
+pub use node_core;
+pub use node_core::data_link;

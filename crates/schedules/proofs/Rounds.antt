@@ -8,10 +8,10 @@ use Rattle.std.specs.List.{flat_map, range_with_len}
 use Rattle.topology.specs.Network.{Network}
 use Rattle.topology.specs.Laws.{JoinedAreNodes}
 use Rattle.lock_desk.specs.Desk.{DeskState, desk_ticked}
-use Rattle.node_core.specs.Site.{Site, site_of}
-use Rattle.node_core.specs.State.{LocalState}
-use Rattle.node_core.specs.Step.{ticked, recomputed}
-use Rattle.node_core.specs.Machines.{is_node_privileged}
+use Rattle.configuration.specs.node_core.Site.{Site, site_of}
+use Rattle.configuration.specs.node_core.State.{LocalState}
+use Rattle.configuration.specs.node_core.Step.{ticked, recomputed}
+use Rattle.configuration.specs.node_core.Machines.{is_node_privileged}
 use Rattle.run_model.specs.World.{World, IsWorldInRange, site}
 use Rattle.run_model.specs.Step.{step}
 use Rattle.run_model.specs.Run.{run, IsUndamaged}

@@ -4,9 +4,9 @@ use Rattle.std.proofs.lemmas.Bool.Decides.{nat_tests}
 use Rattle.std.specs.Prelude.{◌⊎◌, ◌==◌, ◌||◌, ◌&&◌, is_none}
 use Rattle.std.specs.List.{range_with_len}
 use Rattle.topology.specs.Network.{Network}
-use Rattle.node_core.specs.Site.{site_of}
-use Rattle.node_core.specs.State.{LocalState}
-use Rattle.node_core.specs.Step.{ticked}
+use Rattle.configuration.specs.node_core.Site.{site_of}
+use Rattle.configuration.specs.node_core.State.{LocalState}
+use Rattle.configuration.specs.node_core.Step.{ticked}
 use Rattle.run_model.specs.World.{World}
 use Rattle.run_model.specs.Step.{step}
 use Rattle.run_model.specs.Sweep.{is_full_tick, has_full_tick}

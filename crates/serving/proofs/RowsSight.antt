@@ -1,6 +1,6 @@
 -- Rows: whose own an event is.
 use Rattle.std.proofs.Common.{◌≡◌, ℕ, Option, Some, None, refl, arith}
-use Rattle.run_model.specs.declared.event.Event.TheVariants.{Send, Take}
+use Rattle.configuration.specs.run_model.declared.event.Event.TheVariants.{Send, Take}
 use Rattle.serving.specs.Sight.{IsOwnNode}
 
 apart : (◌≡◌ {A = Option ℕ} (Some 3) (Some 5)) → ⊥

@@ -8,10 +8,10 @@ use Rattle.std.specs.List.{range_with_len}
 use Rattle.topology.specs.Network.{IsTrueParent}
 use Rattle.topology.specs.Tree.{parent_of}
 use Rattle.topology.specs.Laws.{DistanceIs, ParentIs, EachTree}
-use Rattle.run_model.specs.World.{World, IsWorldInRange}
-use Rattle.run_model.specs.Privilege.{is_privileged, is_lending}
-use Rattle.run_model.specs.NodeCounts.{privileged_count, lending_count}
-use Rattle.run_model.specs.Headline.{IsServing}
+use Rattle.configuration.specs.run_model.World.{World, IsWorldInRange}
+use Rattle.configuration.specs.run_model.Privilege.{is_privileged, is_lending}
+use Rattle.configuration.specs.run_model.NodeCounts.{privileged_count, lending_count}
+use Rattle.configuration.specs.run_model.Headline.{IsServing}
 use Rattle.serving.specs.TreeShown.{IsTreeShown}
 
 -- ---- at most one is counted where any two are the same

@@ -8,15 +8,15 @@ use Rattle.topology.specs.Network.{Network, IsDistance, IsTrueParent}
 use Rattle.configuration.specs.node_core.Machines.{is_node_privileged}
 use Rattle.configuration.specs.node_core.Site.{Site, site_of}
 use Rattle.configuration.specs.node_core.State.{LocalState}
-use Rattle.run_model.specs.World.{World}
-use Rattle.run_model.specs.Step.{step}
-use Rattle.run_model.specs.Run.{is_damage, IsUndamaged}
-use Rattle.run_model.specs.Laws.{NetworkStays, OwnNodeAlone}
-use Rattle.run_model.specs.Headline.{IsServing}
-use Rattle.run_model.specs.Touched.{is_node_touched}
-use Rattle.run_model.specs.declared.event.Event.{Event}
-use Rattle.run_model.specs.declared.event.Event.TheVariants.{Send, Take, Lose, Tick, Ask, Leave, Damage}
-use Rattle.run_model.specs.declared.event.Harm.{Harm}
+use Rattle.configuration.specs.run_model.World.{World}
+use Rattle.configuration.specs.run_model.Step.{step}
+use Rattle.configuration.specs.run_model.Run.{is_damage, IsUndamaged}
+use Rattle.configuration.specs.run_model.Laws.{NetworkStays, OwnNodeAlone}
+use Rattle.configuration.specs.run_model.Headline.{IsServing}
+use Rattle.configuration.specs.run_model.Touched.{is_node_touched}
+use Rattle.configuration.specs.run_model.declared.event.Event.{Event}
+use Rattle.configuration.specs.run_model.declared.event.Event.TheVariants.{Send, Take, Lose, Tick, Ask, Leave, Damage}
+use Rattle.configuration.specs.run_model.declared.event.Harm.{Harm}
 use Rattle.serving.specs.Sight.{sight_of, IsTouchedSight, SightsDecide}
 use Rattle.serving.specs.declared.sight.Sight.{Sight}
 

@@ -1,13 +1,13 @@
 -- What the headline speaks of at one node.
 use Rattle.std.specs.Prelude.{◌≡◌, ◌↔◌, ℕ, ◌<◌, false, IsTrue, Option, Some}
-use Rattle.run_model.specs.World.{World}
-use Rattle.run_model.specs.Step.{step}
-use Rattle.run_model.specs.Privilege.{is_privileged, is_lending}
-use Rattle.run_model.specs.Touched.{is_node_touched}
-use Rattle.run_model.specs.declared.event.Event.{Event}
-use Rattle.run_model.specs.declared.event.Event.TheVariants.{Damage}
-use Rattle.run_model.specs.Headline.{IsServing}
-use Rattle.run_model.specs.Run.{is_damage}
+use Rattle.configuration.specs.run_model.World.{World}
+use Rattle.configuration.specs.run_model.Step.{step}
+use Rattle.configuration.specs.run_model.Privilege.{is_privileged, is_lending}
+use Rattle.configuration.specs.run_model.Touched.{is_node_touched}
+use Rattle.configuration.specs.run_model.declared.event.Event.{Event}
+use Rattle.configuration.specs.run_model.declared.event.Event.TheVariants.{Damage}
+use Rattle.configuration.specs.run_model.Headline.{IsServing}
+use Rattle.configuration.specs.run_model.Run.{is_damage}
 use Rattle.serving.specs.declared.sight.Sight.{Sight}
 
 -- a node's distance and parent, whether it is privileged, and whether it lends

@@ -1,7 +1,7 @@
 -- The nodes' own distances and parents.
 use Rattle.std.specs.Prelude.{◌≡◌, ℕ, ◌<◌}
 use Rattle.topology.specs.Tree.{distance_of, parent_of}
-use Rattle.run_model.specs.World.{World}
+use Rattle.configuration.specs.run_model.World.{World}
 
 -- the node has its distance from the root and its true parent
 abbrev pub IsNodeShown : World → ℕ → Type 0

@@ -7,6 +7,6 @@ ghost use Rattle.serving.specs.Sight.{SightsDecide};
 pub fn sights()
     ensures { SightsDecide }
 {
-    run_model::laws::own_changes();
-    run_model::laws::runs();
+    configuration::run_model::laws::own_changes();
+    configuration::run_model::laws::runs();
 }

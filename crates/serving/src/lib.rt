@@ -27,3 +27,5 @@ mod whole;
 
 pub use sight::{Sight, serves_behind, touched_sight};
 pub use whole::serves;
+pub use configuration;
+pub use configuration::node_core;

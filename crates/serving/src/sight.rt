@@ -1,15 +1,15 @@
 //! The test along a run, which looks at one node an event.
 ghost use Rattle.std.specs.Prelude.{◌≡◌, ◌↔◌, ◌<◌, IsTrue};
-ghost use Rattle.run_model.specs.World.{World};
-ghost use Rattle.run_model.specs.Step.{step};
-ghost use Rattle.run_model.specs.Headline.{IsServing};
+ghost use Rattle.configuration.specs.run_model.World.{World};
+ghost use Rattle.configuration.specs.run_model.Step.{step};
+ghost use Rattle.configuration.specs.run_model.Headline.{IsServing};
 ghost use Rattle.configuration.specs.ConfigurationView.{world_of};
 ghost use Rattle.serving.specs.Sight.{sight_of, IsOwnNode, IsTouchedSight};
 
 use crate::laws::sights;
 use crate::whole::serves;
 use configuration::Configuration;
-use run_model::Event;
+use configuration::run_model::Event;
 use std::alloc::Allocator;
 
 /// What a network's serving asks of one node.
@@ -78,7 +78,7 @@ pub fn serves_behind<A: Allocator + Copy>(
         → (IsTrue result ↔ IsServing (world_of configuration.now)) }
 {
     sights();
-    run_model::laws::runs();
+    configuration::run_model::laws::runs();
     if let Event::Damage(_) = event {
         return serves(configuration);
     }

@@ -1,7 +1,7 @@
 //! The test, over all nodes.
 ghost use Rattle.std.specs.Prelude.{◌↔◌, ◌<◌, ◌≤◌, IsTrue};
-ghost use Rattle.run_model.specs.NodeCounts.{lending_count, privileged_count};
-ghost use Rattle.run_model.specs.Headline.{IsServing};
+ghost use Rattle.configuration.specs.run_model.NodeCounts.{lending_count, privileged_count};
+ghost use Rattle.configuration.specs.run_model.Headline.{IsServing};
 ghost use Rattle.configuration.specs.ConfigurationView.{world_of};
 ghost use Rattle.serving.specs.TreeShown.{IsNodeShown, IsTreeShown};
 

@@ -8,10 +8,10 @@ use Rattle.topology.specs.declared.frame.Payload.{Payload}
 use Rattle.k_state.specs.Machine as machine
 use Rattle.k_state.specs.Machine.{root_moved}
 use Rattle.euler_ring.specs.Cycle.{special, is_named, source_for}
-use Rattle.node_core.specs.Site.{Site, site_of}
-use Rattle.node_core.specs.State.{LocalState}
-use Rattle.node_core.specs.Machines.{tree_of, before}
-use Rattle.node_core.specs.Step.{ticked}
+use Rattle.run_model.specs.node_core.Site.{Site, site_of}
+use Rattle.run_model.specs.node_core.State.{LocalState}
+use Rattle.run_model.specs.node_core.Machines.{tree_of, before}
+use Rattle.run_model.specs.node_core.Step.{ticked}
 use Rattle.run_model.specs.World.{World, site}
 use Rattle.run_model.specs.Step.{step}
 use Rattle.run_model.specs.Run.{is_damage}

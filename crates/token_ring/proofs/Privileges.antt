@@ -14,7 +14,7 @@ use Rattle.k_state.specs.Laws.{OneItemIsPrivileged}
 use Rattle.k_state.specs.Ring.{IsGood, IsRing}
 use Rattle.euler_ring.specs.Laws.{OwnViewIsTrue}
 use Rattle.euler_ring.specs.Cycle.{is_named, special}
-use Rattle.node_core.specs.Machines.{tree_of, may_move}
+use Rattle.run_model.specs.node_core.Machines.{tree_of, may_move}
 use Rattle.run_model.specs.World.{World, site, IsWorldInRange}
 use Rattle.run_model.specs.Tree.{IsTreeReached}
 use Rattle.token_ring.specs.Ring.{Leg, IsTokenRingGood}

@@ -4,7 +4,7 @@ use Rattle.std.proofs.Common.{◌≡◌, ℕ, ◌+◌, ◌*◌, [], ◌∷◌, N
 use Rattle.run_model.proofs.RowsFaults.{square}
 use Rattle.topology.specs.declared.frame.Payload.{Payload}
 use Rattle.lock_desk.specs.Desk.{no_desk}
-use Rattle.node_core.specs.State.{LocalState}
+use Rattle.run_model.specs.node_core.State.{LocalState}
 use Rattle.euler_ring.specs.Tour.{tour}
 use Rattle.token_ring.specs.Ring.{token_ring}
 

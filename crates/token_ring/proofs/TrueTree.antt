@@ -5,7 +5,7 @@ use Rattle.topology.specs.Network.{Network, are_joined, neighbours_of, IsAccepte
 use Rattle.topology.specs.Tree.{parent_of}
 use Rattle.topology.specs.Laws.{JoinedBack}
 use Rattle.euler_ring.specs.Cycle.{is_named}
-use Rattle.node_core.specs.Machines.{tree_of}
+use Rattle.run_model.specs.node_core.Machines.{tree_of}
 use Rattle.run_model.specs.World.{World, site}
 use Rattle.run_model.specs.Tree.{IsTreeReached}
 use Rattle.token_ring.specs.Legs.{is_on_tree}

@@ -16,7 +16,7 @@ use Rattle.convergence.specs.tree_convergence.Laws.{NumbersMove}
 use Rattle.world.specs.Numbers.{DoNumbersMove}
 use Rattle.judge.specs.Judging.{counted_up_to}
 use Rattle.judge.specs.JudgeView.{JudgeView, HasSeen}
-use Rattle.configuration.specs.ConfigurationView.{ConfigurationView, world_of}
+use Rattle.judge.specs.configuration.ConfigurationView.{ConfigurationView, world_of}
 
 -- as many sweeps without damage as the network needs lead from each world in range to one of which
 -- P holds

@@ -16,7 +16,7 @@ use Rattle.world.specs.Simulating.{longest_text, IsShown, IsHalfShown, IsSimulat
 use Rattle.world.specs.StateText.{state_text}
 use Rattle.byte_streams.specs.Streams.{Takes, TakesABeginning, Rose, CountsFailures}
 use Rattle.world.specs.UnderWay.{SimulationView, HasRun, Reads, Finishes}
-use Rattle.configuration.specs.ConfigurationView.{world_of}
+use Rattle.judge.specs.configuration.ConfigurationView.{world_of}
 use Rattle.world.proofs.Writing.{takes_both, then_beginning}
 
 module _ (start : World) (bytes : List ℕ) (before between after : Option (List ℕ)) (s : SimulationView) (sweeps : ℕ) (seen : AreSweepsSeen s.judge sweeps)

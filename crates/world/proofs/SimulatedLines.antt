@@ -12,7 +12,7 @@ use Rattle.judge.specs.Judging.{counted_up_to}
 use Rattle.world.specs.SimulatedText.{line_refusal, refusal_line, refusal_lines, refused_lines, told_event, told_events, refusals_of}
 use Rattle.byte_streams.specs.Streams.{Takes, TakesABeginning, WritesAll}
 use Rattle.world.specs.UnderWay.{SimulationView, HasRun, HasSeenLine, Runs}
-use Rattle.configuration.specs.ConfigurationView.{world_of}
+use Rattle.judge.specs.configuration.ConfigurationView.{world_of}
 use Rattle.world.proofs.Writing.{takes_nothing, takes_both, then_beginning}
 
 -- the refusal lines of lines and then more lines

@@ -55,9 +55,9 @@ pub mod report;
 pub mod simulation;
 pub mod streams;
 
-pub use configuration::{Configuration, Links};
+pub use judge::configuration::{Configuration, Links};
 pub use judge::{Judge, Parts, Stretch, Tally, World};
 pub use link_model::{Frame, Item, NoItem, Payload};
-pub use node_core::Node;
+pub use judge::node_core::Node;
 pub use run_model::{Event, EventFault, Happened, Harm};
 pub use topology::{Net, NetFault};

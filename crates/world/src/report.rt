@@ -14,7 +14,7 @@ ghost use Rattle.convergence.specs.Payloads.{ArePayloadsFresh};
 ghost use Rattle.world.specs.Numbers.{DoNumbersMove};
 ghost use Rattle.judge.specs.Judging.{refused_in, counted_up_to};
 ghost use Rattle.judge.specs.Visited.{AreVisited, AreAllVisited};
-ghost use Rattle.configuration.specs.ConfigurationView.{world_of};
+ghost use Rattle.judge.specs.configuration.ConfigurationView.{world_of};
 
 use judge::{Judge, World};
 use run_model::Event;

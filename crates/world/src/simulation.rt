@@ -13,7 +13,7 @@ ghost use Rattle.world.specs.Simulating.{IsSimulated, HasCause};
 ghost use Rattle.world.specs.SimulatedText.{simulated_start};
 ghost use Rattle.world.specs.StateText.{state_text};
 ghost use Rattle.byte_streams.specs.Streams.{WritesAll};
-ghost use Rattle.configuration.specs.ConfigurationView.{world_of};
+ghost use Rattle.judge.specs.configuration.ConfigurationView.{world_of};
 ghost use Rattle.world.specs.declared.simulation.SimFault.TheVariants.{Write};
 
 mod line;

@@ -2,24 +2,24 @@
 ghost use Rattle.std.specs.Prelude.{◌≡◌, ◌↔◌, ◌<◌, IfOk, IfErr, IsOk, length};
 ghost use Rattle.topology.specs.Network.{neighbours_of};
 ghost use Rattle.topology.specs.Ranges.{ranges_of};
-ghost use Rattle.node_core.specs.Site.{site_of};
-ghost use Rattle.node_core.specs.View.{site_in};
-ghost use Rattle.run_model.specs.Rewire.{can_join};
-ghost use Rattle.run_model.specs.World.{item_fits};
-ghost use Rattle.run_model.specs.Step.{harm_fits};
-ghost use Rattle.run_model.specs.declared.event.Event.TheVariants.{Damage};
-ghost use Rattle.run_model.specs.declared.event.EventFault.TheVariants as fault;
-ghost use Rattle.run_model.specs.declared.event.Harm.TheVariants as harm;
-ghost use Rattle.run_model.specs.declared.happened.Happened.TheVariants.{Damaged};
+ghost use Rattle.network_links.specs.node_core.Site.{site_of};
+ghost use Rattle.network_links.specs.node_core.View.{site_in};
+ghost use Rattle.network_links.specs.run_model.Rewire.{can_join};
+ghost use Rattle.network_links.specs.run_model.World.{item_fits};
+ghost use Rattle.network_links.specs.run_model.Step.{harm_fits};
+ghost use Rattle.network_links.specs.run_model.declared.event.Event.TheVariants.{Damage};
+ghost use Rattle.network_links.specs.run_model.declared.event.EventFault.TheVariants as fault;
+ghost use Rattle.network_links.specs.run_model.declared.event.Harm.TheVariants as harm;
+ghost use Rattle.network_links.specs.run_model.declared.happened.Happened.TheVariants.{Damaged};
 ghost use Rattle.configuration.specs.ConfigurationView.{node_at, world_of};
 ghost use Rattle.configuration.specs.Answers.{Answers};
 ghost use Rattle.configuration.specs.Rewired.{IsRewired};
 
 use crate::configuration::Configuration;
 use link_model::{Item, Payload};
-use node_core::Node;
+use network_links::node_core::Node;
 use registers::OutOfRange;
-use run_model::{EventFault, Happened, Harm};
+use network_links::run_model::{EventFault, Happened, Harm};
 use std::alloc::Allocator;
 use topology::Net;
 

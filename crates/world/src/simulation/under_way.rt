@@ -7,7 +7,7 @@ ghost use Rattle.world.specs.declared.simulation.SimFault.TheVariants.{Write};
 ghost use Rattle.world.specs.SimulatedText.{line_refusal};
 ghost use Rattle.world.specs.UnderWay.{HasSeenLine, IsUnderWay, RunsNext, RunsLast, TakesNext};
 ghost use Rattle.world.specs.UnderWay.{ReadsAll, EndsThere};
-ghost use Rattle.configuration.specs.ConfigurationView.{world_of};
+ghost use Rattle.judge.specs.configuration.ConfigurationView.{world_of};
 
 use super::refusal::{UNREAD, fault_name, write_refusal};
 use super::state::write_state;

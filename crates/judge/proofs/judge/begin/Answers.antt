@@ -1,6 +1,6 @@
 use Rattle.std.proofs.Common.{◌∙◌, ap, subst}
 use Rattle.std.proofs.lemmas.List.{take_all}
-use Rattle.configuration.specs.ConfigurationView.{world_of}
+use Rattle.serving.specs.configuration.ConfigurationView.{world_of}
 use Rattle.judge.proofs.Begun.{AreBegun, begun-kept, begun-more, placed-out, placed-back}
 use Rattle.judge.proofs.judge.begin.Goals as goal
 

@@ -1,5 +1,5 @@
 use Rattle.std.proofs.Common.{take}
-use Rattle.configuration.specs.ConfigurationView.{world_of}
+use Rattle.serving.specs.configuration.ConfigurationView.{world_of}
 use Rattle.judge.proofs.Begun.{AreBegun}
 use Rattle.judge.proofs.judge.begin.Given as goal
 

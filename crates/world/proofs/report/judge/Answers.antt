@@ -9,7 +9,7 @@ use Rattle.run_model.specs.Count.{IsSweepCount}
 use Rattle.run_model.specs.Headline.{IsServing}
 use Rattle.convergence.specs.token_ring.Ring.{IsTokenRingGood}
 use Rattle.convergence.specs.token_ring.Legitimate.{IsLegitimate}
-use Rattle.configuration.specs.ConfigurationView.{world_of}
+use Rattle.judge.specs.configuration.ConfigurationView.{world_of}
 use Rattle.judge.specs.JudgeView.{HasSeen}
 use Rattle.judge.specs.Judging.{counted_up_to}
 use Rattle.run_model.specs.Run.{run}

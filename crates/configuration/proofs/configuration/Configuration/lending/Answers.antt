@@ -1,5 +1,5 @@
 use Rattle.std.proofs.Common.{rules, ◌≡◌, ◌∙◌, ◌≤◌, ◌+◌, ap, sym, subst, is_some}
-use Rattle.run_model.specs.Privilege.{is_lending}
+use Rattle.network_links.specs.run_model.Privilege.{is_lending}
 use Rattle.configuration.specs.ConfigurationView.{world_of}
 use Rattle.configuration.proofs.NodeCounts.{count-yes, count-no, count-most}
 use Rattle.configuration.proofs.configuration.Configuration.lending.Goals as goal

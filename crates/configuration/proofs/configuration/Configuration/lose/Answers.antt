@@ -1,7 +1,7 @@
 use Rattle.std.proofs.Common.{rules, ◌≡◌, None, Some}
-use Rattle.run_model.specs.declared.event.Event.TheVariants.{Lose}
-use Rattle.run_model.specs.declared.event.EventFault.TheVariants.{NoItem}
-use Rattle.run_model.specs.Step.{refusal}
+use Rattle.network_links.specs.run_model.declared.event.Event.TheVariants.{Lose}
+use Rattle.network_links.specs.run_model.declared.event.EventFault.TheVariants.{NoItem}
+use Rattle.network_links.specs.run_model.Step.{refusal}
 use Rattle.configuration.specs.ConfigurationView.{ConfigurationView, world_of}
 use Rattle.configuration.proofs.WorldSteps.{lose-answers, lose-there, lose-past, links-refused}
 use Rattle.configuration.proofs.configuration.Configuration.lose.Goals as goal

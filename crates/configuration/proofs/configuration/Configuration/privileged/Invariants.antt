@@ -1,6 +1,6 @@
 use Rattle.std.proofs.Common.{◌≡◌, count_by}
 use Rattle.std.specs.List.{range_with_len}
-use Rattle.run_model.specs.Privilege.{is_privileged}
+use Rattle.network_links.specs.run_model.Privilege.{is_privileged}
 use Rattle.configuration.specs.ConfigurationView.{world_of}
 use Rattle.configuration.proofs.configuration.Configuration.privileged.Given as goal
 

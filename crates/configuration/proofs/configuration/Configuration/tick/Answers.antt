@@ -1,7 +1,7 @@
 use Rattle.std.proofs.Common.{◌≡◌, ◌∙◌, ap, None, if◌then◌else◌}
-use Rattle.run_model.specs.declared.event.Event.TheVariants.{Tick}
-use Rattle.run_model.specs.declared.happened.Happened.TheVariants.{FullTick, LendingTick}
-use Rattle.run_model.specs.Step.{refusal}
+use Rattle.network_links.specs.run_model.declared.event.Event.TheVariants.{Tick}
+use Rattle.network_links.specs.run_model.declared.happened.Happened.TheVariants.{FullTick, LendingTick}
+use Rattle.network_links.specs.run_model.Step.{refusal}
 use Rattle.configuration.specs.ConfigurationView.{ConfigurationView, world_of}
 use Rattle.configuration.proofs.NodePlaces.{IsNodeAt, found-there, now-nodes}
 use Rattle.configuration.proofs.WorldSteps.{tick-answers}

@@ -1,9 +1,9 @@
 use Rattle.std.proofs.Common.{◌≡◌, ◌↔◌, subst, sym, refl, IsOk, IsTrue, None}
 use Rattle.lock_desk.specs.Desk.{loan_fits, with_loan}
-use Rattle.node_core.specs.View.{state_of}
-use Rattle.run_model.specs.declared.event.Harm.{Harm}
-use Rattle.run_model.specs.declared.event.Harm.TheVariants.{Desk}
-use Rattle.run_model.specs.Step.{harm_fits, harm_place_fault}
+use Rattle.network_links.specs.node_core.View.{state_of}
+use Rattle.network_links.specs.run_model.declared.event.Harm.{Harm}
+use Rattle.network_links.specs.run_model.declared.event.Harm.TheVariants.{Desk}
+use Rattle.network_links.specs.run_model.Step.{harm_fits, harm_place_fault}
 use Rattle.configuration.specs.ConfigurationView.{ConfigurationView, world_of}
 use Rattle.configuration.proofs.NodePlaces.{IsNodeAt, found-there, now-nodes, site-is, state-is}
 use Rattle.configuration.proofs.Harms.{harm-answers}

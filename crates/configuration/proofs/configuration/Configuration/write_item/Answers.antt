@@ -1,6 +1,6 @@
 use Rattle.std.proofs.Common.{◌∙◌, IsTrue, sym}
-use Rattle.run_model.specs.declared.event.Harm.TheVariants as harm
-use Rattle.run_model.specs.Step.{harm_fits}
+use Rattle.network_links.specs.run_model.declared.event.Harm.TheVariants as harm
+use Rattle.network_links.specs.run_model.Step.{harm_fits}
 use Rattle.configuration.specs.ConfigurationView.{ConfigurationView, world_of}
 use Rattle.configuration.proofs.Harms.{item-fits, item-answers}
 use Rattle.configuration.proofs.configuration.Configuration.write_item.Goals as goal

@@ -1,8 +1,8 @@
 use Rattle.std.proofs.Common.{◌≡◌, ◌↔◌, subst, refl, IsOk, IsTrue, None}
-use Rattle.node_core.specs.Writes.{own_fits}
-use Rattle.run_model.specs.declared.event.Harm.{Harm}
-use Rattle.run_model.specs.declared.event.Harm.TheVariants.{Own}
-use Rattle.run_model.specs.Step.{harm_fits, harm_place_fault}
+use Rattle.network_links.specs.node_core.Writes.{own_fits}
+use Rattle.network_links.specs.run_model.declared.event.Harm.{Harm}
+use Rattle.network_links.specs.run_model.declared.event.Harm.TheVariants.{Own}
+use Rattle.network_links.specs.run_model.Step.{harm_fits, harm_place_fault}
 use Rattle.configuration.specs.ConfigurationView.{ConfigurationView, world_of}
 use Rattle.configuration.proofs.NodePlaces.{IsNodeAt, found-there, now-nodes, site-is}
 use Rattle.configuration.proofs.Harms.{harm-answers}

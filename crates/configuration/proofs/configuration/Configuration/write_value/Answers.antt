@@ -1,8 +1,8 @@
 use Rattle.std.proofs.Common.{◌<◌, ◌↔◌, subst, refl, IsOk, IsTrue}
 use Rattle.topology.specs.At.{at}
-use Rattle.run_model.specs.declared.event.Harm.{Harm}
-use Rattle.run_model.specs.declared.event.Harm.TheVariants.{Value}
-use Rattle.run_model.specs.Step.{harm_fits}
+use Rattle.network_links.specs.run_model.declared.event.Harm.{Harm}
+use Rattle.network_links.specs.run_model.declared.event.Harm.TheVariants.{Value}
+use Rattle.network_links.specs.run_model.Step.{harm_fits}
 use Rattle.configuration.specs.ConfigurationView.{ConfigurationView, world_of}
 use Rattle.configuration.proofs.NodePlaces.{IsPortAt, now-nodes, port-at, site-is}
 use Rattle.configuration.proofs.Harms.{harm-answers, less-test}

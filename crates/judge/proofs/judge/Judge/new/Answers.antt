@@ -1,5 +1,5 @@
 use Rattle.std.proofs.Common.{◌∙◌, [], ap, sym, subst, IsTrue}
-use Rattle.configuration.specs.ConfigurationView.{world_of}
+use Rattle.serving.specs.configuration.ConfigurationView.{world_of}
 use Rattle.judge.specs.Judging.{IsJudging}
 use Rattle.judge.specs.Stretch.{IsKept}
 use Rattle.judge.specs.Visited.{AreVisited}

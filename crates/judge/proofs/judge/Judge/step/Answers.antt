@@ -1,6 +1,6 @@
 use Rattle.std.proofs.Common.{◌≡◌, ◌∙◌, ap, sym, subst, IsTrue, [], ◌∷◌, inl, inr, arith, refl}
 use Rattle.topology.specs.Network.{IsAcceptedNetwork, are_joined}
-use Rattle.configuration.specs.ConfigurationView.{world_of}
+use Rattle.serving.specs.configuration.ConfigurationView.{world_of}
 use Rattle.judge.specs.Stretch.{names_below, names_place}
 use Rattle.judge.proofs.JudgeSteps.{names, names-behind, placed, accepted-damage, no-damage, refused-step, damage-step, other-step, sweep-step, sweep-ends, few-looks, room-cleared, room-empty, room-behind}
 use Rattle.judge.proofs.Visits.{visited-refused, visited-damage, visited-goes_on}

@@ -1,6 +1,6 @@
 use Rattle.std.proofs.Common.{◌∙◌, ap, sym, IsTrue}
 use Rattle.topology.specs.Network.{are_joined}
-use Rattle.configuration.specs.ConfigurationView.{world_of}
+use Rattle.serving.specs.configuration.ConfigurationView.{world_of}
 use Rattle.run_model.specs.declared.event.Event.TheVariants.{Tick}
 use Rattle.judge.proofs.Judging.{joined-then}
 use Rattle.judge.proofs.JudgeSteps.{seen-looked}

@@ -1,6 +1,6 @@
 use Rattle.std.proofs.Common.{◌∙◌, ap, refl, slice_index_or}
 use Rattle.topology.specs.Network.{are_joined}
-use Rattle.configuration.specs.PairTable.{value_at}
+use Rattle.serving.specs.configuration.PairTable.{value_at}
 use Rattle.judge.specs.Tallies.{most_tallies, no_tally}
 use Rattle.judge.proofs.Laying.{few-places, laid-tallied}
 use Rattle.judge.proofs.TallyCounts.{none-there}

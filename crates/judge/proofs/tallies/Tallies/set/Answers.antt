@@ -1,7 +1,7 @@
 use Rattle.std.proofs.Common.{◌≡◌, ◌∙◌, ◌<◌, IsTrue, arith}
 use Rattle.std.proofs.lemmas.Grind.{common_steps}
 use Rattle.std.proofs.lemmas.List.{length-set}
-use Rattle.configuration.specs.PairTable.{value_at}
+use Rattle.serving.specs.configuration.PairTable.{value_at}
 use Rattle.judge.specs.Tallies.{TalliesView, has_place}
 use Rattle.judge.proofs.TallyPlaces.{tally-set, own-set}
 use Rattle.judge.proofs.TallyCounts.{sum-within, before-counts, after-counts}

@@ -1,5 +1,5 @@
 use Rattle.std.proofs.Common.{◌∙◌, [], ◌∷◌, ap, sym}
-use Rattle.configuration.specs.ConfigurationView.{world_of}
+use Rattle.serving.specs.configuration.ConfigurationView.{world_of}
 use Rattle.judge.proofs.world.World.step.Goals as goal
 
 pub invariant_of-self-2 : goal.invariant_of-self-2
