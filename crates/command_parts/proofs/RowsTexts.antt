@@ -3,10 +3,10 @@ use Rattle.std.proofs.Common.{◌≡◌, ◌≢◌, ℕ, List, [], ◌∷◌, Op
 use Rattle.std.proofs.lemmas.Fmt.{decimal_digit}
 use Rattle.topology.specs.Network.{Network}
 use Rattle.topology.specs.declared.fault.NetFault.TheVariants.{NotToml}
-use Rattle.run_model.specs.Start.{default_world}
-use Rattle.run_model.specs.World.{World}
-use Rattle.run_model.specs.declared.event.Event.TheVariants.{Damage, Leave, Lose, Tick}
-use Rattle.run_model.specs.declared.event.Harm.TheVariants as harm
+use Rattle.world.specs.run_model.Start.{default_world}
+use Rattle.world.specs.run_model.World.{World}
+use Rattle.world.specs.run_model.declared.event.Event.TheVariants.{Damage, Leave, Lose, Tick}
+use Rattle.world.specs.run_model.declared.event.Harm.TheVariants as harm
 use Rattle.network_file.specs.declared.fault.NetworkFault.TheVariants.{Refused, Unreadable}
 use Rattle.world.specs.declared.simulation.SimFault.TheVariants as simulation
 use Rattle.world.specs.declared.simulation.Summary.{Summary}

@@ -1,6 +1,6 @@
 -- What a simulation between a source and a sink says of what was read and written.
 use Rattle.std.specs.Prelude.{◌≡◌, ℕ, List, Option, Result, Ok, Err}
-use Rattle.run_model.specs.World.{World}
+use Rattle.world.specs.run_model.World.{World}
 use Rattle.world.specs.declared.simulation.Summary.{Summary}
 use Rattle.world.specs.declared.simulation.SimFault.{SimFault}
 use Rattle.world.specs.Simulating.{IsSimulated}

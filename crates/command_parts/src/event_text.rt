@@ -5,10 +5,10 @@ ghost use Rattle.std.specs.Io.KnownBytes.{Keeps};
 ghost use Rattle.byte_streams.specs.Streams.{CountsFailures};
 
 use crate::streams::count_failure;
-use events_text::EventLine;
-use run_model::Event;
 use schedules::EventSink;
 use std::io::{BufWriter, Write};
+use world::events_text::EventLine;
+use world::run_model::Event;
 use world::streams::Failed;
 
 /// Writes the line of each event that it takes.

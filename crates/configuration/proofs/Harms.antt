@@ -10,7 +10,7 @@ use Rattle.network_links.specs.run_model.declared.event.EventFault.{EventFault}
 use Rattle.network_links.specs.run_model.declared.event.EventFault.TheVariants.{OutOfRange}
 use Rattle.network_links.specs.run_model.declared.event.Harm.{Harm}
 use Rattle.network_links.specs.run_model.declared.event.Harm.TheVariants as harm
-use Rattle.link_model.specs.declared.item.Item.{Item}
+use Rattle.network_links.specs.link_model.declared.item.Item.{Item}
 use Rattle.topology.specs.Ranges.{ranges_of}
 use Rattle.network_links.specs.LinksView.{LinksView, under_way}
 use Rattle.configuration.specs.ConfigurationView.{ConfigurationView, world_of}

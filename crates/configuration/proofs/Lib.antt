@@ -6,5 +6,5 @@ mod NodeCounts
 mod NodePlaces
 mod WorldRanges
 mod WorldSteps
-mod RowsAnswers
 mod RowsRewired
+mod RowsAnswers

@@ -3,13 +3,13 @@ use Rattle.std.proofs.Common.{◌≡◌, ℕ, List, [], ◌∷◌, Some, None, O
 use Rattle.topology.specs.Ranges.{ranges_of}
 use Rattle.network_links.specs.node_core.Site.{Site}
 use Rattle.network_links.specs.node_core.State.{default_node}
-use Rattle.link_model.specs.Link.{link}
+use Rattle.network_links.specs.link_model.Link.{link}
 use Rattle.network_links.specs.run_model.World.{World}
 use Rattle.network_links.specs.run_model.Step.{refusal}
 use Rattle.network_links.specs.run_model.declared.event.Event.TheVariants.{Tick, Send}
 use Rattle.network_links.specs.run_model.declared.event.EventFault.TheVariants.{NoNode, NoLink}
 use Rattle.network_links.specs.run_model.declared.happened.Happened.TheVariants.{FullTick}
-use Rattle.run_model.proofs.RowsTwo.{two_nodes}
+use Rattle.configuration.proofs.RowsRewired.{two_nodes}
 use Rattle.network_links.specs.LinksView.{LinksView}
 use Rattle.configuration.specs.Answers.{Answers}
 use Rattle.configuration.specs.ConfigurationView.{ConfigurationView, no_node, node_at, states_of, world_of, AreNodesOf}

@@ -4,7 +4,7 @@ use Rattle.std.proofs.lemmas.Grind.{common_steps}
 use Rattle.std.proofs.lemmas.List.Elements.{All-get_or}
 use Rattle.topology.specs.Network.{Network, are_joined}
 use Rattle.topology.specs.Ranges.{ranges_of}
-use Rattle.link_model.specs.Link.{link}
+use Rattle.network_links.specs.link_model.Link.{link}
 use Rattle.network_links.specs.run_model.World.{IsWorldInRange, item_fits}
 use Rattle.network_links.specs.node_core.Site.{site_of}
 use Rattle.network_links.specs.node_core.State.{IsNodeInRange}

@@ -1,15 +1,15 @@
 -- A changed node or link, as a step of the world.
 use Rattle.std.proofs.Common.{◌≡◌, ◌∙◌, ◌/◌, sym, ap, Bool, true, false, ℕ, ◌<◌, ◌++◌, [], ◌∷◌, arith, refl, IsTrue, List, Option, None, Some, Result, Ok, Err, is_none, IsOk, ◌↔◌, length, slice_set, slice_get, drop, remove, not, nat_lt, if◌then◌else◌}
 use Rattle.std.proofs.lemmas.Grind.{common_steps}
-use Rattle.link_model.specs.declared.item.Item.{Item}
-use Rattle.link_model.specs.declared.item.Item.TheVariants as item
+use Rattle.network_links.specs.link_model.declared.item.Item.{Item}
+use Rattle.network_links.specs.link_model.declared.item.Item.TheVariants as item
 use Rattle.network_links.specs.run_model.data_link.Port.{frame_of}
 use Rattle.network_links.specs.node_core.Site.{site_of}
 use Rattle.network_links.specs.node_core.Step.{taken, ticked}
 use Rattle.network_links.specs.node_core.View.{NodeView, site_in, state_of}
 use Rattle.network_links.specs.run_model.World.{World, at_pair, site, with_link, with_node}
-use Rattle.lock_desk.specs.Desk.{after_leave, ask_fault, asked, is_number, is_stranger}
-use Rattle.lock_desk.specs.declared.fault.AskFault.{AskFault}
+use Rattle.network_links.specs.lock_desk.Desk.{after_leave, ask_fault, asked, is_number, is_stranger}
+use Rattle.network_links.specs.lock_desk.declared.fault.AskFault.{AskFault}
 use Rattle.network_links.specs.run_model.Step.{changed, desk_fault, first_fault, handed_over, link_fault, node_fault, refusal, step, ticket_fault, unless}
 use Rattle.std.proofs.Math.Path.{fun_ext}
 use Rattle.topology.specs.At.{at}

@@ -6,7 +6,7 @@ use Rattle.topology.specs.Ranges.{ranges_of}
 use Rattle.network_links.specs.node_core.Site.{site_of}
 use Rattle.network_links.specs.node_core.State.{LocalState, default_node}
 use Rattle.network_links.specs.node_core.View.{NodeView, site_in, state_of}
-use Rattle.lock_desk.specs.Desk.{no_desk}
+use Rattle.network_links.specs.lock_desk.Desk.{no_desk}
 use Rattle.network_links.specs.run_model.World.{World}
 use Rattle.network_links.specs.LinksView.{LinksView, spare_pairs, under_way}
 

@@ -1,3 +1,4 @@
+pub use Rattle.network_links.specs.link_model as link_model
 pub use Rattle.network_links.specs.run_model as run_model
 pub use Rattle.network_links.specs.node_core as node_core
 pub mod ConfigurationView

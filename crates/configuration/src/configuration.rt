@@ -17,9 +17,9 @@ ghost use Rattle.configuration.specs.Answers.{Answers};
 
 mod harms;
 
-use link_model::{Item, NoItem};
-use lock_desk::{AskFault, Stranger};
 use network_links::Links;
+use network_links::link_model::{Item, NoItem};
+use network_links::lock_desk::{AskFault, Stranger};
 use network_links::node_core::Node;
 use network_links::run_model::{Event, EventFault, Happened};
 use std::alloc::{AllocError, Allocator, Global};

@@ -17,6 +17,4 @@
 mod configuration;
 
 pub use configuration::Configuration;
-pub use network_links::{Links, PairTable};
-pub use network_links::node_core;
-pub use network_links::run_model;
+pub use network_links::{Links, PairTable, link_model, node_core, run_model};

@@ -3,7 +3,7 @@ use Rattle.std.proofs.Common.{◌≡◌, ◌∙◌, ap, Result, Ok, Err, IsOk, O
 use Rattle.std.proofs.Math.Path.{fun_ext}
 use Rattle.std.proofs.lemmas.Grind.{common_steps}
 use Rattle.topology.specs.At.{at}
-use Rattle.data_link.specs.Port.{PortState}
+use Rattle.run_model.specs.data_link.Port.{PortState}
 use Rattle.run_model.specs.node_core.State.{LocalState}
 use Rattle.run_model.specs.node_core.Writes.{with_port}
 use Rattle.damage_tool.specs.declared.draws.PortDraw.{PortDraw}

@@ -24,5 +24,5 @@ pub use fault::OutOfRange;
 pub use heard::Heard;
 pub use k_state;
 pub use link_model;
-pub use port::Port;
 pub use link_model::topology;
+pub use port::Port;

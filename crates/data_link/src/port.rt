@@ -7,9 +7,9 @@ ghost use Rattle.data_link.specs.Port.{counters_fit, default_port, frame_of, por
 use crate::fault::OutOfRange;
 use crate::heard::Heard;
 use k_state::{copy_move, root_move};
+use link_model::topology::{Frame, Net, Payload, Ranges};
 use std::alloc::Allocator;
 use std::marker::Model;
-use link_model::topology::{Frame, Net, Payload, Ranges};
 
 /// What a node keeps of one neighbour: the number of its staged payload, the last number that it
 /// accepted, the staged payload, and the copy of the neighbour's payload. Each field is in its

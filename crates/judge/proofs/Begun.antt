@@ -4,7 +4,7 @@ use Rattle.std.proofs.lemmas.Bool.{false≢true}
 use Rattle.std.proofs.lemmas.Grind.{common_steps}
 use Rattle.std.proofs.lemmas.List.Folds.{list_any_at, list_any_more}
 use Rattle.topology.specs.Network.{Edge, Network, are_joined, is_between}
-use Rattle.run_model.specs.World.{World, at_pair}
+use Rattle.serving.specs.run_model.World.{World, at_pair}
 use Rattle.judge.specs.declared.tallies.Tally.{Tally}
 use Rattle.judge.specs.Tallies.{has_place, tally_of, first_tally}
 use Rattle.judge.specs.Stretch.{StretchView, IsRoomFor, has_bit, IsKept}

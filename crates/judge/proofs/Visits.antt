@@ -5,17 +5,17 @@ use Rattle.std.proofs.lemmas.Grind.{common_steps}
 use Rattle.link_model.specs.declared.item.Item.{Item}
 use Rattle.serving.specs.node_core.Machines.{is_node_privileged}
 use Rattle.serving.specs.node_core.State.{LocalState}
-use Rattle.run_model.specs.World.{World, IsWorldInRange, site, with_node, with_link}
-use Rattle.run_model.specs.Step.{refusal, step, changed, handed_over, has_room}
-use Rattle.run_model.specs.Run.{run, is_damage}
-use Rattle.run_model.specs.Count.{after_damage}
-use Rattle.run_model.specs.Happened.{happened, taken_of}
-use Rattle.run_model.specs.Privilege.{is_privileged}
-use Rattle.run_model.specs.Visited.{is_privileged_once, is_visited}
-use Rattle.run_model.specs.declared.event.Event.{Event}
-use Rattle.run_model.specs.declared.event.Event.TheVariants.{Send, Take, Lose, Tick, Ask, Leave, Damage}
-use Rattle.run_model.specs.declared.happened.Happened.{Happened}
-use Rattle.run_model.specs.declared.happened.Happened.TheVariants.{FullTick, LendingTick, Damaged}
+use Rattle.serving.specs.run_model.World.{World, IsWorldInRange, site, with_node, with_link}
+use Rattle.serving.specs.run_model.Step.{refusal, step, changed, handed_over, has_room}
+use Rattle.serving.specs.run_model.Run.{run, is_damage}
+use Rattle.serving.specs.run_model.Count.{after_damage}
+use Rattle.serving.specs.run_model.Happened.{happened, taken_of}
+use Rattle.serving.specs.run_model.Privilege.{is_privileged}
+use Rattle.serving.specs.run_model.Visited.{is_privileged_once, is_visited}
+use Rattle.serving.specs.run_model.declared.event.Event.{Event}
+use Rattle.serving.specs.run_model.declared.event.Event.TheVariants.{Send, Take, Lose, Tick, Ask, Leave, Damage}
+use Rattle.serving.specs.run_model.declared.happened.Happened.{Happened}
+use Rattle.serving.specs.run_model.declared.happened.Happened.TheVariants.{FullTick, LendingTick, Damaged}
 use Rattle.judge.specs.Below.{Below}
 use Rattle.judge.specs.Stretch.{has_bit, names_below}
 use Rattle.judge.specs.Visited.{AreVisited, ticked_or_took}

@@ -1,3 +1,4 @@
+pub use Rattle.serving.specs.run_model as run_model
 pub use Rattle.serving.specs.node_core as node_core
 pub use Rattle.serving.specs.configuration as configuration
 pub mod Tallies

@@ -1,11 +1,11 @@
 -- What contracts see of a judge's tallies, one for each link.
 use Rattle.std.specs.Prelude.{◌≡◌, ℕ, ◌+◌, ◌<◌, ◌⊎◌, Bool, true, false, not, ◌==◌, ◌||◌, if◌then◌else◌, List, [], ◌∷◌, length, slice_index_or}
-use Rattle.data_link.specs.Sweep.{LinkAct, Takes, Loses}
-use Rattle.run_model.specs.World.{World}
-use Rattle.run_model.specs.Stretch.{old_after, takes_new}
-use Rattle.run_model.specs.Sweep.{is_link}
-use Rattle.run_model.specs.declared.happened.Happened.{Happened}
-use Rattle.run_model.specs.declared.happened.Happened.TheVariants.{Taken, Lost}
+use Rattle.serving.specs.data_link.Sweep.{LinkAct, Takes, Loses}
+use Rattle.serving.specs.run_model.World.{World}
+use Rattle.serving.specs.run_model.Stretch.{old_after, takes_new}
+use Rattle.serving.specs.run_model.Sweep.{is_link}
+use Rattle.serving.specs.run_model.declared.happened.Happened.{Happened}
+use Rattle.serving.specs.run_model.declared.happened.Happened.TheVariants.{Taken, Lost}
 use Rattle.judge.specs.declared.tallies.Tally.{Tally}
 use Rattle.serving.specs.configuration.PairTable.{PairTableView, value_at}
 

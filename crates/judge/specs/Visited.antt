@@ -1,11 +1,11 @@
 -- The nodes that the privilege has visited, as a mask with a bit for each.
 use Rattle.std.specs.Prelude.{◌≡◌, ℕ, ◌<◌, Bool, false, ◌==◌, ◌&&◌, nat_lt, IsTrue, List}
 use Rattle.topology.specs.Network.{Network}
-use Rattle.run_model.specs.World.{World}
-use Rattle.run_model.specs.Visited.{is_visited}
-use Rattle.run_model.specs.declared.event.Event.{Event}
-use Rattle.run_model.specs.declared.happened.Happened.{Happened}
-use Rattle.run_model.specs.declared.happened.Happened.TheVariants.{FullTick, LendingTick, Taken}
+use Rattle.serving.specs.run_model.World.{World}
+use Rattle.serving.specs.run_model.Visited.{is_visited}
+use Rattle.serving.specs.run_model.declared.event.Event.{Event}
+use Rattle.serving.specs.run_model.declared.happened.Happened.{Happened}
+use Rattle.serving.specs.run_model.declared.happened.Happened.TheVariants.{FullTick, LendingTick, Taken}
 use Rattle.judge.specs.Stretch.{has_bit}
 
 -- The mask has the bits of the nodes that were privileged at some moment since the last accepted

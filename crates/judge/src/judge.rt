@@ -3,10 +3,10 @@ ghost use Rattle.std.specs.Prelude.{◌≡◌, ◌↔◌, ◌+◌, ◌-◌, ◌^
 ghost use Rattle.std.specs.Prelude.{false, if◌then◌else◌, ◌==◌, List, [], ◌∷◌, ◌++◌, IsTrue, IfErr};
 ghost use Rattle.std.specs.Prelude.{OnOk, None, Some, IfSome, IsSome};
 ghost use Rattle.topology.specs.Network.{are_joined};
-ghost use Rattle.run_model.specs.Step.{refusal, step};
-ghost use Rattle.run_model.specs.Run.{is_damage};
+ghost use Rattle.serving.specs.run_model.Step.{refusal, step};
+ghost use Rattle.serving.specs.run_model.Run.{is_damage};
 ghost use Rattle.serving.specs.configuration.ConfigurationView.{world_of};
-ghost use Rattle.run_model.specs.World.{at_pair};
+ghost use Rattle.serving.specs.run_model.World.{at_pair};
 ghost use Rattle.judge.specs.Tallies.{has_place, tally_of, first_tally};
 ghost use Rattle.judge.specs.Stretch.{IsRoomFor, IsKept, with_looks};
 ghost use Rattle.judge.specs.JudgeView.{HasSeen, HasSeenNext, HasSeenSame, EndsSweep};
@@ -19,7 +19,7 @@ use crate::tallies::Tally;
 use crate::visited::{privileged_nodes, visited_behind};
 use crate::world::World;
 use serving::configuration::Configuration;
-use run_model::{Event, EventFault, Happened};
+use serving::run_model::{Event, EventFault, Happened};
 use std::alloc::{Allocator, Global};
 use std::marker::Model;
 

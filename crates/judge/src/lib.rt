@@ -38,8 +38,7 @@ mod world;
 
 pub use judge::Judge;
 pub use parts::Parts;
+pub use serving::{configuration, node_core, run_model};
 pub use stretch::Stretch;
 pub use tallies::Tally;
 pub use world::World;
-pub use serving::configuration;
-pub use serving::node_core;

@@ -2,8 +2,8 @@
 ghost use Rattle.std.specs.Prelude.{◌≡◌, ◌↔◌, ◌+◌, ◌-◌, ◌*◌, ◌^◌, ◌<◌, ℕ, min, length, replicate};
 ghost use Rattle.std.specs.Prelude.{IfOk, IsTrue};
 ghost use Rattle.topology.specs.Network.{IsAcceptedNetwork, are_joined};
-ghost use Rattle.data_link.specs.Sweep.{Takes, Loses};
-ghost use Rattle.run_model.specs.World.{at_pair};
+ghost use Rattle.serving.specs.data_link.Sweep.{Takes, Loses};
+ghost use Rattle.serving.specs.run_model.World.{at_pair};
 ghost use Rattle.serving.specs.configuration.PairTable.{value_at};
 ghost use Rattle.judge.specs.Tallies.{has_place, tally_of, tally_after, missing, no_tally};
 ghost use Rattle.judge.specs.Laid.{IsLaid};

@@ -1,12 +1,12 @@
 //! The nodes that the privilege has visited, as a mask with a bit for each.
 ghost use Rattle.std.specs.Prelude.{◌≡◌, ◌<◌, ◌==◌, ◌&&◌, ◌||◌, ℕ, nat_lt, IsTrue};
-ghost use Rattle.run_model.specs.Privilege.{is_privileged};
+ghost use Rattle.serving.specs.run_model.Privilege.{is_privileged};
 ghost use Rattle.serving.specs.configuration.ConfigurationView.{world_of};
 ghost use Rattle.judge.specs.Stretch.{has_bit, names_below};
 ghost use Rattle.judge.specs.Visited.{ticked_or_took};
 
 use serving::configuration::Configuration;
-use run_model::Happened;
+use serving::run_model::Happened;
 use std::alloc::Allocator;
 
 /// The mask with the bit of a node.

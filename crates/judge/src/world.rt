@@ -2,17 +2,17 @@
 ghost use Rattle.std.specs.Prelude.{◌≡◌, ◌↔◌, ◌<◌, ◌≤◌, IfOk, IfErr, OnOk, None, Some, length};
 ghost use Rattle.std.specs.Prelude.{IsTrue};
 ghost use Rattle.serving.specs.node_core.View.{state_of, site_in};
-ghost use Rattle.run_model.specs.World.{IsWorldInRange, site};
-ghost use Rattle.run_model.specs.Headline.{IsServing};
-ghost use Rattle.run_model.specs.Start.{default_world, world_with_spares};
-ghost use Rattle.run_model.specs.NodeCounts.{lending_count, privileged_count};
-ghost use Rattle.run_model.specs.Step.{refusal, step};
+ghost use Rattle.serving.specs.run_model.World.{IsWorldInRange, site};
+ghost use Rattle.serving.specs.run_model.Headline.{IsServing};
+ghost use Rattle.serving.specs.run_model.Start.{default_world, world_with_spares};
+ghost use Rattle.serving.specs.run_model.NodeCounts.{lending_count, privileged_count};
+ghost use Rattle.serving.specs.run_model.Step.{refusal, step};
 ghost use Rattle.serving.specs.configuration.ConfigurationView.{world_of};
 
 use crate::stretch::Stretch;
 use serving::configuration::Configuration;
 use serving::node_core::Node;
-use run_model::{Event, EventFault};
+use serving::run_model::{Event, EventFault};
 use std::alloc::{AllocError, Allocator, Global};
 use std::marker::Model;
 use topology::Net;
@@ -143,7 +143,7 @@ impl<A: Allocator + Copy> World<A> {
         ensures ok { OnOk result (refusal (world_of self.old) event.now ≡ None) }
         ensures err { IfErr result (λ fault. refusal (world_of self.old) event.now ≡ Some fault) }
     {
-        run_model::laws::runs();
+        serving::run_model::laws::runs();
         let _happened = self.configuration.step(event)?;
         Ok(())
     }

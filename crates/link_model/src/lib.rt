@@ -25,5 +25,5 @@ mod link;
 pub use fault::{Full, NoItem};
 pub use item::Item;
 pub use link::Link;
-pub use topology::{Frame, Payload, Ranges};
 pub use topology;
+pub use topology::{Frame, Payload, Ranges};

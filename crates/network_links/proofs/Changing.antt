@@ -10,8 +10,8 @@ use Rattle.topology.specs.Network.{Edge, Network, IsAcceptedNetwork, are_joined,
 use Rattle.topology.specs.Change.{join_fault}
 use Rattle.topology.specs.Laws.{OneEdgeLess, WhoIsParted}
 use Rattle.topology.specs.Ranges.{ranges_of}
-use Rattle.link_model.specs.Link.{LinkView, link}
-use Rattle.link_model.specs.declared.item.Item.{Item}
+use Rattle.run_model.specs.link_model.Link.{LinkView, link}
+use Rattle.run_model.specs.link_model.declared.item.Item.{Item}
 use Rattle.run_model.specs.World.{at_pair, item_fits}
 use Rattle.network_links.specs.PairTable.{PairTableView, value_at}
 use Rattle.network_links.specs.Placed.{ArePlaced, AreStocked, joined_too}

@@ -6,8 +6,8 @@ use Rattle.std.proofs.lemmas.List.{length-append}
 use Rattle.std.proofs.lemmas.List.Elements.{All-append, All-drop, All-get_or, All-nil, All-tail, All-take}
 use Rattle.topology.specs.Network.{are_joined}
 use Rattle.topology.specs.Ranges.{ranges_of}
-use Rattle.link_model.specs.Link.{LinkView, link}
-use Rattle.link_model.specs.declared.item.Item.{Item}
+use Rattle.run_model.specs.link_model.Link.{LinkView, link}
+use Rattle.run_model.specs.link_model.declared.item.Item.{Item}
 use Rattle.run_model.specs.World.{item_fits, at_pair}
 use Rattle.network_links.specs.LinksView.{LinksView, IsLinks, link_between, under_way}
 use Rattle.network_links.specs.PairTable.{value_at}

@@ -5,7 +5,7 @@ use Rattle.std.proofs.lemmas.Grind.{common_steps}
 use Rattle.std.proofs.lemmas.List.{length-set}
 use Rattle.std.proofs.lemmas.List.Elements.{All-get_or, All-set}
 use Rattle.topology.specs.Ranges.{ranges_of}
-use Rattle.link_model.specs.Link.{LinkView, link}
+use Rattle.run_model.specs.link_model.Link.{LinkView, link}
 use Rattle.run_model.specs.World.{item_fits, at_pair}
 use Rattle.network_links.specs.LinksView.{LinksView, IsLinks, link_between, under_way}
 use Rattle.network_links.specs.PairTable.{value_at}

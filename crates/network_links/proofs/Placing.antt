@@ -5,7 +5,7 @@ use Rattle.std.proofs.lemmas.Grind.{common_steps}
 use Rattle.std.proofs.lemmas.List.{get_or_append_left, get_or-take, length-append, length-set, take_more}
 use Rattle.std.proofs.Math.Seq.{get_or-append_seam}
 use Rattle.topology.specs.Network.{Edge, Network, are_joined}
-use Rattle.link_model.specs.Link.{LinkView, link}
+use Rattle.run_model.specs.link_model.Link.{LinkView, link}
 use Rattle.run_model.specs.World.{at_pair}
 use Rattle.network_links.specs.PairTable.{PairTableView, value_at}
 use Rattle.network_links.specs.Placed.{ArePlaced, AreStocked, IsSpare, joined_too}

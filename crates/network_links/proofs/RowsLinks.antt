@@ -1,9 +1,9 @@
 -- Links of two nodes and one spare pair: what stands in which place, and what does not fit.
 use Rattle.std.proofs.Common.{◌≡◌, ℕ, ◌<◌, ◌+◌, slice_index_or, zero, suc, List, [], ◌∷◌, true, false, refl, ap, arith}
 use Rattle.topology.specs.Network.{Network}
-use Rattle.link_model.specs.Link.{LinkView, link}
-use Rattle.link_model.specs.declared.item.Item.{Item}
-use Rattle.link_model.specs.declared.item.Item.TheVariants.{Noise}
+use Rattle.run_model.specs.link_model.Link.{LinkView, link}
+use Rattle.run_model.specs.link_model.declared.item.Item.{Item}
+use Rattle.run_model.specs.link_model.declared.item.Item.TheVariants.{Noise}
 use Rattle.run_model.proofs.RowsTwo.{two_nodes}
 use Rattle.network_links.specs.LinksView.{LinksView, link_between, under_way, spare_pairs}
 use Rattle.network_links.specs.PairTable.{PairTableView, place_of, value_at}

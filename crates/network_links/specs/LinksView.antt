@@ -3,8 +3,8 @@
 use Rattle.std.specs.Prelude.{◌≡◌, ℕ, ◌+◌, ◌*◌, ◌/◌, ◌≤◌, ◌&&◌, if◌then◌else◌, nat_lt, IsTrue, List, [], All, length, slice_index_or}
 use Rattle.topology.specs.Network.{Network, IsAcceptedNetwork, are_joined}
 use Rattle.topology.specs.Ranges.{ranges_of}
-use Rattle.link_model.specs.Link.{LinkView, link}
-use Rattle.link_model.specs.declared.item.Item.{Item}
+use Rattle.run_model.specs.link_model.Link.{LinkView, link}
+use Rattle.run_model.specs.link_model.declared.item.Item.{Item}
 use Rattle.run_model.specs.World.{item_fits}
 use Rattle.network_links.specs.PairTable.{PairTableView, value_at}
 use Rattle.network_links.specs.Placed.{ArePlaced}

@@ -2,7 +2,7 @@
 -- places that are left are spare.
 use Rattle.std.specs.Prelude.{◌≡◌, ◌≢◌, ℕ, ◌+◌, ◌<◌, ◌⊎◌, ◌==◌, ◌||◌, ◌&&◌, Bool, if◌then◌else◌, List, [], length, slice_index_or}
 use Rattle.topology.specs.Network.{Network}
-use Rattle.link_model.specs.Link.{LinkView, link}
+use Rattle.run_model.specs.link_model.Link.{LinkView, link}
 use Rattle.network_links.specs.PairTable.{PairTableView, value_at}
 
 -- two nodes more are joined, in one direction: the links of an edge are laid one after the other

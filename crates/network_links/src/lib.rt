@@ -23,4 +23,5 @@ mod pair_table;
 pub use links::Links;
 pub use pair_table::PairTable;
 pub use run_model;
-pub use run_model::node_core;
+pub use run_model::node_core::{lock_desk, registers};
+pub use run_model::{link_model, node_core};

@@ -10,13 +10,13 @@ ghost use Rattle.topology.specs.Network.{IsAcceptedNetwork, are_joined, joined_n
 ghost use Rattle.topology.specs.declared.fault.NetFault.TheVariants.{Apart};
 ghost use Rattle.topology.specs.Ranges.{ranges_of};
 ghost use Rattle.run_model.specs.World.{item_fits, at_pair};
-ghost use Rattle.link_model.specs.Link.{LinkView};
+ghost use Rattle.run_model.specs.link_model.Link.{LinkView};
 ghost use Rattle.network_links.specs.Placed.{ArePlaced, AreStocked};
 ghost use Rattle.network_links.specs.LinksView.{IsLinks, spare_pairs, under_way};
 ghost use Rattle.network_links.specs.PairTable.{value_at};
 
 use crate::pair_table::PairTable;
-use link_model::{Item, Link, NoItem};
+use run_model::link_model::{Item, Link, NoItem};
 use std::alloc::{AllocError, Allocator, Global};
 use std::marker::Model;
 use topology::{Net, NetFault};

@@ -26,10 +26,10 @@ use crate::ticked::Ticked;
 use arrayvec::ArrayString;
 use lock_desk::{AskFault, Desk, Stranger};
 use registers::link_model::Item;
+use registers::topology::{Frame, Net, Payload, Ranges};
 use registers::{OutOfRange, Registers};
 use std::alloc::{AllocError, Allocator, Global};
 use std::marker::Model;
-use registers::topology::{Frame, Net, Payload, Ranges};
 
 /// One node of the network, with all that it keeps.
 #[derive(Drop)]

@@ -9,9 +9,9 @@ use Rattle.topology.specs.Network.{Network, neighbours_of, IsAcceptedNetwork}
 use Rattle.topology.specs.Ranges.{parent_fits, ranges_of}
 use Rattle.topology.specs.declared.frame.Ranges.{Ranges}
 use Rattle.topology.specs.Laws.{Limits}
-use Rattle.data_link.specs.Port.{PortState, port_fits}
-use Rattle.lock_desk.specs.Desk.{no_desk}
-use Rattle.registers.specs.Rewire.{is_among, rewired_ports, rewired_values}
+use Rattle.node_core.specs.data_link.Port.{PortState, port_fits}
+use Rattle.node_core.specs.lock_desk.Desk.{no_desk}
+use Rattle.node_core.specs.registers.Rewire.{is_among, rewired_ports, rewired_values}
 use Rattle.node_core.specs.State.{LocalState}
 use Rattle.node_core.specs.Rewire.{rewired}
 use Rattle.node_state_file.specs.declared.layout.Layout.{Layout}

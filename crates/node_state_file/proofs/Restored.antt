@@ -7,8 +7,8 @@ use Rattle.std.proofs.lemmas.Bool.{cases_Bool, eqb-true}
 use Rattle.std.proofs.lemmas.List.Folds.{list_any-append}
 use Rattle.topology.specs.At.{at}
 use Rattle.topology.specs.declared.frame.Ranges.{Ranges}
-use Rattle.data_link.specs.Port.{PortState, default_port}
-use Rattle.registers.specs.Rewire.{is_among}
+use Rattle.node_core.specs.data_link.Port.{PortState, default_port}
+use Rattle.node_core.specs.registers.Rewire.{is_among}
 use Rattle.node_core.specs.State.{LocalState, default_node}
 use Rattle.node_core.specs.Rewire.{rewired}
 use Rattle.node_state_file.specs.declared.saved.Header.{Header}

@@ -11,9 +11,9 @@ use Rattle.byteorder.specs.Endian.{big_bytes, big_number}
 use Rattle.topology.specs.Network.{Network, neighbours_of}
 use Rattle.topology.specs.Ranges.{ranges_of}
 use Rattle.topology.specs.declared.frame.Ranges.{Ranges}
-use Rattle.data_link.specs.Port.{port_fits}
-use Rattle.lock_desk.specs.Desk.{no_desk}
-use Rattle.registers.specs.Rewire.{is_among}
+use Rattle.node_core.specs.data_link.Port.{port_fits}
+use Rattle.node_core.specs.lock_desk.Desk.{no_desk}
+use Rattle.node_core.specs.registers.Rewire.{is_among}
 use Rattle.node_core.specs.State.{LocalState}
 use Rattle.node_core.specs.Rewire.{rewired}
 use Rattle.node_state_file.specs.declared.fault.FileFault.{FileFault}

@@ -7,8 +7,8 @@ use Rattle.topology.specs.Network.{Network, neighbours_of}
 use Rattle.topology.specs.Ranges.{payload_fits, ranges_of}
 use Rattle.topology.specs.declared.frame.Payload.{Payload}
 use Rattle.topology.specs.declared.frame.Ranges.{Ranges}
-use Rattle.data_link.specs.Port.{PortState, counters_fit, default_port}
-use Rattle.lock_desk.specs.Desk.{no_desk}
+use Rattle.node_core.specs.data_link.Port.{PortState, counters_fit, default_port}
+use Rattle.node_core.specs.lock_desk.Desk.{no_desk}
 use Rattle.node_core.specs.State.{LocalState}
 use Rattle.node_core.specs.Writes.{own_fits}
 use Rattle.node_core.specs.Rewire.{rewired}

@@ -21,7 +21,6 @@
 
 mod registers;
 
-pub use data_link::{Heard, OutOfRange, k_state, link_model};
-pub use registers::Registers;
-pub use data_link::topology;
 pub use data_link;
+pub use data_link::{Heard, OutOfRange, k_state, link_model, topology};
+pub use registers::Registers;

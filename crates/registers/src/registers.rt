@@ -13,10 +13,10 @@ ghost use Rattle.registers.specs.Registers.{RegistersView, IsRegisters, port_of,
 ghost use Rattle.registers.specs.Registers.{value_of};
 ghost use Rattle.registers.specs.Rewire.{is_among, rewired_ports, rewired_values};
 
+use data_link::topology::{Frame, Net, Payload, Ranges};
 use data_link::{Heard, OutOfRange, Port};
 use std::alloc::{AllocError, Allocator, Global};
 use std::marker::Model;
-use data_link::topology::{Frame, Net, Payload, Ranges};
 
 /// What a node keeps of every other node: a port to it, and the value of the machine that comes in
 /// from it.

@@ -1,7 +1,7 @@
 -- What one event does to the items of one link.
 use Rattle.std.proofs.Common.{◌≡◌, ◌≢◌, ℕ, ◌<◌, true, false, ap, arith}
 use Rattle.std.proofs.lemmas.Grind.{common_steps}
-use Rattle.topology.specs.Network.{are_joined}
+use Rattle.link_model.specs.topology.Network.{are_joined}
 use Rattle.link_model.specs.declared.item.Item.TheVariants.{Frame}
 use Rattle.link_model.specs.Acts.{list_after}
 use Rattle.node_core.specs.data_link.Port.{frame_of}

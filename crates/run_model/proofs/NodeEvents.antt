@@ -4,11 +4,11 @@ use Rattle.std.proofs.Common.{◌≡◌, ℕ, ◌⊎◌, inl, inr, true, false, 
 use Rattle.std.specs.Prelude.{is_some, is_none}
 use Rattle.std.proofs.lemmas.Bool.{cases_Bool, cases_eq, false≢true, cond-true, cond-false, eq-eqb, ne_eqb}
 use Rattle.std.proofs.lemmas.Bool.Decides.{nat_tests}
-use Rattle.topology.specs.At.{at}
+use Rattle.link_model.specs.topology.At.{at}
 use Rattle.link_model.specs.declared.item.Item.{Item}
 use Rattle.link_model.specs.declared.item.Item.TheVariants.{Frame, Noise}
-use Rattle.lock_desk.specs.Desk.{DeskState, asked, after_leave}
-use Rattle.lock_desk.specs.Laws.{OnlyTicksLend}
+use Rattle.node_core.specs.lock_desk.Desk.{DeskState, asked, after_leave}
+use Rattle.node_core.specs.lock_desk.Laws.{OnlyTicksLend}
 use Rattle.node_core.specs.State.{LocalState}
 use Rattle.node_core.specs.Step.{ticked}
 use Rattle.run_model.specs.World.{World, site}

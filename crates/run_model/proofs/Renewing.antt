@@ -3,7 +3,7 @@
 use Rattle.std.proofs.Common.{◌≡◌, ℕ, ◌<◌, suc, List, [], ◌∷◌, ◌++◌, true, IsTrue, length, map, refl, sym, ap, subst, arith}
 use Rattle.std.proofs.lemmas.Bool.{or_left, or_right, or_parts}
 use Rattle.std.proofs.lemmas.List.{map-append}
-use Rattle.topology.specs.Network.{are_joined}
+use Rattle.link_model.specs.topology.Network.{are_joined}
 use Rattle.link_model.specs.declared.item.Item.{Item}
 use Rattle.link_model.specs.declared.item.Item.TheVariants.{Frame}
 use Rattle.node_core.specs.data_link.Port.{frame_of}

@@ -6,11 +6,11 @@ use Rattle.std.proofs.lemmas.Bool.Decides.{nat_tests}
 use Rattle.std.proofs.lemmas.List.Elements.{All-nil, All-head, All-tail}
 use Rattle.std.specs.Prelude.{◌-◌, ◌==◌, ◌&&◌, ◌||◌, not, is_some, slice_index_or}
 use Rattle.std.specs.List.{All, list_any}
-use Rattle.topology.specs.At.{at}
-use Rattle.topology.specs.Network.{Network, Edge, are_joined, is_between, neighbours_of, ring_of, IsAcceptedNetwork, joined_net, parted_net}
-use Rattle.topology.specs.Change.{join_fault, part_fault}
-use Rattle.topology.specs.Ranges.{ranges_of}
-use Rattle.topology.specs.Laws.{JoinedIsAccepted, PartedIsAccepted, WhoIsJoined, WhoIsParted, OthersStayAtJoin, OthersStayAtPart}
+use Rattle.link_model.specs.topology.At.{at}
+use Rattle.link_model.specs.topology.Network.{Network, Edge, are_joined, is_between, neighbours_of, ring_of, IsAcceptedNetwork, joined_net, parted_net}
+use Rattle.link_model.specs.topology.Change.{join_fault, part_fault}
+use Rattle.link_model.specs.topology.Ranges.{ranges_of}
+use Rattle.link_model.specs.topology.Laws.{JoinedIsAccepted, PartedIsAccepted, WhoIsJoined, WhoIsParted, OthersStayAtJoin, OthersStayAtPart}
 use Rattle.link_model.specs.declared.item.Item.{Item}
 use Rattle.node_core.specs.data_link.Port.{PortState, port_fits, default_port}
 use Rattle.node_core.specs.registers.Rewire.{is_among, stays, rewired_ports, rewired_values}

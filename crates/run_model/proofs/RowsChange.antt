@@ -2,9 +2,9 @@
 -- changes, what stays, and what is refused.
 use Rattle.std.proofs.Common.{◌≡◌, List, [], ◌∷◌, Some, None, true, false, refl, ap}
 use Rattle.node_core.specs.data_link.Port.{default_port}
-use Rattle.topology.specs.Network.{Network, Edge, neighbours_of}
-use Rattle.topology.specs.Ranges.{ranges_of}
-use Rattle.topology.specs.Tree.{distance_of}
+use Rattle.link_model.specs.topology.Network.{Network, Edge, neighbours_of}
+use Rattle.link_model.specs.topology.Ranges.{ranges_of}
+use Rattle.link_model.specs.topology.Tree.{distance_of}
 use Rattle.link_model.specs.declared.item.Item.TheVariants.{Noise}
 use Rattle.run_model.specs.World.{World}
 use Rattle.run_model.specs.Start.{default_world, world_with_spares}

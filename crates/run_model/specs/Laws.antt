@@ -1,6 +1,6 @@
 -- The plain laws of runs and sweeps, for every network, world and list of events.
 use Rattle.std.specs.Prelude.{◌≡◌, ℕ, ◌+◌, ◌<◌, ◌≤◌, true, false, IsTrue, is_some, suc, List, [], ◌∷◌, ◌++◌, ◌||◌, length, if◌then◌else◌}
-use Rattle.topology.specs.Network.{Network, IsAcceptedNetwork, are_joined}
+use Rattle.link_model.specs.topology.Network.{Network, IsAcceptedNetwork, are_joined}
 use Rattle.run_model.specs.SameFrame.{IsSameFrame}
 use Rattle.node_core.specs.data_link.Edge.{IsEdgeInRange, edge_step, edge_run}
 use Rattle.node_core.specs.data_link.Sweep as edge

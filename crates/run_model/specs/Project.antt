@@ -1,6 +1,6 @@
 -- A world and the events of a run, as one edge has them.
 use Rattle.std.specs.Prelude.{ℕ, if◌then◌else◌, List, [], ◌∷◌}
-use Rattle.topology.specs.declared.frame.Payload.{Payload}
+use Rattle.link_model.specs.topology.declared.frame.Payload.{Payload}
 use Rattle.node_core.specs.data_link.Edge.{EdgeState, EdgeEvent, SendOut, SendBack, TakeOut, TakeBack, LoseOut, LoseBack, Elsewhere}
 use Rattle.node_core.specs.Machines.{payload_for}
 use Rattle.run_model.specs.World.{World, site}

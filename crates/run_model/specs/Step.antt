@@ -1,15 +1,15 @@
 -- One step: which events are refused, and what the others change.
 use Rattle.std.specs.Prelude.{ℕ, Bool, true, ◌&&◌, not, nat_lt, nat_le, if◌then◌else◌, is_some, List, [], ◌∷◌, ◌++◌, length, Option, Some, None}
 use Rattle.std.specs.List.{remove}
-use Rattle.topology.specs.At.{at}
-use Rattle.topology.specs.Network.{are_joined}
-use Rattle.topology.specs.Ranges.{ranges_of, parent_fits, payload_fits}
+use Rattle.link_model.specs.topology.At.{at}
+use Rattle.link_model.specs.topology.Network.{are_joined}
+use Rattle.link_model.specs.topology.Ranges.{ranges_of, parent_fits, payload_fits}
 use Rattle.link_model.specs.declared.item.Item.{Item}
 use Rattle.link_model.specs.declared.item.Item.TheVariants.{Frame}
 use Rattle.node_core.specs.data_link.Port.{PortState, frame_of, counters_fit}
-use Rattle.lock_desk.specs.Desk.{DeskState, is_number, ask_fault, asked, is_stranger, after_leave, loan_fits, with_loan}
-use Rattle.lock_desk.specs.declared.fault.AskFault.{AskFault}
-use Rattle.lock_desk.specs.declared.fault.AskFault.TheVariants as ask
+use Rattle.node_core.specs.lock_desk.Desk.{DeskState, is_number, ask_fault, asked, is_stranger, after_leave, loan_fits, with_loan}
+use Rattle.node_core.specs.lock_desk.declared.fault.AskFault.{AskFault}
+use Rattle.node_core.specs.lock_desk.declared.fault.AskFault.TheVariants as ask
 use Rattle.node_core.specs.Step.{taken, ticked}
 use Rattle.run_model.specs.World.{World, item_fits, site, with_node, with_link}
 use Rattle.run_model.specs.Rewire.{can_join, can_part, with_edge, without_edge}

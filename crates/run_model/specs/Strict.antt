@@ -1,7 +1,7 @@
 -- Strict sweeps count what a link hands over: more items than it can hold, so one at least that was
 -- sent inside the sweep.
 use Rattle.std.specs.Prelude.{◌≡◌, ℕ, ◌+◌, ◌<◌, IsTrue, zero, suc, List, [], ◌∷◌, ◌++◌}
-use Rattle.topology.specs.Network.{are_joined}
+use Rattle.link_model.specs.topology.Network.{are_joined}
 use Rattle.link_model.specs.HandOver.{takes_item}
 use Rattle.run_model.specs.World.{World}
 use Rattle.run_model.specs.Step.{step}

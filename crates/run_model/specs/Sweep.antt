@@ -1,7 +1,7 @@
 -- A sweep: a stretch of a run in which every node made a full tick and every link handed over an
 -- item that was sent inside the stretch.
 use Rattle.std.specs.Prelude.{◌≡◌, ℕ, ◌<◌, Bool, false, ◌==◌, ◌&&◌, ◌||◌, if◌then◌else◌, is_none, IsTrue, zero, suc, List, [], ◌∷◌, ◌++◌, map}
-use Rattle.topology.specs.Network.{are_joined}
+use Rattle.link_model.specs.topology.Network.{are_joined}
 use Rattle.link_model.specs.Acts as link
 use Rattle.link_model.specs.Acts.{LinkAct, Puts, Takes, Loses, Rests}
 use Rattle.run_model.specs.World.{World}

@@ -1,8 +1,8 @@
 -- How far the tree of distances and parents is right (Dolev, Israeli, Moran 1993).
 use Rattle.std.specs.Prelude.{◌≡◌, ℕ, ◌<◌, IsTrue}
-use Rattle.topology.specs.Network.{are_joined}
-use Rattle.topology.specs.Tree.{distance_of, parent_of}
-use Rattle.topology.specs.declared.frame.Payload.{Payload}
+use Rattle.link_model.specs.topology.Network.{are_joined}
+use Rattle.link_model.specs.topology.Tree.{distance_of, parent_of}
+use Rattle.link_model.specs.topology.declared.frame.Payload.{Payload}
 use Rattle.node_core.specs.bfs_tree.Stage.{is_of_stage}
 use Rattle.run_model.specs.World.{World}
 

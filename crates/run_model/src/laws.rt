@@ -36,11 +36,11 @@ pub fn start()
 pub fn in_range()
     ensures { RangesStay }
 {
-    topology::laws::neighbours();
-    topology::laws::changes();
+    link_model::topology::laws::neighbours();
+    link_model::topology::laws::changes();
     node_core::data_link::laws::ports();
     node_core::bfs_tree::laws::step_in_range();
-    lock_desk::laws::ranges_are_kept();
+    node_core::lock_desk::laws::ranges_are_kept();
 }
 
 /// An event changes its own node and its own link alone. Whoever follows one node or one edge
@@ -60,8 +60,8 @@ pub fn edges()
     ensures renewed { EdgeIsRenewed }
     ensures sweeps { EdgeSweeps }
 {
-    topology::laws::joined();
-    topology::laws::neighbours();
+    link_model::topology::laws::joined();
+    link_model::topology::laws::neighbours();
     in_range();
 }
 
@@ -75,15 +75,15 @@ pub fn sweep_numbers()
     ensures fewer { FewerSweeps }
     ensures grow { SweepsGrow }
 {
-    topology::laws::joined();
+    link_model::topology::laws::joined();
 }
 
 /// A sweep that counts the items that a link hands over, more than it can hold, is a sweep too.
 pub fn strict_sweeps()
     ensures { StrictSweepsAreSweeps }
 {
-    topology::laws::joined();
-    topology::laws::neighbours();
+    link_model::topology::laws::joined();
+    link_model::topology::laws::neighbours();
     node_core::data_link::laws::sweeps();
     in_range();
 }
@@ -98,7 +98,7 @@ pub fn stretches()
     ensures old_go_on { OldItemsGoOn }
     ensures old_are_there { OldItemsAreThere }
 {
-    topology::laws::joined();
+    link_model::topology::laws::joined();
 }
 
 /// The greatest number of sweeps is found greedily: end each sweep at the first event at which it
@@ -113,7 +113,7 @@ pub fn sweep_counts()
     ensures rises { CountRises }
     ensures one { OneCount }
 {
-    topology::laws::joined();
+    link_model::topology::laws::joined();
     in_range();
 }
 
@@ -134,5 +134,5 @@ pub fn ticks()
     ensures moves { NodesMoveInTicks }
     ensures accepted { TicksAreAccepted }
 {
-    lock_desk::laws::only_ticks_lend();
+    node_core::lock_desk::laws::only_ticks_lend();
 }

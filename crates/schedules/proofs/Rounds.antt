@@ -12,15 +12,15 @@ use Rattle.configuration.specs.node_core.Site.{Site, site_of}
 use Rattle.configuration.specs.node_core.State.{LocalState}
 use Rattle.configuration.specs.node_core.Step.{ticked, recomputed}
 use Rattle.configuration.specs.node_core.Machines.{is_node_privileged}
-use Rattle.run_model.specs.World.{World, IsWorldInRange, site}
-use Rattle.run_model.specs.Step.{step}
-use Rattle.run_model.specs.Run.{run, IsUndamaged}
-use Rattle.run_model.specs.Sweep.{IsSweep, Sweeps}
-use Rattle.run_model.specs.Strict.{IsStrictSweep, StrictSweeps}
-use Rattle.run_model.specs.Ticks.{TicksAreAccepted}
-use Rattle.run_model.specs.Laws.{NetworkStays, OwnNodeAlone, RangesStay, StrictSweepsAreSweeps, SweepGrows}
-use Rattle.run_model.specs.declared.event.Event.{Event}
-use Rattle.run_model.specs.declared.event.Event.TheVariants.{Send, Take, Lose, Tick, Ask, Leave, Damage}
+use Rattle.configuration.specs.run_model.World.{World, IsWorldInRange, site}
+use Rattle.configuration.specs.run_model.Step.{step}
+use Rattle.configuration.specs.run_model.Run.{run, IsUndamaged}
+use Rattle.configuration.specs.run_model.Sweep.{IsSweep, Sweeps}
+use Rattle.configuration.specs.run_model.Strict.{IsStrictSweep, StrictSweeps}
+use Rattle.configuration.specs.run_model.Ticks.{TicksAreAccepted}
+use Rattle.configuration.specs.run_model.Laws.{NetworkStays, OwnNodeAlone, RangesStay, StrictSweepsAreSweeps, SweepGrows}
+use Rattle.configuration.specs.run_model.declared.event.Event.{Event}
+use Rattle.configuration.specs.run_model.declared.event.Event.TheVariants.{Send, Take, Lose, Tick, Ask, Leave, Damage}
 use Rattle.schedules.specs.Rounds.{exchanges_from, round, rounds}
 use Rattle.schedules.specs.Laws.{AreTicksFull, AreTicksFullFor, IsIdle}
 use Rattle.schedules.proofs.Plain.{IsLink, IsPlain, ArePlain, plain-net, plain-step, plain-undamaged, plain-round, plain-all-ticks}

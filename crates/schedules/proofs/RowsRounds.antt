@@ -2,12 +2,12 @@
 use Rattle.std.proofs.Common.{◌≡◌, true, false, [], ◌∷◌, ◌++◌, refl}
 use Rattle.topology.specs.Network.{Network}
 use Rattle.link_model.specs.declared.item.Item.TheVariants.{Noise}
-use Rattle.run_model.specs.World.{World}
-use Rattle.run_model.specs.Start.{default_world}
-use Rattle.run_model.specs.Run.{run}
-use Rattle.run_model.specs.Sweep.{has_full_tick, is_renewed}
-use Rattle.run_model.specs.declared.event.Event.TheVariants.{Send, Take, Tick, Ask, Damage}
-use Rattle.run_model.specs.declared.event.Harm.TheVariants as harm
+use Rattle.configuration.specs.run_model.World.{World}
+use Rattle.configuration.specs.run_model.Start.{default_world}
+use Rattle.configuration.specs.run_model.Run.{run}
+use Rattle.configuration.specs.run_model.Sweep.{has_full_tick, is_renewed}
+use Rattle.configuration.specs.run_model.declared.event.Event.TheVariants.{Send, Take, Tick, Ask, Damage}
+use Rattle.configuration.specs.run_model.declared.event.Harm.TheVariants as harm
 use Rattle.schedules.specs.Rounds.{round, rounds}
 
 -- two nodes, links that hold one item, and no lease

@@ -1,7 +1,7 @@
 -- Rows: a sink that counts what it takes.
 use Rattle.std.proofs.Common.{◌≡◌, ℕ, ◌+◌, List, [], ◌∷◌, ◌++◌, length, length-append, refl, arith}
-use Rattle.run_model.specs.declared.event.Event.{Event}
-use Rattle.run_model.specs.declared.event.Event.TheVariants.{Tick}
+use Rattle.configuration.specs.run_model.declared.event.Event.{Event}
+use Rattle.configuration.specs.run_model.declared.event.Event.TheVariants.{Tick}
 use Rattle.schedules.specs.Taking.{TakesBoth, IsUnderWay}
 
 -- from one count to another it has taken these events

@@ -1,10 +1,10 @@
 -- What holds of the schedule by rounds, and of the networks that links are drawn from.
 use Rattle.std.specs.Prelude.{◌≡◌, ℕ, ◌<◌, true, zero, suc, [], None, length}
 use Rattle.topology.specs.Network.{Network, IsAcceptedNetwork}
-use Rattle.run_model.specs.World.{World, IsWorldInRange}
-use Rattle.run_model.specs.Run.{run, IsUndamaged}
-use Rattle.run_model.specs.Sweep.{is_full_tick, IsSweep, Sweeps}
-use Rattle.run_model.specs.declared.event.Event.TheVariants.{Tick}
+use Rattle.configuration.specs.run_model.World.{World, IsWorldInRange}
+use Rattle.configuration.specs.run_model.Run.{run, IsUndamaged}
+use Rattle.configuration.specs.run_model.Sweep.{is_full_tick, IsSweep, Sweeps}
+use Rattle.configuration.specs.run_model.declared.event.Event.TheVariants.{Tick}
 use Rattle.damage_tool.specs.Laws.{AreAccepted}
 use Rattle.schedules.specs.Rounds.{round, rounds}
 

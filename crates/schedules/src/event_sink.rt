@@ -1,10 +1,10 @@
 //! Where the events of a schedule go.
 ghost use Rattle.std.specs.Prelude.{ℕ, List, [], ◌∷◌, ◌++◌, OnOk};
 ghost use Rattle.byte_streams.specs.Streams.{CountsFailures};
-ghost use Rattle.run_model.specs.declared.event.Event.{Event};
+ghost use Rattle.configuration.specs.run_model.declared.event.Event.{Event};
 
 use byte_streams::Failed;
-use run_model::Event;
+use configuration::run_model::Event;
 
 /// Takes the events of a schedule, one after the other.
 pub trait EventSink {

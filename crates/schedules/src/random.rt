@@ -3,7 +3,7 @@ ghost use Rattle.std.specs.Prelude.{◌≡◌, ◌<◌, ◌≤◌, OnOk};
 ghost use Rattle.byte_streams.specs.Streams.{CountsFailures};
 ghost use Rattle.topology.specs.Network.{Edge};
 ghost use Rattle.configuration.specs.ConfigurationView.{world_of};
-ghost use Rattle.run_model.specs.Step.{step};
+ghost use Rattle.configuration.specs.run_model.Step.{step};
 ghost use Rattle.schedules.specs.Random.{draw_link, draw_arrival, draw_client, draw_step};
 ghost use Rattle.schedules.specs.Random.{admitted, node_at, random_steps};
 
@@ -11,8 +11,8 @@ use crate::draws::draw_below;
 use crate::event_sink::EventSink;
 use byte_streams::Failed;
 use configuration::Configuration;
+use configuration::run_model::Event;
 use rand_pcg::Lcg64Xsh32;
-use run_model::Event;
 use std::alloc::Allocator;
 use topology::Net;
 

@@ -25,7 +25,8 @@ pub mod laws;
 mod sight;
 mod whole;
 
+pub use configuration;
+pub use configuration::node_core::data_link;
+pub use configuration::{node_core, run_model};
 pub use sight::{Sight, serves_behind, touched_sight};
 pub use whole::serves;
-pub use configuration;
-pub use configuration::node_core;

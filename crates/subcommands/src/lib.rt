@@ -36,4 +36,4 @@ pub mod simulate;
 
 pub use command_parts::{Fault, PathFault};
 pub use experiments::Scheduler;
-pub use schedules::Chances;
+pub use experiments::schedules::Chances;

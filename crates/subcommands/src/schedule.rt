@@ -11,10 +11,10 @@ ghost use Rattle.subcommands.specs.Turns.{order_of};
 ghost use Rattle.command_parts.specs.declared.fault.Fault.TheVariants.{Memory, Output};
 
 use command_parts::{EventText, Fault, read_network};
+use experiments::schedules::Chances;
 use experiments::{Order, PlanFault, give_plan};
 use rand_core::SeedableRng;
 use rand_pcg::Lcg64Xsh32;
-use schedules::Chances;
 use std::alloc::Global;
 use std::io::{BufWriter, Write, writer};
 use std::process::ExitCode;

@@ -1,3 +1,4 @@
+pub use Rattle.tree_convergence.specs.data_link as data_link
 pub use Rattle.tree_convergence.specs as tree_convergence
 pub mod Ring
 pub mod Legs

@@ -23,3 +23,4 @@
 pub mod laws;
 
 pub use tree_convergence;
+pub use tree_convergence::data_link;

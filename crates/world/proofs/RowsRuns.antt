@@ -6,12 +6,12 @@ use Rattle.std.proofs.lemmas.List.Sums.{AllPass-from_list_all}
 use Rattle.topology.specs.declared.frame.Payload.{Payload}
 use Rattle.std.proofs.lemmas.Bool.Decides.{nat_tests}
 use Rattle.topology.specs.Network.{Network, are_joined}
-use Rattle.run_model.specs.World.{World}
-use Rattle.run_model.specs.Start.{default_world}
-use Rattle.run_model.specs.Run.{run, has_damage}
-use Rattle.run_model.specs.Sweep.{has_full_tick, is_renewed, Sweeps}
-use Rattle.run_model.specs.declared.event.Event.{Event}
-use Rattle.run_model.specs.declared.event.Event.TheVariants.{Send, Take, Tick}
+use Rattle.judge.specs.run_model.World.{World}
+use Rattle.judge.specs.run_model.Start.{default_world}
+use Rattle.judge.specs.run_model.Run.{run, has_damage}
+use Rattle.judge.specs.run_model.Sweep.{has_full_tick, is_renewed, Sweeps}
+use Rattle.judge.specs.run_model.declared.event.Event.{Event}
+use Rattle.judge.specs.run_model.declared.event.Event.TheVariants.{Send, Take, Tick}
 use Rattle.convergence.specs.Said.{said_in}
 use Rattle.convergence.specs.Closure.{IsLegitimateThroughout}
 use Rattle.convergence.specs.Payloads.{ArePayloadsFresh}

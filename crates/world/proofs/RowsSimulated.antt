@@ -2,9 +2,9 @@
 use Rattle.std.proofs.Common.{◌≡◌, ℕ, ◌++◌, List, [], ◌∷◌, Some, None, codes, decimal, refl, arith}
 use Rattle.std.proofs.lemmas.Fmt.{decimal_digit}
 use Rattle.topology.specs.Network.{Network}
-use Rattle.run_model.specs.World.{World}
-use Rattle.run_model.specs.Start.{default_world}
-use Rattle.run_model.specs.declared.event.Event.TheVariants.{Ask, Tick}
+use Rattle.judge.specs.run_model.World.{World}
+use Rattle.judge.specs.run_model.Start.{default_world}
+use Rattle.judge.specs.run_model.declared.event.Event.TheVariants.{Ask, Tick}
 use Rattle.events_text.specs.declared.text_line.TextLine.TheVariants.{Passed, Unread, Told}
 use Rattle.events_text.specs.EventsText.{text_lines}
 use Rattle.world.specs.SimulatedText.{refusal_line, refusals_of, refused_lines, told_events, simulated_text}

@@ -2,9 +2,9 @@
 use Rattle.std.proofs.Common.{◌≡◌, ◌∙◌, ap, sym, ℕ, ◌≤◌, List, [], Option, Some, Result, Ok, Err, IsErrAnd, IfErr, length, arith, inl, inr}
 use Rattle.std.proofs.lemmas.Grind.{common_steps}
 use Rattle.std.proofs.Math.Seq.{take-length, drop-length}
-use Rattle.run_model.specs.World.{World}
-use Rattle.run_model.specs.Run.{run}
-use Rattle.run_model.specs.Count.{IsSweepCount}
+use Rattle.judge.specs.run_model.World.{World}
+use Rattle.judge.specs.run_model.Run.{run}
+use Rattle.judge.specs.run_model.Count.{IsSweepCount}
 use Rattle.world.specs.declared.simulation.Summary.{Summary}
 use Rattle.world.specs.declared.simulation.SimFault.{SimFault}
 use Rattle.world.specs.declared.simulation.SimFault.TheVariants.{Memory, Read, Long, Write}

@@ -2,9 +2,9 @@
 use Rattle.std.proofs.Common.{◌≡◌, ◌∙◌, ap, sym, ℕ, ◌+◌, ◌-◌, ◌^◌, min, is_some, if◌then◌else◌, List, [], ◌∷◌, ◌++◌, Option, Some, None, Result, Ok, Err, length, append_assoc, arith}
 use Rattle.std.proofs.lemmas.Grind.{common_steps, flat_map-append}
 use Rattle.std.proofs.lemmas.List.{append-nil}
-use Rattle.run_model.specs.World.{World}
-use Rattle.run_model.specs.Step.{step}
-use Rattle.run_model.specs.Run.{run}
+use Rattle.judge.specs.run_model.World.{World}
+use Rattle.judge.specs.run_model.Step.{step}
+use Rattle.judge.specs.run_model.Run.{run}
 use Rattle.events_text.specs.declared.text_line.TextLine.{TextLine}
 use Rattle.events_text.specs.declared.text_line.TextLine.TheVariants.{Passed, Unread, Told}
 use Rattle.judge.specs.JudgeView.{HasSeen}

@@ -3,14 +3,14 @@ use Rattle.std.proofs.Common.{◌≡◌, ◌∙◌, sym, ap, subst, ℕ, ◌+◌
 use Rattle.std.proofs.lemmas.Grind.{common_steps}
 use Rattle.topology.specs.Network.{Network, IsAcceptedNetwork, bound_of}
 use Rattle.topology.specs.Eccentricity.{SharpWithinBound, sharp_of}
-use Rattle.run_model.specs.World.{World, IsWorldInRange}
-use Rattle.run_model.specs.Step.{step}
-use Rattle.run_model.specs.Run.{run, IsUndamaged}
-use Rattle.run_model.specs.Sweep.{Sweeps}
-use Rattle.run_model.specs.Count.{Moment, after_damage, IsSweepCount}
-use Rattle.run_model.specs.Laws.{FewerSweeps, NetworkStays, FrameStays, MomentLeads}
-use Rattle.run_model.specs.Visited.{is_privileged_once, is_visited}
-use Rattle.run_model.specs.declared.event.Event.{Event}
+use Rattle.judge.specs.run_model.World.{World, IsWorldInRange}
+use Rattle.judge.specs.run_model.Step.{step}
+use Rattle.judge.specs.run_model.Run.{run, IsUndamaged}
+use Rattle.judge.specs.run_model.Sweep.{Sweeps}
+use Rattle.judge.specs.run_model.Count.{Moment, after_damage, IsSweepCount}
+use Rattle.judge.specs.run_model.Laws.{FewerSweeps, NetworkStays, FrameStays, MomentLeads}
+use Rattle.judge.specs.run_model.Visited.{is_privileged_once, is_visited}
+use Rattle.judge.specs.run_model.declared.event.Event.{Event}
 use Rattle.convergence.specs.token_ring.Legitimate.{IsLegitimate}
 use Rattle.convergence.specs.Service.{LegitimateVisits, EachStateVisits}
 use Rattle.judge.specs.Judging.{counted_up_to}

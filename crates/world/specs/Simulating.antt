@@ -1,7 +1,7 @@
 -- What the answers of a simulation say of what was read and written.
 use Rattle.std.specs.Prelude.{◌≡◌, ℕ, ◌<◌, ◌≤◌, List, [], Option, Some, Result, Ok, Err, take, length, ◌⊎◌}
-use Rattle.run_model.specs.World.{World}
-use Rattle.run_model.specs.Count.{IsSweepCount}
+use Rattle.judge.specs.run_model.World.{World}
+use Rattle.judge.specs.run_model.Count.{IsSweepCount}
 use Rattle.world.specs.declared.simulation.Summary.{Summary}
 use Rattle.world.specs.declared.simulation.SimFault.{SimFault}
 use Rattle.world.specs.declared.simulation.SimFault.TheVariants.{Memory, Read, Long, Write}

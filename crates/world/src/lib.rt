@@ -55,9 +55,10 @@ pub mod report;
 pub mod simulation;
 pub mod streams;
 
+pub use events_text;
 pub use judge::configuration::{Configuration, Links};
-pub use judge::{Judge, Parts, Stretch, Tally, World};
-pub use link_model::{Frame, Item, NoItem, Payload};
 pub use judge::node_core::Node;
-pub use run_model::{Event, EventFault, Happened, Harm};
+pub use judge::run_model::{Event, EventFault, Happened, Harm};
+pub use judge::{Judge, Parts, Stretch, Tally, World, run_model};
+pub use link_model::{Frame, Item, NoItem, Payload};
 pub use topology::{Net, NetFault};

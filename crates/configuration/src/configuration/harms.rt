@@ -16,9 +16,9 @@ ghost use Rattle.configuration.specs.Answers.{Answers};
 ghost use Rattle.configuration.specs.Rewired.{IsRewired};
 
 use crate::configuration::Configuration;
-use link_model::{Item, Payload};
+use network_links::link_model::{Item, Payload};
 use network_links::node_core::Node;
-use registers::OutOfRange;
+use network_links::registers::OutOfRange;
 use network_links::run_model::{EventFault, Happened, Harm};
 use std::alloc::Allocator;
 use topology::Net;

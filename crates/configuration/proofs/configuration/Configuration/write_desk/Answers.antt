@@ -1,5 +1,5 @@
 use Rattle.std.proofs.Common.{◌≡◌, ◌↔◌, subst, sym, refl, IsOk, IsTrue, None}
-use Rattle.lock_desk.specs.Desk.{loan_fits, with_loan}
+use Rattle.network_links.specs.lock_desk.Desk.{loan_fits, with_loan}
 use Rattle.network_links.specs.node_core.View.{state_of}
 use Rattle.network_links.specs.run_model.declared.event.Harm.{Harm}
 use Rattle.network_links.specs.run_model.declared.event.Harm.TheVariants.{Desk}

@@ -4,7 +4,7 @@ use Rattle.std.proofs.lemmas.Grind.{common_steps}
 use Rattle.std.proofs.lemmas.List.FromFn.{length-range_with_len}
 use Rattle.judge.specs.node_core.Status.{status_line}
 use Rattle.judge.specs.node_core.View.{state_of}
-use Rattle.run_model.specs.World.{site}
+use Rattle.judge.specs.run_model.World.{site}
 use Rattle.world.specs.StateText.{node_line}
 use Rattle.byte_streams.specs.Streams.{Takes, TakesABeginning}
 use Rattle.judge.specs.configuration.ConfigurationView.{world_of}
