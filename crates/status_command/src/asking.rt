@@ -1,6 +1,7 @@
 //! Nodes that are asked for a line, all at once.
 ghost use Rattle.std.specs.Prelude.{◌≡◌, ◌%◌, ◌==◌, IfOk, ◌++◌, OnOk};
 ghost use Rattle.status_command.specs.Asking.{nodes_in, is_answered};
+ghost use Rattle.status_command.specs.Windows.{is_without_room};
 
 use crate::answering::first_line;
 use crate::question::Question;
@@ -148,6 +149,13 @@ fn connect<R: Net>(rt: &R, question: Question, path: &str) -> io::Result<Contact
 }
 
 impl Asked {
+    /// Whether the node closed the last connection, and gave no line, as one does that has no room for a client.
+    pub fn is_closed(&self) -> bool
+        ensures { result ≡ is_without_room self.now }
+    {
+        matches!(self.contact, Contact::Closed)
+    }
+
     /// Connects once more, if the node closed the connection. If nobody listens any more, no line is
     /// waited for.
     fn ask_again<R: Net>(&mut self, rt: &R)

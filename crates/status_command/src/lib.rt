@@ -23,6 +23,7 @@ mod question;
 mod screen;
 pub mod status;
 pub mod watch;
+mod windows;
 
 pub use looks::Part;
 pub use notice::{Notice, NoticeLine, refused};

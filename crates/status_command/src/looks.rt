@@ -83,7 +83,7 @@ fn print_said<'a, R: Print + AllocGlobal>(
 }
 
 /// The line that came from a node, if it is a text; else the empty one.
-fn line_of(asked: &Asked) -> &str
+pub fn line_of(asked: &Asked) -> &str
     ensures { result.now ≡ text_in asked.now }
 {
     match first_line(asked.came.as_slice()) {

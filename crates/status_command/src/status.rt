@@ -9,6 +9,7 @@ use crate::asking::ask_all;
 use crate::folder::{nodes_asked, was_never};
 use crate::notice::{Notice, NoticeLine, told};
 use crate::question::Question;
+use crate::windows::{filled, without_room};
 use node_texts::{NodeAnswer, all_answered, report};
 use status_readings::status_json;
 use std::alloc::{AllocError, Global};
@@ -35,8 +36,8 @@ pub enum Form {
 
 /// Prints the status line of each of these nodes, or of each that has a socket in the folder where
 /// none is named, by ascending id; and how many of them are privileged, and lend. A node that closes the
-/// connection, as one does that has no room, is asked again. One that gives no line within a second
-/// is reported to have given none. Answers the status to end with: 1 where a
+/// connection, as one does that has no room, is asked again, and then at its socket for whoever looks. One
+/// that gives no line within a second is reported to have given none. Answers the status to end with: 1 where a
 /// node gave none, or there is none.
 ///
 /// What the nodes answer no contract can say; how their lines are read, and what is printed of
@@ -70,7 +71,8 @@ fn print_status<'a, R: Net + Files + Clock + Print + Eprint + AllocGlobal>(
     }
 }
 
-/// What the nodes answer within so many milliseconds, in their order.
+/// What the nodes answer within so many milliseconds, in their order. A node that has no room for a client is
+/// known by what it says at its socket for whoever looks.
 ///
 /// # Errors
 /// What the system or memory has not to give.
@@ -83,8 +85,11 @@ pub fn answers_of<R: Net + Clock>(
 ) -> io::Result<Vec<NodeAnswer>>
     ensures { IfOk result (λ answers. nodes_of answers.items ≡ nodes.now) }
 {
-    let all = ask_all(rt, alloc, Question::Status, folder, nodes, wait)?;
-    Ok(answers(alloc, all.as_slice())?)
+    let desks = ask_all(rt, alloc, Question::Status, folder, nodes, wait)?;
+    let closed = without_room(alloc, desks.as_slice())?;
+    let windows = ask_all(rt, alloc, Question::Look, folder, closed.as_slice(), wait)?;
+    let said = answers(alloc, desks.as_slice())?;
+    Ok(filled(alloc, said.as_slice(), windows.as_slice())?)
 }
 
 /// Why nodes are not asked, by what the system answered.

@@ -24,6 +24,7 @@ pub mod laws;
 mod looks;
 mod minute;
 mod seconds;
+mod standing;
 mod tree;
 
 pub use check_line::{CheckLine, Figures};
@@ -32,4 +33,5 @@ pub use findings::{Finding, Severity, verdict};
 pub use json::status_json;
 pub use looks::{LinkSaid, LinksSaid, LoansSaid, links_report, read_links};
 pub use minute::{Minute, NodeLoans, Rates, Sample};
+pub use standing::read_standing;
 pub use tree::{Row, rows};

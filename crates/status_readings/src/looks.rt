@@ -67,14 +67,14 @@ fn root_rounds(value: &Value) -> Option<u64>
 }
 
 /// The number that is a member of an object.
-fn member_number(object: &Value, name: &str) -> Option<u64>
+pub fn member_number(object: &Value, name: &str) -> Option<u64>
     ensures { result ≡ member_number name.now (view object.now) }
 {
     object.get(name)?.as_u64()
 }
 
 /// The truth value that is a member of an object.
-fn member_truth(object: &Value, name: &str) -> Option<bool>
+pub fn member_truth(object: &Value, name: &str) -> Option<bool>
     ensures { result ≡ member_truth name.now (view object.now) }
 {
     object.get(name)?.as_bool()
