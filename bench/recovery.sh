@@ -15,6 +15,7 @@
 #   bench/recovery.sh             each fault 20 times: some 50 minutes
 #   bench/recovery.sh short       a ring of 3, each fault 3 times: some two minutes
 #   bench/recovery.sh TIMES       each fault TIMES times
+#   bench/recovery.sh TIMES NET   of one network alone: "ring of 3", "ring of 8", "line of 8" or "star of 16"
 #
 # The program is ./tokentree, or what TOKENTREE names. Needs python3.
 set -euo pipefail
@@ -24,7 +25,7 @@ program=$(realpath "${TOKENTREE:-./tokentree}")
 [ -n "${TOKENTREE:-}" ] || program=$PWD/crates/tokentree/out/tokentree
 folder=$(mktemp -d)
 trap 'rm -rf "$folder"' EXIT
-PYTHONPATH=$PWD/bench PYTHONDONTWRITEBYTECODE=1 python3 - "$program" "$folder" "${1:-20}" << 'PYTHON'
+PYTHONPATH=$PWD/bench PYTHONDONTWRITEBYTECODE=1 python3 - "$program" "$folder" "${1:-20}" "${2:-}" << 'PYTHON'
 import os, random, statistics, sys, time
 from faulty_network import FAULTS, Clients, Network, line, ring, settles, star, wrong_adds
 
@@ -33,6 +34,8 @@ times = 3 if word == "short" else int(word)
 NETWORKS = [("ring of 3", ring(3))]
 if word != "short":
     NETWORKS += [("ring of 8", ring(8)), ("line of 8", line(8)), ("star of 16", star(16))]
+if sys.argv[4]:
+    NETWORKS = [(name, edges) for name, edges in NETWORKS if name == sys.argv[4]] or sys.exit(f"no network {sys.argv[4]}")
 
 
 def gap(looks):

@@ -1,3 +1,4 @@
 pub mod Lists
 pub mod Texts
 mod Rows
+mod WindowRows

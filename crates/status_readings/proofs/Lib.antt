@@ -2,3 +2,4 @@ pub mod Trees
 pub mod Verdicts
 pub mod Examples
 pub mod MinuteRows
+mod StandingRows

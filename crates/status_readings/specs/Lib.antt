@@ -8,3 +8,4 @@ pub mod Tree
 pub mod Minute
 pub mod Picture
 pub mod Laws
+pub mod StandingSaid
