@@ -194,6 +194,7 @@ END
             ID) if [ "$name" = status ] || [ "$name" = stop ]; then printf " '*:ID:_tokentree_ids'"; else printf " ':ID:_tokentree_ids'"; fi ;;
             EVENTS | PATH) printf " ':%s:_files'" "$place" ;;
             COMMAND) printf " '*::COMMAND:_normal'" ;;
+            KIND) printf " ':KIND:(line ring star complete grid tree random)'" ;;
             *) printf " ':%s:'" "$place" ;;
             esac
         done

@@ -30,25 +30,27 @@ _tokentree() {
     local -a given=() kinds=()
     COMPREPLY=()
     if [ "$COMP_CWORD" -eq 1 ]; then
-        mapfile -t COMPREPLY < <(compgen -W 'bound simulate lock status scramble cut junk node up schedule measure draw threads help --help --version' -- "$current")
+        mapfile -t COMPREPLY < <(compgen -W 'bound simulate lock status scramble cut junk node up stop network schedule measure draw threads help --help --version' -- "$current")
         return
     fi
     case ${COMP_WORDS[1]} in
-    bound) flags='--sharp --time --turn --delay --loan --repeat --help' valued='--turn --delay --loan --repeat' places='FILE' ;;
+    bound) flags='--sharp --json --time --turn --delay --loan --repeat --help' valued='--turn --delay --loan --repeat' places='FILE' ;;
     simulate) flags='--help' valued='' places='FILE EVENTS' ;;
-    lock) flags='--timeout --keep --wait-children --help' valued='--timeout' places='DIR ID COMMAND' ;;
-    status) flags='--help' valued='' places='DIR ID' ;;
+    lock) flags='--timeout --no-wait --lost-status --verbose --keep --wait-children --help' valued='--timeout --lost-status' places='DIR ID COMMAND' ;;
+    status) flags='--json --check --premises --links --watch --every --help' valued='--check --every' places='DIR ID' ;;
     scramble) flags='--help' valued='' places='FILE ID PATH SEED' ;;
     cut) flags='--help' valued='' places='PATH LENGTH' ;;
     junk) flags='--help' valued='' places='SEED LINES' ;;
-    node) flags='--hold --repeat --child --help' valued='--hold --repeat' places='FILE ID DIR' ;;
-    up) flags='--hold --repeat --help' valued='--hold --repeat' places='FILE DIR' ;;
-    schedule) flags='--scramble --rounds --random --seed --loss --clients --help' valued='--scramble --rounds --random --seed --loss' places='FILE' ;;
-    measure) flags='--runs --seed --rounds --random --table --help' valued='--runs --seed' places='FILE' ;;
+    node) flags='--hold --repeat --turn --group-locks --log --child --help' valued='--hold --repeat --turn --log' places='FILE ID DIR' ;;
+    up) flags='--hold --repeat --turn --group-locks --log --help' valued='--hold --repeat --turn --log' places='FILE DIR' ;;
+    stop) flags='--timeout --help' valued='--timeout' places='DIR ID' ;;
+    network) flags='--root --capacity --lease --edges --seed --help' valued='--root --capacity --lease --edges --seed' places='KIND N M' ;;
+    schedule) flags='--scramble --rounds --random --seed --loss --clients --give-back --help' valued='--scramble --rounds --random --seed --loss --give-back' places='FILE' ;;
+    measure) flags='--runs --seed --rounds --random --table --json --help' valued='--runs --seed' places='FILE' ;;
     draw) flags='--columns --from --to --help' valued='--columns --from --to' places='FILE EVENTS' ;;
     threads) flags='--events --help' valued='--events' places='FILE TURNS' ;;
     help)
-        [ "$COMP_CWORD" -gt 2 ] || mapfile -t COMPREPLY < <(compgen -W 'bound simulate lock status scramble cut junk node up schedule measure draw threads' -- "$current")
+        [ "$COMP_CWORD" -gt 2 ] || mapfile -t COMPREPLY < <(compgen -W 'bound simulate lock status scramble cut junk node up stop network schedule measure draw threads' -- "$current")
         return
         ;;
     esac
