@@ -83,11 +83,12 @@ fn wait_for_all<R: Net + Clock>(rt: &R, all: &mut [Asked], looks: u32) -> io::Re
     Ok(())
 }
 
-/// Whether nodes that closed the connection are asked again at this look: at each hundredth.
+/// Whether nodes that closed the connection are asked again at this look: at each hundredth, counted from
+/// the fiftieth, so that a node has time to close once more before the last look.
 fn is_time_again(look: u32) -> bool
-    ensures { result ≡ (look % 100 == 99) }
+    ensures { result ≡ (look % 100 == 49) }
 {
-    look % LOOKS_AGAIN == LOOKS_AGAIN - 1
+    look % LOOKS_AGAIN == LOOKS_AGAIN / 2 - 1
 }
 
 /// Looks at what came of each, and asks those again that closed the connection, if it is time to.
