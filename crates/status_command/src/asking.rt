@@ -140,7 +140,8 @@ fn connect<R: Net>(rt: &R, question: Question, path: &str) -> io::Result<Contact
     match UnixStream::connect(rt, path) {
         Ok(mut stream) => match stream.write_all(question.words()) {
             Ok(()) => Ok(Contact::Open(stream)),
-            Err(_) => Ok(Contact::Done),
+            // It was closed before the words were taken.
+            Err(_) => Ok(Contact::Closed),
         },
         Err(error) => match error.kind() {
             ErrorKind::Uncategorized | ErrorKind::OutOfMemory => Err(error),
