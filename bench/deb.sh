@@ -1,7 +1,8 @@
 #!/bin/sh
-# Makes the Debian package, and installs, runs, removes and purges it in a throw-away system: this machine's own, seen
-# through an overlay whose changes stay in memory and are gone at the end. Status 1 where something is not as it should
-# be; where no such system can be made it says so, and the status is 77.
+# Makes the Debian package twice, which gives the same bytes; has lintian look at it, if that is there; and installs, runs,
+# removes and purges it in a throw-away system: this machine's own, seen through an overlay whose changes stay in memory and
+# are gone at the end. Status 1 if something is not as it should be; if no such system can be made it says so, and the status
+# is 77.
 #
 #   bench/deb.sh
 #
@@ -15,9 +16,15 @@ if [ "${1:-}" != --inside ]; then
     packaging/deb.sh "$made" >/dev/null
     mkdir "$made/again"
     sleep 1
-    packaging/deb.sh "$made/again" >/dev/null
+    # Another time, zone, mask and locale.
+    (umask 077; TZ=Asia/Tokyo LC_ALL=C.UTF-8 packaging/deb.sh "$made/again" >/dev/null)
     cmp "$made"/*.deb "$made"/again/*.deb || { echo "deb: two packages of the same files differ" >&2; exit 1; }
     rm -r "$made/again"
+    sha256sum "$made"/*.deb | sed 's| .*/| |'
+    if command -v lintian >/dev/null; then
+        lintian --allow-root --fail-on error,warning "$made"/*.deb || { echo "deb: lintian finds faults" >&2; exit 1; }
+        echo "lintian finds no fault"
+    fi
     mkdir "$made/system"
     status=0
     unshare --mount bench/deb.sh --inside "$made" || status=$?
@@ -55,11 +62,22 @@ inside dpkg --listfiles tokentree >"$system/files"
 for name in copyright changelog.gz README.md docs/OPERATING.md docs/scrambled-square.svg examples/round.txt; do
     [ -s "$system/root/usr/share/doc/tokentree/$name" ] || fault "the package lacks $name"
 done
+# Whatever the documents of the package link to is in it, under the same name.
+for document in README.md docs/*.md; do
+    grep -oh '](\([^)#:]*\))' "$document" | sed 's/^](//; s/)$//' | while read -r name; do
+        echo "$(dirname "$document")/$name"
+    done
+    grep -oh '`examples/[^` ]*`\|docs/[a-z-]*\.svg' "$document" | tr -d '`'
+done | sort -u >"$system/named"
+[ "$(wc -l <"$system/named")" -gt 10 ] || fault "the documents name few files"
+while read -r name; do
+    [ -e "$system/root/usr/share/doc/tokentree/$name" ] || fault "the package lacks $name, which a document names"
+done <"$system/named"
 inside dpkg --status tokentree | grep -q '^Depends: libc6 (>= 2' || fault "the package names no version of libc6"
 wc -l <"$system/files" | sed 's/$/ files and folders/'
 
-# What a node leaves in its folder goes with a purge, not with a removal.
-mkdir "$system/root/var/lib/tokentree"
+# What a node or a link leaves in its folder goes with a purge, not with a removal.
+mkdir -p "$system/root/var/lib/tokentree" "$system/root/run/tokentree-link"
 : >"$system/root/var/lib/tokentree/state-0.tkt"
 : >"$system/root/etc/tokentree/network.toml"
 mkdir -p "$system/root/etc/systemd/system/multi-user.target.wants"
@@ -74,6 +92,7 @@ while read -r file; do
     esac
 done <"$system/files"
 [ ! -e "$system/root/var/lib/tokentree" ] || fault "the states are left over"
+[ ! -e "$system/root/run/tokentree-link" ] || fault "the links' folder is left over"
 [ ! -e "$system/root/etc/tokentree" ] || fault "the network file is left over"
 [ ! -L "$system/root/etc/systemd/system/multi-user.target.wants/tokentree@0.service" ] || fault "an enabled node is left over"
 [ $found -ne 0 ] || echo "installed, run, removed and purged"

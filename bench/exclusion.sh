@@ -1,7 +1,7 @@
 #!/bin/sh
 # Starts a network of three node processes and, at each node, clients that take the lock again and again by
-# `tokentree lock`. Under the lock each makes a folder, which fails where another one holds the lock too, and removes it.
-# Prints how often the lock was taken, and how often two held it at once; status 1 where they ever did.
+# `tokentree lock`. Under the lock each makes a folder, which fails if another one holds the lock too, and removes it.
+# Prints how often the lock was taken, and how often two held it at once; status 1 if they ever did.
 #
 #   bench/exclusion.sh [TIMES] [CLIENTS]     how often each client takes it (50), and how many there are at a node (2)
 #

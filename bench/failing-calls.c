@@ -59,7 +59,7 @@ static int fails(const char *of) {
 #define WRAP(of, type, name, parameters, arguments) \
     type name parameters { return fails(of) ? (type)-1 : NEXT(name) arguments; }
 
-// Memory: the C library's own allocator stays behind it under its other names.
+// Memory: the C library's own allocator stays there under its other names.
 extern void *__libc_malloc(size_t), *__libc_calloc(size_t, size_t), *__libc_realloc(void *, size_t), *__libc_memalign(size_t, size_t);
 void *malloc(size_t size) { return fails("memory") ? NULL : __libc_malloc(size); }
 void *calloc(size_t count, size_t size) { return fails("memory") ? NULL : __libc_calloc(count, size); }

@@ -2,11 +2,11 @@
 # Lets everything that can fail fail once, in the built program. Each kind of call that a command makes of the system
 # (bench/failing-calls.c names the kinds; growths of memory are one) fails at its first use, in another run at its
 # second, and so on until a run meets no failure. Each run must then end with a status that its command has, and with
-# one line on standard error where that status is 1, or as it would have without the failure; what stood before must
+# one line on standard error if that status is 1, or as it would have without the failure; what stood before must
 # stand: a network goes on serving, and a node starts from whatever file is left. Then the machine itself refuses: no
 # descriptors, no room on the disk, a folder without the right to write.
 #
-#   bench/failures.sh [MOST]     the most runs for each kind of call of one command; 400 where nothing is said
+#   bench/failures.sh [MOST]     the most runs for each kind of call of one command; 400 if nothing is said
 #
 # Prints a line for each command and kind: how many runs met a failure, and how many of them ended with which status.
 # A line that begins with `WRONG` says what is wrong; with one of them the status is 1. It wants `cc`; a small
@@ -64,7 +64,7 @@ run_failing() {
     status=$?
 }
 
-# Whether standard error has what a failure tells: one line of the program's own.
+# Whether standard error has what a failure says: one line of the program's own.
 tells_one_line() {
     [ "$(wc -l <"$folder/err")" -eq 1 ] && grep -q '^tokentree: ' "$folder/err"
 }

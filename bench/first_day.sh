@@ -1,12 +1,14 @@
 #!/bin/sh
 # Does what a new user and an operator do on their first day, slips included, and says what is not as it should be: which
 # line on standard error names a mistake, how the program ends when its reader goes or the disk is full, that examples
-# recover, that nodes end by `stop` and `up` by signals, what a node says of its file, who may do what with `--group-locks`, what
-# the completions of bash offer. Status 1 if anything is wrong.
+# recover, that a large picture is quick, that `lock` waits as it is asked to, that nodes end by `stop` and `up` by signals
+# and by the end of its input, what a node says of its file and of its clients, who may do what with `--group-locks`, what
+# the completions of bash and fish offer, and that documents explain the words. Status 1 if anything is wrong.
 #
 #   bench/first_day.sh
 #
-# The program is ./tokentree, or what TOKENTREE names. It takes a minute.
+# The program is ./tokentree, or what TOKENTREE names. It takes two minutes. What needs root, python3 or fish is left out
+# without it.
 set -u
 cd "$(dirname "$0")/.." || exit 1
 program=${TOKENTREE:-./tokentree}
@@ -14,7 +16,8 @@ program=${TOKENTREE:-./tokentree}
 [ -n "${TOKENTREE:-}" ] || program=./crates/tokentree/out/tokentree
 program=$(realpath "$program")
 examples=$PWD/examples
-completions=$PWD/packaging/completions/tokentree.bash
+completions=$PWD/packaging/completions
+operating=$PWD/docs/OPERATING.md
 made=$(mktemp -d)
 running=
 # shellcheck disable=SC2086
@@ -73,9 +76,12 @@ tokentree: network Unreadable" up . ring.toml
 ends 1 "tokentree: absent.txt: No such file or directory (os error 2)
 tokentree: events Unreadable" simulate ring.toml absent.txt
 
+ends 1 "tokentree: ring.toml: no node 7 is in it
+tokentree: id NoNode" scramble ring.toml 7 state 1
+
 # Mistakes in words: one line, and which help to try.
 for words in 'bound' 'bound --sharq ring.toml' 'bonud ring.toml' 'node --hold 2001 ring.toml 0 run' 'lock run one' \
-    'measure ring.toml --runs 0' 'draw ring.toml - --from 2 --to 1' ''; do
+    'measure ring.toml --runs 0' 'draw ring.toml - --from 2 --to 1' 'lock run 1 --' 'lock run 1 -E 0' 'stop' ''; do
     # shellcheck disable=SC2086
     "$program" $words >output 2>said </dev/null
     status=$?
@@ -103,7 +109,20 @@ for words in 'junk 1 1000000' 'schedule ring.toml --rounds 100000' 'simulate rin
     }
 done
 
-# The examples of the help recover.
+# The examples of the help, as they stand there; of a user's own file, an example.
+ln -s "$examples" examples
+cp examples/forged-tokens.txt events.txt
+"$program" --help | sed -n '/^Examples:/,/^$/s/^  tokentree //p' >words
+[ "$(wc -l <words)" -ge 5 ] || wrong "the help shows few examples: $(cat words)"
+while read -r words; do
+    sh -c "\"\$0\" $words" "$program" >output 2>said || wrong "the help's example '$words' fails: $(cat said)"
+    case $words in
+    'simulate examples/square'* | threads*)
+        [ "$(tail -n 1 output | cut -d ' ' -f 2)" -gt 0 ] || wrong "the help's example '$words' shows no sweep" ;;
+    esac
+done <words
+
+# The examples recover.
 recovers() { awk '/^privileged/ { p = $2 } /^sweeps/ { s = $2; r = $4 } END { exit !(p <= 1 && s > 0 && r > 0) }' output; }
 for seed in 1 2 3 4 5 6 7; do
     "$program" schedule "$examples/square.toml" --scramble $seed --rounds 600 >schedule.txt
@@ -131,23 +150,117 @@ done
 [ $seen -gt 0 ] || wrong 'no seed has a loan that holds up the sweeps'
 
 # Threads begin together and take turns: a thousand turns hold sweeps, and each node finds its place.
-"$program" threads "$examples/square.toml" 1000 >output
-recovers || wrong "1,000 turns on threads do not recover: $(tail -n 1 output)"
-[ "$(head -n 4 output | cut -d ' ' -f 4,6 | tr '\n' ',')" = '0 none,1 0,1 0,2 1,' ] || wrong "threads: $(head -n 4 output)"
+for _ in $(seq 10); do
+    "$program" threads "$examples/square.toml" 1000 >output
+    recovers || wrong "1,000 turns on threads do not recover: $(tail -n 1 output)"
+    [ "$(head -n 4 output | cut -d ' ' -f 4,6 | tr '\n' ',')" = '0 none,1 0,1 0,2 1,' ] || wrong "threads: $(head -n 4 output)"
+done
 
 # Lines that end in CRLF are refused, and a line says why, once.
 printf 'tick 0\r\ntick 1\r\n' >crlf.txt
 ends 3 'tokentree: the events have carriage returns (CRLF): a line ends in a newline alone' simulate ring.toml crlf.txt
+ends 3 'tokentree: the events have carriage returns (CRLF): a line ends in a newline alone' draw ring.toml crlf.txt
 printf 'tick 0\nTick 1\n' >plain.txt
 ends 3 '' simulate ring.toml plain.txt
+ends 3 '' draw ring.toml plain.txt
+
+# A picture of 64 nodes takes at most a second of a processor.
+seconds() { bash -c 'TIMEFORMAT="%U"; time "$@" >output 2>said' bash "$@" 2>&1; }
+"$program" network ring 64 >large.toml
+"$program" schedule large.toml --scramble 1 --random 174000 --seed 1 >large.txt
+drawn=$(seconds "$program" draw large.toml large.txt)
+awk -v d="$drawn" 'BEGIN { exit !(d <= 1) }' || wrong "174,000 events of a ring of 64 are drawn in $drawn s"
+# A drawing of more than two seconds shows on a terminal how far it is, and takes the line away.
+if command -v python3 >/dev/null; then
+    python3 - "$program" <<'PYTHON' || wrong "a long drawing shows nothing on a terminal: $(cat said)"
+import os, subprocess, sys, time
+ours, theirs = os.openpty()
+words = [sys.argv[1], "draw", "ring.toml", "-"]
+drawing = subprocess.Popen(words, stdin=subprocess.PIPE, stdout=subprocess.DEVNULL, stderr=theirs)
+os.close(theirs)
+for _ in range(30):
+    drawing.stdin.write(b"tick 0\n" * 10_000)
+    drawing.stdin.flush()
+    time.sleep(0.1)
+drawing.stdin.close()
+assert drawing.wait() == 0
+said = os.read(ours, 65536)
+open("said", "wb").write(said)
+sys.exit(not (b"\r1 MB of events" in said and said.endswith(b"\r\x1b[K")))
+PYTHON
+    "$program" draw ring.toml large.txt 2>said >output
+    [ ! -s said ] || wrong "without a terminal a drawing says $(cat said)"
+fi
 
 # Help fits a terminal of 80 columns.
-for words in 'help bound' 'help simulate' 'help lock' 'help status' 'help junk' 'help network' 'help schedule' \
-    'help measure' 'help threads'; do
+for words in --help $("$program" --help | awk '/^Commands:/ { on = 1; next } on && /^$/ { exit } on { print "help," $1 }'); do
+    words=$(echo "$words" | tr , ' ')
     # shellcheck disable=SC2086
     "$program" $words >output 2>said
     [ "$(awk 'length > 80' output | wc -l)" -eq 0 ] || wrong "$words has lines over 80 columns: $(awk 'length > 80' output)"
 done
+
+# Waits until each node of a ring of three has said that it is ready, in these files or in one of `up`.
+ready() {
+    for _ in $(seq 100); do [ "$(cat "$@" 2>/dev/null | grep -c 'ready$')" -eq 3 ] && break; sleep 0.1; done
+}
+# Takes the lock at a node, in the background, until the file `held` is gone.
+hold() {
+    : >held
+    "$program" lock "$@" -- sh -c 'echo held; while [ -e held ]; do sleep 0.05; done' >holding 2>said-held &
+    holder=$!
+    for _ in $(seq 100); do grep -qs held holding && break; sleep 0.1; done
+}
+# The command ends with this status; standard error has these lines of another status of its own, or none.
+locks() {
+    wanted=$1
+    shift
+    "$program" lock "$@" >output 2>said </dev/null
+    status=$?
+    [ "$status" -eq "$wanted" ] || wrong "lock $*: status $status, and not $wanted: $(cat said)"
+}
+
+# What `lock` says of mistakes, how it waits, and what its options do; how `status` shows links.
+setsid env --block-signal=HUP,INT,TERM,TTIN "$program" up ring.toml waits >up.out 2>&1 </dev/null &
+running=$!
+ready up.out
+sleep 1
+ends 2 'tokentree: no command follows --: leave -- out to hold the lock until standard input ends; try: tokentree help lock' \
+    lock waits 1 --
+locks 125 /etc/passwd 1 -- true
+locks 125 waits 9 -- true
+grep -q '^tokentree: nobody listens at waits/desk-9.sock' said || wrong "lock waits 9 says $(cat said)"
+ends 1 'tokentree: node 9 never ran in waits, which has neither a socket nor a state of it' status waits 9
+[ "$("$program" status waits --links | grep -c '^node [0-2] link [0-2] up for ')" -eq 6 ] ||
+    wrong "the links are $("$program" status waits --links)"
+locks 0 --verbose waits 1 -- true
+[ "$(cat said)" = 'tokentree: waiting at node 1
+tokentree: node 1 granted the lock
+tokentree: node 1 took the lock back' ] || wrong "lock --verbose says $(cat said)"
+TOKENTREE_DIR=waits TOKENTREE_NODE=2 "$program" lock -- echo by-variables >output 2>said || wrong "no lock by variables: $(cat said)"
+[ "$(cat output)" = by-variables ] || wrong "by variables the command prints $(cat output)"
+locks 7 waits any -- sh -c 'exit 7'
+locks 0 -n waits 1 -- true
+hold waits 0
+for words in '-n' '--no-wait' '--timeout 0.2'; do
+    began=$(date +%s%N)
+    # shellcheck disable=SC2086
+    locks 124 $words waits 1 -- true
+    took=$((($(date +%s%N) - began) / 1000000))
+    [ $took -lt 2000 ] || wrong "lock $words gives up after $took ms"
+done
+rm held
+wait $holder || wrong "who held the lock has $?: $(cat said-held)"
+# A lock that is lost has the status that is asked for: node 2 is killed while a command holds its lock.
+hold -E 75 waits 2
+kill -KILL "$(pgrep -g $running -f ' 2 waits$')"
+wait $holder
+status=$?
+[ $status -eq 75 ] || wrong "with -E 75 a lost lock has status $status: $(cat said-held)"
+rm -f held
+kill -TERM $running
+wait $running || wrong "up does not end well after the locks: $(cat up.out)"
+running=
 
 # Nodes are ended by `stop`, and not twice.
 for node in 0 1 2; do
@@ -206,6 +319,39 @@ for round in once twice; do
     running=
 done
 
+# It ends well too at SIGHUP, and at the end of a pipe.
+goodbye='node 0 has ended node 1 has ended node 2 has ended '
+says_goodbye() {
+    [ "$(grep 'has ended' up.out | sort | tr '\n' ' ')" = "$goodbye" ] || wrong "$1: up says $(cat up.out)"
+}
+setsid env --default-signal=HUP --block-signal=HUP,INT,TERM,TTIN "$program" up ring.toml up-hup >up.out 2>&1 </dev/null &
+running=$!
+ready up.out
+kill -HUP $running
+wait $running || wrong "up does not end well at SIGHUP"
+says_goodbye SIGHUP
+mkfifo pipe
+setsid env --block-signal=HUP,INT,TERM,TTIN "$program" up ring.toml up-pipe >up.out 2>&1 <pipe &
+running=$!
+exec 3>pipe
+ready up.out
+sleep 1
+kill -0 $running || wrong "up does not run on while its pipe is open"
+exec 3>&-
+wait $running || wrong "up does not end well at the end of its input"
+running=
+says_goodbye 'the end of a pipe'
+
+# A node says so if links hold fewer frames than may be under way, and a new user is told the same number by the help.
+sed 's/capacity = 64/capacity = 1/' ring.toml >small.toml
+"$program" node small.toml 0 small >node-0 2>said </dev/null &
+running=$!
+for _ in $(seq 100); do grep -qs ready node-0 && break; sleep 0.1; done
+"$program" stop small >output
+wait
+running=
+{ grep -q 36 said && "$program" help node | grep -q ' 36 frames'; } || wrong "of a small capacity a node says $(cat said)"
+
 # A member of the group takes the lock, and can do nothing else.
 if [ "$(id -u)" -eq 0 ] && command -v setpriv >/dev/null; then
     chmod 755 . && install -d -o 54321 -g 54321 grouped && cp "$program" tokentree && chmod 755 tokentree
@@ -223,6 +369,13 @@ if [ "$(id -u)" -eq 0 ] && command -v setpriv >/dev/null; then
         './tokentree stop grouped/nodes 0' 'mv grouped/nodes/desk-0.sock grouped/nodes/desk-9.sock'; do
         as 12345 "$deed" >output 2>said && wrong "a member of the group may $deed"
     done
+    connect='import socket, sys; socket.socket(socket.AF_UNIX).connect(sys.argv[1])'
+    if command -v python3 >/dev/null; then
+        as 12345 "python3 -c '$connect' grouped/nodes/desk-0.sock" 2>said || wrong "a member of the group is not let in: $(cat said)"
+        for name in node look; do
+            as 12345 "python3 -c '$connect' grouped/nodes/$name-0.sock" 2>said && wrong "a member of the group may write into $name-0"
+        done
+    fi
     modes=$(stat -c '%a %n' grouped/nodes grouped/nodes/*-0.sock grouped/nodes/state-0.tkt grouped/nodes/lock-0 | tr '\n' ' ')
     [ "$modes" = "750 grouped/nodes 660 grouped/nodes/desk-0.sock 600 grouped/nodes/look-0.sock 600 grouped/nodes/node-0.sock 600\
  grouped/nodes/state-0.tkt 600 grouped/nodes/lock-0 " ] || wrong "the rights are $modes"
@@ -249,6 +402,43 @@ tokentree: node 0: ticket N is granted the lock
 tokentree: node 0: ticket N has given the lock back
 tokentree: node 0: ends" ] || wrong "the log of a node is $(cat said)"
 [ "$(cat said-1)" = "<4>tokentree: node 1: the link to node 0 is down" ] || wrong "the log of a node for a journal is $(cat said-1)"
+
+# It says who has lost the lock, whose lease was over, and once that clients are refused: 64 wait, and one more asks.
+if command -v python3 >/dev/null; then
+    printf 'nodes = 2\nroot = 0\ncapacity = 64\nlease = 100\nedges = [[0, 1]]\n' >leased.toml
+    "$program" node --log 5 leased.toml 0 refuses >node-0 2>said </dev/null &
+    running=$!
+    "$program" node leased.toml 1 refuses >node-1 2>said-1 </dev/null &
+    running="$running $!"
+    for _ in $(seq 100); do grep -qs ready node-0 && grep -qs ready node-1 && break; sleep 0.1; done
+    sleep 1
+    python3 - refuses/desk-0.sock <<'PYTHON' || wrong "of 66 clients not one is granted the lock, and loses it, and one refused"
+import socket, sys
+
+
+def client():
+    made = socket.socket(socket.AF_UNIX)
+    made.settimeout(20)
+    made.connect(sys.argv[1])
+    made.sendall(b"lock\n")
+    return made
+
+
+holder = client()
+assert holder.recv(100) == b"granted\n"
+waiting = [client() for _ in range(64)]
+assert client().recv(100) == b"full\n"
+assert holder.recv(100) == b"lost\n"
+PYTHON
+    sleep 1
+    "$program" stop refuses >output
+    wait
+    running=
+    grep -q '^tokentree: node 0: 64 clients wait, and further ones are refused' said || wrong "of refused clients a node says $(cat said)"
+    grep -q '^tokentree: node 0: ticket [0-9]* has lost the lock' said || wrong "of a lost lock a node says $(cat said)"
+    grep -q '^tokentree: node 0: clients may wait again' said || wrong "of free places a node says $(cat said)"
+    [ "$(grep -c 'are refused' said)" -eq 1 ] || wrong "that clients are refused is said more than once: $(cat said)"
+fi
 
 # A service manager hears that a node is ready, by a path and by an abstract name.
 if command -v python3 >/dev/null; then
@@ -288,8 +478,25 @@ command -v bash >/dev/null && bash --norc --noprofile -c '
     offers "" tokentree lock some 0 ls --ti
     offers "--timeout" tokentree lock --ti
     offers "" tokentree lock --timeout ""
-    exit $wrong' bash "$completions"
+    exit $wrong' bash "$completions/tokentree.bash"
 [ $? -eq 0 ] || found=1
+
+# What fish offers: after `--` what the command takes, and no flag of lock; before it those of lock.
+if command -v fish >/dev/null; then
+    HOME=$made fish --no-config -c '
+        source $argv[1]
+        complete -c some-command -l of-its-own
+        contains -- --of-its-own (complete -C "tokentree lock some 0 -- some-command --of"); or echo none of the command after --
+        string match -q -- "--time*" (complete -C "tokentree lock some 0 -- some-command --ti"); and echo flags of lock after --
+        string match -q -- "--timeout*" (complete -C "tokentree lock --ti"); or echo no flag of lock' \
+        "$completions/tokentree.fish" >output 2>&1
+    [ ! -s output ] || wrong "fish offers $(cat output)"
+fi
+
+# The words that a new user meets are explained.
+for word in node root sweep tick token privileged desk ticket lease capacity; do
+    sed -n '/^## Glossary/,$p' "$operating" | grep -q "^| $word |" || wrong "the glossary lacks $word"
+done
 
 [ $found -ne 0 ] || echo "first_day: all is as it should be"
 exit $found

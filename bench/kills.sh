@@ -35,6 +35,10 @@ while now=$(date +%s%N); [ $now -lt $end ] && [ -z "$stop" ]; do echo $now >>"$0
 end=$(($(date +%s%N) + $2))
 while now=$(date +%s%N); [ $now -lt $end ]; do echo $now >>"$0"; sleep 0.02; done"""
 
+# A script's background job has both ignored, and its children would too.
+signal.signal(signal.SIGINT, signal.default_int_handler)
+signal.signal(signal.SIGQUIT, signal.SIG_DFL)
+
 wrong = 0
 count = 0
 
@@ -166,6 +170,22 @@ def waited(row, signals, status, words=()):
     judged(row, first, path, time.time(), status)
     if STOP not in signals and not words and beats(path):
         report(row + ", afterwards", ["its command ran"])
+
+
+def waited_guard(row, signals, gone):
+    """Hits the guard of a lock that waits while another one holds the lock: the command runs, under a guard that lives."""
+    holder = beating(fresh(), 2.0, node="0")
+    until(lambda: guard_of(holder))
+    path = fresh()
+    first = beating(path, 1.0)
+    before = until(lambda: guard_of(first))
+    hit_with(before, signals)
+    holder.wait()
+    until(lambda: beats(path))
+    after = guard_of(first)
+    judged(row, first, path, time.time(), 0)
+    if not beats(path) or after is None or (after != before) != gone:
+        report(row + ", afterwards", [f"guard {before} before the grant, {after} after it"])
 
 
 def giving_back(row, signals, status):
@@ -354,6 +374,7 @@ try:
         # A process that a signal ended has a negative number here, and 128 and the number in a shell.
         waited(f"first process, waiting, {name}", signals, 0 if usual else -number)
         waited(f"first process, waiting, --timeout 10, {name}", signals, 0 if usual else -number, ["--timeout", "10"])
+        waited_guard(f"guard, waiting, {name}", signals, number == KILL)
         held(f"first process, holding, {name}", "first", signals, 0 if usual else -number, 1.5 if usual else 20)
         held(f"guard, holding, {name}", "guard", signals, 122 if number == KILL else 0, 20 if number == KILL else 1.5)
         held(f"command, holding, {name}", "command", signals, 0 if usual else 128 + number, 1.5 if usual else 20)
@@ -369,7 +390,7 @@ try:
     shows("no such command", [RUN, "1", "--", "no-such-command"], 127, b"", b"tokentree: there is no command no-such-command\n")
     shows("a command in the background", [RUN, "1", "--", "sh", "-c", "sleep 2 >&- 2>&- &"], 0, within=(0, 1.5))
     shows("the same with --wait-children", ["--wait-children", RUN, "1", "--", "sh", "-c", "sleep 2 >&- 2>&- &"], 0, within=(1.9, 4))
-    absent = f"tokentree: nobody listens at {RUN}/desk-7.sock: start node 7\n".encode()
+    absent = f"tokentree: nobody listens at {RUN}/desk-7.sock: start node 7, if the network has it\n".encode()
     shows("an absent node", [RUN, "7", "--", "true"], 125, b"", absent)
     shows("DIR by a relative path", ["run", "1", "--", "sh", "-c", "cd / && pwd"], 0, b"/\n", b"", cwd=folder)
     # Shells differ in the status of a failed write: it must be the command's own.

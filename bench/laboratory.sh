@@ -1,6 +1,6 @@
 #!/usr/bin/env bash
 # Runs the commands of docs/LABORATORY.md, in a folder of its own, and shows what they print. With --pictures it also
-# writes the pictures of that document anew. The program is ./tokentree, or what TOKENTREE names.
+# writes the pictures of that document again. The program is ./tokentree, or what TOKENTREE names.
 set -euo pipefail
 cd "$(dirname "$0")/.."
 tokentree=$(realpath "${TOKENTREE:-./tokentree}")

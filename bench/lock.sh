@@ -1,7 +1,7 @@
 #!/usr/bin/env bash
 # Measures nodes that run as processes, on rings of three and of eight (or of the numbers of nodes that are given): the
 # load of an idle node, how long a client that asks now and then waits for the lock at the root and far from it, how many
-# grants a second there are where a client at each node wants the lock all the time, and a node's memory and descriptors.
+# grants a second there are if a client at each node asks for the lock all the time, and a node's memory and descriptors.
 # Beside it what a command costs under the lock and under flock(1), and a loop that locks one file, so that the price is
 # seen. Wants python3 and flock; takes half a minute for each ring. The program is ./tokentree, or what TOKENTREE names.
 set -euo pipefail

@@ -8,6 +8,7 @@
 #   bench/machines.sh              delays of 0, 1, 10 and 50 ms, each fault 20 times, lines cut for 60 s: an hour
 #   bench/machines.sh short        delays of 0 and 10 ms, each fault twice, lines cut for 5 s: some six minutes
 #   bench/machines.sh [short] PART one part alone: speed, faults or strangers
+#   bench/machines.sh faults N     each fault N times
 #
 # Status 1 if a sum was wrong after a recovery, or ever after a fault that damages nothing; if a node did not grant the
 # lock again within 30 seconds; if more frames were under way than the capacity allows; or if a stranger reached a node.
@@ -493,6 +494,19 @@ def waits(machine, times):
     return spread[times // 2], spread[times * 99 // 100]
 
 
+def circuit(machine, times):
+    """The milliseconds of half of the token's circuits: a client asks again at once, and the token passes all others first."""
+    client, spread = Client(f"{machine.nodes}/desk-{machine.node}.sock"), []
+    client.lock()
+    for _ in range(times):
+        client.unlock()
+        start = time.perf_counter()
+        client.lock()
+        spread.append((time.perf_counter() - start) * 1000)
+    client.unlock()
+    return statistics.median(spread)
+
+
 def count_grants(desk, seconds, out):
     client, count, end = Client(desk), 0, time.perf_counter() + seconds
     while time.perf_counter() < end:
@@ -523,12 +537,15 @@ def speed_row(network, delay, repeat):
     watch = Watch(network)
     times = 300 if delay < 10 else 100
     spreads = [waits(machine, times) for machine in network.machines]
+    # Node 2 is a leaf of the tree, so the token passes four lines until it is there again.
+    round_trip = circuit(network.machines[2], times // 2)
     rate = grants(network, 5)
     most = watch.end()
     network.nodes_end()
     spread = " | ".join(f"{half:.1f}, {most:.1f}" for half, most in spreads)
     print(
-        f"| {delay} | {repeat / 1000:.0f} | {4 * delay} | {spread} | {rate:,.0f} | {shares[0]:.1f}, {shares[1]:.1f}"
+        f"| {delay} | {repeat / 1000:.0f} | {4 * delay}, {round_trip:.1f} | {spread} | {rate:,.0f}"
+        f" | {shares[0]:.1f}, {shares[1]:.1f}"
         f" | {repeated}, {most} |",
         flush=True,
     )
@@ -537,8 +554,10 @@ def speed_row(network, delay, repeat):
 
 def speed(delays):
     print(
-        "| Delay of a line, ms | Repetition, ms | Delays of a circuit, ms | Lock at node 0: p50, p99, ms | At node 1 | At node 2"
-        " | Grants a second | Idle: node, links, of a core in 100 | Frames under way: idle, most |\n" + "|---" * 9 + "|",
+        "| Delay of a line, ms | Repetition, ms | A circuit: its delays, its time, ms | Lock at node 0: p50, p99, ms"
+        " | At node 1 | At node 2 | Grants a second | Idle: node, links, of a core in 100 | Frames under way: idle, most |\n"
+        + "|---" * 9
+        + "|",
         flush=True,
     )
     right = []
@@ -912,13 +931,15 @@ def main(program, *words):
     PROGRAM = program
     short = words[:1] == ("short",)
     parts = words[1:] if short else words
+    times = int(parts[1]) if parts[:1] == ("faults",) and parts[1:] else 20
+    parts = parts[:1]
     assert set(parts) <= {"speed", "faults", "strangers"}, "the parts are speed, faults and strangers"
     print(f"load {os.getloadavg()[0]:.0f}", flush=True)
     right = []
     if not parts or "speed" in parts:
         right.append(speed([0, 10] if short else [0, 1, 10, 50]))
     if not parts or "faults" in parts:
-        right.append(faults(2, 5) if short else faults(20, 60))
+        right.append(faults(2, 5) if short else faults(times, 60))
     if not parts or "strangers" in parts:
         right.append(strangers(1 if short else 3))
     return 0 if all(right) else 1

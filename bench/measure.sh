@@ -1,6 +1,6 @@
 #!/usr/bin/env bash
 # Measures after how many sweeps scrambled networks serve: a table of lines, rings, stars and random networks of 8, 16 and 32 nodes, and of the square, with
-# links of 1 and of 16 items, by rounds (or by $2, as --random) and $1 runs each (100 where nothing is said). Beside the measured numbers stand both bounds.
+# links of 1 and of 16 items, by rounds (or by $2, as --random) and $1 runs each (100 if nothing is said). Beside the measured numbers stand both bounds.
 set -euo pipefail
 runs=${1:-100}
 order=${2:---rounds}

@@ -1,8 +1,10 @@
 #!/usr/bin/env bash
 # Draws the pictures of docs/ again: the forged tokens, a scrambled square whose edge 1-3 goes and joins again, and what
-# three nodes did on threads, which differs from run to run. If Chromium is there (CHROMIUM, or chromium in PATH), it
-# shows each of them without a screen, as NAME.png in the folder $1 (or in a new folder). The program is ./tokentree, or
-# what TOKENTREE names.
+# three nodes did on threads, which differs from run to run; and the films of the square, without that edge's part and
+# with it. It makes films of a star of 64 over 170,000 events too, alone and in a page, and prints their sizes and times.
+# If Chromium is there (CHROMIUM, or chromium in PATH), it shows each picture without a screen, as NAME.png in the folder
+# $1 (or in a new folder), and each film at 0, 25, 50 and 100 % of its time, as NAME-PERCENT.png. The program is
+# ./tokentree, or what TOKENTREE names.
 set -euo pipefail
 cd "$(dirname "$0")/.."
 program=$(realpath "${TOKENTREE:-./tokentree}")
@@ -42,6 +44,9 @@ all="0 1,0 2,1 0,1 3,2 0,2 3,3 1,3 2"
     square_rounds 20 "$all"
     printf 'leave 2 22\n'
     square_rounds 20 "$all"
+} > "$folder/square"
+{
+    cat "$folder/square"
     echo "harm part 1 3"
     square_rounds 40 "0 1,0 2,1 0,2 0,2 3,3 2"
     echo "harm join 1 3"
@@ -56,6 +61,39 @@ sed 's/^lease = .*/lease = 0/' examples/square.toml > "$folder/square.toml"
 "$program" threads examples/line-of-three.toml 60000 --events "$folder/threads" > /dev/null
 "$program" draw examples/line-of-three.toml "$folder/threads" --from 0 --to 60 > docs/threads.svg
 
+# The films of both runs.
+"$program" draw "$folder/square.toml" "$folder/square" --film > docs/square-film.svg
+"$program" draw "$folder/square.toml" "$folder/scrambled-square" --film --seconds 40 > docs/edge-film.svg
+"$program" draw "$folder/square.toml" "$folder/scrambled-square" --film --page --seconds 40 > "$folder/edge-page.html"
+
+# The star of 64, scrambled: 540 rounds of 316 events.
+"$program" network star 64 > "$folder/star.toml"
+"$program" schedule "$folder/star.toml" --scramble 7 --rounds 540 > "$folder/star"
+wc -l < "$folder/star"
+for form in "" --page; do
+    TIMEFORMAT="star of 64 $form: %R s"
+    # shellcheck disable=SC2086
+    time "$program" draw "$folder/star.toml" "$folder/star" --film $form > "$folder/star-film$form"
+    echo "star of 64 $form: $(wc -c < "$folder/star-film$form") bytes"
+done
+
+# Shows a film at four moments. At the very end it begins again, so its last hundredth of a second is shown.
+show_film() {
+    local film=$1 name=$2 long percent seconds
+    long=$(grep -o 'dur="[0-9]*ms"' "$film" | head -n 1 | tr -dc 0-9)
+    for percent in 0 25 50 100; do
+        seconds=$(awk -v long="$long" -v percent="$percent" 'BEGIN { at = long * percent / 100; print (at < long ? at : at - 10) / 1000 }')
+        {
+            echo '<!DOCTYPE html><body style="margin:0">'
+            cat "$film"
+            echo "<script>var film = document.querySelector('svg'); film.pauseAnimations(); film.setCurrentTime($seconds)</script>"
+        } > "$folder/moment.html"
+        "$browser" --headless --no-sandbox --disable-gpu --hide-scrollbars --window-size=1440,900 --virtual-time-budget=300 \
+            --screenshot="$shown/$name-$percent.png" "file://$folder/moment.html" 2> /dev/null
+        echo "$shown/$name-$percent.png"
+    done
+}
+
 browser=${CHROMIUM:-$(command -v chromium || command -v chromium-browser || true)}
 for name in forged-tokens scrambled-square threads; do
     echo "docs/$name.svg $(wc -c < "docs/$name.svg") bytes"
@@ -65,4 +103,9 @@ for name in forged-tokens scrambled-square threads; do
         echo "$shown/$name.png"
     fi
 done
+for name in square-film edge-film; do
+    echo "docs/$name.svg $(wc -c < "docs/$name.svg") bytes"
+    [ -z "$browser" ] || show_film "docs/$name.svg" "$name"
+done
+[ -z "$browser" ] || show_film "$folder/star-film" star-film
 [ -n "$browser" ] || echo "no Chromium is there to show them"

@@ -67,7 +67,7 @@ impl<T> Producer<T> {
         self.ring.distance(self.head, self.tail) == self.ring.slots.len()
     }
 
-    /// Only where the ring is not full.
+    /// Only if the ring is not full.
     fn push(&mut self, value: T) {
         unsafe { (*self.ring.slots[self.ring.place(self.tail)].get()).write(value) };
         self.tail = self.ring.next(self.tail);
@@ -86,7 +86,7 @@ impl<T: Copy> Consumer<T> {
         Some(unsafe { (*self.ring.slots[self.ring.place(self.head)].get()).assume_init() })
     }
 
-    /// Only where something was seen.
+    /// Only if something was seen.
     fn drop_first(&mut self) {
         self.head = self.ring.next(self.head);
         self.ring.head.0.store(self.head, Ordering::Release);

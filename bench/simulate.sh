@@ -1,9 +1,9 @@
 #!/usr/bin/env bash
 # Measures `tokentree simulate` on four networks: a square, a path of 64 nodes, a star of 64 with room for 4096 items on
 # each link, and 23 nodes with 250 edges. Of each it prints the best of five runs, in million lines a second of a processor, the
-# instructions that a line costs, where valgrind is there, and the most memory of a run. Given an older build of the
+# instructions that a line costs, if valgrind is there, and the most memory of a run. Given an older build of the
 # program, `bench/simulate.sh OLD`, it measures that one beside today's, turn by turn. TOKENTREE names today's program
-# where it is not to be built. Wants python3.
+# if it is not to be built. Needs python3.
 # In a round each node ticks, and then each frame goes twice over each link; the rounds of a text have some 2,000,000 lines.
 set -euo pipefail
 older=${1:+$(realpath "$1")}

@@ -11,7 +11,7 @@ program=${TOKENTREE:-./crates/tokentree/out/tokentree}
 [ -x "$program" ] || { echo "deb.sh: $program is not there: run ./tokentree --help first" >&2; exit 1; }
 version=$("$program" --version | awk '{ print $2 }')
 architecture=$(dpkg --print-architecture)
-maintainer="${DEBFULLNAME:-tokentree maintainers} <${DEBEMAIL:-maintainers@users.noreply.gilmersk.example}>"
+maintainer="${DEBFULLNAME:-tokentree maintainers} <${DEBEMAIL:-maintainers@tokentree.example}>"
 # dpkg-deb gives no file a later date than this one.
 SOURCE_DATE_EPOCH=$(date -d "$(sed -n 's/^ -- .*>  //p' packaging/changelog | head -n 1)" +%s)
 export SOURCE_DATE_EPOCH
@@ -35,6 +35,7 @@ find README.md docs examples -type f \( -name '*.md' -o -name '*.svg' -o -path '
     put 644 "$file" "usr/share/doc/tokentree/$file"
 done
 put 644 packaging/copyright usr/share/doc/tokentree/copyright
+put 644 packaging/lintian-overrides usr/share/lintian/overrides/tokentree
 put 644 packaging/changelog usr/share/doc/tokentree/changelog
 put 644 docs/tokentree.1 usr/share/man/man1/tokentree.1
 gzip -9n "$root/usr/share/man/man1/tokentree.1" "$root/usr/share/doc/tokentree/changelog"
@@ -55,8 +56,9 @@ Recommends: acl, openssl, socat
 Section: admin
 Priority: optional
 Description: self-stabilising lock service
- A lock for a network of nodes that recovers by itself, with no operator, from any damage to the memory of the
- nodes and to the messages under way. That it does is proved.
+ A lock for a network of nodes that recovers by itself, with no operator,
+ from any damage to the memory of the nodes and to the messages under way.
+ That it does is proved.
 END
 
 # The users of the units: one for the nodes, one for the links to other machines. The states of the nodes are removed
@@ -84,7 +86,7 @@ cat >"$root/DEBIAN/postrm" <<'END'
 set -e
 [ ! -d /run/systemd/system ] || systemctl daemon-reload
 if [ "$1" = purge ]; then
-    rm -rf /var/lib/tokentree /etc/tokentree
+    rm -rf /var/lib/tokentree /etc/tokentree /run/tokentree-link
     # What `systemctl enable` and `systemctl edit` have made of the units.
     rm -f /etc/systemd/system/*.wants/tokentree@*.service /etc/systemd/system/*.wants/tokentree-link@*.service
     rm -rf /etc/systemd/system/tokentree@*.service.d /etc/systemd/system/tokentree-link@*.service.d

@@ -47,7 +47,7 @@ _tokentree() {
     network) flags='--root --capacity --lease --edges --seed --help' valued='--root --capacity --lease --edges --seed' places='KIND N M' ;;
     schedule) flags='--scramble --rounds --random --seed --loss --clients --give-back --help' valued='--scramble --rounds --random --seed --loss --give-back' places='FILE' ;;
     measure) flags='--runs --seed --rounds --random --table --json --help' valued='--runs --seed' places='FILE' ;;
-    draw) flags='--columns --from --to --help' valued='--columns --from --to' places='FILE EVENTS' ;;
+    draw) flags='--columns --from --to --film --page --seconds --help' valued='--columns --from --to --seconds' places='FILE EVENTS' ;;
     threads) flags='--events --help' valued='--events' places='FILE TURNS' ;;
     help)
         [ "$COMP_CWORD" -gt 2 ] || mapfile -t COMPREPLY < <(compgen -W 'bound simulate lock status scramble cut junk node up stop network schedule measure draw threads' -- "$current")

@@ -117,7 +117,7 @@ module _ (net : Network) (tree : IsTree net) (near : (v w : ℕ) → Contains (n
       let stage = rises net.nodes v copied l (exact_stage v copied h net.nodes) in
       stage-below (net.nodes + 1) (distance_of net v) (stepped_distance net copied v) stage (omega (arith, tree.below v l))
 
-  -- a neighbour has the least copy where it is one nearer, and not else
+  -- a neighbour has the least copy if it is one nearer, and not else
   nearer-is-least : (v p w : ℕ) (copied : ℕ → ℕ) → AreExact net copied v → IsAmong p (neighbours_of net v) → distance_of net v ≡ distance_of net p + 1 → IsAmong w (neighbours_of net v) →
       has_least_copy copied (neighbours_of net v) w ≡ is_one_nearer net v w
   nearer-is-least v p w copied h j one i = elim (cases_eq (distance_of net w + 1) (distance_of net v)) [

@@ -68,7 +68,7 @@ StepDistanceFits =
     (is_root : Bool) (n : ℕ) (copied : ℕ → ℕ) (neighbours : List ℕ)
     → new_distance is_root n copied neighbours ≤ n
 
--- and, where the neighbours are nodes, a parent that is a node, or none
+-- and, if the neighbours are nodes, a parent that is a node, or none
 abbrev pub StepParentFits : Type 0
 StepParentFits =
     (is_root : Bool) (n : ℕ) (copied : ℕ → ℕ) (neighbours : List ℕ) → All (λ w. w < n) neighbours

@@ -1,7 +1,7 @@
 -- How far the written distances are right while the tree forms.
 use Rattle.std.specs.Prelude.{ℕ, Bool, if◌then◌else◌, nat_lt, nat_le, ◌==◌}
 
--- a distance written for a node is of stage k: exact where the node's true distance is below k, and
+-- a distance written for a node is of stage k: exact if the node's true distance is below k, and
 -- at least k elsewhere
 abbrev pub is_of_stage : (k true_distance written : ℕ) → Bool
 is_of_stage k true_distance written =

@@ -7,8 +7,10 @@
 //!
 //!     let (distance, parent) = recompute(is_root, nodes, &neighbours, |w| copies[w]);
 //!
-//! This is no search, and no node sees the network. Where every node steps again and again, and the
+//! This is no search, and no node sees the network. If every node steps again and again, and the
 //! copies follow, wrong distances grow until only true ones are left: `laws` has one round of that.
+//!
+//! Copies are read through a closure: they lie in ports, so a tick copies no state.
 //!
 //! The trap: a step reads nothing of the node's old distance and parent. A caller that kept an old
 //! parent, as good as the new one, would break the tie.

@@ -6,11 +6,11 @@ ghost use Rattle.bfs_tree.specs.Step.{new_distance, new_parent};
 ///
 /// The root is at distance 0 and has no parent. Any other node is one further than its least copy,
 /// and at most at `n`; its parent is the first of `neighbours` with that copy, so the one of
-/// smallest id where they ascend, and none where there are no neighbours.
+/// smallest id if they ascend, and none if there are no neighbours.
 ///
 /// `copied` gives a neighbour's copied distance, and is called for neighbours alone: copies stay
 /// where a node keeps them. What `copied` gives must be a function of the neighbour, as it is
-/// where it reads a field; the clause names that function.
+/// if it reads a field; the clause names that function.
 ///
 /// Source of the rule: Dolev, Israeli, Moran (1993). That the smallest id wins a tie is this
 /// project's.

@@ -26,11 +26,11 @@ pub record Reads {X : Type 0} (n : ℕ) (reading : List ℕ
   pub half : (half : List ℕ) → old ≡ kept n half → new ≡ kept n (half_after half bytes)
   pub lines : (half : List ℕ) → old ≡ kept n half → told ≡ map reading (lines_after half bytes)
 
--- a reader stands after these bytes where it keeps their half line
+-- a reader stands after these bytes if it keeps their half line
 abbrev pub StandsAfter : ℕ → List ℕ → Kept → Type 0
 StandsAfter n bytes k = k ≡ kept n (half_line bytes)
 
--- whatever bytes a reader stood after, it now stands after those and these, and has told what each
+-- whatever bytes a reader stood after, it now stands after those and these, and has said what each
 -- line that these ended is read as
 abbrev pub ReadsOn : {X : Type 0} → ℕ → (List ℕ → X) → Kept → Kept → List ℕ → List X → Type 0
 ReadsOn n reading old new more told =

@@ -10,7 +10,7 @@ newline = 10
 abbrev pub HasNoNewline : List ℕ → Type 0
 HasNoNewline line = AllByRecursion (λ b. b ≢ newline) line
 
--- the lines that end in a text, without their newlines, where the first of them goes on from the
+-- the lines that end in a text, without their newlines; the first of them goes on from the
 -- half line that came before
 abbrev pub lines_after : List ℕ → List ℕ → List (List ℕ)
 lines_after half [] = []

@@ -33,7 +33,7 @@ impl<const N: usize> Model for HalfLine<N> {
 pub struct Taken<T> {
     /// How many bytes were taken.
     pub used: usize,
-    /// What the line is read as that ended with them; none where the whole piece was taken and no
+    /// What the line is read as that ended with them; none if the whole piece was taken and no
     /// line ended.
     pub line: Option<T>,
 }
@@ -51,7 +51,7 @@ impl<const N: usize> HalfLine<N> {
     }
 
     /// Takes a piece of the text up to the end of the first line that ends in it, or all of it
-    /// where none does.
+    /// if none does.
     pub fn take<R: LineReading<N>>(&mut self, piece: &[u8], reading: &R) -> Taken<R::Read>
         ensures used { result.used ≤ length piece.now }
         ensures all { IfNone result.line (result.used ≡ length piece.now) }

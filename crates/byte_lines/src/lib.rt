@@ -9,7 +9,7 @@
 //! let mut half: HalfLine<16> = HalfLine::new();
 //! let taken = half.take(b"lock\nst", &Commands);      // 5 bytes, and what `lock` is read as
 //! let taken = half.take(b"st", &Commands);            // 2 bytes, and no line
-//! let told = half.push(b'\n', &Commands);             // what `st` is read as
+//! let line = half.push(b'\n', &Commands);             // what `st` is read as
 //! ```
 //!
 //! The trap: one call of `take` ends at the first newline of its piece; take again from the byte

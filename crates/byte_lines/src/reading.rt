@@ -1,7 +1,7 @@
 //! What lines are read as.
 ghost use Rattle.std.specs.Prelude.{◌≡◌, ℕ, ◌<◌, ◌≤◌, List, length, take};
 
-/// What a line is read as, where a line of more than `N` bytes is read from its first `N`.
+/// What a line is read as, if a line of more than `N` bytes is read from its first `N`.
 pub trait LineReading<const N: usize> {
     /// What it is read as.
     type Read;

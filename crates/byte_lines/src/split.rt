@@ -4,7 +4,7 @@ ghost use Rattle.byte_lines.specs.Lines.{newline, HasNoNewline};
 
 use memchr::memchr;
 
-/// The bytes before the first newline and those after it; none where there is no newline.
+/// The bytes before the first newline and those after it; none if there is no newline.
 // A call of its own would cost more than a short line does.
 #[inline(always)]
 pub fn split_line(text: &[u8]) -> Option<(&[u8], &[u8])>

@@ -3,7 +3,7 @@ use Rattle.std.proofs.Common.{◌≡◌, [], ◌∷◌, None, Some, refl, arith,
 use Rattle.byte_streams.specs.Streams.{Gives, Takes, Rose}
 use Rattle.byte_streams.specs.Fuse.{left_after, failures_of}
 
--- a source gives its next bytes; it does not give others, and nothing only at its end or where
+-- a source gives its next bytes; it does not give others, and nothing only at its end or if
 -- there is no room
 gives-two : Gives 2 (Some (1 ∷ 2 ∷ 3 ∷ [])) (Some (3 ∷ [])) (1 ∷ 2 ∷ 0 ∷ 0 ∷ [])
 gives-two = (omega arith, refl, refl, λ none. absurd (grind arith))
@@ -34,7 +34,7 @@ rose-most = inr (omega arith)
 rose_not-same : ¬ Rose 5 5
 rose_not-same = λ r. grind arith
 
--- a fuse counts down, fails where no call is left to pass, and does not begin again
+-- a fuse counts down, fails if no call is left to pass, and does not begin again
 left_after-two : left_after (Some 2) ≡ Some 1
 left_after-two = refl
 

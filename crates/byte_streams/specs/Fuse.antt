@@ -7,7 +7,7 @@ left_after None = None
 left_after (Some zero) = None
 left_after (Some (suc calls)) = Some calls
 
--- how often a fuse has failed: once, where no call is left before the one that fails
+-- how often a fuse has failed: once, if no call is left before the one that fails
 abbrev pub failures_of : Option ℕ → ℕ
 failures_of None = 1
 failures_of (Some calls) = 0

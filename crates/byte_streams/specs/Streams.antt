@@ -6,8 +6,8 @@ use Rattle.byte_streams.specs.declared.streams.Failed.{Failed}
 abbrev pub Rose : ℕ → ℕ → Type 0
 Rose before after = (before < after) ⊎ (2 ^ 64 - 1 ≤ after)
 
--- The source gave its next bytes into the front of the buffer, as many as it says; none only where
--- it has no more, or where there is no room for any.
+-- The source gave its next bytes into the front of the buffer, as many as it says; none only if
+-- it has no more, or if there is no room for any.
 abbrev pub GivesNext : ℕ → List ℕ → Option (List ℕ) → List ℕ → Type 0
 GivesNext count rest after buffer =
     (count ≤ length rest) × (take count buffer ≡ take count rest) × (after ≡ Some (drop count rest))
@@ -35,7 +35,7 @@ Reads (Err _) before after buffer failures more =
 abbrev pub Takes : List ℕ → Option (List ℕ) → Option (List ℕ) → Type 0
 Takes bytes before after = after ≡ option_map (λ taken. taken ++ bytes) before
 
--- a write takes the first bytes, at least one where there is any, or fails; a failed one takes
+-- a write takes the first bytes, at least one if there is any, or fails; a failed one takes
 -- none, and is counted
 abbrev pub Writes : Result ℕ Failed → List ℕ → Option (List ℕ) → Option (List ℕ) → ℕ → ℕ → Type 0
 Writes (Ok count) bytes before after failures more =
@@ -58,7 +58,7 @@ WritesAll (Ok _) bytes before after failures more = Takes bytes before after × 
 WritesAll (Err _) bytes before after failures more =
     TakesABeginning bytes before after × (failures ≤ more) × Rose failures more
 
--- a failure is answered only where the count of failures rose
+-- a failure is answered only if the count of failures rose
 abbrev pub CountsFailures : {T E : Type 0} → Result T E → ℕ → ℕ → Type 0
 CountsFailures (Ok _) failures more = failures ≤ more
 CountsFailures (Err _) failures more = (failures ≤ more) × Rose failures more

@@ -33,7 +33,7 @@ impl Fuse {
     /// Counts a call.
     ///
     /// # Errors
-    /// [`Failed`] where this is the call that fails.
+    /// [`Failed`] if this is the call that fails.
     pub fn pass(&mut self) -> Result<(), Failed>
         ensures fails { IsErr result ↔ (self.old ≡ Some 0) }
         ensures left { self.new ≡ left_after self.old }
@@ -65,7 +65,7 @@ impl Fuse {
         self.left.is_none()
     }
 
-    /// How often it has failed: 1 where it has, else 0.
+    /// How often it has failed: 1 if it has, else 0.
     pub fn failures(&self) -> u64
         ensures { result ≡ failures_of self.now }
     {

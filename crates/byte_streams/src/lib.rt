@@ -1,7 +1,7 @@
 //! Where bytes are read from, and where they are written to.
 //!
 //! [`Source`] and [`Sink`] are the two ends, as traits: a program implements them with files, a test
-//! the forms over memory. Each counts its failures, and may tell its bytes to contracts; one that
+//! the forms over memory. Each counts its failures, and may show its bytes to contracts; one that
 //! does not say them, as a file, says nothing of them.
 //!
 //! ```

@@ -58,7 +58,7 @@ impl<'a> Source for MemorySource<'a> {
     }
 }
 
-/// Keeps the bytes that it takes, in room that its maker reserved. It fails where that is full.
+/// Keeps the bytes that it takes, in room that its maker reserved. It fails if that is full.
 #[derive(Drop)]
 pub struct MemorySink<A: Allocator + Copy = Global> {
     taken: Vec<u8, A>,
@@ -80,7 +80,7 @@ impl<A: Allocator + Copy> Model for MemorySink<A> {
 
 impl<A: Allocator + Copy> MemorySink<A> {
     /// A sink with room for `room` bytes. All memory is reserved here; `AllocError` comes only
-    /// where that is refused.
+    /// if that is refused.
     pub fn new(alloc: A, room: usize) -> Result<MemorySink<A>, AllocError>
         ensures { IfOk result (λ sink. sink ≡ record { taken = []; room = room; failures = 0 }) }
     {
@@ -104,7 +104,7 @@ impl<A: Allocator + Copy> Sink for MemorySink<A> {
 
     ghost failures = { λ s. s.failures };
 
-    /// As many bytes as there is room for; it fails where there is none.
+    /// As many bytes as there is room for; it fails if there is none.
     fn write(&mut self, bytes: &[u8]) -> Result<usize, Failed>
         ensures writes { Writes result bytes.now (Some self.old.taken) (Some self.new.taken)
             self.old.failures self.new.failures }

@@ -8,17 +8,17 @@ pub struct Failed;
 
 /// Where bytes come from.
 pub trait Source {
-    /// The bytes that it has still to give; none where it does not say.
+    /// The bytes that it has still to give; none if it does not say.
     ghost rest: { Self → Option (List ℕ) };
 
     /// How often it has failed; the count may stay at 2^64 - 1.
     ghost failures: { Self → ℕ };
 
     /// Puts its next bytes at the front of the buffer, and says how many: 0 only at its end, or
-    /// where the buffer is empty.
+    /// if the buffer is empty.
     ///
     /// # Errors
-    /// [`Failed`] where it failed in this call; then it gave nothing, and may be read again.
+    /// [`Failed`] if it failed in this call; then it gave nothing, and may be read again.
     fn read(&mut self, buffer: &mut [u8]) -> Result<usize, Failed>
         ensures len { length buffer.new ≡ length buffer.old }
         ensures reads { Reads result (rest self.old) (rest self.new) buffer.new
@@ -27,16 +27,16 @@ pub trait Source {
 
 /// Where bytes go to.
 pub trait Sink {
-    /// The bytes that it has taken; none where it does not say.
+    /// The bytes that it has taken; none if it does not say.
     ghost taken: { Self → Option (List ℕ) };
 
     /// How often it has failed; the count may stay at 2^64 - 1.
     ghost failures: { Self → ℕ };
 
-    /// Takes the first of these bytes, and says how many: at least one, where there is any.
+    /// Takes the first of these bytes, and says how many: at least one, if there is any.
     ///
     /// # Errors
-    /// [`Failed`] where it failed in this call; then it took nothing.
+    /// [`Failed`] if it failed in this call; then it took nothing.
     fn write(&mut self, bytes: &[u8]) -> Result<usize, Failed>
         ensures { Writes result bytes.now (taken self.old) (taken self.new)
             (failures self.old) (failures self.new) };
@@ -45,7 +45,7 @@ pub trait Sink {
 /// Writes all the bytes, in as many writes as that takes.
 ///
 /// # Errors
-/// [`Failed`] where the sink failed; then it took a beginning of them.
+/// [`Failed`] if the sink failed; then it took a beginning of them.
 pub fn write_all<W: Sink>(sink: &mut W, bytes: &[u8]) -> Result<(), Failed>
     ensures { WritesAll result bytes.now (W.taken sink.old) (W.taken sink.new)
         (W.failures sink.old) (W.failures sink.new) }

@@ -1,11 +1,12 @@
 -- What the words of `draw` ask for.
 use Rattle.std.specs.Prelude.{◌≡◌, ◌≤◌, ◌<◌, ◌⊎◌, ℕ, codes}
 use Rattle.clap.specs.declared.parser.matches.Found.{Found}
-use Rattle.command_grammar.specs.Given.{IsGivenOr, IsRefused}
+use Rattle.command_grammar.specs.Given.{IsFlag, IsGivenOr, IsRefused}
 use Rattle.command_line.specs.declared.refusal.Refusal.{Refusal}
 use Rattle.command_line.specs.declared.refusal.Refusal.TheVariants.{Word, Window, Kind, NoCommand, Fault, Time, Limit, NoWords}
-use Rattle.live_commands.specs.declared.draw.Wanted.{Wanted}
-use Rattle.live_commands.specs.run_recording.declared.window.Window.{Window as Moments}
+use Rattle.run_film.specs.declared.text.Wanted.{Wanted as WantedFilm}
+use Rattle.run_picture.specs.declared.command.Wanted.{Wanted}
+use Rattle.run_picture.specs.run_recording.declared.window.Window.{Window as Moments}
 
 -- the greatest number of sweeps
 abbrev pub last_sweep : ℕ
@@ -42,3 +43,17 @@ IsWantedOf found wanted = IsWindowOf found wanted.window × IsGivenOr found (cod
 -- the window is refused, or the columns
 abbrev pub IsWantedRefused : Found → Refusal → Type 0
 IsWantedRefused found refusal = IsWindowRefused found refusal ⊎ AreColumnsRefused found refusal
+
+-- the number of seconds is refused
+abbrev pub AreSecondsRefused : Found → Refusal → Type 0
+AreSecondsRefused found (Word fault) = IsRefused found (codes "seconds") 2 600 fault
+AreSecondsRefused found _ = ⊥
+
+-- that window, the seconds of `--seconds`, 20 if it is left out, and a page if `--page` is given
+abbrev pub IsFilmOf : Found → WantedFilm → Type 0
+IsFilmOf found wanted =
+    IsWindowOf found wanted.window × IsGivenOr found (codes "seconds") 2 600 20 wanted.seconds × IsFlag found (codes "page") wanted.page
+
+-- the window is refused, or the seconds
+abbrev pub IsFilmRefused : Found → Refusal → Type 0
+IsFilmRefused found refusal = IsWindowRefused found refusal ⊎ AreSecondsRefused found refusal

@@ -20,7 +20,7 @@ use std::process::ExitCode;
 use subcommands::Fault;
 
 /// Does what the words say, of which the first is the program's name, and says with which status it
-/// is done. Progress is told where standard error is a terminal.
+/// is done. Progress is shown if standard error is a terminal.
 pub fn run_words<R: Runtime, S: AsStr>(rt: &R, words: &[S], on_terminal: bool) -> ExitCode {
     if asks_for_version(words) {
         return say_version(rt);
@@ -165,6 +165,7 @@ fn act<R: Runtime>(
         "lock" => lock::run(rt, given, is_dashed),
         "measure" => measure::run(rt, given, on_terminal),
         "threads" => threads::run(rt, given, on_terminal),
+        "draw" => draw::run(rt, given, on_terminal),
         _ => act_plainly(rt, name, given),
     }
 }
@@ -183,7 +184,6 @@ fn act_plainly<R: Runtime>(rt: &R, name: &str, given: &ArgMatches) -> Result<Exi
         "stop" => stop::run(rt, given),
         "network" => network::run(rt, given),
         "schedule" => schedule::run(rt, given),
-        "draw" => draw::run(rt, given),
         _ => Err(Refusal::NoCommand),
     }
 }

@@ -11,7 +11,7 @@ use subcommands::cut;
 /// What `cut` takes.
 const CUT: Grammar<'static> = Grammar {
     name: "cut",
-    about: "Shortens a file to its first bytes, as a write that broke off leaves it",
+    about: "Shortens a file to its first bytes, as a broken write leaves it",
     help: HELP,
     parameters: &[
         Parameter::Place("PATH", "The file"),
@@ -29,13 +29,14 @@ pub fn add_to<'a>(parser: Command<'a>, alloc: Global) -> Result<Command<'a>, All
 
 /// What follows the options in its help.
 const HELP: &str = "\
-A file that is not longer stays as it is. If it is the state file of a node that runs, a line on standard error says
-so, since the node writes it again within half a second: stop the node first, or cut and kill it at once.
+A file that is not longer stays as it is. If it is the state file of a node that
+runs, a line on standard error says so, since the node writes it again within
+half a second: stop the node first, or cut and kill it at once.
 
   $ tokentree cut node-1.state 33
 
-Statuses: 0 done; 1 the file is not there, cannot be written or is no plain file; 2 the command
-line was refused.";
+Statuses: 0 done; 1 the file is not there, cannot be written or is no plain
+file; 2 invalid arguments.";
 
 /// To how many bytes a file is cut.
 const LENGTH: Number<'static> = Number {

@@ -1,23 +1,26 @@
 //! The words of `draw`.
 ghost use Rattle.std.specs.Prelude.{IfOk, IfErr};
 ghost use Rattle.clap.specs.Matches.{found_of};
-ghost use Rattle.command_line.specs.Wanted.{IsWantedOf, IsWantedRefused, IsWindowOf, IsWindowRefused};
+ghost use Rattle.command_line.specs.Wanted.{IsFilmOf, IsFilmRefused, IsWantedOf, IsWantedRefused};
+ghost use Rattle.command_line.specs.Wanted.{IsWindowOf, IsWindowRefused};
 
+use crate::film::Film;
 use crate::program::{EVENTS_TEXT, NETWORK_FILE};
 use crate::refusal::Refusal;
 use clap::{ArgMatches, Command};
 use command_grammar::{Grammar, Number, Parameter, number_if_given, with_command, word};
-use live_commands::draw::{MOST_COLUMNS, Wanted};
-use live_commands::{Window, draw};
+use run_picture::command::{MOST_COLUMNS, Wanted};
+use run_picture::{Window, command};
 use std::alloc::{AllocError, Global};
 use std::io::Input;
 use std::process::ExitCode;
 use std::rt::Files;
+use std::time::Clock;
 
 /// What `draw` takes.
 const DRAW: Grammar<'static> = Grammar {
     name: "draw",
-    about: "Draws a picture of a run: when which nodes were wrong, privileged or lending",
+    about: "Draws a picture of a run: which nodes were wrong or lent, and when",
     help: HELP,
     parameters: &[
         Parameter::Place("FILE", NETWORK_FILE),
@@ -25,9 +28,16 @@ const DRAW: Grammar<'static> = Grammar {
         Parameter::Value("columns", "N", "The most columns, 1 to 1200"),
         Parameter::Value("from", "SWEEP", "Begin where as many sweeps have ended"),
         Parameter::Value("to", "SWEEP", "End where more sweeps have ended"),
+        Parameter::Flag("film", "Write a film of the run: an SVG that plays"),
+        Parameter::Flag("page", "Write the film in an HTML page with controls"),
+        Parameter::Value(
+            "seconds",
+            "N",
+            "Seconds of the film, 2 to 600 [default: 20]",
+        ),
     ],
-    needs: &[],
-    excludes: &[],
+    needs: &[("seconds", "film"), ("page", "film")],
+    excludes: &[("film", "columns")],
     choice: None,
 };
 
@@ -38,21 +48,43 @@ pub fn add_to<'a>(parser: Command<'a>, alloc: Global) -> Result<Command<'a>, All
 
 /// What follows the options in its help.
 const HELP: &str = "\
-The picture is SVG 1.1, which a browser shows; it needs no script, no font and no network. Each node has a lane, in the
-order in which the tour of the tree comes to it first; time runs from left to right, in events. A lane is pale where the
-node's distance and parent are true, grey where not, gold where it is privileged, red where its desk lends. Above stand
-damage, sweeps, and the lines from which the guarantee holds: sharp bound and bound, as bound --sharp shows them. Below
-stand the numbers of privileged and of lending nodes. Beside stands the network: the edges of its tree thick, others
-thin.
+The picture is SVG 1.1, which a browser shows; it needs no script, no font and
+no network connection. Each node has a lane, in the order in which the tour of
+the tree comes to it first; time runs from left to right, in events. A lane is
+pale while the node's distance and parent are true, grey while they are not,
+gold while it is privileged, red while its desk lends. Above stand damage,
+sweeps, and the lines from which the guarantee holds: sharp bound and bound, as
+bound --sharp shows them. Below stand the numbers of privileged and of lending
+nodes. Beside stands the network: the edges of its tree thick, others thin.
 
-The events text is that of simulate. Where it has more events than there are columns, a column is several events, as the
-legend says, and shows the worst of them: lending over privileged over wrong. With --from and --to the picture shows
-only the moments at which that many sweeps have ended since the start.
+The events text is that of simulate. If it has more events than there are
+columns, a column is several events, as the legend says, and shows the worst of
+them: lending over privileged over wrong. With --from and --to the picture shows
+only the moments at which that many sweeps have ended since the start. If lines
+were refused of a text with carriage returns, whose lines end in CRLF, a line on
+standard error says so.
+
+With --film it writes a picture that moves: the network, the root at the top and
+each node as far below as its true distance. In each node stands the distance
+that it has, and an arrow goes towards the parent that it has. A node that is
+wrong is dashed, a privileged one has two circles, one that lends has a frame
+with its ticket, and lightning shows where damage strikes. In networks of at
+most 12 nodes dots show the frame that was sent or taken last. It plays in a
+browser and on pages that show pictures, holds the end for three seconds, and
+begins again; what plays no film shows the end. Moments that look alike share a
+still. If there are more than fit, calm stretches are shown by their last
+moment. Moments with damage, or with two privileged or two lending nodes, are
+joined last, and the film says so then. With --page the film stands in a page,
+which plays and pauses by a button, a slider and the keys: space, the arrows,
+Home and End. It says each still in a sentence.
 
   $ tokentree draw examples/two-nodes.toml examples/forged-tokens.txt > run.svg
+  $ tokentree draw examples/two-nodes.toml examples/forged-tokens.txt \\
+      --film --seconds 30 > film.svg
 
-Statuses: 0 done; 1 a file, memory or standard output was refused, with its fault on standard error; 2 the command line
-was refused; 3 done, and some lines were refused.";
+Statuses: 0 done; 1 a file, memory or standard output was refused, with its
+fault on standard error; 2 invalid arguments; 3 done, and some lines were
+refused.";
 
 /// How many columns a picture may have.
 const COLUMNS: Number<'static> = Number {
@@ -60,6 +92,14 @@ const COLUMNS: Number<'static> = Number {
     name: "--columns",
     least: 1,
     most: 1200,
+};
+
+/// For how many seconds a film may play.
+const SECONDS: Number<'static> = Number {
+    id: "seconds",
+    name: "--seconds",
+    least: 2,
+    most: 600,
 };
 
 /// Where a picture may begin, in sweeps.
@@ -79,13 +119,39 @@ const TO: Number<'static> = Number {
 };
 
 /// Does what the words of `draw` say.
-pub fn run<R: Files + Input + Print + AllocGlobal>(
+pub fn run<R: Files + Input + Clock + Print + Eprint + AllocGlobal>(
     rt: &R,
     given: &ArgMatches,
+    on_terminal: bool,
 ) -> Result<ExitCode, Refusal> {
     let network = word(given, "FILE")?;
     let events = word(given, "EVENTS")?;
-    Ok(draw::run(rt, network, events, wanted(given)?)?)
+    if given.get_flag("film") {
+        let film = Film(wanted_film(given)?);
+        return Ok(command::run(rt, network, events, film, on_terminal)?);
+    }
+    let wanted = wanted(given)?;
+    Ok(command::run(rt, network, events, wanted, on_terminal)?)
+}
+
+/// What film the words of `draw` ask for.
+///
+/// # Errors
+/// If a word spells no number in its range, or the window ends before it begins.
+fn wanted_film(given: &ArgMatches) -> Result<run_film::Wanted, Refusal>
+    ensures ok { IfOk result (IsFilmOf (found_of given.now)) }
+    ensures err { IfErr result (IsFilmRefused (found_of given.now)) }
+{
+    let window = window(given)?;
+    let seconds = match number_if_given(given, SECONDS)? {
+        None => 20,
+        Some(seconds) => seconds as u16,
+    };
+    Ok(run_film::Wanted {
+        seconds,
+        window,
+        page: given.get_flag("page"),
+    })
 }
 
 /// What the words of `draw` ask for.

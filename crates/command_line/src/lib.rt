@@ -6,11 +6,10 @@
 //! let status = run_words(rt, &["tokentree", "bound"], false);                   // status 2
 //! ```
 //!
-//! What a command does stands in `subcommands`, `live_commands`, `lock_command`,
-//! `status_command` and `node_process`;
-//! how the program ends, in `program_ends`.
+//! What a command does stands in `subcommands`, `live_commands`, `run_picture`, `lock_command`,
+//! `status_command` and `node_process`; how the program ends, in `program_ends`.
 //!
-//! The trap: which words a command takes is the parser's to say, and no contract tells; tests try
+//! The trap: which words a command takes is the parser's to say, and no contract says; tests try
 //! command lines.
 #![tactic(auto)]
 
@@ -18,6 +17,7 @@ mod bound;
 mod commands;
 mod cut;
 mod draw;
+mod film;
 mod junk;
 mod lock;
 mod measure;

@@ -89,7 +89,7 @@ const SEED: Number<'static> = Number {
     most: 4_294_967_295,
 };
 
-/// Does what the words of `measure` say, and tells its progress where that is wanted.
+/// Does what the words of `measure` say, and shows its progress if that is asked for.
 pub fn run<R: Files + Print + Eprint + Clock + AllocGlobal + Threads + Sync>(
     rt: &R,
     given: &ArgMatches,

@@ -28,7 +28,7 @@ pub const HOLD: Number<'static> = Number {
 };
 
 /// The same, as the help says it.
-pub const HOLD_HELP: &str = "How long quiet news waits, 0 to 2000 [default: 2000]";
+pub const HOLD_HELP: &str = "How long quiet news waits, 0-2000 [default: 2000]";
 
 /// After which time a frame is given again, in microseconds.
 pub const REPEAT: Number<'static> = Number {
@@ -39,7 +39,7 @@ pub const REPEAT: Number<'static> = Number {
 };
 
 /// The same, as the help says it.
-pub const REPEAT_HELP: &str = "When a frame is sent again, at most 100000 [default: 8000]";
+pub const REPEAT_HELP: &str = "Repeat a frame then, 0-100000 [default: 8000]";
 
 /// After how many milliseconds a turn is late, as the help says it.
 pub const TURN_HELP: &str = "After which time a turn is late [default: 2.2]";
@@ -53,7 +53,7 @@ pub const LOG: Number<'static> = Number {
 };
 
 /// The same, as the help says it.
-pub const LOG_HELP: &str = "Say what happens: 4 what is amiss, 5 links too, 6 grants too";
+pub const LOG_HELP: &str = "Log 4 what is amiss, 5 links too, 6 grants too";
 
 /// What a node is to say of itself, as the words of `node` or `up` say; nothing if they do not.
 ///
@@ -70,7 +70,7 @@ pub fn log_level(given: &ArgMatches) -> Result<Option<Level>, WordFault<'static>
 }
 
 /// What `--group-locks` does, as the help says it.
-pub const GROUP_HELP: &str = "Let the group take the lock, and nobody but the user write in DIR";
+pub const GROUP_HELP: &str = "Let the group take the lock, and do nothing else";
 
 /// Who may use the folder and the sockets, as the words of `node` or `up` say.
 pub fn rights(given: &ArgMatches) -> Rights

@@ -97,7 +97,7 @@ steps. --rounds with --give-back 1 is a run that measure watches.
 Random steps: each is a tick, a send or a take, one as likely as the other, at a
 node or a direction of an edge. With --loss some takes are losses of the oldest
 item. With --clients a fourth kind is as likely: a client with one of 16 tickets
-asks at a node, or leaves. A step that would be refused, as a loss where nothing
+asks at a node, or leaves. A step that would be refused, as a loss if nothing
 is under way, is a tick of its node in its place. The words of the generator
 (PCG32, from the seed) are used in this order, each modulo how many there are to
 choose from: the kind, 3 or 4; of a tick the node; of the others the edge as the

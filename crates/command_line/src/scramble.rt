@@ -3,15 +3,16 @@ use crate::program::{NETWORK_FILE, Runtime};
 use crate::refusal::{Refusal, ended};
 use clap::{ArgMatches, Command};
 use command_grammar::{Grammar, Number, Parameter, given_number, with_command, word};
+use fault_hints::explain_id;
 use node_stopping::warn_of_runner;
 use std::alloc::{AllocError, Global};
 use std::process::ExitCode;
-use subcommands::scramble;
+use subcommands::{Fault, PathFault, scramble};
 
 /// What `scramble` takes.
 const SCRAMBLE: Grammar<'static> = Grammar {
     name: "scramble",
-    about: "Writes a node's state file as a fault may leave it: with any values in range",
+    about: "Writes a state file as a fault may leave it: any values in range",
     help: HELP,
     parameters: &[
         Parameter::Place("FILE", NETWORK_FILE),
@@ -31,17 +32,19 @@ pub fn add_to<'a>(parser: Command<'a>, alloc: Global) -> Result<Command<'a>, All
 
 /// What follows the options in its help.
 const HELP: &str = "\
-The same seed gives the same file, on any machine. Numbers are decimal, with no sign and no
-leading zero. The desk is no part of a state file: a lock that was lent is forgotten.
+The same seed gives the same file, on any machine. Numbers are decimal, with no
+sign and no leading zero. The desk is no part of a state file: a lock that was
+lent is forgotten.
 
   $ tokentree scramble examples/two-nodes.toml 1 node-1.state 7
 
-A node that runs writes its file again within half a second, and the damage is gone; a line on standard error says
-that it runs. So stop the node first, or scramble and kill it at once.
+A node that runs writes its file again within half a second, and the damage is
+gone; a line on standard error says that it runs. So stop the node first, or
+scramble and kill it at once.
 
-Statuses: 0 done; 1 the network, the id or the file was refused, with its fault on standard error;
-2 the command line was refused. Where the file cannot be opened for writing, or is no plain file,
-what was there is still there.";
+Statuses: 0 done; 1 the network, the id or the file was refused, with its fault
+on standard error; 2 invalid arguments. If the file cannot be opened for
+writing, or is no plain file, what was there is still there.";
 
 /// Which id is taken; which ids there are the network says.
 const ID: Number<'static> = Number {
@@ -66,8 +69,10 @@ pub fn run<R: Runtime>(rt: &R, given: &ArgMatches) -> Result<ExitCode, Refusal> 
     let id = given_number(given, ID)? as u16;
     let seed = given_number(given, SEED)? as u32;
     let done = scramble::run(rt, network, id, path, seed);
-    if done.is_ok() {
-        warn_of_runner(rt, path);
+    match &done {
+        Ok(_) => warn_of_runner(rt, path),
+        Err(PathFault::Fault(Fault::NoNode)) => explain_id(rt, network, id),
+        Err(_) => {}
     }
     Ok(ended(rt, network, done))
 }

@@ -69,7 +69,7 @@ leading zero. An empty line, and a line that begins with #, is passed over, and
 counted. The text may have 1,073,741,824 bytes.
 
 A line that is refused changes nothing, and is named by its number: 'line 4:
-Unread' where it spells no event (or has more than 64 bytes), and else the first
+Unread' if it spells no event (or has more than 64 bytes), and else the first
 that holds of
 
   NoNode        there is no such node

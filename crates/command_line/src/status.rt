@@ -38,7 +38,7 @@ const STATUS: Grammar<'static> = Grammar {
         Parameter::Place("DIR", SOCKETS_FOLDER),
         Parameter::Places(
             "ID",
-            "The nodes, by their ids; none for each that has a socket in the folder",
+            "The nodes, by their ids; none for each with a socket in DIR",
         ),
     ],
     needs: &[("every", "watch")],

@@ -22,7 +22,7 @@ const STOP: Grammar<'static> = Grammar {
         Parameter::Place("DIR", SOCKETS_FOLDER),
         Parameter::Places(
             "ID",
-            "The nodes, by their ids; none for each that has a socket in the folder",
+            "The nodes, by their ids; none for each with a socket in DIR",
         ),
     ],
     needs: &[],
@@ -37,15 +37,16 @@ pub fn add_to<'a>(parser: Command<'a>, alloc: Global) -> Result<Command<'a>, All
 
 /// What follows the options in its help.
 const HELP: &str = "\
-Makes the file DIR/stop-ID for each node, as `help node` says, and waits until the node has saved its state and ended:
+Makes the file DIR/stop-ID for each node, as `help node` says, and waits until
+the node has saved its state and ended:
 
   $ tokentree stop run 1
   node 1 has ended
 
 Such a stop is no damage. Nodes that `up` keeps running are ended with `up`.
 
-Statuses: 0 each node ran, and has ended; 1 one did not run or has not ended in time, with the reason on standard error;
-2 the command line was refused.";
+Statuses: 0 each node ran, and has ended; 1 one did not run or has not ended in
+time, with the reason on standard error; 2 invalid arguments.";
 
 /// How many seconds a node is waited for.
 const TIMEOUT: Number<'static> = Number {

@@ -36,10 +36,10 @@ const HELP: &str = "\
 Each node does TURNS turns, from nodes as they start and empty links on, each on
 a thread of its own: in a turn it ticks, then sends to each neighbour if a place
 is free, and takes up to two items from each. All begin together, and wait for
-one another after each 16 turns. Between these the system decides who runs, so
-what happens differs from run to run; but it is always a list of events that
-could have happened one after the other. The state that they lead to is shown as
-simulate shows it, with the sweeps in that list:
+one another after each 16 of the first 1024 turns. Else the system decides who
+runs, so what happens differs from run to run; but it is always a list of events
+that could have happened one after the other. The state that they lead to is
+shown as simulate shows it, with the sweeps in that list:
 
   $ tokentree threads examples/square.toml 1000 --events run.txt
   node 0 distance 0 parent none token no lent none waiting 0
@@ -71,7 +71,7 @@ const TURNS: Number<'static> = Number {
     most: 1_000_000,
 };
 
-/// Does what the words of `threads` say, and tells its progress where that is wanted.
+/// Does what the words of `threads` say, and shows its progress if that is asked for.
 pub fn run<R: Runtime>(rt: &R, given: &ArgMatches, progress: bool) -> Result<ExitCode, Refusal> {
     let network = word(given, "FILE")?;
     let turns = given_number(given, TURNS)? as u32;

@@ -2,7 +2,7 @@
 use Rattle.std.proofs.Common.{◌≡◌, ◌∙◌, sym, subst, ℕ, List, [], ◌∷◌, Option, Some, None}
 use Rattle.std.specs.Io.KnownBytes.{Appends, Keeps}
 use Rattle.std.proofs.lemmas.List.{append-nil}
-use Rattle.run_model.specs.declared.event.Event.{Event}
+use Rattle.world.specs.run_model.declared.event.Event.{Event}
 use Rattle.command_parts.specs.EventText.{event_line, GrowsByText}
 
 pub line-appended : (a b : Option (List ℕ)) (e : Event) → Appends a b (event_line e) → GrowsByText a (e ∷ []) b

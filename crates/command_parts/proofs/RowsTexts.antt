@@ -1,12 +1,13 @@
 -- Small examples of what is reported and written, and some that look like them and are none.
-use Rattle.std.proofs.Common.{◌≡◌, ◌≢◌, ℕ, List, [], ◌∷◌, Option, Some, None, Ok, Err, codes, decimal, refl, inl, inr, arith}
+use Rattle.std.proofs.Common.{◌≡◌, ◌≢◌, ℕ, true, false, List, [], ◌∷◌, ◌++◌, Option, Some, None, Ok, Err, codes, decimal, refl, inl, inr, arith}
 use Rattle.std.proofs.lemmas.Fmt.{decimal_digit}
+use Rattle.memchr.specs.Find.{first_of, places_from}
 use Rattle.topology.specs.Network.{Network}
 use Rattle.topology.specs.declared.fault.NetFault.TheVariants.{NotToml}
-use Rattle.run_model.specs.Start.{default_world}
-use Rattle.run_model.specs.World.{World}
-use Rattle.run_model.specs.declared.event.Event.TheVariants.{Damage, Leave, Lose, Tick}
-use Rattle.run_model.specs.declared.event.Harm.TheVariants as harm
+use Rattle.world.specs.run_model.Start.{default_world}
+use Rattle.world.specs.run_model.World.{World}
+use Rattle.world.specs.run_model.declared.event.Event.TheVariants.{Damage, Leave, Lose, Tick}
+use Rattle.world.specs.run_model.declared.event.Harm.TheVariants as harm
 use Rattle.network_file.specs.declared.fault.NetworkFault.TheVariants.{Refused, Unreadable}
 use Rattle.world.specs.declared.simulation.SimFault.TheVariants as simulation
 use Rattle.world.specs.declared.simulation.Summary.{Summary}
@@ -15,6 +16,7 @@ use Rattle.command_parts.specs.declared.path_fault.PathFault.TheVariants as path
 use Rattle.command_parts.specs.EventText.{GrowsByText, text_of}
 use Rattle.command_parts.specs.FaultText.{fault_text}
 use Rattle.command_parts.specs.PathFaultText.{path_fault_text}
+use Rattle.command_parts.specs.Returns.{gave_return, has_return, return_hint}
 use Rattle.command_parts.specs.Simulated.{IsCaused, IsDone, IsFailed, IsToldAs}
 use Rattle.command_parts.specs.SimulationFault.{fault_of}
 
@@ -111,3 +113,34 @@ caused_not-read rose = grind (arith, rose)
 
 caused_not-write : ¬ IsCaused {T = ℕ} (Err fault.Output) 3 4 0 0
 caused_not-write rose = grind (arith, rose)
+
+-- ---- carriage returns: one among the bytes of a line, none in a line that ends in a newline alone
+return-there : has_return (codes "tick 0" ++ (13 ∷ 10 ∷ [])) ≡ true
+unfolding first_of places_from
+return-there = refl
+
+return_not-there : has_return (codes "tick 0" ++ (10 ∷ [])) ≡ false
+unfolding first_of places_from
+return_not-there = refl
+
+-- a read gave three bytes, or two, and the third is one
+gave-three : gave_return {E = ℕ} (Ok 3) (48 ∷ 49 ∷ 13 ∷ []) ≡ true
+unfolding first_of places_from
+gave-three = refl
+
+gave_not-two : gave_return {E = ℕ} (Ok 2) (48 ∷ 49 ∷ 13 ∷ []) ≡ false
+unfolding first_of places_from
+gave_not-two = refl
+
+gave_not-failed : gave_return {E = ℕ} (Err 0) (13 ∷ []) ≡ false
+gave_not-failed = refl
+
+hint-refused : return_hint 2 true ≡ Some (codes "the events have carriage returns (CRLF): a line ends in a newline alone")
+hint-refused = refl
+
+-- nothing is said if no line was refused, or for another reason
+hint_not-taken : return_hint 0 true ≡ None
+hint_not-taken = refl
+
+hint_not-plain : return_hint 2 false ≡ None
+hint_not-plain = refl

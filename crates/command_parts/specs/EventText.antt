@@ -5,8 +5,8 @@ use Rattle.std.specs.Io.KnownBytes.{Appends}
 use Rattle.std.proofs.Common.{◌≡◌, ◌∙◌, ap, sym, append_assoc}
 use Rattle.std.proofs.lemmas.Grind.{flat_map-append}
 use Rattle.std.proofs.lemmas.List.{append-nil}
-use Rattle.run_model.specs.declared.event.Event.{Event}
-use Rattle.events_text.specs.EventLaws.{event_words}
+use Rattle.world.specs.run_model.declared.event.Event.{Event}
+use Rattle.world.specs.events_text.EventLaws.{event_words}
 
 -- the line of an event: its words, with a space between each two, and a newline
 abbrev pub event_line : Event → List ℕ

@@ -1,6 +1,6 @@
 -- What a simulation between a source and a sink says of what was read and written.
 use Rattle.std.specs.Prelude.{◌≡◌, ℕ, List, Option, Result, Ok, Err}
-use Rattle.run_model.specs.World.{World}
+use Rattle.world.specs.run_model.World.{World}
 use Rattle.world.specs.declared.simulation.Summary.{Summary}
 use Rattle.world.specs.declared.simulation.SimFault.{SimFault}
 use Rattle.world.specs.Simulating.{IsSimulated}
@@ -29,8 +29,8 @@ IsDone start bytes rest before after (Ok summary) =
     IsSimulated start bytes rest before after (Ok summary)
 IsDone start bytes rest before after (Err fault) = IsFailed start bytes rest before after fault
 
--- that events cannot be read is answered only where the source's count of failures rose, and that
--- output is refused only where the sink's rose
+-- that events cannot be read is answered only if the source's count of failures rose, and that
+-- output is refused only if the sink's rose
 abbrev pub IsCaused : {T : Type 0} → Result T Fault → ℕ → ℕ → ℕ → ℕ → Type 0
 IsCaused (Err EventsUnreadable) source source_after sink sink_after = Rose source source_after
 IsCaused (Err Output) source source_after sink sink_after = Rose sink sink_after

@@ -5,10 +5,10 @@ ghost use Rattle.std.specs.Io.KnownBytes.{Keeps};
 ghost use Rattle.byte_streams.specs.Streams.{CountsFailures};
 
 use crate::streams::count_failure;
-use events_text::EventLine;
-use run_model::Event;
 use schedules::EventSink;
 use std::io::{BufWriter, Write};
+use world::events_text::EventLine;
+use world::run_model::Event;
 use world::streams::Failed;
 
 /// Writes the line of each event that it takes.
@@ -33,7 +33,7 @@ impl<W: Write + Drop> EventText<W> {
     /// Sees to it that all that was taken is written.
     ///
     /// # Errors
-    /// [`Failed`] where it failed in this call; then some of it may be unwritten.
+    /// [`Failed`] if it failed in this call; then some of it may be unwritten.
     pub fn flush(&mut self) -> Result<(), Failed>
         ensures written { OnOk result (writer_buffer self.new.writer ≡ []) }
         ensures bytes { Keeps (writer_contents W.contents self.old.writer)

@@ -5,7 +5,7 @@ use std::time::{Clock, Instant};
 /// How many milliseconds a tenth of a second has.
 const MILLISECONDS_A_TENTH: u128 = 100;
 
-/// Tells how many of some things are done, on one line that is written over again and again: at
+/// Shows how many of some things are done, on one line that is written over again and again: at
 /// most once in each tenth of a second, and not in the first. Threads may share it.
 #[derive(Drop)]
 pub struct Progress {
@@ -14,14 +14,14 @@ pub struct Progress {
     things: &'static str,
     /// How many there are.
     most: u32,
-    /// How many are done, where they are counted here.
+    /// How many are done, if they are counted here.
     done: AtomicU64,
-    /// The last tenth of a second in which it told anything; 0 where it has told nothing.
+    /// The last tenth of a second in which it showed anything; 0 if it has shown nothing.
     told: AtomicU64,
 }
 
 impl Progress {
-    /// None of the `most` things is done; nothing where the clock cannot be read.
+    /// None of the `most` things is done; nothing if the clock cannot be read.
     pub fn begin<R: Clock>(rt: &R, things: &'static str, most: u32) -> Option<Progress> {
         let started = Instant::now(rt).ok()?;
         Some(Progress {

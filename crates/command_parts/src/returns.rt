@@ -1,7 +1,7 @@
 //! Whether a text has carriage returns, so that a user learns why its lines are refused.
-ghost use Rattle.std.specs.Prelude.{◌≡◌, ◌||◌, false, length};
+ghost use Rattle.std.specs.Prelude.{◌≡◌, ◌||◌, false, length, option_map};
 ghost use Rattle.byte_streams.specs.Streams.{Reads};
-ghost use Rattle.command_parts.specs.Returns.{gave_return, has_return};
+ghost use Rattle.command_parts.specs.Returns.{gave_return, has_return, return_hint};
 
 use memchr::memchr;
 use world::streams::{Failed, Source};
@@ -55,4 +55,22 @@ fn has_return(bytes: &[u8]) -> bool
     ensures { result ≡ has_return bytes.now }
 {
     memchr(b'\r', bytes).is_some()
+}
+
+/// What is said of a text of events of which so many lines were refused, if it has carriage returns.
+pub fn return_hint(refused: u64, were_returns_seen: bool) -> Option<&'static str>
+    ensures { option_map (λ text. text.now) result ≡ return_hint refused were_returns_seen }
+{
+    if refused > 0 && were_returns_seen {
+        Some("the events have carriage returns (CRLF): a line ends in a newline alone")
+    } else {
+        None
+    }
+}
+
+/// Says a line on standard error, if there is one.
+pub fn say_hint<R: Eprint>(rt: &R, hint: Option<&str>) {
+    if let Some(hint) = hint {
+        let _ = eprintln!(rt; "tokentree: {hint}");
+    }
 }

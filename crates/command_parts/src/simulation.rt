@@ -12,34 +12,34 @@ use topology::Net;
 use world::simulation::{Summary, simulate};
 use world::streams::Source;
 
-/// The name of standard input, where a file of events is wanted.
+/// The name of standard input, in place of a file of events.
 pub const STANDARD_INPUT: &str = "-";
 
-/// The status where a line was refused.
+/// The status if a line was refused.
 const LINES_REFUSED: u8 = 3;
 
 /// Simulates from the source to the sink, and sees to it that all the text is written: after a
 /// fault too, as far as it had come.
 ///
 /// What is unproved: that the events of a file, or of standard input, are the bytes that were
-/// simulated, and that the text stands in standard output. Neither end tells its bytes, so of them
-/// the contract says when a fault comes; of ends that tell theirs it says all that [`simulate`]
+/// simulated, and that the text stands in standard output. Neither end shows its bytes, so of them
+/// the contract says when a fault comes; of ends that show theirs it says all that [`simulate`]
 /// says.
 ///
 /// # Errors
-/// Where memory runs out, the source fails or gives too many bytes, or the sink fails.
+/// If memory runs out, the source fails or gives too many bytes, or the sink fails.
 pub fn simulate_between<S: Source, W: Flush>(
     alloc: Global,
     net: &Net,
     source: &mut S,
     sink: &mut W,
 ) -> Result<Summary, Fault>
-    // Where both ends tell their bytes, the answer is that of a simulation of them.
+    // If both ends show their bytes, the answer is that of a simulation of them.
     ensures text { (bytes : List ℕ) → S.rest source.old ≡ Some bytes
         → IsDone (simulated_start net.now) bytes (S.rest source.new) (W.taken sink.old)
         (W.taken sink.new) result }
     ensures written { OnOk result (W.unwritten sink.new ≡ []) }
-    // A fault of the events only where the source failed, one of the output only where the sink did.
+    // A fault of the events only if the source failed, one of the output only if the sink did.
     ensures cause { IsCaused result (S.failures source.old) (S.failures source.new)
         (W.failures sink.old) (W.failures sink.new) }
 {

@@ -1,6 +1,6 @@
 //! Readers and writers as the ends of a simulation.
 //!
-//! Std's readers and writers may tell their bytes to contracts (`remaining`, `contents`). A file
+//! Std's readers and writers may show their bytes to contracts (`remaining`, `contents`). A file
 //! says nothing of them, so neither do these ends; but each of their calls says what it read of
 //! such a reader, or wrote to such a writer.
 ghost use Rattle.std.specs.Prelude.{◌≡◌, ◌≤◌, ℕ, List, [], None, OnOk, length};
@@ -63,7 +63,7 @@ pub trait Flush: Sink {
     /// Writes all that it has taken.
     ///
     /// # Errors
-    /// [`Failed`] where it failed in this call; then some of it may be unwritten.
+    /// [`Failed`] if it failed in this call; then some of it may be unwritten.
     fn flush(&mut self) -> Result<(), Failed>
         ensures written { OnOk result (unwritten self.new ≡ []) }
         // What it has taken stays taken, whether it is written or not.

@@ -7,7 +7,7 @@ use Rattle.topology.specs.Network.{Edge, Network, IsAcceptedNetwork, are_joined,
 use Rattle.topology.specs.Laws.{NotToItself}
 use Rattle.topology.specs.Tree.{is_connected}
 use Rattle.topology.specs.Change.{join_fault}
-use Rattle.node_core.specs.View.{NodeView}
+use Rattle.run_model.specs.node_core.View.{NodeView}
 use Rattle.run_model.specs.World.{World, at_pair}
 use Rattle.run_model.specs.Rewire.{can_join, can_part, node_in, world_in}
 use Rattle.run_model.specs.Step.{harm_fault, link_fault, nodes_fault, refusal}
@@ -16,7 +16,7 @@ use Rattle.run_model.specs.declared.event.EventFault.{EventFault}
 use Rattle.run_model.specs.declared.event.EventFault.TheVariants.{OutOfRange, NoSpare, Apart}
 use Rattle.run_model.specs.declared.event.Harm.{Harm}
 use Rattle.run_model.specs.declared.event.Harm.TheVariants as harm
-use Rattle.network_links.specs.LinksView.{LinksView, spare_pairs, under_way}
+use Rattle.configuration.specs.LinksView.{LinksView, spare_pairs, under_way}
 use Rattle.configuration.specs.ConfigurationView.{ConfigurationView, states_of, world_of}
 use Rattle.configuration.specs.Answers.{Answers}
 use Rattle.configuration.proofs.WorldSteps.{first-none, refused, step-refused}

@@ -1,8 +1,8 @@
 -- Harms that write a node.
 use Rattle.std.proofs.Common.{rules, ◌≡◌, ◌∙◌, ◌↔◌, ◌<◌, ap, sym, arith, refl, ℕ, IsTrue, None, Some, Result, Ok, Err, IsOk, OnOk, OnErr, IfOk, IfErr, nat_lt, slice_set, Bool, true, false, ◌&&◌, ◌++◌, ◌∷◌, [], length, if◌then◌else◌}
 use Rattle.std.proofs.lemmas.Grind.{common_steps}
-use Rattle.node_core.specs.State.{LocalState}
-use Rattle.node_core.specs.View.{NodeView, state_of}
+use Rattle.run_model.specs.node_core.State.{LocalState}
+use Rattle.run_model.specs.node_core.View.{NodeView, state_of}
 use Rattle.run_model.specs.World.{World, at_pair, item_fits, with_node}
 use Rattle.run_model.specs.Step.{harm_fault, harm_fits, harm_place_fault, harmed, has_room, link_fault, refusal, step, unless}
 use Rattle.run_model.specs.declared.event.Event.TheVariants.{Damage}
@@ -10,9 +10,9 @@ use Rattle.run_model.specs.declared.event.EventFault.{EventFault}
 use Rattle.run_model.specs.declared.event.EventFault.TheVariants.{OutOfRange}
 use Rattle.run_model.specs.declared.event.Harm.{Harm}
 use Rattle.run_model.specs.declared.event.Harm.TheVariants as harm
-use Rattle.link_model.specs.declared.item.Item.{Item}
+use Rattle.run_model.specs.link_model.declared.item.Item.{Item}
 use Rattle.topology.specs.Ranges.{ranges_of}
-use Rattle.network_links.specs.LinksView.{LinksView, under_way}
+use Rattle.configuration.specs.LinksView.{LinksView, under_way}
 use Rattle.configuration.specs.ConfigurationView.{ConfigurationView, world_of}
 use Rattle.configuration.proofs.NodePlaces.{IsNodeAt}
 use Rattle.run_model.specs.declared.happened.Happened.{Happened}
@@ -74,7 +74,7 @@ harm-answers w v p old new harm f r answer h found writes iff makes ok err same 
   err = harm-err (world_of w) harm found writes answer (same-cases same iff) fault;
 }
 
--- one more item, where it fits and there is room, is one more on its link
+-- one more item, if it fits and there is room, is one more on its link
 item-there : (a b : Bool) → IsTrue (a && b) → IsTrue a × IsTrue b
 item-there true true both = (refl, refl)
 item-there true false both = absurd cc

@@ -1,3 +1,10 @@
+mod Changing
+mod Placing
+mod LinkMoves
+mod LinkPlaces
+mod PairTables
+mod JoinedPairs
+mod RowsLinks
 mod EdgeHarms
 mod Harms
 mod Rewiring
@@ -6,5 +13,8 @@ mod NodeCounts
 mod NodePlaces
 mod WorldRanges
 mod WorldSteps
-mod RowsAnswers
 mod RowsRewired
+mod RowsAnswers
+mod RowsSight
+mod Serving
+mod Sights

@@ -4,11 +4,11 @@ use Rattle.std.proofs.Math.Path.{fun_ext}
 use Rattle.std.proofs.lemmas.Grind.{common_steps}
 use Rattle.topology.specs.Network.{Network}
 use Rattle.topology.specs.Ranges.{ranges_of}
-use Rattle.node_core.specs.Site.{site_of}
-use Rattle.node_core.specs.State.{default_node}
-use Rattle.node_core.specs.View.{NodeView, site_in, state_of}
+use Rattle.run_model.specs.node_core.Site.{site_of}
+use Rattle.run_model.specs.node_core.State.{default_node}
+use Rattle.run_model.specs.node_core.View.{NodeView, site_in, state_of}
 use Rattle.run_model.specs.Start.{world_with_spares}
-use Rattle.network_links.specs.LinksView.{LinksView, spare_pairs, under_way}
+use Rattle.configuration.specs.LinksView.{LinksView, spare_pairs, under_way}
 use Rattle.configuration.specs.ConfigurationView.{AreNodesOf, node_at, states_of, world_of}
 
 -- the nodes below k, each at its site and as it starts

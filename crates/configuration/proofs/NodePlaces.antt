@@ -5,8 +5,8 @@ use Rattle.std.proofs.lemmas.Grind.{common_steps}
 use Rattle.std.proofs.lemmas.List.{length-set}
 use Rattle.topology.specs.At.{at}
 use Rattle.topology.specs.Network.{Network, are_joined, neighbours_of}
-use Rattle.node_core.specs.Site.{site_of}
-use Rattle.node_core.specs.View.{NodeView, site_in, state_of}
+use Rattle.run_model.specs.node_core.Site.{site_of}
+use Rattle.run_model.specs.node_core.View.{NodeView, site_in, state_of}
 use Rattle.run_model.specs.Step.{link_fault}
 use Rattle.configuration.specs.ConfigurationView.{AreNodesOf, ConfigurationView, no_node, node_at, states_of, world_of}
 

@@ -5,10 +5,10 @@ use Rattle.std.proofs.lemmas.Grind.{common_steps}
 use Rattle.topology.specs.At.{at}
 use Rattle.topology.specs.Network.{Edge, Network, neighbours_of}
 use Rattle.topology.specs.Ranges.{ranges_of}
-use Rattle.node_core.specs.Rewire.{rewired}
-use Rattle.node_core.specs.Site.{Site, site_of}
-use Rattle.node_core.specs.State.{LocalState}
-use Rattle.node_core.specs.View.{NodeView, site_in, state_of}
+use Rattle.run_model.specs.node_core.Rewire.{rewired}
+use Rattle.run_model.specs.node_core.Site.{Site, site_of}
+use Rattle.run_model.specs.node_core.State.{LocalState}
+use Rattle.run_model.specs.node_core.View.{NodeView, site_in, state_of}
 use Rattle.configuration.specs.ConfigurationView.{AreNodesOf, node_at, states_of}
 use Rattle.configuration.specs.Rewired.{IsRewired}
 
@@ -17,7 +17,7 @@ pub other-edges : (net : Network) (edges : List Edge) (nodes : List NodeView) (v
     → record (site_in (node_at nodes v)) { neighbours = neighbours_of (record net { edges = edges }) v } ≡ site_of (record net { edges = edges }) v
 other-edges net edges nodes v are vn = ap {A = Site} {B = Site} (λ s. record s { neighbours = neighbours_of (record net { edges = edges }) v }) (are.sites v vn)
 
--- what the node w is then, where it is an end of the edge
+-- what the node w is then, if it is an end of the edge
 abbrev pub ended : Network → List Edge → List NodeView → ℕ → LocalState
 ended net edges nodes w = rewired (ranges_of net) (neighbours_of net w) (neighbours_of (record net { edges = edges }) w) (states_of net nodes w)
 

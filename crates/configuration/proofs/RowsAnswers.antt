@@ -1,16 +1,16 @@
 -- What a configuration shows, and what it may answer.
 use Rattle.std.proofs.Common.{◌≡◌, ℕ, List, [], ◌∷◌, Some, None, Ok, Err, refl, ap, arith}
 use Rattle.topology.specs.Ranges.{ranges_of}
-use Rattle.node_core.specs.Site.{Site}
-use Rattle.node_core.specs.State.{default_node}
-use Rattle.link_model.specs.Link.{link}
+use Rattle.run_model.specs.node_core.Site.{Site}
+use Rattle.run_model.specs.node_core.State.{default_node}
+use Rattle.run_model.specs.link_model.Link.{link}
 use Rattle.run_model.specs.World.{World}
 use Rattle.run_model.specs.Step.{refusal}
 use Rattle.run_model.specs.declared.event.Event.TheVariants.{Tick, Send}
 use Rattle.run_model.specs.declared.event.EventFault.TheVariants.{NoNode, NoLink}
 use Rattle.run_model.specs.declared.happened.Happened.TheVariants.{FullTick}
-use Rattle.run_model.proofs.RowsTwo.{two_nodes}
-use Rattle.network_links.specs.LinksView.{LinksView}
+use Rattle.configuration.proofs.RowsRewired.{two_nodes}
+use Rattle.configuration.specs.LinksView.{LinksView}
 use Rattle.configuration.specs.Answers.{Answers}
 use Rattle.configuration.specs.ConfigurationView.{ConfigurationView, no_node, node_at, states_of, world_of, AreNodesOf}
 

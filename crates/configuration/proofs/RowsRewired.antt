@@ -1,11 +1,14 @@
--- What becomes of nodes where one of them takes up its neighbours.
+-- What becomes of nodes if one of them takes up its neighbours.
 use Rattle.std.proofs.Common.{◌≡◌, ◌≢◌, ℕ, zero, suc, List, [], ◌∷◌, refl, arith}
 use Rattle.std.proofs.lemmas.Grind.{common_steps}
 use Rattle.topology.specs.Ranges.{ranges_of}
-use Rattle.node_core.specs.View.{NodeView}
-use Rattle.run_model.proofs.RowsTwo.{two_nodes}
+use Rattle.run_model.specs.node_core.View.{NodeView}
+use Rattle.topology.specs.Network.{Network}
 use Rattle.configuration.specs.ConfigurationView.{no_node, node_at}
 use Rattle.configuration.specs.Rewired.{IsRewired}
+
+abbrev pub two_nodes : Network
+two_nodes = record { nodes = 2; root = 0; capacity = 1; lease = 0; edges = (0, 1) ∷ [] }
 
 -- node 1 of two, with these neighbours, before a frame came to it
 abbrev joined_to : List ℕ → NodeView

@@ -4,13 +4,13 @@ use Rattle.std.proofs.lemmas.Grind.{common_steps}
 use Rattle.std.proofs.lemmas.List.Elements.{All-get_or}
 use Rattle.topology.specs.Network.{Network, are_joined}
 use Rattle.topology.specs.Ranges.{ranges_of}
-use Rattle.link_model.specs.Link.{link}
+use Rattle.run_model.specs.link_model.Link.{link}
 use Rattle.run_model.specs.World.{IsWorldInRange, item_fits}
-use Rattle.node_core.specs.Site.{site_of}
-use Rattle.node_core.specs.State.{IsNodeInRange}
-use Rattle.node_core.specs.View.{NodeView, site_in, state_of}
-use Rattle.network_links.specs.LinksView.{IsLinks, link_between, under_way}
-use Rattle.network_links.specs.PairTable.{value_at}
+use Rattle.run_model.specs.node_core.Site.{site_of}
+use Rattle.run_model.specs.node_core.State.{IsNodeInRange}
+use Rattle.run_model.specs.node_core.View.{NodeView, site_in, state_of}
+use Rattle.configuration.specs.LinksView.{IsLinks, link_between, under_way}
+use Rattle.configuration.specs.PairTable.{value_at}
 use Rattle.configuration.specs.ConfigurationView.{ConfigurationView, AreNodesOf, node_at, states_of, world_of}
 use Rattle.topology.specs.Laws.{JoinedAreNodes}
 

@@ -1,24 +1,24 @@
 -- A changed node or link, as a step of the world.
 use Rattle.std.proofs.Common.{◌≡◌, ◌∙◌, ◌/◌, sym, ap, Bool, true, false, ℕ, ◌<◌, ◌++◌, [], ◌∷◌, arith, refl, IsTrue, List, Option, None, Some, Result, Ok, Err, is_none, IsOk, ◌↔◌, length, slice_set, slice_get, drop, remove, not, nat_lt, if◌then◌else◌}
 use Rattle.std.proofs.lemmas.Grind.{common_steps}
-use Rattle.link_model.specs.declared.item.Item.{Item}
-use Rattle.link_model.specs.declared.item.Item.TheVariants as item
+use Rattle.run_model.specs.link_model.declared.item.Item.{Item}
+use Rattle.run_model.specs.link_model.declared.item.Item.TheVariants as item
 use Rattle.run_model.specs.data_link.Port.{frame_of}
-use Rattle.node_core.specs.Site.{site_of}
-use Rattle.node_core.specs.Step.{taken, ticked}
-use Rattle.node_core.specs.View.{NodeView, site_in, state_of}
+use Rattle.run_model.specs.node_core.Site.{site_of}
+use Rattle.run_model.specs.node_core.Step.{taken, ticked}
+use Rattle.run_model.specs.node_core.View.{NodeView, site_in, state_of}
 use Rattle.run_model.specs.World.{World, at_pair, site, with_link, with_node}
-use Rattle.lock_desk.specs.Desk.{after_leave, ask_fault, asked, is_number, is_stranger}
-use Rattle.lock_desk.specs.declared.fault.AskFault.{AskFault}
+use Rattle.run_model.specs.node_core.lock_desk.Desk.{after_leave, ask_fault, asked, is_number, is_stranger}
+use Rattle.run_model.specs.node_core.lock_desk.declared.fault.AskFault.{AskFault}
 use Rattle.run_model.specs.Step.{changed, desk_fault, first_fault, handed_over, link_fault, node_fault, refusal, step, ticket_fault, unless}
 use Rattle.std.proofs.Math.Path.{fun_ext}
 use Rattle.topology.specs.At.{at}
-use Rattle.node_core.specs.State.{LocalState}
+use Rattle.run_model.specs.node_core.State.{LocalState}
 use Rattle.run_model.specs.declared.event.EventFault.{EventFault}
 use Rattle.run_model.specs.declared.event.EventFault.TheVariants.{NoItem, OutOfRange, Stranger}
 use Rattle.run_model.specs.declared.event.Event.{Event}
 use Rattle.run_model.specs.declared.event.Event.TheVariants.{Send, Take, Lose, Tick, Ask, Leave}
-use Rattle.network_links.specs.LinksView.{LinksView, spare_pairs, under_way}
+use Rattle.configuration.specs.LinksView.{LinksView, spare_pairs, under_way}
 use Rattle.configuration.specs.ConfigurationView.{ConfigurationView, states_of, world_of}
 use Rattle.run_model.specs.Happened.{happened, taken_of}
 use Rattle.run_model.specs.declared.happened.Happened.{Happened}
@@ -113,7 +113,7 @@ same-node w v i = grind (arith, common_steps)
 pub unchanged : (w : World) (v : ℕ) → with_node w v (w.node v) ≡ w
 unchanged w v = ap (λ f. record w { node = f }) (fun_ext (λ i. same-node w v i))
 
--- the first of two refusals is none where it is none, and a test that holds refuses nothing
+-- the first of two refusals is none if it is none, and a test that holds refuses nothing
 pub first-none : (a b : Option EventFault) → a ≡ None → first_fault a b ≡ b
 first-none a b none = rw none refl
 

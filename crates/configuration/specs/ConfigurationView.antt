@@ -3,12 +3,12 @@
 use Rattle.std.specs.Prelude.{◌≡◌, ℕ, ◌<◌, false, if◌then◌else◌, nat_lt, List, [], None, length, slice_index_or}
 use Rattle.topology.specs.Network.{Network}
 use Rattle.topology.specs.Ranges.{ranges_of}
-use Rattle.node_core.specs.Site.{site_of}
-use Rattle.node_core.specs.State.{LocalState, default_node}
-use Rattle.node_core.specs.View.{NodeView, site_in, state_of}
-use Rattle.lock_desk.specs.Desk.{no_desk}
+use Rattle.run_model.specs.node_core.Site.{site_of}
+use Rattle.run_model.specs.node_core.State.{LocalState, default_node}
+use Rattle.run_model.specs.node_core.View.{NodeView, site_in, state_of}
+use Rattle.run_model.specs.node_core.lock_desk.Desk.{no_desk}
 use Rattle.run_model.specs.World.{World}
-use Rattle.network_links.specs.LinksView.{LinksView, spare_pairs, under_way}
+use Rattle.configuration.specs.LinksView.{LinksView, spare_pairs, under_way}
 
 -- the nodes by their ids, and the links between them, which know the network
 pub record ConfigurationView : Type 0 where

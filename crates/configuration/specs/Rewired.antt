@@ -1,9 +1,9 @@
--- What becomes of the nodes where one of them takes up its neighbours in another network.
+-- What becomes of the nodes if one of them takes up its neighbours in another network.
 use Rattle.std.specs.Prelude.{◌≡◌, ◌≢◌, ℕ, List, length}
 use Rattle.topology.specs.Network.{Network, neighbours_of}
-use Rattle.node_core.specs.Site.{site_of}
-use Rattle.node_core.specs.Rewire.{rewired}
-use Rattle.node_core.specs.View.{NodeView, site_in, state_of}
+use Rattle.run_model.specs.node_core.Site.{site_of}
+use Rattle.run_model.specs.node_core.Rewire.{rewired}
+use Rattle.run_model.specs.node_core.View.{NodeView, site_in, state_of}
 use Rattle.configuration.specs.ConfigurationView.{node_at}
 
 -- v is rewired and knows its new site; every other node is as it was

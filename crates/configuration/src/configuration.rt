@@ -2,7 +2,7 @@
 ghost use Rattle.std.specs.Prelude.{◌≡◌, ◌<◌, ◌≤◌, IsTrue, if◌then◌else◌, IfOk, IfErr, OnOk, None};
 ghost use Rattle.std.specs.Prelude.{Some, Contains, length};
 ghost use Rattle.topology.specs.Network.{are_joined, neighbours_of};
-ghost use Rattle.node_core.specs.View.{state_of, site_in};
+ghost use Rattle.run_model.specs.node_core.View.{state_of, site_in};
 ghost use Rattle.run_model.specs.World.{IsWorldInRange, site};
 ghost use Rattle.run_model.specs.Start.{default_world, world_with_spares};
 ghost use Rattle.run_model.specs.NodeCounts.{lending_count, privileged_count};
@@ -11,16 +11,16 @@ ghost use Rattle.run_model.specs.declared.happened.Happened.TheVariants.{FullTic
 ghost use Rattle.run_model.specs.declared.event.Event.TheVariants.{Send, Take, Lose, Tick, Ask};
 ghost use Rattle.run_model.specs.declared.event.Event.TheVariants.{Leave, Damage};
 ghost use Rattle.topology.specs.Ranges.{ranges_of};
-ghost use Rattle.node_core.specs.State.{default_node};
+ghost use Rattle.run_model.specs.node_core.State.{default_node};
 ghost use Rattle.configuration.specs.ConfigurationView.{AreNodesOf, states_of, world_of};
 ghost use Rattle.configuration.specs.Answers.{Answers};
 
 mod harms;
 
-use link_model::{Item, NoItem};
-use lock_desk::{AskFault, Stranger};
-use network_links::Links;
-use node_core::Node;
+use crate::links::Links;
+use run_model::link_model::{Item, NoItem};
+use run_model::node_core::Node;
+use run_model::node_core::lock_desk::{AskFault, Stranger};
 use run_model::{Event, EventFault, Happened};
 use std::alloc::{AllocError, Allocator, Global};
 use std::marker::Model;

@@ -7,16 +7,16 @@ use Rattle.std.proofs.Math.Path.{fun_ext}
 use Rattle.std.proofs.lemmas.Bool.{and_parts, false≢true}
 use Rattle.k_state.specs.Machine as machine
 use Rattle.lock_desk.specs.Laws.{LoansNeedPrivilege}
-use Rattle.node_core.specs.Site.{Site, site_of}
-use Rattle.node_core.specs.State.{LocalState}
-use Rattle.node_core.specs.Machines.{tree_of, before, may_move, is_special, is_node_privileged, moved_value}
-use Rattle.node_core.specs.Step.{ticked, recomputed, desk_done}
+use Rattle.run_model.specs.node_core.Site.{Site, site_of}
+use Rattle.run_model.specs.node_core.State.{LocalState}
+use Rattle.run_model.specs.node_core.Machines.{tree_of, before, may_move, is_special, is_node_privileged, moved_value}
+use Rattle.run_model.specs.node_core.Step.{ticked, recomputed, desk_done}
 use Rattle.run_model.specs.World.{World, site}
 use Rattle.run_model.specs.Step.{step}
 use Rattle.run_model.specs.Run.{run, is_damage, IsUndamaged}
 use Rattle.run_model.specs.Sweep.{is_full_tick, has_full_tick}
-use Rattle.token_ring.specs.Ring.{IsTokenRingGood}
-use Rattle.token_ring.specs.Settled.{IsSettled}
+use Rattle.convergence.specs.Ring.{IsTokenRingGood}
+use Rattle.convergence.specs.Settled.{IsSettled}
 use Rattle.run_model.specs.Privilege.{is_privileged, is_lending}
 use Rattle.run_model.specs.declared.event.Event.{Event}
 use Rattle.run_model.proofs.Along as along

@@ -1,4 +1,4 @@
--- A machine moves in a full tick with privilege: so at a desk where a ticket waits, only where it
+-- A machine moves in a full tick with privilege: so at a desk if a ticket waits, only if it
 -- had served or a loan ends.
 use Rattle.std.proofs.Common.{◌≡◌, ◌≢◌, ℕ, inl, inr, true, false, ◌==◌, ◌&&◌, sym, ◌∙◌, ap}
 use Rattle.std.specs.Prelude.{is_none, is_some, if◌then◌else◌}
@@ -7,10 +7,10 @@ use Rattle.std.proofs.lemmas.Bool.{and_parts, cases_Bool, eqb-true}
 use Rattle.std.proofs.lemmas.List.Folds.{Any-from_list_any, list_any-from_Any}
 use Rattle.lock_desk.specs.Desk.{DeskState, desk_ticked}
 use Rattle.lock_desk.specs.Act.{desk_act}
-use Rattle.node_core.specs.Site.{Site}
-use Rattle.node_core.specs.State.{LocalState}
-use Rattle.node_core.specs.Machines.{tree_of, may_move, is_node_privileged, moved_value}
-use Rattle.node_core.specs.Step.{ticked, recomputed, desk_done}
+use Rattle.run_model.specs.node_core.Site.{Site}
+use Rattle.run_model.specs.node_core.State.{LocalState}
+use Rattle.run_model.specs.node_core.Machines.{tree_of, may_move, is_node_privileged, moved_value}
+use Rattle.run_model.specs.node_core.Step.{ticked, recomputed, desk_done}
 use Rattle.run_model.specs.World.{World, site}
 use Rattle.run_model.specs.Step.{step}
 use Rattle.run_model.specs.Run.{is_damage}

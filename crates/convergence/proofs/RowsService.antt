@@ -5,7 +5,7 @@ use Rattle.std.specs.Prelude.{◌&&◌, ◌==◌, if◌then◌else◌, not, All}
 use Rattle.std.proofs.lemmas.Bool.{false≢true}
 use Rattle.std.proofs.lemmas.List.Elements.{All-nil, All-cons}
 use Rattle.topology.specs.Network.{Network, are_joined}
-use Rattle.data_link.specs.Port.{port_fits}
+use Rattle.tree_convergence.specs.data_link.Port.{port_fits}
 use Rattle.lock_desk.specs.Desk.{DeskState, no_desk}
 use Rattle.run_model.specs.World.{World, IsWorldInRange, site, item_fits}
 use Rattle.run_model.specs.Run.{run, has_damage, IsUndamaged}
@@ -15,9 +15,9 @@ use Rattle.run_model.specs.Privilege.{is_privileged, is_lending}
 use Rattle.run_model.specs.declared.event.Event.{Event}
 use Rattle.run_model.specs.declared.event.Event.TheVariants.{Send, Take, Tick, Ask, Leave}
 use Rattle.topology.specs.Ranges.{ranges_of}
-use Rattle.node_core.specs.State.{IsNodeInRange}
+use Rattle.run_model.specs.node_core.State.{IsNodeInRange}
 use Rattle.run_model.proofs.RowsTwo.{two_nodes, is-accepted, each-node, each-link, node_with, calm, calm-links_stable, calm-tree_reached}
-use Rattle.token_ring.specs.Legitimate.{IsLegitimate}
+use Rattle.convergence.specs.Legitimate.{IsLegitimate}
 use Rattle.convergence.specs.Service.{IsAtPlace, is_lent_once, gives_up}
 
 -- ticket 7 waits at a desk
@@ -32,7 +32,7 @@ asking = record { net = two_nodes; spares = 0; node = λ v. node_with v (if v ==
 abbrev least : List Event
 least = Tick 0 ∷ Tick 1 ∷ Send 0 1 ∷ Take 0 1 ∷ Send 1 0 ∷ Take 1 0 ∷ []
 
--- the same where a loan of node 1 begins: ticket 7 gives the lock back, and node 1 makes a full tick
+-- the same if a loan of node 1 begins: ticket 7 gives the lock back, and node 1 makes a full tick
 abbrev lending : List Event
 lending = Tick 0 ∷ Tick 1 ∷ Leave 1 7 ∷ Tick 1 ∷ Send 0 1 ∷ Take 0 1 ∷ Send 1 0 ∷ Take 1 0 ∷ []
 
@@ -77,7 +77,7 @@ sweeps-of_two w (es ∷ ess) all = (es, joined ess, refl, sweep-of_two w es all.
 one-of : (P : ℕ → Type 0) (v : ℕ) → P v → All P (v ∷ [])
 one-of P v p = All-cons P v [] p (All-nil P)
 
--- ---- the premises of the service law, where a ticket waits first at a node: 8(n - 1)(0 + 2) sweeps
+-- ---- the premises of the service law, if a ticket waits first at a node: 8(n - 1)(0 + 2) sweeps
 
 abbrev stretches : List (List Event)
 stretches =
@@ -205,7 +205,7 @@ only-waits = refl
 leaves-while_lent_to : gives_up asking (least ++ least ++ lending) 1 7 ≡ false
 leaves-while_lent_to = refl
 
--- nor where another leaves, or it leaves elsewhere
+-- nor if another leaves, or it leaves elsewhere
 another-leaves : gives_up asking (Ask 1 8 ∷ Leave 1 8 ∷ []) 1 7 ≡ false
 another-leaves = refl
 

@@ -14,7 +14,7 @@ use Rattle.run_model.specs.Step.{step}
 use Rattle.run_model.specs.Run.{run}
 use Rattle.run_model.specs.Project.{present}
 use Rattle.run_model.specs.declared.event.Event.{Event}
-use Rattle.token_ring.specs.tree_convergence.Present.{AlwaysPresent}
+use Rattle.tree_convergence.specs.Present.{AlwaysPresent}
 use Rattle.convergence.specs.Said.{said_in}
 use Rattle.convergence.specs.Below.{Below}
 use Rattle.convergence.specs.Laws.{PayloadsConverge}

@@ -1,6 +1,6 @@
 -- A ticket that waits is served. In 8(n - 1) sweeps a machine of its node moves; each move but the
 -- first ends a loan of its desk, and each loan takes the first of the list. So the number of moves
--- that may still come stands above the ticket's place, or at it where the desk is ready to lend.
+-- that may still come stands above the ticket's place, or at it if the desk is ready to lend.
 use Rattle.std.proofs.Common.{◌≡◌, ◌≢◌, ℕ, zero, suc, ◌+◌, ◌*◌, ◌-◌, ◌<◌, ◌≤◌, ◌⊎◌, inl, inr, Bool, true, false, ◌==◌, ◌&&◌, ◌||◌, List, [], ◌∷◌, ◌++◌, length, Option, Some, None, refl, sym, ◌∙◌, ap, subst, arith}
 use Rattle.std.specs.Prelude.{is_none, is_some, not, if◌then◌else◌}
 use Rattle.std.proofs.lemmas.Bool.{cases_Bool, cases_eq, false≢true, cond-true, cond-false, eq-eqb, ne_eqb, or_left, or_right, or_cases, or_parts}
@@ -12,9 +12,9 @@ use Rattle.lock_desk.specs.Desk.{DeskState, is_in, is_ticket, waits, borrows, wi
 use Rattle.lock_desk.specs.Act.{act_between, desk_act}
 use Rattle.lock_desk.specs.Laws.{IsTurn}
 use Rattle.lock_desk.specs.declared.act.DeskAct.TheVariants.{Lost}
-use Rattle.node_core.specs.State.{LocalState}
-use Rattle.node_core.specs.Machines.{is_node_privileged}
-use Rattle.node_core.specs.Step.{ticked, recomputed}
+use Rattle.run_model.specs.node_core.State.{LocalState}
+use Rattle.run_model.specs.node_core.Machines.{is_node_privileged}
+use Rattle.run_model.specs.node_core.Step.{ticked, recomputed}
 use Rattle.run_model.specs.World.{World, site}
 use Rattle.run_model.specs.Step.{refusal, step, changed, sent, handed_over}
 use Rattle.run_model.specs.Run.{run, is_damage, IsUndamaged}
@@ -24,8 +24,8 @@ use Rattle.run_model.specs.declared.event.Event.{Event}
 use Rattle.run_model.specs.declared.event.EventFault.{EventFault}
 use Rattle.run_model.proofs.Along.{undamaged-front}
 use Rattle.run_model.specs.declared.event.Event.TheVariants.{Send, Take, Lose, Tick, Ask, Leave, Damage}
-use Rattle.token_ring.specs.Ring.{IsTokenRingGood}
-use Rattle.token_ring.specs.Settled.{IsSettled}
+use Rattle.convergence.specs.Ring.{IsTokenRingGood}
+use Rattle.convergence.specs.Settled.{IsSettled}
 use Rattle.convergence.specs.Service.{IsAtPlace, is_lent_once, is_leave, gives_up, WaitingAreServed}
 use Rattle.convergence.specs.Below.{Below}
 use Rattle.convergence.proofs.Whole.{parted, other-number}
@@ -127,7 +127,7 @@ some-at : (t p : ℕ) (xs : List ℕ) → IsAtPlace t p xs → 0 < length xs
 some-at t p [] h = absurd h
 some-at t p (x ∷ xs) h = omega arith
 
--- ---- how many moves may come before the ticket is lent the lock: as many as its place, and one more where the desk is not ready to lend
+-- ---- how many moves may come before the ticket is lent the lock: as many as its place, and one more if the desk is not ready to lend
 
 pub record Stands (t k : ℕ) (tickets : List ℕ) (lent : Option ℕ) (served : Bool) : Type 0 where
   pub place : ℕ
@@ -254,7 +254,7 @@ module _ (b : Below) where
         ]
       ]
 
-  -- where a machine moves, the desk was not ready, and it is then: so one move fewer may come
+  -- if a machine moves, the desk was not ready, and it is then: so one move fewer may come
   pub record OneFewer (t k : ℕ) (d : DeskState) : Type 0 where
     pub fewer : ℕ
     pub is : k ≡ suc fewer

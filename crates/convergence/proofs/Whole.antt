@@ -9,9 +9,9 @@ use Rattle.run_model.specs.Tree.{IsTreeReached}
 use Rattle.run_model.specs.World.{World, IsWorldInRange}
 use Rattle.run_model.specs.Run.{run, IsUndamaged}
 use Rattle.run_model.specs.Sweep.{Sweeps}
-use Rattle.token_ring.specs.Ring.{IsTokenRingGood}
-use Rattle.token_ring.specs.Settled.{IsSettled}
-use Rattle.token_ring.specs.Legitimate.{IsLegitimate}
+use Rattle.convergence.specs.Ring.{IsTokenRingGood}
+use Rattle.convergence.specs.Settled.{IsSettled}
+use Rattle.convergence.specs.Legitimate.{IsLegitimate}
 use Rattle.run_model.specs.Headline.{Headline}
 use Rattle.run_model.specs.declared.event.Event.{Event}
 use Rattle.convergence.specs.Laws.{DesksTurnPrivileged, LegitimateStays, LegitimateServes, LinksConverge, TreeConverges, TokenRingConverges, WorldConverges}

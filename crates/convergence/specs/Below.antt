@@ -4,9 +4,9 @@ use Rattle.topology.specs.Laws.{DistanceIs, ParentIs, EachTree}
 use Rattle.lock_desk.specs.Laws.{LoansNeedPrivilege, PassesOnlyServed, FullTicksClear, FirstComeFirstServed}
 use Rattle.run_model.specs.Laws as run
 use Rattle.run_model.specs.Ticks.{NodesMoveInTicks}
-use Rattle.token_ring.specs.tree_convergence.Laws as tree
-use Rattle.token_ring.specs.Laws as ring
-use Rattle.token_ring.specs.Service.{PrivilegeVisits, MachinesMove}
+use Rattle.tree_convergence.specs.Laws as tree
+use Rattle.convergence.specs.RingLaws as ring
+use Rattle.convergence.specs.RingService.{PrivilegeVisits, MachinesMove}
 
 -- of networks: distances and parents; of a desk; of runs, sweeps and ticks; of links, payloads and
 -- the tree; of the token ring and its one token

@@ -7,11 +7,11 @@ use Rattle.run_model.specs.Step.{step}
 use Rattle.run_model.specs.Run.{run, is_damage, IsUndamaged}
 use Rattle.run_model.specs.Sweep.{Sweeps}
 use Rattle.run_model.specs.Tree.{IsTreeReached}
-use Rattle.token_ring.specs.Ring.{IsTokenRingGood}
+use Rattle.convergence.specs.Ring.{IsTokenRingGood}
 use Rattle.run_model.specs.Links.{AreLinksStable}
 use Rattle.run_model.specs.Privilege.{is_privileged, is_lending}
-use Rattle.token_ring.specs.Legitimate.{IsLegitimate}
-use Rattle.token_ring.specs.Settled.{IsSettled}
+use Rattle.convergence.specs.Legitimate.{IsLegitimate}
+use Rattle.convergence.specs.Settled.{IsSettled}
 use Rattle.run_model.specs.Headline.{IsServing}
 use Rattle.run_model.specs.declared.event.Event.{Event}
 use Rattle.convergence.specs.Said.{said_in}

@@ -13,7 +13,7 @@ use Rattle.run_model.specs.Sweep.{Sweeps}
 use Rattle.run_model.specs.Visited.{is_privileged_once}
 use Rattle.run_model.specs.declared.event.Event.{Event}
 use Rattle.run_model.specs.declared.event.Event.TheVariants.{Leave}
-use Rattle.token_ring.specs.Legitimate.{IsLegitimate}
+use Rattle.convergence.specs.Legitimate.{IsLegitimate}
 
 -- from a legitimate world, each node is privileged at some moment of any 16(n - 1) sweeps
 abbrev pub LegitimateVisits : Type 0
@@ -28,7 +28,7 @@ EachStateVisits =
     (w : World) (es : List Event) (v : ℕ) → IsWorldInRange w → IsUndamaged w es → v < w.net.nodes
     → Sweeps w (sharp_of w.net + 16 * (w.net.nodes - 1)) es → IsTrue (is_privileged_once w es v)
 
--- Where a machine of v moves while a ticket waits at its desk, the desk had served, or a loan ends
+-- If a machine of v moves while a ticket waits at its desk, the desk had served, or a loan ends
 -- in that very tick,
 abbrev pub MovesPassServed : Type 0
 MovesPassServed =

@@ -9,8 +9,8 @@ use Rattle.run_model.specs.Links.{AreLinksStable}
 use Rattle.run_model.specs.Tree.{IsTreeReached}
 use Rattle.run_model.specs.Headline.{IsServing}
 use Rattle.run_model.specs.declared.event.Event.{Event}
-use Rattle.token_ring.specs.Ring.{IsTokenRingGood}
-use Rattle.token_ring.specs.Legitimate.{IsLegitimate}
+use Rattle.convergence.specs.Ring.{IsTokenRingGood}
+use Rattle.convergence.specs.Legitimate.{IsLegitimate}
 
 -- after 6 sweeps every link is stable, whatever its capacity
 abbrev pub LinksConvergeSooner : Type 0

@@ -25,13 +25,13 @@ pub fn below()
     run_model::laws::in_range();
     run_model::laws::sweep_numbers();
     run_model::laws::ticks();
-    token_ring::tree_convergence::laws::links();
-    token_ring::tree_convergence::laws::payloads();
-    token_ring::tree_convergence::laws::tree();
-    token_ring::laws::one_token();
-    token_ring::laws::settled();
-    token_ring::laws::ring();
-    token_ring::laws::visits();
+    tree_convergence::laws::links();
+    tree_convergence::laws::payloads();
+    tree_convergence::laws::tree();
+    crate::ring_laws::one_token();
+    crate::ring_laws::settled();
+    crate::ring_laws::ring();
+    crate::ring_laws::visits();
 }
 
 /// Loans on a good token ring: a loan with privilege keeps it, and one sweep ends every other loan.
@@ -83,7 +83,7 @@ pub fn sharp()
 
 /// Service: from a legitimate world, over every list of events without damage, each node is
 /// privileged at some moment of any 16(n - 1) sweeps; from any world, of as many after those after
-/// which it is legitimate. The privilege passes a desk at which a ticket waits only where that had
+/// which it is legitimate. The privilege passes a desk at which a ticket waits only if that had
 /// served, or a loan ends in that very tick; and after it the desk is ready to lend. So a ticket
 /// that waits after i others, and does not leave while it waits, is lent the lock within
 /// 8(n - 1)(i + 2) sweeps.

@@ -6,12 +6,23 @@
 //! stays so, each node has its shortest distance and its true parent, and at most one node holds
 //! the privilege and lends the lock.
 //!
+//! The token ring is Dijkstra's K-state machines on a tree, laid along its Euler tour. On a
+//! *settled* world (in range, every link stable, the tree reached) each event of the network copies
+//! values of the ring to the right and moves its head at most once. So the ring becomes *good*,
+//! after moves of the head or after sweeps, and stays good; and on a good ring at most one node is
+//! privileged. A world is *legitimate* if it is settled, its ring is good, and each node that lends
+//! is privileged.
+//!
 //! Nothing is computed here, and nothing is claimed of time: not that sweeps occur, only what holds
 //! once they have. The laws are contracts of functions without parameters; whoever proves something
-//! of a running program calls `laws::closure` and `laws::converge` and cites their clauses.
+//! of a running program calls `laws::closure` and `laws::converge` and cites their clauses. The laws
+//! of the ring are `ring_laws`; its definitions stand in `specs/`, in the order Ring, Legs, Settled,
+//! Legitimate, Moves, RingLaws, RingService.
 //!
-//! The trap: a sweep needs a *full* tick of each node, a tick after which it lends to nobody. While
-//! a client keeps the lock, no sweep ends.
+//! The traps: a sweep needs a *full* tick of each node, a tick after which it lends to nobody; while
+//! a client keeps the lock, no sweep ends. And the ring has three places for each step of the tour
+//! (a machine's value, the one staged, and the one copied), so it needs 6(n - 1) + 1 values, not as
+//! many as there are machines.
 //!
 //! Sources: E. W. Dijkstra, Self-stabilizing systems in spite of distributed control, 1974; S.
 //! Dolev, A. Israeli, S. Moran, Self-stabilization of dynamic systems assuming only read/write
@@ -19,5 +30,7 @@
 #![tactic(auto)]
 
 pub mod laws;
+pub mod ring_laws;
 
-pub use token_ring::tree_convergence;
+pub use tree_convergence;
+pub use tree_convergence::data_link;

@@ -3,13 +3,13 @@ use Rattle.std.proofs.Common.{◌≡◌, ◌∙◌, ap, Result, Ok, Err, IsOk, O
 use Rattle.std.proofs.Math.Path.{fun_ext}
 use Rattle.std.proofs.lemmas.Grind.{common_steps}
 use Rattle.topology.specs.At.{at}
-use Rattle.data_link.specs.Port.{PortState}
-use Rattle.node_core.specs.State.{LocalState}
-use Rattle.node_core.specs.Writes.{with_port}
+use Rattle.run_model.specs.data_link.Port.{PortState}
+use Rattle.run_model.specs.node_core.State.{LocalState}
+use Rattle.run_model.specs.node_core.Writes.{with_port}
 use Rattle.damage_tool.specs.declared.draws.PortDraw.{PortDraw}
 use Rattle.damage_tool.specs.Scrambled.{port_written}
 
--- where a call that answers Ok does something, it is done
+-- if a call that answers Ok does something, it is done
 pub on-ok : {T E P : Type 0} (r : Result T E) → IsOk r → OnOk r P → P
 on-ok (Ok x) ok done = done
 on-ok (Err e) ok done = absurd (grind arith)

@@ -6,7 +6,7 @@ use Rattle.std.proofs.Common.{◌≡◌, ◌≢◌, [], ◌∷◌, true, false, 
 use Rattle.rand_pcg.specs.Lcg.{Lcg}
 use Rattle.topology.specs.declared.frame.Ranges.{Ranges}
 use Rattle.link_model.specs.declared.item.Item.TheVariants.{Frame, Noise}
-use Rattle.node_core.specs.State.{default_node}
+use Rattle.run_model.specs.node_core.State.{default_node}
 use Rattle.run_model.specs.declared.event.Event.TheVariants.{Damage}
 use Rattle.run_model.specs.declared.event.Harm.TheVariants as harm
 use Rattle.run_model.proofs.RowsTwo.{two_nodes}
@@ -56,7 +56,7 @@ draws-own : draw_own small 1 still ≡ (Damage (harm.Own 1 0 (Some 0)), twice)
 unfolding draw
 draws-own = refl
 
--- where the second word says that there is no loan, nothing is drawn of what is left
+-- if the second word says that there is no loan, nothing is drawn of what is left
 draws-desk : draw_desk 9 1 still ≡ (Damage (harm.Desk 1 None 0 false), twice)
 unfolding draw
 draws-desk = refl

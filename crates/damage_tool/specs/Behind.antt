@@ -1,4 +1,4 @@
--- Where drawn events go.
+-- If drawn events go.
 use Rattle.std.specs.Prelude.{List, ◌++◌}
 use Rattle.rand_pcg.specs.Lcg.{Lcg}
 use Rattle.run_model.specs.declared.event.Event.{Event}

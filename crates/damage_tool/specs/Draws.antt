@@ -11,7 +11,7 @@ use Rattle.damage_tool.specs.declared.draws.PortDraw.{PortDraw}
 unfoldable pub draw : ℕ → Lcg → ℕ × Lcg
 draw k g = ((pcg32 g).0 % k, (pcg32 g).1)
 
--- a number, where n stands for none
+-- a number; n stands for none
 abbrev pub number_or_none : ℕ → ℕ → Option ℕ
 number_or_none n p = if p == n then None else Some p
 

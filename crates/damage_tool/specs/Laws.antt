@@ -9,12 +9,12 @@ use Rattle.run_model.specs.declared.event.Event.{Event}
 use Rattle.damage_tool.specs.Draws.{draw}
 use Rattle.damage_tool.specs.Harms.{draw_world}
 
--- no event of the list is refused, where they happen one after the other
+-- no event of the list is refused, if they happen one after the other
 abbrev pub AreAccepted : World → List Event → Type 0
 AreAccepted w [] = Unit {0}
 AreAccepted w (e ∷ es) = (refusal w e ≡ None) × AreAccepted (step w e) es
 
--- the ticket waits at no node; where no client waits, no ticket does
+-- the ticket waits at no node; if no client waits, no ticket does
 abbrev pub WaitsNowhere : World → ℕ → Type 0
 WaitsNowhere w t = (v : ℕ) → v < w.net.nodes → waits (w.node v).desk t ≡ false
 

@@ -3,7 +3,7 @@ use Rattle.std.specs.Prelude.{ℕ, ◌+◌, List, [], ◌∷◌}
 use Rattle.rand_pcg.specs.Lcg.{Lcg}
 use Rattle.topology.specs.At.{at}
 use Rattle.topology.specs.declared.frame.Ranges.{Ranges}
-use Rattle.node_core.specs.State.{LocalState}
+use Rattle.run_model.specs.node_core.State.{LocalState}
 use Rattle.damage_tool.specs.declared.draws.PortDraw.{PortDraw}
 use Rattle.damage_tool.specs.Draws.{draw, draw_parent, draw_port}
 

@@ -5,7 +5,7 @@ ghost use Rattle.damage_tool.specs.Draws.{draw_junk};
 use crate::draws::{draw_below, draw_to};
 use rand_pcg::Lcg64Xsh32;
 
-/// The first `length` bytes, as a write that broke off leaves them; all of them where there are no
+/// The first `length` bytes, as a write that broke off leaves them; all of them if there are no
 /// more.
 pub fn cut(bytes: &[u8], length: usize) -> &[u8]
     ensures { result.now ≡ take length bytes.now }

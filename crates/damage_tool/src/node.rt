@@ -2,14 +2,14 @@
 ghost use Rattle.std.specs.Prelude.{◌≡◌, ◌<◌, IsTrue, Contains};
 ghost use Rattle.topology.specs.Network.{neighbours_of};
 ghost use Rattle.topology.specs.Ranges.{payload_fits, ranges_of};
-ghost use Rattle.data_link.specs.Port.{counters_fit};
-ghost use Rattle.node_core.specs.Site.{site_of};
-ghost use Rattle.node_core.specs.View.{site_in, state_of};
+ghost use Rattle.run_model.specs.data_link.Port.{counters_fit};
+ghost use Rattle.run_model.specs.node_core.Site.{site_of};
+ghost use Rattle.run_model.specs.node_core.View.{site_in, state_of};
 ghost use Rattle.damage_tool.specs.Scrambled.{node_scrambled, port_written};
 
 use crate::draws::{PortDraw, draw_parent, draw_port, draw_to};
-use node_core::NodeState;
 use rand_pcg::Lcg64Xsh32;
+use run_model::node_core::NodeState;
 use std::alloc::Allocator;
 use topology::Net;
 

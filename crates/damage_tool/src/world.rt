@@ -57,7 +57,7 @@ fn port_harms(node: u16, neighbour: u16, drawn: PortDraw) -> [Event; 4]
     ]
 }
 
-/// The ticket that a scrambled desk lends to, where it lends.
+/// The ticket that a scrambled desk lends to, if it lends.
 const BORROWER: u16 = 65535;
 
 /// The harm that writes a desk's loan: in one of three draws there is none.
@@ -181,7 +181,7 @@ fn push_world<A: Allocator, N: Allocator + Copy>(
 /// with its ports by ascending neighbour, and then each link by ascending source and destination.
 /// All but who waits at a desk is drawn. In a world in which no client waits each harm is accepted.
 ///
-/// Where memory is refused neither `out` nor the generator changes.
+/// If memory is refused neither `out` nor the generator changes.
 pub fn scramble_world<A: Allocator, N: Allocator + Copy>(
     net: &Net<N>,
     generator: &mut Lcg64Xsh32,

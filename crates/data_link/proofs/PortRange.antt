@@ -1,9 +1,9 @@
 -- A port stays in range.
 use Rattle.std.proofs.Common.{arith, rules, IsTrue}
-use Rattle.topology.specs.Ranges.{frame_fits, payload_fits}
-use Rattle.topology.specs.declared.frame.Frame.{Frame}
-use Rattle.topology.specs.declared.frame.Payload.{Payload}
-use Rattle.topology.specs.declared.frame.Ranges.{Ranges}
+use Rattle.link_model.specs.topology.Ranges.{frame_fits, payload_fits}
+use Rattle.link_model.specs.topology.declared.frame.Frame.{Frame}
+use Rattle.link_model.specs.topology.declared.frame.Payload.{Payload}
+use Rattle.link_model.specs.topology.declared.frame.Ranges.{Ranges}
 use Rattle.data_link.specs.Port.{PortState, port_acked, port_heard, port_fits}
 use Rattle.data_link.specs.Laws.{PortStaysInRange}
 

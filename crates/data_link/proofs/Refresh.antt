@@ -4,8 +4,8 @@ use Rattle.std.proofs.Common.{◌≡◌, ◌≢◌, ℕ, ◌<◌, ◌⊎◌, inl
 use Rattle.std.specs.List.{AllByRecursion}
 use Rattle.std.proofs.lemmas.Bool.{cases_eq}
 use Rattle.std.proofs.lemmas.Grind.{common_steps}
-use Rattle.topology.specs.declared.frame.Frame.{Frame}
-use Rattle.topology.specs.declared.frame.Payload.{Payload}
+use Rattle.link_model.specs.topology.declared.frame.Frame.{Frame}
+use Rattle.link_model.specs.topology.declared.frame.Payload.{Payload}
 use Rattle.link_model.specs.declared.item.Item.{Item}
 use Rattle.link_model.specs.declared.item.Item.TheVariants as item
 use Rattle.k_state.specs.Ring.{HasFront, IsFrontThen}
@@ -69,7 +69,7 @@ taken-copied capacity s present f items h e =
     let carries : AllByRecursion (CarriesItsPayload s.near h.other) (item.Frame f ∷ items) = subst (AllByRecursion (CarriesItsPayload s.near h.other)) e h.out in
     ap (λ l. (port_taking (modulus_of capacity) s.far l present).copy) e ∙ copied-frame (modulus_of capacity) s.far s.near h.other f present h.copied carries.0
 
--- where far's last number is the head of a good ring, each number on its way out is too
+-- if far's last number is the head of a good ring, each number on its way out is too
 all-in_front : (a : ℕ) (xs ys : List ℕ) → IsFrontThen (λ x. x ≡ a) (λ x. x ≢ a) (xs ++ a ∷ ys) → AllByRecursion (λ x. x ≡ a) xs
 all-in_front a [] ys h = tt
 all-in_front a (x ∷ xs) ys (inl (e, h)) = (e, all-in_front a xs ys h)

@@ -1,8 +1,8 @@
 -- Small edges with links of one place, whose numbers are 0 to 4, and what holds of them
 use Rattle.std.proofs.Common.{◌≡◌, ℕ, true, false, None, zero, suc, ◌++◌, List, [], ◌∷◌, refl, ap, arith, rules}
 use Rattle.std.proofs.lemmas.Grind.{common_steps}
-use Rattle.topology.specs.declared.frame.Frame.{Frame}
-use Rattle.topology.specs.declared.frame.Payload.{Payload}
+use Rattle.link_model.specs.topology.declared.frame.Frame.{Frame}
+use Rattle.link_model.specs.topology.declared.frame.Payload.{Payload}
 use Rattle.link_model.specs.declared.item.Item.{Item}
 use Rattle.link_model.specs.declared.item.Item.TheVariants as item
 use Rattle.data_link.specs.Port.{PortState, default_port, port_after, port_fits}
@@ -96,7 +96,7 @@ behind_an_old_item = record { out = refl; back = refl }
 not_by_an_old_item : is_out_renewed 1 (loaded (item.Frame (frame 0 0 old))) (TakeOut old ∷ TakeBack new ∷ []) ≡ false
 not_by_an_old_item = refl
 
--- the same where the item is noise; and what is sent on a full link is lost
+-- the same if the item is noise; and what is sent on a full link is lost
 not_by_noise : is_out_renewed 1 (loaded item.Noise) (SendOut ∷ TakeOut old ∷ SendBack ∷ TakeBack new ∷ []) ≡ false
 not_by_noise = refl
 

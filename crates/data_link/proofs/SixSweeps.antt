@@ -55,7 +55,7 @@ module _ (of_start : AgeOfStart) (next : AgeGoesOn) where
 
   module _ (stays : GoodStays) (good_front : GoodHasFront) (fresh_front : FreshHasFront) (front : FrontStaysOrTurnsGood) (some_fresh : SomeValueIsFresh)
       (first_move : MovesFromFirst) where
-    -- where no number is further from `start` than near's: once near's has moved it is fresh, and
+    -- if no number is further from `start` than near's: once near's has moved it is fresh, and
     -- once it has moved again the link is stable
     two-moves : (capacity start m : ℕ) (s : EdgeState) (es : List EdgeEvent) → IsEdgeInRange capacity s → near_age capacity start s ≡ m
         → m + 1 < modulus_of capacity → AreKnown (IsWithin capacity start m) s → 2 ≤ moves_in capacity s es → IsStable capacity (edge_run capacity s es)

@@ -3,7 +3,7 @@ use Rattle.std.proofs.Common.{◌≡◌, ◌≢◌, ℕ, ◌+◌, ◌*◌, ◌%�
 use Rattle.std.proofs.Math.Nat.{mod-eq_of_lt, mod_self}
 use Rattle.std.proofs.lemmas.Bool.{cases_lt}
 use Rattle.std.proofs.lemmas.Grind.{common_steps}
-use Rattle.topology.specs.declared.frame.Payload.{Payload}
+use Rattle.link_model.specs.topology.declared.frame.Payload.{Payload}
 use Rattle.k_state.specs.Machine.{root_moved}
 use Rattle.k_state.specs.Ring.{HasFront, IsFresh, Step, moves_until}
 use Rattle.k_state.specs.Laws.{FreshHasFront, FrontStaysOrTurnsGood, GoodHasFront, GoodStays, MovesFromFirst, SomeValueIsFresh}
@@ -41,7 +41,7 @@ carries-old p other n x ne e = grind (arith, common_steps)
 pub seq-moves : (capacity : ℕ) (s : EdgeState) (e : EdgeEvent) → moves s e ≡ 1 → (edge_step capacity s e).near.seq ≡ root_moved s.near.seq (modulus_of capacity)
 seq-moves capacity s e i = grind (arith, common_steps)
 
--- where there are two numbers or more, the next one is another
+-- if there are two numbers or more, the next one is another
 next-differs : (q x : ℕ) → 1 < q → x < q → root_moved x q ≢ x
 next-differs q x two below same = elim (cases_lt (x + 1) q) [
   | inl within ↦ omega (arith, same, mod-eq_of_lt within)

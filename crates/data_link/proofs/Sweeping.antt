@@ -15,7 +15,7 @@ use Rattle.data_link.proofs.Known.{AlwaysHas, AreHeard, Back, always-parts, hear
 abbrev Is : ℕ → ℕ → Type 0
 Is n x = x ≡ n
 
--- where near's number does not move, it is throughout what it is at first
+-- if near's number does not move, it is throughout what it is at first
 stands : (n capacity : ℕ) (s : EdgeState) (es : List EdgeEvent) → moves_in capacity s es ≡ 0 → s.near.seq ≡ n → AlwaysHas (Is n) capacity s es
 stands n capacity s [] still e = e
 stands n capacity s (ev ∷ es) still e =

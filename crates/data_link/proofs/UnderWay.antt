@@ -3,8 +3,8 @@ use Rattle.std.proofs.Common.{◌≡◌, ℕ, ◌+◌, ◌*◌, ◌≤◌, nat_l
 use Rattle.std.specs.List.{AllByRecursion}
 use Rattle.std.proofs.lemmas.Bool.{ltb-true}
 use Rattle.std.proofs.lemmas.Grind.{common_steps}
-use Rattle.topology.specs.declared.frame.Frame.{Frame}
-use Rattle.topology.specs.declared.frame.Payload.{Payload}
+use Rattle.link_model.specs.topology.declared.frame.Frame.{Frame}
+use Rattle.link_model.specs.topology.declared.frame.Payload.{Payload}
 use Rattle.link_model.specs.declared.item.Item.{Item}
 use Rattle.link_model.specs.declared.item.Item.TheVariants as item
 use Rattle.link_model.specs.Acts.{put_last}
@@ -62,7 +62,7 @@ accepted-after R q p (item.Frame f ∷ items) present h g = taken R q p f presen
     taken : (R : ℕ → Payload → Type 0) (q : ℕ) (p : PortState) (f : Frame) (present : Payload) → R p.last p.copy → R f.seq f.payload → R (port_after q p f present).last (port_after q p f present).copy
     taken R q p f present h g = grind (arith, common_steps)
 
--- near's number and its staged payload stay where the number does not move
+-- near's number and its staged payload stay if the number does not move
 pub near-stays : (capacity : ℕ) (s : EdgeState) (e : EdgeEvent) → moves s e ≡ 0 → ((edge_step capacity s e).near.seq ≡ s.near.seq) × ((edge_step capacity s e).near.staged ≡ s.near.staged)
 near-stays capacity s e i = grind (arith, common_steps)
 

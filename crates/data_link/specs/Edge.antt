@@ -2,8 +2,8 @@
 -- payloads; the other one is the same, seen from far.
 use Rattle.std.specs.Prelude.{◌≡◌, ℕ, ◌+◌, ◌*◌, ◌<◌, ◌≤◌, ◌==◌, List, [], ◌∷◌, ◌++◌, length, drop, remove, if◌then◌else◌}
 use Rattle.std.specs.List.{AllByRecursion}
-use Rattle.topology.specs.declared.frame.Frame.{Frame}
-use Rattle.topology.specs.declared.frame.Payload.{Payload}
+use Rattle.link_model.specs.topology.declared.frame.Frame.{Frame}
+use Rattle.link_model.specs.topology.declared.frame.Payload.{Payload}
 use Rattle.link_model.specs.declared.item.Item.{Item}
 use Rattle.link_model.specs.declared.item.Item.TheVariants as item
 use Rattle.link_model.specs.Acts.{put_last}
@@ -65,13 +65,13 @@ abbrev pub edge_run : ℕ → EdgeState → List EdgeEvent → EdgeState
 edge_run capacity s [] = s
 edge_run capacity s (e ∷ es) = edge_run capacity (edge_step capacity s e) es
 
--- 1 where the oldest of these items acknowledges the port's number, else 0
+-- 1 if the oldest of these items acknowledges the port's number, else 0
 abbrev pub acked_by : PortState → List Item → ℕ
 acked_by p [] = 0
 acked_by p (item.Noise ∷ items) = 0
 acked_by p (item.Frame f ∷ items) = if f.ack == p.seq then 1 else 0
 
--- 1 where near's number moves in the event, else 0
+-- 1 if near's number moves in the event, else 0
 abbrev pub moves : EdgeState → EdgeEvent → ℕ
 moves s (TakeBack present) = acked_by s.near s.back
 moves s _ = 0
@@ -123,7 +123,7 @@ CarriesItsPayload p other item.Noise = Unit {0}
 CarriesItsPayload p other (item.Frame f) = f.payload ≡ payload_under p other f.seq
 
 -- The link is stable for numbers with this modulus: its ring is good, and there is one other
--- payload such that each frame on its way out, and far's copy, is what near has staged where it
+-- payload such that each frame on its way out, and far's copy, is what near has staged if it
 -- came with near's number, and that other payload else.
 pub record IsStableWith (modulus : ℕ) (s : EdgeState) : Type 0 where
   pub good : IsGood modulus (link_ring s)

@@ -1,6 +1,6 @@
--- What a frame does to a port, as its caller is told.
+-- What a frame does to a port, as its caller sees it.
 use Rattle.std.specs.Prelude.{◌==◌, not}
-use Rattle.topology.specs.declared.frame.Frame.{Frame}
+use Rattle.link_model.specs.topology.declared.frame.Frame.{Frame}
 use Rattle.data_link.specs.Port.{PortState}
 use Rattle.data_link.specs.declared.heard.Heard.{Heard}
 

@@ -2,10 +2,10 @@
 -- present. Each is of the direction from near to far.
 use Rattle.std.specs.Prelude.{◌≡◌, ℕ, ◌+◌, ◌*◌, ◌<◌, ◌≤◌, ◌⊎◌, Bool, IsTrue, List, ◌∷◌, ◌++◌}
 use Rattle.std.specs.List.{AllByRecursion}
-use Rattle.topology.specs.Ranges.{frame_fits, payload_fits}
-use Rattle.topology.specs.declared.frame.Frame.{Frame}
-use Rattle.topology.specs.declared.frame.Payload.{Payload}
-use Rattle.topology.specs.declared.frame.Ranges.{Ranges}
+use Rattle.link_model.specs.topology.Ranges.{frame_fits, payload_fits}
+use Rattle.link_model.specs.topology.declared.frame.Frame.{Frame}
+use Rattle.link_model.specs.topology.declared.frame.Payload.{Payload}
+use Rattle.link_model.specs.topology.declared.frame.Ranges.{Ranges}
 use Rattle.link_model.specs.declared.item.Item.{Item}
 use Rattle.link_model.specs.declared.item.Item.TheVariants as item
 use Rattle.k_state.specs.Ring.{Step}

@@ -1,3 +1,4 @@
+pub use Rattle.link_model.specs.topology as topology
 pub use Rattle.k_state.specs as k_state
 pub use Rattle.link_model.specs as link_model
 pub mod Port

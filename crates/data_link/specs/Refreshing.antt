@@ -1,6 +1,6 @@
 -- How a staged payload comes to the copy.
 use Rattle.std.specs.Prelude.{ℕ, Bool, IsTrue, List, [], ◌∷◌}
-use Rattle.topology.specs.declared.frame.Payload.{Payload}
+use Rattle.link_model.specs.topology.declared.frame.Payload.{Payload}
 use Rattle.data_link.specs.Edge.{EdgeState, EdgeEvent, IsEdgeInRange, IsStable, edge_run, edge_step}
 use Rattle.data_link.specs.Sweep.{IsSweep}
 

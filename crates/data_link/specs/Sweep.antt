@@ -1,7 +1,7 @@
 -- Sweeps of an edge: stretches in which each direction hands over an item that was sent inside the
 -- stretch.
 use Rattle.std.specs.Prelude.{◌≡◌, ℕ, ◌+◌, ◌<◌, Bool, zero, suc, IsTrue, List, [], ◌∷◌, ◌++◌, map}
-use Rattle.topology.specs.declared.frame.Payload.{Payload}
+use Rattle.link_model.specs.topology.declared.frame.Payload.{Payload}
 use Rattle.data_link.specs.Edge.{EdgeState, EdgeEvent, SendOut, SendBack, TakeOut, TakeBack, LoseOut, LoseBack, edge_step, edge_run}
 pub use Rattle.link_model.specs.Acts.{LinkAct, Puts, Takes, Loses, Rests, list_after, Origin, Before, Sent, is_first_sent, takes_sent, hands_over_sent, is_renewed}
 pub use Rattle.link_model.specs.HandOver.{takes_item}

@@ -2,7 +2,7 @@
 //!
 //! A [`Port`] is one end of an edge. It sends its staged payload under a number, again and again,
 //! until the neighbour acknowledges that number; then it stages the payload that is present and
-//! takes the next number, modulo `2C + 3` for links of capacity `C`. A frame is accepted where its
+//! takes the next number, modulo `2C + 3` for links of capacity `C`. A frame is accepted if its
 //! number is not the last one that was accepted.
 //!
 //! Whatever stands in the ports and on the links at first, an edge becomes *stable* and stays so:
@@ -24,4 +24,5 @@ pub use fault::OutOfRange;
 pub use heard::Heard;
 pub use k_state;
 pub use link_model;
+pub use link_model::topology;
 pub use port::Port;

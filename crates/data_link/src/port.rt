@@ -1,15 +1,15 @@
 //! One end of an edge.
 ghost use Rattle.std.specs.Prelude.{◌≡◌, ◌↔◌, ◌<◌, IsTrue, IsOk, OnOk, OnErr};
-ghost use Rattle.topology.specs.Ranges.{frame_fits, payload_fits, ranges_of};
+ghost use Rattle.link_model.specs.topology.Ranges.{frame_fits, payload_fits, ranges_of};
 ghost use Rattle.data_link.specs.Heard.{heard_of};
 ghost use Rattle.data_link.specs.Port.{counters_fit, default_port, frame_of, port_after, port_fits};
 
 use crate::fault::OutOfRange;
 use crate::heard::Heard;
 use k_state::{copy_move, root_move};
+use link_model::topology::{Frame, Net, Payload, Ranges};
 use std::alloc::Allocator;
 use std::marker::Model;
-use topology::{Frame, Net, Payload, Ranges};
 
 /// What a node keeps of one neighbour: the number of its staged payload, the last number that it
 /// accepted, the staged payload, and the copy of the neighbour's payload. Each field is in its
@@ -128,8 +128,8 @@ impl Port {
     }
 
     /// Takes a frame from the neighbour. `present` is what the node has to say to the neighbour in
-    /// the state *before* the frame: it is staged where the frame acknowledges the port's number.
-    /// Then the frame is accepted where its number is not the last one.
+    /// the state *before* the frame: it is staged if the frame acknowledges the port's number.
+    /// Then the frame is accepted if its number is not the last one.
     #[inline(always)]
     pub fn on_frame(&mut self, frame: &Frame, present: Payload) -> Heard
         requires frame_fits { IsTrue (frame_fits self.old.ranges frame.now) }
@@ -155,10 +155,10 @@ impl Port {
         Heard { moved, accepted }
     }
 
-    /// Writes both numbers. `OutOfRange` comes exactly where one is not below the counters'
+    /// Writes both numbers. `OutOfRange` comes exactly if one is not below the counters'
     /// modulus.
     pub fn set_counters(&mut self, seq: u16, last: u16) -> Result<(), OutOfRange>
-        // It is written exactly where it is in range.
+        // It is written exactly if it is in range.
         ensures variant { IsOk result ↔ IsTrue (counters_fit self.old.ranges seq last) }
         ensures ok { OnOk result (self.new
             ≡ record self.old { state = record self.old.state { seq = seq; last = last } }) }
@@ -172,10 +172,10 @@ impl Port {
         Ok(())
     }
 
-    /// Writes the staged payload. `OutOfRange` comes exactly where a field of it is not in its
+    /// Writes the staged payload. `OutOfRange` comes exactly if a field of it is not in its
     /// range.
     pub fn set_staged(&mut self, payload: Payload) -> Result<(), OutOfRange>
-        // It is written exactly where it is in range.
+        // It is written exactly if it is in range.
         ensures variant { IsOk result ↔ IsTrue (payload_fits self.old.ranges payload) }
         ensures ok { OnOk result (self.new
             ≡ record self.old { state = record self.old.state { staged = payload } }) }
@@ -188,10 +188,10 @@ impl Port {
         Ok(())
     }
 
-    /// Writes the copy of the neighbour's payload. `OutOfRange` comes exactly where a field of it
+    /// Writes the copy of the neighbour's payload. `OutOfRange` comes exactly if a field of it
     /// is not in its range.
     pub fn set_copy(&mut self, payload: Payload) -> Result<(), OutOfRange>
-        // It is written exactly where it is in range.
+        // It is written exactly if it is in range.
         ensures variant { IsOk result ↔ IsTrue (payload_fits self.old.ranges payload) }
         ensures ok { OnOk result (self.new
             ≡ record self.old { state = record self.old.state { copy = payload } }) }

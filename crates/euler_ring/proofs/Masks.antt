@@ -39,7 +39,7 @@ ones_count (suc k) n l =
       | inr failed ↦ (let none : n % 2 ≡ 0 = grind (arith, nat_tests) in rw (failed, ones_step n, none, rest) (omega arith))
     ]
 
--- the greatest bit below 2 ^ (j + 1) is bit j, where the number is 2 ^ j at least
+-- the greatest bit below 2 ^ (j + 1) is bit j, if the number is 2 ^ j at least
 top_bit : (n j : ℕ) → 2 ^ j ≤ n → n < 2 ^ suc j → bit_at n j ≡ 1
 top_bit n j l h =
     let low : n - 2 ^ j < 2 ^ j = omega (arith, pow-suc 2 j) in
@@ -130,7 +130,7 @@ on_ids ids w = on-kept (has_id ids) 64 w
 pub on_below : (ids w : ℕ) → is_on (ids_of ids) w ≡ true → w < 64
 on_below ids w on = let e = on_ids ids w in grind (arith, nat_tests)
 
--- the ids of a mask are an ascending list where its bits say what is on that
+-- the ids of a mask are an ascending list if its bits say what is on that
 pub ids_are : (ids : ℕ) (ts : List ℕ) → IsFrom 0 ts → All (λ t. t < 64) ts → ((i : ℕ) → i < 64 → has_id ids i ≡ is_on ts i) → ids_of ids ≡ ts
 unfolding ids_of
 ids_are ids ts h l same = filter_range (has_id ids) (is_on ts) 0 64 (λ i more less. same i less) ∙ listed 0 64 ts h l

@@ -195,7 +195,7 @@ filter-within p q among (x ∷ xs) same =
       | inr outside ↦ rw (outside, rest) refl
     ]
 
--- where a node's own word and its copies are true, so are its tree neighbours
+-- if a node's own word and its copies are true, so are its tree neighbours
 pub same_view : (net : Network) (v : ℕ) (parent : Option ℕ) (copied : ℕ → Option ℕ) → parent ≡ parent_of net v → ((w : ℕ) → IsTrue (are_joined net.edges v w) → copied w ≡ parent_of net w) →
     tree_neighbours parent v (neighbours_of net v) copied ≡ true_neighbours net v
 same_view net v parent copied own theirs =

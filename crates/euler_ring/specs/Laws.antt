@@ -28,7 +28,7 @@ SourceIsOn = (ts : List ℕ) (w : ℕ) → IsTrue (is_on ts w) → IsTrue (is_on
 
 -- ---- the true tree neighbours
 
--- the tree neighbours of v where v and its neighbours name their true parents
+-- the tree neighbours of v if v and its neighbours name their true parents
 abbrev pub true_neighbours : Network → ℕ → List ℕ
 true_neighbours net v = tree_neighbours (parent_of net v) v (neighbours_of net v) (parent_of net)
 
@@ -45,7 +45,7 @@ TrueNeighboursAre =
 abbrev pub TrueNeighboursAscend : Type 0
 TrueNeighboursAscend = (net : Network) (v : ℕ) → IsStrictlyIncreasing (true_neighbours net v)
 
--- where v knows its true parent and has copied those of its neighbours, its own tree neighbours are
+-- if v knows its true parent and has copied those of its neighbours, its own tree neighbours are
 -- the true ones
 abbrev pub OwnViewIsTrue : Type 0
 OwnViewIsTrue =

@@ -1,4 +1,4 @@
--- A set of node ids as the bits of a number: id i is in it where bit i is 1.
+-- A set of node ids as the bits of a number: id i is in it if bit i is 1.
 use Rattle.std.specs.Prelude.{ℕ, ◌==◌, Bool, List, filter}
 use Rattle.std.specs.Int.{bit_at}
 use Rattle.std.specs.List.{range_with_len}

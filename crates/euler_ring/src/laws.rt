@@ -15,7 +15,7 @@ pub fn round_a_node()
     ensures source_on { SourceIsOn }
 {}
 
-/// Where a node knows its own true parent and those of its neighbours, its tree neighbours are the
+/// If a node knows its own true parent and those of its neighbours, its tree neighbours are the
 /// true ones: exactly the nodes to which an edge of the true tree leads.
 pub fn true_view()
     ensures are { TrueNeighboursAre }

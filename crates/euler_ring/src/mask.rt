@@ -1,4 +1,4 @@
-//! A set of node ids as the bits of a word: id i is in it where bit i is 1. A network has at most
+//! A set of node ids as the bits of a word: id i is in it if bit i is 1. A network has at most
 //! 64 nodes.
 ghost use Rattle.std.specs.Prelude.{◌≡◌, ◌≢◌, ℕ, ◌<◌, length, drop, true};
 ghost use Rattle.euler_ring.specs.Cycle.{lowest, highest, above, below};
@@ -69,7 +69,7 @@ pub fn without_lowest(ids: u64) -> u64
 pub fn with(ids: u64, id: u16) -> u64
     requires { id < 64 }
     ensures same { has_id result id ≡ true }
-    // Every other id is in it where it was.
+    // Every other id is in it if it was.
     ensures others { (i : ℕ) → i < 64 → i ≢ id → has_id result i ≡ has_id ids i }
 {
     ids | 1 << id

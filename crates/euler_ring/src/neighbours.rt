@@ -10,7 +10,8 @@ use std::marker::Model;
 /// The tree neighbours of a node: the neighbours to which an edge of the tree leads, as far as the
 /// node knows. Contracts see them as an ascending list.
 ///
-/// They are kept as the bits of one word, so what comes next is found without going through them.
+/// They are kept as the bits of one word, so what comes next is found without going through them. They are computed at
+/// each use: else each writer of a copy or a parent would have to keep them, too.
 #[derive(Debug, Drop)]
 pub struct TreeNeighbours {
     ids: u64,
@@ -88,7 +89,7 @@ impl TreeNeighbours {
     }
 
     /// The tree neighbour from which the special machine comes in: the smallest, at the root; none
-    /// at another node, or where there is none.
+    /// at another node, or if there is none.
     pub fn special(&self, is_root: bool) -> Option<u16>
         ensures { result ≡ special is_root self.now }
     {
@@ -107,12 +108,12 @@ fn is_named(parent: Option<u16>, id: u16) -> bool
     parent == Some(id)
 }
 
-/// A node's tree neighbours, from what it believes: its parent, where that is a neighbour, and each
+/// A node's tree neighbours, from what it believes: its parent, if that is a neighbour, and each
 /// neighbour whose copied parent is the node `id`.
 ///
 /// `neighbours` ascend and are below 64, as those of an accepted network. `copied_parent` gives a
 /// neighbour's copied parent, and is called for neighbours alone. What it gives must be a function
-/// of the neighbour, as it is where it reads a field; the clause names that function.
+/// of the neighbour, as it is if it reads a field; the clause names that function.
 pub fn tree_neighbours<F: Fn(u16) -> Option<u16>>(
     parent: Option<u16>,
     id: u16,

@@ -16,7 +16,7 @@ use Rattle.events_text.specs.EventsText.{text_line}
 use Rattle.line_words.specs.Laws.{NumbersAreRead}
 use Rattle.events_text.proofs.EventReading.{AreDigits, digits-in, events-read}
 
--- a digit is the decimal spelling of its value, and so are two where the first is no zero
+-- a digit is the decimal spelling of its value, and so are two if the first is no zero
 pub one_digit : (ones : ℕ) → is_ascii_digit ones ≡ true → decimal (ones - 48) ≡ ones ∷ []
 one_digit ones is =
     let within : (48 ≤ ones) × (ones ≤ 57) = grind (arith, nat_tests) in

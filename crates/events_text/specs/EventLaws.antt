@@ -48,7 +48,7 @@ event_words (Ask v t) = codes "ask" ∷ decimal v ∷ decimal t ∷ []
 event_words (Leave v t) = codes "leave" ∷ decimal v ∷ decimal t ∷ []
 event_words (Damage h) = codes "harm" ∷ harm_words h
 
--- a line spells an event only where its words are those of the event, with a space between each two
+-- a line spells an event only if its words are those of the event, with a space between each two
 abbrev pub EventsHaveOneSpelling : Type 0
 EventsHaveOneSpelling = (line : Word) (event : Event) → line_event line ≡ Some event → line ≡ join_with_byte 32 (event_words event)
 

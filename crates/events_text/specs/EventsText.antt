@@ -22,7 +22,7 @@ text_line (byte ∷ bytes) =
 abbrev pub ended_lines : List ℕ → List TextLine
 ended_lines bytes = map text_line (whole_lines bytes)
 
--- what stands after the last newline is a line where it is not empty
+-- what stands after the last newline is a line if it is not empty
 abbrev pub last_line : List ℕ → List (List ℕ)
 last_line [] = []
 last_line (byte ∷ bytes) = (byte ∷ bytes) ∷ []

@@ -32,7 +32,7 @@ impl Model for EventReader {
 pub struct Taken {
     /// How many bytes it took.
     pub used: usize,
-    /// The line that ended with them; none where it took the whole piece and no line ended.
+    /// The line that ended with them; none if it took the whole piece and no line ended.
     pub line: Option<TextLine>,
 }
 
@@ -47,7 +47,7 @@ impl EventReader {
         }
     }
 
-    /// Takes a piece of the text up to the end of the next line in it, or all of it where no line
+    /// Takes a piece of the text up to the end of the next line in it, or all of it if no line
     /// ends there.
     pub fn take(&mut self, piece: &[u8]) -> Taken
         ensures used { result.used ≤ length piece.now }
@@ -75,9 +75,9 @@ impl EventReader {
         Taken { used, line }
     }
 
-    /// Takes the line in front of a piece, where none is under way and it is a usual one: `send U
+    /// Takes the line in front of a piece, if none is under way and it is a usual one: `send U
     /// V`, `take U V` or `tick V` with ids below 100. The answer is its event and how many bytes it
-    /// took; where there is none, nothing is taken, and [`EventReader::take`] is to read on.
+    /// took; if there is none, nothing is taken, and [`EventReader::take`] is to read on.
     #[inline(always)]
     pub fn take_usual(&self, piece: &[u8]) -> Option<(Event, usize)>
         ensures used { IfSome result (λ taken. (0 < taken.1) × (taken.1 ≤ length piece.now)) }
@@ -98,7 +98,7 @@ impl EventReader {
         Some((event, piece.len() - rest.len()))
     }
 
-    /// The last line of a text that ends here, where no newline ended it.
+    /// The last line of a text that ends here, if no newline ended it.
     pub fn last(&self) -> Option<TextLine>
         // The lines of a text are those that were ended, and the last half line if there is one.
         ensures { (bytes : List ℕ) → StandsAfter 64 bytes self.now

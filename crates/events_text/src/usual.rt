@@ -6,7 +6,7 @@ ghost use Rattle.events_text.specs.declared.text_line.TextLine.TheVariants.{Told
 
 use run_model::Event;
 
-/// The event of the line in front of a text, and the text after its newline, where the line is
+/// The event of the line in front of a text, and the text after its newline, if the line is
 /// `send U V`, `take U V` or `tick V` with ids below 100. Most lines of a long run are, and this
 /// reads them without looking for their ends first; of any other line it says nothing.
 #[inline(always)]
@@ -34,7 +34,7 @@ pub fn usual_line(text: &[u8]) -> Option<(Event, &[u8])>
     }
 }
 
-/// The number in front of a text, and the text after the byte that ends it, where it has one or
+/// The number in front of a text, and the text after the byte that ends it, if it has one or
 /// two digits and no leading zero.
 #[inline(always)]
 fn short_number(text: &[u8], end: u8) -> Option<(u16, &[u8])>

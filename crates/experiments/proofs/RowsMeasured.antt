@@ -97,7 +97,7 @@ last-never = (calm-serves, tt)
 last_not-never : ¬ FailedLast two_tokens [] None
 last_not-never failed = two_tokens-do_not_serve failed.0
 
--- where it fails now, the last failure is now, and else the one before
+-- if it fails now, the last failure is now, and else the one before
 now-fails : IsLastNow two_tokens 4 None (Some 4)
 now-fails = inr (two_tokens-do_not_serve, refl)
 

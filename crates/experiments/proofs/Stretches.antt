@@ -94,7 +94,7 @@ by-all_leaves n a c p r all on start before watched =
     let same : n ≡ w.net.nodes = all ∙ ap (λ (x : World). x.net.nodes) watched.seen.judging.now_is in
     subst (λ k. IsWatched start (before ++ leaves_below k w) c r) same (on start before watched)
 
--- a leave where the watch's world lends
+-- a leave if the watch's world lends
 pub by-leave : (v : ℕ) (lent : Option ℕ) (a c : JudgeView) (p r : Option ℕ) → lent ≡ lent_at (world_of a.configuration) v → GoesOn a p (leave_of v lent) c r
     → GoesOnBy (λ w. leave_at w v) a p c r
 by-leave v lent a c p r is on start before watched =

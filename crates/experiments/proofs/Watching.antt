@@ -10,8 +10,8 @@ use Rattle.run_model.specs.Headline.{IsServing}
 use Rattle.run_model.specs.declared.event.Event.{Event}
 use Rattle.configuration.specs.ConfigurationView.{ConfigurationView, world_of}
 use Rattle.judge.specs.Judging.{counted_up_to}
-use Rattle.serving.specs.Sight.{IsTouchedSight}
-use Rattle.serving.specs.declared.sight.Sight.{Sight}
+use Rattle.configuration.specs.Sight.{IsTouchedSight}
+use Rattle.configuration.specs.declared.sight.Sight.{Sight}
 use Rattle.experiments.specs.Recovery.{ServesBehindEach, IsLastFailure, FailedLast, IsLastNow}
 
 pub run-append : (w : World) (xs ys : List Event) → run w (xs ++ ys) ≡ run (run w xs) ys
@@ -22,7 +22,7 @@ pub serves-more : (w : World) (es : List Event) (e : Event) → ServesBehindEach
 serves-more w [] e each last = (last, tt)
 serves-more w (x ∷ es) e each last = (each.0, serves-more (step w x) es e each.1 last)
 
--- the failure is the last one still where the network serves after one more event
+-- the failure is the last one still if the network serves after one more event
 failure-stays : (start : World) (es : List Event) (e : Event) (sweeps : ℕ) → IsLastFailure start es sweeps → IsServing (run start (es ++ e ∷ []))
     → IsLastFailure start (es ++ e ∷ []) sweeps
 failure-stays start es e sweeps f serves =
@@ -44,7 +44,7 @@ last-stays : (start : World) (es : List Event) (e : Event) (last : Option ℕ) �
 last-stays start es e None f serves = (f.0, serves-more start es e f.1 serves)
 last-stays start es e (Some sweeps) f serves = failure-stays start es e sweeps f serves
 
--- the flag is set exactly where the world serves
+-- the flag is set exactly if the world serves
 abbrev pub IsExact : Bool → World → Type 0
 IsExact serves w = IsTrue serves ↔ IsServing w
 

@@ -40,7 +40,7 @@ back_at_all more w left (v ∷ vs) =
     let rest = back_at_all more (run w one.0) one.1 vs in
     (one.0 ++ rest.0, rest.1)
 
--- a round, in which each node ticks once; then the lock is given back where it is due
+-- a round, in which each node ticks once; then the lock is given back if it is due
 abbrev pub round_back : Network → ℕ → World → List ℕ → List Event × List ℕ
 round_back net more w left =
     let back = back_at_all more (run w (round net)) left (range_with_len 0 net.nodes) in

@@ -1,3 +1,4 @@
+pub use Rattle.schedules.specs as schedules
 pub mod Laws
 pub mod Plan
 pub mod Recovery

@@ -16,7 +16,7 @@ use Rattle.experiments.specs.declared.plan.Order.TheVariants.{Rounds, Random}
 use Rattle.experiments.specs.declared.plan.PlanFault.{PlanFault}
 use Rattle.experiments.specs.declared.plan.PlanFault.TheVariants.{Memory, Sink}
 
--- the harms of a scramble by a generator; none where there is none
+-- the harms of a scramble by a generator; none if there is none
 abbrev pub harms_of : Network → Option Lcg → List Event
 harms_of net None = []
 harms_of net (Some g) = (draw_world net g).0
@@ -35,7 +35,7 @@ turns net w (Some ticks) order = ordered_back net (ticks - 1) w order
 abbrev pub planned : Network → Option Lcg → Option ℕ → Order → List Event
 planned net scramble loan order = harms_of net scramble ++ turns net (run (default_world net) (harms_of net scramble)) loan order
 
--- that the sink failed is answered only where its count of failures rose
+-- that the sink failed is answered only if its count of failures rose
 abbrev pub CountsSinkFailures : {T : Type 0} → Result T PlanFault → ℕ → ℕ → Type 0
 CountsSinkFailures (Ok _) failures more = failures ≤ more
 CountsSinkFailures (Err Memory) failures more = failures ≤ more

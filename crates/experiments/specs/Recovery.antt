@@ -32,7 +32,7 @@ pub record IsLastFailure (start : World) (es : List Event) (sweeps : ℕ) : Type
   pub fails : ¬ IsServing (run start front)
   pub serves_then : ServesBehindEach (run start front) back
 
--- what is known of the last failure of a run: where there is none, it serves at every moment
+-- what is known of the last failure of a run: if there is none, it serves at every moment
 abbrev pub FailedLast : World → List Event → Option ℕ → Type 0
 FailedLast start es None = IsServing start × ServesBehindEach start es
 FailedLast start es (Some sweeps) = IsLastFailure start es sweeps
@@ -43,11 +43,11 @@ pub record IsWatched (start : World) (es : List Event) (judge : JudgeView) (last
   pub seen : HasSeen judge start es
   pub failed : FailedLast start es last
 
--- one moment more: where the network serves now the last failure is the one before, else it is now
+-- one moment more: if the network serves now the last failure is the one before, else it is now
 abbrev pub IsLastNow : World → ℕ → Option ℕ → Option ℕ → Type 0
 IsLastNow now sweeps before after = (IsServing now × (after ≡ before)) ⊎ ((¬ IsServing now) × (after ≡ Some sweeps))
 
--- one sweep more than at the last failure; none where there was none
+-- one sweep more than at the last failure; none if there was none
 abbrev pub counted_from : Option ℕ → ℕ
 counted_from None = 0
 counted_from (Some last) = counted_up_to (last + 1)

@@ -23,5 +23,6 @@ mod watch;
 
 pub use measured_run::{Recovery, Scheduler, measure_run};
 pub use plan::{Order, PlanFault, give_plan};
+pub use schedules;
 pub use summary::{Summary, summary_of};
 pub use watch::Watch;

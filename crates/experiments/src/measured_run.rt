@@ -54,7 +54,7 @@ const PLAIN: Chances = Chances {
 /// lock gives it back.
 ///
 /// # Errors
-/// `AllocError` where the memory of the world or of its harms is refused.
+/// `AllocError` if the memory of the world or of its harms is refused.
 pub fn measure_run<A: Allocator + Copy>(
     alloc: A,
     net: &Net<A>,
@@ -102,7 +102,7 @@ fn scrambled_world<A: Allocator + Copy>(
     Ok(world)
 }
 
-/// Lets harms happen; none is refused where no client waits.
+/// Lets harms happen; none is refused if no client waits.
 fn happen<A: Allocator + Copy>(world: &mut World<A>, harms: &[Event])
     ensures { world_of world.new ≡ run (world_of world.old) harms.now }
 {

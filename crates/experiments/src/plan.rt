@@ -1,4 +1,4 @@
-//! A whole schedule: a scramble where it is asked for, and then rounds or random steps.
+//! A whole schedule: a scramble if it is asked for, and then rounds or random steps.
 ghost use Rattle.std.specs.Prelude.{◌≡◌, OnOk};
 ghost use Rattle.byte_streams.specs.Streams.{CountsFailures};
 ghost use Rattle.configuration.specs.ConfigurationView.{world_of};
@@ -67,7 +67,7 @@ impl From<Failed> for PlanFault {
 /// world, and there none of the events is refused. Of memory it takes a world and the list of the harms.
 ///
 /// # Errors
-/// `Memory` where that is refused; `Sink` where the sink failed, and then it took a beginning of
+/// `Memory` if that is refused; `Sink` if the sink failed, and then it took a beginning of
 /// the events.
 pub fn give_plan<A: Allocator + Copy, S: EventSink>(
     alloc: A,
@@ -111,7 +111,7 @@ fn give_turns<A: Allocator + Copy, S: EventSink>(
     }
 }
 
-/// Draws the harms of a scramble where there is a generator, lets them happen, and gives them to
+/// Draws the harms of a scramble if there is a generator, lets them happen, and gives them to
 /// the sink.
 fn give_scramble<A: Allocator + Copy, S: EventSink>(
     alloc: A,

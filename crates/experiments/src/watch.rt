@@ -6,11 +6,10 @@ ghost use Rattle.experiments.specs.Recovery.{counted_from, IsWatched};
 ghost use Rattle.experiments.specs.Watched.{GoesOn};
 
 use byte_streams::Failed;
-use configuration::Configuration;
+use configuration::{Configuration, serves, serves_after, touched_sight};
 use judge::{Judge, World};
 use run_model::Event;
 use schedules::EventSink;
-use serving::{serves, serves_behind, touched_sight};
 use std::alloc::{Allocator, Global};
 use std::marker::Model;
 
@@ -94,7 +93,7 @@ impl<A: Allocator + Copy> EventSink for Watch<A> {
 
     ghost failures = { λ w. 0 };
 
-    /// It never fails. The whole network is looked at only where the node that the event touches
+    /// It never fails. The whole network is looked at only if the node that the event touches
     /// looks otherwise after it, and at harms.
     fn take(&mut self, event: &Event) -> Result<(), Failed>
         ensures taken { GoesOn self.old.judge self.old.last (event.now ∷ []) self.new.judge
@@ -104,7 +103,7 @@ impl<A: Allocator + Copy> EventSink for Watch<A> {
         let before = touched_sight(self.judge.configuration(), event);
         let _answer = self.judge.step(event);
         let now = self.judge.configuration();
-        self.serves = serves_behind(now, event, self.serves, before);
+        self.serves = serves_after(now, event, self.serves, before);
         self.last = last_failure(self.serves, self.judge.sweeps(), self.last);
         Ok(())
     }

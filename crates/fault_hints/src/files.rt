@@ -74,6 +74,11 @@ fn explain_text<R: Files + Eprint + AllocGlobal>(rt: &R, file: &str) {
     }
 }
 
+/// Says that a network has no node of this id.
+pub fn explain_id<R: Eprint>(rt: &R, file: &str, id: u16) {
+    let _ = eprintln!(rt; "tokentree: {file}: no node {id} is in it");
+}
+
 /// Says what the system said of a file that cannot be read, if it says so still.
 pub fn explain_reading<R: Files + Eprint>(rt: &R, path: &str) {
     if let Err(error) = fs::open(rt, path) {

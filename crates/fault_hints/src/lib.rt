@@ -17,6 +17,6 @@ mod files;
 mod mistakes;
 mod output;
 
-pub use files::{explain_network, explain_reading, explain_swap, explain_writing};
+pub use files::{explain_id, explain_network, explain_reading, explain_swap, explain_writing};
 pub use mistakes::one_line;
 pub use output::{CLOSED_PIPE, Wrote, how_written, output_status, why_refused};

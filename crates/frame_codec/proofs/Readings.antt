@@ -1,4 +1,4 @@
--- A line is read as a frame exactly where it is the frame's spelling and the frame is in range.
+-- A line is read as a frame exactly if it is the frame's spelling and the frame is in range.
 use Rattle.std.proofs.Common.{◌≡◌, ◌≢◌, ℕ, ◌+◌, ◌*◌, ◌/◌, ◌%◌, ◌^◌, ◌<◌, ◌&&◌, Bool, true, List, ◌∷◌, ◌++◌, length, take, drop, slice_index, Option, None, Some, IfSome, IsTrue, refl, ap, sym, ◌∙◌, arith, if◌then◌else◌}
 use Rattle.std.proofs.lemmas.Grind.{common_steps}
 use Rattle.std.proofs.lemmas.Slice.Eq.{bytes_eq-Decides}

@@ -15,7 +15,7 @@ pub record AreNarrow (r : Ranges) : Type 0 where
   pub counter : r.counter < 2 ^ 16
   pub ring : r.ring < 2 ^ 16
 
--- a line is read as a frame exactly where it is the frame's spelling and the frame is in range
+-- a line is read as a frame exactly if it is the frame's spelling and the frame is in range
 abbrev pub OneReading : Type 0
 OneReading = (r : Ranges) → AreNarrow r → (line : List ℕ) (f : Frame)
     → (frame_of r line ≡ Some f) ↔ ((line ≡ spelling f) × IsTrue (frame_fits r f))

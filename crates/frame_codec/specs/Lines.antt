@@ -7,7 +7,7 @@ use Rattle.byte_lines.specs.Kept.{Kept, kept, StandsAfter}
 use Rattle.byte_lines.specs.Lines.{lines_after, half_after}
 use Rattle.frame_codec.specs.Reading.{frame_of}
 
--- the frames of the lines that end in a text, where a half line came before
+-- the frames of the lines that end in a text, after a half line that came before
 abbrev pub frames_after : Ranges → List ℕ → List ℕ → List Frame
 frames_after r half text = filter_map (frame_of r) (lines_after half text)
 

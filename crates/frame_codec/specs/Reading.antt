@@ -32,7 +32,7 @@ candidate line = record {
   };
 }
 
--- a line is read as the frame that it spells, where that is in range
+-- a line is read as the frame that it spells, if that is in range
 unfoldable pub frame_of : Ranges → List ℕ → Option Frame
 frame_of r line =
     let f = candidate line in

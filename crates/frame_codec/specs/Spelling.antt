@@ -10,7 +10,7 @@ digit d = if nat_lt d 10 then 48 + d else 87 + d
 abbrev pub digits : ℕ → List ℕ
 digits n = digit (n / 4096 % 16) ∷ digit (n / 256 % 16) ∷ digit (n / 16 % 16) ∷ digit (n % 16) ∷ []
 
--- a parent as a number, where ffff stands for none
+-- a parent as a number, and ffff stands for none
 abbrev pub parent_number : Option ℕ → ℕ
 parent_number None = 65535
 parent_number (Some p) = p

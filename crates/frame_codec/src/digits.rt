@@ -29,7 +29,7 @@ pub fn digits(number: u16) -> [u8; 4]
     ]
 }
 
-/// The value of a digit; none where the byte is no lower-case hexadecimal digit.
+/// The value of a digit; none if the byte is no lower-case hexadecimal digit.
 fn digit_value(byte: u8) -> Option<u16>
     ensures some { IfSome result (λ value. (value < 16) × (byte ≡ digit value)
         × (value ≡ digit_value byte)) }
@@ -42,7 +42,7 @@ fn digit_value(byte: u8) -> Option<u16>
     }
 }
 
-/// The number whose four digits stand from an index on; none where no number's do.
+/// The number whose four digits stand from an index on; none if no number's do.
 pub fn number_at(line: &[u8], at: usize) -> Option<u16>
     requires { at + 4 ≤ length line.now }
     // The four bytes are the digits of this number.

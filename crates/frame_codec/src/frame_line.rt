@@ -28,7 +28,7 @@ pub fn encode(frame: &Frame) -> [u8; 22]
     line
 }
 
-/// The frame of a line without its newline: a frame exactly where the line is the frame's spelling
+/// The frame of a line without its newline: a frame exactly if the line is the frame's spelling
 /// and the frame is in range on the network.
 pub fn decode(line: &[u8], net: &Net) -> Option<Frame>
     // No frame but one that the line spells, and that is in range.

@@ -14,7 +14,7 @@ pub fn encode_hello(id: u16) -> [u8; 6]
     [b'H', a, b, c, d, b'\n']
 }
 
-/// The sender of a hello without its newline: an id exactly where the line is the id's hello and
+/// The sender of a hello without its newline: an id exactly if the line is the id's hello and
 /// the id is a node of the network.
 pub fn decode_hello(line: &[u8], net: &Net) -> Option<u16>
     ensures found { IfSome result (λ id. (line.now ≡ hello id) × (id < net.now.nodes)) }

@@ -1,7 +1,7 @@
 //! The laws of frame lines.
 ghost use Rattle.frame_codec.specs.Laws.{OneReading, AnyCutting, JunkEndsAtNewline};
 
-/// A line is read as a frame exactly where it is the frame's spelling and the frame is in range. So
+/// A line is read as a frame exactly if it is the frame's spelling and the frame is in range. So
 /// what is encoded is read again, no two frames share a line, and no other line is read. Whoever
 /// sends frames as text stands on it.
 pub fn one_reading()

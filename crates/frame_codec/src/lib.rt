@@ -2,7 +2,7 @@
 //!
 //! A frame is 22 bytes: `F`, then its number, acknowledgement, distance, parent and ring value as
 //! four lower-case hexadecimal digits each, and a newline; the parent `ffff` is none. A line is a
-//! frame exactly where it is the spelling of a frame whose fields are in range on the network.
+//! frame exactly if it is the spelling of a frame whose fields are in range on the network.
 //! Every other line is noise, of whatever length: junk spoils the line that it joins, up to its
 //! newline, and no part of that line is read as a frame.
 //!

@@ -38,7 +38,7 @@ impl LineReader {
         }
     }
 
-    /// Reads one byte: a frame exactly where the byte ends a good line.
+    /// Reads one byte: a frame exactly if the byte ends a good line.
     pub fn push(&mut self, byte: u8, net: &Net) -> Option<Frame>
         ensures frames { ReadsFrames (ranges_of net.now) self.old self.new (byte ∷ [])
             (option_to_list result) }
@@ -52,10 +52,10 @@ impl LineReader {
     }
 
     /// Reads a piece of the stream up to the end of the first good line that ends in it, or all of
-    /// it where none does: how many bytes it read, and the frame of that line.
+    /// it if none does: how many bytes it read, and the frame of that line.
     pub fn next_frame(&mut self, piece: &[u8], net: &Net) -> (usize, Option<Frame>)
         ensures used { result.0 ≤ length piece.now }
-        // Where no good line ends, the piece is read to its end.
+        // If no good line ends, the piece is read to its end.
         ensures all { IfNone result.1 (result.0 ≡ length piece.now) }
         // The frames are those of the good lines that end in the bytes read: one, or none.
         ensures frames { ReadsFrames (ranges_of net.now) self.old self.new (take result.0 piece.now)
@@ -77,7 +77,7 @@ impl LineReader {
     }
 
     /// Reads a piece of the stream, and puts the frames of the good lines that end in it at the end
-    /// of `out`. Where the room for as many as can end in it is refused, nothing is read.
+    /// of `out`. If the room for as many as can end in it is refused, nothing is read.
     pub fn feed<A: Allocator>(
         &mut self,
         piece: &[u8],

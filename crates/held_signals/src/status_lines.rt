@@ -151,7 +151,7 @@ fn entry_of(line: &[u8]) -> StatusEntry
     }
 }
 
-/// What a line says that does not tell which signals are held back.
+/// What a line says that does not show which signals are held back.
 fn pending_of(line: &[u8]) -> StatusEntry
     ensures { result ≡ pending_of line.now }
 {
@@ -161,7 +161,7 @@ fn pending_of(line: &[u8]) -> StatusEntry
     }
 }
 
-/// What a line says that does not tell which signals came to the thread.
+/// What a line says that does not show which signals came to the thread.
 fn shared_of(line: &[u8]) -> StatusEntry
     ensures { result ≡ shared_of line.now }
 {
@@ -171,7 +171,7 @@ fn shared_of(line: &[u8]) -> StatusEntry
     }
 }
 
-/// What a line says that tells neither which signals are held back nor which came.
+/// What a line says that shows neither which signals are held back nor which came.
 fn ignored_of(line: &[u8]) -> StatusEntry
     ensures { result ≡ ignored_of line.now }
 {

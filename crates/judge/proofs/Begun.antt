@@ -4,7 +4,7 @@ use Rattle.std.proofs.lemmas.Bool.{false≢true}
 use Rattle.std.proofs.lemmas.Grind.{common_steps}
 use Rattle.std.proofs.lemmas.List.Folds.{list_any_at, list_any_more}
 use Rattle.topology.specs.Network.{Edge, Network, are_joined, is_between}
-use Rattle.run_model.specs.World.{World, at_pair}
+use Rattle.configuration.specs.run_model.World.{World, at_pair}
 use Rattle.judge.specs.declared.tallies.Tally.{Tally}
 use Rattle.judge.specs.Tallies.{has_place, tally_of, first_tally}
 use Rattle.judge.specs.Stretch.{StretchView, IsRoomFor, has_bit, IsKept}
@@ -27,7 +27,7 @@ joins-back edges i there =
     let e = get_or edges i (0, 0) in
     list_any_at (is_between e.1 e.0) edges i (0, 0) there (grind (arith, common_steps))
 
--- where there is room for a network both links of each edge have a place
+-- if there is room for a network both links of each edge have a place
 module _ (net : Network) (edges : List Edge) (same : edges ≡ net.edges) (i : ℕ) (there : i < length edges) (s : StretchView) (room : IsRoomFor net s) where
   pub placed-out : IsTrue (has_place s.tallies.table (get_or edges i (0, 0)).0 (get_or edges i (0, 0)).1)
   placed-out = room.placed _ _ (subst (λ es. IsTrue (are_joined es (get_or edges i (0, 0)).0 (get_or edges i (0, 0)).1)) same (joins-ends edges i there))

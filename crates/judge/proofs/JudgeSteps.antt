@@ -3,17 +3,17 @@ use Rattle.std.proofs.Common.{◌≡◌, ◌∙◌, sym, ap, subst, ℕ, ◌+◌
 use Rattle.std.proofs.lemmas.Grind.{common_steps}
 use Rattle.topology.specs.Network.{Network, are_joined}
 use Rattle.configuration.specs.PairTable.{PairTableView}
-use Rattle.run_model.specs.World.{World}
-use Rattle.run_model.specs.Step.{first_fault, link_fault, node_fault, refusal, step, unless}
-use Rattle.run_model.specs.Run.{is_damage, IsUndamaged}
-use Rattle.run_model.specs.Happened.{happened, taken_of}
-use Rattle.run_model.specs.Count.{IsSweepCount}
-use Rattle.run_model.specs.declared.event.Event.{Event}
-use Rattle.run_model.specs.declared.event.Event.TheVariants.{Send, Take, Lose, Tick, Ask, Leave, Damage}
-use Rattle.run_model.specs.declared.happened.Happened.{Happened}
-use Rattle.run_model.specs.declared.happened.Happened.TheVariants.{FullTick, LendingTick, Damaged}
-use Rattle.run_model.specs.declared.event.EventFault.{EventFault}
-use Rattle.run_model.specs.declared.event.EventFault.TheVariants.{NoItem}
+use Rattle.configuration.specs.run_model.World.{World}
+use Rattle.configuration.specs.run_model.Step.{first_fault, link_fault, node_fault, refusal, step, unless}
+use Rattle.configuration.specs.run_model.Run.{is_damage, IsUndamaged}
+use Rattle.configuration.specs.run_model.Happened.{happened, taken_of}
+use Rattle.configuration.specs.run_model.Count.{IsSweepCount}
+use Rattle.configuration.specs.run_model.declared.event.Event.{Event}
+use Rattle.configuration.specs.run_model.declared.event.Event.TheVariants.{Send, Take, Lose, Tick, Ask, Leave, Damage}
+use Rattle.configuration.specs.run_model.declared.happened.Happened.{Happened}
+use Rattle.configuration.specs.run_model.declared.happened.Happened.TheVariants.{FullTick, LendingTick, Damaged}
+use Rattle.configuration.specs.run_model.declared.event.EventFault.{EventFault}
+use Rattle.configuration.specs.run_model.declared.event.EventFault.TheVariants.{NoItem}
 use Rattle.link_model.specs.declared.item.Item.{Item}
 use Rattle.judge.specs.Tallies.{has_place, no_tally, tally_of, tally_behind}
 use Rattle.configuration.specs.ConfigurationView.{world_of}

@@ -4,13 +4,13 @@ use Rattle.std.proofs.Common.{◌≡◌, ◌∙◌, sym, ap, subst, ℕ, ◌+◌
 use Rattle.std.proofs.lemmas.Grind.{common_steps}
 use Rattle.std.proofs.lemmas.List.{append-nil}
 use Rattle.topology.specs.Network.{are_joined}
-use Rattle.run_model.specs.World.{World, IsWorldInRange}
-use Rattle.run_model.specs.Step.{refusal, step}
-use Rattle.run_model.specs.Run.{run, is_damage, IsUndamaged}
-use Rattle.run_model.specs.Sweep.{IsSweep}
-use Rattle.run_model.specs.Count.{Moment, after_damage, IsGreatestCount, IsSweepCount}
-use Rattle.run_model.specs.Greedy.{IsCounted}
-use Rattle.run_model.specs.declared.event.Event.{Event}
+use Rattle.configuration.specs.run_model.World.{World, IsWorldInRange}
+use Rattle.configuration.specs.run_model.Step.{refusal, step}
+use Rattle.configuration.specs.run_model.Run.{run, is_damage, IsUndamaged}
+use Rattle.configuration.specs.run_model.Sweep.{IsSweep}
+use Rattle.configuration.specs.run_model.Count.{Moment, after_damage, IsGreatestCount, IsSweepCount}
+use Rattle.configuration.specs.run_model.Greedy.{IsCounted}
+use Rattle.configuration.specs.run_model.declared.event.Event.{Event}
 use Rattle.judge.specs.Stretch.{StretchView, IsComplete, IsKept}
 use Rattle.judge.specs.Judging.{refused_in, counted_up_to, IsJudging}
 use Rattle.judge.specs.Below.{Below}

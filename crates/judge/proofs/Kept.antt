@@ -2,17 +2,17 @@
 use Rattle.std.proofs.Common.{◌≡◌, ◌∙◌, sym, ap, subst, ℕ, ◌<◌, ◌≤◌, ◌⊎◌, inl, inr, Bool, true, false, not, ◌&&◌, ◌||◌, nat_lt, ◌==◌, suc, if◌then◌else◌, is_none, IsTrue, is_some, List, [], ◌∷◌, ◌++◌, length, arith, refl}
 use Rattle.std.proofs.lemmas.Grind.{common_steps}
 use Rattle.topology.specs.Network.{are_joined}
-use Rattle.run_model.specs.World.{World, IsWorldInRange}
-use Rattle.run_model.specs.Step.{refusal, step}
-use Rattle.run_model.specs.Run.{run, IsUndamaged}
-use Rattle.run_model.specs.Sweep.{IsSweep, is_link, link_act, is_full_tick, is_renewed}
-use Rattle.run_model.specs.Stretch.{old_items, old_after, takes_new}
-use Rattle.run_model.specs.declared.event.Event.{Event}
-use Rattle.run_model.specs.Happened.{happened, taken_of}
-use Rattle.run_model.specs.declared.happened.Happened.{Happened}
-use Rattle.run_model.specs.declared.happened.Happened.TheVariants.{FullTick, LendingTick}
-use Rattle.run_model.specs.declared.event.Event.TheVariants.{Send, Take, Lose, Tick, Ask, Leave, Damage}
-use Rattle.data_link.specs.Sweep.{Puts, Takes, Loses, Rests}
+use Rattle.configuration.specs.run_model.World.{World, IsWorldInRange}
+use Rattle.configuration.specs.run_model.Step.{refusal, step}
+use Rattle.configuration.specs.run_model.Run.{run, IsUndamaged}
+use Rattle.configuration.specs.run_model.Sweep.{IsSweep, is_link, link_act, is_full_tick, is_renewed}
+use Rattle.configuration.specs.run_model.Stretch.{old_items, old_after, takes_new}
+use Rattle.configuration.specs.run_model.declared.event.Event.{Event}
+use Rattle.configuration.specs.run_model.Happened.{happened, taken_of}
+use Rattle.configuration.specs.run_model.declared.happened.Happened.{Happened}
+use Rattle.configuration.specs.run_model.declared.happened.Happened.TheVariants.{FullTick, LendingTick}
+use Rattle.configuration.specs.run_model.declared.event.Event.TheVariants.{Send, Take, Lose, Tick, Ask, Leave, Damage}
+use Rattle.configuration.specs.data_link.Sweep.{Puts, Takes, Loses, Rests}
 use Rattle.link_model.specs.declared.item.Item.{Item}
 use Rattle.judge.specs.declared.tallies.Tally.{Tally}
 use Rattle.judge.specs.Tallies.{tally_of, tally_after, tally_behind}
@@ -54,7 +54,7 @@ module _ (laws : Below) (w : World) (es : List Event) (s : StretchView) (ok : Is
 
 -- ---- one more event
 
--- what one more event makes of what is kept, where it is not refused and no damage
+-- what one more event makes of what is kept, if it is not refused and no damage
 pub record IsNoted (now : World) (e : Event) (s new : StretchView) : Type 0 where
   pub nodes : new.tallies.table.nodes ≡ s.tallies.table.nodes
   pub lacking : (v : ℕ) → has_bit new.lacking v ≡ (has_bit s.lacking v && not (is_full_tick now e v))

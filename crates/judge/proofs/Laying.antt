@@ -5,7 +5,7 @@ use Rattle.std.proofs.lemmas.Grind.{common_steps}
 use Rattle.std.proofs.lemmas.List.{length-replicate, take_more}
 use Rattle.std.proofs.lemmas.List.Folds.{list_any-append}
 use Rattle.topology.specs.Network.{Edge, Network, IsAcceptedNetwork, are_joined, is_between}
-use Rattle.run_model.specs.World.{at_pair}
+use Rattle.configuration.specs.run_model.World.{at_pair}
 use Rattle.configuration.specs.PairTable.{PairTableView, value_at}
 use Rattle.configuration.specs.Placed.{joined_too}
 use Rattle.judge.specs.declared.tallies.Tally.{Tally}

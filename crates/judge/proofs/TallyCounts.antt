@@ -31,7 +31,7 @@ unrenewed-set [] i new d l = absurd (omega (arith, l))
 unrenewed-set (t ∷ ts) zero new d l = omega arith
 unrenewed-set (t ∷ ts) (suc i) new d l = omega (arith, unrenewed-set ts i new d (omega (arith, l)))
 
--- none is missing exactly where each link is renewed
+-- none is missing exactly if each link is renewed
 none-missing : (ts : List Tally) (i : ℕ) → unrenewed_in ts ≡ 0 → (slice_index_or ts i no_tally).renewed ≡ true
 none-missing [] i none = refl
 none-missing (t ∷ ts) zero none = let h : missing t ≡ 0 = omega (arith, none) in grind (arith, common_steps)

@@ -1,7 +1,7 @@
 -- A tally is read at its own place.
 use Rattle.std.proofs.Common.{◌≡◌, ℕ, ◌<◌, ◌⊎◌, inl, inr, true, IsTrue, arith, slice_set, slice_index_or}
 use Rattle.std.proofs.lemmas.Grind.{common_steps}
-use Rattle.run_model.specs.World.{at_pair}
+use Rattle.configuration.specs.run_model.World.{at_pair}
 use Rattle.configuration.specs.PairTable.{value_at}
 use Rattle.judge.specs.declared.tallies.Tally.{Tally}
 use Rattle.judge.specs.Tallies.{TalliesView, IsTallied, IsOfNodes, has_place, no_tally, tally_of}

@@ -3,19 +3,19 @@ use Rattle.std.proofs.Common.{◌≡◌, ◌∙◌, sym, ap, subst, ℕ, ◌+◌
 use Rattle.std.proofs.lemmas.Bool.{or_right}
 use Rattle.std.proofs.lemmas.Grind.{common_steps}
 use Rattle.link_model.specs.declared.item.Item.{Item}
-use Rattle.node_core.specs.Machines.{is_node_privileged}
-use Rattle.node_core.specs.State.{LocalState}
-use Rattle.run_model.specs.World.{World, IsWorldInRange, site, with_node, with_link}
-use Rattle.run_model.specs.Step.{refusal, step, changed, handed_over, has_room}
-use Rattle.run_model.specs.Run.{run, is_damage}
-use Rattle.run_model.specs.Count.{after_damage}
-use Rattle.run_model.specs.Happened.{happened, taken_of}
-use Rattle.run_model.specs.Privilege.{is_privileged}
-use Rattle.run_model.specs.Visited.{is_privileged_once, is_visited}
-use Rattle.run_model.specs.declared.event.Event.{Event}
-use Rattle.run_model.specs.declared.event.Event.TheVariants.{Send, Take, Lose, Tick, Ask, Leave, Damage}
-use Rattle.run_model.specs.declared.happened.Happened.{Happened}
-use Rattle.run_model.specs.declared.happened.Happened.TheVariants.{FullTick, LendingTick, Damaged}
+use Rattle.configuration.specs.node_core.Machines.{is_node_privileged}
+use Rattle.configuration.specs.node_core.State.{LocalState}
+use Rattle.configuration.specs.run_model.World.{World, IsWorldInRange, site, with_node, with_link}
+use Rattle.configuration.specs.run_model.Step.{refusal, step, changed, handed_over, has_room}
+use Rattle.configuration.specs.run_model.Run.{run, is_damage}
+use Rattle.configuration.specs.run_model.Count.{after_damage}
+use Rattle.configuration.specs.run_model.Happened.{happened, taken_of}
+use Rattle.configuration.specs.run_model.Privilege.{is_privileged}
+use Rattle.configuration.specs.run_model.Visited.{is_privileged_once, is_visited}
+use Rattle.configuration.specs.run_model.declared.event.Event.{Event}
+use Rattle.configuration.specs.run_model.declared.event.Event.TheVariants.{Send, Take, Lose, Tick, Ask, Leave, Damage}
+use Rattle.configuration.specs.run_model.declared.happened.Happened.{Happened}
+use Rattle.configuration.specs.run_model.declared.happened.Happened.TheVariants.{FullTick, LendingTick, Damaged}
 use Rattle.judge.specs.Below.{Below}
 use Rattle.judge.specs.Stretch.{has_bit, names_below}
 use Rattle.judge.specs.Visited.{AreVisited, ticked_or_took}
@@ -164,7 +164,7 @@ module _ (laws : Below) (start : World) (es : List Event) (e : Event) (now next 
         (seen v) (visited-now v)
         (more (damage-refused now e refused) v ∙ ap (λ w. is_visited start es v || is_privileged w v) (laws.refused now e refused))
 
-    -- any other adds the node that ticked or took, where that is privileged
+    -- any other adds the node that ticked or took, if that is privileged
     pub visited-goes_on : (new : ℕ) (did : Happened) → refusal now e ≡ None → did ≡ happened now e → ¬ (did ≡ Damaged)
         → ((v : ℕ) → has_bit new v ≡ (has_bit mask v || (ticked_or_took v did && is_privileged next v)))
         → AreVisited start (es ++ e ∷ []) new

@@ -1,6 +1,6 @@
 -- What the judge's crate knows of runs and networks: laws of the crates below.
 use Rattle.topology.specs.Laws.{JoinedAreNodes, Limits}
-use Rattle.run_model.specs.Laws.{RefusedChangesNothing, NetworkStays, FrameStays, RunsJoin, UndamagedSplits, RangesStay, TicksGoOn, RenewedGoesOn, OldItemsStart, OldItemsGoOn, OldItemsAreThere, CountedIsGreatest, CountStarts, CountStays, CountRises, MomentLeads, MomentStays, MomentMoves, VisitsGoOn}
+use Rattle.configuration.specs.run_model.Laws.{RefusedChangesNothing, NetworkStays, FrameStays, RunsJoin, UndamagedSplits, RangesStay, TicksGoOn, RenewedGoesOn, OldItemsStart, OldItemsGoOn, OldItemsAreThere, CountedIsGreatest, CountStarts, CountStays, CountRises, MomentLeads, MomentStays, MomentMoves, VisitsGoOn}
 
 pub record Below : Type 0 where
   pub joined_nodes : JoinedAreNodes

@@ -1,12 +1,12 @@
 -- What contracts see of a judge.
 use Rattle.std.specs.Prelude.{◌≡◌, ℕ, ◌+◌, not, ◌&&◌, nat_lt, List, [], ◌∷◌, ◌++◌}
-use Rattle.run_model.specs.World.{World}
-use Rattle.run_model.specs.Run.{run}
-use Rattle.run_model.specs.Sweep.{has_full_tick, is_renewed}
-use Rattle.run_model.specs.Stretch.{old_items}
-use Rattle.run_model.specs.Count.{IsSweepCount, after_damage}
-use Rattle.run_model.specs.Greedy.{IsCounted}
-use Rattle.run_model.specs.declared.event.Event.{Event}
+use Rattle.configuration.specs.run_model.World.{World}
+use Rattle.configuration.specs.run_model.Run.{run}
+use Rattle.configuration.specs.run_model.Sweep.{has_full_tick, is_renewed}
+use Rattle.configuration.specs.run_model.Stretch.{old_items}
+use Rattle.configuration.specs.run_model.Count.{IsSweepCount, after_damage}
+use Rattle.configuration.specs.run_model.Greedy.{IsCounted}
+use Rattle.configuration.specs.run_model.declared.event.Event.{Event}
 use Rattle.judge.specs.Judging.{counted_up_to, refused_in, IsJudging}
 use Rattle.judge.specs.Stretch.{StretchView, has_bit}
 use Rattle.judge.specs.declared.tallies.Tally.{Tally}

@@ -1,11 +1,11 @@
 -- What a judge has counted of a run, and what is to hold of it.
 use Rattle.std.specs.Prelude.{◌≡◌, ℕ, ◌+◌, ◌-◌, ◌^◌, min, if◌then◌else◌, is_some, List, [], ◌∷◌, ◌++◌}
-use Rattle.run_model.specs.World.{World, IsWorldInRange}
-use Rattle.run_model.specs.Step.{refusal, step}
-use Rattle.run_model.specs.Run.{run}
-use Rattle.run_model.specs.Count.{after_damage}
-use Rattle.run_model.specs.Greedy.{IsCounted}
-use Rattle.run_model.specs.declared.event.Event.{Event}
+use Rattle.configuration.specs.run_model.World.{World, IsWorldInRange}
+use Rattle.configuration.specs.run_model.Step.{refusal, step}
+use Rattle.configuration.specs.run_model.Run.{run}
+use Rattle.configuration.specs.run_model.Count.{after_damage}
+use Rattle.configuration.specs.run_model.Greedy.{IsCounted}
+use Rattle.configuration.specs.run_model.declared.event.Event.{Event}
 use Rattle.judge.specs.Stretch.{StretchView, IsKept}
 
 -- how many events of a list are refused

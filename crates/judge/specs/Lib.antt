@@ -1,3 +1,6 @@
+pub use Rattle.configuration.specs.run_model as run_model
+pub use Rattle.configuration.specs.node_core as node_core
+pub use Rattle.configuration.specs as configuration
 pub mod Tallies
 pub mod Laid
 pub mod Stretch

@@ -1,6 +1,6 @@
 -- What a world is made of.
 use Rattle.std.specs.Prelude.{List}
-use Rattle.node_core.specs.View.{NodeView}
+use Rattle.configuration.specs.node_core.View.{NodeView}
 use Rattle.configuration.specs.LinksView.{LinksView}
 use Rattle.judge.specs.Stretch.{StretchView, HasRoomFor}
 use Rattle.configuration.specs.ConfigurationView.{AreNodesOf}

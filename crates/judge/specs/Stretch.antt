@@ -2,12 +2,12 @@
 use Rattle.std.specs.Prelude.{◌≡◌, ℕ, ◌<◌, Bool, true, false, not, ◌==◌, ◌&&◌, nat_lt, IsTrue, List}
 use Rattle.std.specs.Int.{bit_at}
 use Rattle.topology.specs.Network.{Network, are_joined}
-use Rattle.run_model.specs.World.{World}
-use Rattle.run_model.specs.Sweep.{has_full_tick, is_renewed}
-use Rattle.run_model.specs.Stretch.{old_items}
-use Rattle.run_model.specs.declared.event.Event.{Event}
-use Rattle.run_model.specs.declared.happened.Happened.{Happened}
-use Rattle.run_model.specs.declared.happened.Happened.TheVariants.{FullTick, LendingTick, Taken, Lost}
+use Rattle.configuration.specs.run_model.World.{World}
+use Rattle.configuration.specs.run_model.Sweep.{has_full_tick, is_renewed}
+use Rattle.configuration.specs.run_model.Stretch.{old_items}
+use Rattle.configuration.specs.run_model.declared.event.Event.{Event}
+use Rattle.configuration.specs.run_model.declared.happened.Happened.{Happened}
+use Rattle.configuration.specs.run_model.declared.happened.Happened.TheVariants.{FullTick, LendingTick, Taken, Lost}
 use Rattle.configuration.specs.PairTable.{PairTableView}
 use Rattle.judge.specs.Tallies.{TalliesView, tally_of, has_place}
 

@@ -1,11 +1,11 @@
 -- What contracts see of a judge's tallies, one for each link.
 use Rattle.std.specs.Prelude.{◌≡◌, ℕ, ◌+◌, ◌<◌, ◌⊎◌, Bool, true, false, not, ◌==◌, ◌||◌, if◌then◌else◌, List, [], ◌∷◌, length, slice_index_or}
-use Rattle.data_link.specs.Sweep.{LinkAct, Takes, Loses}
-use Rattle.run_model.specs.World.{World}
-use Rattle.run_model.specs.Stretch.{old_after, takes_new}
-use Rattle.run_model.specs.Sweep.{is_link}
-use Rattle.run_model.specs.declared.happened.Happened.{Happened}
-use Rattle.run_model.specs.declared.happened.Happened.TheVariants.{Taken, Lost}
+use Rattle.configuration.specs.data_link.Sweep.{LinkAct, Takes, Loses}
+use Rattle.configuration.specs.run_model.World.{World}
+use Rattle.configuration.specs.run_model.Stretch.{old_after, takes_new}
+use Rattle.configuration.specs.run_model.Sweep.{is_link}
+use Rattle.configuration.specs.run_model.declared.happened.Happened.{Happened}
+use Rattle.configuration.specs.run_model.declared.happened.Happened.TheVariants.{Taken, Lost}
 use Rattle.judge.specs.declared.tallies.Tally.{Tally}
 use Rattle.configuration.specs.PairTable.{PairTableView, value_at}
 
@@ -28,7 +28,7 @@ tally_of t u v = slice_index_or t.places (value_at t.table u v) no_tally
 abbrev pub has_place : PairTableView → ℕ → ℕ → Bool
 has_place table u v = not (value_at table u v == 0)
 
--- what an act makes of a tally, where `under_way` items stand on the link
+-- what an act makes of a tally, if `under_way` items stand on the link
 abbrev pub tally_after : LinkAct → ℕ → Tally → Tally
 tally_after act under_way t = record { old = old_after act t.old; renewed = t.renewed || takes_new act t.old under_way }
 
@@ -42,7 +42,7 @@ tally_behind u v _ t = t
 abbrev pub IsOfNodes : PairTableView → ℕ → Type 0
 IsOfNodes table p = (u : ℕ) × (v : ℕ) × (u < table.nodes) × (v < table.nodes) × (value_at table u v ≡ p)
 
--- 1 where the link is not renewed, else 0
+-- 1 if the link is not renewed, else 0
 abbrev pub missing : Tally → ℕ
 missing t = if t.renewed then 0 else 1
 

@@ -1,15 +1,15 @@
 -- The nodes that the privilege has visited, as a mask with a bit for each.
 use Rattle.std.specs.Prelude.{◌≡◌, ℕ, ◌<◌, Bool, false, ◌==◌, ◌&&◌, nat_lt, IsTrue, List}
 use Rattle.topology.specs.Network.{Network}
-use Rattle.run_model.specs.World.{World}
-use Rattle.run_model.specs.Visited.{is_visited}
-use Rattle.run_model.specs.declared.event.Event.{Event}
-use Rattle.run_model.specs.declared.happened.Happened.{Happened}
-use Rattle.run_model.specs.declared.happened.Happened.TheVariants.{FullTick, LendingTick, Taken}
+use Rattle.configuration.specs.run_model.World.{World}
+use Rattle.configuration.specs.run_model.Visited.{is_visited}
+use Rattle.configuration.specs.run_model.declared.event.Event.{Event}
+use Rattle.configuration.specs.run_model.declared.happened.Happened.{Happened}
+use Rattle.configuration.specs.run_model.declared.happened.Happened.TheVariants.{FullTick, LendingTick, Taken}
 use Rattle.judge.specs.Stretch.{has_bit}
 
 -- The mask has the bits of the nodes that were privileged at some moment since the last accepted
--- damage, the moment right after it among them, or since the start where there was none; and no
+-- damage, the moment right after it among them, or since the start if there was none; and no
 -- other bit.
 abbrev pub AreVisited : World → List Event → ℕ → Type 0
 AreVisited start es mask = (v : ℕ) → has_bit mask v ≡ (nat_lt v start.net.nodes && is_visited start es v)

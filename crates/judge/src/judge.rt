@@ -3,10 +3,10 @@ ghost use Rattle.std.specs.Prelude.{◌≡◌, ◌↔◌, ◌+◌, ◌-◌, ◌^
 ghost use Rattle.std.specs.Prelude.{false, if◌then◌else◌, ◌==◌, List, [], ◌∷◌, ◌++◌, IsTrue, IfErr};
 ghost use Rattle.std.specs.Prelude.{OnOk, None, Some, IfSome, IsSome};
 ghost use Rattle.topology.specs.Network.{are_joined};
-ghost use Rattle.run_model.specs.Step.{refusal, step};
-ghost use Rattle.run_model.specs.Run.{is_damage};
+ghost use Rattle.configuration.specs.run_model.Step.{refusal, step};
+ghost use Rattle.configuration.specs.run_model.Run.{is_damage};
 ghost use Rattle.configuration.specs.ConfigurationView.{world_of};
-ghost use Rattle.run_model.specs.World.{at_pair};
+ghost use Rattle.configuration.specs.run_model.World.{at_pair};
 ghost use Rattle.judge.specs.Tallies.{has_place, tally_of, first_tally};
 ghost use Rattle.judge.specs.Stretch.{IsRoomFor, IsKept, with_looks};
 ghost use Rattle.judge.specs.JudgeView.{HasSeen, HasSeenNext, HasSeenSame, EndsSweep};
@@ -19,7 +19,7 @@ use crate::tallies::Tally;
 use crate::visited::{privileged_nodes, visited_behind};
 use crate::world::World;
 use configuration::Configuration;
-use run_model::{Event, EventFault, Happened};
+use configuration::run_model::{Event, EventFault, Happened};
 use std::alloc::{Allocator, Global};
 use std::marker::Model;
 
@@ -126,7 +126,7 @@ impl<A: Allocator + Copy> Judge<A> {
     }
 
     /// One event happens, as in `World::step`; a refused one is counted. It looks at two tallies at
-    /// most, except where a sweep ends or damage is accepted.
+    /// most, except if a sweep ends or damage is accepted.
     // A call of its own would write the event to memory for each line of a text, and read it again.
     #[inline(always)]
     pub fn step(&mut self, event: &Event) -> Result<(), EventFault>
@@ -137,7 +137,7 @@ impl<A: Allocator + Copy> Judge<A> {
             ≡ Some fault) }
         // Whatever it had seen, it has now seen that and the event.
         ensures judging { HasSeenNext self.old event.now self.new }
-        // More than two tallies only for accepted damage, or where a sweep ends.
+        // More than two tallies only for accepted damage, or if a sweep ends.
         ensures looked { (self.new.stretch.tallies.looked ≤ 2)
             ⊎ IsTrue (is_damage (world_of self.old.configuration) event.now)
             ⊎ EndsSweep self.old event.now }
@@ -189,7 +189,7 @@ impl<A: Allocator + Copy> Judge<A> {
     }
 
     /// The nodes that were privileged at some moment since the last accepted damage, the moment
-    /// right after it among them, or since the start where there was none: bit v stands for node v.
+    /// right after it among them, or since the start if there was none: bit v stands for node v.
     pub fn visited(&self) -> u64
         ensures mask { result ≡ self.now.visited }
         // Whatever it has seen, the privilege was at these nodes and no others.

@@ -7,9 +7,9 @@ pub(crate) fn below()
 {
     topology::laws::joined();
     topology::laws::limits();
-    run_model::laws::runs();
-    run_model::laws::in_range();
-    run_model::laws::stretches();
-    run_model::laws::sweep_counts();
-    run_model::laws::moments();
+    configuration::run_model::laws::runs();
+    configuration::run_model::laws::in_range();
+    configuration::run_model::laws::stretches();
+    configuration::run_model::laws::sweep_counts();
+    configuration::run_model::laws::moments();
 }

@@ -36,6 +36,8 @@ mod tallies;
 mod visited;
 mod world;
 
+pub use configuration;
+pub use configuration::{node_core, run_model};
 pub use judge::Judge;
 pub use parts::Parts;
 pub use stretch::Stretch;

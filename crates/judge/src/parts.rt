@@ -4,8 +4,8 @@ ghost use Rattle.judge.specs.Parts.{AreOneWorlds};
 
 use crate::stretch::Stretch;
 use crate::world::World;
+use configuration::node_core::Node;
 use configuration::{Configuration, Links};
-use node_core::Node;
 use std::alloc::{Allocator, Global};
 
 /// What a world is made of, for those who run its nodes by other means than events, as on threads.

@@ -2,15 +2,15 @@
 ghost use Rattle.std.specs.Prelude.{◌≡◌, ◌↔◌, ◌+◌, ◌-◌, ◌^◌, ◌<◌, ◌≤◌, ◌==◌, ◌&&◌, ℕ, not, min};
 ghost use Rattle.std.specs.Prelude.{nat_lt, IfOk};
 ghost use Rattle.std.specs.Prelude.{IsTrue};
-ghost use Rattle.data_link.specs.Sweep.{Takes, Loses};
+ghost use Rattle.configuration.specs.data_link.Sweep.{Takes, Loses};
 ghost use Rattle.topology.specs.Network.{are_joined};
-ghost use Rattle.run_model.specs.World.{at_pair};
+ghost use Rattle.configuration.specs.run_model.World.{at_pair};
 ghost use Rattle.judge.specs.Tallies.{has_place, no_tally, tally_of, tally_after, tally_behind};
 ghost use Rattle.judge.specs.Stretch.{has_bit, is_full_tick_of, names_below, names_place};
 ghost use Rattle.judge.specs.Stretch.{IsComplete, with_looks};
 
 use crate::tallies::{Tallies, Tally};
-use run_model::Happened;
+use configuration::run_model::Happened;
 use std::alloc::{AllocError, Allocator, Global};
 use std::marker::Model;
 use topology::Net;
@@ -98,7 +98,7 @@ impl<A: Allocator> Stretch<A> {
         self.tallies.set(from, to, tally.lost(item));
     }
 
-    /// Adds what an event did, where it is no damage.
+    /// Adds what an event did, if it is no damage.
     #[inline(always)]
     pub(crate) fn note(&mut self, happened: &Happened)
         requires few { self.old.tallies.table.nodes ≤ 64 }

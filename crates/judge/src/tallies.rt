@@ -2,8 +2,8 @@
 ghost use Rattle.std.specs.Prelude.{◌≡◌, ◌↔◌, ◌+◌, ◌-◌, ◌*◌, ◌^◌, ◌<◌, ℕ, min, length, replicate};
 ghost use Rattle.std.specs.Prelude.{IfOk, IsTrue};
 ghost use Rattle.topology.specs.Network.{IsAcceptedNetwork, are_joined};
-ghost use Rattle.data_link.specs.Sweep.{Takes, Loses};
-ghost use Rattle.run_model.specs.World.{at_pair};
+ghost use Rattle.configuration.specs.data_link.Sweep.{Takes, Loses};
+ghost use Rattle.configuration.specs.run_model.World.{at_pair};
 ghost use Rattle.configuration.specs.PairTable.{value_at};
 ghost use Rattle.judge.specs.Tallies.{has_place, tally_of, tally_after, missing, no_tally};
 ghost use Rattle.judge.specs.Laid.{IsLaid};
@@ -25,7 +25,7 @@ pub struct Tally {
 }
 
 impl Tally {
-    /// 1 where the link is not renewed, else 0.
+    /// 1 if the link is not renewed, else 0.
     fn missing(self) -> usize
         ensures { result ≡ missing self }
     {
@@ -50,7 +50,7 @@ impl Tally {
         }
     }
 
-    /// The tally after the item at an index of the link was lost, where 0 is the oldest.
+    /// The tally after the item at an index of the link was lost, 0 being the oldest.
     pub(crate) fn lost(self, index: u16) -> Tally
         ensures { result ≡ tally_after (Loses index) 0 self }
     {

@@ -1,12 +1,12 @@
 //! The nodes that the privilege has visited, as a mask with a bit for each.
 ghost use Rattle.std.specs.Prelude.{◌≡◌, ◌<◌, ◌==◌, ◌&&◌, ◌||◌, ℕ, nat_lt, IsTrue};
-ghost use Rattle.run_model.specs.Privilege.{is_privileged};
+ghost use Rattle.configuration.specs.run_model.Privilege.{is_privileged};
 ghost use Rattle.configuration.specs.ConfigurationView.{world_of};
 ghost use Rattle.judge.specs.Stretch.{has_bit, names_below};
 ghost use Rattle.judge.specs.Visited.{ticked_or_took};
 
 use configuration::Configuration;
-use run_model::Happened;
+use configuration::run_model::Happened;
 use std::alloc::Allocator;
 
 /// The mask with the bit of a node.
@@ -33,7 +33,7 @@ pub fn privileged_nodes<A: Allocator + Copy>(configuration: &Configuration<A>) -
     mask
 }
 
-/// The mask with the bit of a node, where that is privileged now. It looks at no node whose bit is
+/// The mask with the bit of a node, if that is privileged now. It looks at no node whose bit is
 /// there.
 #[inline(always)]
 fn visit<A: Allocator + Copy>(configuration: &Configuration<A>, mask: u64, node: u16) -> u64
@@ -51,7 +51,7 @@ fn visit<A: Allocator + Copy>(configuration: &Configuration<A>, mask: u64, node:
     }
 }
 
-/// The nodes visited, after what happened, where that is no damage. It looks at the one node that
+/// The nodes visited, after what happened, if that is no damage. It looks at the one node that
 /// ticked or took, if there is one, since the machines and copies of no other have changed.
 #[inline(always)]
 pub fn visited_behind<A: Allocator + Copy>(

@@ -1,18 +1,18 @@
 //! A network at one moment, with all the memory that a run of it and its judge need.
 ghost use Rattle.std.specs.Prelude.{◌≡◌, ◌↔◌, ◌<◌, ◌≤◌, IfOk, IfErr, OnOk, None, Some, length};
 ghost use Rattle.std.specs.Prelude.{IsTrue};
-ghost use Rattle.node_core.specs.View.{state_of, site_in};
-ghost use Rattle.run_model.specs.World.{IsWorldInRange, site};
-ghost use Rattle.run_model.specs.Headline.{IsServing};
-ghost use Rattle.run_model.specs.Start.{default_world, world_with_spares};
-ghost use Rattle.run_model.specs.NodeCounts.{lending_count, privileged_count};
-ghost use Rattle.run_model.specs.Step.{refusal, step};
+ghost use Rattle.configuration.specs.node_core.View.{state_of, site_in};
+ghost use Rattle.configuration.specs.run_model.World.{IsWorldInRange, site};
+ghost use Rattle.configuration.specs.run_model.Headline.{IsServing};
+ghost use Rattle.configuration.specs.run_model.Start.{default_world, world_with_spares};
+ghost use Rattle.configuration.specs.run_model.NodeCounts.{lending_count, privileged_count};
+ghost use Rattle.configuration.specs.run_model.Step.{refusal, step};
 ghost use Rattle.configuration.specs.ConfigurationView.{world_of};
 
 use crate::stretch::Stretch;
 use configuration::Configuration;
-use node_core::Node;
-use run_model::{Event, EventFault};
+use configuration::node_core::Node;
+use configuration::run_model::{Event, EventFault};
 use std::alloc::{AllocError, Allocator, Global};
 use std::marker::Model;
 use topology::Net;
@@ -40,7 +40,7 @@ impl<A: Allocator + Copy> Model for World<A> {
 impl<A: Allocator + Copy> World<A> {
     /// The world in which every node is as it starts and nothing is under way, without spare links:
     /// an edge may join only once another has gone. It keeps a copy of the network, and reserves
-    /// all memory that any step needs, and any judge; `AllocError` comes only where that is
+    /// all memory that any step needs, and any judge; `AllocError` comes only if that is
     /// refused.
     pub fn new<N: Allocator + Copy>(alloc: A, net: &Net<N>) -> Result<World<A>, AllocError>
         ensures { IfOk result (λ world. world_of world ≡ default_world net.now) }
@@ -51,7 +51,7 @@ impl<A: Allocator + Copy> World<A> {
     /// The same with spare pairs of links, each for one edge more than there are; at most 256.
     ///
     /// # Errors
-    /// Where memory runs out.
+    /// If memory runs out.
     pub fn with_spares<N: Allocator + Copy>(
         alloc: A,
         net: &Net<N>,
@@ -129,7 +129,7 @@ impl<A: Allocator + Copy> World<A> {
     pub fn serves(&self) -> bool
         ensures { IsTrue result ↔ IsServing (world_of self.now) }
     {
-        serving::serves(&self.configuration)
+        configuration::serves(&self.configuration)
     }
 
     /// One event happens. Refused for the first cause that holds, in the order of `EventFault`;
@@ -139,11 +139,11 @@ impl<A: Allocator + Copy> World<A> {
     pub fn step(&mut self, event: &Event) -> Result<(), EventFault>
         // The world is that of the model's step; one that is refused changes nothing there.
         ensures world { world_of self.new ≡ step (world_of self.old) event.now }
-        // It is accepted where the model refuses nothing, and else the first refusal is reported.
+        // It is accepted if the model refuses nothing, and else the first refusal is reported.
         ensures ok { OnOk result (refusal (world_of self.old) event.now ≡ None) }
         ensures err { IfErr result (λ fault. refusal (world_of self.old) event.now ≡ Some fault) }
     {
-        run_model::laws::runs();
+        configuration::run_model::laws::runs();
         let _happened = self.configuration.step(event)?;
         Ok(())
     }

@@ -1,4 +1,4 @@
--- Where ages never rise along the ring, the items that equal the head stand in front; so the next
+-- If ages never rise along the ring, the items that equal the head stand in front; so the next
 -- head move makes the ring good
 use Rattle.std.proofs.Common.{◌≡◌, ◌≢◌, ℕ, ◌+◌, ◌-◌, ◌%◌, ◌<◌, ◌≤◌, inl, inr, List, [], ◌∷◌, refl, sym, ◌∙◌, ap, arith}
 use Rattle.std.specs.List.{AllByRecursion}

@@ -82,7 +82,7 @@ module _ (q : ℕ) (l : 1 < q) where
   last-less a left zero (x ∷ xs) h k = All-last (λ y. root_moved y q ≡ a) x xs h.0 h.1
   last-less a left (suc b) (x ∷ xs) h k = last-less a x b xs h.1 (omega arith)
 
-  -- where the last item equals the head, the whole ring does
+  -- if the last item equals the head, the whole ring does
   whole : (x b : ℕ) (xs : List ℕ) → IsRing q (x ∷ xs) → IsBoundary q x b xs → last_of x xs ≡ x → b ≡ length xs
   whole x b xs r h e = elim (cases_lt b (length xs)) [
     | inl k ↦ absurd (step-apart q x l r.1.0 (ap (λ z. root_moved z q) (sym e) ∙ last-less x x b xs h k))
@@ -106,7 +106,7 @@ module _ (q : ℕ) (l : 1 < q) where
       let v' = one-behind x x w.0 xs j r refl w.2.1 u in
       ap suc (v.0 ∙ sym v'.0)
 
-  -- the item at the boundary is privileged; where there is none after it, the head is
+  -- the item at the boundary is privileged; if there is none after it, the head is
   seen-at : (a left b : ℕ) (xs : List ℕ) → a < q → left ≡ a → IsBoundary q a b xs → b < length xs → sees_another left xs b ≡ true
   seen-at a left b [] k e h s = absurd (omega arith)
   seen-at a left zero (x ∷ xs) k e h s = other x left (differs a left x k e h.0)

@@ -79,7 +79,7 @@ not_falling_initial h = grind arith
 not_falling_back_again : HasFallingAges 7 5 (0 ∷ 6 ∷ 0 ∷ []) → ⊥
 not_falling_back_again h = grind arith
 
--- where ages fall, the head moves only once all items have its value
+-- if ages fall, the head moves only once all items have its value
 falling_turns_good : Run 7 1 (0 ∷ 6 ∷ 5 ∷ []) (1 ∷ 0 ∷ 0 ∷ [])
 falling_turns_good =
     let all_equal : Run 7 1 (0 ∷ 0 ∷ 0 ∷ []) (1 ∷ 0 ∷ 0 ∷ []) = Move_first (Moved refl) Done in
@@ -97,7 +97,7 @@ copied_all_and_moved = half_round 1 0 refl
 not_falling_with_two_values : HasFallingAges 2 0 (1 ∷ 0 ∷ 1 ∷ 0 ∷ []) → ⊥
 not_falling_with_two_values h = grind arith
 
--- in a good ring the item after the boundary alone is privileged, and the head where there is none
+-- in a good ring the item after the boundary alone is privileged, and the head if there is none
 privileged_at_boundary : map (is_privileged_at (2 ∷ 2 ∷ 1 ∷ 1 ∷ [])) (0 ∷ 1 ∷ 2 ∷ 3 ∷ []) ≡ false ∷ false ∷ true ∷ false ∷ []
 privileged_at_boundary = refl
 

@@ -35,7 +35,7 @@ good-step q (Changes c l) g = good-step q l (good-change q c g)
 
 -- ---- items that are a, in front
 
--- where the last item equals the head, all items do
+-- if the last item equals the head, all items do
 clear-all : (a x : ℕ) (xs : List ℕ) → x ≡ a → IsFrontThen (λ y. y ≡ a) (λ y. y ≢ a) (x ∷ xs) → last_of x xs ≡ x → AllByRecursion (λ y. y ≡ a) (x ∷ xs)
 clear-all a x xs i f e = elim (Front-last (λ y. y ≡ a) (λ y. y ≢ a) x xs f) [ inl ps ↦ ps | inr ne ↦ absurd (ne (e ∙ i)) ]
 

@@ -16,7 +16,7 @@ abbrev pub GoodOutlastsRuns : Type 0
 GoodOutlastsRuns =
     (q moves : ℕ) (old new : List ℕ) → Run q moves old new → IsGood q old → IsGood q new
 
--- where there are two values or more, the items of a good ring that equal its head stand in front
+-- if there are two values or more, the items of a good ring that equal its head stand in front
 abbrev pub GoodHasFront : Type 0
 GoodHasFront =
     (q : ℕ) (ring : List ℕ) → 1 < q → IsRing q ring → IsGood q ring → HasFront (head_of ring) ring
@@ -39,7 +39,7 @@ FrontStaysOrTurnsGood =
     → ((moves ≡ 0) × HasFront a new)
     ⊎ ((moves ≡ 1) × IsGood q new × AllByRecursion (λ x. x ≡ a) (tail_of new))
 
--- where the head makes as many moves as there were items, at most q, it holds before the last of
+-- if the head makes as many moves as there were items, at most q, it holds before the last of
 -- them a value that stands nowhere else when the head first holds it
 abbrev pub SomeValueIsFresh : Type 0
 SomeValueIsFresh =
@@ -129,7 +129,7 @@ AgesStay =
     → age q start (head_of old) + moves < q
     → HasFallingAges q start new × (age q start (head_of new) ≡ age q start (head_of old) + moves)
 
--- where ages fall along a ring, the items that equal its head stand in front
+-- if ages fall along a ring, the items that equal its head stand in front
 abbrev pub FallingHasFront : Type 0
 FallingHasFront =
     (q start : ℕ) (ring : List ℕ) → IsRing q ring → HasFallingAges q start ring

@@ -23,7 +23,7 @@ abbrev pub but_last : ℕ → List ℕ → List ℕ
 but_last x [] = []
 but_last x (y ∷ ys) = x ∷ but_last y ys
 
--- where the last item equals the head, the head goes on to the next value; the last item, if
+-- if the last item equals the head, the head goes on to the next value; the last item, if
 -- another than the head, may go
 pub data HeadMove (q : ℕ) : List ℕ → List ℕ → Type 0 where
   Moved : {x : ℕ} {xs : List ℕ} → last_of x xs ≡ x → HeadMove q (x ∷ xs) (root_moved x q ∷ xs)
@@ -114,7 +114,7 @@ sees_another left [] i = false
 sees_another left (x ∷ xs) zero = is_privileged false x left
 sees_another left (x ∷ xs) (suc i) = sees_another x xs i
 
--- the item at place i is privileged: the head where the last item has its value, every other where
+-- the item at place i is privileged: the head if the last item has its value, every other if
 -- the item before it has another
 abbrev pub is_privileged_at : List ℕ → ℕ → Bool
 is_privileged_at [] i = false

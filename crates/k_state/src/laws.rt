@@ -51,7 +51,7 @@ pub fn privilege()
     ensures passes { PrivilegePasses }
 {}
 
-/// Ages since a moment: how many moves lead from the head's value then to an item's. Where each
+/// Ages since a moment: how many moves lead from the head's value then to an item's. If each
 /// item is a copy of what the head held since, ages fall along the ring, and go on to do so; the
 /// items that equal the head stand in front, and its next move makes the ring good, however few its
 /// moves were. What fewer moves than items bring about needs it.

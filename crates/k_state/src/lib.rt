@@ -2,7 +2,7 @@
 //! values are copied.
 //!
 //! A ring is a list of values below a modulus; the first is the head's. A value is copied to its
-//! right, written over its right neighbour or removed, and the head moves on by one where the last
+//! right, written over its right neighbour or removed, and the head moves on by one if the last
 //! value equals its own. The laws say that such a ring becomes *good* (some items `a`, then only
 //! `a - 1`) after as many head moves as it had items, if these are no more than the modulus.
 //!

@@ -10,7 +10,7 @@ use std::marker::Model;
 /// The words of a line that are still to be read, parted by single spaces.
 #[derive(Drop)]
 pub struct Words<'a> {
-    /// The rest of the line from its next word on; none where no word is left.
+    /// The rest of the line from its next word on; none if no word is left.
     rest: Option<&'a [u8]>,
 }
 

@@ -83,7 +83,7 @@ abbrev pub IsFirstGood : {X : Type 0} → (X → Type 0) → List X → Type 0
 IsFirstGood P [] = ⊥
 IsFirstGood P (x ∷ xs) = P x × AllByRecursion P xs
 
--- where an act takes an item that was sent inside the stretch
+-- if an act takes an item that was sent inside the stretch
 pub marked-taken : {X : Type 0} (P : X → Type 0) (act : LinkAct) (os : List Origin) (xs : List X) → takes_sent act os ≡ true → IsMarked P os xs → (act ≡ Takes) × IsFirstGood P xs
 marked-taken P Puts os xs t m = absurd cc
 marked-taken P (Loses i) os xs t m = absurd cc

@@ -10,7 +10,7 @@ pub data LinkAct : Type 0 where
   Loses : (i : ℕ) → LinkAct
   Rests : LinkAct
 
--- an item goes last where there is room, and else it is lost
+-- an item goes last if there is room, and else it is lost
 abbrev pub put_last : {X : Type 0} → ℕ → List X → X → List X
 put_last capacity items x = if nat_lt (length items) capacity then items ++ x ∷ [] else items
 

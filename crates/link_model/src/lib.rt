@@ -6,8 +6,8 @@
 //!
 //! ```
 //! let mut link = Link::new(alloc, 2)?;
-//! link.put(Item::Noise)?;        // Err(Full) where two items stand
-//! let oldest = link.take();      // None where no item stands
+//! link.put(Item::Noise)?;        // Err(Full) if two items stand
+//! let oldest = link.take();      // None if no item stands
 //! ```
 //!
 //! All places are reserved by `new`: no other call takes memory. A full link refuses an item and
@@ -25,4 +25,5 @@ mod link;
 pub use fault::{Full, NoItem};
 pub use item::Item;
 pub use link::Link;
+pub use topology;
 pub use topology::{Frame, Payload, Ranges};

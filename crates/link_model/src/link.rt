@@ -28,7 +28,7 @@ impl<A: Allocator> Model for Link<A> {
 }
 
 impl<A: Allocator> Link<A> {
-    /// An empty link. It reserves all its places here, and answers `AllocError` only where that
+    /// An empty link. It reserves all its places here, and answers `AllocError` only if that
     /// memory is refused.
     pub fn new(alloc: A, capacity: usize) -> Result<Link<A>, AllocError>
         ensures { IfOk result (λ l. l ≡ link capacity []) }
@@ -68,7 +68,7 @@ impl<A: Allocator> Link<A> {
         self.items.is_full()
     }
 
-    /// The item at an index, where 0 is the oldest.
+    /// The item at an index, 0 being the oldest.
     pub fn get(&self, index: usize) -> &Item
         requires { index < length self.now.items }
         ensures { slice_get self.now.items index ≡ Some result.now }
@@ -102,13 +102,13 @@ impl<A: Allocator> Link<A> {
         self.items.pop_front()
     }
 
-    /// Loses the item at an index, where 0 is the oldest; the others keep their order.
+    /// Loses the item at an index, 0 being the oldest; the others keep their order.
     /// Each item is taken from the front once, and all but the lost one are put at the back again.
     ///
     /// # Errors
-    /// `NoItem` where no item stands at the index; then nothing has changed.
+    /// `NoItem` if no item stands at the index; then nothing has changed.
     pub fn lose(&mut self, index: usize) -> Result<(), NoItem>
-        // There is an item to lose exactly where the index is below their number.
+        // There is an item to lose exactly if the index is below their number.
         ensures variant { IsOk result ↔ (index < length self.old.items) }
         ensures ok { OnOk result (self.new ≡ link self.old.capacity (remove self.old.items index)) }
         ensures no_item { OnErr result (self.new ≡ self.old) }

@@ -34,11 +34,11 @@ use world::{Event, World};
 
 /// Lets each node of the network of a file do its turns on a thread of its own, from nodes as they
 /// start and empty links on, and prints the state that they lead to, with the sweeps of what they
-/// did. What they did is written to the file `events`, where one is named, as an events text. Where
+/// did. What they did is written to the file `events`, if one is named, as an events text. If
 /// `tells` says so, a line of standard error shows meanwhile how far they are.
 ///
 /// # Errors
-/// Where no network is read of the file, memory runs out, a thread is refused, the events cannot be
+/// If no network is read of the file, memory runs out, a thread is refused, the events cannot be
 /// written, or standard output does not take the text: the first of these that is met.
 pub fn run<R: Files + Clock + Print + Eprint + Threads + Wait + Sync + AllocGlobal>(
     rt: &R,
@@ -145,7 +145,7 @@ fn write_events<W: Write + Drop>(events: &[Event], text: &mut EventText<W>) -> R
     ensures text { OnOk result (GrowsByText (writer_contents W.contents text.old.writer) events.now
         (writer_contents W.contents text.new.writer)) }
     ensures written { OnOk result (writer_buffer text.new.writer ≡ []) }
-    // A fault only where the writer failed.
+    // A fault only if the writer failed.
     ensures cause { IfErr result (λ fault. (fault ≡ EventsUnwritable)
         × Rose text.old.failures text.new.failures) }
 {

@@ -1,4 +1,4 @@
--- A command's own status is answered where the lock was held all the while, and nowhere else.
+-- A command's own status is answered if the lock was held all the while, and nowhere else.
 use Rattle.std.proofs.Common.{◌≡◌, Bool, false, List, [], ◌∷◌, arith, refl, inl, inr}
 use Rattle.lock_client.specs.declared.answer.Answer.{Answer}
 use Rattle.lock_client.specs.declared.answer.Answer.TheVariants as answer
@@ -40,7 +40,7 @@ never end (GuardGone ∷ es) same = never end es same
 never end (Signal s ∷ es) same = never end es same
 never end (Ended other ∷ es) same = lost end es same
 
--- behind the end of its command a client is done only where the node said released
+-- after the end of its command a client is done only if the node said released
 released : (was end : CommandEnd) (events : List Event) → stage_after_all false (Returning was) events ≡ Over (Done end)
     → (was ≡ end) × IsReleasedNext events
 released was end [] same = elim (lost end [] (grind arith)) [ ]
@@ -60,7 +60,7 @@ released was end (Gone ∷ es) same = elim (lost end es same) [ ]
 released was end (Unserved ∷ es) same = elim (lost end es same) [ ]
 released was end (TimeIsUp ∷ es) same = elim (lost end es same) [ ]
 
--- a client that holds the lock is done only where nothing came before its command ended
+-- a client that holds the lock is done only if nothing came before its command ended
 held : (end : CommandEnd) (events : List Event) → stage_after_all false Holding events ≡ Over (Done end) → IsHeldToTheEnd end events
 held end [] same = grind arith
 held end (Line a ∷ es) same = elim (never end es same) [ ]
@@ -71,7 +71,7 @@ held end (TimeIsUp ∷ es) same = inr (inl refl, held end es same)
 held end (Signal s ∷ es) same = inr (inr (s, refl), held end es same)
 held end (Ended was ∷ es) same = let rest : _ = released was end es same in inl (rw rest.0 refl, rest.1)
 
--- a client is done only where the lock was held throughout
+-- a client is done only if the lock was held throughout
 pub throughout : (end : CommandEnd) (events : List Event) → stage_after_all false Asking events ≡ Over (Done end) → HeldThroughout end events
 throughout end [] same = grind arith
 throughout end (Line answer.Granted ∷ es) same = inl (refl, held end es same)

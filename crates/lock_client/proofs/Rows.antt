@@ -24,7 +24,7 @@ reads_not-upper = refl
 reads_not-space : answer_line (codes "lost ") ≡ answer.Other
 reads_not-space = refl
 
--- statuses: the command's own, signal 9, no right to run it, none there; and where the lock failed
+-- statuses: the command's own, signal 9, no right to run it, none there; and if the lock failed
 status-own : outcome_status (Done (Exited 3)) ≡ 3
 status-own = refl
 
@@ -70,7 +70,7 @@ holds_not-lost_lock : HeldThroughout (Exited 0) lost_lock → ⊥
 unfolding lost_lock
 holds_not-lost_lock held = grind arith
 
--- save where it is to run on
+-- save if it is to run on
 does-kept : deeds true Asking lost_lock ≡ Start ∷ SayLost ∷ Finish (Done (Exited 0)) ∷ []
 unfolding lost_lock
 does-kept = refl

@@ -5,7 +5,7 @@ use Rattle.std.specs.declared.process.status.ExitStatus.{ExitStatus}
 use Rattle.lock_client.specs.declared.outcome.CommandEnd.{CommandEnd}
 use Rattle.lock_client.specs.declared.outcome.CommandEnd.TheVariants.{Exited, Killed}
 
--- by POSIX's wait status: the low seven bits are 0 where it ended by itself, with the status in the
+-- by POSIX's wait status: the low seven bits are 0 if it ended by itself, with the status in the
 -- next byte, and else the signal that ended it; 127 there is no end, and its status is not known
 abbrev pub command_end : ExitStatus → CommandEnd
 command_end s =

@@ -15,8 +15,8 @@ end_status CannotRun = 126
 end_status NotThere = 127
 end_status NotGuarded = 125
 
--- the command's status; 122 for a lock that was lost; 124 where it was not granted in time, as
--- timeout has it; 125 where there is no service; 128 and the number of a signal that came first
+-- the command's status; 122 for a lock that was lost; 124 if it was not granted in time, as
+-- timeout has it; 125 if there is no service; 128 and the number of a signal that came first
 abbrev pub outcome_status : Outcome → ℕ
 outcome_status (Done end) = end_status end
 outcome_status Lost = 122

@@ -71,7 +71,7 @@ abbrev pub losing_deed : Bool → Deed
 losing_deed true = SayLost
 losing_deed false = EndCommand
 
--- where the desk was full the client asks again, and connects again if the node closed the connection
+-- if the desk was full the client asks again, and connects again if the node closed the connection
 abbrev pub asking_deed : Event → Deed
 asking_deed (Line answer.Full) = AskAgain
 asking_deed Gone = ConnectAgain

@@ -77,7 +77,7 @@ pub struct LockClient {
 impl LockClient {
     ghost use Rattle.lock_client.specs.declared.client.Stage.TheVariants.{Asking};
 
-    /// A client that has just asked. Where the lock is lost under its command, the command runs on
+    /// A client that has just asked. If the lock is lost under its command, the command runs on
     /// or is ended, as this says.
     pub fn new(keeps_running: bool) -> LockClient
         ensures keeps { result.keeps_running ≡ keeps_running }
@@ -137,7 +137,7 @@ impl LockClient {
         }
     }
 
-    /// How it ends where the command ended so and the lock may have been lost under it.
+    /// How it ends if the command ended so and the lock may have been lost under it.
     fn in_doubt(&self, end: CommandEnd) -> Outcome
         ensures { result ≡ in_doubt self.now.keeps_running end }
     {
@@ -175,7 +175,7 @@ impl LockClient {
         }
     }
 
-    /// What is to be done where the lock is lost under the command.
+    /// What is to be done if the lock is lost under the command.
     fn losing_deed(&self) -> Deed
         ensures { result ≡ losing_deed self.now.keeps_running }
     {

@@ -11,7 +11,7 @@ use std::process::ExitStatus;
 /// The status of a command whose own status cannot be known, as `env` has it for its failures.
 pub const UNKNOWN_STATUS: u8 = 125;
 
-/// How it ended where it could not be started for this reason.
+/// How it ended if it could not be started for this reason.
 pub fn spawn_end(kind: ErrorKind) -> CommandEnd
     ensures not_there { kind ≡ ErrorKind.NotFound → result ≡ NotThere }
     ensures cannot_run { kind ≢ ErrorKind.NotFound → result ≡ CannotRun }

@@ -1,4 +1,4 @@
-pub mod Driven
+pub mod Drives
 pub mod GuardDriven
 mod RowsWork
 mod RowsCourse

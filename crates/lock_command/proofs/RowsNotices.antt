@@ -75,7 +75,7 @@ unfolding digits
 lines_not-same = grind arith
 
 module _ (folder : Bor (List ℕ)) (run : folder.now ≡ codes "run") where
-  nobody-listens : notice_line (notice.NoNode folder 2) ≡ codes "tokentree: nobody listens at run/desk-2.sock: start node 2"
+  nobody-listens : notice_line (notice.NoNode folder 2) ≡ codes "tokentree: nobody listens at run/desk-2.sock: start node 2, if the network has it"
   unfolding digits
   nobody-listens = rw run refl
 

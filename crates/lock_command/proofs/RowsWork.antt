@@ -21,10 +21,10 @@ use Rattle.lock_command.specs.Watching.{has_input, IsAwaited, IsTaken, IsWatched
 use Rattle.lock_command.specs.Working.{EndsSo, FamilyEndsSo, GoesOn, IsAsked, IsKilled, is_family, is_running}
 
 -- a lost lock ends with the status that the user chose
-ends-lost : held_status (Ok Lost) 75 ≡ 75
+ends-lost : held_status (Ok (record { outcome = Lost })) 75 ≡ 75
 ends-lost = refl
 
-ends_not-late : held_status (Ok NotInTime) 75 ≢ 75
+ends_not-late : held_status (Ok (record { outcome = NotInTime })) 75 ≢ 75
 ends_not-late = grind arith
 
 -- within another lock

@@ -1,10 +1,10 @@
 -- The status with which `lock` ends.
 use Rattle.std.specs.Prelude.{ℕ, Result, Ok, Err}
-use Rattle.lock_client.specs.declared.outcome.Outcome.{Outcome}
 use Rattle.lock_client.specs.Outcome.{chosen_status}
+use Rattle.lock_command.specs.declared.driver.Driven.{Driven}
 use Rattle.lock_command.specs.declared.notice.Notice.{Notice}
 
 -- that of how it all ended, a lost lock having the status that the user chose; 125 if the lock could not be asked for
-abbrev pub held_status : Result Outcome Notice → ℕ → ℕ
-held_status (Ok outcome) lost = chosen_status lost outcome
+abbrev pub held_status : Result Driven Notice → ℕ → ℕ
+held_status (Ok driven) lost = chosen_status lost driven.outcome
 held_status (Err notice) lost = 125

@@ -30,7 +30,8 @@ notice_text (NoSockets folder) = codes "no node has a socket in " ++ (folder.now
     ++ codes ": start one there")
 notice_text (NoNode folder node) =
     codes "nobody listens at " ++ (folder.now ++ (codes "/desk-" ++ (decimal node
-    ++ (codes ".sock: start node " ++ decimal node))))
+    ++ (codes ".sock: start node " ++ (decimal node
+    ++ codes ", if the network has it")))))
 notice_text (TooLong folder node) =
     folder.now ++ (codes "/desk-" ++ (decimal node
     ++ codes ".sock is too long for a socket's name: 107 bytes at most"))

@@ -31,12 +31,28 @@ pub trait Surroundings {
         ensures starts { deed ≢ Start → runs self.new ≡ runs self.old };
 }
 
+/// How it all ended for a client that was told what happened. [`drive`] alone makes one, so whoever has one
+/// has the client's own word.
+#[derive(Clone, Copy, Debug, PartialEq, Eq)]
+pub struct Driven {
+    outcome: Outcome,
+}
+
+impl Driven {
+    /// How it ended.
+    pub fn outcome(self) -> Outcome
+        ensures { result ≡ self.outcome }
+    {
+        self.outcome
+    }
+}
+
 /// Lets happen what happens, until all is over: each thing is told to a client, and what the client
 /// answers is done. How it ended is the client's own word over all that happened. It does not end as long as
 /// a command runs that it started.
-pub fn drive<R: Wait, S: Surroundings>(rt: &R, surroundings: &mut S, keeps_running: bool) -> Outcome
+pub fn drive<R: Wait, S: Surroundings>(rt: &R, surroundings: &mut S, keeps_running: bool) -> Driven
     ensures outcome { S.told surroundings.old ≡ Some []
-        → IsOutcomeOf keeps_running (S.told surroundings.new) result }
+        → IsOutcomeOf keeps_running (S.told surroundings.new) result.outcome }
     ensures over { S.runs surroundings.old ≡ false → S.runs surroundings.new ≡ false }
 {
     let mut client = LockClient::new(keeps_running);
@@ -45,7 +61,7 @@ pub fn drive<R: Wait, S: Surroundings>(rt: &R, surroundings: &mut S, keeps_runni
         let deed = client.step(event);
         surroundings.act(event, deed);
         if let Deed::Finish(outcome) = deed {
-            return outcome;
+            return Driven { outcome };
         }
     }
     unreachable!()

@@ -31,7 +31,7 @@ mod system;
 mod waiter;
 mod work;
 
-pub use driver::{Surroundings, drive};
+pub use driver::{Driven, Surroundings, drive};
 pub use guard_driver::{Guarded, drive_guard};
 pub use guard_link::GUARDED;
 pub use lock::Request;

@@ -4,7 +4,7 @@ ghost use Rattle.lock_command.specs.Held.{held_status};
 ghost use Rattle.lock_command.specs.Reaching.{IsUnreachable, IsUnasked};
 
 use crate::desk::Desk;
-use crate::driver::drive;
+use crate::driver::{Driven, drive};
 use crate::first::reach_first;
 use crate::notice::{Notice, NoticeLine};
 use crate::reach::reach;
@@ -64,11 +64,11 @@ pub fn run<R: Env + Net + Files + Processes + Clock + Input + Print + Eprint + A
 }
 
 /// The status to end with, if the lock was asked for and it all ended so, or if it was not asked for.
-fn held_status(held: &Result<Outcome, Notice>, lost: u8) -> u8
+fn held_status(held: &Result<Driven, Notice>, lost: u8) -> u8
     ensures { result ≡ held_status held.now lost }
 {
     match held {
-        Ok(outcome) => outcome.status_or(lost),
+        Ok(driven) => driven.outcome().status_or(lost),
         Err(_) => Outcome::NoService.status(),
     }
 }
@@ -77,17 +77,16 @@ fn held_status(held: &Result<Outcome, Notice>, lost: u8) -> u8
 fn hold<'a, R: Env + Net + Files + Processes + Clock + Input + Print + Eprint + AllocGlobal + Wait>(
     rt: &R,
     request: &Request<'a>,
-) -> Result<Outcome, Notice<'a>>
+) -> Result<Driven, Notice<'a>>
     ensures { IfErr result (IsUnasked request.now.folder request.now.node) }
 {
     let desk = desk_of(rt, request)?;
     if request.is_verbose {
         let _ = rt.eprintln(NoticeLine(Notice::Waiting(desk.node())));
     }
-    let mut live = Live {
-        rt,
-        session: Session::new(rt, *request, desk)?,
-    };
+    let mut session = Session::new(rt, *request, desk)?;
+    session.prepare_guard(rt);
+    let mut live = Live { rt, session };
     Ok(drive(rt, &mut live, request.keeps_running))
 }
 

@@ -159,7 +159,8 @@ impl fmt::Display for Notice<'_> {
             Notice::NoNode { folder, node } => {
                 write!(
                     f,
-                    "nobody listens at {folder}/desk-{node}.sock: start node {node}"
+                    "nobody listens at {folder}/desk-{node}.sock: start node {node}, if the network \
+                    has it"
                 )
             }
             Notice::TooLong { folder, node } => {

@@ -35,7 +35,7 @@ pub fn reach<'a, R: Net + Files + Clock + AllocGlobal>(
     match connect(rt, path.as_str(), node) {
         Ok(desk) => Ok(desk),
         Err(kind) => {
-            let has_folder = matches!(fs::exists(rt, folder), Ok(true));
+            let has_folder = fs::metadata(rt, folder).is_ok_and(|about| about.is_dir());
             Err(why_not(kind, has_folder, folder, node))
         }
     }

@@ -53,7 +53,8 @@ pub struct Session<'a, P: OpenProcess> {
     is_unserved: bool,
     waiter: Waiter,
     work: Work<P>,
-    /// The guard of the command; none before it is started and once the command has ended.
+    /// The guard of the command. It is started while the lock is waited for, so that the command need
+    /// not wait for it; none if that failed, and once the command has ended.
     guard: Option<GuardLink>,
     /// The mark of the command and of whatever it starts.
     mark: String,
@@ -359,6 +360,8 @@ impl<'a, P: OpenProcess + Drop> Session<'a, P> {
                     || desk.write(ClientLine::Lock).is_err();
                 self.node = desk.node();
                 self.desk = Some(desk);
+                // A guard that holds the connection before it ends by itself.
+                self.guard = None;
                 let now = self.stopwatch.millis(rt);
                 self.course.set_time(now);
                 self.course.note_connected();
@@ -379,7 +382,7 @@ impl<'a, P: OpenProcess + Drop> Session<'a, P> {
         if self.request.command.is_empty() {
             return self.start_waiting(rt);
         }
-        match self.start_guard(rt) {
+        match self.have_guard(rt) {
             Ok(()) => self.start_command(rt),
             Err(_) => {
                 let _ = rt.eprintln(NoticeLine(Notice::NoGuard));
@@ -388,8 +391,31 @@ impl<'a, P: OpenProcess + Drop> Session<'a, P> {
         }
     }
 
-    /// Starts the guard, and announces the command to it.
-    fn start_guard<R: Net + Files + Processes + AllocGlobal>(&mut self, rt: &R) -> io::Result<()> {
+    /// Starts the guard while the lock is waited for, if a command is to run under it. If it cannot be
+    /// started now, that is tried again when the lock is granted.
+    pub fn prepare_guard<R: Net + Files + Processes + AllocGlobal>(&mut self, rt: &R)
+        ensures { self.new.work ≡ self.old.work }
+    {
+        if !self.request.command.is_empty() {
+            let _ = self.start_guard(rt);
+        }
+    }
+
+    /// Announces the command to the guard, which is started if there is none.
+    fn have_guard<R: Net + Files + Processes + AllocGlobal>(&mut self, rt: &R) -> io::Result<()> {
+        if self.guard.is_none() {
+            self.start_guard(rt)?;
+        }
+        if let Some(guard) = &mut self.guard {
+            guard.say("start\n");
+        }
+        Ok(())
+    }
+
+    /// Starts the guard.
+    fn start_guard<R: Net + Files + Processes + AllocGlobal>(&mut self, rt: &R) -> io::Result<()>
+        ensures { self.new.work ≡ self.old.work }
+    {
         let Some(desk) = &mut self.desk else {
             return Err(io::Error::from(ErrorKind::NotConnected));
         };
@@ -397,7 +423,6 @@ impl<'a, P: OpenProcess + Drop> Session<'a, P> {
         let words = self.request.guard;
         let mut guard = GuardLink::start(rt, words, self.mark.as_str(), connection)?;
         self.waiter.watch_guard(guard.stream())?;
-        guard.say("start\n");
         self.guard = Some(guard);
         Ok(())
     }

@@ -6,7 +6,7 @@ use Rattle.lock_desk.specs.declared.fault.AskFault.{AskFault}
 use Rattle.lock_desk.specs.declared.fault.AskFault.TheVariants.{Full, Twice}
 
 -- what a desk knows: the tickets that wait, in the order in which they asked; the ticket that the
--- lock is lent to; how many further ticks that loan outlasts where there is a lease; and whether a
+-- lock is lent to; how many further ticks that loan outlasts if there is a lease; and whether a
 -- loan ended since the last full tick
 pub record DeskState : Type 0 where
   pub waiting : List ℕ
@@ -57,7 +57,7 @@ may_be_lent tickets (Some t) = is_number t && not (is_in tickets t)
 abbrev pub left_fits : ℕ → Option ℕ → ℕ → Bool
 left_fits lease lent left = nat_le left lease && (is_some lent || left == 0)
 
--- a desk is in range where at most 64 distinct tickets wait, the borrower is none of them, and what
+-- a desk is in range if at most 64 distinct tickets wait, the borrower is none of them, and what
 -- is left of its loan fits
 abbrev pub desk_fits : ℕ → DeskState → Bool
 desk_fits lease d =
@@ -67,7 +67,7 @@ desk_fits lease d =
     && may_be_lent d.waiting d.lent
     && left_fits lease d.lent d.left
 
--- to ask is refused as Full where 64 tickets wait, and else as Twice where this ticket waits or
+-- to ask is refused as Full if 64 tickets wait, and else as Twice if this ticket waits or
 -- borrows
 abbrev pub ask_fault : ℕ → DeskState → Option AskFault
 ask_fault t d =
@@ -99,12 +99,12 @@ after_leave t d =
     else if borrows d t then ended d
     else d
 
--- in a tick a loan ends where the node has no privilege, or where there is a lease and nothing of
+-- in a tick a loan ends if the node has no privilege, or if there is a lease and nothing of
 -- it is left
 abbrev pub loan_ends : Bool → ℕ → DeskState → Bool
 loan_ends privileged lease d = lends d && (not privileged || (nat_lt 0 lease && d.left == 0))
 
--- a loan that goes on has a tick less left, where there is a lease
+-- a loan that goes on has a tick less left, if there is a lease
 abbrev pub counted_down : ℕ → DeskState → DeskState
 counted_down lease d = if lends d && nat_lt 0 lease then record d { left = d.left - 1 } else d
 
@@ -113,7 +113,7 @@ abbrev pub loan_looked_at : Bool → ℕ → DeskState → DeskState
 loan_looked_at privileged lease d =
     if loan_ends privileged lease d then ended d else counted_down lease d
 
--- the lock is lent next where the node is privileged, lends to nobody, has not served, and somebody
+-- the lock is lent next if the node is privileged, lends to nobody, has not served, and somebody
 -- waits
 abbrev pub lends_next : Bool → DeskState → Bool
 lends_next privileged d = privileged && not (lends d) && not d.served && nat_lt 0 (length d.waiting)
@@ -140,7 +140,7 @@ abbrev pub desk_ticked : ℕ → Bool → DeskState → DeskState
 desk_ticked lease privileged d =
     cleared (loan_begun privileged lease (loan_looked_at privileged lease d))
 
--- a loan may be written at a desk where its ticket does not wait and what is left of it fits
+-- a loan may be written at a desk if its ticket does not wait and what is left of it fits
 abbrev pub loan_fits : ℕ → DeskState → Option ℕ → ℕ → Bool
 loan_fits lease d lent left = may_be_lent d.waiting lent && left_fits lease lent left
 

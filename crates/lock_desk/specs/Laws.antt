@@ -5,7 +5,7 @@ use Rattle.lock_desk.specs.Act.{desk_act}
 use Rattle.lock_desk.specs.declared.act.DeskAct.{DeskAct}
 use Rattle.lock_desk.specs.declared.act.DeskAct.TheVariants.{Quiet, Granted, Lost}
 
--- a desk lends after a tick only where the node was privileged: a loan begins and outlasts a tick
+-- a desk lends after a tick only if the node was privileged: a loan begins and outlasts a tick
 -- only with privilege
 abbrev pub LoansNeedPrivilege : Type 0
 LoansNeedPrivilege =
@@ -75,7 +75,7 @@ FullTicksClear =
     (lease : ℕ) (privileged : Bool) (d : DeskState) → lends (desk_ticked lease privileged d) ≡ false
     → (desk_ticked lease privileged d).served ≡ false
 
--- those who wait after a tick: all but the first, which the lock is lent to, where a loan began;
+-- those who wait after a tick: all but the first, which the lock is lent to, if a loan began;
 -- and else all
 abbrev pub IsTurn : List ℕ → List ℕ → DeskAct → Type 0
 IsTurn before after (Granted t) = before ≡ t ∷ after
@@ -95,19 +95,19 @@ TicksKeepRanges =
     (lease : ℕ) (privileged : Bool) (d : DeskState) → desk_fits lease d ≡ true
     → desk_fits lease (desk_ticked lease privileged d) ≡ true
 
--- where a ticket asks
+-- if a ticket asks
 abbrev pub AsksKeepRanges : Type 0
 AsksKeepRanges =
     (lease t : ℕ) (d : DeskState) → is_number t ≡ true → desk_fits lease d ≡ true
     → ask_fault t d ≡ None → desk_fits lease (asked t d) ≡ true
 
--- where one leaves
+-- if one leaves
 abbrev pub LeavesKeepRanges : Type 0
 LeavesKeepRanges =
     (lease t : ℕ) (d : DeskState) → desk_fits lease d ≡ true
     → desk_fits lease (after_leave t d) ≡ true
 
--- and where a loan that fits is written
+-- and if a loan that fits is written
 abbrev pub LoansKeepRanges : Type 0
 LoansKeepRanges =
     (lease left : ℕ) (lent : Option ℕ) (served : Bool) (d : DeskState) → desk_fits lease d ≡ true

@@ -3,7 +3,7 @@ use Rattle.std.specs.Prelude.{ℕ, Bool, ◌&&◌, nat_le, List, length, Option}
 use Rattle.std.specs.List.{list_all}
 use Rattle.lock_desk.specs.Desk.{DeskState, is_number, are_distinct, may_be_lent}
 
--- tickets may be written as those that wait where they are at most 64, distinct, and none of them
+-- tickets may be written as those that wait if they are at most 64, distinct, and none of them
 -- borrows
 abbrev pub queue_fits : List ℕ → Option ℕ → Bool
 queue_fits tickets lent =

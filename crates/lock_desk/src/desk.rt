@@ -46,7 +46,7 @@ impl<A: Allocator> Desk<A> {
     /// reserved here.
     ///
     /// # Errors
-    /// Where memory runs out.
+    /// If memory runs out.
     pub fn new(alloc: A, lease: u16) -> Result<Desk<A>, AllocError>
         ensures { IfOk result (λ desk. desk ≡ record { lease = lease; state = no_desk }) }
     {
@@ -90,7 +90,7 @@ impl<A: Allocator> Desk<A> {
         self.waiting.as_slice()
     }
 
-    /// How many further ticks the loan outlasts where there is a lease; 0 where there is no loan.
+    /// How many further ticks the loan outlasts if there is a lease; 0 if there is no loan.
     pub fn left(&self) -> u16
         ensures { result ≡ self.now.state.left }
     {
@@ -111,11 +111,11 @@ impl<A: Allocator> Desk<A> {
         self.waiting.contains(&ticket)
     }
 
-    /// Puts the ticket after all others that wait. Refused as `Full` where 64 tickets wait,
-    /// whichever they are, and else as `Twice` where this one waits or the lock is lent to it; then
+    /// Puts the ticket after all others that wait. Refused as `Full` if 64 tickets wait,
+    /// whichever they are, and else as `Twice` if this one waits or the lock is lent to it; then
     /// nothing has changed.
     pub fn ask(&mut self, ticket: u16) -> Result<(), AskFault>
-        // It is accepted exactly where nothing forbids it; else the first fault is reported.
+        // It is accepted exactly if nothing forbids it; else the first fault is reported.
         ensures accepted { OnOk result (ask_fault ticket self.old.state ≡ None) }
         ensures asked { OnOk result (self.new
             ≡ record self.old { state = asked ticket self.old.state }) }
@@ -132,7 +132,7 @@ impl<A: Allocator> Desk<A> {
         Ok(())
     }
 
-    /// Takes the ticket out of those that wait, or ends its loan. Refused where it does neither;
+    /// Takes the ticket out of those that wait, or ends its loan. Refused if it does neither;
     /// then nothing has changed.
     pub fn leave(&mut self, ticket: u16) -> Result<(), Stranger>
         ensures gone { OnOk result (self.new
@@ -162,9 +162,9 @@ impl<A: Allocator> Desk<A> {
         self.served = true;
     }
 
-    /// What a tick of the node does at its desk, in this order. A loan ends where the node has no
-    /// privilege or its lease ran out, and else has a tick less left. Where the node is privileged,
-    /// lends to nobody, has not served and somebody waits, the first who waits borrows. Where it
+    /// What a tick of the node does at its desk, in this order. A loan ends if the node has no
+    /// privilege or its lease ran out, and else has a tick less left. If the node is privileged,
+    /// lends to nobody, has not served and somebody waits, the first who waits borrows. If it
     /// now lends to nobody, `served` is cleared: the tick is a full one, and the node's machines
     /// may move.
     pub fn tick(&mut self, privileged: bool) -> DeskAct
@@ -212,12 +212,12 @@ impl<A: Allocator> Desk<A> {
         }
     }
 
-    /// Writes a loan. Refused where its ticket waits, where more is left than the lease, or where
+    /// Writes a loan. Refused if its ticket waits, if more is left than the lease, or if
     /// anything is left of no loan; then nothing has changed.
     pub fn set_loan(&mut self, lent: Option<u16>, left: u16, served: bool) -> Result<(), OutOfRange>
         ensures written { OnOk result (self.new
             ≡ record self.old { state = with_loan self.old.state lent left served }) }
-        // It is written exactly where the desk may hold it.
+        // It is written exactly if the desk may hold it.
         ensures fits { OnOk result (IsTrue (loan_fits self.old.lease self.old.state lent left)) }
         ensures refused { OnErr result (loan_fits self.old.lease self.old.state lent left ≡ false) }
         ensures unchanged { OnErr result (self.new ≡ self.old) }
@@ -231,12 +231,12 @@ impl<A: Allocator> Desk<A> {
         Ok(())
     }
 
-    /// Writes those who wait, the next one first. Refused where they are more than 64, where one
-    /// stands twice, or where one of them borrows; then nothing has changed.
+    /// Writes those who wait, the next one first. Refused if they are more than 64, if one
+    /// stands twice, or if one of them borrows; then nothing has changed.
     pub fn set_waiting(&mut self, tickets: &[u16]) -> Result<(), OutOfRange>
         ensures written { OnOk result (self.new
             ≡ record self.old { state = with_queue self.old.state tickets.now }) }
-        // It is written exactly where the desk may hold it.
+        // It is written exactly if the desk may hold it.
         ensures fits { OnOk result (IsTrue (queue_fits tickets.now self.old.state.lent)) }
         ensures refused { OnErr result (queue_fits tickets.now self.old.state.lent ≡ false) }
         ensures unchanged { OnErr result (self.new ≡ self.old) }

@@ -5,7 +5,7 @@ ghost use Rattle.lock_desk.specs.Laws.{OneLoanAStay, PassesOnlyServed, FullTicks
 ghost use Rattle.lock_desk.specs.Laws.{FirstComeFirstServed, TicksKeepRanges, AsksKeepRanges};
 ghost use Rattle.lock_desk.specs.Laws.{LeavesKeepRanges, LoansKeepRanges};
 
-/// A loan begins and outlasts a tick only with privilege. So where at most one node is privileged,
+/// A loan begins and outlasts a tick only with privilege. So if at most one node is privileged,
 /// after each node's next tick at most one desk lends; whoever shows that a legitimate network
 /// stays legitimate needs it.
 pub fn loans_need_privilege()
@@ -30,7 +30,7 @@ pub fn one_loan_a_stay()
     ensures cleared { FullTicksClear }
 {}
 
-/// Privilege passes a waiting ticket only where the desk had served, or ended a loan in that very
+/// Privilege passes a waiting ticket only if the desk had served, or ended a loan in that very
 /// tick; and tickets are served in the order in which they wait. Whoever counts the sweeps until a
 /// ticket is served needs both.
 pub fn waiting_tickets_are_served()

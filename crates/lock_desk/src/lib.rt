@@ -11,7 +11,7 @@
 //!
 //! The trap: a loan does not outlast the first tick without privilege, so `tick` must be given the
 //! privilege of that very moment, and a `Lost` must be handed on to the client. After a loan the
-//! desk lends to nobody until a tick has ended with no loan, also where others wait: that tick lets
+//! desk lends to nobody until a tick has ended with no loan, also if others wait: that tick lets
 //! the token pass.
 //!
 //! Its rules are this project's own; the token that it rests on is that of Dijkstra,

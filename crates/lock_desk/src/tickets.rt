@@ -17,7 +17,7 @@ pub fn take_out<A: Allocator>(tickets: &mut Vec<u16, A>, ticket: u16)
     tickets.retain(move |waiting| *waiting != ticket)
 }
 
-/// Whether the tickets may wait where the lock is lent so.
+/// Whether the tickets may wait if the lock is lent so.
 pub fn queue_fits(tickets: &[u16], lent: Option<u16>) -> bool
     ensures { result ≡ queue_fits tickets.now lent }
 {

@@ -89,7 +89,7 @@ impl Reading {
         }
     }
 
-    /// Whether DIR is left out, where there is something that stands in for it: neither word is
+    /// Whether DIR is left out, if there is something that stands in for it: neither word is
     /// there, or one that may be an ID.
     pub fn needs_folder(self) -> bool
         ensures { result ≡ needs_folder self }

@@ -21,7 +21,7 @@ pub struct ProcessSaid<'a> {
 /// what was noted of its links, loans and turns, and of the token.
 ///
 /// # Errors
-/// Where memory runs out.
+/// If memory runs out.
 pub fn line_of_node<A: Allocator>(
     alloc: Global,
     node: &Node<A>,

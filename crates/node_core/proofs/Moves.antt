@@ -7,7 +7,7 @@ use Rattle.std.proofs.lemmas.Bool.{cases_Bool}
 use Rattle.std.proofs.lemmas.List.{length-take, get_or-take, take_all}
 use Rattle.std.proofs.lemmas.List.Folds.{list_any_more}
 use Rattle.std.proofs.lemmas.List.Kept.{AllPairs-from_increasing}
-use Rattle.topology.specs.At.{at}
+use Rattle.registers.specs.topology.At.{at}
 use Rattle.euler_ring.specs.Cycle.{is_on, is_named}
 use Rattle.registers.specs.k_state.Machine.{is_privileged, root_moved}
 use Rattle.registers.specs.Registers.{RegistersView, IsRegisters, port_of, value_of}

@@ -1,9 +1,9 @@
 -- Two nodes, and what they are and do.
 use Rattle.std.proofs.Common.{◌≡◌, ℕ, true, false, [], ◌∷◌, Some, None, refl, arith, codes, decimal}
 use Rattle.std.proofs.lemmas.Fmt.{decimal_digit}
-use Rattle.topology.specs.Network.{Network}
-use Rattle.topology.specs.Ranges.{ranges_of}
-use Rattle.topology.specs.declared.frame.Frame.{Frame}
+use Rattle.registers.specs.topology.Network.{Network}
+use Rattle.registers.specs.topology.Ranges.{ranges_of}
+use Rattle.registers.specs.topology.declared.frame.Frame.{Frame}
 use Rattle.registers.specs.link_model.declared.item.Item.TheVariants as item
 use Rattle.registers.specs.data_link.Port.{default_port}
 use Rattle.lock_desk.specs.Desk.{no_desk}
@@ -56,7 +56,7 @@ nothing_moves = refl
 tree_of_root : tree_of near (root_with 3 3) ≡ 1 ∷ []
 tree_of_root = refl
 
--- the root's machine may move where it sees its own value, and goes on by one; the child's where it
+-- the root's machine may move if it sees its own value, and goes on by one; the child's if it
 -- sees another
 root_may : is_node_privileged near (root_with 3 3) ≡ true
 root_may = refl
@@ -80,7 +80,7 @@ root_moved_on = refl
 child_copied : (ticked far (child_with 3 4)).value 0 ≡ 4
 child_copied = refl
 
--- but not where the node lends after it: who waits borrows, and the machine stands still
+-- but not if the node lends after it: who waits borrows, and the machine stands still
 abbrev asked_for : LocalState → LocalState
 asked_for s = record s { desk = record no_desk { waiting = 9 ∷ [] } }
 

@@ -1,4 +1,4 @@
--- Node states are the same where their fields are.
+-- Node states are the same if their fields are.
 use Rattle.std.proofs.Common.{◌≡◌}
 use Rattle.node_core.specs.State.{LocalState}
 

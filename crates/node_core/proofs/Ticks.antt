@@ -16,12 +16,12 @@ use Rattle.node_core.proofs.Same.{same_state}
 abbrev pub desk_after : NodeView → DeskView
 desk_after v = record v.desk { state = desk_ticked v.desk.lease (is_node_privileged (site_in v) (state_of v)) v.desk.state }
 
--- the values where the machines move, or stay
+-- the values if the machines move, or stay
 abbrev pub values_where : NodeView → Bool → ℕ → ℕ
 values_where v moves t =
     if moves && (is_on (tree_of (site_in v) (state_of v)) t && may_move (site_in v) (state_of v) t) then moved_value (site_in v) (state_of v) t else value_of v.registers t
 
--- after the desk and the machines, where these move
+-- after the desk and the machines, if these move
 pub ticked_full : (v : NodeView) (registers : RegistersView) (desk : DeskView) (tree : List ℕ) → desk ≡ desk_after v → is_none desk.state.lent ≡ true
     → tree ≡ tree_of (site_in v) (state_of v) → value_of registers ≡ values_moved v.registers tree (special v.is_root tree)
     → registers ≡ record v.registers { values = registers.values }
@@ -32,14 +32,14 @@ ticked_full v registers desk tree after none on moved rest =
     (moved ∙ ap (λ ts. values_moved v.registers ts (special v.is_root ts)) on ∙ ap (values_where v) full)
     (ap (λ d. d.state) after)
 
--- and where they stay
+-- and if they stay
 pub ticked_lending : (v : NodeView) (desk : DeskView) → desk ≡ desk_after v → is_none desk.state.lent ≡ false
     → state_of (record v { desk = desk }) ≡ machines_moved (site_in v) (desk_done (site_in v) (state_of v))
 ticked_lending v desk after some =
     let lends : false ≡ is_none (desk_after v).state.lent = sym some ∙ ap (λ d. is_none d.state.lent) after in
     same_state _ _ refl refl refl (ap (values_where v) lends) (ap (λ d. d.state) after)
 
--- the desk's tick is that of the definition, where it is given whether some machine may move
+-- the desk's tick is that of the definition, if it is given whether some machine may move
 pub desk_is_after : (v : NodeView) (desk : DeskView) (privileged : Bool) (tree : List ℕ) → tree ≡ tree_of (site_in v) (state_of v)
     → privileged ≡ list_any (machine_may_move v.registers (special v.is_root tree)) tree
     → desk ≡ record v.desk { state = desk_ticked v.desk.lease privileged v.desk.state } → desk ≡ desk_after v

@@ -1,3 +1,5 @@
+pub use Rattle.lock_desk.specs as lock_desk
+pub use Rattle.registers.specs.data_link as data_link
 pub use Rattle.registers.specs as registers
 pub use Rattle.euler_ring.specs as euler_ring
 pub use Rattle.bfs_tree.specs as bfs_tree

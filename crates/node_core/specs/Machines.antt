@@ -2,7 +2,7 @@
 -- tree (Dijkstra 1974).
 use Rattle.std.specs.Prelude.{ℕ, Bool, List, if◌then◌else◌}
 use Rattle.std.specs.List.{list_any}
-use Rattle.topology.specs.declared.frame.Payload.{Payload}
+use Rattle.registers.specs.topology.declared.frame.Payload.{Payload}
 use Rattle.registers.specs.k_state.Machine.{root_moved, is_privileged}
 use Rattle.euler_ring.specs.Cycle.{tree_neighbours, source_for, special, is_named, is_on}
 use Rattle.node_core.specs.Site.{Site}
@@ -21,7 +21,7 @@ before s t = (s.port t).copy.ring
 abbrev pub is_special : Site → LocalState → ℕ → Bool
 is_special site s t = is_named (special site.is_root (tree_of site s)) t
 
--- the machine from t may move: the special one where it sees its own value, any other where it sees
+-- the machine from t may move: the special one if it sees its own value, any other if it sees
 -- another value
 abbrev pub may_move : Site → LocalState → ℕ → Bool
 may_move site s t = is_privileged (is_special site s t) (s.value t) (before s t)
@@ -31,11 +31,11 @@ abbrev pub moved_value : Site → LocalState → ℕ → ℕ
 moved_value site s t =
     if is_special site s t then root_moved (s.value t) site.ranges.ring else before s t
 
--- a node is privileged where one of its machines may move
+-- a node is privileged if one of its machines may move
 abbrev pub is_node_privileged : Site → LocalState → Bool
 is_node_privileged site s = list_any (may_move site s) (tree_of site s)
 
--- the ring value for w: that of the machine which leaves towards w, and 0 where w is no tree
+-- the ring value for w: that of the machine which leaves towards w, and 0 if w is no tree
 -- neighbour
 abbrev pub ring_for : Site → LocalState → ℕ → ℕ
 ring_for site s w = if is_on (tree_of site s) w then s.value (source_for (tree_of site s) w) else 0

@@ -10,7 +10,7 @@ pub record IsTreeWithin (r : RegistersView) (tree : List ℕ) : Type 0 where
   pub registers : IsRegisters r
   pub neighbours : (w : ℕ) → IsTrue (is_on tree w) → Contains r.neighbours w
 
--- the machine from t, where `chosen` is the special one, may move
+-- the machine from t, if `chosen` is the special one, may move
 abbrev pub machine_may_move : RegistersView → Option ℕ → ℕ → Bool
 machine_may_move r chosen t =
     is_privileged (is_named chosen t) (value_of r t) (port_of r t).copy.ring

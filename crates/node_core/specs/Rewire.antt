@@ -1,6 +1,6 @@
--- What becomes of a node where its neighbours change.
+-- What becomes of a node if its neighbours change.
 use Rattle.std.specs.Prelude.{ℕ, List}
-use Rattle.topology.specs.declared.frame.Ranges.{Ranges}
+use Rattle.registers.specs.topology.declared.frame.Ranges.{Ranges}
 use Rattle.registers.specs.Rewire.{rewired_ports, rewired_values}
 use Rattle.node_core.specs.State.{LocalState}
 

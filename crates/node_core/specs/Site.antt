@@ -1,8 +1,8 @@
 -- What a node knows of its network: nothing of any other node but its neighbours' ids.
 use Rattle.std.specs.Prelude.{ℕ, Bool, ◌==◌, List}
-use Rattle.topology.specs.Network.{Network, neighbours_of}
-use Rattle.topology.specs.Ranges.{ranges_of}
-use Rattle.topology.specs.declared.frame.Ranges.{Ranges}
+use Rattle.registers.specs.topology.Network.{Network, neighbours_of}
+use Rattle.registers.specs.topology.Ranges.{ranges_of}
+use Rattle.registers.specs.topology.declared.frame.Ranges.{Ranges}
 
 -- a node's id, whether it is the root, the ranges of its fields, the length of a loan, and its
 -- neighbours, ascending

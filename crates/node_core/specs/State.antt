@@ -1,7 +1,7 @@
 -- The state of one node, its range, and how it begins.
 use Rattle.std.specs.Prelude.{ℕ, ◌<◌, ◌≤◌, Option, None, IsTrue, All}
-use Rattle.topology.specs.Ranges.{parent_fits}
-use Rattle.topology.specs.declared.frame.Ranges.{Ranges}
+use Rattle.registers.specs.topology.Ranges.{parent_fits}
+use Rattle.registers.specs.topology.declared.frame.Ranges.{Ranges}
 use Rattle.registers.specs.data_link.Port.{PortState, port_fits, default_port}
 use Rattle.lock_desk.specs.Desk.{DeskState, desk_fits, no_desk}
 use Rattle.node_core.specs.Site.{Site}

@@ -4,7 +4,7 @@ use Rattle.node_core.specs.Site.{Site}
 use Rattle.node_core.specs.State.{LocalState}
 use Rattle.node_core.specs.Machines.{is_node_privileged}
 
--- an id or a ticket as a decimal number, and `none` where there is none
+-- an id or a ticket as a decimal number, and `none` if there is none
 abbrev pub number_or_none : Option ℕ → List ℕ
 number_or_none None = codes "none"
 number_or_none (Some number) = decimal number
@@ -13,7 +13,7 @@ abbrev pub yes_or_no : Bool → List ℕ
 yes_or_no true = codes "yes"
 yes_or_no false = codes "no"
 
--- `node V distance D parent P token T lent L waiting W` and a newline: T is yes where the node is
+-- `node V distance D parent P token T lent L waiting W` and a newline: T is yes if the node is
 -- privileged, L the ticket that the lock is lent to, W the number of those that wait
 abbrev pub status_line : Site → LocalState → List ℕ
 status_line site s =

@@ -1,10 +1,10 @@
 -- What a node does: it takes an item from a neighbour, it ticks, and its clients ask and leave.
 use Rattle.std.specs.Prelude.{ℕ, Bool, true, ◌&&◌, is_none, if◌then◌else◌}
 use Rattle.euler_ring.specs.Cycle.{is_on}
-use Rattle.topology.specs.At.{at}
-use Rattle.topology.specs.Ranges.{frame_fits}
-use Rattle.topology.specs.declared.frame.Frame.{Frame}
-use Rattle.topology.specs.declared.frame.Ranges.{Ranges}
+use Rattle.registers.specs.topology.At.{at}
+use Rattle.registers.specs.topology.Ranges.{frame_fits}
+use Rattle.registers.specs.topology.declared.frame.Frame.{Frame}
+use Rattle.registers.specs.topology.declared.frame.Ranges.{Ranges}
 use Rattle.registers.specs.link_model.declared.item.Item.{Item}
 use Rattle.registers.specs.link_model.declared.item.Item.TheVariants as item
 use Rattle.registers.specs.data_link.Port.{port_after}
@@ -19,7 +19,7 @@ abbrev pub item_fits : Ranges → Item → Bool
 item_fits r (item.Frame f) = frame_fits r f
 item_fits r item.Noise = true
 
--- a frame from neighbour w at its port, where what the node says to w before it may be staged
+-- a frame from neighbour w at its port; what the node says to w before it may be staged
 abbrev pub heard : Site → ℕ → Frame → LocalState → LocalState
 heard site w f s = record s {
   port = at s.port w (port_after site.ranges.counter (s.port w) f (payload_for site s w));
@@ -46,7 +46,7 @@ recomputed site s = record s {
 abbrev pub desk_done : Site → LocalState → LocalState
 desk_done site s = record s { desk = desk_ticked site.lease (is_node_privileged site s) s.desk }
 
--- last part: where the desk lends to nobody, each machine that may move does, all at once
+-- last part: if the desk lends to nobody, each machine that may move does, all at once
 abbrev pub machines_moved : Site → LocalState → LocalState
 machines_moved site s = record s {
   value = λ t. if is_none s.desk.lent && (is_on (tree_of site s) t && may_move site s t)

@@ -1,7 +1,7 @@
 -- What contracts see of a node: its parts as data, and how they are read as what it knows of its
 -- network and as its state.
 use Rattle.std.specs.Prelude.{ℕ, ◌<◌, ◌≤◌, Bool, Option, IsTrue}
-use Rattle.topology.specs.Ranges.{parent_fits}
+use Rattle.registers.specs.topology.Ranges.{parent_fits}
 use Rattle.registers.specs.Registers.{RegistersView, port_of, value_of}
 use Rattle.lock_desk.specs.View.{DeskView}
 use Rattle.node_core.specs.Site.{Site}

@@ -1,8 +1,8 @@
 -- What the writers of a node ask for and make of its state.
 use Rattle.std.specs.Prelude.{ℕ, Bool, ◌&&◌, nat_le, Option}
-use Rattle.topology.specs.At.{at}
-use Rattle.topology.specs.Ranges.{parent_fits}
-use Rattle.topology.specs.declared.frame.Ranges.{Ranges}
+use Rattle.registers.specs.topology.At.{at}
+use Rattle.registers.specs.topology.Ranges.{parent_fits}
+use Rattle.registers.specs.topology.declared.frame.Ranges.{Ranges}
 use Rattle.registers.specs.data_link.Port.{PortState}
 use Rattle.node_core.specs.State.{LocalState}
 

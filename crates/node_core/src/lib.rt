@@ -35,8 +35,10 @@ mod status;
 mod ticked;
 
 pub use bfs_tree;
+pub use lock_desk;
 pub use lock_desk::{AskFault, DeskAct, Stranger};
 pub use node::{Node, NodeState};
-pub use registers::OutOfRange;
+pub use registers;
 pub use registers::link_model::{Frame, Item, Payload, Ranges};
+pub use registers::{OutOfRange, data_link};
 pub use ticked::Ticked;

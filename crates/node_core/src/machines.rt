@@ -24,7 +24,7 @@ pub fn tree<A: Allocator>(registers: &Registers<A>, parent: Option<u16>, id: u16
     })
 }
 
-/// Whether a machine comes in from `t` that may move, where `chosen` is the special one's.
+/// Whether a machine comes in from `t` that may move, if `chosen` is the special one's.
 fn may_move<A: Allocator>(
     registers: &Registers<A>,
     tree: &TreeNeighbours,
@@ -72,7 +72,7 @@ pub fn some_may_move<A: Allocator>(
     false
 }
 
-/// The ring value for `w`: that of the machine which leaves towards `w`, and 0 where `w` is no tree
+/// The ring value for `w`: that of the machine which leaves towards `w`, and 0 if `w` is no tree
 /// neighbour.
 pub fn ring_for<A: Allocator>(registers: &Registers<A>, tree: &TreeNeighbours, w: u16) -> u16
     requires { IsTreeWithin registers.now tree.now }
@@ -127,7 +127,7 @@ pub fn some_may_copy<A: Allocator>(registers: &Registers<A>, parent: Option<u16>
     false
 }
 
-/// The ring value for `w`, as [`ring_for`] gives it. It looks at the other neighbours only where
+/// The ring value for `w`, as [`ring_for`] gives it. It looks at the other neighbours only if
 /// `w` is a tree neighbour.
 #[inline(never)]
 pub fn ring_towards<A: Allocator>(

@@ -2,9 +2,9 @@
 ghost use Rattle.std.specs.Prelude.{◌≡◌, ◌↔◌, ◌<◌, ◌≤◌, ℕ, Bool, true, false, not, List, IsTrue};
 ghost use Rattle.std.specs.Prelude.{IfOk, IfErr, IsOk, OnOk, OnErr, Some, None, is_none, Contains};
 ghost use Rattle.std.specs.Prelude.{length, take, drop};
-ghost use Rattle.topology.specs.At.{at};
-ghost use Rattle.topology.specs.Network.{neighbours_of};
-ghost use Rattle.topology.specs.Ranges.{frame_fits, payload_fits, parent_fits, ranges_of};
+ghost use Rattle.registers.specs.topology.At.{at};
+ghost use Rattle.registers.specs.topology.Network.{neighbours_of};
+ghost use Rattle.registers.specs.topology.Ranges.{frame_fits, payload_fits, parent_fits, ranges_of};
 ghost use Rattle.registers.specs.data_link.Port.{counters_fit, frame_of};
 ghost use Rattle.lock_desk.specs.Desk.{ask_fault, asked, is_stranger, after_leave, loan_fits};
 ghost use Rattle.lock_desk.specs.Desk.{with_loan};
@@ -26,10 +26,10 @@ use crate::ticked::Ticked;
 use arrayvec::ArrayString;
 use lock_desk::{AskFault, Desk, Stranger};
 use registers::link_model::Item;
+use registers::topology::{Frame, Net, Payload, Ranges};
 use registers::{OutOfRange, Registers};
 use std::alloc::{AllocError, Allocator, Global};
 use std::marker::Model;
-use topology::{Frame, Net, Payload, Ranges};
 
 /// One node of the network, with all that it keeps.
 #[derive(Drop)]
@@ -42,7 +42,7 @@ pub struct Node<A: Allocator = Global> {
     desk: Desk<A>,
 }
 
-/// Another name of a node, where it is seen as the state that a file or a fault may write.
+/// Another name of a node, seen as the state that a file or a fault may write.
 pub type NodeState<A = Global> = Node<A>;
 
 impl<A: Allocator> Model for Node<A> {
@@ -75,7 +75,7 @@ impl<A: Allocator> Model for Node<A> {
 
 impl<A: Allocator + Copy> Node<A> {
     /// A node that knows nothing yet: the greatest distance, no parent, zeros, and an empty desk.
-    /// All memory that a node ever needs is reserved here; `AllocError` comes only where that is
+    /// All memory that a node ever needs is reserved here; `AllocError` comes only if that is
     /// refused.
     pub fn new<N: Allocator + Copy>(alloc: A, net: &Net<N>, id: u16) -> Result<Node<A>, AllocError>
         requires { id < net.now.nodes }
@@ -202,7 +202,7 @@ impl<A: Allocator> Node<A> {
         self.desk.lent()
     }
 
-    /// How many further ticks the loan outlasts where there is a lease.
+    /// How many further ticks the loan outlasts if there is a lease.
     pub fn left(&self) -> u16
         ensures { result ≡ (state_of self.now).desk.left }
     {
@@ -241,10 +241,10 @@ impl<A: Allocator> Node<A> {
         self.registers.frame_for(port)
     }
 
-    /// A client's ticket asks for the lock. Refused as `Full` where 64 tickets wait, and else as
-    /// `Twice` where this one waits or the lock is lent to it; then nothing has changed.
+    /// A client's ticket asks for the lock. Refused as `Full` if 64 tickets wait, and else as
+    /// `Twice` if this one waits or the lock is lent to it; then nothing has changed.
     pub fn ask(&mut self, ticket: u16) -> Result<(), AskFault>
-        // It is accepted exactly where nothing forbids it; else the first fault is reported.
+        // It is accepted exactly if nothing forbids it; else the first fault is reported.
         ensures accepted { OnOk result (ask_fault ticket (state_of self.old).desk ≡ None) }
         ensures asked { OnOk result (state_of self.new
             ≡ record (state_of self.old) { desk = asked ticket (state_of self.old).desk }) }
@@ -257,7 +257,7 @@ impl<A: Allocator> Node<A> {
         self.desk.ask(ticket)
     }
 
-    /// A client's ticket gives the lock back, or waits no longer. Refused where it does neither;
+    /// A client's ticket gives the lock back, or waits no longer. Refused if it does neither;
     /// then nothing has changed.
     pub fn leave(&mut self, ticket: u16) -> Result<(), Stranger>
         // Exactly a stranger, who neither waits nor borrows, is refused.
@@ -271,10 +271,10 @@ impl<A: Allocator> Node<A> {
         self.desk.leave(ticket)
     }
 
-    /// Writes the distance and the parent. `OutOfRange` comes exactly where the distance is above
+    /// Writes the distance and the parent. `OutOfRange` comes exactly if the distance is above
     /// the number of nodes, or the parent is no node; then nothing has changed.
     pub fn set_own(&mut self, distance: u16, parent: Option<u16>) -> Result<(), OutOfRange>
-        // It is written exactly where it is in range, and then nothing else has changed.
+        // It is written exactly if it is in range, and then nothing else has changed.
         ensures variant { IsOk result
             ↔ IsTrue (own_fits (site_in self.old).ranges distance parent) }
         ensures ok { OnOk result (state_of self.new
@@ -291,11 +291,11 @@ impl<A: Allocator> Node<A> {
         Ok(())
     }
 
-    /// Writes both numbers of the neighbour `port`. `OutOfRange` comes exactly where one is not
+    /// Writes both numbers of the neighbour `port`. `OutOfRange` comes exactly if one is not
     /// below the counters' modulus; then nothing has changed.
     pub fn set_counters(&mut self, port: u16, seq: u16, last: u16) -> Result<(), OutOfRange>
         requires { Contains (site_in self.old).neighbours port }
-        // It is written exactly where it is in range, and then nothing else has changed.
+        // It is written exactly if it is in range, and then nothing else has changed.
         ensures variant { IsOk result ↔ IsTrue (counters_fit (site_in self.old).ranges seq last) }
         ensures ok { OnOk result (state_of self.new
             ≡ with_port (state_of self.old) port
@@ -306,11 +306,11 @@ impl<A: Allocator> Node<A> {
         self.registers.set_counters(port, seq, last)
     }
 
-    /// Writes the staged payload for the neighbour `port`. `OutOfRange` comes exactly where a field
+    /// Writes the staged payload for the neighbour `port`. `OutOfRange` comes exactly if a field
     /// of it is not in its range; then nothing has changed.
     pub fn set_staged(&mut self, port: u16, payload: Payload) -> Result<(), OutOfRange>
         requires { Contains (site_in self.old).neighbours port }
-        // It is written exactly where it is in range, and then nothing else has changed.
+        // It is written exactly if it is in range, and then nothing else has changed.
         ensures variant { IsOk result ↔ IsTrue (payload_fits (site_in self.old).ranges payload) }
         ensures ok { OnOk result (state_of self.new
             ≡ with_port (state_of self.old) port
@@ -321,11 +321,11 @@ impl<A: Allocator> Node<A> {
         self.registers.set_staged(port, payload)
     }
 
-    /// Writes the copy of what the neighbour `port` said last. `OutOfRange` comes exactly where a
+    /// Writes the copy of what the neighbour `port` said last. `OutOfRange` comes exactly if a
     /// field of it is not in its range; then nothing has changed.
     pub fn set_copy(&mut self, port: u16, payload: Payload) -> Result<(), OutOfRange>
         requires { Contains (site_in self.old).neighbours port }
-        // It is written exactly where it is in range, and then nothing else has changed.
+        // It is written exactly if it is in range, and then nothing else has changed.
         ensures variant { IsOk result ↔ IsTrue (payload_fits (site_in self.old).ranges payload) }
         ensures ok { OnOk result (state_of self.new
             ≡ with_port (state_of self.old) port
@@ -337,10 +337,10 @@ impl<A: Allocator> Node<A> {
     }
 
     /// Writes the value of the machine that comes in from the neighbour `port`. `OutOfRange` comes
-    /// exactly where it is not below the ring values' modulus; then nothing has changed.
+    /// exactly if it is not below the ring values' modulus; then nothing has changed.
     pub fn set_value(&mut self, port: u16, value: u16) -> Result<(), OutOfRange>
         requires { Contains (site_in self.old).neighbours port }
-        // It is written exactly where it is in range, and then nothing else has changed.
+        // It is written exactly if it is in range, and then nothing else has changed.
         ensures variant { IsOk result ↔ (value < (site_in self.old).ranges.ring) }
         ensures ok { OnOk result (state_of self.new
             ≡ record (state_of self.old) { value = at (state_of self.old).value port value }) }
@@ -350,10 +350,10 @@ impl<A: Allocator> Node<A> {
         self.registers.set_value(port, value)
     }
 
-    /// Writes the loan. `OutOfRange` comes exactly where its ticket waits, where more is left than
-    /// the lease, or where anything is left of no loan; then nothing has changed.
+    /// Writes the loan. `OutOfRange` comes exactly if its ticket waits, if more is left than
+    /// the lease, or if anything is left of no loan; then nothing has changed.
     pub fn set_desk(&mut self, lent: Option<u16>, left: u16, served: bool) -> Result<(), OutOfRange>
-        // It is written exactly where it is in range, and then nothing else has changed.
+        // It is written exactly if it is in range, and then nothing else has changed.
         ensures variant { IsOk result
             ↔ IsTrue (loan_fits (site_in self.old).lease (state_of self.old).desk lent left) }
         ensures ok { OnOk result (state_of self.new
@@ -369,11 +369,11 @@ impl<A: Allocator> Node<A> {
         }
     }
 
-    /// Writes the tickets that wait, the next one first. `OutOfRange` comes exactly where they are
-    /// more than 64, where one stands twice, or where one of them borrows; then nothing has
+    /// Writes the tickets that wait, the next one first. `OutOfRange` comes exactly if they are
+    /// more than 64, if one stands twice, or if one of them borrows; then nothing has
     /// changed.
     pub fn set_waiting(&mut self, tickets: &[u16]) -> Result<(), OutOfRange>
-        // It is written exactly where it is in range, and then nothing else has changed.
+        // It is written exactly if it is in range, and then nothing else has changed.
         ensures variant { IsOk result
             ↔ IsTrue (queue_fits tickets.now (state_of self.old).desk.lent) }
         ensures ok { OnOk result (state_of self.new
@@ -405,7 +405,7 @@ impl<A: Allocator> Node<A> {
 
     /// Takes an item that the neighbour `port` sent. Noise changes nothing, nor does a frame with a
     /// field out of its range. Of any other frame, what the node had to say *before* it is staged
-    /// where the frame acknowledges the port's number; then its payload is copied where its number
+    /// if the frame acknowledges the port's number; then its payload is copied if its number
     /// is new. No other port changes.
     #[inline(always)]
     pub fn take(&mut self, port: u16, item: &Item)
@@ -470,7 +470,7 @@ impl<A: Allocator> Node<A> {
         self.parent = own.1;
     }
 
-    /// Second and last part of a tick: the desk ends a loan or begins one, and where it then lends
+    /// Second and last part of a tick: the desk ends a loan or begins one, and if it then lends
     /// to nobody, each machine that may move does.
     fn serve(&mut self) -> Ticked
         ensures state { state_of self.new
@@ -491,7 +491,7 @@ impl<A: Allocator> Node<A> {
     }
 
     /// One tick, in this order: distance and parent follow from the copies; the desk ends a loan or
-    /// begins one; and where it then lends to nobody, each machine that may move does.
+    /// begins one; and if it then lends to nobody, each machine that may move does.
     #[inline(never)]
     pub fn tick(&mut self) -> Ticked
         // The state is that of the rule for a tick.
@@ -499,7 +499,7 @@ impl<A: Allocator> Node<A> {
         ensures site { site_in self.new ≡ site_in self.old }
         // What became of the loan, as it is seen from the desk before and after the tick.
         ensures act { result.act ≡ desk_act (state_of self.old).desk (state_of self.new).desk }
-        // The tick is a full one exactly where the node lends to nobody after it.
+        // The tick is a full one exactly if the node lends to nobody after it.
         ensures full { result.full ≡ is_none (state_of self.new).desk.lent }
     {
         self.recompute();
@@ -508,7 +508,7 @@ impl<A: Allocator> Node<A> {
 
     /// Writes the node's status line, with its newline, to the front of `line` and says how many
     /// bytes it has; the rest stays as it was. The line is `node V distance D parent P token T lent
-    /// L waiting W`: T is `yes` where the node is privileged and else `no`, P and L may be `none`.
+    /// L waiting W`: T is `yes` if the node is privileged and else `no`, P and L may be `none`.
     pub fn status(&self, line: &mut [u8; 96]) -> usize
         ensures text { take result line.new ≡ status_line (site_in self.now) (state_of self.now) }
         // After the line nothing is written.

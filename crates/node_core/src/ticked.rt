@@ -7,7 +7,7 @@ use lock_desk::DeskAct;
 pub struct Ticked {
     /// What it did with the lock.
     pub act: DeskAct,
-    /// It was a full tick: the node lends to nobody after it, so its machines moved where they
+    /// It was a full tick: the node lends to nobody after it, so its machines moved if they
     /// might.
     pub full: bool,
 }

@@ -1,4 +1,4 @@
--- What `up` tells its nodes, whatever it sees.
+-- What `up` says to its nodes, whatever it sees.
 use Rattle.std.proofs.Common.{◌≡◌, ◌≤◌, ◌+◌, ℕ, Bool, true, false, not, if◌then◌else◌, Some, None, List, [], ◌∷◌, length, filter, arith, refl}
 use Rattle.std.proofs.lemmas.Grind.{common_steps}
 use Rattle.std.specs.List.{list_all}

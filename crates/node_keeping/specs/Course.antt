@@ -34,13 +34,13 @@ abbrev pub seen_then : UpSights → Signals → UpStage → Signals
 seen_then sights seen Running = if is_asked sights then sights.signals else seen
 seen_then sights seen _ = seen
 
--- what each node's keeper is told
+-- what each node's keeper is asked
 abbrev pub word_then : UpSights → Signals → UpStage → Option Seen
 word_then sights seen Running = if is_asked sights then Some Asked else None
 word_then sights seen Ending = if is_urged sights seen then Some Urged else None
 word_then sights seen Killing = None
 
--- what they are told, one after the other
+-- what they are asked, one after another
 abbrev pub words : Signals → UpStage → List UpSights → List (Option Seen)
 words seen stage [] = []
 words seen stage (sights ∷ rest) =

@@ -21,7 +21,7 @@ abbrev pub says_anything : Option Seen → Bool
 says_anything (Some seen) = true
 says_anything None = false
 
--- as long as nothing asks `up` to end, no node is told anything
+-- as long as nothing asks `up` to end, no node is asked anything
 abbrev pub RunsUnasked : Type 0
 RunsUnasked =
     (seen : Signals) (sights : List UpSights) → list_all (λ one. not (is_asked one)) sights ≡ true

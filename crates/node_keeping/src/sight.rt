@@ -5,7 +5,8 @@ ghost use Rattle.node_keeping.specs.Sight.{file_sight};
 use std::io::ErrorKind;
 
 /// Which file it is, for as long as it is open: no two files of a system that are open have the same
-/// device and inode.
+/// device and inode. A node keeps its lock file and sockets open, so their inodes go to no other file. In a folder that is
+/// another node's it ends and removes nothing: sockets and stop file there are not its own.
 #[derive(Clone, Copy, Debug, PartialEq, Eq)]
 pub struct FileId {
     /// The device that it is on.

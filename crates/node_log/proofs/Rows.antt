@@ -2,12 +2,12 @@
 use Rattle.std.proofs.Common.{◌≡◌, ◌≢◌, true, false, Some, None, [], ◌∷◌, refl, codes, arith}
 use Rattle.std.specs.Fmt.{digits}
 use Rattle.lock_desk.specs.declared.act.DeskAct.TheVariants as act
-use Rattle.node_log.specs.declared.event.Event.TheVariants.{Begins, Up, Down, Granted, Lost, GivenBack}
+use Rattle.node_log.specs.declared.event.Event.TheVariants.{Begins, Up, Down, Granted, Lost, GivenBack, Full, Room}
 use Rattle.node_log.specs.declared.event.Level.TheVariants.{Warning, Notice, Info}
 use Rattle.node_log.specs.declared.rate.LineRate.{LineRate}
 use Rattle.node_log.specs.Events.{level_of, priority_of, level_with, is_said_at}
 use Rattle.node_log.specs.Rate.{new_rate, second_of, said_in, answer_at, rate_after, answers}
-use Rattle.node_log.specs.Turns.{gave_back, by_act, changed, by_link, next_of, admitted, rate_then}
+use Rattle.node_log.specs.Turns.{gave_back, by_act, changed, by_link, by_desk, full_after, next_of, admitted, rate_then}
 use Rattle.node_log.specs.Line.{event_text, priority_text, left_out_text, log_line}
 use Rattle.node_log.specs.Laws.{is_said}
 
@@ -107,6 +107,43 @@ link_not-beyond = refl
 
 change-up : changed 2 true false ≡ Some (Up 2)
 change-up = refl
+
+-- clients: a desk is full, and has room when 32 wait
+desk-full : by_desk 64 false ≡ Some Full
+desk-full = refl
+
+desk_not-full : by_desk 63 false ≡ None
+desk_not-full = refl
+
+desk_not-again : by_desk 64 true ≡ None
+desk_not-again = refl
+
+desk_not-soon : by_desk 33 true ≡ None
+desk_not-soon = refl
+
+desk-room : by_desk 32 true ≡ Some Room
+desk-room = refl
+
+full-once : full_after 64 false ≡ true
+full-once = refl
+
+full_not-below : full_after 63 false ≡ false
+full_not-below = refl
+
+full-still : full_after 33 true ≡ true
+full-still = refl
+
+full_not-half : full_after 32 true ≡ false
+full_not-half = refl
+
+urgent-full : level_of Full ≡ Warning
+urgent-full = refl
+
+urgent-room : level_of Room ≡ Notice
+urgent-room = refl
+
+words-full : event_text Full ≡ codes "64 clients wait, and further ones are refused"
+words-full = refl
 
 next-first : next_of 3 2 ≡ 0
 next-first = refl

@@ -1,7 +1,7 @@
 -- A line of a node's log.
 use Rattle.std.specs.Prelude.{ℕ, Bool, nat_lt, if◌then◌else◌, List, [], ◌++◌, codes, decimal}
 use Rattle.node_log.specs.declared.event.Event.{Event}
-use Rattle.node_log.specs.declared.event.Event.TheVariants.{Begins, Ends, Up, Down, Granted, Lost, GivenBack}
+use Rattle.node_log.specs.declared.event.Event.TheVariants.{Begins, Ends, Up, Down, Granted, Lost, GivenBack, Full, Room}
 use Rattle.node_log.specs.Events.{level_of, priority_of}
 
 abbrev pub event_text : Event → List ℕ
@@ -12,6 +12,8 @@ event_text (Down id) = codes "the link to node " ++ (decimal id ++ codes " is do
 event_text (Granted ticket) = codes "ticket " ++ (decimal ticket ++ codes " is granted the lock")
 event_text (Lost ticket) = codes "ticket " ++ (decimal ticket ++ codes " has lost the lock")
 event_text (GivenBack ticket) = codes "ticket " ++ (decimal ticket ++ codes " has given the lock back")
+event_text Full = codes "64 clients wait, and further ones are refused"
+event_text Room = codes "clients may wait again"
 
 -- the priority in angle brackets, as the journal of systemd reads it in front of a line (sd-daemon)
 abbrev pub priority_text : Event → Bool → List ℕ

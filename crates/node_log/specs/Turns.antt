@@ -1,16 +1,16 @@
 -- What happened in a turn of a node, and what of it is said.
-use Rattle.std.specs.Prelude.{ℕ, Bool, true, false, ◌+◌, nat_lt, if◌then◌else◌, Option, None, Some, List}
+use Rattle.std.specs.Prelude.{ℕ, Bool, true, false, not, ◌+◌, nat_lt, if◌then◌else◌, Option, None, Some, List}
 use Rattle.std.specs.List.{slice_index_or}
 use Rattle.lock_desk.specs.declared.act.DeskAct.{DeskAct}
 use Rattle.lock_desk.specs.declared.act.DeskAct.TheVariants as act
 use Rattle.node_log.specs.declared.event.Event.{Event}
-use Rattle.node_log.specs.declared.event.Event.TheVariants.{Up, Down, Granted, Lost, GivenBack}
+use Rattle.node_log.specs.declared.event.Event.TheVariants.{Up, Down, Granted, Lost, GivenBack, Full, Room}
 use Rattle.node_log.specs.declared.event.Level.{Level}
 use Rattle.node_log.specs.declared.rate.LineRate.{LineRate}
 use Rattle.node_log.specs.Events.{level_of, is_said_at}
 use Rattle.node_log.specs.Rate.{answer_at, rate_after}
 
--- who had the lock and has given it back: a tick grants only where nobody had it any more, and takes it from nobody
+-- who had the lock and has given it back: a tick grants only if nobody had it any more, and takes it from nobody
 -- without an end of the loan
 abbrev pub gave_back : Option ℕ → DeskAct → Option ℕ → Option Event
 gave_back (Some ticket) (act.Granted other) now = Some (GivenBack ticket)
@@ -31,6 +31,16 @@ changed id is_up was_up = None
 
 abbrev pub by_link : ℕ → Bool → List Bool → Option Event
 by_link id is_up up = if nat_lt id 64 then changed id is_up (slice_index_or up id false) else None
+
+-- a desk has 64 places for those who wait, and refuses whoever asks while they are taken. That is said once, until at
+-- most half of them are taken
+abbrev pub by_desk : ℕ → Bool → Option Event
+by_desk waiting false = if nat_lt waiting 64 then None else Some Full
+by_desk waiting true = if nat_lt 32 waiting then None else Some Room
+
+abbrev pub full_after : ℕ → Bool → Bool
+full_after waiting false = not (nat_lt waiting 64)
+full_after waiting true = nat_lt 32 waiting
 
 -- after the last node of the network comes the first
 abbrev pub next_of : ℕ → ℕ → ℕ

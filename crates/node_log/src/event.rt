@@ -19,6 +19,10 @@ pub enum Event {
     Lost(u16),
     /// The client with this ticket gave the lock back, or went away.
     GivenBack(u16),
+    /// As many clients wait as may, 64: further ones are refused.
+    Full,
+    /// At most half as many wait again.
+    Room,
 }
 
 /// How urgent it is.
@@ -38,8 +42,8 @@ impl Event {
         ensures { result ≡ level_of self }
     {
         match self {
-            Event::Down(_) | Event::Lost(_) => Level::Warning,
-            Event::Begins | Event::Ends | Event::Up(_) => Level::Notice,
+            Event::Down(_) | Event::Lost(_) | Event::Full => Level::Warning,
+            Event::Begins | Event::Ends | Event::Up(_) | Event::Room => Level::Notice,
             Event::Granted(_) | Event::GivenBack(_) => Level::Info,
         }
     }

@@ -1,5 +1,5 @@
-//! What a node says of itself while it runs, for whoever keeps its lines: when a link comes and goes, and who
-//! is granted the lock, loses it or gives it back.
+//! What a node says of itself while it runs, for whoever keeps its lines: when a link comes and goes, who is
+//! granted the lock, loses it or gives it back, and when so many wait that further clients are refused.
 //!
 //! ```
 //! let mut log = NodeLog::new(Some(Level::Info));       // None says nothing
@@ -11,7 +11,7 @@
 //! ```
 //!
 //! The trap: of the links one is looked at in each turn, so a link that goes and comes again between two
-//! looks is not said.
+//! looks is not said; nor is a desk that is full within a turn, and not at its end.
 #![tactic(auto)]
 
 mod event;

@@ -88,6 +88,8 @@ impl fmt::Display for What {
             Event::Granted(ticket) => write!(f, "ticket {ticket} is granted the lock"),
             Event::Lost(ticket) => write!(f, "ticket {ticket} has lost the lock"),
             Event::GivenBack(ticket) => write!(f, "ticket {ticket} has given the lock back"),
+            Event::Full => f.write_str("64 clients wait, and further ones are refused"),
+            Event::Room => f.write_str("clients may wait again"),
         }
     }
 }

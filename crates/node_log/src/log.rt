@@ -1,7 +1,8 @@
 //! The log of a node.
 ghost use Rattle.std.specs.Prelude.{◌≡◌, ◌≢◌, ◌<◌, ℕ, [], ◌∷◌, None, false, is_some, replicate};
 ghost use Rattle.std.specs.List.{slice_index_or};
-ghost use Rattle.node_log.specs.Turns.{gave_back, by_act, by_link, admitted, rate_then, next_of};
+ghost use Rattle.node_log.specs.Turns.{gave_back, by_act, by_link, by_desk, full_after};
+ghost use Rattle.node_log.specs.Turns.{admitted, rate_then, next_of};
 
 use crate::event::{Event, Level};
 use crate::rate::LineRate;
@@ -10,6 +11,12 @@ use lock_desk::DeskAct;
 /// How many nodes a network has at most.
 const NODES: usize = 64;
 
+/// How many clients wait at a node at most.
+const PLACES: usize = 64;
+
+/// How many wait at most when a desk that was full has room again.
+const HALF: usize = 32;
+
 /// What is seen of a node after a turn.
 #[derive(Clone, Copy, Debug, PartialEq, Eq)]
 pub struct TurnSight {
@@ -17,6 +24,8 @@ pub struct TurnSight {
     pub act: DeskAct,
     /// The ticket that has the lock, if any.
     pub lent: Option<u16>,
+    /// How many clients wait.
+    pub waiting: usize,
     /// The node to which the link was looked at.
     pub link: u16,
     /// Whether a connection to it stands.
@@ -35,6 +44,8 @@ pub struct NodeLog {
     next: u16,
     /// The ticket that had the lock after the last turn.
     lent: Option<u16>,
+    /// Whether it has said that further clients are refused, and not since that they may wait again.
+    is_full: bool,
 }
 
 impl NodeLog {
@@ -44,7 +55,7 @@ impl NodeLog {
     pub fn new(least: Option<Level>) -> NodeLog
         ensures level { result.least ≡ least }
         ensures rest { (result.rate ≡ new_rate) × (result.up ≡ replicate 64 false) × (result.next ≡ 0)
-            × (result.lent ≡ None) }
+            × (result.lent ≡ None) × (result.is_full ≡ false) }
     {
         NodeLog {
             least,
@@ -52,6 +63,7 @@ impl NodeLog {
             up: [false; NODES],
             next: 0,
             lent: None,
+            is_full: false,
         }
     }
 
@@ -74,11 +86,14 @@ impl NodeLog {
     }
 
     /// What happened in a turn, by what is seen after it: who gave the lock back, who was granted it or lost
-    /// it, and whether the link is up or down now. Of an id above 63 nothing is said.
-    pub fn turn_ended(&mut self, sight: TurnSight) -> [Option<Event>; 3]
+    /// it, whether the link is up or down now, and whether further clients are refused now or may wait again.
+    /// Of an id above 63 nothing is said.
+    pub fn turn_ended(&mut self, sight: TurnSight) -> [Option<Event>; 4]
         ensures events { result ≡ gave_back self.old.lent sight.act sight.lent ∷ by_act sight.act
-            ∷ by_link sight.link sight.is_up self.old.up ∷ [] }
+            ∷ by_link sight.link sight.is_up self.old.up
+            ∷ by_desk sight.waiting self.old.is_full ∷ [] }
         ensures lent { self.new.lent ≡ sight.lent }
+        ensures full { self.new.is_full ≡ full_after sight.waiting self.old.is_full }
         ensures link { sight.link < 64 → slice_index_or self.new.up sight.link false ≡ sight.is_up }
         ensures others { (other : ℕ) → other ≢ sight.link
             → slice_index_or self.new.up other false ≡ slice_index_or self.old.up other false }
@@ -87,8 +102,22 @@ impl NodeLog {
     {
         let back = gave_back(self.lent, sight.act, sight.lent);
         let link = self.see_link(sight.link, sight.is_up);
+        let desk = self.see_desk(sight.waiting);
         self.lent = sight.lent;
-        [back, by_act(sight.act), link]
+        [back, by_act(sight.act), link, desk]
+    }
+
+    /// Takes note of how many clients wait, and says whether further ones are refused now or may wait again.
+    fn see_desk(&mut self, waiting: usize) -> Option<Event>
+        ensures event { result ≡ by_desk waiting self.old.is_full }
+        ensures after { self.new ≡ record self.old { is_full = full_after waiting self.old.is_full } }
+    {
+        let is_full = waiting > if self.is_full { HALF } else { PLACES - 1 };
+        if is_full == self.is_full {
+            return None;
+        }
+        self.is_full = is_full;
+        Some(if is_full { Event::Full } else { Event::Room })
     }
 
     /// Takes note of the link to a node, and says whether it came or went.
@@ -98,7 +127,8 @@ impl NodeLog {
         ensures others { (other : ℕ) → other ≢ id
             → slice_index_or self.new.up other false ≡ slice_index_or self.old.up other false }
         ensures rest { (self.new.least ≡ self.old.least) × (self.new.rate ≡ self.old.rate)
-            × (self.new.next ≡ self.old.next) × (self.new.lent ≡ self.old.lent) }
+            × (self.new.next ≡ self.old.next) × (self.new.lent ≡ self.old.lent)
+            × (self.new.is_full ≡ self.old.is_full) }
     {
         let place = usize::from(id);
         if place >= NODES || self.up[place] == is_up {
@@ -118,7 +148,8 @@ impl NodeLog {
         ensures answer { result ≡ admitted self.old.least event now self.old.rate }
         ensures rate { self.new.rate ≡ rate_then self.old.least event now self.old.rate }
         ensures rest { (self.new.least ≡ self.old.least) × (self.new.up ≡ self.old.up)
-            × (self.new.next ≡ self.old.next) × (self.new.lent ≡ self.old.lent) }
+            × (self.new.next ≡ self.old.next) × (self.new.lent ≡ self.old.lent)
+            × (self.new.is_full ≡ self.old.is_full) }
     {
         match self.least {
             Some(least) if event.level().is_said_at(least) => self.rate.admit(now),

@@ -83,6 +83,11 @@ module _ {P : Type 0} where
   loose-set ns ports i q has so w not =
       let other : w ≢ i = λ e. elim (not (subst (λ v. Contains ns v) (sym e) has)) [ ] in rw (others-set ports i q w other) (so w not)
 
+  -- the same of a port that changed somehow
+  pub loose-others : (ns : List ℕ) (old new : List (NodePort P)) (i : ℕ) → Contains ns i → ((w : ℕ) → w ≢ i → slice_get new w ≡ slice_get old w) → AreLoose ns old → AreLoose ns new
+  loose-others ns old new i has others so w not =
+      let other : w ≢ i = λ e. elim (not (subst (λ v. Contains ns v) (sym e) has)) [ ] in rw (others w other) (so w not)
+
   -- the link of a port without a connection is down
   pub loose-down : (x : Option (NodePort P)) → is_linked x ≡ false → IfSome (link_at x) (λ sight. sight.is_up ≡ false)
   loose-down None e = tt

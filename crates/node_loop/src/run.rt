@@ -15,6 +15,8 @@ ghost use Rattle.node_state_file.specs.Stores.{Saves};
 ghost use Rattle.node_loop.specs.Clients.{is_connected};
 ghost use Rattle.node_loop.specs.LinkSights.{link_at};
 ghost use Rattle.node_loop.specs.Loose.{AreKept, AreLoose};
+ghost use Rattle.node_loop.specs.Moments.{AtBoth};
+ghost use Rattle.node_loop.specs.Speaking.{SpeaksTo, sent_if};
 
 use crate::clients::Clients;
 use crate::doors::{Door, Doors};
@@ -28,7 +30,7 @@ use node_state_file::{Store, StoreFault, encode};
 use pace::{Manner, Pace, Plan};
 use socket_links::{Pipe, Pull};
 use std::alloc::{AllocError, Allocator, Global};
-use topology::Net;
+use topology::{Frame, Net};
 use turn_watch::LinkSight;
 
 /// How many connections are accepted at each door in a turn, at most.
@@ -69,6 +71,8 @@ pub struct NodeRun<D: Doors, S: Store + Drop, A: Allocator + Copy = Global> {
     ghost site: { (site_in node).id < net.nodes },
     ghost wired: { site_in node ≡ site_of net (site_in node).id },
     ghost ports_are: { (length ports.items ≡ net.nodes) × (net.nodes ≤ 64) },
+    // A node that is no neighbour has no connection.
+    ghost strangers: { AreLoose (site_in node).neighbours ports.items },
 }
 
 impl<D: Doors, S: Store + Drop, A: Allocator + Copy> NodeRun<D, S, A> {
@@ -77,10 +81,9 @@ impl<D: Doors, S: Store + Drop, A: Allocator + Copy> NodeRun<D, S, A> {
     ghost use Rattle.node_loop.specs.Deeds.{Acts, Became, IsLeave};
     ghost use Rattle.node_loop.specs.Hearing.{AreWired, Comes, Hears, Listens, Pulls, TakesAt, Wires};
     ghost use Rattle.node_loop.specs.Lives.{Admits, LiveOn, StillLive};
-    ghost use Rattle.node_loop.specs.Moments.{AtBoth};
     ghost use Rattle.node_loop.specs.Remembering.{Remembers};
     ghost use Rattle.node_loop.specs.Said.{NothingSaid, HasAnswered, TurnSays};
-    ghost use Rattle.node_loop.specs.Speaking.{IsPlanOf, outlook_of, Speaks, SpeaksTo, sent_if};
+    ghost use Rattle.node_loop.specs.Speaking.{IsPlanOf, outlook_of, Speaks};
     ghost use Rattle.node_loop.specs.Turns.{Attends, Turns};
 
     /// A node of this network that runs over these doors. All memory that turns ever need is
@@ -139,14 +142,21 @@ impl<D: Doors, S: Store + Drop, A: Allocator + Copy> NodeRun<D, S, A> {
             × (self.new.has_ticked ≡ self.old.has_ticked)
             × (self.new.has_more ≡ self.old.has_more) }
     {
-        let rest = if self.has_more {
-            0
-        } else {
-            let sights = sight::sights(&self.node, &self.net, &self.ports);
-            let outlook = sight::outlook(&self.node, self.let_go);
-            self.pace.rest(&sights, &outlook, now)
-        };
+        let rest = self.rest(now);
         self.doors.wait(rest);
+    }
+
+    /// How long it rests if nothing comes, in microseconds: not at all if the next turn is not to wait.
+    fn rest(&self, now: u64) -> u64
+        ensures longest { result ≤ 2000 }
+        ensures at_once { self.now.has_more ≡ true → result ≡ 0 }
+    {
+        if self.has_more {
+            return 0;
+        }
+        let sights = sight::sights(&self.node, &self.net, &self.ports);
+        let outlook = sight::outlook(&self.node, self.let_go);
+        self.pace.rest(&sights, &outlook, now)
     }
 
     /// One turn: all that came is taken, the node ticks once, and it speaks, by the plan that the
@@ -442,7 +452,8 @@ impl<D: Doors, S: Store + Drop, A: Allocator + Copy> NodeRun<D, S, A> {
     /// Makes a connection to a lower neighbour, if its port is loose. Unless one came, no port
     /// changes.
     fn call_on(&mut self, id: u16)
-        requires { id < self.old.net.nodes }
+        requires node { id < self.old.net.nodes }
+        requires neighbour { Contains (site_in self.old.node).neighbours id }
         ensures node { self.new.node ≡ self.old.node }
         // Whatever the door answers, no link changes, and no port that is not loose.
         ensures links { AtBoth (λ old new. (new.link ≡ old.link) × (new.is_stuck ≡ old.is_stuck))
@@ -467,7 +478,8 @@ impl<D: Doors, S: Store + Drop, A: Allocator + Copy> NodeRun<D, S, A> {
 
     /// Goes on with the hello to a lower neighbour, if there is one.
     fn go_on_greeting(&mut self, id: u16)
-        requires { id < self.old.net.nodes }
+        requires node { id < self.old.net.nodes }
+        requires neighbour { Contains (site_in self.old.node).neighbours id }
         ensures node { self.new.node ≡ self.old.node }
         ensures wires { AtBoth Wires (slice_get self.old.ports.items id)
             (slice_get self.new.ports.items id) }
@@ -618,11 +630,7 @@ impl<D: Doors, S: Store + Drop, A: Allocator + Copy> NodeRun<D, S, A> {
             return false;
         }
         let frame = self.node.frame_for(id);
-        let is_accepted = self.ports[id as usize].speak(&frame, offered);
-        if is_accepted {
-            self.pace.gave(id as usize, &frame, now);
-        }
-        is_accepted
+        speak_at(&mut self.ports, &mut self.pace, id, &frame, offered, now)
     }
 
     /// Last part of a turn: each 256th time, the state is saved.
@@ -684,10 +692,11 @@ impl<D: Doors, S: Store + Drop, A: Allocator + Copy> NodeRun<D, S, A> {
     /// What is seen of the link to a node; none if there is no such node in the network. A node that is
     /// no neighbour has a link that is down.
     pub fn link(&self, id: u16) -> Option<LinkSight>
-        ensures { result ≡ link_at (slice_get self.now.ports.items id) }
+        ensures sight { result ≡ link_at (slice_get self.now.ports.items id) }
+        ensures strangers { ¬ Contains (site_in self.now.node).neighbours id
+            → IfSome result (λ sight. sight.is_up ≡ false) }
     {
-        let port = self.ports.get(usize::from(id))?;
-        Some(port.sight())
+        link_seen(&self.ports, id)
     }
 
     /// The network.
@@ -717,6 +726,41 @@ impl<D: Doors, S: Store + Drop, A: Allocator + Copy> NodeRun<D, S, A> {
     {
         &mut self.doors
     }
+}
+
+/// Writes what is left of the last line at a port, and then a frame, if it is offered. The pace is told
+/// of a frame that is accepted; the answer is whether it was.
+fn speak_at<P: Pipe, A: Allocator + Copy>(
+    ports: &mut Vec<NodePort<P>, A>,
+    pace: &mut Pace,
+    id: u16,
+    frame: &Frame,
+    offered: bool,
+    now: u64,
+) -> bool
+    requires { (id < length ports.old.items) × (length ports.old.items ≤ 64) }
+    ensures spoken { AtBoth (SpeaksTo P.gave P.took P.counts frame.now offered now
+        (port_of pace.old.ports id) (port_of pace.new.ports id) (sent_if result frame.now))
+        (slice_get ports.old.items id) (slice_get ports.new.items id) }
+    ensures others { (w : ℕ) → w ≢ id
+        → (slice_get ports.new.items w ≡ slice_get ports.old.items w)
+        × (port_of pace.new.ports w ≡ port_of pace.old.ports w) }
+    ensures count { length ports.new.items ≡ length ports.old.items }
+    ensures pace { (pace.new.node ≡ pace.old.node) × (pace.new.manner ≡ pace.old.manner) }
+{
+    let is_accepted = ports[id as usize].speak(frame, offered);
+    if is_accepted {
+        pace.gave(id as usize, frame, now);
+    }
+    is_accepted
+}
+
+/// What is seen of the link to a node; none if it has no port.
+fn link_seen<P: Pipe>(ports: &[NodePort<P>], id: u16) -> Option<LinkSight>
+    ensures { result ≡ link_at (slice_get ports.now id) }
+{
+    let port = ports.get(usize::from(id))?;
+    Some(port.sight())
 }
 
 /// Closes the connections of those who are no neighbours of the node.

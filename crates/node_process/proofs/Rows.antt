@@ -1,17 +1,19 @@
 -- Small examples of each definition, and ones that fail.
 use Rattle.std.proofs.Common.{◌≡◌, ◌≢◌, true, false, Some, None, [], ◌∷◌, refl, codes, arith}
 use Rattle.std.specs.Fmt.{digits}
-use Rattle.node_texts.specs.declared.lines.End.TheVariants.{Unstarted, Status, Signal}
+use Rattle.std.specs.Process.{status_bits}
+use Rattle.std.specs.declared.process.status.ExitStatus.{ExitStatus}
+use Rattle.node_texts.specs.declared.lines.End.TheVariants.{Unstarted, Status, Signal, Unknown}
 use Rattle.node_keeping.specs.declared.saved.AfterSave.TheVariants as save
-use Rattle.node_process.specs.declared.fault.NodeFault.TheVariants.{NoNode, Running, Links, Looks, System, Memory, Displaced, StopStays}
+use Rattle.node_process.specs.declared.fault.NodeFault.TheVariants.{NoNode, LongName, Folder, Running, UpRunning, Links, Looks, System, Memory, Displaced, StopStays}
 use Rattle.node_process.specs.declared.start.Stage.TheVariants.{Begun, Checked, Entered, Held, Listening}
 use Rattle.node_process.specs.Start.{may_end}
 use Rattle.node_process.specs.declared.rights.Rights.TheVariants.{Usual, GroupLocks}
-use Rattle.node_process.specs.Children.{rights_options, log_options, child_words}
+use Rattle.node_process.specs.Children.{rights_options, log_options, child_options, child_words, end_of}
 use Rattle.node_log.specs.declared.event.Level.TheVariants.{Notice}
 use Rattle.node_process.specs.Rights.{folder_mode, own_mode, clients_mode}
 use Rattle.node_process.specs.Ends.{end_fault, ends_by}
-use Rattle.node_process.specs.Texts.{last_end, gone_line, blocked_line}
+use Rattle.node_process.specs.Texts.{last_end, left_line, gone_line, refusal_text, blocked_line}
 
 -- a wrong id ends a start before the folder is made, and not after
 ends-wrong_id : may_end Begun (NoNode 3) ≡ true
@@ -106,3 +108,50 @@ mode-own = refl
 
 mode_not-usual : own_mode Usual ≡ None
 mode_not-usual = refl
+
+tells-options : child_options (record { hold = 0; repeat = 5 }) 7 ≡ codes "node" ∷ codes "--child" ∷ codes "--hold" ∷ codes "0" ∷ codes "--repeat" ∷ codes "5"
+    ∷ codes "--turn" ∷ codes "0.007" ∷ []
+unfolding digits
+tells-options = refl
+
+-- why a node does not run: which file, and what to do
+refuses-node : refusal_text (codes "ring.toml") (codes "run") 7 (NoNode 3) ≡ codes "no node 7 is in ring.toml: its 3 nodes are numbered from 0"
+unfolding digits
+refuses-node = refl
+
+refuses-running : refusal_text (codes "ring.toml") (codes "run") 1 Running ≡ codes "run/lock-1: node 1 runs there already; stop it, or choose another DIR"
+unfolding digits
+refuses-running = refl
+
+refuses-up : refusal_text (codes "ring.toml") (codes "run") 1 UpRunning ≡ codes "run/lock-up: another up runs there already; stop it, or choose another DIR"
+refuses-up = refl
+
+refuses-links : refusal_text (codes "ring.toml") (codes "run") 1 Links ≡ codes "run/node-1.sock: cannot be made; choose another DIR"
+unfolding digits
+refuses-links = refl
+
+refuses_not-other : refusal_text (codes "ring.toml") (codes "run") 1 LongName ≢ refusal_text (codes "ring.toml") (codes "run") 1 Folder
+refuses_not-other = grind arith
+
+-- a node that failed at its start three times
+leaves-failed : left_line 1 (Status 2) ≡ codes "node 1 ended with status 2 for the third time at its start, and is left alone; mend what it says, and start up again"
+unfolding digits
+leaves-failed = refl
+
+leaves-killed : left_line 1 (Signal 9) ≡ codes "node 1 was ended by signal 9 for the third time at its start, and is left alone; mend what it says, and start up again"
+unfolding digits
+leaves-killed = refl
+
+-- POSIX's wait statuses: exit status 2, signal 9, signal 11 with a core (128 more), and a process that stopped
+module _ (s : ExitStatus) where
+  ended-status : status_bits s ≡ 512 → end_of s ≡ Status 2
+  ended-status bits = rw bits refl
+
+  ended-signal : status_bits s ≡ 9 → end_of s ≡ Signal 9
+  ended-signal bits = rw bits refl
+
+  ended-core : status_bits s ≡ 139 → end_of s ≡ Signal 11
+  ended-core bits = rw bits refl
+
+  ended_not-stopped : status_bits s ≡ 4991 → end_of s ≡ Unknown
+  ended_not-stopped bits = rw bits refl

@@ -1,4 +1,4 @@
--- What a node's process, and the process that keeps nodes running, say where they do not run.
+-- What a node's process, and the process that keeps nodes running, say if they do not run.
 use Rattle.std.specs.Prelude.{ℕ, ◌==◌, if◌then◌else◌, List, ◌++◌, codes, decimal}
 use Rattle.network_file.specs.FaultText.{network_fault_text}
 use Rattle.node_process.specs.declared.fault.NodeFault.{NodeFault}

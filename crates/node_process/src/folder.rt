@@ -229,6 +229,9 @@ fn joined(links: Listener, clients: Listener, looks: Listener) -> NodeSockets {
 
 /// A socket of this name and mode, if one is given, in place of a file that stands there.
 ///
+/// The mode is set after `bind`, as the kit has no `umask`. The folder is closed before. Under a mask that
+/// lets the group write, the group could open the socket for some microseconds; the unit's mask is 0077.
+///
 /// # Errors
 /// If what stands there cannot be removed, as a folder, or the system makes none.
 pub fn bind_again<R: Files + Net>(rt: &R, path: &str, mode: Option<u32>) -> io::Result<Listener> {

@@ -53,12 +53,14 @@ impl<'a, R: Eprint> Journal<'a, R> {
         let events = self.log.turn_ended(TurnSight {
             act: turned.ticked.act,
             lent: run.node().lent(),
+            waiting: run.node().waiting(),
             link,
             is_up: matches!(run.link(link), Some(sight) if sight.is_up),
         });
         self.say_if(events[0], now);
         self.say_if(events[1], now);
         self.say_if(events[2], now);
+        self.say_if(events[3], now);
     }
 
     /// Says what happened, if anything did.

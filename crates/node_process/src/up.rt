@@ -49,11 +49,11 @@ const HOLD_SIGNALS_BACK: &str = "--block-signal=HUP,INT,QUIT,TERM";
 
 /// How the processes of nodes are started.
 pub trait NodeProgram {
-    /// The command that runs node `id`. It prints its lines with its name in front, and ends where
+    /// The command that runs node `id`. It prints its lines with its name in front, and ends when
     /// its standard input is at its end.
     ///
     /// # Errors
-    /// Where memory runs out.
+    /// If memory runs out.
     fn command(&self, alloc: Global, id: u16) -> io::Result<Command>;
 
     /// Who may use the folder and the nodes' sockets.
@@ -82,7 +82,7 @@ impl<'a> OwnProgram<'a> {
     /// This program, for the nodes of the network of FILE in DIR.
     ///
     /// # Errors
-    /// Where the system does not tell which program this is.
+    /// If the system does not say which program this is.
     pub fn new<R: Env + Files + Processes + AllocGlobal>(
         rt: &R,
         file: &'a str,
@@ -227,7 +227,7 @@ fn add_option(alloc: Global, command: &mut Command, name: &str, number: u64) -> 
     add_two(command, name, number.as_str())
 }
 
-/// Adds the network, the node and the folder. Behind `--` no name is an option.
+/// Adds the network, the node and the folder. After `--` no name is an option.
 fn add_place(alloc: Global, command: &mut Command, file: &str, id: u16, dir: &str) -> io::Result<()>
     ensures { OnOk result (command_args command.new ≡ command_args command.old
         ++ codes "--" ∷ file.now ∷ decimal id ∷ dir.now ∷ []) }

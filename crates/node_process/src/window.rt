@@ -110,7 +110,7 @@ impl<'a> Window<'a> {
     /// The line for whoever looks at the node at that time.
     ///
     /// # Errors
-    /// Where memory runs out.
+    /// If memory runs out.
     pub fn line<D: Doors, S: Store + Drop>(
         &self,
         alloc: Global,

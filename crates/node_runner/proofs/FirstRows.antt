@@ -8,7 +8,7 @@ use Rattle.run_model.specs.declared.event.Event.{Event}
 use Rattle.run_model.specs.declared.event.Event.TheVariants.{Send, Take, Tick}
 use Rattle.node_runner.specs.FirstTurn.{IsFirstTurn, before_tick, count_of, deeds_of, is_send_on, is_take_on, is_tick_of}
 
--- an event is its receiver's where it is a take, else its sender's
+-- an event is its receiver's if it is a take, else its sender's
 row-deeds : deeds_of 0 (Tick 0 ∷ Tick 1 ∷ Send 0 1 ∷ Send 1 0 ∷ Take 0 1 ∷ Take 1 0 ∷ []) ≡ Tick 0 ∷ Send 0 1 ∷ Take 1 0 ∷ []
 row-deeds = refl
 

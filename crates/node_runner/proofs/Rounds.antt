@@ -145,7 +145,7 @@ nothing : {X : Type 0} (xs : List X) → length xs ≡ 0 → xs ≡ []
 nothing [] none = refl
 nothing (x ∷ xs) none = absurd (omega (arith, none))
 
--- of two takes each is made where fewer items were taken than there are
+-- of two takes each is made if fewer items were taken than there are
 two-takes : (least m e f : ℕ) → (m < least → 0 < e) → (m + e < least → 0 < f) → e ≤ 1 → f ≤ 1 → min 2 least ≤ m + (e + f)
 two-takes least m e f first second few few' =
     let cases : (m < least) ⊎ (least ≤ m) = grind arith in

@@ -1,4 +1,4 @@
--- What a node on its own thread does not leave out where it can be done.
+-- What a node on its own thread does not leave out if it can be done.
 use Rattle.std.specs.Prelude.{◌≡◌, ℕ, ◌+◌, ◌<◌, ◌≤◌, min, IsTrue, List, [], All, map, length}
 use Rattle.topology.specs.Network.{are_joined}
 use Rattle.run_model.specs.World.{World}
@@ -18,14 +18,14 @@ events_of v notes = map (λ d. (entry_of v d).event) notes
 abbrev pub IsWithin : World → Type 0
 IsWithin w = (u v : ℕ) → IsTrue (are_joined w.net.edges u v) → length (w.link u v) ≤ w.net.capacity
 
--- Where the world that the run began with had room on the link to u, nothing was sent over it so
+-- If the world that the run began with had room on the link to u, nothing was sent over it so
 -- far, and the clock is not at its end, something is noted.
 abbrev pub IsSendDue : {A : Type 0} → ℕ → Runner A → List Note → Type 0
 IsSendDue u r notes =
     (w : World) (v : ℕ) (past : List Note)
     → IsTold w v past r → IsTrue (has_room w v u) → sent_to u past ≡ [] → r.clock < last_stamp → 0 < length notes
 
--- Where the link from u held more items in that world than were taken so far, something is noted.
+-- If the link from u held more items in that world than were taken so far, something is noted.
 abbrev pub IsTakeDue : {A : Type 0} → ℕ → Runner A → List Note → Type 0
 IsTakeDue u r notes =
     (w : World) (v : ℕ) (past : List Note)
@@ -44,7 +44,7 @@ AreSendsDue us r notes =
     → All (λ u. IsTrue (has_room w v u) → 0 < length (sent_to u notes)) us
 
 -- Among these notes as many items are taken from each of these neighbours as there were on the
--- link, or two, where nothing was taken so far.
+-- link, or two, if nothing was taken so far.
 abbrev pub AreTakesDue : {A : Type 0} → List ℕ → Runner A → List Note → Type 0
 AreTakesDue us r notes =
     (w : World) (v : ℕ) (past : List Note)

@@ -47,9 +47,9 @@ abbrev pub before_tick : List Event → List Event
 before_tick [] = []
 before_tick (e ∷ es) = if is_tick e then [] else e ∷ before_tick es
 
--- What v does, where this begins with its first turn from the world: a tick, and before its next
+-- What v does, if this begins with its first turn from the world: a tick, and before its next
 -- one a send over each link out of it that has room, and from each link into it as many takes as
--- there are items, or two where there are more.
+-- there are items, or two if there are more.
 pub record IsFirstTurn (w : World) (v : ℕ) (deeds : List Event) : Type 0 where
   pub later : List Event
   pub ticks : deeds ≡ Tick v ∷ later

@@ -53,7 +53,7 @@ IsSamePort a b = (b.neighbour ≡ a.neighbour) × SameOutgoing a.outgoing b.outg
 abbrev pub AreSamePorts : {A : Type 0} → List (Port A) → List (Port A) → Type 0
 AreSamePorts {A} ps qs = (length qs ≡ length ps) × ((k : ℕ) (d : Port A) → k < length ps → IsSamePort (slice_index_or ps k d) (slice_index_or qs k d))
 
--- Between two moments a node did this: whatever account told of it before, with this after it
+-- Between two moments a node did this: whatever account said of it before, with this after it
 -- says of it now. An entry was made for each note, in the room that was there.
 pub record Does {A : Type 0} (notes : List Note) (old new : Runner A) : Type 0 where
   pub told : (w : World) (v : ℕ) (past : List Note) → IsTold w v past old → IsTold w v (past ++ notes) new

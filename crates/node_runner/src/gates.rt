@@ -31,7 +31,7 @@ const POLLS: u32 = 100_000_000;
 /// After how many looks a waiting thread lets others run.
 const POLLS_A_YIELD: u32 = 16;
 
-/// A count that threads raise and wait for. The wait is bounded: where it was in vain, it is noted,
+/// A count that threads raise and wait for. The wait is bounded: if it was in vain, it is noted,
 /// and nobody is held back any more.
 #[derive(Drop)]
 struct Rally {

@@ -37,7 +37,7 @@ impl Protocol<u64> for StampBound {
     ghost allows = { λ before x. x ≤ last_place };
 }
 
-/// The stamp of an event after two others; none where it would be above 2^62.
+/// The stamp of an event after two others; none if it would be above 2^62.
 fn stamp_behind(one: u64, other: u64) -> Option<u64>
     ensures { result ≡ stamp_behind one other }
 {
@@ -100,7 +100,7 @@ impl<A: Allocator> Outgoing<A> {
         Some(stamp)
     }
 
-    /// Sends an item, where a place is free for it, and answers the stamp of that. None comes where
+    /// Sends an item, if a place is free for it, and answers the stamp of that. None comes if
     /// no place is at hand, or the clock has come to its end; then nothing is sent.
     pub fn send(&mut self, clock: u64, item: Item) -> Option<u64>
         ensures same { SameOutgoing self.old self.new }

@@ -73,7 +73,7 @@ impl<A: Allocator> Runner<A> {
         self.note(stamp, Event::Tick { node: self.id });
     }
 
-    /// The node sends its frame over one of its ports, where a place is free for it.
+    /// The node sends its frame over one of its ports, if a place is free for it.
     fn send(&mut self, place: usize)
         requires place { place < length self.old.ports.items }
         requires ready { IsReady self.old }
@@ -132,7 +132,7 @@ impl<A: Allocator> Runner<A> {
         }
     }
 
-    /// To each neighbour the node sends its frame, where a place is free for it.
+    /// To each neighbour the node sends its frame, if a place is free for it.
     fn send_all(&mut self)
         requires ready { IsReady self.old }
         requires room { length self.old.journal.entries.items + length self.old.ports.items

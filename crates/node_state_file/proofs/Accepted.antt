@@ -9,9 +9,9 @@ use Rattle.topology.specs.Network.{Network, neighbours_of, IsAcceptedNetwork}
 use Rattle.topology.specs.Ranges.{parent_fits, ranges_of}
 use Rattle.topology.specs.declared.frame.Ranges.{Ranges}
 use Rattle.topology.specs.Laws.{Limits}
-use Rattle.data_link.specs.Port.{PortState, port_fits}
-use Rattle.lock_desk.specs.Desk.{no_desk}
-use Rattle.registers.specs.Rewire.{is_among, rewired_ports, rewired_values}
+use Rattle.node_core.specs.data_link.Port.{PortState, port_fits}
+use Rattle.node_core.specs.lock_desk.Desk.{no_desk}
+use Rattle.node_core.specs.registers.Rewire.{is_among, rewired_ports, rewired_values}
 use Rattle.node_core.specs.State.{LocalState}
 use Rattle.node_core.specs.Rewire.{rewired}
 use Rattle.node_state_file.specs.declared.layout.Layout.{Layout}
@@ -144,7 +144,7 @@ matched_again l net id degree ids s =
     ∙ ap (λ (p : ℕ → PortState). with_ports s p (rewired_values ids new found_value)) (fun_ext (port_again r s ids new))
     ∙ ap (λ (v : ℕ → ℕ). with_ports s (rewired_ports r ids new s.port) v) (fun_ext (value_again s ids new))
 
--- where all tests hold there is no fault
+-- if all tests hold there is no fault
 no_fault : (net : Network) (id : ℕ) (l : Layout) (bytes : List ℕ) (h : Header) (rest : List ℕ) (ports : List SavedPort) → header_length l ≤ length bytes
     → header_of l bytes ≡ h → drop (header_length l) bytes ≡ rest → ports_in h.degree rest ≡ ports → is_header_of net id h ≡ true → length rest ≡ 20 * h.degree
     → are_others net.nodes id ports ≡ true → fields_fit (ranges_of net) h ports ≡ true → first_fault net id l bytes ≡ None

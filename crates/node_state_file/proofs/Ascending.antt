@@ -1,4 +1,4 @@
--- Whether ids ascend, told pair by pair.
+-- Whether ids ascend, said pair by pair.
 use Rattle.std.proofs.Common.{◌≡◌, ◌<◌, ◌≤◌, refl, arith, Bool, true, ◌&&◌, nat_lt, ℕ, zero, suc, List, [], ◌∷◌, length, drop, slice_index_or}
 use Rattle.node_state_file.specs.declared.saved.SavedPort.{SavedPort}
 use Rattle.node_state_file.specs.Reading.{are_ascending, ids_of}

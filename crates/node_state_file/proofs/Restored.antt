@@ -7,8 +7,8 @@ use Rattle.std.proofs.lemmas.Bool.{cases_Bool, eqb-true}
 use Rattle.std.proofs.lemmas.List.Folds.{list_any-append}
 use Rattle.topology.specs.At.{at}
 use Rattle.topology.specs.declared.frame.Ranges.{Ranges}
-use Rattle.data_link.specs.Port.{PortState, default_port}
-use Rattle.registers.specs.Rewire.{is_among}
+use Rattle.node_core.specs.data_link.Port.{PortState, default_port}
+use Rattle.node_core.specs.registers.Rewire.{is_among}
 use Rattle.node_core.specs.State.{LocalState, default_node}
 use Rattle.node_core.specs.Rewire.{rewired}
 use Rattle.node_state_file.specs.declared.saved.Header.{Header}
@@ -16,7 +16,7 @@ use Rattle.node_state_file.specs.declared.saved.SavedPort.{SavedPort}
 use Rattle.node_state_file.specs.Reading.{ids_of, found, port_or_new, state_saved, saved_port_fits}
 use Rattle.node_state_file.proofs.Written.{port_written}
 
--- a port of the file is found where its neighbour is among the ids
+-- a port of the file is found if its neighbour is among the ids
 missing : (ports : List SavedPort) (w : ℕ) → found ports w ≡ None → is_among (ids_of ports) w ≡ false
 missing [] w e = refl
 missing (p ∷ ports) w e = elim (cases_Bool (p.neighbour == w)) [
@@ -31,7 +31,7 @@ there (p ∷ ports) w q e = elim (cases_Bool (p.neighbour == w)) [
   | inr other ↦ rw other (there ports w q (rw other at e))
 ]
 
--- the port that is found is in range where all are
+-- the port that is found is in range if all are
 pub found_fits : (r : Ranges) (ports : List SavedPort) (w : ℕ) (q : SavedPort) → found ports w ≡ Some q → IsTrue (list_all (saved_port_fits r) ports) → IsTrue (saved_port_fits r q)
 found_fits r [] w q e all = absurd (grind (arith, e))
 found_fits r (p ∷ ports) w q e all = elim (cases_Bool (p.neighbour == w)) [

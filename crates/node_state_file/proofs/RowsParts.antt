@@ -3,7 +3,7 @@ use Rattle.std.proofs.Common.{◌≡◌, ◌≢◌, ℕ, ◌+◌, true, false, L
 use Rattle.topology.specs.Network.{Network}
 use Rattle.topology.specs.Ranges.{ranges_of}
 use Rattle.topology.specs.declared.frame.Payload.{Payload}
-use Rattle.data_link.specs.Port.{default_port}
+use Rattle.node_core.specs.data_link.Port.{default_port}
 use Rattle.node_core.specs.State.{LocalState, default_node}
 use Rattle.node_state_file.specs.declared.fault.FileFault.TheVariants.{Short, Magic, Range}
 use Rattle.node_state_file.specs.declared.layout.Layout.TheVariants.{Tkt1, Tkt2}

@@ -2,8 +2,8 @@
 use Rattle.std.proofs.Common.{◌≡◌, ◌≢◌, ℕ, ◌<◌, ◌≤◌, IsTrue, List, [], ◌∷◌, ◌++◌, All, subst, Some, None, Ok, Err, refl, inl, inr, arith}
 use Rattle.std.proofs.lemmas.List.Elements.{All-nil, All-cons}
 use Rattle.topology.specs.Ranges.{ranges_of}
-use Rattle.data_link.specs.Port.{port_fits}
-use Rattle.lock_desk.specs.Desk.{no_desk}
+use Rattle.node_core.specs.data_link.Port.{port_fits}
+use Rattle.node_core.specs.lock_desk.Desk.{no_desk}
 use Rattle.node_core.specs.Rewire.{rewired}
 use Rattle.node_core.specs.State.{LocalState, default_node}
 use Rattle.node_state_file.specs.declared.fault.FileFault.TheVariants.{Long, Short}

@@ -11,9 +11,9 @@ use Rattle.byteorder.specs.Endian.{big_bytes, big_number}
 use Rattle.topology.specs.Network.{Network, neighbours_of}
 use Rattle.topology.specs.Ranges.{ranges_of}
 use Rattle.topology.specs.declared.frame.Ranges.{Ranges}
-use Rattle.data_link.specs.Port.{port_fits}
-use Rattle.lock_desk.specs.Desk.{no_desk}
-use Rattle.registers.specs.Rewire.{is_among}
+use Rattle.node_core.specs.data_link.Port.{port_fits}
+use Rattle.node_core.specs.lock_desk.Desk.{no_desk}
+use Rattle.node_core.specs.registers.Rewire.{is_among}
 use Rattle.node_core.specs.State.{LocalState}
 use Rattle.node_core.specs.Rewire.{rewired}
 use Rattle.node_state_file.specs.declared.fault.FileFault.{FileFault}
@@ -111,7 +111,7 @@ found-kept p ports (q ∷ qs) less there =
     let other : (p.neighbour == q.neighbour) ≡ false = grind (arith, nat_tests, one) in
     (rw other there.0, found-kept p ports qs less.1 there.1)
 
--- where the ids ascend each port is found by its own
+-- if the ids ascend each port is found by its own
 all-found : (ports : List SavedPort) → are_ascending (ids_of ports) ≡ true → AllByRecursion (IsFoundIn ports) ports
 all-found [] up = tt
 all-found (p ∷ []) up = let same : (p.neighbour == p.neighbour) ≡ true = grind (arith, nat_tests) in (rw same refl, tt)

@@ -3,12 +3,12 @@ use Rattle.std.proofs.Common.{◌≡◌, ◌∙◌, ap, Result, Ok, Err, IsOk, O
 use Rattle.std.proofs.Math.Path.{fun_ext}
 use Rattle.std.proofs.lemmas.Grind.{common_steps}
 use Rattle.topology.specs.At.{at}
-use Rattle.data_link.specs.Port.{PortState}
+use Rattle.node_core.specs.data_link.Port.{PortState}
 use Rattle.node_core.specs.State.{LocalState}
 use Rattle.node_core.specs.Writes.{with_port}
 use Rattle.node_state_file.specs.declared.saved.SavedPort.{SavedPort}
 
--- where a call that answers Ok does something, it is done
+-- if a call that answers Ok does something, it is done
 pub on_ok : {T E P : Type 0} (r : Result T E) → IsOk r → OnOk r P → P
 on_ok (Ok x) ok done = done
 on_ok (Err e) ok done = absurd (grind arith)

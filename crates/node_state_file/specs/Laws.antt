@@ -3,8 +3,8 @@ use Rattle.std.specs.Prelude.{◌≡◌, ℕ, ◌<◌, ◌≤◌, ◌&&◌, IsTr
 use Rattle.std.specs.List.{list_all}
 use Rattle.topology.specs.Network.{Network, neighbours_of, IsAcceptedNetwork}
 use Rattle.topology.specs.Ranges.{ranges_of}
-use Rattle.data_link.specs.Port.{port_fits}
-use Rattle.lock_desk.specs.Desk.{no_desk}
+use Rattle.node_core.specs.data_link.Port.{port_fits}
+use Rattle.node_core.specs.lock_desk.Desk.{no_desk}
 use Rattle.node_core.specs.State.{LocalState}
 use Rattle.node_core.specs.Writes.{own_fits}
 use Rattle.node_core.specs.Rewire.{rewired}

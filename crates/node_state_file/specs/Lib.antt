@@ -1,3 +1,4 @@
+pub use Rattle.node_core.specs as node_core
 pub mod Spelling
 pub mod Reading
 pub mod Stores

@@ -7,8 +7,8 @@ use Rattle.topology.specs.Network.{Network, neighbours_of}
 use Rattle.topology.specs.Ranges.{payload_fits, ranges_of}
 use Rattle.topology.specs.declared.frame.Payload.{Payload}
 use Rattle.topology.specs.declared.frame.Ranges.{Ranges}
-use Rattle.data_link.specs.Port.{PortState, counters_fit, default_port}
-use Rattle.lock_desk.specs.Desk.{no_desk}
+use Rattle.node_core.specs.data_link.Port.{PortState, counters_fit, default_port}
+use Rattle.node_core.specs.lock_desk.Desk.{no_desk}
 use Rattle.node_core.specs.State.{LocalState}
 use Rattle.node_core.specs.Writes.{own_fits}
 use Rattle.node_core.specs.Rewire.{rewired}
@@ -87,7 +87,7 @@ ports_in (suc count) bytes = port_in bytes ∷ ports_in count (drop 20 bytes)
 abbrev pub ids_of : List SavedPort → List ℕ
 ids_of ports = map (λ p. p.neighbour) ports
 
--- the capacity is the network's, where the file has it
+-- the capacity is the network's, if the file has it
 abbrev pub is_capacity : Option ℕ → ℕ → Bool
 is_capacity None capacity = true
 is_capacity (Some saved) capacity = saved == capacity
@@ -136,12 +136,12 @@ first_fault net id l bytes =
 abbrev pub found : List SavedPort → ℕ → Option SavedPort
 found ports w = find (λ p. p.neighbour == w) ports
 
--- a port as it was saved; as at the start where the file has none
+-- a port as it was saved; as at the start if the file has none
 abbrev pub port_or_new : Ranges → Option SavedPort → PortState
 port_or_new r None = default_port r
 port_or_new r (Some p) = record { seq = p.seq; last = p.last; staged = p.staged; copy = p.copy }
 
--- the value of the machine that comes in there; 0 where the file has none
+-- the value of the machine that comes in there; 0 if the file has none
 abbrev pub value_or_new : Option SavedPort → ℕ
 value_or_new None = 0
 value_or_new (Some p) = p.value

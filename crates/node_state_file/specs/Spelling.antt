@@ -19,7 +19,7 @@ abbrev pub capacity_numbers : Layout → ℕ → List ℕ
 capacity_numbers Tkt1 capacity = []
 capacity_numbers Tkt2 capacity = capacity ∷ []
 
--- a parent as a number, where ffff stands for none
+-- a parent as a number, and ffff stands for none
 abbrev pub parent_number : Option ℕ → ℕ
 parent_number None = 65535
 parent_number (Some p) = p

@@ -9,8 +9,8 @@ use std::rt::Files;
 use std::{fs, io};
 
 /// A state in a plain file, which only its owner may read and write. A save writes the whole in
-/// place, from the start, in one write, and then the length where it differs: it takes no second
-/// file, cuts nothing off before, and does not wait for the disk. So a file may be torn where the
+/// place, from the start, in one write, and then the length if it differs: it takes no second
+/// file, cuts nothing off before, and does not wait for the disk. So a file may be torn if the
 /// machine stops in between, which is damage like any other.
 ///
 /// A folder, a pipe or a device in the file's place is a failure of the store, and is not waited
@@ -83,7 +83,7 @@ fn read_front<F: Files>(files: &F, path: &str, buffer: &mut [u8; 1277]) -> io::R
     Ok(count)
 }
 
-/// Writes all of a plain file in place, in one write, and then its length where that differs.
+/// Writes all of a plain file in place, in one write, and then its length if that differs.
 fn write_in_place<F: Files>(files: &F, path: &str, bytes: &[u8]) -> io::Result<()> {
     match fs::metadata(files, path) {
         Ok(found) if !found.is_file() => return Err(io::Error::from(ErrorKind::InvalidInput)),

@@ -40,6 +40,7 @@ mod writing;
 pub use fault::FileFault;
 pub use file_store::FileStore;
 pub use memory_store::{FusedStore, MemoryStore};
+pub use node_core;
 pub use reading::decode;
 pub use starting::{StartFault, Started, start};
 pub use store::{Store, StoreFault};

@@ -9,7 +9,7 @@ use crate::store::{Store, StoreFault};
 use byte_streams::Fuse;
 use std::alloc::{AllocError, Allocator, Global};
 
-/// A store over memory, with room that its maker reserved. It fails where that is too small.
+/// A store over memory, with room that its maker reserved. It fails if that is too small.
 #[derive(Drop)]
 pub struct MemoryStore<A: Allocator + Copy = Global> {
     bytes: Vec<u8, A>,
@@ -19,7 +19,7 @@ pub struct MemoryStore<A: Allocator + Copy = Global> {
 
 impl<A: Allocator + Copy> MemoryStore<A> {
     /// A store with nothing in it, and room for `room` bytes. All memory is reserved here;
-    /// `AllocError` comes only where that is refused.
+    /// `AllocError` comes only if that is refused.
     pub fn new(alloc: A, room: usize) -> Result<MemoryStore<A>, AllocError>
         ensures empty { IfOk result (λ store. store.is_present ≡ false) }
         ensures room { IfOk result (λ store. room ≤ vec_capacity store.bytes) }

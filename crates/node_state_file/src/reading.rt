@@ -27,8 +27,8 @@ use topology::{Net, Ranges};
 ///
 /// # Errors
 /// The first that holds, looked for in this order: `Short` under 4 bytes; `Magic`;
-/// `Short` under the header's length; `Shape` where the header is of another network or node;
-/// `Short` under what the file's own degree asks for; `Shape` where the neighbours are no ascending
+/// `Short` under the header's length; `Shape` if the header is of another network or node;
+/// `Short` under what the file's own degree asks for; `Shape` if the neighbours are no ascending
 /// other nodes; `Range`; `Long`. `Memory` comes at any point.
 pub fn decode<A: Allocator + Copy, N: Allocator + Copy>(
     alloc: A,
@@ -149,7 +149,7 @@ fn ports_fit(ports: &[SavedPort], ranges: Ranges) -> bool
     ports.iter().all(|port| port.fits(ranges))
 }
 
-/// The port to a neighbour, where the file has one.
+/// The port to a neighbour, if the file has one.
 fn found(ports: &[SavedPort], neighbour: u16) -> Option<SavedPort>
     ensures { result ≡ found ports.now neighbour }
 {

@@ -18,7 +18,7 @@ pub(crate) struct Header {
     pub nodes: u16,
     /// The node's id.
     pub id: u16,
-    /// How many items a link holds, where the layout has it.
+    /// How many items a link holds, if the layout has it.
     pub capacity: Option<u16>,
     /// How many ports follow.
     pub degree: u16,

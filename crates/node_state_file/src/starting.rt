@@ -35,12 +35,12 @@ pub enum StartFault {
 pub struct Started<A: Allocator> {
     /// The state that was stored, or the default state.
     pub state: NodeState<A>,
-    /// What stood in the way of a stored state, where the state is the default one.
+    /// What stood in the way of a stored state, if the state is the default one.
     pub fault: Option<StartFault>,
 }
 
-/// Starts node `id` of a network with the state that is stored, or with the default state where the
-/// file or the store has a fault. Where memory is refused there is no node, and `AllocError` comes.
+/// Starts node `id` of a network with the state that is stored, or with the default state if the
+/// file or the store has a fault. If memory is refused there is no node, and `AllocError` comes.
 pub fn start<A: Allocator + Copy, N: Allocator + Copy, S: Store>(
     alloc: A,
     store: &mut S,

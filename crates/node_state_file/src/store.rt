@@ -17,7 +17,7 @@ pub enum StoreFault {
 
 /// Keeps the bytes of one state.
 pub trait Store {
-    /// What is stored, if anything is; none of both where the store does not say.
+    /// What is stored, if anything is; none of both if the store does not say.
     ghost stored: { Self → Option (Option (List ℕ)) };
 
     /// How often it has failed; the count may stay at 2^64 - 1.
@@ -27,7 +27,7 @@ pub trait Store {
     /// them, or as many as the buffer has room for, which is one more than any state has.
     ///
     /// # Errors
-    /// `Absent` only where nothing is stored; `Device` only where the store failed in this call.
+    /// `Absent` only if nothing is stored; `Device` only if the store failed in this call.
     fn load(&mut self, buffer: &mut [u8; 1277]) -> Result<usize, StoreFault>
         ensures { Loads result (stored self.old) (stored self.new) buffer.new (failures self.old)
             (failures self.new) };
@@ -35,7 +35,7 @@ pub trait Store {
     /// Stores these bytes in place of what was stored.
     ///
     /// # Errors
-    /// `Device` only where the store failed in this call; then anything may be stored.
+    /// `Device` only if the store failed in this call; then anything may be stored.
     fn save(&mut self, bytes: &[u8]) -> Result<(), StoreFault>
         ensures { Saves result bytes.now (stored self.old) (stored self.new) (failures self.old)
             (failures self.new) };

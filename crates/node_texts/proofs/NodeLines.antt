@@ -4,10 +4,10 @@ use Rattle.std.proofs.Common.{refl}
 use Rattle.std.proofs.Common.{ap, ◌∙◌, codes}
 use Rattle.std.specs.Fmt.{decimal}
 use Rattle.std.proofs.lemmas.List.{append_assoc}
-use Rattle.node_core.specs.Site.{Site}
-use Rattle.node_core.specs.State.{LocalState}
-use Rattle.node_core.specs.Machines.{is_node_privileged}
-use Rattle.node_core.specs.Status.{status_line, number_or_none, yes_or_no}
+use Rattle.node_state_file.specs.node_core.Site.{Site}
+use Rattle.node_state_file.specs.node_core.State.{LocalState}
+use Rattle.node_state_file.specs.node_core.Machines.{is_node_privileged}
+use Rattle.node_state_file.specs.node_core.Status.{status_line, number_or_none, yes_or_no}
 use Rattle.node_texts.specs.StatusText.{status_text, or_none_text, yes_or_no_text}
 use Rattle.node_texts.specs.NodeStatus.{line_of}
 

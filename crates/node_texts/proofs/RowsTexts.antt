@@ -1,8 +1,8 @@
 -- Small examples of names, lines and reports, and some that look like them and are none.
 use Rattle.std.proofs.Common.{◌≡◌, ◌≢◌, ℕ, List, true, false, [], ◌∷◌, ◌++◌, Some, None, codes, decimal, string_bytes, refl, arith}
 use Rattle.std.proofs.lemmas.Fmt.{decimal_digit}
-use Rattle.node_core.specs.Site.{Site}
-use Rattle.node_core.specs.State.{default_node}
+use Rattle.node_state_file.specs.node_core.Site.{Site}
+use Rattle.node_state_file.specs.node_core.State.{default_node}
 use Rattle.node_state_file.specs.declared.fault.FileFault.TheVariants as read
 use Rattle.node_state_file.specs.declared.starting.StartFault.TheVariants.{File, Absent}
 use Rattle.node_texts.specs.declared.answers.NodeAnswer.{NodeAnswer}
@@ -86,8 +86,8 @@ ends-unstarted = rw one-is
 ends-unknown : end_line 1 Unknown ≡ codes "node 1 ended, and is started again"
 ends-unknown = rw one-is
 
-warns-capacity : capacity_line 2 ≡ codes "tokentree: capacity 2 is less than the " ++ (decimal 64
-    ++ (codes " frames that may be under way on a link; give the network capacity " ++ (decimal 64 ++ codes " or more")))
+warns-capacity : capacity_line 2 ≡ codes "tokentree: capacity 2 is less than " ++ (decimal 64
+    ++ (codes ": 36 frames may be under way on a link; give the network capacity " ++ (decimal 64 ++ codes " or more")))
 warns-capacity = rw two-is
 
 -- ---- status lines

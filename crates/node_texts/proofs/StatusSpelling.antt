@@ -91,7 +91,7 @@ yes_or_no-one w b e = by (bytes_eq w (codes "yes")) refl (bytes_eq w (codes "no"
         (codes "no") no_is)
     by false is false no_is e = absurd (cc)
 
--- what is read behind each field
+-- what is read after each field
 abbrev line_of : ℕ → ℕ → Option ℕ → Bool → Option ℕ → ℕ → StatusLine
 line_of node distance parent token lent waiting =
     record {

@@ -2,7 +2,7 @@
 use Rattle.std.specs.Prelude.{◌≡◌, ℕ, List, ◌++◌, ◌-◌, codes, decimal, string_bytes}
 use Rattle.node_texts.specs.declared.paths.NodePaths.{NodePaths}
 
--- the folder, a slash, and the node's id with what stands before and behind it
+-- the folder, a slash, and the node's id with what stands before and after it
 abbrev pub file_name : List ℕ → List ℕ → ℕ → List ℕ → List ℕ
 file_name dir before id behind = dir ++ (codes "/" ++ (before ++ (decimal id ++ behind)))
 

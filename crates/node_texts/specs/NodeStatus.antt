@@ -1,9 +1,9 @@
 -- A node's own status line, as the text of what it says.
 use Rattle.std.specs.Prelude.{◌≡◌, ◌++◌, length, codes}
-use Rattle.node_core.specs.Site.{Site}
-use Rattle.node_core.specs.State.{LocalState}
-use Rattle.node_core.specs.Machines.{is_node_privileged}
-use Rattle.node_core.specs.Status.{status_line}
+use Rattle.node_state_file.specs.node_core.Site.{Site}
+use Rattle.node_state_file.specs.node_core.State.{LocalState}
+use Rattle.node_state_file.specs.node_core.Machines.{is_node_privileged}
+use Rattle.node_state_file.specs.node_core.Status.{status_line}
 use Rattle.node_texts.specs.declared.status_line.StatusLine.{StatusLine}
 use Rattle.node_texts.specs.StatusText.{status_text}
 

@@ -24,13 +24,13 @@ start_fault_name (File fault) = file_fault_name fault
 start_fault_name Absent = codes "Absent"
 start_fault_name Device = codes "Device"
 
--- what a node's process tells
+-- what a node's process says
 abbrev pub note_text : Note → List ℕ
 note_text (Started None) = codes "start loaded"
 note_text (Started (Some fault)) = codes "start default " ++ start_fault_name fault
 note_text Ready = codes "ready"
 
--- the same as a line, with the node in front where one is named
+-- the same as a line, with the node in front if one is named
 abbrev pub note_line : Option ℕ → Note → List ℕ
 note_line None note = note_text note
 note_line (Some id) note = codes "node " ++ (decimal id ++ (codes " " ++ note_text note))
@@ -47,9 +47,9 @@ end_line id Unknown = codes "node " ++ (decimal id ++ codes " ended, and is star
 end_line id Unstarted =
     codes "node " ++ (decimal id ++ codes " cannot be started; it is tried again")
 
--- the line that tells that a network's capacity is less than what may be under way on a link
+-- the line that says that a network's capacity is less than what may be under way on a link
 abbrev pub capacity_line : ℕ → List ℕ
 capacity_line capacity =
-    codes "tokentree: capacity " ++ (decimal capacity ++ (codes " is less than the " ++ (decimal 64
-    ++ (codes " frames that may be under way on a link; give the network capacity " ++ (decimal 64
+    codes "tokentree: capacity " ++ (decimal capacity ++ (codes " is less than " ++ (decimal 64
+    ++ (codes ": 36 frames may be under way on a link; give the network capacity " ++ (decimal 64
     ++ codes " or more")))))

@@ -30,7 +30,7 @@ abbrev pub first_is : Word → List Word → Bool
 first_is name [] = false
 first_is name (word ∷ words) = bytes_eq word name
 
--- the next word is a field's name; the word behind it is read, and the others with what it says
+-- the next word is a field's name; the word after it is read, and the others with what it says
 abbrev pub field : {X Y : Type 0} → Word → (Word → Option X) → (X → List Word → Option Y)
     → List Word → Option Y
 field name read others words = if first_is name words then reads read others

@@ -13,7 +13,7 @@ use std::fmt::Write;
 pub struct NodeAnswer {
     /// The node that was asked.
     pub node: u16,
-    /// Its status line; none where it gave none in time.
+    /// Its status line; none if it gave none in time.
     pub line: Option<StatusLine>,
 }
 
@@ -21,7 +21,7 @@ pub struct NodeAnswer {
 /// many of them are privileged, and lend.
 ///
 /// # Errors
-/// Where memory runs out.
+/// If memory runs out.
 pub fn report(alloc: Global, answers: &[NodeAnswer]) -> Result<String, AllocError>
     ensures { IfOk result (λ text. string_bytes text ≡ report_text answers.now) }
 {

@@ -8,7 +8,7 @@ use std::alloc::{AllocError, Global};
 /// The path of a node's desk in a folder, `FOLDER/desk-ID.sock`.
 ///
 /// # Errors
-/// Where memory runs out.
+/// If memory runs out.
 pub fn desk_path(alloc: Global, folder: &str, node: u16) -> Result<String, AllocError>
     ensures { IfOk result (λ path. string_bytes path ≡ desk_path folder.now node) }
 {
@@ -18,7 +18,7 @@ pub fn desk_path(alloc: Global, folder: &str, node: u16) -> Result<String, Alloc
 /// The path of the socket in a folder at which a node says how it stands, `FOLDER/look-ID.sock`.
 ///
 /// # Errors
-/// Where memory runs out.
+/// If memory runs out.
 pub fn look_path(alloc: Global, folder: &str, node: u16) -> Result<String, AllocError>
     ensures { IfOk result (λ path. string_bytes path ≡ look_path folder.now node) }
 {

@@ -7,10 +7,10 @@ use std::fmt;
 
 /// The frames that may be under way from one node to another are 36: 6 in a socket, 23 in the piece
 /// that was read from it last, one that waits to be written, 6 in the socket of an older connection.
-/// A socket was seen to take 6; where another system's takes more, 28 are to spare.
+/// A socket was seen to take 6; if another system's takes more, 28 are to spare.
 pub const SOCKET_FRAMES: u16 = 64;
 
-/// What a node's process tells on standard output.
+/// What a node's process says on standard output.
 #[derive(Clone, Copy, Debug, PartialEq, Eq)]
 pub enum Note {
     /// From what it starts: its stored state or, for want of one, the default state.
@@ -53,13 +53,13 @@ fn fault_name(fault: StartFault) -> &'static str
     }
 }
 
-/// A note as a line without its newline; the node's id stands in front where a process that keeps
+/// A note as a line without its newline; the node's id stands in front if a process that keeps
 /// many nodes prints it.
 #[derive(Clone, Copy, Debug, PartialEq, Eq)]
 pub struct NoteLine {
     /// The node that is named.
     pub named: Option<u16>,
-    /// What it tells.
+    /// What it says.
     pub note: Note,
 }
 
@@ -78,7 +78,7 @@ impl fmt::Display for NoteLine {
     }
 }
 
-/// The line that tells that this capacity is less than what may be under way. The proofs are then
+/// The line that says that this capacity is less than what may be under way. The proofs are then
 /// about links that hold less than these do.
 #[derive(Drop)]
 pub struct CapacityLine(pub u16);
@@ -93,8 +93,8 @@ impl fmt::Display for CapacityLine {
         let capacity = self.0;
         write!(
             f,
-            "tokentree: capacity {capacity} is less than the {SOCKET_FRAMES} frames that may be \
-            under way on a link; give the network capacity {SOCKET_FRAMES} or more"
+            "tokentree: capacity {capacity} is less than {SOCKET_FRAMES}: 36 frames may be under way on a \
+            link; give the network capacity {SOCKET_FRAMES} or more"
         )
     }
 }
@@ -106,13 +106,13 @@ pub enum End {
     Status(u32),
     /// By this signal.
     Signal(u32),
-    /// In a way that the system does not tell.
+    /// In a way that the system does not say.
     Unknown,
     /// It could not be started.
     Unstarted,
 }
 
-/// The line that tells that a node's process ended, and starts again.
+/// The line that says that a node's process ended, and starts again.
 #[derive(Drop)]
 pub struct EndLine {
     /// The node.

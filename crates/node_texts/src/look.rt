@@ -1,13 +1,13 @@
 //! What a node says to whoever looks: one line, a JSON object.
 ghost use Rattle.std.specs.Prelude.{◌≡◌, ◌++◌, IfOk, OnOk, codes, string_bytes};
-ghost use Rattle.node_core.specs.View.{site_in, state_of};
+ghost use Rattle.node_state_file.specs.node_core.View.{site_in, state_of};
 ghost use Rattle.node_texts.specs.LookText.{look_text, status_part, links_text, other_links_text};
 ghost use Rattle.node_texts.specs.LookText.{link_text, rest_text, rounds_text, link_parts};
 ghost use Rattle.node_texts.specs.NodeStatus.{line_of};
 
 use crate::StatusLine;
 use crate::look_parts::{LinkPart, LoanPart, OrNull, ProcessPart, TurnPart};
-use node_core::Node;
+use node_state_file::node_core::Node;
 use std::alloc::{AllocError, Allocator, Global};
 use std::fmt;
 use std::fmt::Write;
@@ -49,7 +49,7 @@ pub fn status_of<A: Allocator>(node: &Node<A>) -> StatusLine
 /// The links to these neighbours, as they are noted at that time.
 ///
 /// # Errors
-/// Where memory runs out.
+/// If memory runs out.
 pub fn link_parts(
     alloc: Global,
     neighbours: &[u16],
@@ -68,7 +68,7 @@ pub fn link_parts(
 /// The line for whoever looks at a node, with its newline.
 ///
 /// # Errors
-/// Where memory runs out.
+/// If memory runs out.
 pub fn look_line(alloc: Global, look: &Look<'_>) -> Result<String, AllocError>
     ensures { IfOk result (λ line. string_bytes line
         ≡ look_text look.now.status look.now.links.now look.now.loans look.now.turns

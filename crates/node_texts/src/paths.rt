@@ -28,7 +28,7 @@ impl NodePaths {
     /// The names of the files of node `id` in a folder.
     ///
     /// # Errors
-    /// Where memory runs out.
+    /// If memory runs out.
     pub fn new(alloc: Global, dir: &str, id: u16) -> Result<NodePaths, AllocError>
         ensures { IfOk result (AreNamed dir.now id) }
     {
@@ -46,7 +46,7 @@ impl NodePaths {
 /// The name of the socket at which node `id` is connected to.
 ///
 /// # Errors
-/// Where memory runs out.
+/// If memory runs out.
 pub fn links_name(alloc: Global, dir: &str, id: u16) -> Result<String, AllocError>
     ensures { IfOk result
         (λ name. string_bytes name ≡ file_name dir.now (codes "node-") id (codes ".sock")) }
@@ -71,7 +71,7 @@ fn file_name(
 /// How many bytes the longest name of a socket in a folder has, for a network of this many nodes.
 ///
 /// # Errors
-/// Where memory runs out.
+/// If memory runs out.
 pub fn longest_socket_name(alloc: Global, dir: &str, nodes: u16) -> Result<usize, AllocError>
     ensures { IfOk result (λ bytes. bytes ≡ length (longest_socket_name dir.now nodes)) }
 {

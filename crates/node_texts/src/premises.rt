@@ -27,7 +27,7 @@ impl TurnsSaid {
     /// members do not matter.
     ///
     /// # Errors
-    /// Where memory runs out.
+    /// If memory runs out.
     pub fn read(alloc: Global, line: &str) -> Result<Option<TurnsSaid>, AllocError>
         ensures { IfOk result (λ said. said ≡ line_said line.now) }
     {
@@ -62,7 +62,7 @@ fn member_number(object: &Value, name: &str) -> Option<u64>
 /// What `status --premises` prints: a line for each node.
 ///
 /// # Errors
-/// Where memory runs out.
+/// If memory runs out.
 pub fn premises_report(alloc: Global, lines: &[PremisesLine]) -> Result<String, AllocError>
     ensures { IfOk result (λ text. string_bytes text ≡ premises_text lines.now) }
 {

@@ -58,7 +58,7 @@ impl StatusLine {
     }
 }
 
-/// Takes the next word where it is this one; none where it is another one, or there is none.
+/// Takes the next word if it is this one; none if it is another one, or there is none.
 fn expect(words: &mut Words, name: &[u8]) -> Option<()>
     ensures is { is_some result ≡ first_is name.now words.old }
     ensures rest { words.new ≡ other_words words.old }

@@ -20,7 +20,7 @@ past p i from same = omega arith
 below-or-from : (p i : ℕ) → (p < i) ⊎ (i ≤ p)
 below-or-from p i = grind arith
 
--- each place of a list of equal values has that value, and so has each behind its end
+-- each place of a list of equal values has that value, and so has each beyond its end
 all-same : {X : Type 0} (n p : ℕ) (x : X) → slice_index_or (replicate n x) p x ≡ x
 all-same n p x =
     elim (below-or-from p n) [

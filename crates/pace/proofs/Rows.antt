@@ -34,7 +34,7 @@ manner = record { hold = 2000; repeat = 8000 }
 idle : Outlook
 idle = record { waits = false; lends = false; has_lease = true; let_go = false }
 
--- a frame is due where none was given yet, and not where none is taken
+-- a frame is due if none was given yet, and not if none is taken
 due-first : is_due (seeing 5) false 8000 10000 fresh_port ≡ true
 unfolding seeing framed saying
 due-first = refl
@@ -93,7 +93,7 @@ unfolding seeing framed saying given_once
 owes_not-answered = refl
 
 -- the second equal frame is a question, the third nothing, the fourth a call; another one starts
--- anew
+-- again
 hears : hearing_of 1 ≡ hearing.Frame
 hears = refl
 
@@ -163,7 +163,7 @@ cut : (moved_on false 2 manner 10001 (record (called 2 10000 quiet_node) { credi
 unfolding manner
 cut = refl
 
--- no hold where somebody waits, or has just let go, or where its end lies further ahead than a hold
+-- no hold if somebody waits, or has just let go, or if its end lies further ahead than a hold
 holds_not-waited : holds (record idle { waits = true }) manner 10001 (moved_on true 2 manner 10000 quiet_node) ≡ false
 unfolding idle manner
 holds_not-waited = refl
@@ -176,7 +176,7 @@ holds_not-far : holds idle manner 10000 (record quiet_node { hold_until = 12001 
 unfolding idle manner
 holds_not-far = refl
 
--- a node at which somebody waits and nobody borrows calls, and again after 50 milliseconds or where
+-- a node at which somebody waits and nobody borrows calls, and again after 50 milliseconds or if
 -- its haste runs low
 calls : calls_for_haste (record idle { waits = true }) 2 10000 quiet_node ≡ true
 unfolding idle
@@ -219,7 +219,7 @@ ticks-ahead : may_tick (record idle { lends = true }) 10000 (record quiet_node {
 unfolding idle
 ticks-ahead = refl
 
--- rests: nothing where a frame is due, the time to the repetition, 2 milliseconds at most, and no
+-- rests: nothing if a frame is due, the time to the repetition, 2 milliseconds at most, and no
 -- longer than the hold
 rests-due : rest_at (seeing 5) false 8000 10000 fresh_port ≡ 0
 unfolding seeing framed saying

@@ -1,4 +1,4 @@
--- The plan of a turn, the calls that go on, and the rest behind a turn.
+-- The plan of a turn, the calls that go on, and the rest after a turn.
 use Rattle.std.specs.Prelude.{ℕ, ◌-◌, Bool, true, false, not, ◌||◌, ◌==◌, if◌then◌else◌, List, filter, length, min, slice_index_or, Option, Some, None}
 use Rattle.pace.specs.Clock.{time_left}
 use Rattle.pace.specs.Ports.{fresh_port, is_due}

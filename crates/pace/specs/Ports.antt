@@ -42,7 +42,7 @@ fresh_port = record {
 abbrev pub one_more : ℕ → ℕ
 one_more n = if nat_lt n 4294967295 then n + 1 else 4294967295
 
--- how many times in a row a frame came, where another came as often as that before
+-- how many times in a row a frame came, if another came as often as that before
 abbrev pub times_after : Option Frame → ℕ → Frame → ℕ
 times_after None times frame = 0
 times_after (Some last) times frame = if same_frame last frame then times else 0
@@ -70,7 +70,7 @@ heard_port frame port = record port {
   owes = port.owes || (times_heard frame port == 2);
 }
 
--- a port that was given a frame: nothing is owed, and a call went on where this was the fourth
+-- a port that was given a frame: nothing is owed, and a call went on if this was the fourth
 abbrev pub given_port : Frame → ℕ → PortPace → PortPace
 given_port frame now port = record port {
   given = Some frame;
@@ -93,7 +93,7 @@ is_new_after (Some last) frame = not (same_payload last.payload frame.payload)
 abbrev pub is_news : Frame → PortPace → Bool
 is_news frame port = is_new_after port.given frame
 
--- a frame is due where one is taken, and its payload is news, an answer is owed, a call is to be
+-- a frame is due if one is taken, and its payload is news, an answer is owed, a call is to be
 -- passed on, the repetition time is over, or a question is to be asked, which is to give it twice
 abbrev pub is_due : PortSight → Bool → ℕ → ℕ → PortPace → Bool
 is_due sight holds repeat now port =

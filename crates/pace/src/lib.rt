@@ -5,7 +5,7 @@
 //! signal that costs it nothing: the second equal frame in a row is a question, which is answered
 //! at once, and the fourth is a call for haste, which goes on through the tree. A [`Pace`] keeps
 //! what was given and heard at each port and when, and says before each turn what its [`Plan`] is,
-//! and behind it how long to rest.
+//! and after it how long to rest.
 //!
 //! ```
 //! let plan = pace.plan(&sights, &outlook, now);       // on which ports to offer; a tick or none

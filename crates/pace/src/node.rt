@@ -71,7 +71,7 @@ impl NodePace {
             && !outlook.let_go
     }
 
-    /// How long it is until the hold is over, 2 milliseconds at most, also where it does not hold.
+    /// How long it is until the hold is over, 2 milliseconds at most, also if it does not hold.
     pub fn rest(&self, outlook: &Outlook, manner: &Manner, now: u64) -> u64
         ensures { result ≡ node_rest outlook.now manner.now now self.now }
     {

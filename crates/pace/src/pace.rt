@@ -1,4 +1,4 @@
-//! The plan of a turn, and the rest behind it.
+//! The plan of a turn, and the rest after it.
 ghost use Rattle.std.specs.Prelude.{◌≡◌, ◌≢◌, ◌⊎◌, ◌<◌, ◌≤◌, ◌&&◌, ℕ, true, false, None, Some};
 ghost use Rattle.std.specs.Prelude.{Option, length, replicate, slice_index_or};
 ghost use Rattle.pace.specs.Ports.{fresh_port, heard_port, given_port, hearing_of, times_heard};
@@ -17,7 +17,7 @@ pub const PORTS: usize = 64;
 /// The trade between quiet and haste, in microseconds.
 #[derive(Clone, Copy, Debug, PartialEq, Eq)]
 pub struct Manner {
-    /// How long a node keeps the news of its machines to itself, where nobody is in haste.
+    /// How long a node keeps the news of its machines to itself, if nobody is in haste.
     pub hold: u64,
     /// After what time a frame is given again.
     pub repeat: u64,
@@ -44,7 +44,7 @@ pub struct Plan {
     pub offers: [bool; PORTS],
 }
 
-/// What a node remembers, so that it is quiet where nobody is in haste. It takes no memory.
+/// What a node remembers, so that it is quiet if nobody is in haste. It takes no memory.
 #[derive(Drop)]
 pub struct Pace {
     manner: Manner,
@@ -53,7 +53,7 @@ pub struct Pace {
 }
 
 impl Pace {
-    /// A node that was neither given nor told anything yet.
+    /// A node that has been given nothing and has heard nothing yet.
     pub fn new(manner: Manner) -> Pace
         ensures manner { result.manner ≡ manner }
         ensures node { result.node ≡ quiet_node }
@@ -100,7 +100,7 @@ impl Pace {
     }
 
     /// The plan of the turn that begins now: a frame on each port where one is due, and a tick
-    /// where none is to be left out.
+    /// if none is to be left out.
     pub fn plan(&self, sights: &[PortSight], outlook: &Outlook, now: u64) -> Plan
         requires { length sights.now ≤ 64 }
         ensures ticks { result.ticks ≡ may_tick outlook.now now self.now.node }
@@ -147,7 +147,7 @@ impl Pace {
         hearing
     }
 
-    /// The node ticked, and some machine moved in that or none did. Where somebody waits it may
+    /// The node ticked, and some machine moved in that or none did. If somebody waits it may
     /// call for haste, on all its tree ports.
     pub fn ticked(&mut self, outlook: &Outlook, moved: bool, trees: &[bool], now: u64)
         requires { length trees.now ≤ 64 }

@@ -129,7 +129,7 @@ impl PortPace {
     }
 
     /// How long it is until a frame is due there for the sake of time alone, 2 milliseconds at
-    /// most; 0 where one is due now.
+    /// most; 0 if one is due now.
     pub fn rest(&self, sight: &PortSight, holds: bool, repeat: u64, now: u64) -> u64
         ensures { result ≡ rest_at sight.now holds repeat now self.now }
     {

@@ -7,7 +7,9 @@ use Rattle.frame_codec.specs.Lines.{good_lines}
 use Rattle.frame_codec.specs.Reading.{frame_of}
 use Rattle.frame_codec.specs.Spelling.{spelling}
 use Rattle.processes.specs.Connections.{lines_of, Ended, IsConnection, IsLinkOfBytes}
-use Rattle.processes.specs.Links.{Act}
+use Rattle.run_model.proofs.RowsTwo.{calm}
+use Rattle.processes.specs.Links.{Act, Accepts, Gives, Loses}
+use Rattle.processes.specs.Together.{Wires, frames_at_first, history_on}
 use Rattle.processes.proofs.RowsLinks.{numbered}
 
 abbrev sizes : Ranges
@@ -93,3 +95,23 @@ not-the-spoiled c =
 -- and no stretch begins on a link on which half a line stands
 not-with-a-half : (sent taken : List Act) (cs : List Ended) (acts : List Act) → IsLinkOfBytes sizes 1 (codes "F00") sent taken cs acts → ⊥
 not-with-a-half sent taken cs acts h = let e : ◌≡◌ {A = List ℕ} (codes "F00") [] = h.whole in absurd cc
+
+-- ---- what happened on a link that was two connections, one after the other
+
+-- on the first one a frame was accepted, and not given when it ended
+abbrev twice : Wires
+twice = record {
+  junk = λ u v. [];
+  ended = λ u v. record { acts = Accepts 1 (numbered 1) ∷ []; instant = 3 } ∷ [];
+  acts = λ u v. Accepts 4 (numbered 2) ∷ Gives 5 (numbered 2) ∷ [];
+}
+
+nothing-at_first : frames_at_first calm twice 0 1 ≡ []
+nothing-at_first = refl
+
+-- so it is lost at its end
+lost-between : history_on calm twice 0 1 ≡ Accepts 1 (numbered 1) ∷ Loses 3 0 ∷ Accepts 4 (numbered 2) ∷ Gives 5 (numbered 2) ∷ []
+lost-between = refl
+
+not-kept : history_on calm twice 0 1 ≡ Accepts 1 (numbered 1) ∷ Accepts 4 (numbered 2) ∷ Gives 5 (numbered 2) ∷ [] → ⊥
+not-kept same = let e : ◌≡◌ {A = List Act} (Accepts 1 (numbered 1) ∷ Loses 3 0 ∷ Accepts 4 (numbered 2) ∷ Gives 5 (numbered 2) ∷ []) (Accepts 1 (numbered 1) ∷ Accepts 4 (numbered 2) ∷ Gives 5 (numbered 2) ∷ []) = same in absurd cc

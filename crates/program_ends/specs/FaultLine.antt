@@ -1,4 +1,4 @@
--- The line that tells why the program ends with status 1.
+-- The line that says why the program ends with status 1.
 use Rattle.std.specs.Prelude.{ℕ, List, ◌++◌, codes}
 use Rattle.command_parts.specs.declared.fault.Fault.{Fault}
 use Rattle.command_parts.specs.declared.path_fault.PathFault.{PathFault}

@@ -13,7 +13,7 @@ use std::rt::Env;
 /// The program's own words, or the status of a program that cannot read them.
 ///
 /// # Errors
-/// Status 1 (of `lock` 125) where memory runs out, 2 where a word is no text; either is told on
+/// Status 1 (of `lock` 125) if memory runs out, 2 if a word is no text; either is reported on
 /// standard error.
 pub fn own_words<R: Env + Eprint + AllocGlobal>(rt: &R) -> Result<Vec<String>, ExitCode>
     ensures { IfErr result (λ status. (exit_status status ≡ 1)
@@ -34,7 +34,7 @@ fn asks_for_lock<R: Env>(rt: &R) -> bool {
     matches!(rt.arg(1, &mut name), Ok(4)) && name == *b"lock"
 }
 
-/// Tells why the words cannot be read, and says with which status that ends: that of a fault for
+/// Says why the words cannot be read, and says with which status that ends: that of a fault for
 /// want of memory; else one of them is no text, and the command line is refused.
 fn unread<R: Eprint>(rt: &R, kind: ErrorKind, is_lock: bool) -> ExitCode
     ensures memory { kind ≡ OutOfMemory → exit_status result ≡ (if is_lock then 125 else 1) }

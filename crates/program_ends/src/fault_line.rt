@@ -1,4 +1,4 @@
-//! The line that tells a fault.
+//! The line that reports a fault.
 use command_parts::Fault;
 use std::fmt;
 

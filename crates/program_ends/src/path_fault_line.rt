@@ -1,4 +1,4 @@
-//! The line that tells a fault of a command that changes a file.
+//! The line that reports a fault of a command that changes a file.
 use command_parts::PathFault;
 use std::fmt;
 

@@ -4,8 +4,8 @@ use Rattle.std.proofs.Math.Path.{fun_ext}
 use Rattle.std.proofs.lemmas.Grind.{common_steps}
 use Rattle.std.proofs.lemmas.List.{length-set}
 use Rattle.std.proofs.lemmas.List.Elements.{All-set, All-contains}
-use Rattle.topology.specs.At.{at}
-use Rattle.topology.specs.declared.frame.Ranges.{Ranges}
+use Rattle.data_link.specs.topology.At.{at}
+use Rattle.data_link.specs.topology.declared.frame.Ranges.{Ranges}
 use Rattle.data_link.specs.Port.{PortState, PortView, port_fits}
 use Rattle.registers.specs.Registers.{RegistersView, IsPortOf, IsRegisters, port_of, value_of}
 
@@ -38,7 +38,7 @@ other_value r w x v ne = grind (arith, common_steps)
 pub neighbour_is_node : (r : RegistersView) (w : ℕ) → IsRegisters r → Contains r.neighbours w → w < r.ranges.nodes
 neighbour_is_node r w ok near = All-contains (λ v. v < r.ranges.nodes) r.neighbours w ok.neighbours_in near
 
--- another node than w, where w is in the list and it is not
+-- another node than w, if w is in the list and it is not
 other_than : (ns : List ℕ) (w v : ℕ) → Contains ns w → ¬ Contains ns v → v ≢ w
 other_than ns w v near far e = far (rw e near)
 
@@ -93,7 +93,7 @@ pub port_changed_on_ok : {X E : Type 0} (r : RegistersView) (w : ℕ) (was new :
 port_changed_on_ok r w was new change (Ok x) ok near read is = port_changed r w was new change ok near read is
 port_changed_on_ok r w was new change (Err e) ok near read is = tt
 
--- it leaves a port in range where it writes only what fits
+-- it leaves a port in range if it writes only what fits
 pub port_kept : {X E : Type 0} (r : Ranges) (was new : PortView) (change : PortView → PortState) (fits : Bool) (result : Result X E) → IsPortOf r was
     → (IsOk result ↔ IsTrue fits) → OnOk result (new ≡ record was { state = change was }) → OnErr result (new ≡ was)
     → (IsTrue fits → IsTrue (port_fits r (change was))) → IsPortOf r new

@@ -1,3 +1,4 @@
+pub use Rattle.data_link.specs.topology as topology
 pub use Rattle.data_link.specs.k_state as k_state
 pub use Rattle.data_link.specs.link_model as link_model
 pub use Rattle.data_link.specs as data_link

@@ -1,7 +1,7 @@
--- What becomes of a node's registers where its neighbours change.
+-- What becomes of a node's registers if its neighbours change.
 use Rattle.std.specs.Prelude.{ℕ, Bool, ◌&&◌, ◌==◌, if◌then◌else◌, List}
 use Rattle.std.specs.List.{list_any}
-use Rattle.topology.specs.declared.frame.Ranges.{Ranges}
+use Rattle.data_link.specs.topology.declared.frame.Ranges.{Ranges}
 use Rattle.data_link.specs.Port.{PortState, default_port}
 
 -- w is one of the neighbours

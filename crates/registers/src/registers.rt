@@ -3,9 +3,9 @@ ghost use Rattle.std.specs.Prelude.{◌≡◌, ◌↔◌, ◌<◌, ◌≤◌, �
 ghost use Rattle.std.specs.Prelude.{OnErr, Contains, length, nat_lt, not, ◌&&◌, if◌then◌else◌};
 ghost use Rattle.std.specs.Prelude.{replicate, slice_index, slice_index_or};
 ghost use Rattle.std.specs.Vec.{vec_capacity};
-ghost use Rattle.topology.specs.At.{at};
-ghost use Rattle.topology.specs.Network.{neighbours_of};
-ghost use Rattle.topology.specs.Ranges.{frame_fits, payload_fits, ranges_of};
+ghost use Rattle.data_link.specs.topology.At.{at};
+ghost use Rattle.data_link.specs.topology.Network.{neighbours_of};
+ghost use Rattle.data_link.specs.topology.Ranges.{frame_fits, payload_fits, ranges_of};
 ghost use Rattle.data_link.specs.Heard.{heard_of};
 ghost use Rattle.data_link.specs.Port.{PortState, PortView, counters_fit, default_port, frame_of};
 ghost use Rattle.data_link.specs.Port.{port_after};
@@ -13,10 +13,10 @@ ghost use Rattle.registers.specs.Registers.{RegistersView, IsRegisters, port_of,
 ghost use Rattle.registers.specs.Registers.{value_of};
 ghost use Rattle.registers.specs.Rewire.{is_among, rewired_ports, rewired_values};
 
+use data_link::topology::{Frame, Net, Payload, Ranges};
 use data_link::{Heard, OutOfRange, Port};
 use std::alloc::{AllocError, Allocator, Global};
 use std::marker::Model;
-use topology::{Frame, Net, Payload, Ranges};
 
 /// What a node keeps of every other node: a port to it, and the value of the machine that comes in
 /// from it.
@@ -53,7 +53,7 @@ impl<A: Allocator> Model for Registers<A> {
 
 impl<A: Allocator + Copy> Registers<A> {
     /// The registers of a node that knows nothing yet. All places are reserved here, also for nodes
-    /// that become neighbours later; `AllocError` comes only where that memory is refused.
+    /// that become neighbours later; `AllocError` comes only if that memory is refused.
     pub fn new<N: Allocator + Copy>(
         alloc: A,
         net: &Net<N>,
@@ -66,7 +66,7 @@ impl<A: Allocator + Copy> Registers<A> {
         ensures ports { IfOk result (λ r. port_of r ≡ (λ w. default_port (ranges_of net.now))) }
         ensures values { IfOk result (λ r. value_of r ≡ (λ w. 0)) }
     {
-        topology::laws::neighbours();
+        data_link::topology::laws::neighbours();
         let neighbours = with_room(alloc, net.nodes(), net.neighbours(id))?;
         let ports = default_ports(alloc, net)?;
         let values = vec![in alloc; 0u16; usize::from(net.nodes())]?;
@@ -190,10 +190,10 @@ impl<A: Allocator> Registers<A> {
     }
 
     /// Writes the value of the machine that comes in from the neighbour `port`. `OutOfRange` comes
-    /// exactly where it is not below the ring values' modulus.
+    /// exactly if it is not below the ring values' modulus.
     pub fn set_value(&mut self, port: u16, value: u16) -> Result<(), OutOfRange>
         requires { Contains self.old.neighbours port }
-        // It is written exactly where it is in range.
+        // It is written exactly if it is in range.
         ensures variant { IsOk result ↔ (value < self.old.ranges.ring) }
         ensures value { OnOk result (value_of self.new ≡ at (value_of self.old) port value) }
         // Neighbours, ranges and ports stay.
@@ -207,11 +207,11 @@ impl<A: Allocator> Registers<A> {
         Ok(())
     }
 
-    /// Writes both numbers of the neighbour `port`. `OutOfRange` comes exactly where one is not
+    /// Writes both numbers of the neighbour `port`. `OutOfRange` comes exactly if one is not
     /// below the counters' modulus.
     pub fn set_counters(&mut self, port: u16, seq: u16, last: u16) -> Result<(), OutOfRange>
         requires { Contains self.old.neighbours port }
-        // It is written exactly where it is in range.
+        // It is written exactly if it is in range.
         ensures variant { IsOk result ↔ IsTrue (counters_fit self.old.ranges seq last) }
         ensures port { OnOk result (port_of self.new
             ≡ at (port_of self.old) port
@@ -223,11 +223,11 @@ impl<A: Allocator> Registers<A> {
         self.ports[port as usize].set_counters(seq, last)
     }
 
-    /// Writes the staged payload for the neighbour `port`. `OutOfRange` comes exactly where a field
+    /// Writes the staged payload for the neighbour `port`. `OutOfRange` comes exactly if a field
     /// of it is not in its range.
     pub fn set_staged(&mut self, port: u16, payload: Payload) -> Result<(), OutOfRange>
         requires { Contains self.old.neighbours port }
-        // It is written exactly where it is in range.
+        // It is written exactly if it is in range.
         ensures variant { IsOk result ↔ IsTrue (payload_fits self.old.ranges payload) }
         ensures port { OnOk result (port_of self.new
             ≡ at (port_of self.old) port (record (port_of self.old port) { staged = payload })) }
@@ -238,11 +238,11 @@ impl<A: Allocator> Registers<A> {
         self.ports[port as usize].set_staged(payload)
     }
 
-    /// Writes the copy of what the neighbour `port` said last. `OutOfRange` comes exactly where a
+    /// Writes the copy of what the neighbour `port` said last. `OutOfRange` comes exactly if a
     /// field of it is not in its range.
     pub fn set_copy(&mut self, port: u16, payload: Payload) -> Result<(), OutOfRange>
         requires { Contains self.old.neighbours port }
-        // It is written exactly where it is in range.
+        // It is written exactly if it is in range.
         ensures variant { IsOk result ↔ IsTrue (payload_fits self.old.ranges payload) }
         ensures port { OnOk result (port_of self.new
             ≡ at (port_of self.old) port (record (port_of self.old port) { copy = payload })) }
@@ -267,7 +267,7 @@ impl<A: Allocator> Registers<A> {
         ensures values { value_of self.new
             ≡ rewired_values self.old.neighbours (neighbours_of net.now id) (value_of self.old) }
     {
-        topology::laws::neighbours();
+        data_link::topology::laws::neighbours();
         let neighbours = net.neighbours(id);
         let nodes = net.nodes();
         write_ids(&mut self.neighbours, neighbours);

@@ -34,7 +34,7 @@ pub kept : (c : Course) (P : World → Type 0) → IsKept c P → (w : World) (e
 kept c P k w [] h p = p
 kept c P k w (e ∷ es) h p = kept c P k (step w e) es (c.later w e es h) (k w e (c.now w e es h) p)
 
--- where P is kept, Q is kept while P holds, and a full tick of v brings Q about while P holds: a
+-- if P is kept, Q is kept while P holds, and a full tick of v brings Q about while P holds: a
 -- list with a full tick of v brings Q about
 pub ticked : (c : Course) (P Q : World → Type 0) (v : ℕ) → IsKept c P
     → ((w : World) (e : Event) → c.tells w e → P w → Q w → Q (step w e))

@@ -4,13 +4,13 @@ use Rattle.std.proofs.lemmas.Grind.{common_steps}
 use Rattle.std.proofs.lemmas.Bool.Decides.{nat_tests}
 use Rattle.std.proofs.lemmas.List.Elements.{All-weaker, recursion_from_All}
 use Rattle.std.specs.List.{AllByRecursion}
-use Rattle.topology.specs.Network.{Network}
-use Rattle.topology.specs.Ranges.{ranges_of}
-use Rattle.topology.specs.Laws.{NeighboursAreJoined}
+use Rattle.link_model.specs.topology.Network.{Network}
+use Rattle.link_model.specs.topology.Ranges.{ranges_of}
+use Rattle.link_model.specs.topology.Laws.{NeighboursAreJoined}
 use Rattle.link_model.specs.declared.item.Item.{Item}
 use Rattle.link_model.specs.declared.item.Item.TheVariants.{Frame, Noise}
-use Rattle.data_link.specs.Port.{PortState, port_fits}
-use Rattle.data_link.specs.Edge.{modulus_of, IsPortBelow, IsItemBelow, IsEdgeInRange}
+use Rattle.node_core.specs.data_link.Port.{PortState, port_fits}
+use Rattle.node_core.specs.data_link.Edge.{modulus_of, IsPortBelow, IsItemBelow, IsEdgeInRange}
 use Rattle.run_model.specs.World.{World, IsWorldInRange, item_fits}
 use Rattle.run_model.specs.Project.{edge_of}
 use Rattle.run_model.proofs.Joined.{IsEdge}

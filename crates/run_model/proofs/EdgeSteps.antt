@@ -5,14 +5,14 @@ use Rattle.std.proofs.lemmas.Bool.{cases_Bool, cond-true, cond-false}
 use Rattle.std.proofs.lemmas.List.Elements.{All-head}
 use Rattle.std.specs.Prelude.{is_some}
 use Rattle.std.specs.List.{remove}
-use Rattle.topology.specs.Network.{are_joined}
-use Rattle.topology.specs.At.{at}
-use Rattle.topology.specs.Ranges.{ranges_of, frame_fits}
-use Rattle.topology.specs.declared.frame.Payload.{Payload}
+use Rattle.link_model.specs.topology.Network.{are_joined}
+use Rattle.link_model.specs.topology.At.{at}
+use Rattle.link_model.specs.topology.Ranges.{ranges_of, frame_fits}
+use Rattle.link_model.specs.topology.declared.frame.Payload.{Payload}
 use Rattle.link_model.specs.declared.item.Item.{Item}
 use Rattle.link_model.specs.declared.item.Item.TheVariants.{Frame, Noise}
-use Rattle.data_link.specs.Port.{port_after}
-use Rattle.data_link.specs.Edge.{TakeOut, TakeBack, edge_step}
+use Rattle.node_core.specs.data_link.Port.{port_after}
+use Rattle.node_core.specs.data_link.Edge.{TakeOut, TakeBack, edge_step}
 use Rattle.node_core.specs.Step.{heard}
 use Rattle.run_model.specs.World.{World, IsWorldInRange, item_fits, site, with_node, with_link}
 use Rattle.run_model.specs.Step.{refusal, step, changed, handed_over}

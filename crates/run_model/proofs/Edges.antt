@@ -3,11 +3,11 @@ use Rattle.std.proofs.Common.{◌≡◌, ◌≢◌, ℕ, zero, suc, List, [], �
 use Rattle.std.proofs.lemmas.Grind.{common_steps}
 use Rattle.std.proofs.lemmas.Bool.{or_parts}
 use Rattle.link_model.specs.declared.item.Item.TheVariants.{Frame}
-use Rattle.data_link.specs.Port.{frame_of}
-use Rattle.data_link.specs.Edge.{edge_step, edge_run}
-use Rattle.data_link.specs.Sweep as edge
+use Rattle.node_core.specs.data_link.Port.{frame_of}
+use Rattle.node_core.specs.data_link.Edge.{edge_step, edge_run}
+use Rattle.node_core.specs.data_link.Sweep as edge
 use Rattle.link_model.specs.Acts.{list_after}
-use Rattle.data_link.specs.Sweep.{act_out, act_back, is_out_renewed, is_back_renewed}
+use Rattle.node_core.specs.data_link.Sweep.{act_out, act_back, is_out_renewed, is_back_renewed}
 use Rattle.run_model.specs.World.{World, IsWorldInRange}
 use Rattle.run_model.specs.Step.{step}
 use Rattle.run_model.specs.Run.{run, is_damage, has_damage, IsUndamaged}

@@ -1,8 +1,8 @@
 -- What is known of two nodes that an edge joins.
 use Rattle.std.proofs.Common.{◌≢◌, ℕ, ◌<◌, IsTrue, sym, ◌∙◌, subst}
 use Rattle.std.proofs.lemmas.Bool.{both_ways}
-use Rattle.topology.specs.Network.{Network, are_joined, IsAcceptedNetwork}
-use Rattle.topology.specs.Laws.{JoinedBack, JoinedAreNodes, NotToItself}
+use Rattle.link_model.specs.topology.Network.{Network, are_joined, IsAcceptedNetwork}
+use Rattle.link_model.specs.topology.Laws.{JoinedBack, JoinedAreNodes, NotToItself}
 
 -- u and v are two nodes, and joined
 pub record IsEdge (net : Network) (u v : ℕ) : Type 0 where

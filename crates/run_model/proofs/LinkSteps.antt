@@ -1,10 +1,10 @@
 -- What one event does to the items of one link.
 use Rattle.std.proofs.Common.{◌≡◌, ◌≢◌, ℕ, ◌<◌, true, false, ap, arith}
 use Rattle.std.proofs.lemmas.Grind.{common_steps}
-use Rattle.topology.specs.Network.{are_joined}
+use Rattle.link_model.specs.topology.Network.{are_joined}
 use Rattle.link_model.specs.declared.item.Item.TheVariants.{Frame}
 use Rattle.link_model.specs.Acts.{list_after}
-use Rattle.data_link.specs.Port.{frame_of}
+use Rattle.node_core.specs.data_link.Port.{frame_of}
 use Rattle.run_model.specs.World.{World}
 use Rattle.run_model.specs.Step.{step}
 use Rattle.run_model.specs.Run.{is_damage}

@@ -11,7 +11,7 @@ use Rattle.run_model.specs.Privilege.{is_privileged}
 use Rattle.run_model.specs.Visited.{is_privileged_once, is_visited}
 use Rattle.run_model.specs.declared.event.Event.{Event}
 
--- where there is damage in a list, the moment lies after its first event; where there is none,
+-- if there is damage in a list, the moment lies after its first event; if there is none,
 -- before it
 skips : (w : World) (e : Event) (es : List Event) → has_damage w (e ∷ es) ≡ true → after_damage w (e ∷ es) ≡ after_damage (step w e) es
 skips w e es h = cond-true (has_damage w (e ∷ es)) (after_damage (step w e) es) (record { world = w; rest = e ∷ es }) h

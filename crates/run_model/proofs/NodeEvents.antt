@@ -4,11 +4,11 @@ use Rattle.std.proofs.Common.{◌≡◌, ℕ, ◌⊎◌, inl, inr, true, false, 
 use Rattle.std.specs.Prelude.{is_some, is_none}
 use Rattle.std.proofs.lemmas.Bool.{cases_Bool, cases_eq, false≢true, cond-true, cond-false, eq-eqb, ne_eqb}
 use Rattle.std.proofs.lemmas.Bool.Decides.{nat_tests}
-use Rattle.topology.specs.At.{at}
+use Rattle.link_model.specs.topology.At.{at}
 use Rattle.link_model.specs.declared.item.Item.{Item}
 use Rattle.link_model.specs.declared.item.Item.TheVariants.{Frame, Noise}
-use Rattle.lock_desk.specs.Desk.{DeskState, asked, after_leave}
-use Rattle.lock_desk.specs.Laws.{OnlyTicksLend}
+use Rattle.node_core.specs.lock_desk.Desk.{DeskState, asked, after_leave}
+use Rattle.node_core.specs.lock_desk.Laws.{OnlyTicksLend}
 use Rattle.node_core.specs.State.{LocalState}
 use Rattle.node_core.specs.Step.{ticked}
 use Rattle.run_model.specs.World.{World, site}
@@ -33,7 +33,7 @@ at_other f a v s ne = cond-false (v == a) s (f v) (ne_eqb v a ne)
 same_node : (w new : World) (v : ℕ) → new.node v ≡ w.node v → IsResting w new v
 same_node w new v e = record { values = ap (λ (s : LocalState). s.value) e; loan = λ h. ap (λ (s : LocalState). is_some s.desk.lent) (sym e) ∙ h }
 
--- the node with another desk, which lends only where the desk lent before
+-- the node with another desk, which lends only if the desk lent before
 desk-quiet : (w new : World) (a v : ℕ) (d : DeskState) → new.node ≡ at w.node a (record (w.node a) { desk = d })
     → (is_some d.lent ≡ true → is_some (w.node a).desk.lent ≡ true) → IsResting w new v
 desk-quiet w new a v d is lent = elim (cases_eq v a) [

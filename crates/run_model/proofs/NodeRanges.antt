@@ -6,18 +6,18 @@ use Rattle.std.proofs.lemmas.Bool.Decides.{nat_tests}
 use Rattle.std.proofs.lemmas.List.Elements.{All-head, All-tail, All-filter, All-weaker}
 use Rattle.std.specs.Prelude.{◌==◌, ◌&&◌, ◌%◌, nat_lt, unwrap_or, is_none, slice_index_or}
 use Rattle.std.specs.List.{All, list_any}
-use Rattle.topology.specs.At.{at}
-use Rattle.topology.specs.Ranges.{parent_fits, payload_fits, frame_fits}
-use Rattle.topology.specs.declared.frame.Frame.{Frame}
-use Rattle.topology.specs.declared.frame.Ranges.{Ranges}
+use Rattle.link_model.specs.topology.At.{at}
+use Rattle.link_model.specs.topology.Ranges.{parent_fits, payload_fits, frame_fits}
+use Rattle.link_model.specs.topology.declared.frame.Frame.{Frame}
+use Rattle.link_model.specs.topology.declared.frame.Ranges.{Ranges}
 use Rattle.link_model.specs.declared.item.Item.{Item}
 use Rattle.link_model.specs.declared.item.Item.TheVariants as item
-use Rattle.data_link.specs.Port.{PortState, port_fits, port_after}
+use Rattle.node_core.specs.data_link.Port.{PortState, port_fits, port_after}
 use Rattle.node_core.specs.k_state.Machine.{root_moved}
-use Rattle.topology.specs.Laws.{NeighboursAreJoined}
-use Rattle.data_link.specs.Laws.{PortStaysInRange}
+use Rattle.link_model.specs.topology.Laws.{NeighboursAreJoined}
+use Rattle.node_core.specs.data_link.Laws.{PortStaysInRange}
 use Rattle.node_core.specs.bfs_tree.Laws.{StepDistanceFits, StepParentFits}
-use Rattle.lock_desk.specs.Laws.{TicksKeepRanges, AsksKeepRanges, LeavesKeepRanges, LoansKeepRanges}
+use Rattle.node_core.specs.lock_desk.Laws.{TicksKeepRanges, AsksKeepRanges, LeavesKeepRanges, LoansKeepRanges}
 use Rattle.node_core.specs.euler_ring.Cycle.{is_on, is_tree_neighbour, highest, below, source_for}
 use Rattle.node_core.specs.Site.{Site}
 use Rattle.node_core.specs.State.{LocalState, IsNodeInRange}

@@ -6,15 +6,15 @@ use Rattle.std.proofs.lemmas.Bool.Decides.{nat_tests}
 use Rattle.std.proofs.lemmas.List.Elements.{All-nil, All-tail, All-weaker, All-append, All-push, All-take, All-drop, All-contains, All-contains_itself}
 use Rattle.std.specs.Prelude.{◌==◌, ◌&&◌, is_some}
 use Rattle.std.specs.List.{All, Contains, remove}
-use Rattle.topology.specs.At.{at}
-use Rattle.topology.specs.Network.{Network, are_joined, neighbours_of, ring_of, IsAcceptedNetwork}
-use Rattle.topology.specs.Ranges.{ranges_of, frame_fits}
-use Rattle.topology.specs.Laws.{NeighboursAreJoined}
-use Rattle.topology.specs.declared.frame.Ranges.{Ranges}
+use Rattle.link_model.specs.topology.At.{at}
+use Rattle.link_model.specs.topology.Network.{Network, are_joined, neighbours_of, ring_of, IsAcceptedNetwork}
+use Rattle.link_model.specs.topology.Ranges.{ranges_of, frame_fits}
+use Rattle.link_model.specs.topology.Laws.{NeighboursAreJoined}
+use Rattle.link_model.specs.topology.declared.frame.Ranges.{Ranges}
 use Rattle.link_model.specs.declared.item.Item.{Item}
 use Rattle.link_model.specs.declared.item.Item.TheVariants.{Frame}
-use Rattle.data_link.specs.Port.{PortState, port_fits, frame_of, default_port}
-use Rattle.lock_desk.specs.Desk.{DeskState, desk_fits, no_desk}
+use Rattle.node_core.specs.data_link.Port.{PortState, port_fits, frame_of, default_port}
+use Rattle.node_core.specs.lock_desk.Desk.{DeskState, desk_fits, no_desk}
 use Rattle.node_core.specs.Site.{site_of}
 use Rattle.node_core.specs.State.{LocalState, IsNodeInRange}
 use Rattle.node_core.specs.Step.{taken}
@@ -119,7 +119,7 @@ linked w u v fine = record {
   joined = grind (arith, common_steps, nat_tests);
 }
 
--- the first refusal is none where both are
+-- the first refusal is none if both are
 pub neither : (first later : Option EventFault) → is_some (first_fault first later) ≡ false → (is_some first ≡ false) × (is_some later ≡ false)
 neither None later h = (refl, h)
 neither (Some fault) later h = absurd (grind arith)

@@ -1,12 +1,12 @@
 -- Longer stretches: what a part of a stretch hands over, the whole hands over, and so a sweep stays
--- one where events are added before or after it.
+-- one if events are added before or after it.
 use Rattle.std.proofs.Common.{◌≡◌, ℕ, ◌<◌, suc, List, [], ◌∷◌, ◌++◌, true, IsTrue, length, map, refl, sym, ap, subst, arith}
 use Rattle.std.proofs.lemmas.Bool.{or_left, or_right, or_parts}
 use Rattle.std.proofs.lemmas.List.{map-append}
-use Rattle.topology.specs.Network.{are_joined}
+use Rattle.link_model.specs.topology.Network.{are_joined}
 use Rattle.link_model.specs.declared.item.Item.{Item}
 use Rattle.link_model.specs.declared.item.Item.TheVariants.{Frame}
-use Rattle.data_link.specs.Port.{frame_of}
+use Rattle.node_core.specs.data_link.Port.{frame_of}
 use Rattle.link_model.specs.Acts.{Origin, Before, Sent, LinkAct, Takes, is_first_sent, takes_sent, list_after, hands_over_sent}
 use Rattle.link_model.proofs.Marks.{IsMarked, IsFirstGood, marked-start, marked-length, marked-after, marked-taken, by_taken}
 use Rattle.run_model.specs.World.{World}
@@ -37,7 +37,7 @@ ticked-late w (e ∷ xs) ys v h = or_right (is_full_tick w e v) (has_full_tick (
 abbrev pub IsSent : Origin → Type 0
 IsSent origin = IsTrue (is_first_sent (origin ∷ []))
 
--- where each item that was sent inside one stretch was sent inside another, the other hands over
+-- if each item that was sent inside one stretch was sent inside another, the other hands over
 -- such an item too
 more-sent : (capacity i j : ℕ) (acts : List LinkAct) (few many : List Origin) → IsMarked IsSent few many
     → hands_over_sent capacity i acts few ≡ true → hands_over_sent capacity j acts many ≡ true

@@ -1,4 +1,4 @@
--- A world in range stays so where an edge joins or goes.
+-- A world in range stays so if an edge joins or goes.
 use Rattle.std.proofs.Common.{◌≡◌, ◌≢◌, ℕ, ◌<◌, ◌≤◌, List, [], ◌∷◌, ◌+◌, Bool, true, false, IsTrue, None, length, refl, sym, ◌∙◌, ap, subst, arith, inl, inr}
 use Rattle.std.proofs.lemmas.Grind.{common_steps}
 use Rattle.std.proofs.lemmas.Bool.{cases_eq, cond-true, cond-false, cond_both, and_parts, or_cases, or_parts, eq-eqb, eqb-true, ne_eqb, false≢true}
@@ -6,13 +6,13 @@ use Rattle.std.proofs.lemmas.Bool.Decides.{nat_tests}
 use Rattle.std.proofs.lemmas.List.Elements.{All-nil, All-head, All-tail}
 use Rattle.std.specs.Prelude.{◌-◌, ◌==◌, ◌&&◌, ◌||◌, not, is_some, slice_index_or}
 use Rattle.std.specs.List.{All, list_any}
-use Rattle.topology.specs.At.{at}
-use Rattle.topology.specs.Network.{Network, Edge, are_joined, is_between, neighbours_of, ring_of, IsAcceptedNetwork, joined_net, parted_net}
-use Rattle.topology.specs.Change.{join_fault, part_fault}
-use Rattle.topology.specs.Ranges.{ranges_of}
-use Rattle.topology.specs.Laws.{JoinedIsAccepted, PartedIsAccepted, WhoIsJoined, WhoIsParted, OthersStayAtJoin, OthersStayAtPart}
+use Rattle.link_model.specs.topology.At.{at}
+use Rattle.link_model.specs.topology.Network.{Network, Edge, are_joined, is_between, neighbours_of, ring_of, IsAcceptedNetwork, joined_net, parted_net}
+use Rattle.link_model.specs.topology.Change.{join_fault, part_fault}
+use Rattle.link_model.specs.topology.Ranges.{ranges_of}
+use Rattle.link_model.specs.topology.Laws.{JoinedIsAccepted, PartedIsAccepted, WhoIsJoined, WhoIsParted, OthersStayAtJoin, OthersStayAtPart}
 use Rattle.link_model.specs.declared.item.Item.{Item}
-use Rattle.data_link.specs.Port.{PortState, port_fits, default_port}
+use Rattle.node_core.specs.data_link.Port.{PortState, port_fits, default_port}
 use Rattle.node_core.specs.registers.Rewire.{is_among, stays, rewired_ports, rewired_values}
 use Rattle.node_core.specs.Site.{site_of}
 use Rattle.node_core.specs.State.{LocalState, IsNodeInRange}

@@ -1,10 +1,10 @@
--- Edges that join and go on a square, where its nodes and links are not as at the start: what
+-- Edges that join and go on a square, if its nodes and links are not as at the start: what
 -- changes, what stays, and what is refused.
 use Rattle.std.proofs.Common.{◌≡◌, List, [], ◌∷◌, Some, None, true, false, refl, ap}
-use Rattle.data_link.specs.Port.{default_port}
-use Rattle.topology.specs.Network.{Network, Edge, neighbours_of}
-use Rattle.topology.specs.Ranges.{ranges_of}
-use Rattle.topology.specs.Tree.{distance_of}
+use Rattle.node_core.specs.data_link.Port.{default_port}
+use Rattle.link_model.specs.topology.Network.{Network, Edge, neighbours_of}
+use Rattle.link_model.specs.topology.Ranges.{ranges_of}
+use Rattle.link_model.specs.topology.Tree.{distance_of}
 use Rattle.link_model.specs.declared.item.Item.TheVariants.{Noise}
 use Rattle.run_model.specs.World.{World}
 use Rattle.run_model.specs.Start.{default_world, world_with_spares}
@@ -127,7 +127,7 @@ no-second_edge = (refl, refl)
 no-join_of_no_node : refusal marked (Damage (Join 0 4)) ≡ Some NoNode
 no-join_of_no_node = refl
 
--- the opposite corners may be joined where a pair is left, and not where none is
+-- the opposite corners may be joined if a pair is left, and not if none is
 no-join_without_a_pair : (refusal marked (Damage (Join 0 3)) ≡ None) × (refusal start (Damage (Join 0 3)) ≡ Some NoSpare)
 no-join_without_a_pair = (refl, refl)
 

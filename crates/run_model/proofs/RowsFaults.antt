@@ -2,8 +2,8 @@
 use Rattle.std.proofs.Common.{◌≡◌, [], ◌∷◌, Some, None, true, false, refl}
 use Rattle.std.specs.List.{range_with_len}
 use Rattle.std.specs.Prelude.{[], ◌∷◌}
-use Rattle.topology.specs.Network.{Network}
-use Rattle.topology.specs.declared.frame.Payload.{Payload}
+use Rattle.link_model.specs.topology.Network.{Network}
+use Rattle.link_model.specs.topology.declared.frame.Payload.{Payload}
 use Rattle.link_model.specs.declared.item.Item.TheVariants.{Noise, Frame}
 use Rattle.run_model.specs.World.{World}
 use Rattle.run_model.specs.Start.{default_world}

@@ -23,7 +23,7 @@ rounds (suc n) = round ++ rounds n
 abbrev pub after : ℕ → World
 after n = run (default_world two_nodes) (rounds n)
 
--- where all values of the token ring are equal, the special machine may move: node 0 is privileged,
+-- if all values of the token ring are equal, the special machine may move: node 0 is privileged,
 -- alone
 node-0_after_four : is_privileged (after 4) 0 ≡ true
 node-0_after_four = refl
@@ -35,7 +35,7 @@ alone-after_four = refl
 nobody-after_five : privileged_count (after 5) ≡ 0
 nobody-after_five = refl
 
--- where it has come, node 1 is
+-- if it has come, node 1 is
 node-1_after_six : is_privileged (after 6) 1 ≡ true
 node-1_after_six = refl
 

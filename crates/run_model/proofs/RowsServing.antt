@@ -2,8 +2,8 @@
 use Rattle.std.proofs.Common.{◌≡◌, ◌≢◌, ℕ, ◌<◌, ◌≤◌, List, [], ◌∷◌, length, IsTrue, Some, None, IfSome, refl, arith}
 use Rattle.std.proofs.lemmas.Bool.{false≢true}
 use Rattle.std.specs.Prelude.{◌==◌, if◌then◌else◌, IsSome}
-use Rattle.topology.specs.Network.{IsWalk, IsDistance, IsTrueParent}
-use Rattle.lock_desk.specs.Desk.{no_desk}
+use Rattle.link_model.specs.topology.Network.{IsWalk, IsDistance, IsTrueParent}
+use Rattle.node_core.specs.lock_desk.Desk.{no_desk}
 use Rattle.node_core.specs.State.{LocalState}
 use Rattle.run_model.specs.World.{World}
 use Rattle.run_model.specs.Tree.{IsTreeReached}

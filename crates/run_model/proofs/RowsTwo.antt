@@ -4,11 +4,11 @@ use Rattle.std.proofs.Common.{◌≡◌, ℕ, ◌<◌, zero, suc, List, [], ◌�
 use Rattle.std.proofs.lemmas.Bool.Decides.{nat_tests}
 use Rattle.std.specs.Prelude.{◌==◌, if◌then◌else◌}
 use Rattle.std.proofs.lemmas.List.Elements.{All-nil, All-cons}
-use Rattle.topology.specs.Network.{Network, are_joined, IsWalk, IsEdgeBelow, IsConnected, IsAcceptedNetwork}
-use Rattle.topology.specs.Tree.{distance_of, parent_of}
-use Rattle.data_link.specs.Edge.{IsStable}
-use Rattle.topology.specs.declared.frame.Payload.{Payload}
-use Rattle.lock_desk.specs.Desk.{DeskState, no_desk}
+use Rattle.link_model.specs.topology.Network.{Network, are_joined, IsWalk, IsEdgeBelow, IsConnected, IsAcceptedNetwork}
+use Rattle.link_model.specs.topology.Tree.{distance_of, parent_of}
+use Rattle.node_core.specs.data_link.Edge.{IsStable}
+use Rattle.link_model.specs.topology.declared.frame.Payload.{Payload}
+use Rattle.node_core.specs.lock_desk.Desk.{DeskState, no_desk}
 use Rattle.node_core.specs.State.{LocalState}
 use Rattle.run_model.specs.World.{World, IsWorldInRange}
 use Rattle.run_model.specs.Start.{default_world}

@@ -5,15 +5,15 @@ use Rattle.std.proofs.lemmas.Bool.{cond_both, and_parts, ltb-true}
 use Rattle.std.proofs.lemmas.Bool.Decides.{nat_tests}
 use Rattle.std.proofs.lemmas.List.Elements.{All-nil, All-push}
 use Rattle.std.specs.Prelude.{◌==◌, ◌&&◌, nat_lt, nat_le, is_some, slice_index_or}
-use Rattle.topology.specs.At.{at}
-use Rattle.topology.specs.Network.{neighbours_of, ring_of}
-use Rattle.topology.specs.Ranges.{ranges_of, payload_fits, parent_fits}
-use Rattle.topology.specs.declared.frame.Payload.{Payload}
-use Rattle.topology.specs.declared.frame.Ranges.{Ranges}
+use Rattle.link_model.specs.topology.At.{at}
+use Rattle.link_model.specs.topology.Network.{neighbours_of, ring_of}
+use Rattle.link_model.specs.topology.Ranges.{ranges_of, payload_fits, parent_fits}
+use Rattle.link_model.specs.topology.declared.frame.Payload.{Payload}
+use Rattle.link_model.specs.topology.declared.frame.Ranges.{Ranges}
 use Rattle.link_model.specs.declared.item.Item.{Item}
-use Rattle.data_link.specs.Port.{PortState, counters_fit, port_fits}
-use Rattle.lock_desk.specs.declared.fault.AskFault.{AskFault}
-use Rattle.lock_desk.specs.Desk.{is_number, ask_fault, asked, after_leave, loan_fits, with_loan}
+use Rattle.node_core.specs.data_link.Port.{PortState, counters_fit, port_fits}
+use Rattle.node_core.specs.lock_desk.declared.fault.AskFault.{AskFault}
+use Rattle.node_core.specs.lock_desk.Desk.{is_number, ask_fault, asked, after_leave, loan_fits, with_loan}
 use Rattle.node_core.specs.Step.{ticked}
 use Rattle.run_model.specs.World.{World, IsWorldInRange, item_fits, site, with_node}
 use Rattle.run_model.specs.Rewire.{can_join, can_part}
@@ -62,7 +62,7 @@ value-range w v u x range fits = node-range w v (record (w.node v) { value = at 
       desk = old.desk;
     })
 
--- where a link has room, there is no harm in one item more
+-- if a link has room, there is no harm in one item more
 room : (w : World) (u v : ℕ) (item : Item) → has_room w u v ≡ true → length (w.link u v ++ item ∷ []) ≤ w.net.capacity
 room w u v item h = grind (arith, common_steps, nat_tests)
 

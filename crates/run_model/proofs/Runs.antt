@@ -1,7 +1,7 @@
 -- Runs of two lists, one after the other.
 use Rattle.std.proofs.Common.{◌≡◌, List, [], ◌∷◌, ◌++◌, refl, ◌∙◌}
 use Rattle.std.proofs.lemmas.Bool.{or_parts, or_from}
-use Rattle.topology.specs.Network.{Network}
+use Rattle.link_model.specs.topology.Network.{Network}
 use Rattle.run_model.specs.World.{World}
 use Rattle.run_model.specs.SameFrame.{IsSameFrame}
 use Rattle.run_model.specs.Step.{step}

@@ -3,7 +3,7 @@ use Rattle.std.proofs.Common.{◌≡◌, ℕ, List, IsTrue, false, refl, arith}
 use Rattle.std.proofs.lemmas.Grind.{common_steps}
 use Rattle.std.proofs.lemmas.Bool.{cond_both}
 use Rattle.std.specs.Prelude.{is_some}
-use Rattle.topology.specs.Network.{Network, Edge}
+use Rattle.link_model.specs.topology.Network.{Network, Edge}
 use Rattle.run_model.specs.World.{World}
 use Rattle.run_model.specs.SameFrame.{IsSameFrame}
 use Rattle.run_model.specs.Step.{refusal, step, changed, handed_over}

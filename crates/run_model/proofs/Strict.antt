@@ -1,12 +1,12 @@
 -- A strict sweep is a sweep: on each link it hands over more items than were there.
 use Rattle.std.proofs.Common.{◌≡◌, ℕ, zero, suc, List, [], ◌∷◌, refl, sym, ◌∙◌, ap, subst, arith}
 use Rattle.std.proofs.lemmas.Bool.{or_parts}
-use Rattle.topology.specs.Network.{Network, IsAcceptedNetwork}
-use Rattle.topology.specs.Laws.{NeighboursAreJoined}
-use Rattle.data_link.specs.Laws.{StrictSweepIsSweep}
-use Rattle.data_link.specs.Sweep as edge
+use Rattle.link_model.specs.topology.Network.{Network, IsAcceptedNetwork}
+use Rattle.link_model.specs.topology.Laws.{NeighboursAreJoined}
+use Rattle.node_core.specs.data_link.Laws.{StrictSweepIsSweep}
+use Rattle.node_core.specs.data_link.Sweep as edge
 use Rattle.link_model.specs.HandOver.{takes_item}
-use Rattle.data_link.specs.Sweep.{act_out, act_back, handed_out, handed_back}
+use Rattle.node_core.specs.data_link.Sweep.{act_out, act_back, handed_out, handed_back}
 use Rattle.run_model.specs.World.{World, IsWorldInRange}
 use Rattle.run_model.specs.Step.{step}
 use Rattle.run_model.specs.Run.{run, is_damage, has_damage, IsUndamaged}

@@ -16,7 +16,7 @@ pub record Moment : Type 0 where
   pub world : World
   pub rest : List Event
 
--- the moment after the last damage of a list; the start where there is none
+-- the moment after the last damage of a list; the start if there is none
 abbrev pub after_damage : World → List Event → Moment
 after_damage w [] = record { world = w; rest = [] }
 after_damage w (e ∷ es) = if has_damage w (e ∷ es) then after_damage (step w e) es else record { world = w; rest = e ∷ es }

@@ -8,12 +8,12 @@ use Rattle.run_model.specs.declared.event.Event.TheVariants.{Lose, Take, Tick, D
 use Rattle.run_model.specs.declared.happened.Happened.{Happened}
 use Rattle.run_model.specs.declared.happened.Happened.TheVariants.{FullTick, LendingTick, Taken, NothingTaken, Lost, Damaged, Other}
 
--- what a take does where these items are under way from u to v
+-- what a take does if these items are under way from u to v
 abbrev pub taken_of : ℕ → ℕ → List Item → Happened
 taken_of u v [] = NothingTaken u v
 taken_of u v (item ∷ rest) = Taken u v
 
--- what an event does that is not refused; a tick is full where the node lends to nobody after it
+-- what an event does that is not refused; a tick is full if the node lends to nobody after it
 abbrev pub happened : World → Event → Happened
 happened w (Tick v) = if is_none ((step w (Tick v)).node v).desk.lent then FullTick v else LendingTick v
 happened w (Take u v) = taken_of u v (w.link u v)

@@ -1,6 +1,6 @@
 -- The headline: what the lock guarantees, from any state.
 use Rattle.std.specs.Prelude.{◌≡◌, ℕ, ◌<◌, IsTrue, List, IfSome, IsNone, IsSome, ◌≢◌}
-use Rattle.topology.specs.Network.{IsDistance, IsTrueParent, bound_of}
+use Rattle.link_model.specs.topology.Network.{IsDistance, IsTrueParent, bound_of}
 use Rattle.run_model.specs.World.{World, IsWorldInRange}
 use Rattle.run_model.specs.Run.{run, IsUndamaged}
 use Rattle.run_model.specs.Sweep.{Sweeps}

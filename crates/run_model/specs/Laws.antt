@@ -1,10 +1,10 @@
 -- The plain laws of runs and sweeps, for every network, world and list of events.
 use Rattle.std.specs.Prelude.{◌≡◌, ℕ, ◌+◌, ◌<◌, ◌≤◌, true, false, IsTrue, is_some, suc, List, [], ◌∷◌, ◌++◌, ◌||◌, length, if◌then◌else◌}
-use Rattle.topology.specs.Network.{Network, IsAcceptedNetwork, are_joined}
+use Rattle.link_model.specs.topology.Network.{Network, IsAcceptedNetwork, are_joined}
 use Rattle.run_model.specs.SameFrame.{IsSameFrame}
-use Rattle.data_link.specs.Edge.{IsEdgeInRange, edge_step, edge_run}
-use Rattle.data_link.specs.Sweep as edge
-use Rattle.data_link.specs.Sweep.{is_out_renewed, is_back_renewed}
+use Rattle.node_core.specs.data_link.Edge.{IsEdgeInRange, edge_step, edge_run}
+use Rattle.node_core.specs.data_link.Sweep as edge
+use Rattle.node_core.specs.data_link.Sweep.{is_out_renewed, is_back_renewed}
 use Rattle.run_model.specs.World.{World, IsWorldInRange}
 use Rattle.run_model.specs.Start.{world_with_spares}
 use Rattle.run_model.specs.Step.{refusal, step}
@@ -48,7 +48,7 @@ RangesStay = (w : World) (es : List Event) → IsWorldInRange w → IsWorldInRan
 abbrev pub RunsJoin : Type 0
 RunsJoin = (w : World) (xs ys : List Event) → run w (xs ++ ys) ≡ run (run w xs) ys
 
--- two lists, one after the other, are without damage where the first is, and the second from where
+-- two lists, one after the other, are without damage if the first is, and the second from where
 -- the first led,
 abbrev pub UndamagedJoins : Type 0
 UndamagedJoins = (w : World) (xs ys : List Event) → IsUndamaged w xs → IsUndamaged (run w xs) ys → IsUndamaged w (xs ++ ys)
@@ -84,7 +84,7 @@ EdgeRuns =
     (w : World) (es : List Event) (u v : ℕ) → IsWorldInRange w → IsTrue (are_joined w.net.edges u v) → IsUndamaged w es
     → edge_of (run w es) u v ≡ edge_run w.net.capacity (edge_of w u v) (edge_events w es u v)
 
--- a stretch renews a link where the edge's own events do
+-- a stretch renews a link if the edge's own events do
 abbrev pub EdgeIsRenewed : Type 0
 EdgeIsRenewed =
     (w : World) (es : List Event) (u v : ℕ) → IsWorldInRange w → IsTrue (are_joined w.net.edges u v)
@@ -136,7 +136,7 @@ StrictSweepsAreSweeps = (w : World) (r : ℕ) (es : List Event) → IsWorldInRan
 abbrev pub TicksGoOn : Type 0
 TicksGoOn = (w : World) (es : List Event) (e : Event) (v : ℕ) → has_full_tick w (es ++ e ∷ []) v ≡ (has_full_tick w es v || is_full_tick (run w es) e v)
 
--- a link is renewed by the event, where this takes a new item, or was before
+-- a link is renewed by the event, if this takes a new item, or was before
 abbrev pub RenewedGoesOn : Type 0
 RenewedGoesOn =
     (w : World) (es : List Event) (e : Event) (u v : ℕ) → IsWorldInRange w → IsTrue (are_joined w.net.edges u v) → IsUndamaged w es
@@ -172,7 +172,7 @@ GreedyCount =
     (w : World) (r : ℕ) (first rest : List Event) → IsWorldInRange w → IsUndamaged w (first ++ rest) → IsSweep w first → IsEarliest w first
     → IsGreatestCount (run w first) rest r → IsGreatestCount w (first ++ rest) (suc r)
 
--- and 0 where no beginning of the list is a sweep.
+-- and 0 if no beginning of the list is a sweep.
 abbrev pub NoSweepCount : Type 0
 NoSweepCount = (w : World) (es : List Event) → IsUnfinished w es → IsGreatestCount w es 0
 
@@ -213,13 +213,13 @@ MomentLeads =
     × IsUndamaged (after_damage w es).world (after_damage w es).rest
     × (run (after_damage w es).world (after_damage w es).rest ≡ run w es)
 
--- where one more event is no damage, that moment stays, and the event is one more since then
+-- if one more event is no damage, that moment stays, and the event is one more since then
 abbrev pub MomentStays : Type 0
 MomentStays =
     (w : World) (es : List Event) (e : Event) → is_damage (run w es) e ≡ false
     → after_damage w (es ++ e ∷ []) ≡ record { world = (after_damage w es).world; rest = (after_damage w es).rest ++ e ∷ [] }
 
--- where it is damage, the moment is the one right after it
+-- if it is damage, the moment is the one right after it
 abbrev pub MomentMoves : Type 0
 MomentMoves =
     (w : World) (es : List Event) (e : Event) → is_damage (run w es) e ≡ true

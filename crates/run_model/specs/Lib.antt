@@ -1,4 +1,6 @@
-pub use Rattle.data_link.specs as data_link
+pub use Rattle.link_model.specs as link_model
+pub use Rattle.link_model.specs.topology as topology
+pub use Rattle.node_core.specs.data_link as data_link
 pub use Rattle.node_core.specs as node_core
 pub mod World
 pub mod Rewire

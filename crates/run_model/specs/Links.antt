@@ -1,7 +1,7 @@
 -- The links of a world.
 use Rattle.std.specs.Prelude.{ℕ, IsTrue}
-use Rattle.topology.specs.Network.{are_joined}
-use Rattle.data_link.specs.Edge.{IsStable}
+use Rattle.link_model.specs.topology.Network.{are_joined}
+use Rattle.node_core.specs.data_link.Edge.{IsStable}
 use Rattle.run_model.specs.World.{World}
 use Rattle.run_model.specs.Project.{edge_of}
 

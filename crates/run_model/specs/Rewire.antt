@@ -2,10 +2,10 @@
 -- change is the dynamic system of Dolev, Israeli and Moran (1993), and each change a transient
 -- fault, from which it recovers as from any other.
 use Rattle.std.specs.Prelude.{ℕ, ◌+◌, ◌-◌, ◌&&◌, ◌==◌, Bool, not, nat_lt, [], length}
-use Rattle.topology.specs.At.{at}
-use Rattle.topology.specs.Network.{Network, are_joined, neighbours_of, joined_net, parted_net}
-use Rattle.topology.specs.Ranges.{ranges_of}
-use Rattle.topology.specs.Tree.{is_connected}
+use Rattle.link_model.specs.topology.At.{at}
+use Rattle.link_model.specs.topology.Network.{Network, are_joined, neighbours_of, joined_net, parted_net}
+use Rattle.link_model.specs.topology.Ranges.{ranges_of}
+use Rattle.link_model.specs.topology.Tree.{is_connected}
 use Rattle.node_core.specs.State.{LocalState}
 use Rattle.node_core.specs.Rewire.{rewired}
 use Rattle.run_model.specs.World.{World, at_pair}

@@ -10,7 +10,7 @@ abbrev pub run : World → List Event → World
 run w [] = w
 run w (e ∷ es) = run (step w e) es
 
--- an event is damage where it is a harm that is not refused
+-- an event is damage if it is a harm that is not refused
 abbrev pub is_damage : World → Event → Bool
 is_damage w (Damage h) = is_none (refusal w (Damage h))
 is_damage w (Send u v) = false
@@ -25,6 +25,6 @@ abbrev pub has_damage : World → List Event → Bool
 has_damage w [] = false
 has_damage w (e ∷ es) = is_damage w e || has_damage (step w e) es
 
--- a list is without damage where none of its harms is accepted
+-- a list is without damage if none of its harms is accepted
 abbrev pub IsUndamaged : World → List Event → Type 0
 IsUndamaged w es = IsFalse (has_damage w es)

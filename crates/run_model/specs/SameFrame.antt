@@ -1,6 +1,6 @@
 -- What no event changes of a network.
 use Rattle.std.specs.Prelude.{◌≡◌}
-use Rattle.topology.specs.Network.{Network}
+use Rattle.link_model.specs.topology.Network.{Network}
 
 -- two networks of the same nodes, with the same root, capacity and lease; their edges may differ
 pub record IsSameFrame (net other : Network) : Type 0 where

@@ -1,7 +1,7 @@
 -- The world in which nothing has happened yet.
 use Rattle.std.specs.Prelude.{ℕ, []}
-use Rattle.topology.specs.Network.{Network}
-use Rattle.topology.specs.Ranges.{ranges_of}
+use Rattle.link_model.specs.topology.Network.{Network}
+use Rattle.link_model.specs.topology.Ranges.{ranges_of}
 use Rattle.node_core.specs.State.{default_node}
 use Rattle.run_model.specs.World.{World}
 

@@ -1,15 +1,15 @@
 -- One step: which events are refused, and what the others change.
 use Rattle.std.specs.Prelude.{ℕ, Bool, true, ◌&&◌, not, nat_lt, nat_le, if◌then◌else◌, is_some, List, [], ◌∷◌, ◌++◌, length, Option, Some, None}
 use Rattle.std.specs.List.{remove}
-use Rattle.topology.specs.At.{at}
-use Rattle.topology.specs.Network.{are_joined}
-use Rattle.topology.specs.Ranges.{ranges_of, parent_fits, payload_fits}
+use Rattle.link_model.specs.topology.At.{at}
+use Rattle.link_model.specs.topology.Network.{are_joined}
+use Rattle.link_model.specs.topology.Ranges.{ranges_of, parent_fits, payload_fits}
 use Rattle.link_model.specs.declared.item.Item.{Item}
 use Rattle.link_model.specs.declared.item.Item.TheVariants.{Frame}
-use Rattle.data_link.specs.Port.{PortState, frame_of, counters_fit}
-use Rattle.lock_desk.specs.Desk.{DeskState, is_number, ask_fault, asked, is_stranger, after_leave, loan_fits, with_loan}
-use Rattle.lock_desk.specs.declared.fault.AskFault.{AskFault}
-use Rattle.lock_desk.specs.declared.fault.AskFault.TheVariants as ask
+use Rattle.node_core.specs.data_link.Port.{PortState, frame_of, counters_fit}
+use Rattle.node_core.specs.lock_desk.Desk.{DeskState, is_number, ask_fault, asked, is_stranger, after_leave, loan_fits, with_loan}
+use Rattle.node_core.specs.lock_desk.declared.fault.AskFault.{AskFault}
+use Rattle.node_core.specs.lock_desk.declared.fault.AskFault.TheVariants as ask
 use Rattle.node_core.specs.Step.{taken, ticked}
 use Rattle.run_model.specs.World.{World, item_fits, site, with_node, with_link}
 use Rattle.run_model.specs.Rewire.{can_join, can_part, with_edge, without_edge}
@@ -86,7 +86,7 @@ desk_fault None = None
 desk_fault (Some ask.Full) = Some Full
 desk_fault (Some ask.Twice) = Some Twice
 
--- a ticket is a number below 65536; the type of tickets sees to that where an event is written
+-- a ticket is a number below 65536; the type of tickets sees to that when an event is written
 abbrev pub ticket_fault : ℕ → Option EventFault
 ticket_fault t = unless (is_number t) OutOfRange
 
@@ -130,7 +130,7 @@ abbrev pub handed_over : World → ℕ → ℕ → List Item → World
 handed_over w u v [] = w
 handed_over w u v (item ∷ rest) = with_link (with_node w v (taken (site w v) u item (w.node v))) u v rest
 
--- what an event changes where it is not refused
+-- what an event changes if it is not refused
 abbrev pub changed : World → Event → World
 changed w (Send u v) = sent w u v
 changed w (Take u v) = handed_over w u v (w.link u v)

@@ -1,7 +1,7 @@
 -- Strict sweeps count what a link hands over: more items than it can hold, so one at least that was
 -- sent inside the sweep.
 use Rattle.std.specs.Prelude.{◌≡◌, ℕ, ◌+◌, ◌<◌, IsTrue, zero, suc, List, [], ◌∷◌, ◌++◌}
-use Rattle.topology.specs.Network.{are_joined}
+use Rattle.link_model.specs.topology.Network.{are_joined}
 use Rattle.link_model.specs.HandOver.{takes_item}
 use Rattle.run_model.specs.World.{World}
 use Rattle.run_model.specs.Step.{step}
@@ -21,7 +21,7 @@ pub record IsStrictSweep (w : World) (es : List Event) : Type 0 where
   pub ticked : (v : ℕ) → v < w.net.nodes → IsTrue (has_full_tick w es v)
   pub handed : (u v : ℕ) → IsTrue (are_joined w.net.edges u v) → w.net.capacity < handed_in w es u v
 
--- a list holds r strict sweeps where it splits into r of them, one after the other, and a rest
+-- a list holds r strict sweeps if it splits into r of them, one after the other, and a rest
 abbrev pub StrictSweeps : World → ℕ → List Event → Type 0
 StrictSweeps w zero es = Unit {0}
 StrictSweeps w (suc r) es = (first rest : List Event) × (es ≡ first ++ rest) × IsStrictSweep w first × StrictSweeps (run w first) r rest

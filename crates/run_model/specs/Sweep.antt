@@ -1,7 +1,7 @@
 -- A sweep: a stretch of a run in which every node made a full tick and every link handed over an
 -- item that was sent inside the stretch.
 use Rattle.std.specs.Prelude.{◌≡◌, ℕ, ◌<◌, Bool, false, ◌==◌, ◌&&◌, ◌||◌, if◌then◌else◌, is_none, IsTrue, zero, suc, List, [], ◌∷◌, ◌++◌, map}
-use Rattle.topology.specs.Network.{are_joined}
+use Rattle.link_model.specs.topology.Network.{are_joined}
 use Rattle.link_model.specs.Acts as link
 use Rattle.link_model.specs.Acts.{LinkAct, Puts, Takes, Loses, Rests}
 use Rattle.run_model.specs.World.{World}
@@ -32,7 +32,7 @@ link_act u v (Take a b) = if is_link u v a b then Takes else Rests
 link_act u v (Lose a b i) = if is_link u v a b then Loses i else Rests
 link_act u v _ = Rests
 
--- a stretch renews the link from u to v where one of its takes meets an item that was sent inside
+-- a stretch renews the link from u to v if one of its takes meets an item that was sent inside
 -- the stretch
 abbrev pub is_renewed : World → List Event → ℕ → ℕ → Bool
 is_renewed w es u v = link.is_renewed w.net.capacity (map (link_act u v) es) (w.link u v)
@@ -43,7 +43,7 @@ pub record IsSweep (w : World) (es : List Event) : Type 0 where
   pub ticked : (v : ℕ) → v < w.net.nodes → IsTrue (has_full_tick w es v)
   pub renewed : (u v : ℕ) → IsTrue (are_joined w.net.edges u v) → IsTrue (is_renewed w es u v)
 
--- a list holds r sweeps where it splits into r sweeps, one after the other, and a rest
+-- a list holds r sweeps if it splits into r sweeps, one after the other, and a rest
 abbrev pub Sweeps : World → ℕ → List Event → Type 0
 Sweeps w zero es = Unit {0}
 Sweeps w (suc r) es = (first rest : List Event) × (es ≡ first ++ rest) × IsSweep w first × Sweeps (run w first) r rest

@@ -7,7 +7,7 @@ use Rattle.run_model.specs.Run.{is_damage}
 use Rattle.run_model.specs.declared.event.Event.{Event}
 use Rattle.run_model.specs.declared.event.Event.TheVariants.{Tick}
 
--- the node rests from one world to the next: its machines keep their values, and where it lends it
+-- the node rests from one world to the next: its machines keep their values, and if it lends it
 -- lent before
 pub record IsResting (old new : World) (v : ℕ) : Type 0 where
   pub values : (new.node v).value ≡ (old.node v).value

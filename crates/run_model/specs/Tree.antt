@@ -1,12 +1,12 @@
 -- How far the tree of distances and parents is right (Dolev, Israeli, Moran 1993).
 use Rattle.std.specs.Prelude.{◌≡◌, ℕ, ◌<◌, IsTrue}
-use Rattle.topology.specs.Network.{are_joined}
-use Rattle.topology.specs.Tree.{distance_of, parent_of}
-use Rattle.topology.specs.declared.frame.Payload.{Payload}
+use Rattle.link_model.specs.topology.Network.{are_joined}
+use Rattle.link_model.specs.topology.Tree.{distance_of, parent_of}
+use Rattle.link_model.specs.topology.declared.frame.Payload.{Payload}
 use Rattle.node_core.specs.bfs_tree.Stage.{is_of_stage}
 use Rattle.run_model.specs.World.{World}
 
--- Stage k of the tree: every distance written for a node is exact where its true distance is below
+-- Stage k of the tree: every distance written for a node is exact if its true distance is below
 -- k, and at least k elsewhere. It is written in three places: at the node itself, staged at each of
 -- its ports, and copied at each of its neighbours.
 pub record IsTreeAtStage (k : ℕ) (w : World) : Type 0 where

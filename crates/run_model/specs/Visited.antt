@@ -12,6 +12,6 @@ is_privileged_once w [] v = is_privileged w v
 is_privileged_once w (e ∷ es) v = is_privileged w v || is_privileged_once (step w e) es v
 
 -- the privilege visited v: v was privileged at some moment since the last damage, the moment right
--- after it among them; since the start where there is none
+-- after it among them; since the start if there is none
 abbrev pub is_visited : World → List Event → ℕ → Bool
 is_visited w es v = is_privileged_once (after_damage w es).world (after_damage w es).rest v

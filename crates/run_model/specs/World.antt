@@ -1,9 +1,9 @@
 -- A world: a network, the state of each node, and the items under way on each directed link. It is
 -- read as functions of the nodes' ids. Beside the links that stand there are spare ones.
 use Rattle.std.specs.Prelude.{ℕ, ◌<◌, ◌≤◌, ◌==◌, ◌&&◌, if◌then◌else◌, IsTrue, List, All, length}
-use Rattle.topology.specs.At.{at}
-use Rattle.topology.specs.Network.{Network, IsAcceptedNetwork, are_joined}
-use Rattle.topology.specs.Ranges.{ranges_of}
+use Rattle.link_model.specs.topology.At.{at}
+use Rattle.link_model.specs.topology.Network.{Network, IsAcceptedNetwork, are_joined}
+use Rattle.link_model.specs.topology.Ranges.{ranges_of}
 use Rattle.link_model.specs.declared.item.Item.{Item}
 use Rattle.node_core.specs.Site.{Site, site_of}
 pub use Rattle.node_core.specs.Step.{item_fits}

@@ -14,7 +14,7 @@ ghost use Rattle.run_model.specs.Laws.{MomentStays, MomentMoves, VisitsGoOn};
 
 /// A refused event changes nothing; a list without damage leaves the network as it is, and every
 /// list its nodes, root, capacity and lease; the run of two lists is the run of the second from
-/// where the first led, and is without damage where both are. Whoever speaks of a moment of a run
+/// where the first led, and is without damage if both are. Whoever speaks of a moment of a run
 /// needs these.
 pub fn runs()
     ensures refused { RefusedChangesNothing }
@@ -36,11 +36,11 @@ pub fn start()
 pub fn in_range()
     ensures { RangesStay }
 {
-    topology::laws::neighbours();
-    topology::laws::changes();
-    data_link::laws::ports();
+    link_model::topology::laws::neighbours();
+    link_model::topology::laws::changes();
+    node_core::data_link::laws::ports();
     node_core::bfs_tree::laws::step_in_range();
-    lock_desk::laws::ranges_are_kept();
+    node_core::lock_desk::laws::ranges_are_kept();
 }
 
 /// An event changes its own node and its own link alone. Whoever follows one node or one edge
@@ -60,8 +60,8 @@ pub fn edges()
     ensures renewed { EdgeIsRenewed }
     ensures sweeps { EdgeSweeps }
 {
-    topology::laws::joined();
-    topology::laws::neighbours();
+    link_model::topology::laws::joined();
+    link_model::topology::laws::neighbours();
     in_range();
 }
 
@@ -75,16 +75,16 @@ pub fn sweep_numbers()
     ensures fewer { FewerSweeps }
     ensures grow { SweepsGrow }
 {
-    topology::laws::joined();
+    link_model::topology::laws::joined();
 }
 
 /// A sweep that counts the items that a link hands over, more than it can hold, is a sweep too.
 pub fn strict_sweeps()
     ensures { StrictSweepsAreSweeps }
 {
-    topology::laws::joined();
-    topology::laws::neighbours();
-    data_link::laws::sweeps();
+    link_model::topology::laws::joined();
+    link_model::topology::laws::neighbours();
+    node_core::data_link::laws::sweeps();
     in_range();
 }
 
@@ -98,7 +98,7 @@ pub fn stretches()
     ensures old_go_on { OldItemsGoOn }
     ensures old_are_there { OldItemsAreThere }
 {
-    topology::laws::joined();
+    link_model::topology::laws::joined();
 }
 
 /// The greatest number of sweeps is found greedily: end each sweep at the first event at which it
@@ -113,7 +113,7 @@ pub fn sweep_counts()
     ensures rises { CountRises }
     ensures one { OneCount }
 {
-    topology::laws::joined();
+    link_model::topology::laws::joined();
     in_range();
 }
 
@@ -134,5 +134,5 @@ pub fn ticks()
     ensures moves { NodesMoveInTicks }
     ensures accepted { TicksAreAccepted }
 {
-    lock_desk::laws::only_ticks_lend();
+    node_core::lock_desk::laws::only_ticks_lend();
 }

@@ -24,3 +24,7 @@ pub mod laws;
 
 pub use event::{Event, EventFault, Harm};
 pub use happened::Happened;
+pub use link_model;
+pub use link_model::topology;
+pub use node_core;
+pub use node_core::data_link;

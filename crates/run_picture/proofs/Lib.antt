@@ -12,3 +12,4 @@ pub mod Parts
 pub mod Lanes
 mod Rows
 mod RowsPicture
+mod RowsShown

@@ -2,12 +2,12 @@
 use Rattle.std.proofs.Common.{◌≡◌, ◌∙◌, ap, ℕ, ◌+◌, List, ◌++◌, length, append_assoc, arith}
 use Rattle.topology.specs.Network.{bound_of}
 use Rattle.std.proofs.lemmas.Grind.{common_steps}
-use Rattle.run_model.specs.World.{World}
-use Rattle.run_model.specs.declared.event.Event.{Event}
-use Rattle.run_model.specs.Run.{run}
+use Rattle.run_recording.specs.run_model.World.{World}
+use Rattle.run_recording.specs.run_model.declared.event.Event.{Event}
+use Rattle.run_recording.specs.run_model.Run.{run}
 use Rattle.run_recording.specs.judge.Judging.{counted_up_to, refused_in}
 use Rattle.run_recording.specs.judge.JudgeView.{AreSweepsSeen}
-use Rattle.configuration.specs.ConfigurationView.{world_of}
+use Rattle.run_recording.specs.configuration.ConfigurationView.{world_of}
 use Rattle.run_recording.specs.Recordings.{RecordingView, IsRecorded}
 use Rattle.run_picture.specs.Words.{event_words, node_words, sweep_words, description_words, TellsOf}
 

@@ -3,7 +3,7 @@
 use Rattle.std.specs.Prelude.{ℕ, ◌+◌, List, [], ◌∷◌, codes}
 use Rattle.topology.specs.Network.{Network}
 use Rattle.run_recording.specs.judge.Judging.{counted_up_to}
-use Rattle.configuration.specs.ConfigurationView.{world_of}
+use Rattle.run_recording.specs.configuration.ConfigurationView.{world_of}
 use Rattle.svg_drawing.specs.declared.canvas.Anchor.TheVariants.{Start}
 use Rattle.svg_drawing.specs.declared.colours.Colour.TheVariants.{Ink, Paper}
 use Rattle.run_picture.specs.declared.layout.page.Page.{Page}

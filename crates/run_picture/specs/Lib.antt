@@ -23,4 +23,5 @@ pub mod Lanes
 pub mod Ruler
 pub mod Axis
 pub mod Picture
+pub mod Shown
 pub use Rattle.run_recording.specs as run_recording

@@ -2,11 +2,11 @@
 use Rattle.std.specs.Prelude.{◌≡◌, ℕ, ◌+◌, ◌==◌, if◌then◌else◌, List, ◌++◌, Option, None, Some, codes, decimal, length}
 use Rattle.topology.specs.Network.{Network, bound_of}
 use Rattle.topology.specs.Eccentricity.{sharp_of}
-use Rattle.run_model.specs.World.{World}
-use Rattle.run_model.specs.NodeCounts.{privileged_count, lending_count}
-use Rattle.run_model.specs.Run.{run}
-use Rattle.run_model.specs.Count.{IsSweepCount}
-use Rattle.run_model.specs.declared.event.Event.{Event}
+use Rattle.run_recording.specs.run_model.World.{World}
+use Rattle.run_recording.specs.run_model.NodeCounts.{privileged_count, lending_count}
+use Rattle.run_recording.specs.run_model.Run.{run}
+use Rattle.run_recording.specs.run_model.Count.{IsSweepCount}
+use Rattle.run_recording.specs.run_model.declared.event.Event.{Event}
 use Rattle.run_recording.specs.judge.Judging.{counted_up_to, refused_in}
 use Rattle.run_recording.specs.declared.mark.Mark.{Mark}
 use Rattle.run_recording.specs.declared.mark.Mark.TheVariants.{Lending}

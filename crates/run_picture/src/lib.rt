@@ -10,14 +10,19 @@
 //! ```
 //!
 //! Only the layout is made here: what is kept of a run is `run_recording`'s, and what a drawing is
-//! `svg_drawing`'s, whose names are offered again.
+//! `svg_drawing`'s, whose names are offered again. [`command`] is the command `draw`, which prints a
+//! picture of the run that a file of events makes.
 //!
 //! The trap: the lanes and the tree are those of the network that is given, also where edges join
 //! and go; whether a node's distance and parent are true is asked of the network as it stands.
 #![tactic(auto)]
 
+pub mod command;
 mod layout;
 
+pub use byte_streams;
+pub use command_parts;
 pub use layout::draw;
 pub use run_recording::{Before, Column, Mark, Recording, Strip, Window, first_visits, record};
 pub use svg_drawing::{Attribute, Drawing, Element, spelled};
+pub use topology;

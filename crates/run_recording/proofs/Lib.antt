@@ -7,5 +7,6 @@ pub mod Recordings
 pub mod Visits
 pub mod RunsOfMarks
 pub mod Rows
+mod RowsTwo
 mod RowsMarks
 mod RowsSights

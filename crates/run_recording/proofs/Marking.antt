@@ -1,7 +1,7 @@
 -- Places of an array written one after the other.
 use Rattle.std.proofs.Common.{◌≡◌, ap, refl, ℕ, zero, suc, ◌+◌, ◌<◌, List, [], ◌∷◌, ◌++◌, length, take, map, get_or, slice_set, arith}
 use Rattle.std.proofs.lemmas.Grind.{common_steps}
-use Rattle.run_recording.specs.declared.sight.Look.{Look}
+use Rattle.film_stills.specs.declared.look.Look.{Look}
 use Rattle.run_recording.specs.Seen.{mark_of_look}
 
 -- the first items, where the one after them is written

@@ -3,13 +3,13 @@ use Rattle.std.proofs.Common.{◌≡◌, ◌∙◌, ap, sym, refl, subst, ℕ, �
 use Rattle.std.proofs.lemmas.Grind.{common_steps, flat_map-append}
 use Rattle.std.proofs.lemmas.List.{append-nil}
 use Rattle.byte_lines.specs.Kept.{Kept, StandsAfter}
-use Rattle.run_model.specs.World.{World}
-use Rattle.run_model.specs.Run.{run, is_damage}
-use Rattle.run_model.specs.Count.{IsSweepCount}
-use Rattle.run_model.specs.declared.event.Event.{Event}
-use Rattle.run_model.specs.declared.event.EventFault.{EventFault}
-use Rattle.events_text.specs.declared.text_line.TextLine.{TextLine}
-use Rattle.events_text.specs.EventsText.{ended_lines}
+use Rattle.world.specs.run_model.World.{World}
+use Rattle.world.specs.run_model.Run.{run, is_damage}
+use Rattle.world.specs.run_model.Count.{IsSweepCount}
+use Rattle.world.specs.run_model.declared.event.Event.{Event}
+use Rattle.world.specs.run_model.declared.event.EventFault.{EventFault}
+use Rattle.world.specs.events_text.declared.text_line.TextLine.{TextLine}
+use Rattle.world.specs.events_text.EventsText.{ended_lines}
 use Rattle.world.specs.judge.JudgeView.{HasSeen}
 use Rattle.world.specs.judge.Judging.{counted_up_to}
 use Rattle.world.specs.SimulatedText.{told_event, told_events}
@@ -17,6 +17,8 @@ use Rattle.run_recording.specs.declared.column.Column.{Column}
 use Rattle.run_recording.specs.declared.recording.Before.{Before}
 use Rattle.run_recording.specs.declared.window.Window.{Window}
 use Rattle.run_recording.specs.Strips.{Shows}
+use Rattle.film_stills.specs.declared.still.Still.{Still}
+use Rattle.run_recording.specs.Filmed.{still_of, take_of, filmed_if, ended_with, AreFilmed, IsReeled}
 use Rattle.run_recording.proofs.Strips.{as_empty}
 use Rattle.run_recording.specs.Recordings.{moment_of, shown_if, ended_at, AreMoments, IsBeforeAny, RecordingView, IsRecorded, IsReading}
 use Rattle.run_recording.specs.Recordings.AreMoments.{Start, Next}
@@ -75,14 +77,22 @@ before_more window start es e sweeps ended (moment ∷ moments) shown was now ar
 
 -- ---- what is recorded
 
+-- what a film shows after an event
+abbrev pub still_after : World → List Event → Event → ℕ → ℕ → Still
+still_after start es e events sweeps = still_of (run start (es ++ e ∷ [])) (take_of (Some e) events (is_damage (run start es) e) sweeps)
+
 -- nothing has happened yet
 pub begun : (start : World) (r : RecordingView) (moment : Column) → HasSeen r.judge start [] → r.ended ≡ 0 → r.events ≡ 0
-    → r.before.events ≡ 0 → r.before.sweeps ≡ 0 → moment ≡ moment_of start false 0 0 → Shows r.strip (shown_if r.window 0 moment) → IsRecorded start [] r
-begun start r moment seen ended events led swept is shown = record {
+    → r.before.events ≡ 0 → r.before.sweeps ≡ 0 → moment ≡ moment_of start false 0 0 → Shows r.strip (shown_if r.window 0 moment)
+    → IsReeled r.reel (filmed_if r.window 0 (still_of start (take_of None 0 false 0))) → IsRecorded start [] r
+begun start r moment seen ended events led swept is shown reeled = record {
   seen = seen;
   moments = shown_if r.window 0 (moment_of start false 0 0);
   are = rw ended Start;
   shown = rw is at shown;
+  stills = filmed_if r.window 0 (still_of start (take_of None 0 false 0));
+  filmed = rw ended AreFilmed.Start;
+  reeled = reeled;
   events_are = events;
   before_is = before_start r.window start _ r.before led swept Start (at_most_one r.window 0 (moment_of start false 0 0));
 }
@@ -99,12 +109,17 @@ pub recorded_more : (start : World) (es : List Event) (e : Event) (old new : Rec
     → Shows new.strip (h.moments ++ shown_if old.window new.ended moment)
     → new.events ≡ old.events + 1
     → empty ≡ (length old.strip.columns == 0) → new.before ≡ (if empty then record { events = new.events; sweeps = old.ended } else old.before)
+    → IsReeled new.reel (h.stills ++ filmed_if old.window new.ended (still_after start es e new.events after))
     → IsRecorded start (es ++ e ∷ []) new
-recorded_more start es e old new before after moment empty h seen (count, counted, before_is) (next, counted_next, after_is) is window ended shown events empty_is first =
+recorded_more start es e old new before after moment empty h seen (count, counted, before_is) (next, counted_next, after_is) is window ended shown events empty_is first reeled =
     let exact = is ∙ ap (λ b. moment_of (run start (es ++ e ∷ [])) (is_damage (run start es) e) b after) before_is
     ∙ ap (moment_of (run start (es ++ e ∷ [])) (is_damage (run start es) e) (counted_up_to count)) after_is in
     let are = Next e count next h.are counted counted_next moment exact in
     let led : new.events ≡ length es + 1 = events ∙ ap (λ n. n + 1) h.events_are in
+    let ended_is : new.ended ≡ ended_with old.ended (counted_up_to count) (counted_up_to next) = ended ∙ ap (λ m. counted_up_to (old.ended + m.sweeps)) exact in
+    let still_is : still_after start es e new.events after ≡ still_after start es e (length es + 1) (counted_up_to next) =
+    ap (λ n. still_after start es e n after) led ∙ ap (still_after start es e (length es + 1)) after_is in
+    let filmed = AreFilmed.Next e count next h.filmed counted counted_next in
     let first_is : new.before ≡ (if length h.moments == 0 then record { events = length es + 1; sweeps = old.ended } else old.before) =
     first
     ∙ ap (λ b. if b then record { events = new.events; sweeps = old.ended } else old.before) (empty_is ∙ as_empty old.strip.width old.strip.last h.moments old.strip.columns h.shown.0)
@@ -114,6 +129,9 @@ recorded_more start es e old new before after moment empty h seen (count, counte
       moments = h.moments ++ shown_if old.window (ended_at old.ended moment) moment;
       are = rw (window, ended) are;
       shown = rw ended at shown;
+      stills = h.stills ++ filmed_if old.window (ended_with old.ended (counted_up_to count) (counted_up_to next)) (still_after start es e (length es + 1) (counted_up_to next));
+      filmed = rw (window, ended_is) filmed;
+      reeled = rw (ended_is, still_is) at reeled;
       events_are = grind (arith, common_steps);
       before_is = rw window (before_more old.window start es e old.ended (ended_at old.ended moment) h.moments
           (shown_if old.window (ended_at old.ended moment) moment) old.before new.before h.are are
@@ -126,7 +144,17 @@ recorded_same start es r h = subst (λ xs. IsRecorded start xs r) (sym (append-n
 
 -- another line is under way
 pub reader_moves : (start : World) (es : List Event) (r : RecordingView) (reader : Kept) → IsRecorded start es r → IsRecorded start es (record r { reader = reader })
-reader_moves start es r reader h = record { seen = h.seen; moments = h.moments; are = h.are; shown = h.shown; events_are = h.events_are; before_is = h.before_is }
+reader_moves start es r reader h = record {
+  seen = h.seen;
+  moments = h.moments;
+  are = h.are;
+  shown = h.shown;
+  stills = h.stills;
+  filmed = h.filmed;
+  reeled = h.reeled;
+  events_are = h.events_are;
+  before_is = h.before_is;
+}
 
 -- a line more is ended, and its event is recorded
 pub line_ends : (start : World) (bytes more : List ℕ) (line : TextLine) (old new : RecordingView) (reader : Kept)

@@ -2,8 +2,8 @@
 use Rattle.std.proofs.Common.{◌≡◌, ℕ, List, [], ◌∷◌, length, refl, sym, true, false, arith}
 use Rattle.std.proofs.lemmas.Grind.{common_steps}
 use Rattle.topology.specs.Network.{Network}
-use Rattle.run_model.specs.World.{World}
-use Rattle.run_model.specs.declared.event.Event.{Event}
+use Rattle.world.specs.run_model.World.{World}
+use Rattle.world.specs.run_model.declared.event.Event.{Event}
 use Rattle.run_recording.specs.Recordings.{moment_of, AreMoments, IsFirstHeld, IsBefore}
 use Rattle.run_recording.specs.Recordings.AreMoments.{Start}
 use Rattle.run_recording.specs.Recordings.IsFirstHeld.{AtStart, Behind}

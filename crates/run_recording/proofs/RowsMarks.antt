@@ -1,11 +1,11 @@
 -- Small examples of what is seen of nodes, of columns, and of windows, and some that look like them
 -- and are none.
 use Rattle.std.proofs.Common.{◌≡◌, ◌≢◌, ℕ, true, false, List, [], ◌∷◌, Some, refl, arith}
-use Rattle.lock_desk.specs.Desk.{no_desk}
-use Rattle.run_model.specs.World.{World}
-use Rattle.run_model.specs.Start.{default_world}
-use Rattle.run_model.specs.Step.{with_desk}
-use Rattle.run_model.proofs.RowsTwo.{two_nodes, calm}
+use Rattle.world.specs.judge.node_core.lock_desk.Desk.{no_desk}
+use Rattle.world.specs.run_model.World.{World}
+use Rattle.world.specs.run_model.Start.{default_world}
+use Rattle.world.specs.run_model.Step.{with_desk}
+use Rattle.run_recording.proofs.RowsTwo.{two_nodes, calm}
 use Rattle.run_recording.specs.declared.column.Column.{Column}
 use Rattle.run_recording.specs.declared.mark.Mark.{Mark}
 use Rattle.run_recording.specs.declared.mark.Mark.TheVariants.{Settled, Wrong, Privileged, Lending}
@@ -13,7 +13,8 @@ use Rattle.run_recording.specs.declared.runs.Run.{Run}
 use Rattle.run_recording.specs.declared.window.Window.{Window}
 use Rattle.run_recording.specs.Columns.{folded, is_even, last_folded, with_last, worse_column, worst}
 use Rattle.run_recording.specs.Marks.{worse, worse_marks}
-use Rattle.run_recording.specs.Recordings.{is_held, moment_of}
+use Rattle.run_recording.specs.Held.{is_held}
+use Rattle.run_recording.specs.Recordings.{moment_of}
 use Rattle.run_recording.specs.Runs.{AreApart, EndIn, longer, mark_in, StandFrom}
 use Rattle.run_recording.specs.Seen.{is_settled, mark_at, mark_of}
 use Rattle.run_recording.specs.Strips.{StripView, Shows}

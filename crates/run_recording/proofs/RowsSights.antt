@@ -1,15 +1,15 @@
 -- Small examples of what is seen of a world and of what an event changes of it, and some that look
 -- like them and are none.
-use Rattle.std.proofs.Common.{◌≡◌, ◌≢◌, true, false, [], ◌∷◌, None, Some, ap, refl, arith}
+use Rattle.std.proofs.Common.{◌≡◌, ◌≢◌, true, false, [], ◌∷◌, None, Some, ap, refl, take, arith}
 use Rattle.std.proofs.lemmas.Grind.{common_steps}
-use Rattle.lock_desk.specs.Desk.{no_desk}
-use Rattle.run_model.specs.World.{World}
-use Rattle.run_model.specs.Start.{default_world}
-use Rattle.run_model.specs.Step.{with_desk}
-use Rattle.run_model.proofs.RowsTwo.{two_nodes, calm}
+use Rattle.world.specs.judge.node_core.lock_desk.Desk.{no_desk}
+use Rattle.world.specs.run_model.World.{World}
+use Rattle.world.specs.run_model.Start.{default_world}
+use Rattle.world.specs.run_model.Step.{with_desk}
+use Rattle.run_recording.proofs.RowsTwo.{two_nodes, calm}
 use Rattle.run_recording.specs.declared.mark.Mark.TheVariants.{Settled, Privileged, Lending}
 use Rattle.run_recording.specs.declared.sight.Sight.{Sight}
-use Rattle.run_recording.specs.Seen.{is_at, look_at, look_of, mark_of_look, nothing, nowhere, place_at, sight_of, IsSightOf}
+use Rattle.run_recording.specs.Seen.{edge_at, edges_of, is_at, look_at, look_of, mark_of_look, nothing, nowhere, place_at, sight_of, IsSightOf}
 use Rattle.run_recording.specs.SightSteps.{recounted, with_look, DiffersAt}
 
 -- ---- one node
@@ -21,10 +21,16 @@ place-child = refl
 place-no_node : place_at two_nodes 2 ≡ nowhere
 place-no_node = refl
 
+edges-two : take 2 (edges_of two_nodes) ≡ (0, 1) ∷ (0, 0) ∷ []
+edges-two = refl
+
+edges_not-more : edge_at two_nodes 0 ≢ edge_at two_nodes 1
+edges_not-more = grind arith
+
 place_not-near : is_at (record { distance = 2; parent = Some 0 }) (place_at two_nodes 1) ≡ false
 place_not-near = refl
 
-look-root : look_of calm 0 ≡ record { settled = true; privileged = true; lent = None }
+look-root : look_of calm 0 ≡ record { own = nowhere; settled = true; privileged = true; lent = None }
 look-root = refl
 
 look_not-settled : (look_of (default_world two_nodes) 1).settled ≡ false
@@ -34,7 +40,7 @@ look-no_node : look_at calm 2 ≡ nothing
 look-no_node = refl
 
 -- one that lends shows that, though it is privileged too
-mark-lending : mark_of_look (record { settled = true; privileged = true; lent = Some 7 }) ≡ Lending 7
+mark-lending : mark_of_look (record { own = nowhere; settled = true; privileged = true; lent = Some 7 }) ≡ Lending 7
 mark-lending = refl
 
 -- ---- all nodes
@@ -58,11 +64,11 @@ recounted_not-twice : recounted 3 true true ≢ 4
 recounted_not-twice = grind arith
 
 abbrev one : Sight
-one = record { places = nowhere ∷ []; looks = nothing ∷ []; marks = Settled ∷ []; privileged = 0; lending = 0 }
+one = record { places = nowhere ∷ []; edges = []; looks = nothing ∷ []; marks = Settled ∷ []; privileged = 0; lending = 0 }
 
 -- a node that was nothing becomes privileged: its mark and the count say so
-changed-one : with_look one 0 (record { settled = true; privileged = true; lent = None })
-    ≡ record { places = nowhere ∷ []; looks = record { settled = true; privileged = true; lent = None } ∷ []; marks = Privileged ∷ []; privileged = 1; lending = 0 }
+changed-one : with_look one 0 (record { own = nowhere; settled = true; privileged = true; lent = None })
+    ≡ record { places = nowhere ∷ []; edges = []; looks = record { own = nowhere; settled = true; privileged = true; lent = None } ∷ []; marks = Privileged ∷ []; privileged = 1; lending = 0 }
 changed-one = refl
 
 abbrev lends : World

@@ -6,17 +6,17 @@ use Rattle.std.proofs.lemmas.List.Sums.{count_by-le-length}
 use Rattle.std.proofs.lemmas.List.FromFn.{get_or-map-range_with_len, length-range_with_len}
 use Rattle.topology.specs.Network.{Network}
 use Rattle.topology.specs.At.{at}
-use Rattle.node_core.specs.State.{LocalState}
-use Rattle.node_core.specs.Machines.{is_node_privileged}
-use Rattle.node_core.specs.Site.{site_of}
-use Rattle.run_model.specs.World.{World}
-use Rattle.run_model.specs.Privilege.{is_privileged, is_lending}
-use Rattle.run_model.specs.NodeCounts.{privileged_count, lending_count}
-use Rattle.run_model.specs.Step.{step}
-use Rattle.run_model.specs.declared.event.Event.TheVariants.{Send, Take, Lose, Tick, Ask, Leave}
-use Rattle.run_recording.specs.declared.sight.Place.{Place}
+use Rattle.world.specs.judge.node_core.State.{LocalState}
+use Rattle.world.specs.judge.node_core.Machines.{is_node_privileged}
+use Rattle.world.specs.judge.node_core.Site.{site_of}
+use Rattle.world.specs.run_model.World.{World}
+use Rattle.world.specs.run_model.Privilege.{is_privileged, is_lending}
+use Rattle.world.specs.run_model.NodeCounts.{privileged_count, lending_count}
+use Rattle.world.specs.run_model.Step.{step}
+use Rattle.world.specs.run_model.declared.event.Event.TheVariants.{Send, Take, Lose, Tick, Ask, Leave}
+use Rattle.film_stills.specs.declared.look.Place.{Place}
 use Rattle.run_recording.specs.declared.sight.Sight.{Sight}
-use Rattle.run_recording.specs.Seen.{is_at, look_at, look_by, look_of, looks_of, place_at, place_of, mark_at, mark_of_look, marks_of, nothing, places_of, sight_of}
+use Rattle.run_recording.specs.Seen.{is_at, look_at, look_by, look_of, looks_of, place_at, place_of, edges_of, mark_at, mark_of_look, marks_of, nothing, places_of, sight_of}
 use Rattle.run_recording.specs.SightSteps.{DiffersAt, recounted, with_look}
 
 -- ---- the marks are those of the looks
@@ -35,7 +35,7 @@ marks_of_looks w = marks_are w (range_with_len 0 64)
 pub look_is : (w : World) (place : Place) (v distance : ℕ) (parent : Option ℕ) (settled privileged : Bool) (lent : Option ℕ)
     → distance ≡ (w.node v).distance → parent ≡ (w.node v).parent → settled ≡ is_at (record { distance = distance; parent = parent }) place
     → privileged ≡ is_privileged w v → lent ≡ (w.node v).desk.lent
-    → record { settled = settled; privileged = privileged; lent = lent } ≡ look_by w place v
+    → record { own = record { distance = distance; parent = parent }; settled = settled; privileged = privileged; lent = lent } ≡ look_by w place v
 look_is w place v distance parent settled privileged lent d p s q l = rw (s, q, l, d, p) refl
 
 -- the true place of a node, of those of all ids
@@ -108,8 +108,8 @@ recount_is f g v n same within few =
 -- ---- a node has another look
 
 -- what is equal in each part is equal
-pub sight_is : (a b : Sight) → a.places ≡ b.places → a.looks ≡ b.looks → a.marks ≡ b.marks → a.privileged ≡ b.privileged → a.lending ≡ b.lending → a ≡ b
-sight_is a b places looks marks privileged lending = grind (arith, common_steps)
+pub sight_is : (a b : Sight) → a.places ≡ b.places → a.edges ≡ b.edges → a.looks ≡ b.looks → a.marks ≡ b.marks → a.privileged ≡ b.privileged → a.lending ≡ b.lending → a ≡ b
+sight_is a b places edges looks marks privileged lending = grind (arith, common_steps)
 
 -- a world of which only the network and the nodes are seen
 abbrev seen_world : Network → (ℕ → LocalState) → World
@@ -137,6 +137,7 @@ pub look_again_is : (w new : World) (v : ℕ) → DiffersAt v w new → v < new.
 look_again_is w new v differs within few =
     let before : v < w.net.nodes = rw (ap (λ net. net.nodes) differs.net) at within in
     let places : places_of w.net ≡ places_of new.net = ap places_of (sym differs.net) in
+    let edges : edges_of w.net ≡ edges_of new.net = ap edges_of (sym differs.net) in
     let same : (u : ℕ) → u ≢ v → look_at new u ≡ look_at w u = λ u other. same_look w new v u differs other in
     let marks : (u : ℕ) → u ≢ v → mark_at new u ≡ mark_at w u = λ u other. sym (mark_is new u) ∙ ap mark_of_look (same u other) ∙ mark_is w u in
     let there : look_at new v ≡ look_of new v = sym (look_there new v within) in
@@ -145,7 +146,7 @@ look_again_is w new v differs within few =
     let looked = was ∙ was_there in
     let nodes = ap (λ net. net.nodes) differs.net in
     sight_is (with_look (sight_of w) v (look_of new v)) (sight_of new)
-    places
+    places edges
     (sym (changed_map (look_at w) (look_at new) v same 0 v 64 (omega arith) ∙ ap (λ look. slice_set (looks_of w) v look) there))
     (sym (changed_map (mark_at w) (mark_at new) v marks 0 v 64 (omega arith) ∙ ap (λ mark. slice_set (marks_of w) v mark) (sym (mark_is new v) ∙ ap mark_of_look there)))
     (ap (λ look. recounted (privileged_count w) look.privileged (is_privileged new v)) looked

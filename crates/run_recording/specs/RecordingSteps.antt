@@ -1,14 +1,19 @@
 -- What the steps of a recording say of it, whatever was recorded before.
 use Rattle.std.specs.Prelude.{◌≡◌, ℕ, Bool, is_none, List, [], ◌++◌, Option, Some, Result, OnOk}
 use Rattle.topology.specs.Network.{Network}
-use Rattle.run_model.specs.World.{World}
-use Rattle.run_model.specs.Step.{refusal}
-use Rattle.run_model.specs.Run.{is_damage}
-use Rattle.run_model.specs.declared.event.Event.{Event}
+use Rattle.world.specs.run_model.World.{World}
+use Rattle.world.specs.run_model.Step.{refusal}
+use Rattle.world.specs.run_model.Run.{is_damage}
+use Rattle.world.specs.run_model.declared.event.Event.{Event}
 use Rattle.world.specs.SimulatedText.{events_of}
+use Rattle.film_stills.specs.declared.still.Still.{Still}
+use Rattle.film_stills.specs.Reels.{ReelView}
 use Rattle.run_recording.specs.declared.column.Column.{Column}
+use Rattle.run_recording.specs.declared.recording.Take.{Take}
 use Rattle.run_recording.specs.declared.sight.Sight.{Sight}
+use Rattle.run_recording.specs.declared.window.Window.{Window}
 use Rattle.run_recording.specs.Seen.{sight_of}
+use Rattle.run_recording.specs.Filmed.{filmed_if, still_of, IsReeled}
 use Rattle.run_recording.specs.Recordings.{RecordingView, IsRecorded, IsReading, moment_of}
 
 -- an event is damage, if it is accepted or not
@@ -31,3 +36,13 @@ EndsThere old new = (start : World) (bytes : List ℕ) → IsReading start bytes
 -- the column of a moment, of whatever world this is seen
 abbrev pub IsMomentSeen : Sight → Network → Bool → ℕ → ℕ → Column → Type 0
 IsMomentSeen sight net damaged before after column = (w : World) → sight ≡ sight_of w → net ≡ w.net → column ≡ moment_of w damaged before after
+
+-- the still of a moment, of whatever world this is seen
+abbrev pub IsStillSeen : Sight → Take → Still → Type 0
+IsStillSeen sight take still = (w : World) → sight ≡ sight_of w → still ≡ still_of w take
+
+-- whatever stills a reel stood for, it stands for one more, of whatever world this is seen, if the
+-- window holds the moment
+abbrev pub KeepsStillSeen : Sight → Take → Window → ℕ → Option ReelView → Option ReelView → Type 0
+KeepsStillSeen sight take window ended old new =
+    (w : World) (stills : List Still) → sight ≡ sight_of w → IsReeled old stills → IsReeled new (stills ++ filmed_if window ended (still_of w take))

@@ -1,20 +1,24 @@
 -- What is seen of a run, moment by moment.
-use Rattle.std.specs.Prelude.{◌≡◌, ℕ, ◌+◌, ◌==◌, ◌&&◌, Bool, false, not, nat_lt, if◌then◌else◌, List, [], ◌∷◌, ◌++◌, length}
+use Rattle.std.specs.Prelude.{◌≡◌, ℕ, ◌+◌, ◌==◌, ◌&&◌, Bool, false, not, nat_lt, if◌then◌else◌, List, [], ◌∷◌, ◌++◌, length, Option}
 use Rattle.topology.specs.Network.{bound_of}
 use Rattle.topology.specs.Eccentricity.{sharp_of}
-use Rattle.run_model.specs.World.{World}
-use Rattle.run_model.specs.NodeCounts.{privileged_count, lending_count}
-use Rattle.run_model.specs.Run.{run, is_damage}
-use Rattle.run_model.specs.Count.{IsSweepCount}
-use Rattle.run_model.specs.declared.event.Event.{Event}
+use Rattle.world.specs.run_model.World.{World}
+use Rattle.world.specs.run_model.NodeCounts.{privileged_count, lending_count}
+use Rattle.world.specs.run_model.Run.{run, is_damage}
+use Rattle.world.specs.run_model.Count.{IsSweepCount}
+use Rattle.world.specs.run_model.declared.event.Event.{Event}
 use Rattle.byte_lines.specs.Kept.{Kept, StandsAfter}
-use Rattle.events_text.specs.EventsText.{ended_lines}
+use Rattle.world.specs.events_text.EventsText.{ended_lines}
 use Rattle.world.specs.judge.JudgeView.{JudgeView, HasSeen}
 use Rattle.world.specs.judge.Judging.{counted_up_to}
 use Rattle.world.specs.SimulatedText.{told_events}
 use Rattle.run_recording.specs.declared.column.Column.{Column}
 use Rattle.run_recording.specs.declared.recording.Before.{Before}
 use Rattle.run_recording.specs.declared.window.Window.{Window}
+use Rattle.film_stills.specs.declared.still.Still.{Still}
+use Rattle.film_stills.specs.Reels.{ReelView}
+use Rattle.run_recording.specs.Held.{is_held}
+use Rattle.run_recording.specs.Filmed.{AreFilmed, IsReeled}
 use Rattle.run_recording.specs.Seen.{marks_of}
 use Rattle.run_recording.specs.Strips.{StripView, Shows}
 
@@ -31,10 +35,6 @@ moment_of w damaged before after = record {
   sharp = nat_lt before after && (after == sharp_of w.net);
   bound = nat_lt before after && (after == bound_of w.net);
 }
-
--- a moment is shown where as many sweeps have ended since the start as the window holds
-abbrev pub is_held : Window → ℕ → Bool
-is_held window ended = not (nat_lt ended window.from) && not (nat_lt window.to ended)
 
 abbrev pub shown_if : Window → ℕ → Column → List Column
 shown_if window ended moment = if is_held window ended then moment ∷ [] else []
@@ -78,12 +78,13 @@ IsBeforeAny window start es [] before = Unit {0}
 IsBeforeAny window start es (moment ∷ moments) before = IsBefore window start es before
 
 -- what contracts see of what is kept of a run: its judge, what is kept of the line under way, the
--- columns, the window, the sweeps that have ended, how many events there were, how many lines
--- spelled none, and what was before the first moment shown
+-- columns, the stills of a film, if one is made, the window, the sweeps that have ended, how many
+-- events there were, how many lines spelled none, and what was before the first moment shown
 pub record RecordingView : Type 0 where
   pub judge : JudgeView
   pub reader : Kept
   pub strip : StripView
+  pub reel : Option ReelView
   pub window : Window
   pub ended : ℕ
   pub events : ℕ
@@ -97,6 +98,9 @@ pub record IsRecorded (start : World) (es : List Event) (r : RecordingView) : Ty
   pub moments : List Column
   pub are : AreMoments r.window start es r.ended moments
   pub shown : Shows r.strip moments
+  pub stills : List Still
+  pub filmed : AreFilmed r.window start es r.ended stills
+  pub reeled : IsReeled r.reel stills
   pub events_are : r.events ≡ length es
   pub before_is : IsBeforeAny r.window start es moments r.before
 

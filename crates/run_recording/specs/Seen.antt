@@ -1,15 +1,15 @@
 -- What is seen of the nodes of a world.
-use Rattle.std.specs.Prelude.{◌≡◌, ℕ, Bool, true, false, ◌==◌, ◌&&◌, if◌then◌else◌, nat_lt, List, Option, None, Some, map}
+use Rattle.std.specs.Prelude.{◌≡◌, ℕ, Bool, true, false, ◌==◌, ◌&&◌, if◌then◌else◌, nat_lt, List, Option, None, Some, map, slice_index_or}
 use Rattle.std.specs.List.{range_with_len}
-use Rattle.topology.specs.Network.{Network}
+use Rattle.topology.specs.Network.{Network, Edge}
 use Rattle.topology.specs.Tree.{distance_of, parent_of}
-use Rattle.run_model.specs.World.{World}
-use Rattle.run_model.specs.Privilege.{is_privileged}
-use Rattle.run_model.specs.NodeCounts.{privileged_count, lending_count}
+use Rattle.world.specs.run_model.World.{World}
+use Rattle.world.specs.run_model.Privilege.{is_privileged}
+use Rattle.world.specs.run_model.NodeCounts.{privileged_count, lending_count}
 use Rattle.run_recording.specs.declared.mark.Mark.{Mark}
 use Rattle.run_recording.specs.declared.mark.Mark.TheVariants.{Settled, Wrong, Privileged, Lending}
-use Rattle.run_recording.specs.declared.sight.Look.{Look}
-use Rattle.run_recording.specs.declared.sight.Place.{Place}
+use Rattle.film_stills.specs.declared.look.Look.{Look}
+use Rattle.film_stills.specs.declared.look.Place.{Place}
 use Rattle.run_recording.specs.declared.sight.Sight.{Sight}
 
 -- both are nobody, or both are the same node
@@ -59,22 +59,31 @@ place_at net v = if nat_lt v net.nodes then place_of net v else nowhere
 abbrev pub places_of : Network → List Place
 places_of net = map (place_at net) (range_with_len 0 64)
 
+-- the edge at a place among the edges; (0, 0) if there are not so many, which joins no two nodes
+abbrev pub edge_at : Network → ℕ → Edge
+edge_at net k = slice_index_or net.edges k (0, 0)
+
+-- the edges, at 256 places, as many as a network has at most
+abbrev pub edges_of : Network → List Edge
+edges_of net = map (edge_at net) (range_with_len 0 256)
+
 -- what is seen of a node, by its true place
 abbrev pub look_by : World → Place → ℕ → Look
 look_by w place v = record {
+  own = record { distance = (w.node v).distance; parent = (w.node v).parent };
   settled = is_at (record { distance = (w.node v).distance; parent = (w.node v).parent }) place;
   privileged = is_privileged w v;
   lent = (w.node v).desk.lent;
 }
 
--- what is seen of a node: whether its distance and its parent are the true ones, whether it is
--- privileged, and to whom it lends
+-- what is seen of a node: the distance and the parent that it has, whether they are the true ones,
+-- whether it is privileged, and to whom it lends
 abbrev pub look_of : World → ℕ → Look
 look_of w v = look_by w (place_of w.net v) v
 
 -- what is seen where there is no node
 abbrev pub nothing : Look
-nothing = record { settled = true; privileged = false; lent = None }
+nothing = record { own = nowhere; settled = true; privileged = false; lent = None }
 
 abbrev pub look_at : World → ℕ → Look
 look_at w v = if nat_lt v w.net.nodes then look_of w v else nothing
@@ -91,6 +100,7 @@ mark_of_look look = lending_or look.lent (if look.privileged then Privileged els
 abbrev pub sight_of : World → Sight
 sight_of w = record {
   places = places_of w.net;
+  edges = edges_of w.net;
   looks = looks_of w;
   marks = marks_of w;
   privileged = privileged_count w;

@@ -1,7 +1,7 @@
 -- What an event changes of what is seen.
 use Rattle.std.specs.Prelude.{◌≡◌, ◌≢◌, ◌≤◌, ℕ, ◌+◌, ◌-◌, ◌^◌, min, Bool, true, false, is_some, slice_set, slice_index_or}
-use Rattle.run_model.specs.World.{World}
-use Rattle.run_recording.specs.declared.sight.Look.{Look}
+use Rattle.world.specs.run_model.World.{World}
+use Rattle.film_stills.specs.declared.look.Look.{Look}
 use Rattle.run_recording.specs.declared.sight.Sight.{Sight}
 use Rattle.run_recording.specs.Seen.{mark_of_look, nothing}
 
@@ -24,6 +24,7 @@ recounted count false false = count
 abbrev pub with_look : Sight → ℕ → Look → Sight
 with_look s v look = record {
   places = s.places;
+  edges = s.edges;
   looks = slice_set s.looks v look;
   marks = slice_set s.marks v (mark_of_look look);
   privileged = recounted s.privileged (slice_index_or s.looks v nothing).privileged look.privileged;

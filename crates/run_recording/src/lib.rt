@@ -27,9 +27,14 @@ mod tour;
 mod window;
 
 pub use column::Column;
+pub use film_stills;
+pub use film_stills::{Look, MOST_EDGES, NO_EDGE, Place, Reel, Still};
 pub use mark::Mark;
-pub use recording::{Before, Recording, record};
+pub use recording::{Before, Recording, record, record_film};
 pub use runs::{Run, runs_of};
+pub use sight::Sight;
 pub use strip::Strip;
 pub use tour::{first_visits, is_tree_edge};
 pub use window::Window;
+pub use world::simulation::SimFault;
+pub use world::{Configuration, events_text, run_model};

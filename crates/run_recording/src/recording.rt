@@ -1,29 +1,30 @@
 //! What is kept of a run for its picture.
 ghost use Rattle.std.specs.Prelude.{◌≡◌, ◌+◌, ◌^◌, ◌<◌, ◌≤◌, ℕ, List, [], ◌∷◌, ◌++◌, Some, IfOk};
-ghost use Rattle.std.specs.Prelude.{length, if◌then◌else◌};
-ghost use Rattle.configuration.specs.ConfigurationView.{world_of};
+ghost use Rattle.std.specs.Prelude.{length, option_map, if◌then◌else◌};
+ghost use Rattle.world.specs.judge.configuration.ConfigurationView.{world_of};
+ghost use Rattle.run_recording.specs.Filmed.{room_of, IsReeled};
 ghost use Rattle.world.specs.judge.Judging.{counted_up_to};
 ghost use Rattle.world.specs.judge.JudgeView.{AreSweepsSeen};
 ghost use Rattle.world.specs.SimulatedText.{events_of, simulated_start, told_events};
 ghost use Rattle.run_recording.specs.declared.column.Column.{Column};
 ghost use Rattle.run_recording.specs.Strips.{Shows};
-ghost use Rattle.run_recording.specs.Recordings.{shown_if, RecordsNext, IsRecorded, IsReading};
+ghost use Rattle.run_recording.specs.Recordings.{shown_if, RecordsNext, IsRecorded};
+ghost use Rattle.run_recording.specs.Recordings.{IsReading};
 ghost use Rattle.run_recording.specs.RecordingSteps.{EndsThere, IsDamageWhere, ReadsAll, ReadsNext};
-ghost use Rattle.run_recording.specs.RecordingSteps.{IsMomentSeen};
+ghost use Rattle.run_recording.specs.RecordingSteps.{IsMomentSeen, IsStillSeen, KeepsStillSeen};
 
 use crate::column::Column;
 use crate::sight::Sight;
 use crate::strip::Strip;
 use crate::window::Window;
 use byte_streams::Source;
-use configuration::Configuration;
-use events_text::{EventReader, TextLine};
-use run_model::Event;
+use film_stills::{Reel, Still};
 use std::alloc::{Allocator, Global};
 use std::marker::Model;
 use topology::Net;
+use world::events_text::{EventReader, TextLine};
 use world::simulation::{LONGEST_TEXT, SimFault};
-use world::{Judge, World};
+use world::{Configuration, Event, Judge, World};
 
 /// The most bytes of one read.
 const PIECE: usize = 8192;
@@ -48,6 +49,8 @@ pub struct Recording<A: Allocator + Copy = Global> {
     sight: Sight,
     reader: EventReader,
     strip: Strip<A>,
+    /// The stills of a film, if one is made.
+    reel: Option<Reel<A>>,
     window: Window,
     /// The sweeps that have ended since the start.
     ended: u64,
@@ -60,7 +63,7 @@ pub struct Recording<A: Allocator + Copy = Global> {
 
 impl<A: Allocator + Copy> Model for Recording<A> {
     ghost use Rattle.std.specs.Prelude.{◌+◌, ◌≤◌};
-    ghost use Rattle.configuration.specs.ConfigurationView.{world_of};
+    ghost use Rattle.world.specs.judge.configuration.ConfigurationView.{world_of};
     ghost use Rattle.run_recording.specs.Recordings.{RecordingView};
     ghost use Rattle.run_recording.specs.Seen.{IsSightOf};
 
@@ -70,6 +73,7 @@ impl<A: Allocator + Copy> Model for Recording<A> {
       judge = r.judge;
       reader = r.reader;
       strip = r.strip;
+      reel = r.reel;
       window = r.window;
       ended = r.ended;
       events = r.events;
@@ -103,10 +107,84 @@ pub fn record<A: Allocator + Copy, N: Allocator + Copy, R: Source>(
 {
     let world = World::with_spares(alloc, net, SPARE_PAIRS)?;
     let strip = Strip::new(alloc, columns)?;
-    let mut recording = Recording::new(world, strip, window);
+    let mut recording = Recording::new(world, strip, None, window);
     recording.read_all(source)?;
     recording.last_line();
     Ok(recording)
+}
+
+/// The same for a film: it keeps at most `stills` stills after the first moment that is shown, too.
+///
+/// # Errors
+/// As [`record`].
+pub fn record_film<A: Allocator + Copy, N: Allocator + Copy, R: Source>(
+    alloc: A,
+    net: &Net<N>,
+    source: &mut R,
+    stills: usize,
+    window: Window,
+) -> Result<Recording<A>, SimFault>
+    requires { 2 ≤ stills }
+    ensures recorded { (bytes : List ℕ) → R.rest source.old ≡ Some bytes
+        → IfOk result (IsRecorded (simulated_start net.now) (events_of bytes)) }
+    ensures window { IfOk result (λ r. r.window ≡ window) }
+    ensures stills { IfOk result (λ r. room_of r.reel ≡ Some stills) }
+{
+    let world = World::with_spares(alloc, net, SPARE_PAIRS)?;
+    let strip = Strip::new(alloc, 1)?;
+    let reel = Reel::new(alloc, stills)?;
+    let mut recording = Recording::new(world, strip, Some(reel), window);
+    recording.read_all(source)?;
+    recording.last_line();
+    Ok(recording)
+}
+
+/// When a still is taken.
+#[derive(Clone, Copy, Debug, PartialEq, Eq)]
+pub struct Take {
+    /// The last event; `None` at the start.
+    pub event: Option<Event>,
+    /// How many events there were.
+    pub events: u64,
+    /// Whether the last one was accepted damage.
+    pub damaged: bool,
+    /// The sweeps since the last damage.
+    pub sweeps: u64,
+}
+
+/// What a film shows of what is seen.
+fn still_of(sight: &Sight, take: Take) -> Still
+    ensures { IsStillSeen sight.now take result }
+{
+    Still {
+        looks: sight.looks,
+        places: sight.places,
+        edges: sight.edges,
+        events: take.events,
+        event: take.event,
+        sweeps: take.sweeps,
+        damaged: take.damaged,
+        privileged: sight.privileged,
+        lending: sight.lending,
+    }
+}
+
+/// Keeps a still, if a film is made and the window holds the moment.
+fn keep_still<A: Allocator + Copy>(
+    reel: &mut Option<Reel<A>>,
+    window: Window,
+    ended: u64,
+    sight: &Sight,
+    take: Take,
+)
+    ensures shows { KeepsStillSeen sight.now take window ended reel.old reel.new }
+    ensures limit { room_of reel.new ≡ room_of reel.old }
+{
+    if let Some(reel) = reel {
+        if window.holds(ended) {
+            reel.push(&still_of(sight, take));
+        }
+    }
 }
 
 /// What a column shows of a moment that is seen, at which the sweeps since the last damage have
@@ -144,23 +222,38 @@ fn is_damage(event: &Event, accepted: bool) -> bool
 
 impl<A: Allocator + Copy> Recording<A> {
     /// What is kept as a run begins.
-    fn new(world: World<A>, mut strip: Strip<A>, window: Window) -> Recording<A>
-        requires { Shows strip [] }
+    fn new(
+        world: World<A>,
+        mut strip: Strip<A>,
+        mut reel: Option<Reel<A>>,
+        window: Window,
+    ) -> Recording<A>
+        requires strip { Shows strip [] }
+        requires reel { IsReeled reel [] }
         ensures recorded { IsRecorded (world_of world) [] result }
         ensures reading { IsReading (world_of world) [] result }
         ensures window { result.window ≡ window }
         ensures limit { result.strip.limit ≡ strip.limit }
+        ensures reel { room_of result.reel ≡ room_of reel }
         ensures events { result.events ≡ 0 }
     {
         let judge = Judge::new(world);
         let sight = Sight::of(judge.configuration());
         let start = moment_of(&sight, judge.configuration().net(), false, 0, 0);
         keep(&mut strip, window, 0, &start);
+        let take = Take {
+            event: None,
+            events: 0,
+            damaged: false,
+            sweeps: 0,
+        };
+        keep_still(&mut reel, window, 0, &sight, take);
         Recording {
             judge,
             sight,
             reader: EventReader::new(),
             strip,
+            reel,
             window,
             ended: 0,
             events: 0,
@@ -178,6 +271,7 @@ impl<A: Allocator + Copy> Recording<A> {
         ensures text { ReadsAll self.old (R.rest source.old) result self.new }
         ensures window { self.new.window ≡ self.old.window }
         ensures limit { self.new.strip.limit ≡ self.old.strip.limit }
+        ensures reel { room_of self.new.reel ≡ room_of self.old.reel }
         ensures events { self.new.events < 2 ^ 61 }
     {
         byte_streams::laws::reading_in_pieces();
@@ -204,6 +298,7 @@ impl<A: Allocator + Copy> Recording<A> {
         ensures text { ReadsNext self.old piece.now self.new }
         ensures window { self.new.window ≡ self.old.window }
         ensures limit { self.new.strip.limit ≡ self.old.strip.limit }
+        ensures reel { room_of self.new.reel ≡ room_of self.old.reel }
         ensures events { self.new.events ≤ self.old.events + length piece.now }
     {
         let mut at = 0;
@@ -223,6 +318,7 @@ impl<A: Allocator + Copy> Recording<A> {
         ensures text { EndsThere self.old self.new }
         ensures window { self.new.window ≡ self.old.window }
         ensures limit { self.new.strip.limit ≡ self.old.strip.limit }
+        ensures reel { room_of self.new.reel ≡ room_of self.old.reel }
     {
         if let Some(line) = self.reader.last() {
             self.line(line);
@@ -236,6 +332,7 @@ impl<A: Allocator + Copy> Recording<A> {
         ensures reader { self.new.reader ≡ self.old.reader }
         ensures window { self.new.window ≡ self.old.window }
         ensures limit { self.new.strip.limit ≡ self.old.strip.limit }
+        ensures reel { room_of self.new.reel ≡ room_of self.old.reel }
         ensures events { self.new.events ≤ self.old.events + 1 }
     {
         match line {
@@ -252,17 +349,20 @@ impl<A: Allocator + Copy> Recording<A> {
         ensures reader { self.new.reader ≡ self.old.reader }
         ensures window { self.new.window ≡ self.old.window }
         ensures limit { self.new.strip.limit ≡ self.old.strip.limit }
+        ensures reel { room_of self.new.reel ≡ room_of self.old.reel }
         ensures events { self.new.events ≡ self.old.events + 1 }
     {
         let before = self.judge.sweeps();
         let accepted = self.judge.step(event).is_ok();
         self.sight.follow(self.judge.configuration(), event);
+        let sweeps = self.judge.sweeps();
+        let damaged = is_damage(event, accepted);
         let moment = moment_of(
             &self.sight,
             self.judge.configuration().net(),
-            is_damage(event, accepted),
+            damaged,
             before,
-            self.judge.sweeps(),
+            sweeps,
         );
         self.events += 1;
         let now = Before {
@@ -272,6 +372,13 @@ impl<A: Allocator + Copy> Recording<A> {
         self.before = now_where(self.strip.columns().is_empty(), now, self.before);
         self.ended = self.ended.saturating_add(moment.sweeps);
         keep(&mut self.strip, self.window, self.ended, &moment);
+        let take = Take {
+            event: Some(*event),
+            events: self.events,
+            damaged,
+            sweeps,
+        };
+        keep_still(&mut self.reel, self.window, self.ended, &self.sight, take);
     }
 
     /// The columns that are shown, and how many moments each is.
@@ -279,6 +386,13 @@ impl<A: Allocator + Copy> Recording<A> {
         ensures { result.now ≡ self.now.strip }
     {
         &self.strip
+    }
+
+    /// The stills of the film, if one is made.
+    pub fn reel(&self) -> Option<&Reel<A>>
+        ensures { option_map (λ reel. reel.now) result ≡ self.now.reel }
+    {
+        self.reel.as_ref()
     }
 
     /// The nodes and links at the end.

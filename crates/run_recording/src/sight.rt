@@ -1,54 +1,18 @@
 //! What is seen of all nodes, kept up to date event by event.
 ghost use Rattle.std.specs.Prelude.{◌≡◌, ◌<◌, map};
-ghost use Rattle.configuration.specs.ConfigurationView.{world_of};
-ghost use Rattle.run_model.specs.World.{World};
-ghost use Rattle.run_model.specs.Step.{step};
+ghost use Rattle.world.specs.judge.configuration.ConfigurationView.{world_of};
+ghost use Rattle.world.specs.run_model.World.{World};
+ghost use Rattle.world.specs.run_model.Step.{step};
 ghost use Rattle.run_recording.specs.Seen.{place_at, places_of, look_at, looks_of};
+ghost use Rattle.run_recording.specs.Seen.{edge_at, edges_of};
 ghost use Rattle.run_recording.specs.Seen.{is_same, is_at, look_by, mark_of_look, sight_of};
 ghost use Rattle.run_recording.specs.SightSteps.{DiffersAt, recounted, with_look};
 
 use crate::mark::Mark;
-use configuration::Configuration;
-use run_model::Event;
+use film_stills::{Look, MOST_EDGES, NO_EDGE, Place};
 use std::alloc::Allocator;
 use topology::Net;
-
-/// A place in the tree.
-#[derive(Clone, Copy, Debug, PartialEq, Eq)]
-pub struct Place {
-    /// The distance from the root.
-    pub distance: u16,
-    /// The parent; `None` for the root.
-    pub parent: Option<u16>,
-}
-
-impl Place {
-    /// What stands where there is no node.
-    pub const NOWHERE: Place = Place {
-        distance: 0,
-        parent: None,
-    };
-}
-
-/// What is seen of a node at a moment.
-#[derive(Clone, Copy, Debug, PartialEq, Eq)]
-pub struct Look {
-    /// Whether the place that it takes for its own is its true one.
-    pub settled: bool,
-    /// Whether it is privileged.
-    pub privileged: bool,
-    /// The ticket to which its desk lends the lock.
-    pub lent: Option<u16>,
-}
-
-impl Look {
-    /// What stands where there is no node.
-    pub const NOTHING: Look = Look {
-        settled: true,
-        privileged: false,
-        lent: None,
-    };
-}
+use world::{Configuration, Event};
 
 /// What is seen of all nodes at one moment, by their ids.
 ///
@@ -58,6 +22,8 @@ impl Look {
 pub struct Sight {
     /// The true places.
     pub places: [Place; 64],
+    /// The edges, and [`NO_EDGE`] at the places that have none.
+    pub edges: [(u16, u16); MOST_EDGES],
     /// What is seen of each node.
     pub looks: [Look; 64],
     /// The marks of these looks.
@@ -86,7 +52,7 @@ fn is_at(own: Place, place: Place) -> bool
     own.distance == place.distance && is_same(own.parent, place.parent)
 }
 
-/// What is seen of a node, whose true place is given.
+/// What a node shows, whose true place is given.
 fn look_by<A: Allocator + Copy>(configuration: &Configuration<A>, place: Place, v: u16) -> Look
     requires { v < (world_of configuration.now).net.nodes }
     ensures { result ≡ look_by (world_of configuration.now) place v }
@@ -97,6 +63,7 @@ fn look_by<A: Allocator + Copy>(configuration: &Configuration<A>, place: Place, 
         parent: node.parent(),
     };
     Look {
+        own,
         settled: is_at(own, place),
         privileged: node.privileged(),
         lent: node.lent(),
@@ -138,6 +105,24 @@ fn places_of<A: Allocator + Copy>(net: &Net<A>) -> [Place; 64]
         places[usize::from(v)] = place_at(net, v);
     }
     places
+}
+
+/// The edge at a place.
+fn edge_at<A: Allocator + Copy>(net: &Net<A>, k: usize) -> (u16, u16)
+    ensures { result ≡ edge_at net.now k }
+{
+    net.edges().get(k).copied().unwrap_or(NO_EDGE)
+}
+
+/// The edges.
+fn edges_of<A: Allocator + Copy>(net: &Net<A>) -> [(u16, u16); MOST_EDGES]
+    ensures { result ≡ edges_of net.now }
+{
+    let mut edges = [NO_EDGE; MOST_EDGES];
+    for k in 0..MOST_EDGES {
+        edges[k] = edge_at(net, k);
+    }
+    edges
 }
 
 /// What is seen at an id.
@@ -203,6 +188,7 @@ impl Sight {
         let looks = looks_of(configuration, &places);
         Sight {
             places,
+            edges: edges_of(configuration.net()),
             looks,
             marks: marks_of(&looks),
             privileged: configuration.privileged(),

@@ -1,6 +1,6 @@
 //! Which moments of a run are shown.
 ghost use Rattle.std.specs.Prelude.{◌≡◌};
-ghost use Rattle.run_recording.specs.Recordings.{is_held};
+ghost use Rattle.run_recording.specs.Held.{is_held};
 
 /// The moments that must be shown, by how many sweeps have ended since the start, at the moment
 /// itself among them; damage does not start this count again.

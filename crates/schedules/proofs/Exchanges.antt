@@ -6,14 +6,14 @@ use Rattle.std.specs.Prelude.{◌⊎◌, if◌then◌else◌, is_some}
 use Rattle.std.specs.List.{AllByRecursion, flat_map, range_with_len}
 use Rattle.topology.specs.Network.{Network, are_joined, neighbours_of}
 use Rattle.link_model.specs.HandOver.{takes_item}
-use Rattle.run_model.specs.World.{World}
-use Rattle.run_model.specs.Step.{refusal, step, changed, sent}
-use Rattle.run_model.specs.Run.{run}
-use Rattle.run_model.specs.Sweep.{link_act}
-use Rattle.run_model.specs.Strict.{handed_in}
-use Rattle.run_model.specs.Laws.{NetworkStays}
-use Rattle.run_model.specs.declared.event.Event.{Event}
-use Rattle.run_model.specs.declared.event.Event.TheVariants.{Send, Take}
+use Rattle.configuration.specs.run_model.World.{World}
+use Rattle.configuration.specs.run_model.Step.{refusal, step, changed, sent}
+use Rattle.configuration.specs.run_model.Run.{run}
+use Rattle.configuration.specs.run_model.Sweep.{link_act}
+use Rattle.configuration.specs.run_model.Strict.{handed_in}
+use Rattle.configuration.specs.run_model.Laws.{NetworkStays}
+use Rattle.configuration.specs.run_model.declared.event.Event.{Event}
+use Rattle.configuration.specs.run_model.declared.event.Event.TheVariants.{Send, Take}
 use Rattle.schedules.specs.Rounds.{exchanges, exchanges_from}
 use Rattle.schedules.proofs.Plain.{IsLink, ArePlain, plain-net, plain-step, plain-exchanges, all-from, all-neighbours, send-accepted}
 

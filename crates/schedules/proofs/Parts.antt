@@ -4,10 +4,10 @@ use Rattle.std.specs.List.{flat_map, range_with_len}
 use Rattle.std.proofs.lemmas.List.{drop_more}
 use Rattle.rand_pcg.specs.Lcg.{Lcg}
 use Rattle.topology.specs.Network.{Network}
-use Rattle.run_model.specs.World.{World}
-use Rattle.run_model.specs.Step.{step}
-use Rattle.run_model.specs.declared.event.Event.{Event}
-use Rattle.run_model.specs.declared.event.Event.TheVariants.{Send, Take, Tick}
+use Rattle.configuration.specs.run_model.World.{World}
+use Rattle.configuration.specs.run_model.Step.{step}
+use Rattle.configuration.specs.run_model.declared.event.Event.{Event}
+use Rattle.configuration.specs.run_model.declared.event.Event.TheVariants.{Send, Take, Tick}
 use Rattle.schedules.specs.Rounds.{exchanges, round, rounds}
 use Rattle.schedules.specs.Random.{draw_step, admitted, random_steps}
 use Rattle.schedules.specs.declared.random.Chances.{Chances}

@@ -6,12 +6,12 @@ use Rattle.std.proofs.lemmas.Bool.Decides.{nat_tests}
 use Rattle.std.specs.Prelude.{if◌then◌else◌}
 use Rattle.std.specs.List.{AllByRecursion, flat_map, range_with_len}
 use Rattle.topology.specs.Network.{Network, are_joined, neighbours_of}
-use Rattle.run_model.specs.World.{World}
-use Rattle.run_model.specs.Step.{refusal, step}
-use Rattle.run_model.specs.Run.{run, IsUndamaged}
-use Rattle.run_model.specs.Laws.{NetworkStays}
-use Rattle.run_model.specs.declared.event.Event.{Event}
-use Rattle.run_model.specs.declared.event.Event.TheVariants.{Send, Take, Lose, Tick, Ask, Leave, Damage}
+use Rattle.configuration.specs.run_model.World.{World}
+use Rattle.configuration.specs.run_model.Step.{refusal, step}
+use Rattle.configuration.specs.run_model.Run.{run, IsUndamaged}
+use Rattle.configuration.specs.run_model.Laws.{NetworkStays}
+use Rattle.configuration.specs.run_model.declared.event.Event.{Event}
+use Rattle.configuration.specs.run_model.declared.event.Event.TheVariants.{Send, Take, Lose, Tick, Ask, Leave, Damage}
 use Rattle.damage_tool.specs.Laws.{AreAccepted}
 use Rattle.schedules.specs.Rounds.{exchanges, exchanges_from, round, rounds}
 

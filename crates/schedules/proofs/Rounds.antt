@@ -8,19 +8,19 @@ use Rattle.std.specs.List.{flat_map, range_with_len}
 use Rattle.topology.specs.Network.{Network}
 use Rattle.topology.specs.Laws.{JoinedAreNodes}
 use Rattle.lock_desk.specs.Desk.{DeskState, desk_ticked}
-use Rattle.node_core.specs.Site.{Site, site_of}
-use Rattle.node_core.specs.State.{LocalState}
-use Rattle.node_core.specs.Step.{ticked, recomputed}
-use Rattle.node_core.specs.Machines.{is_node_privileged}
-use Rattle.run_model.specs.World.{World, IsWorldInRange, site}
-use Rattle.run_model.specs.Step.{step}
-use Rattle.run_model.specs.Run.{run, IsUndamaged}
-use Rattle.run_model.specs.Sweep.{IsSweep, Sweeps}
-use Rattle.run_model.specs.Strict.{IsStrictSweep, StrictSweeps}
-use Rattle.run_model.specs.Ticks.{TicksAreAccepted}
-use Rattle.run_model.specs.Laws.{NetworkStays, OwnNodeAlone, RangesStay, StrictSweepsAreSweeps, SweepGrows}
-use Rattle.run_model.specs.declared.event.Event.{Event}
-use Rattle.run_model.specs.declared.event.Event.TheVariants.{Send, Take, Lose, Tick, Ask, Leave, Damage}
+use Rattle.configuration.specs.node_core.Site.{Site, site_of}
+use Rattle.configuration.specs.node_core.State.{LocalState}
+use Rattle.configuration.specs.node_core.Step.{ticked, recomputed}
+use Rattle.configuration.specs.node_core.Machines.{is_node_privileged}
+use Rattle.configuration.specs.run_model.World.{World, IsWorldInRange, site}
+use Rattle.configuration.specs.run_model.Step.{step}
+use Rattle.configuration.specs.run_model.Run.{run, IsUndamaged}
+use Rattle.configuration.specs.run_model.Sweep.{IsSweep, Sweeps}
+use Rattle.configuration.specs.run_model.Strict.{IsStrictSweep, StrictSweeps}
+use Rattle.configuration.specs.run_model.Ticks.{TicksAreAccepted}
+use Rattle.configuration.specs.run_model.Laws.{NetworkStays, OwnNodeAlone, RangesStay, StrictSweepsAreSweeps, SweepGrows}
+use Rattle.configuration.specs.run_model.declared.event.Event.{Event}
+use Rattle.configuration.specs.run_model.declared.event.Event.TheVariants.{Send, Take, Lose, Tick, Ask, Leave, Damage}
 use Rattle.schedules.specs.Rounds.{exchanges_from, round, rounds}
 use Rattle.schedules.specs.Laws.{AreTicksFull, AreTicksFullFor, IsIdle}
 use Rattle.schedules.proofs.Plain.{IsLink, IsPlain, ArePlain, plain-net, plain-step, plain-undamaged, plain-round, plain-all-ticks}
@@ -93,7 +93,7 @@ module _ (known : Known) where
       let whole : IsSweep w (first ++ rest) = known.grows w [] first rest ok (subst (IsUndamaged w) parts (plain-undamaged w.net w es (plain-round w.net))) sweep in
       subst (IsSweep w) (sym parts) whole
 
-  -- ---- where there is no client
+  -- ---- if there is no client
 
   tick-idle : (net : Network) (w : World) (a v : ℕ) → w.net ≡ net → v < net.nodes → HasNoClient (w.node v).desk → HasNoClient ((step w (Tick a)).node v).desk
   tick-idle net w a v same node idle =

@@ -1,20 +1,28 @@
 -- Rows: what the random schedule draws from generators that one can follow by hand, and which steps it admits.
 -- The words were worked out apart from this code, by the rule of O'Neill, "PCG", 2014. From the state 0 with the
 -- increment 1 they are 0, 0, 3837872008, 932996374, 1548399547.
-use Rattle.std.proofs.Common.{◌≡◌, ◌≢◌, ℕ, true, false, List, [], ◌∷◌, None, refl, arith}
+use Rattle.std.proofs.Common.{◌≡◌, ◌≢◌, ℕ, ◌<◌, zero, suc, true, false, List, [], ◌∷◌, None, refl, arith}
 use Rattle.std.proofs.lemmas.Bool.{false≢true}
 use Rattle.rand_pcg.specs.Lcg.{Lcg}
-use Rattle.run_model.specs.World.{World}
-use Rattle.run_model.specs.Start.{default_world}
-use Rattle.run_model.specs.Sweep.{is_full_tick}
-use Rattle.run_model.specs.declared.event.Event.TheVariants.{Ask, Leave, Lose, Send, Take, Tick}
-use Rattle.run_model.proofs.RowsTwo.{two_nodes, each-node}
+use Rattle.configuration.specs.run_model.World.{World}
+use Rattle.configuration.specs.run_model.Start.{default_world}
+use Rattle.configuration.specs.run_model.Sweep.{is_full_tick}
+use Rattle.configuration.specs.run_model.declared.event.Event.TheVariants.{Ask, Leave, Lose, Send, Take, Tick}
+use Rattle.topology.specs.Network.{Network}
 use Rattle.damage_tool.specs.Draws.{draw}
 use Rattle.schedules.specs.Laws.{AreTicksFull, AreTicksFullFor, IsIdle}
 use Rattle.schedules.specs.Random.{draw_link, draw_arrival, draw_client, draw_step, node_at, admitted, random_steps}
 use Rattle.schedules.specs.Rounds.{exchanges, exchanges_from}
 use Rattle.schedules.specs.declared.random.Chances.{Chances}
 use Rattle.schedules.proofs.RowsRounds.{asked}
+
+abbrev two_nodes : Network
+two_nodes = record { nodes = 2; root = 0; capacity = 1; lease = 0; edges = (0, 1) ∷ [] }
+
+each-node : (P : ℕ → Type 0) → P 0 → P 1 → (v : ℕ) → v < 2 → P v
+each-node P a b zero l = a
+each-node P a b (suc zero) l = b
+each-node P a b (suc (suc v)) l = absurd (omega arith)
 
 abbrev at_state : ℕ → Lcg
 at_state state = record { state = state; increment = 1 }
@@ -89,7 +97,7 @@ draws-take : draw_step two_nodes no_clients from_two ≡ (Take 0 1, at_state 350
 unfolding draw
 draws-take = refl
 
--- 3 is a tick where there are three kinds, and a client's where there are four
+-- 3 is a tick if there are three kinds, and a client's if there are four
 draws-three : draw_step two_nodes no_clients from_three ≡ (Tick 1, at_state 9833447587537321774)
 unfolding draw
 draws-three = refl

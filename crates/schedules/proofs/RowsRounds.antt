@@ -2,12 +2,12 @@
 use Rattle.std.proofs.Common.{◌≡◌, true, false, [], ◌∷◌, ◌++◌, refl}
 use Rattle.topology.specs.Network.{Network}
 use Rattle.link_model.specs.declared.item.Item.TheVariants.{Noise}
-use Rattle.run_model.specs.World.{World}
-use Rattle.run_model.specs.Start.{default_world}
-use Rattle.run_model.specs.Run.{run}
-use Rattle.run_model.specs.Sweep.{has_full_tick, is_renewed}
-use Rattle.run_model.specs.declared.event.Event.TheVariants.{Send, Take, Tick, Ask, Damage}
-use Rattle.run_model.specs.declared.event.Harm.TheVariants as harm
+use Rattle.configuration.specs.run_model.World.{World}
+use Rattle.configuration.specs.run_model.Start.{default_world}
+use Rattle.configuration.specs.run_model.Run.{run}
+use Rattle.configuration.specs.run_model.Sweep.{has_full_tick, is_renewed}
+use Rattle.configuration.specs.run_model.declared.event.Event.TheVariants.{Send, Take, Tick, Ask, Damage}
+use Rattle.configuration.specs.run_model.declared.event.Harm.TheVariants as harm
 use Rattle.schedules.specs.Rounds.{round, rounds}
 
 -- two nodes, links that hold one item, and no lease
@@ -30,7 +30,7 @@ round-is_enough = refl
 one-exchange_is_too_few : is_renewed noisy (Send 0 1 ∷ Take 0 1 ∷ Send 1 0 ∷ Take 1 0 ∷ []) 0 1 ≡ false
 one-exchange_is_too_few = refl
 
--- a client asks at node 0 where this is privileged
+-- a client asks at node 0 if this is privileged
 abbrev pub asked : World
 asked = run (default_world two_nodes) (rounds two_nodes 4 ++ Ask 0 5 ∷ [])
 

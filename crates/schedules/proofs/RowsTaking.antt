@@ -1,7 +1,7 @@
 -- Rows: a sink that counts what it takes.
 use Rattle.std.proofs.Common.{◌≡◌, ℕ, ◌+◌, List, [], ◌∷◌, ◌++◌, length, length-append, refl, arith}
-use Rattle.run_model.specs.declared.event.Event.{Event}
-use Rattle.run_model.specs.declared.event.Event.TheVariants.{Tick}
+use Rattle.configuration.specs.run_model.declared.event.Event.{Event}
+use Rattle.configuration.specs.run_model.declared.event.Event.TheVariants.{Tick}
 use Rattle.schedules.specs.Taking.{TakesBoth, IsUnderWay}
 
 -- from one count to another it has taken these events
@@ -12,7 +12,7 @@ counts a events b = b ≡ a + length events
 both : TakesBoth counts
 both a b c xs ys one two = omega (arith, one, two, length-append xs ys)
 
--- and of three ticks it has taken the first where one is counted
+-- and of three ticks it has taken the first if one is counted
 first : IsUnderWay counts 5 (Tick 0 ∷ Tick 1 ∷ Tick 2 ∷ []) (Tick 1 ∷ Tick 2 ∷ []) 6
 first = record { done = Tick 0 ∷ []; parts = refl; taken = refl }
 

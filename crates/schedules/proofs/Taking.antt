@@ -1,7 +1,7 @@
 -- A sink that takes a list part by part.
 use Rattle.std.proofs.Common.{◌≡◌, ◌∙◌, ap, sym, subst, List, [], ◌++◌, append_assoc, refl}
 use Rattle.std.proofs.lemmas.List.{append-nil}
-use Rattle.run_model.specs.declared.event.Event.{Event}
+use Rattle.configuration.specs.run_model.declared.event.Event.{Event}
 use Rattle.schedules.specs.Taking.{TakesBoth, IsUnderWay}
 
 pub begins : {S : Type 0} (takes : S → List Event → S → Type 0) → ((s : S) → takes s [] s) → (s : S) (whole : List Event) → IsUnderWay takes s whole whole s

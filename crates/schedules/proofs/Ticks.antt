@@ -1,19 +1,19 @@
--- The ticks of a round are full where each node's tick is.
+-- The ticks of a round are full if each node's tick is.
 use Rattle.std.proofs.Common.{◌≡◌, ◌∙◌, ℕ, ◌+◌, ◌<◌, ◌≤◌, Bool, true, false, zero, suc, List, [], ◌∷◌, ◌++◌, map, refl, sym, ap, subst, inl, inr, arith}
 use Rattle.std.proofs.lemmas.Bool.Decides.{nat_tests}
 use Rattle.std.specs.Prelude.{◌⊎◌, ◌==◌, ◌||◌, ◌&&◌, is_none}
 use Rattle.std.specs.List.{range_with_len}
 use Rattle.topology.specs.Network.{Network}
-use Rattle.node_core.specs.Site.{site_of}
-use Rattle.node_core.specs.State.{LocalState}
-use Rattle.node_core.specs.Step.{ticked}
-use Rattle.run_model.specs.World.{World}
-use Rattle.run_model.specs.Step.{step}
-use Rattle.run_model.specs.Sweep.{is_full_tick, has_full_tick}
-use Rattle.run_model.specs.Ticks.{TicksAreAccepted}
-use Rattle.run_model.specs.Laws.{NetworkStays, OwnNodeAlone}
-use Rattle.run_model.specs.declared.event.Event.{Event}
-use Rattle.run_model.specs.declared.event.Event.TheVariants.{Tick}
+use Rattle.configuration.specs.node_core.Site.{site_of}
+use Rattle.configuration.specs.node_core.State.{LocalState}
+use Rattle.configuration.specs.node_core.Step.{ticked}
+use Rattle.configuration.specs.run_model.World.{World}
+use Rattle.configuration.specs.run_model.Step.{step}
+use Rattle.configuration.specs.run_model.Sweep.{is_full_tick, has_full_tick}
+use Rattle.configuration.specs.run_model.Ticks.{TicksAreAccepted}
+use Rattle.configuration.specs.run_model.Laws.{NetworkStays, OwnNodeAlone}
+use Rattle.configuration.specs.run_model.declared.event.Event.{Event}
+use Rattle.configuration.specs.run_model.declared.event.Event.TheVariants.{Tick}
 use Rattle.schedules.proofs.Plain.{plain-step}
 
 or-more : (a b c : Bool) → (b ≡ true → c ≡ true) → (a || b) ≡ true → (a || c) ≡ true

@@ -1,10 +1,10 @@
 -- What holds of the schedule by rounds, and of the networks that links are drawn from.
 use Rattle.std.specs.Prelude.{◌≡◌, ℕ, ◌<◌, true, zero, suc, [], None, length}
 use Rattle.topology.specs.Network.{Network, IsAcceptedNetwork}
-use Rattle.run_model.specs.World.{World, IsWorldInRange}
-use Rattle.run_model.specs.Run.{run, IsUndamaged}
-use Rattle.run_model.specs.Sweep.{is_full_tick, IsSweep, Sweeps}
-use Rattle.run_model.specs.declared.event.Event.TheVariants.{Tick}
+use Rattle.configuration.specs.run_model.World.{World, IsWorldInRange}
+use Rattle.configuration.specs.run_model.Run.{run, IsUndamaged}
+use Rattle.configuration.specs.run_model.Sweep.{is_full_tick, IsSweep, Sweeps}
+use Rattle.configuration.specs.run_model.declared.event.Event.TheVariants.{Tick}
 use Rattle.damage_tool.specs.Laws.{AreAccepted}
 use Rattle.schedules.specs.Rounds.{round, rounds}
 
@@ -26,12 +26,12 @@ IsIdle w =
 abbrev pub RoundIsSweep : Type 0
 RoundIsSweep = (w : World) → IsWorldInRange w → AreTicksFull w → IsSweep w (round w.net)
 
--- n rounds are n sweeps, where each tick is full at the start of each
+-- n rounds are n sweeps, if each tick is full at the start of each
 abbrev pub RoundsAreSweeps : Type 0
 RoundsAreSweeps =
     (w : World) (n : ℕ) → IsWorldInRange w → AreTicksFullFor w n → Sweeps w n (rounds w.net n)
 
--- and so they are where there is no client, whatever else the state is
+-- and so they are if there is no client, whatever else the state is
 abbrev pub IdleRoundsAreSweeps : Type 0
 IdleRoundsAreSweeps =
     (w : World) (n : ℕ) → IsWorldInRange w → IsIdle w → Sweeps w n (rounds w.net n)

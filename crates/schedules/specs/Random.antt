@@ -3,10 +3,10 @@ use Rattle.std.specs.Prelude.{ℕ, ◌==◌, if◌then◌else◌, is_some, nat_l
 use Rattle.rand_pcg.specs.Lcg.{Lcg}
 use Rattle.topology.specs.Network.{Edge, Network}
 use Rattle.damage_tool.specs.Draws.{draw}
-use Rattle.run_model.specs.World.{World}
-use Rattle.run_model.specs.Step.{refusal, step}
-use Rattle.run_model.specs.declared.event.Event.{Event}
-use Rattle.run_model.specs.declared.event.Event.TheVariants.{Send, Take, Lose, Tick, Ask, Leave, Damage}
+use Rattle.configuration.specs.run_model.World.{World}
+use Rattle.configuration.specs.run_model.Step.{refusal, step}
+use Rattle.configuration.specs.run_model.declared.event.Event.{Event}
+use Rattle.configuration.specs.run_model.declared.event.Event.TheVariants.{Send, Take, Lose, Tick, Ask, Leave, Damage}
 use Rattle.schedules.specs.declared.random.Chances.{Chances}
 
 -- a link: an edge, and one of its two directions
@@ -32,7 +32,7 @@ draw_client net g =
     let way = draw 2 ticket.1 in
     (if way.0 == 0 then Ask node.0 ticket.0 else Leave node.0 ticket.0, way.1)
 
--- A step: one of three kinds, or of four where there are clients; a tick, a send, an arrival, or
+-- A step: one of three kinds, or of four if there are clients; a tick, a send, an arrival, or
 -- what a client does.
 abbrev pub draw_step : Network → Chances → Lcg → Event × Lcg
 draw_step net c g =

@@ -1,6 +1,6 @@
 -- A sink that takes a list part by part.
 use Rattle.std.specs.Prelude.{◌≡◌, List, ◌++◌}
-use Rattle.run_model.specs.declared.event.Event.{Event}
+use Rattle.configuration.specs.run_model.declared.event.Event.{Event}
 
 -- what is taken in two parts is taken together
 abbrev pub TakesBoth : {S : Type 0} → (S → List Event → S → Type 0) → Type 0

@@ -5,14 +5,14 @@ ghost use Rattle.schedules.specs.Rounds.{exchanges, exchanges_from, round, round
 
 use crate::event_sink::EventSink;
 use byte_streams::Failed;
-use run_model::Event;
+use configuration::run_model::Event;
 use std::alloc::Allocator;
 use topology::Net;
 
 /// Gives the sink the events of as many rounds, one by one. It keeps no list and takes no memory.
 ///
 /// # Errors
-/// [`Failed`] where the sink failed; then it took a beginning of them.
+/// [`Failed`] if the sink failed; then it took a beginning of them.
 pub fn give_rounds<A: Allocator + Copy, S: EventSink>(
     net: &Net<A>,
     count: u64,
@@ -31,7 +31,7 @@ pub fn give_rounds<A: Allocator + Copy, S: EventSink>(
 /// carries one item more than it holds, by ascending source and destination.
 ///
 /// # Errors
-/// [`Failed`] where the sink failed; then it took a beginning of them.
+/// [`Failed`] if the sink failed; then it took a beginning of them.
 pub fn give_round<A: Allocator + Copy, S: EventSink>(
     net: &Net<A>,
     sink: &mut S,

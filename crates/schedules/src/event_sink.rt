@@ -1,10 +1,10 @@
 //! Where the events of a schedule go.
 ghost use Rattle.std.specs.Prelude.{ℕ, List, [], ◌∷◌, ◌++◌, OnOk};
 ghost use Rattle.byte_streams.specs.Streams.{CountsFailures};
-ghost use Rattle.run_model.specs.declared.event.Event.{Event};
+ghost use Rattle.configuration.specs.run_model.declared.event.Event.{Event};
 
 use byte_streams::Failed;
-use run_model::Event;
+use configuration::run_model::Event;
 
 /// Takes the events of a schedule, one after the other.
 pub trait EventSink {
@@ -17,7 +17,7 @@ pub trait EventSink {
     /// Takes one more event.
     ///
     /// # Errors
-    /// [`Failed`] where it failed in this call.
+    /// [`Failed`] if it failed in this call.
     fn take(&mut self, event: &Event) -> Result<(), Failed>
         ensures taken { OnOk result (takes self.old (event.now ∷ []) self.new) }
         ensures cause { CountsFailures result (failures self.old) (failures self.new) };

@@ -5,7 +5,7 @@ ghost use Rattle.schedules.specs.Taking.{TakesOn};
 
 use crate::event_sink::EventSink;
 
-/// A round is a sweep in every world in which each tick is full, and n rounds are n sweeps where
+/// A round is a sweep in every world in which each tick is full, and n rounds are n sweeps if
 /// that holds at the start of each; in a network without clients it always does. Whoever asks how
 /// fast a network recovers under this schedule may count its rounds.
 pub fn rounds()
@@ -14,12 +14,12 @@ pub fn rounds()
     ensures idle { IdleRoundsAreSweeps }
 {
     topology::laws::joined();
-    run_model::laws::runs();
-    run_model::laws::own_changes();
-    run_model::laws::ticks();
-    run_model::laws::in_range();
-    run_model::laws::strict_sweeps();
-    run_model::laws::sweep_numbers();
+    configuration::run_model::laws::runs();
+    configuration::run_model::laws::own_changes();
+    configuration::run_model::laws::ticks();
+    configuration::run_model::laws::in_range();
+    configuration::run_model::laws::strict_sweeps();
+    configuration::run_model::laws::sweep_numbers();
 }
 
 /// No event of a round is refused, and none is damage, in whatever state the world is.
@@ -27,7 +27,7 @@ pub fn accepted()
     ensures accepted { RoundsAreAccepted }
     ensures undamaged { RoundIsUndamaged }
 {
-    run_model::laws::runs();
+    configuration::run_model::laws::runs();
 }
 
 /// An accepted network has an edge. Whoever draws one needs it.

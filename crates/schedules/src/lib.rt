@@ -18,8 +18,8 @@
 //! give_random(&mut configuration, chances, 5000, &mut generator, &mut sink)?;
 //! ```
 //!
-//! The trap: a round is a sweep only where each tick is full. A node that lends the lock after its
-//! tick, as to a client that keeps it where there is no lease, makes none.
+//! The trap: a round is a sweep only if each tick is full. A node that lends the lock after its
+//! tick, as to a client that keeps it if there is no lease, makes none.
 //!
 //! Source: S. Dolev, Self-Stabilization, MIT Press 2000 (rounds of fair executions).
 #![tactic(auto)]

@@ -3,7 +3,7 @@ ghost use Rattle.std.specs.Prelude.{◌≡◌, ◌<◌, ◌≤◌, OnOk};
 ghost use Rattle.byte_streams.specs.Streams.{CountsFailures};
 ghost use Rattle.topology.specs.Network.{Edge};
 ghost use Rattle.configuration.specs.ConfigurationView.{world_of};
-ghost use Rattle.run_model.specs.Step.{step};
+ghost use Rattle.configuration.specs.run_model.Step.{step};
 ghost use Rattle.schedules.specs.Random.{draw_link, draw_arrival, draw_client, draw_step};
 ghost use Rattle.schedules.specs.Random.{admitted, node_at, random_steps};
 
@@ -11,8 +11,8 @@ use crate::draws::draw_below;
 use crate::event_sink::EventSink;
 use byte_streams::Failed;
 use configuration::Configuration;
+use configuration::run_model::Event;
 use rand_pcg::Lcg64Xsh32;
-use run_model::Event;
 use std::alloc::Allocator;
 use topology::Net;
 
@@ -71,7 +71,7 @@ fn draw_client<A: Allocator + Copy>(net: &Net<A>, generator: &mut Lcg64Xsh32) ->
 
 /// Draws one step, by the generator's next words: first its kind, one of three, or of four with
 /// clients. A tick has a node. A send or an arrival has an edge and one of its two directions; an
-/// arrival is a loss where the next word modulo 100 is below `chances.loss`. A client has a node,
+/// arrival is a loss if the next word modulo 100 is below `chances.loss`. A client has a node,
 /// one of 16 tickets, and asks or leaves.
 pub fn draw_step<A: Allocator + Copy>(
     net: &Net<A>,
@@ -134,7 +134,7 @@ pub fn next_step<A: Allocator + Copy>(
 /// keeps no list and takes no memory.
 ///
 /// # Errors
-/// [`Failed`] where the sink failed; then it took a beginning of them.
+/// [`Failed`] if the sink failed; then it took a beginning of them.
 pub fn give_random<A: Allocator + Copy, S: EventSink>(
     configuration: &mut Configuration<A>,
     chances: Chances,

@@ -23,7 +23,7 @@ goes-on = refl
 goes_not-in_front : ¬ GoesOn (codes "b") (Some (codes "a")) (Some (codes "ba"))
 goes_not-in_front = λ e. grind (arith, e)
 
--- Later is said only where its count rose
+-- Later is said only if its count rose
 reads-later : Reads read.Later [] None None none once_later
 reads-later = (refl, (omega arith, omega arith, omega arith), inl (omega arith))
 
@@ -34,7 +34,7 @@ reads_not-later = λ r. grind (arith, r.2)
 reads_not-none : ¬ Reads (read.Got 0) (codes "a") None None none none
 reads_not-none = λ r. grind (arith, r.0)
 
--- Done is said only where all was written
+-- Done is said only if all was written
 writes_not-done : ¬ WritesLine (codes "ab") None None none none 1 flow.Done
 writes_not-done = λ w. grind (arith, w.1)
 

@@ -116,7 +116,7 @@ module _ {P : Type 0} where
       (λ _. SaidLater counts old new ⊎ GaveBytes gave old new)
   Pulled r gave took counts old new pull.Broken = HasBroken counts old new
 
-  -- what the answers of a push say: the pipe is let go where it broke alone
+  -- what the answers of a push say: the pipe is let go only if it broke
   abbrev pub Pushed : (P → Option (List ℕ)) → (P → Option (List ℕ)) → (P → Counts) → SocketLink P
       → SocketLink P → Flow → Type 0
   Pushed gave took counts old new flow.Done =

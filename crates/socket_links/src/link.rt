@@ -146,13 +146,13 @@ impl<P: Pipe> SocketLink<P> {
         }
     }
 
-    /// The next frame. Where what was read holds a good line it is that line's, and else the pipe
+    /// The next frame. If what was read holds a good line it is that line's, and else the pipe
     /// is read once.
     pub fn pull(&mut self, net: &Net) -> Pull
         // The frame stands after those that were pulled before, and what was pushed stands.
         ensures pulled { Pulled (ranges_of net.now) P.gave P.took P.counts
             self.old self.new result }
-        // Where a good line ends in what was read, its frame comes, and nothing is asked of the
+        // If a good line ends in what was read, its frame comes, and nothing is asked of the
         // pipe.
         ensures kept_first { (half : List ℕ) → self.old.reader ≡ kept 21 half
             → frames_after (ranges_of net.now) half (waiting self.old) ≢ []

@@ -27,13 +27,13 @@ pub enum WriteAnswer {
     Failed,
 }
 
-/// A connection. It counts how often it answered `Later`, `Closed` and `Failed`, and may tell its
+/// A connection. It counts how often it answered `Later`, `Closed` and `Failed`, and may show its
 /// bytes to contracts.
 pub trait Pipe: Drop {
-    /// All bytes that it gave; none where it does not say.
+    /// All bytes that it gave; none if it does not say.
     ghost gave: { Self → Option (List ℕ) };
 
-    /// All bytes that it took; none where it does not say.
+    /// All bytes that it took; none if it does not say.
     ghost took: { Self → Option (List ℕ) };
 
     /// How often it answered `Later`, `Closed` and `Failed`.

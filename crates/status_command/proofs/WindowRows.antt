@@ -7,7 +7,7 @@ use Rattle.status_command.specs.declared.asking.Contact.TheVariants.{Closed, Don
 closed : is_closed Closed ≡ true
 closed = refl
 
--- where nobody listens there is no node to look at
+-- if nobody listens there is no node to look at
 closed-not-done : is_closed Done ≡ false
 closed-not-done = refl
 

@@ -58,7 +58,7 @@ fn line_said(line: &[u8]) -> Option<StatusLine>
 /// What each answered, in their order.
 ///
 /// # Errors
-/// Where memory runs out.
+/// If memory runs out.
 pub fn answers(alloc: Global, all: &[Asked]) -> Result<Vec<NodeAnswer>, AllocError>
     ensures { IfOk result (λ answers. answers.items ≡ answers_in all.now) }
 {

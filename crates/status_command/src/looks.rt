@@ -131,7 +131,7 @@ fn links_text(alloc: Global, all: &[Asked]) -> Result<(String, bool), AllocError
 /// What each node said of its loans, in their order.
 ///
 /// # Errors
-/// Where memory runs out.
+/// If memory runs out.
 pub fn loans_of(alloc: Global, all: &[Asked]) -> Result<Vec<NodeLoans>, AllocError>
     ensures { IfOk result (λ loans. loans.items ≡ loans_in all.now) }
 {

@@ -24,7 +24,7 @@ impl Question {
     /// The path of the socket in a folder at which the node is asked.
     ///
     /// # Errors
-    /// Where memory runs out.
+    /// If memory runs out.
     pub fn path(&self, alloc: Global, folder: &str, node: u16) -> Result<String, AllocError>
         ensures { IfOk result (λ path. string_bytes path ≡ question_path self.now folder.now node) }
     {

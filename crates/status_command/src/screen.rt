@@ -42,7 +42,7 @@ pub enum Screen {
 }
 
 impl Screen {
-    /// The terminal, where standard input and output are one and lines are to be shown; from then on keys
+    /// The terminal, if standard input and output are one and lines are to be shown; from then on keys
     /// are not echoed, and Ctrl-C is a key.
     pub fn begin<R: Files<File = File> + Print + Processes + AllocGlobal>(
         rt: &R,

@@ -21,7 +21,7 @@ use std::time::Clock;
 /// For how many milliseconds a node's line is waited for.
 pub const WAIT: u32 = 1000;
 
-/// The status where a node gave no answer.
+/// The status if a node gave no answer.
 pub const NO_ANSWER: u8 = 1;
 
 /// In which form answers are printed.
@@ -33,10 +33,10 @@ pub enum Form {
     Json,
 }
 
-/// Prints the status line of each of these nodes, or of each that has a socket in the folder where
+/// Prints the status line of each of these nodes, or of each that has a socket in the folder if
 /// none is named, by ascending id; and how many of them are privileged, and lend. A node that closes the
 /// connection, as one does that has no room, is asked again, and then at its socket for whoever looks. One
-/// that gives no line within a second is reported to have given none. Answers the status to end with: 1 where a
+/// that gives no line within a second is reported to have given none. Answers the status to end with: 1 if a
 /// node gave none, or there is none.
 ///
 /// What the nodes answer no contract can say; how their lines are read, and what is printed of
@@ -122,7 +122,7 @@ fn print_answers<'a, R: Files + Print + Eprint + AllocGlobal>(
 /// What is printed of the answers.
 ///
 /// # Errors
-/// Where memory runs out.
+/// If memory runs out.
 pub fn text_of(alloc: Global, answers: &[NodeAnswer], form: Form) -> Result<String, AllocError>
     ensures { IfOk result (λ text. IsTextOf form answers.now (string_bytes text)) }
 {

@@ -14,7 +14,7 @@ use std::alloc::{AllocError, Global};
 /// The nodes that closed the connection at their desk and gave no line, in their order.
 ///
 /// # Errors
-/// Where memory runs out.
+/// If memory runs out.
 pub fn without_room(alloc: Global, all: &[Asked]) -> Result<Vec<u16>, AllocError>
     ensures { IfOk result (λ nodes. nodes.items ≡ without_room all.now) }
 {
@@ -30,7 +30,7 @@ pub fn without_room(alloc: Global, all: &[Asked]) -> Result<Vec<u16>, AllocError
 /// What each node said at its desk; of one that gave no line there, what it says at its window.
 ///
 /// # Errors
-/// Where memory runs out.
+/// If memory runs out.
 pub fn answers_with(
     alloc: Global,
     desks: &[Asked],
@@ -47,7 +47,7 @@ pub fn answers_with(
 /// The answers; of a node that gave no line, what it says at its window.
 ///
 /// # Errors
-/// Where memory runs out.
+/// If memory runs out.
 fn filled(
     alloc: Global,
     answers: &[NodeAnswer],

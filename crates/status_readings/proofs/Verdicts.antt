@@ -15,7 +15,7 @@ use Rattle.status_readings.specs.Verdict.{lesser_finding, is_faulty, fault_of, l
 use Rattle.status_readings.specs.Verdict.{is_nobody, two_lend, severity}
 use Rattle.status_readings.specs.Laws.{OneLends, OneLoanIsNotCritical, FineIsTrue}
 
--- where one lends, somebody answered
+-- if one lends, somebody answered
 answered-step : (a : NodeAnswer) (o : Option StatusLine) (xs : List NodeAnswer)
     → length (if line_lends o then a ∷ filter lends xs else filter lends xs) ≡ 1
     → (length (filter lends xs) ≡ 1 → list_any has_answered xs ≡ true)
@@ -84,7 +84,7 @@ one-loan net a b c (inr (inr e)) = chosen-mild _ _ _ (lesser-mild net a b c)
     (none-of (is_nobody a) (is_nobody b) (is_nobody c) (inr (inr (nobody-one c e))))
     (none-of (two_lend a) (two_lend b) (two_lend c) (inr (inr (two-one c e))))
 
--- where nothing is found, each reading is well
+-- if nothing is found, each reading is well
 chosen-fine : (x y : Bool) (f : Finding) → severity (if x then Nobody else if y then TwoLend else f) ≡ Fine
     → severity f ≡ Fine
 chosen-fine true y f e = absurd (cc)

@@ -20,7 +20,7 @@ OneLoanIsNotCritical = (net : Network) (a b c : List NodeAnswer)
 abbrev pub IsWell : Network → List NodeAnswer → Type 0
 IsWell net answers = (list_any (is_faulty net) answers ≡ false) × (length (filter lends answers) ≤ 1)
 
--- where all is said to be well, each reading is
+-- if all is said to be well, each reading is
 abbrev pub FineIsTrue : Type 0
 FineIsTrue = (net : Network) (a b c : List NodeAnswer)
     → severity (finding net a b c) ≡ Fine → IsWell net a × IsWell net b × IsWell net c

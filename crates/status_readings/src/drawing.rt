@@ -17,7 +17,7 @@ use std::fmt::Write;
 /// the loans of the last minute and how often the token came round, if they are known.
 ///
 /// # Errors
-/// Where memory runs out.
+/// If memory runs out.
 pub fn picture(
     alloc: Global,
     answers: &[NodeAnswer],

@@ -17,7 +17,7 @@ use std::alloc::{AllocError, Global};
 /// names.
 ///
 /// # Errors
-/// Where memory runs out.
+/// If memory runs out.
 pub fn status_json(alloc: Global, answers: &[NodeAnswer]) -> Result<String, AllocError>
     ensures { IfOk result (λ text. IsInOrder (string_bytes text) (status_data answers.now)) }
 {

@@ -7,7 +7,7 @@ pub fn one_loan_is_not_critical()
     ensures { OneLoanIsNotCritical }
 {}
 
-/// Where all is said to be well, each node of each reading answered, with the distance and the parent that
+/// If all is said to be well, each node of each reading answered, with the distance and the parent that
 /// the network gives, and at most one lent.
 pub fn fine_is_true()
     ensures { FineIsTrue }

@@ -32,7 +32,7 @@ impl LoansSaid {
     /// What a line says, if it is a JSON object with all these numbers.
     ///
     /// # Errors
-    /// Where memory runs out.
+    /// If memory runs out.
     pub fn read(alloc: Global, line: &str) -> Result<Option<LoansSaid>, AllocError>
         ensures { IfOk result (λ said. said ≡ line_loans line.now) }
     {
@@ -109,7 +109,7 @@ fn link_said(value: &Value) -> Option<LinkSaid>
 /// list is left out.
 ///
 /// # Errors
-/// Where memory runs out.
+/// If memory runs out.
 pub fn read_links(alloc: Global, line: &str) -> Result<Option<Vec<LinkSaid>>, AllocError>
     ensures { IfOk result (λ said. option_map (λ links. links.items) said ≡ line_links line.now) }
 {
@@ -162,7 +162,7 @@ pub struct LinksSaid {
 /// What `status --links` prints: a line for each link, or that a node gave no answer.
 ///
 /// # Errors
-/// Where memory runs out.
+/// If memory runs out.
 pub fn links_report(alloc: Global, all: &[LinksSaid]) -> Result<String, AllocError>
     ensures { IfOk result (λ text. string_bytes text ≡ links_text all.now) }
 {

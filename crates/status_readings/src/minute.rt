@@ -116,7 +116,7 @@ impl Minute {
     /// Adds a sample, and drops those that are older by more than a minute.
     ///
     /// # Errors
-    /// Where memory runs out.
+    /// If memory runs out.
     pub fn push(&mut self, sample: Sample) -> Result<(), AllocError>
         ensures { OnOk result (self.new.samples.items ≡ with_sample sample self.old.samples.items) }
     {

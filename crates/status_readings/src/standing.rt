@@ -14,7 +14,7 @@ use std::alloc::{AllocError, Global};
 /// What a line says of how its node stands, if it is a JSON object with all that a status line says.
 ///
 /// # Errors
-/// Where memory runs out.
+/// If memory runs out.
 pub fn read_standing(alloc: Global, line: &str) -> Result<Option<StatusLine>, AllocError>
     ensures { IfOk result (λ said. said ≡ line_standing line.now) }
 {

@@ -21,7 +21,7 @@ pub struct Row {
 /// Nodes that are each other's parents, as after damage, come last, at the left too.
 ///
 /// # Errors
-/// Where memory runs out.
+/// If memory runs out.
 pub fn rows(alloc: Global, answers: &[NodeAnswer]) -> Result<Vec<Row>, AllocError>
     ensures { IfOk result (λ rows. rows.items ≡ tree_rows answers.now) }
 {

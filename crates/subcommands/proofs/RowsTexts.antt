@@ -50,7 +50,7 @@ prints-bound : bound_text two_nodes
     ≡ codes "nodes 2\nedges 1\ncapacity 1\ncounter 5\nring 7\ndistances 0 1\nparents none 0\nsweeps " ++ (decimal 69 ++ codes "\n")
 prints-bound = rw (zero-is, one-is, two-is, five-is, seven-is)
 
--- the sharper bound has a line of its own, where it is asked for
+-- the sharper bound has a line of its own, if it is asked for
 prints-sharp : shown_text two_nodes true
     ≡ bound_text two_nodes ++ (codes "sharp " ++ (decimal 35 ++ codes "\n"))
 prints-sharp = refl

@@ -37,7 +37,7 @@ bound_text net =
     ++ (nodes_line (codes "parents") net.nodes (λ v. parent_word (parent_of net v))
     ++ number_line (codes "sweeps") (bound_of net)))))))
 
--- the eight lines and, where it is asked for, the line of the sharp bound
+-- the eight lines and, if it is asked for, the line of the sharp bound
 abbrev pub shown_text : Network → Bool → List ℕ
 shown_text net sharp =
     if sharp then bound_text net ++ number_line (codes "sharp") (sharp_of net) else bound_text net

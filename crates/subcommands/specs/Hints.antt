@@ -1,12 +1,6 @@
 -- What is said on standard error after a simulation.
-use Rattle.std.specs.Prelude.{ℕ, Bool, ◌&&◌, ◌==◌, nat_lt, if◌then◌else◌, List, Option, Some, None, codes}
+use Rattle.std.specs.Prelude.{ℕ, ◌&&◌, ◌==◌, nat_lt, if◌then◌else◌, List, Option, Some, None, codes}
 use Rattle.command_parts.specs.world.declared.simulation.Summary.{Summary}
-
--- lines were refused, and the text has carriage returns
-abbrev pub return_hint : Summary → Bool → Option (List ℕ)
-return_hint summary seen =
-    if nat_lt 0 summary.refused && seen then Some (codes "the events have carriage returns (CRLF): a line ends in a newline alone")
-    else None
 
 -- the network has no lease, a node lends at the end, and there were fewer sweeps than are proved to be enough
 abbrev pub loan_hint : (lease bound : ℕ) → Summary → Option (List ℕ)

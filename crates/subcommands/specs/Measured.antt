@@ -34,7 +34,7 @@ abbrev pub served_sweeps : List Recovery → ℕ → List ℕ
 served_sweeps [] bound = []
 served_sweeps (r ∷ rs) bound = if has_served r bound then r.sweeps ∷ served_sweeps rs bound else served_sweeps rs bound
 
--- `sweeps least K median K most K`, or `none` for each where no run has served
+-- `sweeps least K median K most K`, or `none` for each if no run has served
 abbrev pub summary_line : Option Summary → List ℕ
 summary_line None = codes "sweeps least none median none most none\n"
 summary_line (Some s) =

@@ -27,7 +27,7 @@ runs_data bound table (r ∷ rs) =
     if table || not (has_served r bound) then run_data bound r ∷ runs_data bound table rs
     else runs_data bound table rs
 
--- the least, the median and the most, or null for each where no run has served
+-- the least, the median and the most, or null for each if no run has served
 abbrev pub summary_members : Option Summary → Members → Members
 summary_members summary others =
     put (codes "most") (or_null (option_map (λ s. s.most) summary))

@@ -20,7 +20,7 @@ use topology::Net;
 /// and with the lines of times if premises are given.
 ///
 /// # Errors
-/// Where no network is read of the file, memory runs out, or standard output does not take the
+/// If no network is read of the file, memory runs out, or standard output does not take the
 /// text.
 pub fn run<R: Files + Print + AllocGlobal>(
     rt: &R,
@@ -64,7 +64,7 @@ pub fn timed_text(
     Ok(text)
 }
 
-/// The eight lines of a network and, where it is asked for, the line of its sharp bound.
+/// The eight lines of a network and, if it is asked for, the line of its sharp bound.
 pub fn shown_text(alloc: Global, net: &Net, sharp: bool) -> Result<String, AllocError>
     ensures { IfOk result (λ text. string_bytes text ≡ shown_text net.now sharp) }
 {

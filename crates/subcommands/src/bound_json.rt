@@ -21,7 +21,7 @@ use topology::Net;
 /// `none` is null; `window_us` is in microseconds, the other times in milliseconds, rounded up.
 ///
 /// # Errors
-/// Where no network is read of the file, memory runs out, or standard output does not take the text.
+/// If no network is read of the file, memory runs out, or standard output does not take the text.
 pub fn run<R: Files + Print + AllocGlobal>(
     rt: &R,
     path: &str,
@@ -41,7 +41,7 @@ pub fn run<R: Files + Print + AllocGlobal>(
 /// The numbers of a network as a JSON object, without a newline.
 ///
 /// # Errors
-/// Where memory runs out.
+/// If memory runs out.
 pub fn bound_json(
     alloc: Global,
     net: &Net,

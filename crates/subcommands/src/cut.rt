@@ -14,7 +14,7 @@ use std::{fs, io};
 /// Shortens a file to its first bytes, and leaves one that is not longer as it is.
 ///
 /// # Errors
-/// Where the file cannot be written, is not there, or is no plain file.
+/// If the file cannot be written, is not there, or is no plain file.
 pub fn run<'a, R: Files>(rt: &R, path: &'a str, most: u32) -> Result<ExitCode, PathFault<'a>>
     ensures ok { IfOk result (λ status. exit_status status ≡ 0) }
     ensures err { IfErr result (λ fault. fault ≡ Unwritable path.entry) }
@@ -38,7 +38,7 @@ fn shorten<R: Files>(rt: &R, path: &str, most: u64) -> io::Result<()> {
     Ok(())
 }
 
-/// How many bytes a file of that length keeps, where it is cut to `most` bytes at most; none where
+/// How many bytes a file of that length keeps, if it is cut to `most` bytes at most; none if
 /// it stays as it is.
 fn cut_length(len: u64, most: u64) -> Option<u64>
     ensures { (bytes : List ℕ) → length bytes ≡ len → IsCutTo result bytes (take most bytes) }

@@ -17,7 +17,7 @@ use std::process::ExitCode;
 /// Prints that many lines of junk, drawn by the generator of that seed.
 ///
 /// # Errors
-/// Where memory runs out, or standard output does not take the text.
+/// If memory runs out, or standard output does not take the text.
 pub fn run<R: Print + AllocGlobal>(rt: &R, seed: u32, lines: u32) -> Result<ExitCode, Fault>
     ensures ok { IfOk result (λ status. exit_status status ≡ 0) }
     ensures err { IfErr result (λ fault. (fault ≡ Memory) ⊎ (fault ≡ Output)) }
@@ -34,7 +34,7 @@ pub fn run<R: Print + AllocGlobal>(rt: &R, seed: u32, lines: u32) -> Result<Exit
 /// What is unproved: that the text stands in standard output, which says nothing of its bytes.
 ///
 /// # Errors
-/// Where the sink fails.
+/// If the sink fails.
 pub fn write_junk<W: Flush>(seed: u32, lines: u32, sink: &mut W) -> Result<(), Fault>
     ensures text { OnOk result
         (Takes (junk_text lines (seeded seed)) (W.taken sink.old) (W.taken sink.new)) }

@@ -2,8 +2,8 @@
 //!
 //! A command is a module here, and its `run` takes the words that it was given. What it works out
 //! stands in the crates below; here it is read from files and printed, and every way to fail is one
-//! [`Fault`](command_parts::Fault), or a [`PathFault`](command_parts::PathFault) where a command
-//! changes a file. Two commands that show a run stand in `live_commands`.
+//! [`Fault`](command_parts::Fault), or a [`PathFault`](command_parts::PathFault) if a command
+//! changes a file. `draw` stands in `run_picture`, `threads` in `live_commands`.
 //!
 //! ```
 //! let status = bound::run(rt, "two-nodes.toml", false, None)?;         // prints eight lines
@@ -36,4 +36,4 @@ pub mod simulate;
 
 pub use command_parts::{Fault, PathFault};
 pub use experiments::Scheduler;
-pub use schedules::Chances;
+pub use experiments::schedules::Chances;

@@ -38,7 +38,7 @@ pub struct Plan {
 /// Prints after how many sweeps the runs served.
 ///
 /// # Errors
-/// Where no network is read of the file, memory runs out, or standard output does not take the
+/// If no network is read of the file, memory runs out, or standard output does not take the
 /// text: the first of these that is met.
 pub fn run<R: Files + Print + Eprint + Clock + AllocGlobal + Threads + Sync>(
     rt: &R,
@@ -69,10 +69,10 @@ fn plan_text<R: Eprint + Clock + Threads + Sync>(
     Ok((text, served))
 }
 
-/// How the command ends where all runs were made, by what printing their text answered.
+/// How the command ends if all runs were made, by what printing their text answered.
 ///
 /// # Errors
-/// Where the text was not printed.
+/// If the text was not printed.
 pub fn ending<E: Drop>(printed: Result<(), E>, all_served: bool) -> Result<ExitCode, Fault>
     ensures printed { IsOk printed ↔ IsOk result }
     ensures ok { IfOk result (λ status. exit_status status ≡ (if all_served then 0 else 1)) }
@@ -200,7 +200,7 @@ fn push_runs(
     Ok(())
 }
 
-/// Adds the line of a run where it is to be shown.
+/// Adds the line of a run if it is to be shown.
 fn push_shown(text: &mut String, run: &Recovery, bound: u32, table: bool) -> Result<(), AllocError>
     ensures { OnOk result (string_bytes text.new
         ≡ string_bytes text.old ++ shown_line bound table run.now) }

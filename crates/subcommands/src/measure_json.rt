@@ -21,7 +21,7 @@ use topology::Net;
 /// Prints after how many sweeps the runs of a plan served, as a JSON object on one line.
 ///
 /// # Errors
-/// Where no network is read of the file, memory runs out, or standard output does not take the text: the
+/// If no network is read of the file, memory runs out, or standard output does not take the text: the
 /// first of these that is met.
 pub fn run<R: Files + Print + Eprint + Clock + AllocGlobal + Threads + Sync>(
     rt: &R,
@@ -54,7 +54,7 @@ fn plan_json<R: Eprint + Clock + Threads + Sync>(
 /// else those that have not served.
 ///
 /// # Errors
-/// Where memory runs out.
+/// If memory runs out.
 pub fn measured_json(
     alloc: Global,
     net: &Net,

@@ -11,10 +11,10 @@ ghost use Rattle.subcommands.specs.Turns.{order_of};
 ghost use Rattle.command_parts.specs.declared.fault.Fault.TheVariants.{Memory, Output};
 
 use command_parts::{EventText, Fault, read_network};
+use experiments::schedules::Chances;
 use experiments::{Order, PlanFault, give_plan};
 use rand_core::SeedableRng;
 use rand_pcg::Lcg64Xsh32;
-use schedules::Chances;
 use std::alloc::Global;
 use std::io::{BufWriter, Write, writer};
 use std::process::ExitCode;
@@ -82,7 +82,7 @@ fn fault_of(fault: PlanFault) -> Fault
 /// What is unproved: that the text stands in standard output, which says nothing of its bytes.
 ///
 /// # Errors
-/// Where no network is read of the file, memory runs out, or standard output does not take the
+/// If no network is read of the file, memory runs out, or standard output does not take the
 /// text: the first of these that is met.
 pub fn run<R: Files + Print + AllocGlobal>(
     rt: &R,
@@ -107,7 +107,7 @@ pub fn run<R: Files + Print + AllocGlobal>(
 /// come. If `loan` says so, whoever has the lock gives it back after so many ticks of its node.
 ///
 /// # Errors
-/// Where memory runs out, or the writer fails.
+/// If memory runs out, or the writer fails.
 pub fn write_plan<W: Write + Drop>(
     alloc: Global,
     net: &Net,
@@ -121,7 +121,7 @@ pub fn write_plan<W: Write + Drop>(
         (planned net.now (option_map seeded scramble) loan (order_of turns))
         (writer_contents W.contents text.new.writer)) }
     ensures written { OnOk result (writer_buffer text.new.writer ≡ []) }
-    // A fault is one of memory or of the output, and of the output only where the writer failed.
+    // A fault is one of memory or of the output, and of the output only if the writer failed.
     ensures fault { IfErr result (λ fault. (fault ≡ Memory) ⊎ (fault ≡ Output)) }
     ensures cause { result ≡ Err Output → Rose text.old.failures text.new.failures }
 {

@@ -20,7 +20,7 @@ use topology::Net;
 /// generator of that seed.
 ///
 /// # Errors
-/// Where no network is read of the file, it has no such node, memory runs out, or the state file
+/// If no network is read of the file, it has no such node, memory runs out, or the state file
 /// cannot be written: the first of these that is met.
 pub fn run<'a, R: Files + AllocGlobal>(
     rt: &R,
@@ -42,7 +42,7 @@ pub fn run<'a, R: Files + AllocGlobal>(
 /// Saves the state file of a scrambled node, and says what the store answers.
 ///
 /// # Errors
-/// Where the network has no such node, or memory runs out; then the store is not asked.
+/// If the network has no such node, or memory runs out; then the store is not asked.
 pub fn save_scrambled<S: Store>(
     alloc: Global,
     net: &Net,

@@ -1,11 +1,11 @@
 //! `simulate FILE EVENTS`: what a list of events leads to on a network.
 ghost use Rattle.std.specs.Prelude.{◌≡◌, ◌⊎◌, IfOk, option_map};
 ghost use Rattle.std.specs.Process.{exit_status};
-ghost use Rattle.subcommands.specs.Hints.{loan_hint, return_hint};
+ghost use Rattle.subcommands.specs.Hints.{loan_hint};
 
 use command_parts::{
     Fault, ReadSource, Returns, STANDARD_INPUT, Summary, WriteSink, events_status, read_network,
-    simulate_between,
+    return_hint, say_hint, simulate_between,
 };
 use std::fs;
 use std::io::{BufWriter, Input, Read, writer};
@@ -18,7 +18,7 @@ use topology::Net;
 /// what holds up the sweeps, a line each.
 ///
 /// # Errors
-/// Where no network is read of the file, the events cannot be read or are too long, memory runs
+/// If no network is read of the file, the events cannot be read or are too long, memory runs
 /// out, or standard output does not take the text: the first of these that is met.
 pub fn run<R: Files + Input + Print + Eprint + AllocGlobal>(
     rt: &R,
@@ -49,27 +49,9 @@ fn print_simulation<R: Print + Eprint + AllocGlobal, E: Read + Drop>(
     let mut source = Returns::new(ReadSource::new(events));
     let mut sink = WriteSink::new(output);
     let summary = simulate_between(rt.alloc(), net, &mut source, &mut sink)?;
-    say(rt, return_hint(&summary, source.were_seen()));
-    say(rt, loan_hint(net.lease(), net.bound(), &summary));
+    say_hint(rt, return_hint(summary.refused, source.were_seen()));
+    say_hint(rt, loan_hint(net.lease(), net.bound(), &summary));
     Ok(summary)
-}
-
-/// Says a line, if there is one.
-fn say<R: Eprint>(rt: &R, hint: Option<&str>) {
-    if let Some(hint) = hint {
-        let _ = eprintln!(rt; "tokentree: {hint}");
-    }
-}
-
-/// What is said of lines that were refused, if the text has carriage returns.
-fn return_hint(summary: &Summary, were_returns_seen: bool) -> Option<&'static str>
-    ensures { option_map (λ text. text.now) result ≡ return_hint summary.now were_returns_seen }
-{
-    if summary.refused > 0 && were_returns_seen {
-        Some("the events have carriage returns (CRLF): a line ends in a newline alone")
-    } else {
-        None
-    }
 }
 
 /// What is said if there were too few sweeps so far, and a loan that no lease ends keeps others away.

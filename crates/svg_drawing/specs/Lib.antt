@@ -3,3 +3,4 @@ pub mod Colours
 pub mod Drawn
 pub mod Spelling
 pub mod Xml
+pub mod Grouped

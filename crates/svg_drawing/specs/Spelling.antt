@@ -4,6 +4,9 @@ use Rattle.std.specs.List.{flat_map}
 use Rattle.svg_drawing.specs.declared.element.Attribute.{Attribute}
 use Rattle.svg_drawing.specs.declared.element.Element.{Element}
 use Rattle.svg_drawing.specs.declared.element.Drawing.{Drawing}
+use Rattle.svg_drawing.specs.declared.element.Group.{Group}
+use Rattle.svg_drawing.specs.declared.element.Scene.{Scene}
+use Rattle.svg_drawing.specs.declared.element.Document.{Document}
 
 -- a byte as it is written: no `<`, `>`, `&` or `"` stands in a text
 abbrev pub escaped_byte : ℕ → List ℕ
@@ -36,3 +39,27 @@ element_text e = start_tag e.name.now e.attributes.items ++ (escaped (string_byt
 abbrev pub drawing_text : Drawing → List ℕ
 drawing_text d =
     start_tag (codes "svg") d.attributes.items ++ (codes "\n" ++ (flat_map element_text d.elements.items ++ (end_tag (codes "svg") ++ codes "\n")))
+
+-- an element with its text, those that it holds, each in a line, and a newline
+abbrev pub group_text : Group → List ℕ
+group_text g =
+    start_tag g.element.name.now g.element.attributes.items
+    ++ (escaped (string_bytes g.element.text) ++ (flat_map element_text g.inside.items ++ (end_tag g.element.name.now ++ codes "\n")))
+
+-- an element `svg` that holds the groups
+abbrev pub scene_text : Scene → List ℕ
+scene_text s =
+    start_tag (codes "svg") s.attributes.items ++ (codes "\n" ++ (flat_map group_text s.groups.items ++ (end_tag (codes "svg") ++ codes "\n")))
+
+-- what stands before any content of a document, so that a browser takes it for HTML
+abbrev pub doctype : List ℕ
+doctype = codes "<!DOCTYPE html>\n"
+
+-- an element `html` that holds what stands before the drawing, the drawing, and what stands after it
+abbrev pub document_content : Document → List ℕ
+document_content d =
+    start_tag (codes "html") [] ++ (codes "\n" ++ (flat_map group_text d.before.items
+    ++ (scene_text d.scene ++ (flat_map group_text d.after.items ++ (end_tag (codes "html") ++ codes "\n")))))
+
+abbrev pub document_text : Document → List ℕ
+document_text d = doctype ++ document_content d

@@ -1,7 +1,7 @@
 -- Texts whose tags nest.
-use Rattle.std.specs.Prelude.{ℕ, List, [], ◌++◌}
+use Rattle.std.specs.Prelude.{◌≡◌, ℕ, List, [], ◌++◌}
 use Rattle.svg_drawing.specs.declared.element.Attribute.{Attribute}
-use Rattle.svg_drawing.specs.Spelling.{escaped, start_tag, end_tag}
+use Rattle.svg_drawing.specs.Spelling.{escaped, start_tag, end_tag, doctype}
 
 -- What may stand inside an element: nothing; an escaped text, and more; or an element, whose start
 -- tag and end tag have one name, with content inside, and more.
@@ -10,3 +10,7 @@ pub data IsContent : List ℕ → Type 0 where
   Text : (text : List ℕ) {rest : List ℕ} → IsContent rest → IsContent (escaped text ++ rest)
   Element : (name : List ℕ) (attributes : List Attribute) {inside rest : List ℕ}
       → IsContent inside → IsContent rest → IsContent (start_tag name attributes ++ (inside ++ (end_tag name ++ rest)))
+
+-- a document of HTML: its first line, and content
+abbrev pub IsDocument : List ℕ → Type 0
+IsDocument text = (content : List ℕ) × (text ≡ doctype ++ content) × IsContent content

@@ -1,6 +1,7 @@
 //! What a drawing is made of.
 ghost use Rattle.std.specs.Prelude.{◌≡◌, ◌++◌, [], IfOk, decimal};
 ghost use Rattle.svg_drawing.specs.Drawn.{shown_of, with_given, with_text, numbered, note_shown};
+ghost use Rattle.svg_drawing.specs.Grouped.{grouped_of, with_inside};
 
 use std::alloc::{AllocError, Global};
 
@@ -83,4 +84,54 @@ pub struct Drawing {
     pub attributes: Vec<Attribute>,
     /// What it holds, the undermost first.
     pub elements: Vec<Element>,
+}
+
+/// An element that may hold others.
+#[derive(Drop)]
+pub struct Group {
+    /// The element; its text stands before what it holds.
+    pub element: Element,
+    /// The elements that it holds, the undermost first.
+    pub inside: Vec<Element>,
+}
+
+impl Group {
+    /// An element that holds no others.
+    pub fn alone(alloc: Global, element: Element) -> Group
+        ensures { grouped_of result ≡ record { element = shown_of element; inside = [] } }
+    {
+        Group {
+            element,
+            inside: Vec::new(alloc),
+        }
+    }
+
+    /// The element with one more inside, over the others.
+    pub fn holding(mut self, element: Element) -> Result<Group, AllocError>
+        ensures { IfOk result (λ group. grouped_of group
+            ≡ with_inside (grouped_of self) (shown_of element)) }
+    {
+        self.inside.push(element)?;
+        Ok(self)
+    }
+}
+
+/// A drawing whose elements may hold others: an element `svg` that holds groups.
+#[derive(Drop)]
+pub struct Scene {
+    /// The attributes of the element `svg`.
+    pub attributes: Vec<Attribute>,
+    /// What it holds, the undermost first.
+    pub groups: Vec<Group>,
+}
+
+/// A document of HTML with one drawing: what stands before it, the drawing, and what stands after it.
+#[derive(Drop)]
+pub struct Document {
+    /// What stands before the drawing.
+    pub before: Vec<Group>,
+    /// The drawing.
+    pub scene: Scene,
+    /// What stands after the drawing.
+    pub after: Vec<Group>,
 }

@@ -3,9 +3,11 @@ ghost use Rattle.std.specs.Prelude.{◌≡◌, ◌++◌, OnOk, IfOk, codes};
 ghost use Rattle.std.specs.List.{flat_map};
 ghost use Rattle.svg_drawing.specs.Spelling.{attribute_text, drawing_text, element_text, end_tag};
 ghost use Rattle.svg_drawing.specs.Spelling.{escaped, escaped_byte, start_tag};
-ghost use Rattle.svg_drawing.specs.Xml.{IsContent};
+ghost use Rattle.svg_drawing.specs.Spelling.{document_text, group_text};
+ghost use Rattle.svg_drawing.specs.Spelling.{scene_text};
+ghost use Rattle.svg_drawing.specs.Xml.{IsContent, IsDocument};
 
-use crate::element::{Attribute, Drawing, Element};
+use crate::element::{Attribute, Document, Drawing, Element, Group, Scene};
 use std::alloc::{AllocError, Global};
 
 /// The text of a drawing, an XML document whose tags nest.
@@ -20,6 +22,66 @@ pub fn spelled(alloc: Global, drawing: &Drawing) -> Result<Vec<u8>, AllocError>
     push_end(&mut text, "svg")?;
     text.extend_from_slice(b"\n")?;
     Ok(text)
+}
+
+/// The text of a drawing whose elements hold others, an XML document whose tags nest.
+pub fn spelled_scene(alloc: Global, scene: &Scene) -> Result<Vec<u8>, AllocError>
+    ensures text { IfOk result (λ text. text.items ≡ scene_text scene.now) }
+    ensures nests { IfOk result (λ text. IsContent text.items) }
+{
+    let mut text = Vec::new(alloc);
+    push_scene(&mut text, scene)?;
+    Ok(text)
+}
+
+/// The text of a document with a drawing: a first line, and then an XML document whose tags nest.
+pub fn spelled_document(alloc: Global, document: &Document) -> Result<Vec<u8>, AllocError>
+    ensures text { IfOk result (λ text. text.items ≡ document_text document.now) }
+    ensures nests { IfOk result (λ text. IsDocument text.items) }
+{
+    let mut text = Vec::new(alloc);
+    text.extend_from_slice(b"<!DOCTYPE html>\n")?;
+    push_start(&mut text, "html", &[])?;
+    text.extend_from_slice(b"\n")?;
+    push_groups(&mut text, document.before.as_slice())?;
+    push_scene(&mut text, &document.scene)?;
+    push_groups(&mut text, document.after.as_slice())?;
+    push_end(&mut text, "html")?;
+    text.extend_from_slice(b"\n")?;
+    Ok(text)
+}
+
+/// Adds a drawing whose elements hold others.
+fn push_scene(text: &mut Vec<u8>, scene: &Scene) -> Result<(), AllocError>
+    ensures { OnOk result (text.new.items ≡ text.old.items ++ scene_text scene.now) }
+{
+    push_start(text, "svg", scene.attributes.as_slice())?;
+    text.extend_from_slice(b"\n")?;
+    push_groups(text, scene.groups.as_slice())?;
+    push_end(text, "svg")?;
+    text.extend_from_slice(b"\n")
+}
+
+/// Adds groups.
+fn push_groups(text: &mut Vec<u8>, groups: &[Group]) -> Result<(), AllocError>
+    ensures { OnOk result (text.new.items ≡ text.old.items ++ flat_map group_text groups.now) }
+{
+    for group in groups {
+        push_group(text, group)?;
+    }
+    Ok(())
+}
+
+/// Adds an element with those that it holds, and a newline.
+fn push_group(text: &mut Vec<u8>, group: &Group) -> Result<(), AllocError>
+    ensures { OnOk result (text.new.items ≡ text.old.items ++ group_text group.now) }
+{
+    let element = &group.element;
+    push_start(text, element.name, element.attributes.as_slice())?;
+    push_escaped(text, element.text.as_str())?;
+    push_elements(text, group.inside.as_slice())?;
+    push_end(text, element.name)?;
+    text.extend_from_slice(b"\n")
 }
 
 /// Adds elements, each in a line.

@@ -7,7 +7,7 @@ use std::test::Fail;
 /// dropped.
 ///
 /// # Errors
-/// Where `alloc` refuses the list of what was taken.
+/// If `alloc` refuses the list of what was taken.
 pub fn fill<'h>(alloc: Global, heap: &'h LocalHeap) -> Result<Vec<Vec<u8, &'h LocalHeap>>, Fail> {
     let mut taken = Vec::with_capacity(alloc, heap.size())?;
     for _ in 0..heap.size() {
@@ -23,7 +23,7 @@ pub fn fill<'h>(alloc: Global, heap: &'h LocalHeap) -> Result<Vec<Vec<u8, &'h Lo
 /// left.
 ///
 /// # Errors
-/// Where `alloc` refuses the list of what was taken.
+/// If `alloc` refuses the list of what was taken.
 pub fn on_full<T, F: FnOnce() -> T>(
     alloc: Global,
     heap: &LocalHeap,

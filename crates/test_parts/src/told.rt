@@ -4,10 +4,10 @@ ghost use Rattle.std.specs.Prelude.{◌≡◌, ◌↔◌, IsOk, IfOk, Bool, true
 use std::fmt::Debug;
 use std::test::Fail;
 
-/// Ends a test well exactly where this is what was to be found.
+/// Ends a test well exactly if this is what was to be found.
 ///
 /// # Errors
-/// Both values, where they differ.
+/// Both values, if they differ.
 pub fn is_told<T: PartialEq + Debug>(found: &T, want: &T) -> Result<(), Fail>
     ensures { IsOk result ↔ (T.eq found.now want.now ≡ true) }
 {
@@ -18,10 +18,10 @@ pub fn is_told<T: PartialEq + Debug>(found: &T, want: &T) -> Result<(), Fail>
     }
 }
 
-/// Ends a test well exactly where this was found, and nothing failed on the way.
+/// Ends a test well exactly if this was found, and nothing failed on the way.
 ///
 /// # Errors
-/// What failed on the way; both values, where they differ.
+/// What failed on the way; both values, if they differ.
 pub fn as_told<T: PartialEq + Debug + Drop>(found: Result<T, Fail>, want: &T) -> Result<(), Fail>
     ensures { IsOk result ↔ (IsOk found × IfOk found (λ value. T.eq value want.now ≡ true)) }
 {

@@ -1,10 +1,13 @@
 -- Rows: the ends of links between threads, what is left on them, and how much room there is.
-use Rattle.std.proofs.Common.{◌≡◌, ℕ, ◌<◌, Bool, true, false, IsTrue, Some, None, List, [], ◌∷◌, ◌++◌, drop, length, if◌then◌else◌, ◌&&◌, ap, refl, ◌∙◌, sym, subst, arith}
+use Rattle.std.proofs.Common.{◌≡◌, ℕ, ◌<◌, ◌≤◌, Bool, true, false, IsTrue, Some, None, List, [], ◌∷◌, ◌++◌, drop, length, if◌then◌else◌, ◌&&◌, ap, refl, ◌∙◌, sym, subst, arith}
 use Rattle.std.proofs.lemmas.Grind.{common_steps}
 use Rattle.rtrb.specs.Ring.{sent, received}
 use Rattle.link_model.specs.declared.item.Item.{Item}
 use Rattle.link_model.specs.declared.item.Item.TheVariants.{Noise}
-use Rattle.run_model.proofs.RowsTwo.{two_nodes}
+use Rattle.link_model.specs.Link.{link}
+use Rattle.configuration.specs.LinksView.{LinksView, under_way}
+use Rattle.run_model.proofs.RowsTwo.{two_nodes, each-link}
+use Rattle.run_model.specs.World.{World}
 use Rattle.weaving.specs.declared.journal.Stamped.{Stamped}
 use Rattle.weaving.specs.Matched.{items}
 use Rattle.weaving.proofs.RowsRun.{after_tick}
@@ -12,8 +15,10 @@ use Rattle.node_runner.specs.declared.ports.Outgoing.{Outgoing}
 use Rattle.node_runner.specs.declared.ports.Incoming.{Incoming}
 use Rattle.node_runner.specs.declared.runner.Port.{Port}
 use Rattle.thread_net.specs.declared.threads.Outcome.{Outcome}
-use Rattle.thread_net.specs.Cables.{neighbours_below, reach, rows_reach, port_to, left_on, left_on_ports, IsFlushed, IsFlushedOn}
+use Rattle.thread_net.specs.Cables.{AreWithin, neighbours_below, reach, rows_reach, port_to, left_on, left_on_ports, IsFlushed, IsFlushedOn}
+use Rattle.thread_net.specs.Prepared.{IsPrepared}
 use Rattle.thread_net.specs.Seats.{entry_room}
+use Rattle.thread_net.specs.declared.prepare.Prepared.{Prepared}
 use Rattle.thread_net.specs.Outcomes.{have_run, turns_of}
 
 -- two items with their stamps: noise of the start, and a frame
@@ -104,3 +109,28 @@ module _ (a b : Outcome) (ran : a.ran ≡ true) (came_back : b.ran ≡ false) wh
 
   row-turns : (turns_of 5 (a ∷ b ∷ []) 0 ≡ 5) × (turns_of 5 (a ∷ b ∷ []) 1 ≡ 0) × (turns_of 5 (a ∷ b ∷ []) 2 ≡ 0)
   row-turns = (ap (λ t. if t then 5 else 0) ran, ap (λ t. if t then 5 else 0) came_back, refl)
+
+-- ---- what is made before the first turn
+
+-- one item is under way from 0 to 1, on links that hold one, or two of them
+abbrev under : List Item → LinksView
+under items = record {
+  net = two_nodes;
+  places = record { nodes = 2; values = 0 ∷ 1 ∷ 2 ∷ 0 ∷ [] };
+  links = link 0 [] ∷ link 1 items ∷ link 1 [] ∷ [];
+  spares = [];
+}
+
+row-within : AreWithin (under (Noise ∷ []))
+row-within = each-link (λ u v. length (under_way (under (Noise ∷ [])) u v) ≤ 1) (omega arith) (omega arith)
+
+not-within : AreWithin (under (Noise ∷ Noise ∷ [])) → ⊥
+not-within within = let few = within 0 1 refl in omega (arith, few)
+
+-- there is a runner for each node, and no event yet
+module _ {A : Type 0} (w : World) (turns : ℕ) (p : Prepared A) (some : 0 < w.net.nodes) where
+  not-without_runners : p.runners.items ≡ [] → IsPrepared w turns p → ⊥
+  not-without_runners none prepared = let count = rw none at prepared.runners.count in omega (arith, some, count)
+
+  not-with_events : 0 < length p.events.items → IsPrepared w turns p → ⊥
+  not-with_events more prepared = let none = ap length prepared.nothing in omega (arith, more, none)

@@ -1,4 +1,4 @@
--- A network that an edge joins or leaves is accepted where nothing is said against it.
+-- A network that an edge joins or leaves is accepted if nothing is said against it.
 use Rattle.std.proofs.Common.{◌≡◌, ◌≢◌, ◌∙◌, ℕ, zero, suc, ◌+◌, ◌<◌, Bool, true, false, not, List, [], ◌∷◌, ◌++◌, length, get_or, refl, sym, ap, arith, nat_lt, IsTrue, length-append, inl, inr}
 use Rattle.std.specs.Prelude.{◌↔◌, Some, None}
 use Rattle.std.specs.List.{All, list_any, filter, range_with_len}

@@ -22,7 +22,7 @@ any_same : (u v : ℕ) (e : Edge) (es : List Edge) → is_between u v e ≡ true
 any_same u v e [] h = refl
 any_same u v e (f ∷ es) h = rw (between_same u v e f h, any_same u v e es h) refl
 
--- where no edge joins the two, all edges stay
+-- if no edge joins the two, all edges stay
 without_none : (es : List Edge) (u v : ℕ) → are_joined es u v ≡ false → edges_without es u v ≡ es
 without_none [] u v h = refl
 without_none (e ∷ es) u v h = let (first, rest) = or_parts (is_between u v e) (are_joined es u v) h in rw (first, without_none es u v rest) refl
@@ -104,7 +104,7 @@ joined_after_join es u v a b = list_any-append (is_between a b) es ((u, v) ∷ [
 turned : (u v a b : ℕ) → is_between u v (a, b) ≡ is_between u v (b, a)
 turned u v a b = grind (arith, nat_tests)
 
--- an edge between a and b is between u and v where a and b are these two
+-- an edge between a and b is between u and v if a and b are these two
 ends_are : (u v a b : ℕ) (e : Edge) → is_between a b e ≡ true → is_between u v (a, b) ≡ is_between u v e
 ends_are u v a b e h = elim (between_cases a b e h) [
   | inl q ↦ rw (q.0, q.1) refl

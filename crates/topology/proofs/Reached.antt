@@ -30,7 +30,7 @@ reaches_by net inside (suc k) v (w ∷ ws) walk long =
 reaches_by net inside zero v (w ∷ ws) walk long = absurd (omega arith)
 reaches_by net inside (suc k) v [] walk long = absurd (omega arith)
 
--- the least number below a limit passes, where one does
+-- the least number below a limit passes, if one does
 pub least_passes : (limit k : ℕ) (test : ℕ → Bool) → k < limit → test k ≡ true → test (least_below limit test) ≡ true
 least_passes zero k test h passes = absurd (omega arith)
 least_passes (suc n) zero test h passes = rw passes passes
@@ -48,7 +48,7 @@ least_at_most (suc n) (suc k) test passes = elim (cases_Bool (test 0)) [
   | inr fails ↦ rw fails (omega (arith, least_at_most n k (λ j. test (suc j)) passes))
 ]
 
--- where steps lead to a node, the least number of them below a limit is its distance
+-- if steps lead to a node, the least number of them below a limit is its distance
 pub least_is_distance : (net : Network) (limit k v : ℕ) → IsAcceptedNetwork net → k < limit → reaches net k v ≡ true → IsDistance net v (least_below limit (λ steps. reaches net steps v))
 least_is_distance net limit k v ok within passes = record {
   walk = walk_of net (least_below limit (λ steps. reaches net steps v)) v (least_passes limit k (λ steps. reaches net steps v) within passes);

@@ -108,7 +108,7 @@ pub record IsAcceptedNetwork (net : Network) : Type 0 where
 
 -- the modulus of a link's counters. The numbers of one direction of an edge, its sender's, its
 -- receiver's, and those of the items and acknowledgements under way, are at most 2C+2 places with C
--- items a link, and such a ring of copies settles where there are more values than places (Dijkstra
+-- items a link, and such a ring of copies settles if there are more values than places (Dijkstra
 -- 1974)
 abbrev pub counter_of : Network → ℕ
 counter_of net = 2 * net.capacity + 3

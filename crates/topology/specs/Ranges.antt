@@ -14,12 +14,12 @@ abbrev pub parent_fits : ℕ → Option ℕ → Bool
 parent_fits nodes None = true
 parent_fits nodes (Some p) = nat_lt p nodes
 
--- a payload is in range where its distance is at most n, its parent none or below n, and its ring
+-- a payload is in range if its distance is at most n, its parent none or below n, and its ring
 -- value below K
 abbrev pub payload_fits : Ranges → Payload → Bool
 payload_fits r p =
     nat_le p.distance r.nodes && (parent_fits r.nodes p.parent && nat_lt p.ring r.ring)
 
--- a frame is in range where both its numbers are below M and its payload is in range
+-- a frame is in range if both its numbers are below M and its payload is in range
 abbrev pub frame_fits : Ranges → Frame → Bool
 frame_fits r f = nat_lt f.seq r.counter && (nat_lt f.ack r.counter && payload_fits r f.payload)

@@ -10,12 +10,12 @@ abbrev pub reaches : Network → ℕ → ℕ → Bool
 reaches net zero v = v == net.root
 reaches net (suc steps) v = list_any (reaches net steps) (neighbours_of net v)
 
--- the least number below a limit that passes a test, or the limit where none does
+-- the least number below a limit that passes a test, or the limit if none does
 abbrev pub least_below : ℕ → (ℕ → Bool) → ℕ
 least_below zero test = 0
 least_below (suc limit) test = if test 0 then 0 else suc (least_below limit (λ k. test (suc k)))
 
--- the least number of steps that lead from the root to v; the number of nodes where no walk does
+-- the least number of steps that lead from the root to v; the number of nodes if no walk does
 abbrev pub distance_of : Network → ℕ → ℕ
 distance_of net v = least_below net.nodes (λ steps. reaches net steps v)
 

@@ -1,4 +1,4 @@
-//! What neighbours tell each other, and the ranges of its fields.
+//! What neighbours say to each other, and the ranges of its fields.
 ghost use Rattle.std.specs.Prelude.{◌≡◌};
 ghost use Rattle.topology.specs.Ranges.{payload_fits, frame_fits};
 

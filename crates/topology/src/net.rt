@@ -103,7 +103,7 @@ impl<A: Allocator + Copy> Net<A> {
 
     /// The modulus of a link's counters: 2C+3 for a capacity of C.
     ///
-    /// The numbers of one direction stand at most at 2C+2 places; a ring of copies settles where
+    /// The numbers of one direction stand at most at 2C+2 places; a ring of copies settles if
     /// there are more values than places (Dijkstra 1974).
     pub fn counter(&self) -> u16
         ensures { result ≡ counter_of self.now }

@@ -5,12 +5,12 @@ use Rattle.std.specs.List.{AllByRecursion}
 use Rattle.topology.specs.Network.{Network, are_joined}
 use Rattle.topology.specs.Laws as topology
 use Rattle.topology.specs.declared.frame.Payload.{Payload}
-use Rattle.data_link.specs.Edge.{EdgeState, EdgeEvent, TakeBack, IsEdgeInRange, IsStable, edge_run, edge_step}
-use Rattle.data_link.specs.Sweep.{PresentPasses}
-use Rattle.data_link.specs.Sweep as edge
-use Rattle.data_link.specs.Refreshing.{StagedPasses, SweepCopiesStaged}
-use Rattle.data_link.specs.SixSweeps.{StableAfterSixSweeps}
-use Rattle.data_link.specs.Laws as data_link
+use Rattle.run_model.specs.data_link.Edge.{EdgeState, EdgeEvent, TakeBack, IsEdgeInRange, IsStable, edge_run, edge_step}
+use Rattle.run_model.specs.data_link.Sweep.{PresentPasses}
+use Rattle.run_model.specs.data_link.Sweep as edge
+use Rattle.run_model.specs.data_link.Refreshing.{StagedPasses, SweepCopiesStaged}
+use Rattle.run_model.specs.data_link.SixSweeps.{StableAfterSixSweeps}
+use Rattle.run_model.specs.data_link.Laws as data_link
 use Rattle.run_model.specs.World.{World, IsWorldInRange}
 use Rattle.run_model.specs.Step.{step}
 use Rattle.run_model.specs.Run.{run, IsUndamaged}

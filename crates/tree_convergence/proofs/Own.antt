@@ -3,7 +3,7 @@ use Rattle.std.proofs.Common.{◌≡◌, ℕ, ◌<◌, ◌⊎◌, true, false, O
 use Rattle.std.proofs.lemmas.Grind.{common_steps}
 use Rattle.topology.specs.Network.{neighbours_of}
 use Rattle.bfs_tree.specs.Step.{new_distance, new_parent}
-use Rattle.node_core.specs.Step.{copied_distance}
+use Rattle.run_model.specs.node_core.Step.{copied_distance}
 use Rattle.run_model.specs.World.{World}
 use Rattle.run_model.specs.Step.{step}
 use Rattle.run_model.specs.Run.{is_damage}

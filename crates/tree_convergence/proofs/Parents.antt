@@ -7,7 +7,7 @@ use Rattle.topology.specs.Laws as topology
 use Rattle.topology.specs.declared.frame.Payload.{Payload}
 use Rattle.bfs_tree.specs.Stage.{is_of_stage}
 use Rattle.bfs_tree.specs.Laws as bfs_tree
-use Rattle.node_core.specs.Step.{copied_distance}
+use Rattle.run_model.specs.node_core.Step.{copied_distance}
 use Rattle.run_model.specs.World.{World, IsWorldInRange}
 use Rattle.run_model.specs.Step.{step}
 use Rattle.run_model.specs.Run.{run, IsUndamaged}

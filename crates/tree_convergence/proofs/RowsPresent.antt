@@ -35,6 +35,6 @@ not-staged_any_more staged = false≢true staged.1.1.1
 one-move : number_moves start (Send 1 0 ∷ Take 1 0 ∷ []) 0 1 ≡ 1
 one-move = refl
 
--- and not where nothing is taken
+-- and not if nothing is taken
 no-move : number_moves start (Send 1 0 ∷ Tick 0 ∷ []) 0 1 ≡ 0
 no-move = refl

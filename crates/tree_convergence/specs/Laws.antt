@@ -4,7 +4,7 @@ use Rattle.std.specs.Prelude.{◌≡◌, ℕ, ◌+◌, ◌*◌, ◌<◌, ◌⊎�
 use Rattle.topology.specs.Network.{are_joined}
 use Rattle.topology.specs.Eccentricity.{eccentricity_of}
 use Rattle.topology.specs.declared.frame.Payload.{Payload}
-use Rattle.data_link.specs.Edge.{IsStable}
+use Rattle.run_model.specs.data_link.Edge.{IsStable}
 use Rattle.run_model.specs.World.{World, IsWorldInRange}
 use Rattle.run_model.specs.Step.{step}
 use Rattle.run_model.specs.Run.{run, is_damage, IsUndamaged}

@@ -1,2 +1,3 @@
+pub use Rattle.run_model.specs.data_link as data_link
 pub mod Present
 pub mod Laws

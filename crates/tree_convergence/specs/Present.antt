@@ -3,7 +3,7 @@ use Rattle.std.specs.Prelude.{◌≡◌, ℕ, Bool, true, List, [], ◌∷◌}
 use Rattle.topology.specs.declared.frame.Payload.{Payload}
 use Rattle.run_model.specs.World.{World}
 use Rattle.run_model.specs.Step.{step}
-use Rattle.data_link.specs.Edge.{moves_in}
+use Rattle.run_model.specs.data_link.Edge.{moves_in}
 use Rattle.run_model.specs.Project.{present, edge_of, edge_events}
 use Rattle.run_model.specs.declared.event.Event.{Event}
 

@@ -5,7 +5,7 @@ use std::io;
 use std::rt::Clock;
 use std::time::Instant;
 
-/// Microseconds since its start, by the system's monotonic clock. Where the system gives no time,
+/// Microseconds since its start, by the system's monotonic clock. If the system gives no time,
 /// it stands still.
 #[derive(Drop)]
 pub struct Stopwatch<'a, C> {
@@ -18,7 +18,7 @@ impl<'a, C: Clock> Stopwatch<'a, C> {
     /// A stopwatch that starts now.
     ///
     /// # Errors
-    /// Where the system gives no time.
+    /// If the system gives no time.
     pub fn start(clock: &'a C) -> io::Result<Stopwatch<'a, C>>
         ensures { IfOk result (λ watch. watch.last ≡ 0) }
     {
@@ -29,7 +29,7 @@ impl<'a, C: Clock> Stopwatch<'a, C> {
         })
     }
 
-    /// The microseconds since the start, at least as many as it told before.
+    /// The microseconds since the start, at least as many as it gave before.
     pub fn now(&mut self) -> u64
         ensures never_back { self.old.last ≤ result }
         ensures told { self.new.last ≡ result }
@@ -41,7 +41,7 @@ impl<'a, C: Clock> Stopwatch<'a, C> {
         self.last
     }
 
-    /// What it told last.
+    /// What it gave last.
     pub fn last(&self) -> u64
         ensures { result ≡ self.now.last }
     {

@@ -19,7 +19,7 @@ const LINKS: Token = Token(0);
 /// The socket for clients.
 const CLIENTS: Token = Token(1);
 
-/// Standard input, where its end is waited for.
+/// Standard input, if its end is waited for.
 const INPUT: Token = Token(2);
 
 /// A connection, of whichever kind: a turn reads them all.
@@ -66,7 +66,7 @@ impl<'a, N: Net> UnixDoors<'a, N> {
     /// Doors at which nobody has come yet.
     ///
     /// # Errors
-    /// Where the system gives no poll, or memory runs out.
+    /// If the system gives no poll, or memory runs out.
     pub fn new(
         net: &'a N,
         alloc: Global,
@@ -95,17 +95,17 @@ impl<'a, N: Net> UnixDoors<'a, N> {
         })
     }
 
-    /// Has each wait end where standard input can be read too, or is at its end.
+    /// Has each wait end when standard input can be read too, or is at its end.
     ///
     /// # Errors
-    /// Where no poll waits for standard input: it is closed, a file, or `/dev/null`.
+    /// If no poll waits for standard input: it is closed, a file, or `/dev/null`.
     pub fn watch_input(&mut self) -> io::Result<()>
         ensures { self.new.failures ≡ self.old.failures }
     {
         watch_input(self.poll.registry(), INPUT, true)
     }
 
-    /// Whether standard input, where it is watched, is at its end.
+    /// Whether standard input, if it is watched, is at its end.
     pub fn has_input_ended<R: io::Input>(&mut self, rt: &R) -> bool
         ensures failures { self.new.failures ≡ self.old.failures }
         ensures no_news { self.old.input_has_news ≡ false → result ≡ false }
@@ -190,7 +190,7 @@ impl<'a, N: Net> UnixDoors<'a, N> {
         }
     }
 
-    /// Notes what the last wait told.
+    /// Notes what the last wait reported.
     fn note_events(&mut self)
         ensures { self.new.failures ≡ self.old.failures }
     {
@@ -278,7 +278,7 @@ impl<'a, N: Net> Doors for UnixDoors<'a, N> {
     }
 }
 
-/// Has a poll tell of a socket that listens, under this token.
+/// Has a poll report a socket that listens, under this token.
 fn listen(poll: &Poll, socket: &mut UnixListener, token: Token) -> io::Result<()> {
     poll.registry().register(socket, token, Interest::READABLE)
 }

@@ -21,11 +21,11 @@ pub enum InputSight {
     Unreadable,
 }
 
-/// Has a poll tell, under this token, when standard input can be read or is at its end; again each
+/// Has a poll report, under this token, when standard input can be read or is at its end; again each
 /// time that it is called.
 ///
 /// # Errors
-/// Where standard input is closed, or is a file or `/dev/null`, for which no poll waits.
+/// If standard input is closed, or is a file or `/dev/null`, for which no poll waits.
 pub fn watch_input(registry: &Registry, token: Token, is_first: bool) -> io::Result<()> {
     let mut input = SourceFd(&STANDARD_INPUT);
     if is_first {
@@ -35,7 +35,7 @@ pub fn watch_input(registry: &Registry, token: Token, is_first: bool) -> io::Res
     }
 }
 
-/// Reads what standard input has now, of which a poll has told, and says what it has.
+/// Reads what standard input has now, which a poll has reported, and says what it has.
 pub fn read_input<R: Input>(rt: &R) -> InputSight {
     let mut buffer = [0; 512];
     input_sight(&rt.reader().read(&mut buffer))

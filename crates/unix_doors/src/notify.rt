@@ -1,4 +1,5 @@
-//! Says to the service manager that started this process that it is ready.
+//! Says to the service manager that started this process that it is ready: one datagram, by `socket` and
+//! `sendto` of the C library, since the kit has no datagram sockets of Unix.
 ghost use Rattle.std.specs.Prelude.{◌≡◌, ◌≤◌, ◌+◌, None, IfSome, length};
 
 use libc::close;
@@ -12,7 +13,7 @@ const LONGEST_NAME: usize = 107;
 /// A socket for datagrams, which no process inherits that is started from this one.
 const DATAGRAMS: i32 = SOCK_DGRAM | SOCK_CLOEXEC;
 
-/// What the manager is told.
+/// What is said to the manager.
 const READY: &[u8] = b"READY=1";
 
 /// Says to the socket that `NOTIFY_SOCKET` names, if there is one, that this process is ready. Nothing

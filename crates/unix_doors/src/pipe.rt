@@ -9,7 +9,7 @@ use socket_links::{Pipe, ReadAnswer, WriteAnswer};
 use std::io::{self, ErrorKind, Read, Write};
 use std::os::fd::AsRawFd;
 
-/// A connection over a Unix socket, which never waits. It is closed where it is dropped. The bytes
+/// A connection over a Unix socket, which never waits. It is closed when it is dropped. The bytes
 /// that a socket gives and takes are the system's, so contracts say nothing of them.
 #[derive(Drop)]
 pub struct UnixPipe {
@@ -79,7 +79,7 @@ impl Pipe for UnixPipe {
 /// way in it: an unread one took 6 writes with it, and 278 without.
 ///
 /// # Errors
-/// Where the system refuses it.
+/// If the system refuses it.
 pub fn hold_few(stream: UnixStream) -> io::Result<UnixStream> {
     // A size of 0 bytes stands for the least.
     let least = [0; 16];

@@ -56,7 +56,7 @@ stays-first = refl
 comes-first : with_next (Some (0, record { stamp = 2; event = Send 0 1 })) 1 of_taker ≡ Some (1, record { stamp = 1; event = Tick 1 })
 comes-first = refl
 
--- nothing comes first where something is left
+-- nothing comes first if something is left
 not-none_first : IsFirst (of_sender ∷ []) 1 None → ⊥
 not-none_first none = let nothing : ◌≡◌ {A = List Entry} of_sender [] = none 0 (omega arith) in absurd cc
 

@@ -1,4 +1,4 @@
--- One deed of a node, where the accounts match: its event is not refused, does what it says, and
+-- One deed of a node, if the accounts match: its event is not refused, does what it says, and
 -- the accounts of what is to come match again.
 use Rattle.std.proofs.Common.{◌≡◌, ◌≢◌, ℕ, suc, ◌<◌, ◌≤◌, List, [], ◌∷◌, ◌++◌, IsTrue, None, length, refl, ap, ◌∙◌, sym, subst, arith}
 use Rattle.std.proofs.lemmas.Grind.{common_steps}
@@ -49,7 +49,7 @@ pub record GoesOn (w last : World) (e : Event) (next : ℕ → List Note) : Type
   pub within : IsWithin (step w e)
   pub matched : AreMatched (step w e) next last
 
--- the same, told of what the event changes
+-- the same, said of what the event changes
 goes-on : (w last : World) (e : Event) (next : ℕ → List Note) → refusal w e ≡ None → HasEffect w e → (changed w e).net ≡ w.net
     → IsWithin (changed w e) → AreMatched (changed w e) next last → GoesOn w last e next
 goes-on w last e next fine effect network within matched =

@@ -17,7 +17,7 @@ use Rattle.weaving.proofs.Unread.{unread-length, unread-at, read-on, read-one-le
 abbrev pub one-more : List ℕ → ℕ → List ℕ
 one-more read v = slice_set read v (slice_index read v + 1)
 
--- what follows where one more entry is read
+-- what follows if one more entry is read
 pub record IsReadOn (js : List (List Entry)) (read : List ℕ) (v : ℕ) (e : Entry) : Type 0 where
   pub place : v < length read
   pub within : slice_index read v < length (journal_of js v)
@@ -59,7 +59,7 @@ one-of-all [] v = omega arith
 one-of-all (j ∷ js) zero = omega arith
 one-of-all (j ∷ js) (suc v) = let l = one-of-all js v in omega (arith, l)
 
--- where no entry is left, all is woven
+-- if no entry is left, all is woven
 pub all-read : (js : List (List Entry)) (read : List ℕ) → IsFirst (unread js read) (length js) None → IsWoven (journal_of (unread js read)) []
 all-read js read none = woven-none (journal_of (unread js read)) (λ u. by-place js read none u) where
   by-place : (js : List (List Entry)) (read : List ℕ) → IsFirst (unread js read) (length js) None → (u : ℕ) → journal_of (unread js read) u ≡ []

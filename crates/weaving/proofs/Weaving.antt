@@ -80,7 +80,7 @@ no-deeds : (v : ℕ) (ds : List Note) → [] ≡ map (entry_of v) ds → ds ≡ 
 no-deeds v [] h = refl
 no-deeds v (d ∷ ds) h = absurd cc
 
--- where nothing is to come, the last world is reached
+-- if nothing is to come, the last world is reached
 reached : (w last : World) (account : ℕ → List Note) → AreMatched w account last → ((v : ℕ) → account v ≡ []) → w ≡ last
 reached w last account m none =
     let node-is : (v : ℕ) → last.node v ≡ w.node v = λ v. (subst (λ ds. Leads w.net v (w.node v) ds (last.node v)) (none v) (m.nodes v)).1 in

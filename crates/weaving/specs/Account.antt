@@ -50,7 +50,7 @@ abbrev pub take_first : ℕ → Item → List Deed → List Deed
 take_first w (Frame f) ds = Takes w f ∷ ds
 take_first w Noise ds = ds
 
--- the deeds of a node, of which its notes tell
+-- the deeds of a node, which its notes report
 abbrev pub deeds_in : List Note → List Deed
 deeds_in [] = []
 deeds_in (Ticked t ∷ ns) = Ticks ∷ deeds_in ns

@@ -9,7 +9,7 @@ use Rattle.weaving.specs.Woven.{IsNoLater}
 abbrev pub entries_in : {A : Type 0} → List (Journal A) → List (List Entry)
 entries_in journals = map (λ j. j.entries.items) journals
 
--- the journal of v; it is empty where v is no node
+-- the journal of v; it is empty if v is no node
 abbrev pub journal_of : List (List Entry) → ℕ → List Entry
 journal_of journals v = slice_index_or journals v []
 
@@ -29,13 +29,13 @@ abbrev pub earlier : Option (ℕ × Entry) → ℕ → Entry → Option (ℕ × 
 earlier None n e = Some (n, e)
 earlier (Some first) n e = if nat_le first.1.stamp e.stamp then Some first else Some (n, e)
 
--- the entry that comes first, where the next entry of one more node is looked at
+-- the entry that comes first, if the next entry of one more node is looked at
 abbrev pub with_next : Option (ℕ × Entry) → ℕ → List Entry → Option (ℕ × Entry)
 with_next first n [] = first
 with_next first n (e ∷ es) = earlier first n e
 
 -- Of the entries of the first n journals this is the one that comes first, with its node;
--- there is none where they are all empty.
+-- there is none if they are all empty.
 abbrev pub IsFirst : List (List Entry) → ℕ → Option (ℕ × Entry) → Type 0
 IsFirst journals n None = (u : ℕ) → u < n → journal_of journals u ≡ []
 IsFirst journals n (Some first) =

@@ -21,7 +21,7 @@ abbrev pub items : List Stamped → List Item
 items xs = map (λ x. x.item) xs
 
 -- What stood on a link, then what was sent, is what was taken, then what is left. What was sent is
--- taken later. Where no place is free, a send waits for a take: with f places free at the start,
+-- taken later. If no place is free, a send waits for a take: with f places free at the start,
 -- send number f + j is later than take number j.
 pub record IsLinkMatched (capacity : ℕ) (old : List Item) (sent taken : List Stamped)
     (left : List Item) : Type 0 where
@@ -40,6 +40,6 @@ pub record AreMatched (w : World) (account : ℕ → List Note) (last : World) :
       → IsLinkMatched w.net.capacity (w.link u v) (sent_to v (account u))
       (taken_from u (account v)) (last.link u v)
 
--- the journals tell of these accounts
+-- the journals report these accounts
 abbrev pub AreOf : (ℕ → List Note) → (ℕ → List Entry) → Type 0
 AreOf account journal = (v : ℕ) → journal v ≡ map (entry_of v) (account v)

@@ -29,7 +29,7 @@ abbrev pub entries_of : ℕ → List Placed → List Entry
 entries_of v [] = []
 entries_of v (p ∷ ps) = if p.node == v then p.entry ∷ entries_of v ps else entries_of v ps
 
--- A list of events is woven of some journals where its entries, in their order, are those of each
+-- A list of events is woven of some journals if its entries, in their order, are those of each
 -- node's journal, and stand by stamp, then by node.
 pub record IsWoven (journal : ℕ → List Entry) (events : List Event) : Type 0 where
   pub placed : List Placed

@@ -9,13 +9,13 @@
 //! weave(&journals, &mut events);      // room for all entries is reserved in `events`
 //! ```
 //!
-//! The law in `laws` says when that list is a run: where on each link what was taken is what was
+//! The law in `laws` says when that list is a run: if on each link what was taken is what was
 //! sent, in order, a take is later than its send, and a send that needs a place is later than the
 //! take that freed it. It speaks of lists alone, and of no thread.
 //!
 //! Source: L. Lamport, Time, clocks, and the ordering of events in a distributed system, 1978.
 //!
-//! The trap: a stamp tells no time. Of two events of which neither waited for the other, either may
+//! The trap: a stamp says nothing of time. Of two events of which neither waited for the other, either may
 //! come first in the list.
 #![tactic(auto)]
 

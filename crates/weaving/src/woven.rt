@@ -22,7 +22,7 @@ fn earlier(first: Option<(usize, Entry)>, node: usize, entry: Entry) -> Option<(
     }
 }
 
-/// The entry that comes first, where the next entry of one more node is looked at, if it has one.
+/// The entry that comes first, if the next entry of one more node is looked at, if it has one.
 fn with_next<A: Allocator>(
     first: Option<(usize, Entry)>,
     node: usize,

@@ -3,11 +3,10 @@ use crate::nets::two_nodes;
 use crate::shelf::Shelf;
 use byte_streams::MemorySource;
 use command_parts::{Fault, ReadSource};
-use live_commands::draw::{Wanted, write_picture};
 use run_picture::Window;
+use run_picture::command::{Wanted, write_picture};
 use std::alloc::Global;
 use std::io::{Error, ErrorKind};
-use std::process::ExitCode;
 use std::str;
 use std::test::Fail;
 use test_parts::{as_told, is_told};
@@ -30,8 +29,8 @@ const WANTED: Wanted = Wanted {
     window: Window::ALL,
 };
 
-/// How a drawing ended.
-type Ended = Result<ExitCode, Fault>;
+/// How a drawing ended: how many lines were refused, or why nothing was drawn whole.
+type Ended = Result<u64, Fault>;
 
 /// Draws what a source's events make on two nodes, on a shelf.
 fn draw_to<S: Source + Drop>(
@@ -43,7 +42,7 @@ fn draw_to<S: Source + Drop>(
     Ok(write_picture(alloc, &net, &mut source, shelf, WANTED))
 }
 
-/// How the drawing of a source's events ended, and the picture, where there is room for `room`
+/// How the drawing of a source's events ended, and the picture, if there is room for `room`
 /// bytes.
 fn drawn<S: Source + Drop>(
     alloc: Global,
@@ -90,7 +89,7 @@ fn drawn_in_part(alloc: Global) -> Result<(Ended, Option<usize>), Fail> {
 
 #[test]
 fn draws_what_is_accepted_and_counts_what_is_refused(rt: HostRuntime) -> Result<(), Fail> {
-    as_told(drawn_in_part(rt.alloc()), &(Ok(ExitCode::from(3)), None))
+    as_told(drawn_in_part(rt.alloc()), &(Ok(2), None))
 }
 
 /// How the drawing of events ended that cannot be read, and how many bytes were drawn.
@@ -110,10 +109,10 @@ fn draws_nothing_of_events_that_cannot_be_read(rt: HostRuntime) -> Result<(), Fa
 /// Rooms that a picture does not fit into.
 const ROOMS: [usize; 4] = [0, 1, 300, 4000];
 
-/// The event that pictures without room tell.
+/// The event that pictures without room report.
 const TICK: &[u8] = b"tick 0\n";
 
-/// Whether a picture without room is a fault, where its front fills that room.
+/// Whether a picture without room is a fault, if its front fills that room.
 fn is_cut_off(alloc: Global, whole: &[u8], room: usize) -> Result<bool, NetFault> {
     let (ended, picture) = drawn_text(alloc, TICK, room)?;
     Ok(
@@ -139,7 +138,7 @@ fn first_not_cut_off(
 }
 
 /// How the drawing of the whole picture ended; the place of the first room in which it is not cut
-/// off; and whether it is where one byte more has no room.
+/// off; and whether it is if one byte more has no room.
 fn drawn_without_room(alloc: Global) -> Result<(Ended, Option<usize>, bool), NetFault> {
     let (ended, whole) = drawn_text(alloc, TICK, 100_000)?;
     let other = first_not_cut_off(alloc, whole.as_slice(), &ROOMS)?;
@@ -153,8 +152,5 @@ fn drawn_without_room(alloc: Global) -> Result<(Ended, Option<usize>, bool), Net
 
 #[test]
 fn a_picture_without_room_is_a_fault(rt: HostRuntime) -> Result<(), Fail> {
-    is_told(
-        &drawn_without_room(rt.alloc())?,
-        &(Ok(ExitCode::SUCCESS), None, true),
-    )
+    is_told(&drawn_without_room(rt.alloc())?, &(Ok(0), None, true))
 }

@@ -1,4 +1,4 @@
-//! Lines of junk, also where the writer has too little room. The expected text is that of another
+//! Lines of junk, also if the writer has too little room. The expected text is that of another
 //! program, written from the definitions of the draws and of the generator.
 use crate::shelf::Shelf;
 use command_parts::{Fault, WriteSink};
@@ -32,7 +32,7 @@ fn write_to(
     Ok(write_junk(seed, lines, &mut sink))
 }
 
-/// Whether the lines of a seed are answered so, and this is their text, where there is room for
+/// Whether the lines of a seed are answered so, and this is their text, if there is room for
 /// `room` bytes.
 fn is_written(
     alloc: Global,
@@ -66,7 +66,7 @@ fn writes_the_lines_of_a_seed(rt: HostRuntime) -> Result<(), Fail> {
     is_told(&first_other_text(rt.alloc(), &TEXTS)?, &None)
 }
 
-/// What is answered where there is room for `room` bytes of the four lines.
+/// What is answered if there is room for `room` bytes of the four lines.
 fn answer_with_room(room: usize) -> Result<(), Fault> {
     if room < LINES.len() {
         Err(Fault::Output)

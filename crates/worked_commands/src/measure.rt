@@ -92,7 +92,7 @@ fn is_text(alloc: Global, runs: &[Recovery], table: bool, want: &str) -> Result<
     Ok(text(alloc, runs, table)?.as_str() == want)
 }
 
-/// Whether each of these runs has served, where the sharper bound is 35.
+/// Whether each of these runs has served, if the sharper bound is 35.
 fn all_served(runs: &[Recovery]) -> bool {
     runs.iter().all(|run| has_served(run, 35))
 }

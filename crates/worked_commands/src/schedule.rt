@@ -1,4 +1,4 @@
-//! Schedules as texts: by hand, and where the writer has too little room.
+//! Schedules as texts: by hand, and if the writer has too little room.
 use crate::nets::two_nodes;
 use crate::shelf::Shelf;
 use command_parts::{EventText, Fault};
@@ -74,7 +74,7 @@ fn is_written(
     Ok(answer == want && taken.as_slice() == text)
 }
 
-/// What is answered where there is room for `room` bytes of the round.
+/// What is answered if there is room for `room` bytes of the round.
 fn answer_with_room(room: usize) -> Result<(), Fault> {
     if room < ROUND.len() {
         Err(Fault::Output)

@@ -91,7 +91,7 @@ fn simulate_to(
     Ok(simulate_on(alloc, &net, answers, shelf)?)
 }
 
-/// Whether a simulation answers so, and this was written where there is room for `room` bytes.
+/// Whether a simulation answers so, and this was written if there is room for `room` bytes.
 fn simulates(
     alloc: Global,
     answers: &[Answer<'_>],
@@ -160,7 +160,7 @@ fn what_came_before_a_failed_read_is_told(rt: HostRuntime) -> Result<(), Fail> {
 /// The events, in one read.
 static WHOLE: [Answer<'static>; 1] = [Answer::Bytes(EVENTS)];
 
-/// What is answered where there is room for `room` bytes of the output.
+/// What is answered if there is room for `room` bytes of the output.
 fn answer_with_room(room: usize) -> Result<Summary, Fault> {
     if room < OUTPUT.len() {
         Err(Fault::Output)

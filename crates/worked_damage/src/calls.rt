@@ -1,5 +1,5 @@
-//! Networks, files and calls as rows tell them. Rows need nothing of what the contracts of these
-//! calls say, and where they are called from here the prover need not carry that along.
+//! Networks, files and calls as rows give them. Rows need nothing of what the contracts of these
+//! calls say, and if they are called from here the prover need not carry that along.
 ghost use Rattle.std.specs.Prelude.{◌≡◌, ◌<◌};
 ghost use Rattle.node_core.specs.Site.{site_of};
 ghost use Rattle.node_core.specs.View.{site_in};

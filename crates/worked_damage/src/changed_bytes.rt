@@ -121,7 +121,7 @@ fn any_bytes(
     Ok(bytes)
 }
 
-/// The fault of any bytes after these as a file of node 0; none where they are read.
+/// The fault of any bytes after these as a file of node 0; none if they are read.
 fn fault_of(
     alloc: Global,
     net: &Net,

@@ -61,7 +61,7 @@ fn is_cut_down<R: Files + AllocGlobal>(rt: &R, path: &str) -> Result<bool, Fail>
     Ok(is_long && is_saved && has(rt, path, &[5; 36])?)
 }
 
-/// What a load answers where there is no file, what a save, and who may do what with the file then.
+/// What a load answers if there is no file, what a save, and who may do what with the file then.
 type Made = (
     Result<(usize, Option<u8>), StoreFault>,
     Result<(), StoreFault>,
@@ -82,7 +82,7 @@ fn remove<F: Files>(files: &F, paths: [&str; 2]) -> Result<(), Fail> {
     Ok(())
 }
 
-/// What is answered where a file is made, what does not go in place then, and whether it is cut
+/// What is answered if a file is made, what does not go in place then, and whether it is cut
 /// down.
 fn in_place<R: Files + AllocGlobal>(
     rt: &R,

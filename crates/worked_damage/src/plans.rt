@@ -1,4 +1,4 @@
-//! Schedules and measured runs where memory is refused, and schedules of which an event is not
+//! Schedules and measured runs if memory is refused, and schedules of which an event is not
 //! taken.
 ghost use Rattle.std.specs.Prelude.{⊤};
 
@@ -117,7 +117,7 @@ fn whole_of_two(alloc: Global, kind: Kind) -> Result<Vec<Event>, Fail> {
 }
 
 /// Gives the schedule to a keeper that fails after `calls` events. Whether the answer is as it
-/// should be, and the keeper has just the events in front; none where there was no further event.
+/// should be, and the keeper has just the events in front; none if there was no further event.
 fn is_cut_short(
     alloc: Global,
     net: &Net,

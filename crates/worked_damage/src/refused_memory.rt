@@ -13,7 +13,7 @@ use std::test::Fail;
 use test_parts::is_told;
 use topology::Net;
 
-/// Whether a state was read, and is written as it was; it is not where memory was refused.
+/// Whether a state was read, and is written as it was; it is not if memory was refused.
 fn is_read<A: Allocator + Copy>(alloc: A, net: &Net) -> Result<bool, FileFault> {
     let file = reread(alloc, NEWER, net, 1)?;
     Ok(file.as_slice() == NEWER.as_slice())
@@ -99,7 +99,7 @@ fn drawn_of_three(alloc: Global) -> Result<(End, u32), Fail> {
     Ok(drawn_in_turn(alloc, &net)?)
 }
 
-/// The harms of a world that were drawn where memory is refused at times: none, or those that are
+/// The harms of a world that were drawn if memory is refused at times: none, or those that are
 /// drawn with ample memory.
 #[test]
 fn harms_meet_each_refusal(rt: HostRuntime) -> Result<(), Fail> {

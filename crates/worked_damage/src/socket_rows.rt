@@ -13,7 +13,7 @@ use topology::Net;
 type Given<'a> = (&'a [u8], usize, bool);
 
 /// Attaches such a pipe, and pulls until the link is loose or as many pulls were made. How many of
-/// the wanted answers have come, if this number had come before; none where another one came. Later
+/// the wanted answers have come, if this number had come before; none if another one came. Later
 /// is put aside.
 fn pull_all<'a>(
     alloc: Global,

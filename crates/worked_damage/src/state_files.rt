@@ -138,7 +138,7 @@ fn with_number(at: usize, number: u16) -> File {
     file_of(IS_NEWER, &numbers)
 }
 
-/// The fault of a file of node 0; none where it is read.
+/// The fault of a file of node 0; none if it is read.
 fn fault_of(alloc: Global, net: &Net, file: &[u8]) -> Option<FileFault> {
     reread(alloc, file, net, 0).err()
 }

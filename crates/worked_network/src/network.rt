@@ -23,8 +23,8 @@ const LEASED: &str =
 /// How often a node is asked how it stands, at most.
 const ASKS: u32 = 100_000;
 
-/// A command that has the lock to itself where it makes a folder that is not there yet; it ends with
-/// status 9 where somebody else has made it.
+/// A command that has the lock to itself if it makes a folder that is not there yet; it ends with
+/// status 9 if somebody else has made it.
 const WITNESS: &str =
     "mkdir \"$0/witness\" || exit 9; echo taken >>\"$0/log\"; sleep 0.01; rmdir \"$0/witness\"";
 
@@ -63,7 +63,7 @@ fn acts_as_a_guard(rt: HostRuntime) -> Result<(), Fail> {
     Ok(())
 }
 
-/// Tells a copy to do these words, one a line, as often as told.
+/// Tells a copy to do these words, one a line, as often as asked.
 fn tell_words(command: &mut Command, words: &str, times: &str) -> Result<(), AllocError> {
     command
         .arg("network::acts_as_the_program")?
@@ -83,7 +83,7 @@ fn copy_of(rt: &HostRuntime) -> Result<Command, Fail> {
     Ok(command)
 }
 
-/// Starts a copy that does these words, one a line, as often as told.
+/// Starts a copy that does these words, one a line, as often as asked.
 fn copy(rt: &HostRuntime, words: &str, times: &str) -> Result<Child, Fail> {
     let mut command = copy_of(rt)?;
     tell_words(&mut command, words, times)?;
@@ -108,7 +108,7 @@ fn count_of(text: &[u8], line: &str) -> Result<usize, Fail> {
     )
 }
 
-/// Waits until a copy has ended. Whether it told this status once, and this is all that stands on
+/// Waits until a copy has ended. Whether it reported this status once, and this is all that stands on
 /// standard error.
 fn ends(rt: &HostRuntime, child: Child, status: &str, told: &str) -> Result<bool, Fail> {
     let output = child.wait_with_output(rt.alloc())?;
@@ -116,7 +116,7 @@ fn ends(rt: &HostRuntime, child: Child, status: &str, told: &str) -> Result<bool
     Ok(count == 1 && str::from_utf8(output.stderr.as_slice())? == told)
 }
 
-/// Waits until a copy has ended. Whether it told both lines, once each.
+/// Waits until a copy has ended. Whether it reported both lines, once each.
 fn tells(rt: &HostRuntime, child: Child, lines: [&str; 2]) -> Result<bool, Fail> {
     let output = child.wait_with_output(rt.alloc())?;
     let first = count_of(output.stdout.as_slice(), lines[0])?;
@@ -180,14 +180,14 @@ fn start_nodes(rt: &HostRuntime, name: &str, network: &str) -> Result<Nodes, Fai
     })
 }
 
-/// Ends a node by its stop file. Whether this is all that it told on standard error.
+/// Ends a node by its stop file. Whether this is all that it said on standard error.
 fn stops(rt: &HostRuntime, dir: &str, id: u16, child: Child, told: &str) -> Result<bool, Fail> {
     let path = format!(in rt.alloc(); "{dir}/stop-{id}")?;
     fs::write(rt, path.as_str(), "")?;
     ends(rt, child, "status 0", told)
 }
 
-/// Ends all three nodes, and removes their folder. Whether each told this alone.
+/// Ends all three nodes, and removes their folder. Whether each said this alone.
 fn all_stop(rt: &HostRuntime, nodes: Nodes, told: &str) -> Result<bool, Fail> {
     let Nodes {
         folder,
@@ -369,7 +369,7 @@ fn is_missed(rt: &HostRuntime, dir: &str) -> Result<bool, Fail> {
 /// Nobody lends the lock at node 1.
 fn is_not_there(rt: &HostRuntime, dir: &str) -> Result<bool, Fail> {
     let nobody = format!(in rt.alloc();
-        "tokentree: nobody listens at {dir}/desk-1.sock: start node 1\n"
+        "tokentree: nobody listens at {dir}/desk-1.sock: start node 1, if the network has it\n"
     )?;
     ends(
         rt,
@@ -417,7 +417,7 @@ fn is_lost_by_its_lease(rt: &HostRuntime, dir: &str) -> Result<bool, Fail> {
 fn a_lease_ends_and_a_small_capacity_is_told(rt: HostRuntime) -> Result<(), Fail> {
     let nodes = start_nodes(&rt, "lease", LEASED)?;
     let is_lost = is_lost_by_its_lease(&rt, nodes.folder.as_str())?;
-    let told = "tokentree: capacity 63 is less than the 64 frames that may be under way on a link; \
+    let told = "tokentree: capacity 63 is less than 64: 36 frames may be under way on a link; \
         give the network capacity 64 or more\n";
     as_told(all_stop(&rt, nodes, told), &true)?;
     is_told(&is_lost, &true)

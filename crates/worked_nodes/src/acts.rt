@@ -1,4 +1,4 @@
-//! What happens between a node and those at the other ends of its connections, as rows tell it.
+//! What happens between a node and those at the other ends of its connections, as rows give it.
 use crate::stage::{Run, attend_once, turn_once};
 use crate::wires::{Pair, Queue};
 use node_core::Node;

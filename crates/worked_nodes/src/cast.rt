@@ -12,7 +12,7 @@ use topology::Net;
 pub enum Cast {
     /// The root of two nodes, which has the token, and clients.
     Token,
-    /// The same where a loan's lease is one tick.
+    /// The same if a loan's lease is one tick.
     Leased,
     /// The root of two nodes, as it is at the start, and clients.
     New,

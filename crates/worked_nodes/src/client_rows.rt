@@ -76,7 +76,7 @@ fn a_client_that_cannot_be_told_has_left(rt: HostRuntime) -> Result<(), Fail> {
     as_told(wrong_act(rt.alloc(), Cast::Token, &CUT_OFF), &None)
 }
 
-/// The place of the first act that is not as expected where a client writes this and must hear that.
+/// The place of the first act that is not as expected if a client writes this and must hear that.
 fn wrong_in_line<'a>(alloc: Global, line: &'a [u8], want: &'a [u8]) -> Result<Option<usize>, Fail> {
     let acts = [
         Comes,

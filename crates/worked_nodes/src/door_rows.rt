@@ -20,7 +20,7 @@ type Held = (
     (Option<u16>, usize),
 );
 
-/// What a node holds, where this is the id of the other one.
+/// What a node holds, if this is the id of the other one.
 fn held(node: &Node, other: u16) -> Option<Held> {
     if other >= node.ranges().nodes {
         return None;

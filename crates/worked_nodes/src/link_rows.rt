@@ -13,7 +13,7 @@ use topology::Net;
 /// What a new node of three says first.
 const FIRST_FRAME: &[u8] = b"F000000000003ffff0000\n";
 
-/// The place of the first act that is not as expected where this is said as a hello to node 1.
+/// The place of the first act that is not as expected if this is said as a hello to node 1.
 fn wrong_in_hello(alloc: Global, hello: &[u8], is_welcome: bool) -> Result<Option<usize>, Fail> {
     let acts = [
         Comes,
@@ -160,7 +160,7 @@ fn a_node_connects_to_a_lower_neighbour_and_says_who_it_is(rt: HostRuntime) -> R
 }
 
 /// What came of a network that was handed to a node: whether it was taken up, whether node 2 was
-/// told a frame then, and whether its connection was closed.
+/// sent a frame then, and whether its connection was closed.
 type Rewired = Option<(bool, bool, bool)>;
 
 /// Takes up a network, without the contract of that. Whether it did.
@@ -252,7 +252,7 @@ fn rewired_often(
     Ok((unlike, goes_back(alloc, run, pairs)?))
 }
 
-/// What the root of a row told of them.
+/// What the root of a row said of them.
 fn rewired_anew(alloc: Global) -> Result<Told, Fail> {
     on_stage(alloc, Cast::Row(0), 3, |run, links, pairs| {
         rewired_often(alloc, run, links, pairs)

@@ -163,7 +163,7 @@ fn is_part(part: &[Frame], whole: &[Frame]) -> bool {
     found == part.len()
 }
 
-/// Whether the frames are reported as they should be where one call on this side failed, or none did:
+/// Whether the frames are reported as they should be if one call on this side failed, or none did:
 /// all are taken, the link on this side was broken once, or none was, and those pulled are some of
 /// those taken, in their order. With a connection that fails goes one frame at most.
 fn is_right(told: &Told, side: usize, has_failed: bool) -> bool {
@@ -203,7 +203,7 @@ fn calls_of(alloc: Global, side: usize) -> Result<(u64, bool), Fail> {
     Err(Fail::from(AllocError))
 }
 
-/// The first side of which a failure is not told as it should be, or which has too few calls, and
+/// The first side of which a failure is not reported as it should be, or which has too few calls, and
 /// the number of that call.
 fn first_wrong(alloc: Global) -> Result<Option<(usize, u64)>, Fail> {
     for side in 0..2 {

@@ -12,7 +12,7 @@ use topology::Net;
 const SCRAMBLED: [u8; 36] = *b"TKT2\x00\x03\x00\x02\x00\x40\x00\x01\x00\x00\x00\x01\
 \x00\x01\x00\x07\x00\x09\x00\x00\xff\xff\x00\x05\x00\x03\x00\x02\x00\x0c\x00\x0b";
 
-/// How the status of each node begins where it stands as it should.
+/// How the status of each node begins if it stands as it should.
 const PLACES: [&[u8]; 3] = [
     b"node 0 distance 0 parent none ",
     b"node 1 distance 1 parent 0 ",
@@ -86,7 +86,7 @@ fn comes_to(
     false
 }
 
-/// What a started node did not do, where it did not do all.
+/// What a started node did not do, if it did not do all.
 #[derive(Clone, Copy, PartialEq, Eq, Debug)]
 enum Missed {
     /// This node of the row does not come to its distance and parent.
@@ -249,7 +249,7 @@ fn starts_again(alloc: Global, pairs: &[Pair], bytes: &[u8]) -> Result<[Life; 2]
     all_started(alloc, &of_first, ways, pairs, bytes)
 }
 
-/// Whether that stands in the way of the second start, where the store has this many bytes of the
+/// Whether that stands in the way of the second start, if the store has this many bytes of the
 /// state, and nothing is missed.
 fn is_as_told(alloc: Global, kept: usize, want: Option<StartFault>) -> Result<bool, Fail> {
     let bytes = &SCRAMBLED[..kept.min(SCRAMBLED.len())];

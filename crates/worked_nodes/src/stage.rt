@@ -133,7 +133,7 @@ pub fn with_token<'a>(alloc: Global, doors: MemoryDoors<'a>) -> Result<Run<'a>, 
     with_lease(alloc, 0, doors)
 }
 
-/// The root of two nodes, which has the token, where loans have this lease in ticks.
+/// The root of two nodes, which has the token, if loans have this lease in ticks.
 pub fn with_lease<'a>(alloc: Global, lease: i64, doors: MemoryDoors<'a>) -> Result<Run<'a>, Fail> {
     let net = Net::make(alloc, 2, 0, 1, lease, &[(0, 1)])?;
     if net.nodes() == 0 {

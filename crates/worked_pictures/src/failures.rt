@@ -1,4 +1,4 @@
-//! Recordings whose source fails, and recordings where memory is refused.
+//! Recordings whose source fails, and recordings for which memory is refused.
 use crate::rows::{FORGED, two};
 use byte_streams::{Fused, MemorySource, Source};
 use linked_list_allocator::LocalHeap;
@@ -24,8 +24,8 @@ fn recorded<A: Allocator + Copy, R: Source>(alloc: A, net: &Net, source: &mut R)
 /// What is recorded of the forged tokens: nine moments, in columns of four, of four and of one.
 const RECORDED: (u64, usize, Option<usize>) = (8, 3, Some(2));
 
-/// Records the forged tokens on a heap, where a read fails after `calls` reads of at most `piece`
-/// bytes. Whether it failed; none where the answer is not as it should be, or memory stays
+/// Records the forged tokens on a heap; a read fails after `calls` reads of at most `piece`
+/// bytes. Whether it failed; none if the answer is not as it should be, or memory stays
 /// allocated.
 fn read_failed(heap: &LocalHeap, net: &Net, piece: usize, calls: u64) -> Option<bool> {
     let mut source = Fused::new(MemorySource::new(FORGED.as_bytes(), piece), calls);
@@ -86,7 +86,7 @@ fn recorded_within<R: Source>(
 }
 
 /// What is recorded of the forged tokens on the smallest heap that has enough memory, and whether
-/// that has more than 40 units of 16 bytes; none where memory stays allocated, or heaps of less than
+/// that has more than 40 units of 16 bytes; none if memory stays allocated, or heaps of less than
 /// 2000 units do not do. Each heap records from the same source.
 fn recorded_at_last(alloc: Global, net: &Net) -> Result<Option<(Recorded, bool)>, Fail> {
     let mut source = MemorySource::new(FORGED.as_bytes(), 7);

@@ -7,4 +7,6 @@
 #[cfg(test)]
 mod failures;
 #[cfg(test)]
+mod films;
+#[cfg(test)]
 mod rows;

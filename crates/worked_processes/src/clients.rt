@@ -16,7 +16,7 @@ use std::time::{Clock, Duration};
 use std::{env, fs, thread};
 use test_parts::as_told;
 
-/// What a desk of the tests does, one step after the other. Behind the last one it closes the
+/// What a desk of the tests does, one step after the other. After the last one it closes the
 /// connection.
 #[derive(Clone, Copy)]
 enum Step {
@@ -33,7 +33,7 @@ enum Step {
 struct Asked {
     seconds: &'static str,
     keeps: &'static str,
-    /// The program, with a flag and a script where it is a shell.
+    /// The program, with a flag and a script if it is a shell.
     program: &'static str,
     script: &'static str,
 }
@@ -158,7 +158,7 @@ fn lines_of(alloc: Global, folder: &str, asked: Asked) -> Result<String, AllocEr
     format!(in alloc; "{folder}\n{seconds}\n{keeps}\n{program}\n{flag}\n{script}")
 }
 
-/// Starts a copy as a client that is told these lines.
+/// Starts a copy as a client that is sent these lines.
 fn client_of(rt: &HostRuntime, lines: &str, input: Stdio) -> Result<Child, Fail> {
     let test = "clients::acts_as_a_client";
     started(rt, copy(rt, test, &[("LOCK_LINES", lines)])?, input)
@@ -214,7 +214,7 @@ fn serve_one(desk: &UnixListener, steps: &[Step]) -> Result<(), Fail> {
     serve(&mut stream, steps)
 }
 
-/// Does what a row says. Whether the client ends and tells as is wanted.
+/// Does what a row says. Whether the client ends and says what it should.
 fn goes_so(rt: &HostRuntime, folder: &str, desk: &UnixListener, row: &Row) -> Result<bool, Fail> {
     let client = client(rt, folder, row.asked, Stdio::null())?;
     serve_one(desk, row.steps)?;
@@ -261,7 +261,7 @@ const LOST: Step = Step::Says(b"lost\n");
 /// A lock that is taken and given back.
 const WHOLE: [Step; 5] = [LOCK, GRANTED, UNLOCK, RELEASED, Step::SeesOff];
 
-/// No program, which is waited for without an end, and ended where the lock is lost.
+/// No program, which is waited for without an end, and ended if the lock is lost.
 const PLAIN: Asked = Asked {
     seconds: "",
     keeps: "",
@@ -452,7 +452,8 @@ fn tells_why_the_lock_is_not_held(rt: HostRuntime) -> Result<(), Fail> {
 
 /// The file of the socket is still there, and nobody listens; then it goes too; then the folder.
 fn serves_nobody(rt: &HostRuntime, folder: &str) -> Result<(), Fail> {
-    let nobody = "tokentree: nobody listens at lock-not-held/desk-0.sock: start node 0\n";
+    let nobody =
+        "tokentree: nobody listens at lock-not-held/desk-0.sock: start node 0, if the network has it\n";
     no_service(rt, folder, nobody)?;
     fs::remove_file(rt, "lock-not-held/desk-0.sock")?;
     no_service(rt, folder, nobody)?;
@@ -460,7 +461,7 @@ fn serves_nobody(rt: &HostRuntime, folder: &str) -> Result<(), Fail> {
     no_service(rt, folder, "tokentree: there is no folder lock-not-held\n")
 }
 
-/// A client of a folder in which nobody serves ends with status 125, and tells this.
+/// A client of a folder in which nobody serves ends with status 125, and says this.
 fn no_service(rt: &HostRuntime, folder: &str, told: &str) -> Result<(), Fail> {
     let asked = Asked {
         script: "exit 0",

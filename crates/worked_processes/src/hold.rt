@@ -2,7 +2,7 @@
 use std::alloc::AllocError;
 use std::test::Fail;
 
-/// What was made, a command say, behind a change that may fail.
+/// What was made, a command say, after a change that may fail.
 ///
 /// Whoever holds such a value and may give up is dear to prove; here it is held once for all.
 pub fn changed<T: Drop, F: FnOnce(&mut T) -> Result<(), AllocError>>(
@@ -16,7 +16,7 @@ pub fn changed<T: Drop, F: FnOnce(&mut T) -> Result<(), AllocError>>(
     Ok(held)
 }
 
-/// Fails with these words where it is not so.
+/// Fails with these words if it is not so.
 pub fn hold(is_so: bool, otherwise: &'static str) -> Result<(), Fail> {
     if is_so {
         Ok(())

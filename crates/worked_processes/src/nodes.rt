@@ -67,7 +67,7 @@ fn run_node(
 }
 
 /// Runs node `id` in the folder that the environment says. A node that another copy keeps running
-/// tells first which process it is.
+/// says first which process it is.
 fn run_told(rt: &HostRuntime, id: u16) -> Result<Result<(), NodeFault>, Fail> {
     let dir = env::var(rt, "TOKENTREE_DIR")?;
     let is_child = env::var(rt, "TOKENTREE_CHILD").is_ok();
@@ -77,7 +77,7 @@ fn run_told(rt: &HostRuntime, id: u16) -> Result<Result<(), NodeFault>, Fail> {
     run_node(rt, dir.as_str(), id, is_child)
 }
 
-/// What a copy of this program does, where the environment says which node it is.
+/// What a copy of this program does, if the environment says which node it is.
 #[test]
 fn acts_as_a_node(rt: HostRuntime) -> Result<(), Fail> {
     if let Some(id) = told_id(&rt)? {
@@ -99,15 +99,15 @@ fn write_process(rt: &HostRuntime, path: &str) -> Result<(), Fail> {
     Ok(fs::write(rt, path, told.as_str())?)
 }
 
-/// Where a node that another copy keeps running tells which process it is.
+/// Where a node that another copy keeps running says which process it is.
 fn pid_file(alloc: Global, dir: &str, id: u16) -> Result<String, AllocError> {
     format!(in alloc; "{dir}/pid-{id}")
 }
 
-/// What a node prints first where it has no state file.
+/// What a node prints first if it has no state file.
 pub const ABSENT: [&str; 2] = ["start default Absent", "ready"];
 
-/// What it prints first where its state was loaded.
+/// What it prints first if its state was loaded.
 const LOADED: [&str; 2] = ["start loaded", "ready"];
 
 /// Starts a node's process, which is told its number.
@@ -190,7 +190,7 @@ pub fn rest<R: Read>(alloc: Global, reader: &mut R) -> Result<Vec<u8>, Fail> {
     Ok(bytes)
 }
 
-/// Whether a process tells just this on standard error, until it ends.
+/// Whether a process says just this on standard error, until it ends.
 fn tells(rt: &HostRuntime, child: &mut Child, told: &str) -> Result<bool, Fail> {
     let Some(errors) = &mut child.stderr else {
         return Ok(false);
@@ -204,7 +204,7 @@ fn ends_well(child: &mut Child) -> Result<bool, Fail> {
 }
 
 /// Makes a node's stop file. Whether its process ends with status 0, and removes that file and its
-/// sockets, and has told just this on standard error.
+/// sockets, and has said just this on standard error.
 fn stops_with(
     rt: &HostRuntime,
     dir: &str,
@@ -216,7 +216,7 @@ fn stops_with(
     Ok(tells(rt, child, told)? && ends_well(child)? && !leaves_files(rt, dir, id)?)
 }
 
-/// The same where it told nothing there.
+/// The same if it said nothing there.
 pub fn stops(rt: &HostRuntime, dir: &str, id: u16, child: &mut Child) -> Result<bool, Fail> {
     stops_with(rt, dir, id, child, "")
 }
@@ -431,20 +431,20 @@ fn serve_and_stop(
     )
 }
 
-/// What a node tells that takes up the edge which makes the line a ring.
+/// What a node says that takes up the edge which makes the line a ring.
 fn rewired(alloc: Global, dir: &str, id: u16) -> Result<String, AllocError> {
     format!(in alloc;
         "tokentree: node {id} takes up {dir}.toml: edges that came: [0, 2]; that went: none\n"
     )
 }
 
-/// Makes the stop file of a node. Whether it ends well, and has told just that it took up an edge.
+/// Makes the stop file of a node. Whether it ends well, and has said just that it took up an edge.
 fn stops_rewired(rt: &HostRuntime, dir: &str, id: u16, child: &mut Child) -> Result<bool, Fail> {
     let told = rewired(rt.alloc(), dir, id)?;
     stops_with(rt, dir, id, child, told.as_str())
 }
 
-/// The same of a node that may be stopped before it reads the file again: then it tells nothing.
+/// The same of a node that may be stopped before it reads the file again: then it says nothing.
 fn stops_late(rt: &HostRuntime, dir: &str, id: u16, child: &mut Child) -> Result<bool, Fail> {
     stop(rt, dir, id)?;
     let Some(errors) = &mut child.stderr else {
@@ -561,12 +561,11 @@ fn keeps_its_sockets(rt: &HostRuntime, dir: &str) -> Result<UnixStream, Fail> {
     silent_neighbour(rt, dir)
 }
 
-/// What a node tells whose links hold 63 frames.
-const SMALL: &str =
-    "tokentree: capacity 63 is less than the 64 frames that may be under way on a link; \
+/// What a node says whose links hold 63 frames.
+const SMALL: &str = "tokentree: capacity 63 is less than 64: 36 frames may be under way on a link; \
     give the network capacity 64 or more\n";
 
-/// A node tells as it stops what its links hold, and few frames are under way to a neighbour that
+/// A node says as it stops what its links hold, and few frames are under way to a neighbour that
 /// reads nothing.
 fn stop_beside(
     rt: &HostRuntime,
@@ -590,7 +589,7 @@ fn keep_and_stop(rt: &HostRuntime, dir: &str, node: &mut Child) -> Result<(), Fa
     stop_beside(rt, dir, node, &mut neighbour)
 }
 
-/// The same of node 0, which starts where the folder is not there.
+/// The same of node 0, which starts if the folder is not there.
 fn keep_from_start(rt: &HostRuntime, dir: &str) -> Result<(), Fail> {
     let mut node = start(rt, dir, 0, ABSENT)?;
     keep_and_stop(rt, dir, &mut node)
@@ -658,7 +657,7 @@ fn run_told_up(rt: &HostRuntime) -> Result<Result<(), NodeFault>, Fail> {
     }
 }
 
-/// What a copy of this program does, where the environment says in which folder.
+/// What a copy of this program does, if the environment says in which folder.
 #[test]
 fn acts_as_up(rt: HostRuntime) -> Result<(), Fail> {
     as_told(run_told_up(&rt), &Ok(()))
@@ -727,7 +726,7 @@ fn falls_silent(rt: &HostRuntime, dir: &str, id: u16) -> Result<bool, Fail> {
     Ok(false)
 }
 
-/// Whether each of these lines comes, one behind the other.
+/// Whether each of these lines comes, one after another.
 fn all_come(rt: &HostRuntime, child: &mut Child, lines: &[&str]) -> Result<bool, Fail> {
     for line in lines {
         if !says(rt, child, *line)? {
@@ -944,7 +943,7 @@ fn says_all_are_ready(rt: &HostRuntime, child: &mut Child) -> Result<bool, Fail>
     Ok(false)
 }
 
-/// Kills a copy once it has told that all nodes are ready.
+/// Kills a copy once it has said that all nodes are ready.
 fn kill_when_ready(rt: &HostRuntime, up: &mut Child) -> Result<(), Fail> {
     hold(says_all_are_ready(rt, up)?, "not all nodes are ready")?;
     up.kill()?;
@@ -962,7 +961,7 @@ fn first_loud(rt: &HostRuntime, dir: &str) -> Result<Option<u16>, Fail> {
     Ok(None)
 }
 
-/// All nodes end where the copy that keeps them running is killed.
+/// All nodes end if the copy that keeps them running is killed.
 fn end_by_kill(rt: &HostRuntime, dir: &str) -> Result<(), Fail> {
     let mut up = keeper(rt, dir)?;
     kill_when_ready(rt, &mut up)?;
@@ -974,7 +973,7 @@ fn nodes_end_where_up_is_killed(rt: HostRuntime) -> Result<(), Fail> {
     in_folder(&rt, "killed", LINE, |dir| end_by_kill(&rt, dir))
 }
 
-/// Whether why a node does not run is told so.
+/// Whether why a node does not run is reported so.
 fn is_fault_line(alloc: Global, fault: NodeFault, want: &str) -> Result<bool, AllocError> {
     let refusal = Refusal {
         file: "a.toml",
@@ -985,7 +984,7 @@ fn is_fault_line(alloc: Global, fault: NodeFault, want: &str) -> Result<bool, Al
     Ok(format!(in alloc; "{refusal}")?.as_str() == want)
 }
 
-/// Why a node does not run, and how it is told.
+/// Why a node does not run, and how that is reported.
 const FAULTS: [(NodeFault, &str); 9] = [
     (
         NodeFault::Displaced,
@@ -1025,7 +1024,7 @@ const FAULTS: [(NodeFault, &str); 9] = [
     ),
 ];
 
-/// The place of the first of these that is not told so.
+/// The place of the first of these that is not reported so.
 fn first_untold(alloc: Global) -> Result<Option<usize>, AllocError> {
     for (place, (fault, want)) in FAULTS.iter().enumerate() {
         if !is_fault_line(alloc, *fault, *want)? {
@@ -1045,12 +1044,12 @@ fn is_spelled<D: Display + Drop>(alloc: Global, line: D, want: &str) -> Result<b
     Ok(format!(in alloc; "{line}")?.as_str() == want)
 }
 
-/// What is told where links hold one frame.
+/// What is reported if links hold one frame.
 const ONE: &str =
-    "tokentree: capacity 1 is less than the 64 frames that may be under way on a link; give the \
+    "tokentree: capacity 1 is less than 64: 36 frames may be under way on a link; give the \
     network capacity 64 or more";
 
-/// What is told of a node that was killed.
+/// What is said of a node that was killed.
 const KILLED: &str = "node 2 was ended by signal 9, and is started again";
 
 #[test]

@@ -10,7 +10,7 @@ use test_parts::is_told;
 /// and the status of the line with the most.
 type Row = (&'static str, &'static str, &'static str, &'static str, u8);
 
-/// No file of these lines is there: so where the number is taken the status is 1, or 0 where the
+/// No file of these lines is there: so if the number is taken the status is 1, or 0 if the
 /// line prints no junk.
 const NUMBERS: [Row; 19] = [
     ("draw absent.toml - --columns ", "", "1200", "1201", 1),

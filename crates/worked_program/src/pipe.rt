@@ -30,7 +30,7 @@ fn pipe_is_no_file<R: Runtime>(rt: &R) -> Result<[bool; 3], Fail> {
     is_no_file(rt, pipe.as_str())
 }
 
-/// Where a pipe were waited for, nobody would ever write to it.
+/// If a pipe were waited for, nobody would ever write to it.
 #[test]
 fn a_pipe_is_no_network_file(rt: HostRuntime) -> Result<(), Fail> {
     as_told(pipe_is_no_file(&rt), &[true; 3])

@@ -163,7 +163,7 @@ const REFUSED: [(&str, &str); 12] = [
     ),
 ];
 
-/// The fault line of `bound` on a file; nothing where there is none.
+/// The fault line of `bound` on a file; nothing if there is none.
 fn fault_line<R: Files + Print + AllocGlobal>(rt: &R, path: &str) -> Result<String, AllocError> {
     match bound::run(rt, path, false, None) {
         Ok(_) => Ok(String::new(rt.alloc())),

@@ -1,4 +1,4 @@
-//! Command lines as rows tell them.
+//! Command lines as rows give them.
 use command_line::{Runtime, run_words};
 use std::alloc::AllocError;
 use std::process::ExitCode;

@@ -11,7 +11,7 @@ fn send(from: &Port, link: &mut Link) {
     let _ = link.put(Item::Frame(from.frame()));
 }
 
-/// Takes the oldest item of a link, if any, where `present` is what the taker says then.
+/// Takes the oldest item of a link, if any; `present` is what the taker says then.
 fn take(link: &mut Link, to: &mut Port, present: Payload) {
     if let Some(Item::Frame(frame)) = link.take() {
         let ranges = to.ranges();

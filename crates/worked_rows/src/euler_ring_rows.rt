@@ -100,7 +100,7 @@ fn in_square(node: u16) -> Option<TreeNeighbours> {
     Some(tree_neighbours(parent_in_square(node), node, &neighbours, parent_in_square))
 }
 
-/// Where the tour goes on that came to a node from this one; none where no tour does.
+/// Where the tour goes on that came to a node from this one; none if no tour does.
 fn onward(from: u16, here: u16) -> Option<u16> {
     let tree = in_square(here)?;
     if tree.contains(from) {

@@ -170,7 +170,7 @@ fn hellos(rt: HostRuntime) -> Result<(), Fail> {
 /// A line of junk that a good line joins, and then a good line.
 const STREAM: &[u8] = b"xyzF0000000000010000000c\nF0000000000010000000c\n";
 
-/// Feeds a reader. Rows need nothing of what its contract says, and where it is called from here
+/// Feeds a reader. Rows need nothing of what its contract says, and if it is called from here
 /// the prover need not carry that along.
 fn feed<A: Allocator>(
     reader: &mut LineReader,
@@ -237,7 +237,7 @@ fn every_cut_gives_the_same_frame(rt: HostRuntime) -> Result<(), Fail> {
     as_told(first_wrong_cut(rt.alloc()), &None)
 }
 
-/// The first byte of the stream that ends a frame and is not its last one, or its last one where
+/// The first byte of the stream that ends a frame and is not its last one, or its last one if
 /// that ends none.
 fn first_wrong_byte(alloc: Global) -> Result<Option<usize>, Fail> {
     let net = line_of_three(alloc)?;
@@ -334,7 +334,7 @@ fn read_within(alloc: Global, bytes: usize, net: &Net) -> Result<Outcome, AllocE
 }
 
 /// How many heaps, each 16 bytes larger than the one before it, refuse the second piece until one
-/// has room for both; none where one of them reads what it should not, or all refuse.
+/// has room for both; none if one of them reads what it should not, or all refuse.
 fn refusals(alloc: Global) -> Result<Option<u32>, Fail> {
     let net = line_of_three(alloc)?;
     let mut refused = 0u32;

@@ -17,7 +17,7 @@ fn on_heap<F: Fn(&LocalHeap) -> Result<Option<bool>, Fail>>(
 }
 
 /// In units of 16 bytes, the size of the least heap that does not refuse a deed, and whether it was
-/// done as expected there and each heap so far was given back whole; 0 where each below 200 refuses it.
+/// done as expected there and each heap so far was given back whole; 0 if each below 200 refuses it.
 pub fn least_heap<F: Fn(&LocalHeap) -> Result<Option<bool>, Fail>>(
     alloc: Global,
     deed: F,

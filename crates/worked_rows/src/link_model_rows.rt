@@ -124,7 +124,7 @@ const WITHOUT_MEMORY: [Deed; 10] = [
 ];
 
 /// Whether a link of four places answers each of these deeds so on a heap of which nothing else is
-/// free. None where the heap has no room for it.
+/// free. None if the heap has no room for it.
 fn is_right_on_full(alloc: Global, heap: &LocalHeap) -> Result<Option<bool>, Fail> {
     let Ok(mut link) = Link::new(heap, 4) else {
         return Ok(None);

@@ -202,7 +202,7 @@ fn a_queue_is_written_where_it_fits(rt: HostRuntime) -> Result<(), Fail> {
 const USE: [Deed<'static>; 3] = [AllAsk, Ticks(true, DeskAct::Granted(0)), Leaves(1, Ok(()))];
 
 /// Whether a desk answers each of these deeds so, and takes nothing more of its heap for them. None
-/// where the heap has no room for it.
+/// if the heap has no room for it.
 fn is_used(heap: &LocalHeap) -> Option<bool> {
     let Ok(mut desk) = Desk::new(heap, 2) else {
         return None;

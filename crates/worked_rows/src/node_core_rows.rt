@@ -259,7 +259,7 @@ fn refuses_what_does_not_fit(node: &mut Node) -> bool {
 const NEW_LINE: &str = "node 1 distance 2 parent none token no lent none waiting 0\n";
 
 /// What noise and writes out of range leave of a node: whether each write was refused, what was
-/// written where it fits, and whether the status line is that of a new node.
+/// written if it fits, and whether the status line is that of a new node.
 fn left_by(node: &mut Node) -> (bool, Option<(u16, u16, u16)>, bool) {
     take(node, 0, Item::Noise);
     let is_refused = refuses_what_does_not_fit(node);
@@ -295,7 +295,7 @@ fn is_filled<A: Allocator + Copy>(node: &mut Node<A>) -> bool {
     takes && node.ask(64) == Err(AskFault::Full) && node.waiting() == 64
 }
 
-/// Whether a new node does so: no call but `new` may ask for memory. None where that is refused it.
+/// Whether a new node does so: no call but `new` may ask for memory. None if that is refused it.
 fn used<A: Allocator + Copy>(alloc: A, net: &Net) -> Option<bool> {
     match Node::new(alloc, net, net.root()) {
         Ok(mut node) => Some(is_filled(&mut node)),

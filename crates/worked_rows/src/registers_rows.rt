@@ -145,7 +145,7 @@ fn one_port_alone_is_written(rt: HostRuntime) -> Result<(), Fail> {
 }
 
 /// Uses the registers of the root, and says whether its two neighbours and no other node could be
-/// written; none where their memory is refused.
+/// written; none if their memory is refused.
 fn used<A: Allocator + Copy>(alloc: A, net: &Net) -> Option<bool> {
     match Registers::new(alloc, net, net.root()) {
         Ok(mut registers) => Some(are_written(&mut registers)),

@@ -25,7 +25,7 @@ fn far<A: Allocator + Copy>(world: &World<A>) -> Option<(u16, Option<u16>, bool)
 }
 
 /// Lets the event of a line happen to a judge's world, and says at how many tallies the judge has
-/// looked; none where it is refused, or the line spells none.
+/// looked; none if it is refused, or the line spells none.
 fn looked<A: Allocator + Copy>(judge: &mut Judge<A>, line: &str) -> Option<u32> {
     judge.step(&event_of(line)?).ok()?;
     Some(judge.looked())

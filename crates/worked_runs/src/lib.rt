@@ -1,4 +1,4 @@
-//! Worked runs: what whole networks do, event by event, judged, and told, with every expected value
+//! Worked runs: what whole networks do, event by event, judged, and reported, with every expected value
 //! computed by hand.
 //!
 //! Tests stand here: of the events text, of worlds and their judge, and of woven lists; and what

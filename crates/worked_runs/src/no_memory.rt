@@ -16,7 +16,7 @@ fn square(alloc: Global) -> Result<Net, NetFault> {
     net_of(alloc, 4, 0, &[(0, 1), (0, 2), (1, 3), (2, 3)])
 }
 
-/// What happens on the square where one pair of links is spare, and what is answered: edges join
+/// What happens on the square if one pair of links is spare, and what is answered: edges join
 /// and go, and items are sent over them.
 const CHANGES: [(&str, Result<(), EventFault>); 14] = [
     ("harm join 1 1", Err(EventFault::OutOfRange)),
@@ -59,13 +59,13 @@ fn with_a_spare<A: Allocator + Copy>(alloc: Global, of: A) -> Result<World<A>, F
     Ok(World::with_spares(of, &net, 1)?)
 }
 
-/// What a judge answers to the event of a line; none where the line spells none.
+/// What a judge answers to the event of a line; none if the line spells none.
 fn judged<A: Allocator + Copy>(judge: &mut Judge<A>, line: &str) -> Option<Result<(), EventFault>> {
     let event = event_of(line)?;
     Some(judge.step(&event))
 }
 
-/// Whether a judge answers each change as it is told, and counts those that are refused.
+/// Whether a judge answers each change as it is said, and counts those that are refused.
 fn all_judged_by<A: Allocator + Copy>(judge: &mut Judge<A>) -> bool {
     let mut well = true;
     for (line, answer) in CHANGES {
@@ -85,7 +85,7 @@ fn show<A: Allocator + Copy>(world: &World<A>, sink: &mut MemorySink<A>) -> Resu
     state_text(world, 5, sink)
 }
 
-/// Whether a world answers each change as it is told, and is shown as it is then.
+/// Whether a world answers each change as it is said, and is shown as it is then.
 fn is_shown_behind_changes<A: Allocator + Copy>(
     world: &mut World<A>,
     sink: &mut MemorySink<A>,

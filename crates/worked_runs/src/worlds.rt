@@ -1,5 +1,5 @@
-//! Networks, worlds and events as rows tell them. Rows need nothing of what the contracts of these
-//! calls say, and where they are called from here the prover need not carry that along.
+//! Networks, worlds and events as rows give them. Rows need nothing of what the contracts of these
+//! calls say, and if they are called from here the prover need not carry that along.
 use run_model::{Event, EventFault};
 use std::alloc::{AllocError, Allocator, Global};
 use topology::{Net, NetFault};
@@ -36,7 +36,7 @@ pub fn step<A: Allocator + Copy>(world: &mut World<A>, event: &Event) -> Result<
     world.step(event)
 }
 
-/// What a world answers to the event of a line; none where the line spells none.
+/// What a world answers to the event of a line; none if the line spells none.
 pub fn told<A: Allocator + Copy>(
     world: &mut World<A>,
     line: &str,

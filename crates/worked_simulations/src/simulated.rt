@@ -22,7 +22,7 @@ mod sweeps;
 const PIECES: [usize; 3] = [1, 7, 4096];
 
 /// Room for every output.
-const ROOM: usize = 4096;
+const ROOM: usize = 8192;
 
 /// What no events lead to.
 const AT_START: &str = "\
@@ -41,7 +41,7 @@ struct Row<'a> {
     lease: i64,
     /// Pieces of the text, each with how often it comes.
     text: &'a [(&'a str, usize)],
-    /// The lines that tell what is refused.
+    /// The lines that say what is refused.
     refusals: &'a str,
     /// The state after them.
     state: &'a str,
@@ -64,7 +64,7 @@ fn joined(alloc: Global, pieces: &[(&str, usize)]) -> Result<String, AllocError>
     Ok(whole)
 }
 
-/// Simulates. Rows need nothing of what its contract says, and where it is called so the prover
+/// Simulates. Rows need nothing of what its contract says, and if it is called so the prover
 /// need not carry that along.
 fn run<A: Allocator + Copy, R: Source, W: Sink>(
     alloc: A,

@@ -1,5 +1,5 @@
 //! Damage between runs.
-use crate::ran::{LINE, happen, judged_right, ran, start, tree};
+use crate::ran::{LINE, happen, judged_right, made, ran, start, tree};
 use damage_tool::scramble_world;
 use rand_core::SeedableRng;
 use rand_pcg::Lcg64Xsh32;
@@ -54,14 +54,6 @@ fn is_right(world: &World) -> [bool; 3] {
     ]
 }
 
-/// What was made; what stands in the way of it is dropped, whatever it is.
-fn made<M: Drop, E: Drop>(made: Result<M, E>) -> Result<M, Fail> {
-    match made {
-        Ok(made) => Ok(made),
-        Err(_refused) => Err(Fail::new("the run was refused")),
-    }
-}
-
 /// Runs 4,000 turns in step. What came of them, and whether the gate held.
 fn in_step<R: Threads + Wait + Sync>(
     rt: &R,
@@ -77,7 +69,7 @@ fn in_step<R: Threads + Wait + Sync>(
 /// it, from the default world, and of the world that came.
 type Held = ([bool; 2], bool, [bool; 3], [bool; 3]);
 
-/// What is held where all is right.
+/// What is held if all is right.
 const RIGHT: Held = ([true; 2], true, [true; 3], [true; 3]);
 
 /// Puts what nodes did to the end of the history. What a judge says of it, and what of the world.

@@ -7,6 +7,8 @@
 #[cfg(test)]
 mod damaged;
 #[cfg(test)]
+mod full;
+#[cfg(test)]
 mod meet;
 #[cfg(test)]
 mod memory;
@@ -18,3 +20,5 @@ mod pace;
 mod ran;
 #[cfg(test)]
 mod refused;
+#[cfg(test)]
+mod sameness;

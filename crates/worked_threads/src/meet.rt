@@ -7,7 +7,7 @@ use std::thread::Threads;
 use test_parts::as_told;
 use thread_net::{Meet, RunFault, Woven};
 
-/// How often each of three nodes ticked in a run; none where the run was refused.
+/// How often each of three nodes ticked in a run; none if the run was refused.
 fn ticked(ended: &Result<Woven, RunFault>) -> Option<[usize; 3]> {
     match ended {
         Ok(woven) => Some(ticks(woven.events.as_slice())),

@@ -29,7 +29,7 @@ const EVENTS: [Event; 3] = [
     Event::Send { from: 1, to: 0 },
 ];
 
-/// How far it came where this world was sent back, if one was, which was shown by that text.
+/// How far it came if this world was sent back, if one was, which was shown by that text.
 fn reach_of<A: Allocator + Copy>(
     alloc: Global,
     back: Option<&World<A>>,

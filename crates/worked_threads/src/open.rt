@@ -14,7 +14,7 @@ fn two(alloc: Global) -> Result<World, Fail> {
     Ok(start(alloc, &net)?)
 }
 
-/// How often each of two nodes ticked in a run, and sent; none where the run was refused.
+/// How often each of two nodes ticked in a run, and sent; none if the run was refused.
 fn counted(ended: &Result<Woven, RunFault>) -> Option<[usize; 4]> {
     let Ok(woven) = ended else {
         return None;

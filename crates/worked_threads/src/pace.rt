@@ -1,19 +1,21 @@
 //! Runs in which no node is more than one turn ahead of another.
-use crate::ran::{LINE, Tree, happen, is_same, judged_right, lend, line, ran, ticks, tree};
+use crate::ran::{LINE, Tree, happen, judged_right, line, made, ran, ticks, tree};
+use crate::sameness::is_same_world;
 use std::alloc::Global;
 use std::sync::Wait;
 use std::test::Fail;
 use std::thread::Threads;
 use test_parts::as_told;
-use thread_net::{Pace, RunFault, Woven};
+use thread_net::{Pace, Woven};
 use world::{Event, World};
 
 /// Whether each of these events is accepted by a default line, and the last leads to the world that
-/// came.
-fn replayed_right(alloc: Global, events: &[Event], came: &World) -> Result<[bool; 2], Fail> {
+/// came, in every field of every node and every item under way.
+fn replayed_right(alloc: Global, events: &[Event], came: World) -> Result<[bool; 2], Fail> {
     let mut replayed = line(alloc)?;
     let accepted = happen(&mut replayed, events);
-    Ok([accepted, is_same(alloc, &replayed, came)?])
+    let is_same = is_same_world(&replayed.into_parts(), &came.into_parts());
+    Ok([accepted, is_same])
 }
 
 /// How often each node ticked, the tree in the end, and whether the events lead there, by a judge
@@ -21,25 +23,20 @@ fn replayed_right(alloc: Global, events: &[Event], came: &World) -> Result<[bool
 type Told = ([usize; 3], Option<Tree>, [bool; 3], [bool; 2]);
 
 /// How a run is reported.
-fn told_of(alloc: Global, ended: &Result<Woven, RunFault>) -> Result<Told, Fail> {
-    let Ok(woven) = ended else {
-        return Err(Fail::new("the run was refused"));
-    };
-    let events = woven.events.as_slice();
-    let judged = judged_right(alloc, line(alloc)?, events, &woven.world)?;
-    let replayed = replayed_right(alloc, events, &woven.world)?;
-    Ok((ticks(events), tree(&woven.world), judged, replayed))
+fn told_of(alloc: Global, woven: Woven) -> Result<Told, Fail> {
+    let Woven { world, events } = woven;
+    let tree = tree(&world);
+    let judged = judged_right(alloc, line(alloc)?, &events, &world)?;
+    let replayed = replayed_right(alloc, &events, world)?;
+    Ok((ticks(&events), tree, judged, replayed))
 }
 
 /// How 4,000 turns in step are reported, and whether the gate gave up.
 fn in_step<R: Threads + Wait + Sync>(rt: &R, alloc: Global) -> Result<(Told, bool), Fail> {
     let world = line(alloc)?;
     let gate = Pace::new(3);
-    let told = lend(
-        ran(rt, alloc, world, 4000, &gate),
-        |ended| told_of(alloc, ended),
-    );
-    Ok((told?, gate.gave_up()))
+    let woven = made(ran(rt, alloc, world, 4000, &gate))?;
+    Ok((told_of(alloc, woven)?, gate.gave_up()))
 }
 
 /// From the default state, 217 sweeps are enough for the line, and 4,000 turns in step hold them.

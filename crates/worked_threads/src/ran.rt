@@ -1,5 +1,5 @@
 //! Networks, worlds and runs as tests use them. Tests need nothing of what the contracts of these
-//! calls say, and where they are called from here the prover need not carry that along.
+//! calls say, and if they are called from here the prover need not carry that along.
 use std::alloc::{AllocError, Allocator, Global};
 use std::sync::Wait;
 use std::test::Fail;
@@ -41,6 +41,14 @@ pub fn lend<H: Drop, T, F: FnOnce(&H) -> T>(held: H, deed: F) -> T
     requires { F.IsAlwaysCallable deed }
 {
     deed(&held)
+}
+
+/// What was made; what stands in the way of it is dropped, whatever it is.
+pub fn made<M: Drop, E: Drop>(made: Result<M, E>) -> Result<M, Fail> {
+    match made {
+        Ok(made) => Ok(made),
+        Err(_refused) => Err(Fail::new("the run was refused")),
+    }
 }
 
 /// Runs each node of a world on a thread of its own.
@@ -114,7 +122,7 @@ pub fn judged_right(
     Ok([report.refused == 0, report.sweeps >= 217, is_same])
 }
 
-/// The tree of three nodes; none where there are other nodes.
+/// The tree of three nodes; none if there are other nodes.
 pub fn tree(world: &World) -> Option<Tree> {
     if world.net().nodes() != 3 {
         return None;

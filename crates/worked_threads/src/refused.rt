@@ -13,10 +13,10 @@ use thread_net::{Open, RunFault, Woven};
 use world::Event;
 
 /// The variable that asks a copy of this program to run nodes.
-const COPY: &str = "TOKENTREE_TEST_COPY";
+pub const COPY: &str = "TOKENTREE_TEST_COPY";
 
 /// How often each of two nodes ticked.
-fn ticks(woven: &Woven) -> (usize, usize) {
+pub fn ticks(woven: &Woven) -> (usize, usize) {
     let events = woven.events.as_slice();
     (
         count(Event::Tick { node: 0 }, events),
@@ -25,7 +25,7 @@ fn ticks(woven: &Woven) -> (usize, usize) {
 }
 
 /// What became of a run of two nodes: whether a thread was refused, and how often each ticked; none
-/// where memory was refused.
+/// if memory was refused.
 fn told(ended: &Result<Woven, RunFault>) -> Option<(bool, (usize, usize))> {
     match ended {
         Ok(woven) => Some((false, ticks(woven))),
@@ -54,8 +54,8 @@ fn in_words(told: Option<(bool, (usize, usize))>) -> &'static str {
     }
 }
 
-/// In a copy of this program, two nodes run 50 turns, and what became of it is printed. Where a
-/// start is refused, a node that was started before it does all its turns, or none where it sees
+/// In a copy of this program, two nodes run 50 turns, and what became of it is printed. If a
+/// start is refused, a node that was started before it does all its turns, or none if it sees
 /// the refusal first.
 #[test]
 fn in_a_copy(rt: HostRuntime) -> Result<(), Fail> {
@@ -67,32 +67,38 @@ fn in_a_copy(rt: HostRuntime) -> Result<(), Fail> {
     Ok(())
 }
 
-/// The line by which a shell becomes its first word with as many kilobytes of addresses as the
-/// second says, 8,192 of them a thread's stack.
-const LIMITED: &str = "ulimit -S -s 8192; ulimit -v $1; exec \"$0\" refused::in_a_copy";
+/// The line by which a shell becomes its first word, with the third as its argument and as many
+/// kilobytes of addresses as the second says, 8,192 of them a thread's stack.
+const LIMITED: &str = "ulimit -S -s 8192; ulimit -v $1; exec \"$0\" $2";
 
-/// The words for that shell.
-fn add_words(command: &mut Command, program: Path, kilobytes: &str) -> Result<(), Fail> {
+/// The words for that shell, and the variable that asks the copy to run nodes.
+fn add_words(
+    command: &mut Command,
+    program: Path,
+    kilobytes: &str,
+    test: &str,
+) -> Result<(), Fail> {
     command.arg("-c")?.arg(LIMITED)?.arg(program)?;
-    command.arg(kilobytes)?.env(COPY, "1")?;
+    command.arg(kilobytes)?.arg(test)?.env(COPY, "1")?;
     Ok(())
 }
 
-/// A shell that becomes a copy of this program with as many kilobytes.
-fn limited(alloc: Global, program: Path, kilobytes: &str) -> Result<Command, Fail> {
+/// A shell that becomes a copy of this program with as many kilobytes, for one test.
+fn limited(alloc: Global, program: Path, kilobytes: &str, test: &str) -> Result<Command, Fail> {
     let mut command = Command::new(alloc, "sh")?;
-    add_words(&mut command, program, kilobytes)?;
+    add_words(&mut command, program, kilobytes, test)?;
     Ok(command)
 }
 
-/// Whether a copy of this program that has as many kilobytes writes this first.
-fn copy_says<R: Processes + AllocGlobal>(
+/// Whether a copy of this program that has as many kilobytes, for one test, writes this first.
+pub fn copy_says<R: Processes + AllocGlobal>(
     rt: &R,
     program: Path,
     kilobytes: &str,
+    test: &str,
     text: &str,
 ) -> Result<bool, Fail> {
-    let output = limited(rt.alloc(), program, kilobytes)?.output(rt)?;
+    let output = limited(rt.alloc(), program, kilobytes, test)?.output(rt)?;
     Ok(output.stdout.as_slice().starts_with(text.as_bytes()))
 }
 
@@ -107,7 +113,7 @@ const ROWS: [(&str, &str); 3] = [
 fn first_unlike<R: Files + Processes + AllocGlobal>(rt: &R) -> Result<Option<usize>, Fail> {
     let program = env::current_exe(rt)?;
     for (at, (kilobytes, text)) in ROWS.iter().enumerate() {
-        if !copy_says(rt, program.as_path(), kilobytes, text)? {
+        if !copy_says(rt, program.as_path(), kilobytes, "refused::in_a_copy", text)? {
             return Ok(Some(at));
         }
     }

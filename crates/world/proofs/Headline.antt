@@ -1,13 +1,13 @@
 -- What the counted sweeps of a run say of the world that it has led to.
 use Rattle.std.proofs.Common.{◌≡◌, ◌∙◌, sym, ap, subst, ℕ, ◌+◌, ◌*◌, ◌≤◌, IsTrue, List, Contains, arith}
-use Rattle.run_model.specs.World.{World, IsWorldInRange}
-use Rattle.run_model.specs.Run.{run, IsUndamaged}
-use Rattle.run_model.specs.Sweep.{Sweeps}
-use Rattle.run_model.specs.Count.{after_damage, IsSweepCount}
-use Rattle.run_model.specs.Laws.{FewerSweeps, NetworkStays, RunsJoin, UndamagedSplits, RangesStay, MomentLeads}
-use Rattle.run_model.specs.declared.event.Event.{Event}
+use Rattle.judge.specs.run_model.World.{World, IsWorldInRange}
+use Rattle.judge.specs.run_model.Run.{run, IsUndamaged}
+use Rattle.judge.specs.run_model.Sweep.{Sweeps}
+use Rattle.judge.specs.run_model.Count.{after_damage, IsSweepCount}
+use Rattle.judge.specs.run_model.Laws.{FewerSweeps, NetworkStays, RunsJoin, UndamagedSplits, RangesStay, MomentLeads}
+use Rattle.judge.specs.run_model.declared.event.Event.{Event}
 use Rattle.topology.specs.Network.{Network, are_joined}
-use Rattle.convergence.specs.token_ring.Legitimate.{IsLegitimate}
+use Rattle.convergence.specs.Legitimate.{IsLegitimate}
 use Rattle.convergence.specs.Laws.{PayloadsConverge, LegitimateStays, LegitimateServes}
 use Rattle.convergence.specs.Said.{said_in}
 use Rattle.convergence.specs.Closure.{IsLegitimateThroughout}
@@ -16,7 +16,7 @@ use Rattle.convergence.specs.tree_convergence.Laws.{NumbersMove}
 use Rattle.world.specs.Numbers.{DoNumbersMove}
 use Rattle.judge.specs.Judging.{counted_up_to}
 use Rattle.judge.specs.JudgeView.{JudgeView, HasSeen}
-use Rattle.configuration.specs.ConfigurationView.{ConfigurationView, world_of}
+use Rattle.judge.specs.configuration.ConfigurationView.{ConfigurationView, world_of}
 
 -- as many sweeps without damage as the network needs lead from each world in range to one of which
 -- P holds

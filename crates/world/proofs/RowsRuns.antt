@@ -6,12 +6,12 @@ use Rattle.std.proofs.lemmas.List.Sums.{AllPass-from_list_all}
 use Rattle.topology.specs.declared.frame.Payload.{Payload}
 use Rattle.std.proofs.lemmas.Bool.Decides.{nat_tests}
 use Rattle.topology.specs.Network.{Network, are_joined}
-use Rattle.run_model.specs.World.{World}
-use Rattle.run_model.specs.Start.{default_world}
-use Rattle.run_model.specs.Run.{run, has_damage}
-use Rattle.run_model.specs.Sweep.{has_full_tick, is_renewed, Sweeps}
-use Rattle.run_model.specs.declared.event.Event.{Event}
-use Rattle.run_model.specs.declared.event.Event.TheVariants.{Send, Take, Tick}
+use Rattle.judge.specs.run_model.World.{World}
+use Rattle.judge.specs.run_model.Start.{default_world}
+use Rattle.judge.specs.run_model.Run.{run, has_damage}
+use Rattle.judge.specs.run_model.Sweep.{has_full_tick, is_renewed, Sweeps}
+use Rattle.judge.specs.run_model.declared.event.Event.{Event}
+use Rattle.judge.specs.run_model.declared.event.Event.TheVariants.{Send, Take, Tick}
 use Rattle.convergence.specs.Said.{said_in}
 use Rattle.convergence.specs.Closure.{IsLegitimateThroughout}
 use Rattle.convergence.specs.Payloads.{ArePayloadsFresh}
@@ -47,7 +47,7 @@ repeated (suc n) = least ++ repeated n
 abbrev after : ℕ → World
 after n = run start (repeated n)
 
--- where the least sweep is a sweep, one comes before the others
+-- if the least sweep is a sweep, one comes before the others
 one-more : (w : World) (r : ℕ) (es : List Event) → w.net ≡ two_nodes → has_damage w least ≡ false → has_full_tick w least 0 ≡ true → has_full_tick w least 1 ≡ true
     → is_renewed w least 0 1 ≡ true → is_renewed w least 1 0 ≡ true → Sweeps (run w least) r es → Sweeps w (suc r) (least ++ es)
 one-more w r es net fine first second out back sweeps = (

@@ -2,9 +2,9 @@
 use Rattle.std.proofs.Common.{◌≡◌, ℕ, ◌++◌, List, [], ◌∷◌, Some, None, codes, decimal, refl, arith}
 use Rattle.std.proofs.lemmas.Fmt.{decimal_digit}
 use Rattle.topology.specs.Network.{Network}
-use Rattle.run_model.specs.World.{World}
-use Rattle.run_model.specs.Start.{default_world}
-use Rattle.run_model.specs.declared.event.Event.TheVariants.{Ask, Tick}
+use Rattle.judge.specs.run_model.World.{World}
+use Rattle.judge.specs.run_model.Start.{default_world}
+use Rattle.judge.specs.run_model.declared.event.Event.TheVariants.{Ask, Tick}
 use Rattle.events_text.specs.declared.text_line.TextLine.TheVariants.{Passed, Unread, Told}
 use Rattle.events_text.specs.EventsText.{text_lines}
 use Rattle.world.specs.SimulatedText.{refusal_line, refusals_of, refused_lines, simulated_start, told_events, simulated_text}
@@ -53,7 +53,7 @@ met = rw two-is
 met-counted : refused_lines start (Told (Ask 1 7) ∷ Unread ∷ Passed ∷ Told (Ask 1 7) ∷ []) ≡ 2
 met-counted = refl
 
--- only told lines have events
+-- only lines that spell an event have one
 told-two : told_events (text_lines (codes "tick 0\nTick 0\n# tick 0\ntick 1")) ≡ Tick 0 ∷ Tick 1 ∷ []
 told-two = refl
 

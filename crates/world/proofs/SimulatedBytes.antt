@@ -6,8 +6,8 @@ use Rattle.std.proofs.Math.Seq.{take-add}
 use Rattle.byte_lines.specs.Lines.{lines_after, half_line, whole_lines}
 use Rattle.byte_lines.specs.Kept.{Kept, StandsAfter}
 use Rattle.byte_lines.specs.Laws.{LinesAreCut}
-use Rattle.run_model.specs.World.{World}
-use Rattle.run_model.specs.Run.{run}
+use Rattle.judge.specs.run_model.World.{World}
+use Rattle.judge.specs.run_model.Run.{run}
 use Rattle.events_text.specs.declared.text_line.TextLine.{TextLine}
 use Rattle.events_text.specs.EventsText.{text_line, ended_lines}
 use Rattle.world.specs.SimulatedText.{told_events, refusals_of, refusal_lines}

@@ -2,10 +2,10 @@
 use Rattle.std.proofs.Common.{◌≡◌, ◌∙◌, ap, sym, ℕ, ◌≤◌, List, [], Option, Some, Result, Ok, Err, IsErrAnd, IfErr, length, arith, inl, inr}
 use Rattle.std.proofs.lemmas.Grind.{common_steps}
 use Rattle.std.proofs.Math.Seq.{take-length, drop-length}
-use Rattle.run_model.specs.World.{World}
-use Rattle.run_model.specs.Run.{run}
-use Rattle.run_model.specs.NodeCounts.{lending_count}
-use Rattle.run_model.specs.Count.{IsSweepCount}
+use Rattle.judge.specs.run_model.World.{World}
+use Rattle.judge.specs.run_model.Run.{run}
+use Rattle.judge.specs.run_model.NodeCounts.{lending_count}
+use Rattle.judge.specs.run_model.Count.{IsSweepCount}
 use Rattle.world.specs.declared.simulation.Summary.{Summary}
 use Rattle.world.specs.declared.simulation.SimFault.{SimFault}
 use Rattle.world.specs.declared.simulation.SimFault.TheVariants.{Memory, Read, Long, Write}
@@ -17,7 +17,7 @@ use Rattle.world.specs.Simulating.{longest_text, IsShown, IsHalfShown, IsSimulat
 use Rattle.world.specs.StateText.{state_text}
 use Rattle.byte_streams.specs.Streams.{Takes, TakesABeginning, Rose, CountsFailures}
 use Rattle.world.specs.UnderWay.{SimulationView, HasRun, Reads, Finishes}
-use Rattle.configuration.specs.ConfigurationView.{world_of}
+use Rattle.judge.specs.configuration.ConfigurationView.{world_of}
 use Rattle.world.proofs.Writing.{takes_both, then_beginning}
 
 module _ (start : World) (bytes : List ℕ) (before between after : Option (List ℕ)) (s : SimulationView) (sweeps : ℕ) (seen : AreSweepsSeen s.judge sweeps)

@@ -2,9 +2,9 @@
 use Rattle.std.proofs.Common.{◌≡◌, ◌∙◌, ap, sym, ℕ, ◌+◌, ◌-◌, ◌^◌, min, is_some, if◌then◌else◌, List, [], ◌∷◌, ◌++◌, Option, Some, None, Result, Ok, Err, length, append_assoc, arith}
 use Rattle.std.proofs.lemmas.Grind.{common_steps, flat_map-append}
 use Rattle.std.proofs.lemmas.List.{append-nil}
-use Rattle.run_model.specs.World.{World}
-use Rattle.run_model.specs.Step.{step}
-use Rattle.run_model.specs.Run.{run}
+use Rattle.judge.specs.run_model.World.{World}
+use Rattle.judge.specs.run_model.Step.{step}
+use Rattle.judge.specs.run_model.Run.{run}
 use Rattle.events_text.specs.declared.text_line.TextLine.{TextLine}
 use Rattle.events_text.specs.declared.text_line.TextLine.TheVariants.{Passed, Unread, Told}
 use Rattle.judge.specs.JudgeView.{HasSeen}
@@ -12,7 +12,7 @@ use Rattle.judge.specs.Judging.{counted_up_to}
 use Rattle.world.specs.SimulatedText.{line_refusal, refusal_line, refusal_lines, refused_lines, told_event, told_events, refusals_of}
 use Rattle.byte_streams.specs.Streams.{Takes, TakesABeginning, WritesAll}
 use Rattle.world.specs.UnderWay.{SimulationView, HasRun, HasSeenLine, Runs}
-use Rattle.configuration.specs.ConfigurationView.{world_of}
+use Rattle.judge.specs.configuration.ConfigurationView.{world_of}
 use Rattle.world.proofs.Writing.{takes_nothing, takes_both, then_beginning}
 
 -- the refusal lines of lines and then more lines
@@ -68,7 +68,7 @@ refused_more w lines line =
     let one : (if is_some (line_refusal (run w (told_events lines)) line) then 1 else 0) + 0 ≡ (if is_some (line_refusal (run w (told_events lines)) line) then 1 else 0) = omega arith in
     refused_both w lines (line ∷ []) ∙ ap (λ n. refused_lines w lines + n) one
 
--- a line more has been run, and told where it is refused
+-- a line more has been run, and reported if it is refused
 pub has_run_more : (start : World) (lines : List TextLine) (line : TextLine) (before between after : Option (List ℕ)) (s t : SimulationView)
     → HasRun start lines before between s → HasSeen t.judge start (told_events lines ++ told_events (line ∷ [])) → t.lines ≡ s.lines + 1
     → t.refused ≡ one_more s.refused (line_refusal (run start (told_events lines)) line)
@@ -105,7 +105,7 @@ line_passes start lines line before now s t h not_refused seen number same =
     has_run_more start lines line before now now s t h (seen start (told_events lines) h.seen) number
     (same ∙ ap (one_more s.refused) (sym none)) (rw none (takes_nothing now))
 
--- a line that is refused has been run, and told, or the sink failed
+-- a line that is refused has been run, and reported, or the sink failed
 pub line_told : {E : Type 0} (result : Result (Unit {0}) E) (start : World) (lines : List TextLine) (line : TextLine) (before between after : Option (List ℕ)) (s t : SimulationView)
     (name : List ℕ) (failures more : ℕ) → HasRun start lines before between s → Some name ≡ line_refusal (world_of s.judge.configuration) line → HasSeenLine s.judge line t.judge
     → t.lines ≡ s.lines + 1 → t.refused ≡ min (s.refused + 1) (2 ^ 64 - 1)

@@ -3,8 +3,8 @@ use Rattle.std.proofs.Common.{◌≡◌, ◌∙◌, ap, ℕ, ◌+◌, ◌-◌, �
 use Rattle.std.proofs.Math.Seq.{take-add}
 use Rattle.byte_lines.specs.Lines.{half_line}
 use Rattle.byte_lines.specs.Laws.{LinesAreCut}
-use Rattle.run_model.specs.World.{World}
-use Rattle.run_model.specs.Run.{run}
+use Rattle.judge.specs.run_model.World.{World}
+use Rattle.judge.specs.run_model.Run.{run}
 use Rattle.events_text.specs.EventsText.{text_line, ended_lines, last_line, text_lines}
 use Rattle.world.specs.SimulatedText.{told_events, refusals_of, refusal_lines}
 use Rattle.byte_streams.specs.Streams.{TakesABeginning}

@@ -3,22 +3,22 @@ use Rattle.std.proofs.Common.{◌≡◌, ◌∙◌, sym, ap, subst, ℕ, ◌+◌
 use Rattle.std.proofs.lemmas.Grind.{common_steps}
 use Rattle.topology.specs.Network.{Network, IsAcceptedNetwork, bound_of}
 use Rattle.topology.specs.Eccentricity.{SharpWithinBound, sharp_of}
-use Rattle.run_model.specs.World.{World, IsWorldInRange}
-use Rattle.run_model.specs.Step.{step}
-use Rattle.run_model.specs.Run.{run, IsUndamaged}
-use Rattle.run_model.specs.Sweep.{Sweeps}
-use Rattle.run_model.specs.Count.{Moment, after_damage, IsSweepCount}
-use Rattle.run_model.specs.Laws.{FewerSweeps, NetworkStays, FrameStays, MomentLeads}
-use Rattle.run_model.specs.Visited.{is_privileged_once, is_visited}
-use Rattle.run_model.specs.declared.event.Event.{Event}
-use Rattle.convergence.specs.token_ring.Legitimate.{IsLegitimate}
+use Rattle.judge.specs.run_model.World.{World, IsWorldInRange}
+use Rattle.judge.specs.run_model.Step.{step}
+use Rattle.judge.specs.run_model.Run.{run, IsUndamaged}
+use Rattle.judge.specs.run_model.Sweep.{Sweeps}
+use Rattle.judge.specs.run_model.Count.{Moment, after_damage, IsSweepCount}
+use Rattle.judge.specs.run_model.Laws.{FewerSweeps, NetworkStays, FrameStays, MomentLeads}
+use Rattle.judge.specs.run_model.Visited.{is_privileged_once, is_visited}
+use Rattle.judge.specs.run_model.declared.event.Event.{Event}
+use Rattle.convergence.specs.Legitimate.{IsLegitimate}
 use Rattle.convergence.specs.Service.{LegitimateVisits, EachStateVisits}
 use Rattle.judge.specs.Judging.{counted_up_to}
 use Rattle.judge.specs.Stretch.{has_bit}
 use Rattle.judge.specs.Visited.{AreVisited, AreAllVisited}
 use Rattle.world.proofs.Headline.{same-network}
 
--- where there is no damage, the moment after the last one is the start
+-- if there is no damage, the moment after the last one is the start
 at-start : (w : World) (es : List Event) → IsUndamaged w es → after_damage w es ≡ record { world = w; rest = es }
 at-start w [] fine = refl
 at-start w (e ∷ es) fine = ap (λ b. if b then after_damage (step w e) es else record { world = w; rest = e ∷ es }) fine

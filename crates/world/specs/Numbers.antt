@@ -1,11 +1,11 @@
 -- What a run says of the numbers of its senders.
 use Rattle.std.specs.Prelude.{◌≡◌, ℕ, ◌<◌, IsTrue, List, ◌++◌}
 use Rattle.topology.specs.Network.{are_joined}
-use Rattle.run_model.specs.World.{World}
-use Rattle.run_model.specs.Run.{run}
-use Rattle.run_model.specs.Sweep.{Sweeps}
-use Rattle.run_model.specs.Count.{after_damage}
-use Rattle.run_model.specs.declared.event.Event.{Event}
+use Rattle.judge.specs.run_model.World.{World}
+use Rattle.judge.specs.run_model.Run.{run}
+use Rattle.judge.specs.run_model.Sweep.{Sweeps}
+use Rattle.judge.specs.run_model.Count.{after_damage}
+use Rattle.judge.specs.run_model.declared.event.Event.{Event}
 use Rattle.convergence.specs.tree_convergence.Present.{number_moves}
 
 -- wherever the events since the last damage hold two sweeps after some first ones, the number that

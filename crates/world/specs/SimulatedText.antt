@@ -2,13 +2,13 @@
 -- text of the world that it leads to.
 use Rattle.std.specs.Prelude.{ℕ, ◌+◌, List, [], ◌∷◌, ◌++◌, is_some, if◌then◌else◌, Option, Some, None, option_map, codes, decimal, flat_map}
 use Rattle.topology.specs.Network.{Network}
-use Rattle.run_model.specs.World.{World}
-use Rattle.run_model.specs.Start.{world_with_spares}
-use Rattle.run_model.specs.Step.{refusal, step}
-use Rattle.run_model.specs.Run.{run}
-use Rattle.run_model.specs.declared.event.Event.{Event}
-use Rattle.run_model.specs.declared.event.EventFault.{EventFault}
-use Rattle.run_model.specs.declared.event.EventFault.TheVariants.{NoNode, NoLink, NoItem, OutOfRange, Full, Twice, Stranger, NoSpare, Apart}
+use Rattle.judge.specs.run_model.World.{World}
+use Rattle.judge.specs.run_model.Start.{world_with_spares}
+use Rattle.judge.specs.run_model.Step.{refusal, step}
+use Rattle.judge.specs.run_model.Run.{run}
+use Rattle.judge.specs.run_model.declared.event.Event.{Event}
+use Rattle.judge.specs.run_model.declared.event.EventFault.{EventFault}
+use Rattle.judge.specs.run_model.declared.event.EventFault.TheVariants.{NoNode, NoLink, NoItem, OutOfRange, Full, Twice, Stranger, NoSpare, Apart}
 use Rattle.events_text.specs.declared.text_line.TextLine.{TextLine}
 use Rattle.events_text.specs.declared.text_line.TextLine.TheVariants.{Passed, Unread, Told}
 use Rattle.events_text.specs.EventsText.{text_lines}
@@ -37,7 +37,7 @@ line_refusal w Passed = None
 line_refusal w Unread = Some (codes "Unread")
 line_refusal w (Told event) = option_map fault_name (refusal w event)
 
--- `line N: NAME` and a newline, where line N is refused; else nothing
+-- `line N: NAME` and a newline, if line N is refused; else nothing
 abbrev pub refusal_line : ℕ → Option (List ℕ) → List ℕ
 refusal_line number None = []
 refusal_line number (Some name) = codes "line " ++ decimal number ++ codes ": " ++ name ++ codes "\n"
@@ -62,7 +62,7 @@ abbrev pub told_event : TextLine → List Event
 told_event (Told event) = event ∷ []
 told_event _ = []
 
--- the events that lines tell, in order
+-- the events that lines spell, in order
 abbrev pub told_events : List TextLine → List Event
 told_events lines = flat_map told_event lines
 

@@ -1,9 +1,9 @@
 -- What the answers of a simulation say of what was read and written.
 use Rattle.std.specs.Prelude.{◌≡◌, ℕ, ◌<◌, ◌≤◌, List, [], Option, Some, Result, Ok, Err, take, length, ◌⊎◌}
-use Rattle.run_model.specs.World.{World}
-use Rattle.run_model.specs.Run.{run}
-use Rattle.run_model.specs.NodeCounts.{lending_count}
-use Rattle.run_model.specs.Count.{IsSweepCount}
+use Rattle.judge.specs.run_model.World.{World}
+use Rattle.judge.specs.run_model.Run.{run}
+use Rattle.judge.specs.run_model.NodeCounts.{lending_count}
+use Rattle.judge.specs.run_model.Count.{IsSweepCount}
 use Rattle.world.specs.declared.simulation.Summary.{Summary}
 use Rattle.world.specs.declared.simulation.SimFault.{SimFault}
 use Rattle.world.specs.declared.simulation.SimFault.TheVariants.{Memory, Read, Long, Write}
@@ -63,7 +63,7 @@ IsSimulated start bytes rest before after (Err Long) = IsTooLong start bytes res
 IsSimulated start bytes rest before after (Err Write) =
     IsStopped start bytes rest before after ⊎ ((rest ≡ Some []) × (length bytes ≤ longest_text) × IsHalfShown start bytes before after)
 
--- The source's failure is answered only where its count rose, and the sink's only where its count
+-- The source's failure is answered only if its count rose, and the sink's only if its count
 -- rose.
 abbrev pub HasCause : {T : Type 0} → Result T SimFault → ℕ → ℕ → ℕ → ℕ → Type 0
 HasCause (Err Read) source source_after sink sink_after = Rose source source_after

@@ -2,9 +2,9 @@
 use Rattle.std.specs.Prelude.{ℕ, List, ◌++◌, length, codes, decimal}
 use Rattle.std.specs.List.{flat_map, range_with_len}
 use Rattle.topology.specs.Network.{neighbours_of, bound_of}
-use Rattle.node_core.specs.Status.{status_line}
-use Rattle.run_model.specs.World.{World, site}
-use Rattle.run_model.specs.NodeCounts.{privileged_count, lending_count}
+use Rattle.judge.specs.node_core.Status.{status_line}
+use Rattle.judge.specs.run_model.World.{World, site}
+use Rattle.judge.specs.run_model.NodeCounts.{privileged_count, lending_count}
 
 -- the status line of a node
 abbrev pub node_line : World → ℕ → List ℕ

@@ -1,7 +1,7 @@
 -- What a simulation keeps between two pieces of its text, and what is to hold of it.
 use Rattle.std.specs.Prelude.{◌≡◌, ℕ, ◌≤◌, List, [], ◌∷◌, ◌++◌, Option, Some, Result, Ok, Err, length, ◌⊎◌}
-use Rattle.run_model.specs.World.{World}
-use Rattle.run_model.specs.declared.event.Event.{Event}
+use Rattle.judge.specs.run_model.World.{World}
+use Rattle.judge.specs.run_model.declared.event.Event.{Event}
 use Rattle.events_text.specs.declared.text_line.TextLine.{TextLine}
 use Rattle.world.specs.declared.simulation.Summary.{Summary}
 use Rattle.world.specs.declared.simulation.SimFault.{SimFault}

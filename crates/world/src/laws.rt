@@ -2,7 +2,7 @@
 //!
 //! A law is a function that does nothing, with what is proved as its contract. Whoever proves
 //! something of a world calls it and cites its clauses, whose statements are
-//! `Rattle.convergence.specs.Laws` and `Rattle.run_model.specs.Headline`:
+//! `Rattle.convergence.specs.Laws` and `Rattle.judge.specs.run_model.Headline`:
 //!
 //! - `converge`, convergence: from every world in range, over every list of events without damage,
 //!   links are stable after 4(C + 1) sweeps, and from then on any three sweeps replace all that is

@@ -20,7 +20,7 @@
 //! convergence from any state, and closure.
 //!
 //! [`report::judge`] lets a list of events happen, counts its sweeps and refusals, and says which
-//! nodes were privileged. Where the sweeps since the last damage are as many as `Net::bound` says,
+//! nodes were privileged. If the sweeps since the last damage are as many as `Net::bound` says,
 //! the world that it reports serves, whatever state it began in:
 //!
 //! ```
@@ -55,9 +55,10 @@ pub mod report;
 pub mod simulation;
 pub mod streams;
 
-pub use configuration::{Configuration, Links};
-pub use judge::{Judge, Parts, Stretch, Tally, World};
+pub use events_text;
+pub use judge::configuration::{Configuration, Links};
+pub use judge::node_core::Node;
+pub use judge::run_model::{Event, EventFault, Happened, Harm};
+pub use judge::{Judge, Parts, Stretch, Tally, World, run_model};
 pub use link_model::{Frame, Item, NoItem, Payload};
-pub use node_core::Node;
-pub use run_model::{Event, EventFault, Happened, Harm};
 pub use topology::{Net, NetFault};

@@ -2,22 +2,22 @@
 ghost use Rattle.std.specs.Prelude.{◌≡◌, ◌+◌, ◌-◌, ◌*◌, ◌≤◌, ℕ};
 ghost use Rattle.topology.specs.Network.{bound_of};
 ghost use Rattle.topology.specs.Eccentricity.{sharp_of};
-ghost use Rattle.run_model.specs.Links.{AreLinksStable};
-ghost use Rattle.run_model.specs.Tree.{IsTreeReached};
-ghost use Rattle.run_model.specs.Headline.{IsServing};
-ghost use Rattle.run_model.specs.Run.{run, IsUndamaged};
-ghost use Rattle.run_model.specs.Count.{IsSweepCount};
-ghost use Rattle.convergence.specs.token_ring.Ring.{IsTokenRingGood};
-ghost use Rattle.convergence.specs.token_ring.Legitimate.{IsLegitimate};
+ghost use Rattle.judge.specs.run_model.Links.{AreLinksStable};
+ghost use Rattle.judge.specs.run_model.Tree.{IsTreeReached};
+ghost use Rattle.judge.specs.run_model.Headline.{IsServing};
+ghost use Rattle.judge.specs.run_model.Run.{run, IsUndamaged};
+ghost use Rattle.judge.specs.run_model.Count.{IsSweepCount};
+ghost use Rattle.convergence.specs.Ring.{IsTokenRingGood};
+ghost use Rattle.convergence.specs.Legitimate.{IsLegitimate};
 ghost use Rattle.convergence.specs.Closure.{IsLegitimateThroughout};
 ghost use Rattle.convergence.specs.Payloads.{ArePayloadsFresh};
 ghost use Rattle.world.specs.Numbers.{DoNumbersMove};
 ghost use Rattle.judge.specs.Judging.{refused_in, counted_up_to};
 ghost use Rattle.judge.specs.Visited.{AreVisited, AreAllVisited};
-ghost use Rattle.configuration.specs.ConfigurationView.{world_of};
+ghost use Rattle.judge.specs.configuration.ConfigurationView.{world_of};
 
+use judge::run_model::Event;
 use judge::{Judge, World};
-use run_model::Event;
 use std::alloc::{Allocator, Global};
 
 /// What a judge has counted of a run, and where the run has led.
@@ -30,7 +30,7 @@ pub struct Report<A: Allocator + Copy = Global> {
     /// The refused events; the count stays at its greatest value.
     pub refused: u64,
     /// The nodes that were privileged at some moment since the last accepted damage, the moment
-    /// right after it among them, or since the start where there was none: bit v stands for node v.
+    /// right after it among them, or since the start if there was none: bit v stands for node v.
     pub visited: u64,
 }
 
@@ -87,10 +87,10 @@ pub fn judge<A: Allocator + Copy>(start: World<A>, events: &[Event]) -> Report<A
     ensures closure { IsLegitimate (world_of start) → IsUndamaged (world_of start) events.now
         → IsLegitimateThroughout (world_of start) events.now }
 {
-    run_model::laws::runs();
-    run_model::laws::in_range();
-    run_model::laws::moments();
-    run_model::laws::sweep_numbers();
+    judge::run_model::laws::runs();
+    judge::run_model::laws::in_range();
+    judge::run_model::laws::moments();
+    judge::run_model::laws::sweep_numbers();
     convergence::tree_convergence::laws::links();
     convergence::laws::closure();
     convergence::laws::converge();

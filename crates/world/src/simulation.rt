@@ -13,7 +13,7 @@ ghost use Rattle.world.specs.Simulating.{IsSimulated, HasCause};
 ghost use Rattle.world.specs.SimulatedText.{simulated_start};
 ghost use Rattle.world.specs.StateText.{state_text};
 ghost use Rattle.byte_streams.specs.Streams.{WritesAll};
-ghost use Rattle.configuration.specs.ConfigurationView.{world_of};
+ghost use Rattle.judge.specs.configuration.ConfigurationView.{world_of};
 ghost use Rattle.world.specs.declared.simulation.SimFault.TheVariants.{Write};
 
 mod line;
@@ -85,7 +85,7 @@ impl From<AllocError> for SimFault {
 /// is given here and R is `Net::bound`. Each line ends with a newline.
 ///
 /// # Errors
-/// [`SimFault::Write`] where the sink failed; then a beginning of the text was written.
+/// [`SimFault::Write`] if the sink failed; then a beginning of the text was written.
 pub fn state_text<A: Allocator + Copy, W: Sink>(
     world: &World<A>,
     sweeps: u64,
@@ -108,9 +108,9 @@ pub fn state_text<A: Allocator + Copy, W: Sink>(
 /// accepted damage.
 ///
 /// # Errors
-/// The first that is met: [`SimFault::Memory`], before anything is read; [`SimFault::Read`] where
-/// the source failed; [`SimFault::Long`] where it gave more bytes than [`LONGEST_TEXT`];
-/// [`SimFault::Write`] where the sink failed.
+/// The first that is met: [`SimFault::Memory`], before anything is read; [`SimFault::Read`] if
+/// the source failed; [`SimFault::Long`] if it gave more bytes than [`LONGEST_TEXT`];
+/// [`SimFault::Write`] if the sink failed.
 pub fn simulate<A: Allocator + Copy, N: Allocator + Copy, R: Source, W: Sink>(
     alloc: A,
     net: &Net<N>,
@@ -124,7 +124,7 @@ pub fn simulate<A: Allocator + Copy, N: Allocator + Copy, R: Source, W: Sink>(
     // Failures are counted, and no count falls.
     ensures counts { (R.failures source.old ≤ R.failures source.new)
         × (W.failures sink.old ≤ W.failures sink.new) }
-    // A fault of the source or the sink is answered only where that one failed.
+    // A fault of the source or the sink is answered only if that one failed.
     ensures cause { HasCause result (R.failures source.old) (R.failures source.new)
         (W.failures sink.old) (W.failures sink.new) }
 {

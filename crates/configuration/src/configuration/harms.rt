@@ -2,8 +2,8 @@
 ghost use Rattle.std.specs.Prelude.{◌≡◌, ◌↔◌, ◌<◌, IfOk, IfErr, IsOk, length};
 ghost use Rattle.topology.specs.Network.{neighbours_of};
 ghost use Rattle.topology.specs.Ranges.{ranges_of};
-ghost use Rattle.node_core.specs.Site.{site_of};
-ghost use Rattle.node_core.specs.View.{site_in};
+ghost use Rattle.run_model.specs.node_core.Site.{site_of};
+ghost use Rattle.run_model.specs.node_core.View.{site_in};
 ghost use Rattle.run_model.specs.Rewire.{can_join};
 ghost use Rattle.run_model.specs.World.{item_fits};
 ghost use Rattle.run_model.specs.Step.{harm_fits};
@@ -16,9 +16,9 @@ ghost use Rattle.configuration.specs.Answers.{Answers};
 ghost use Rattle.configuration.specs.Rewired.{IsRewired};
 
 use crate::configuration::Configuration;
-use link_model::{Item, Payload};
-use node_core::Node;
-use registers::OutOfRange;
+use run_model::link_model::{Item, Payload};
+use run_model::node_core::Node;
+use run_model::node_core::registers::OutOfRange;
 use run_model::{EventFault, Happened, Harm};
 use std::alloc::Allocator;
 use topology::Net;

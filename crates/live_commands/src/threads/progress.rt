@@ -36,7 +36,7 @@ impl<'a, R: Eprint + Clock> Watch<'a, R> {
         }
     }
 
-    /// Takes the line away, where it was written.
+    /// Takes the line away, if it was written.
     pub fn end(&self) {
         if let Some(progress) = &self.progress {
             progress.end(self.rt);

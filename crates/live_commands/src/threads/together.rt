@@ -5,12 +5,16 @@ use thread_net::{Gate, Pace};
 /// more, a short run on few processors has fewer sweeps.
 const TURNS_A_BLOCK: u32 = 16;
 
+/// Before how many turns the nodes meet. Later each runs as fast as it can: a meeting costs more than a
+/// thousand turns if there are more nodes than processors.
+const MET_TURNS: u32 = 1024;
+
 /// How often a node looks in one wait before it waits no longer: for half a second or so. So a thread that
 /// was refused does not hold up the others for long.
 const LOOKS: u32 = 10_000_000;
 
-/// A gate at which all nodes meet before their first turn, and again after each 16 turns. So no node runs
-/// far ahead of another, however the system shares out its processors.
+/// A gate at which all nodes meet before their first turn, and again after each 16 of the first 1,024. So
+/// no node runs far ahead of another at first, however the system shares out its processors.
 #[derive(Drop)]
 pub struct Together {
     /// A node has done its part of a meeting when it stands there.
@@ -28,7 +32,7 @@ impl Together {
 
 impl Gate for Together {
     fn before(&self, node: u16, turn: u32) {
-        if turn % TURNS_A_BLOCK == 0 {
+        if turn < MET_TURNS && turn % TURNS_A_BLOCK == 0 {
             let meeting = turn / TURNS_A_BLOCK;
             self.meetings.after(node, meeting);
             self.meetings.before(node, meeting + 1);

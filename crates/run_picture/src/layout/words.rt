@@ -1,8 +1,8 @@
 //! What a picture says in words.
 ghost use Rattle.std.specs.Prelude.{◌≡◌, ◌+◌, ◌++◌, List, OnOk, IfOk, string_bytes, decimal};
-ghost use Rattle.configuration.specs.ConfigurationView.{world_of};
-ghost use Rattle.run_model.specs.World.{World};
-ghost use Rattle.run_model.specs.declared.event.Event.{Event};
+ghost use Rattle.run_recording.specs.configuration.ConfigurationView.{world_of};
+ghost use Rattle.run_recording.specs.run_model.World.{World};
+ghost use Rattle.run_recording.specs.run_model.declared.event.Event.{Event};
 ghost use Rattle.run_recording.specs.judge.Judging.{counted_up_to};
 ghost use Rattle.run_recording.specs.Recordings.{IsRecorded};
 ghost use Rattle.run_picture.specs.Words.{title_words, size_words, limit_words, bound_words};
@@ -12,8 +12,7 @@ ghost use Rattle.svg_drawing.specs.Drawn.{drawn};
 ghost use Rattle.run_picture.specs.Head.{head_shown, told_words};
 
 use super::page::Page;
-use configuration::Configuration;
-use run_recording::Recording;
+use run_recording::{Configuration, Recording};
 use std::alloc::{AllocError, Global};
 use std::fmt::Write;
 use svg_drawing::{Anchor, Canvas, Colour, Point, Px};

@@ -16,11 +16,11 @@ impl<A: Allocator + Copy> Net<A> {
     /// Joins two nodes by an edge, which comes last.
     ///
     /// # Errors
-    /// The first that holds, and then nothing has changed: `TooBig` where there are 256 edges
-    /// already, `BadEdge` where one of the two is no node, `LoopEdge` where they are the same,
-    /// `DoubleEdge` where an edge joins them.
+    /// The first that holds, and then nothing has changed: `TooBig` if there are 256 edges
+    /// already, `BadEdge` if one of the two is no node, `LoopEdge` if they are the same,
+    /// `DoubleEdge` if an edge joins them.
     pub fn join(&mut self, u: u16, v: u16) -> Result<(), NetFault>
-        // It joins exactly where nothing forbids it; else the first fault in their order is reported.
+        // It joins exactly if nothing forbids it; else the first fault in their order is reported.
         ensures allowed { OnOk result (join_fault self.old u v ≡ None) }
         ensures joined { OnOk result (self.new ≡ joined_net self.old u v) }
         ensures refused { IfErr result (λ fault. join_fault self.old u v ≡ Some fault) }
@@ -47,11 +47,11 @@ impl<A: Allocator + Copy> Net<A> {
     /// Parts two nodes: the edge that joins them goes, and the others stay in their order.
     ///
     /// # Errors
-    /// The first that holds, and then nothing has changed: `BadEdge` where one of the two is no
-    /// node, `NoEdge` where no edge joins them, `Apart` where the other edges do not hold the nodes
+    /// The first that holds, and then nothing has changed: `BadEdge` if one of the two is no
+    /// node, `NoEdge` if no edge joins them, `Apart` if the other edges do not hold the nodes
     /// together.
     pub fn part(&mut self, u: u16, v: u16) -> Result<(), NetFault>
-        // It parts exactly where nothing forbids it; else the first fault in their order is reported.
+        // It parts exactly if nothing forbids it; else the first fault in their order is reported.
         ensures allowed { OnOk result (part_fault self.old u v ≡ None) }
         ensures parted { OnOk result (self.new ≡ parted_net self.old u v) }
         ensures refused { IfErr result (λ fault. part_fault self.old u v ≡ Some fault) }

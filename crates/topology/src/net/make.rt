@@ -20,7 +20,7 @@ impl Net {
     /// TOML text; other keys are ignored.
     ///
     /// # Errors
-    /// The first [`NetFault`] that the text has, in their order; `Memory` where memory ran out on
+    /// The first [`NetFault`] that the text has, in their order; `Memory` if memory ran out on
     /// the way.
     pub fn read(alloc: Global, text: &str) -> Result<Net, NetFault>
         // The network that the text's values make, and else the first fault that holds.
@@ -44,7 +44,7 @@ impl<A: Allocator + Copy> Net<A> {
     ///
     /// # Errors
     /// The first [`NetFault`] from `TooSmall` on that the values have, in their order; `Memory`
-    /// where memory ran out on the way.
+    /// if memory ran out on the way.
     pub fn make(
         alloc: A,
         nodes: i64,
@@ -156,7 +156,7 @@ impl<A: Allocator + Copy> Net<A> {
     /// An equal network, over any allocator.
     ///
     /// # Errors
-    /// Where memory runs out.
+    /// If memory runs out.
     pub fn copy<B: Allocator + Copy>(&self, alloc: B) -> Result<Net<B>, AllocError>
         ensures { IfOk result (λ net. net ≡ self.now) }
     {

@@ -89,7 +89,7 @@ fn told_of(alloc: Global, run: &LongRun<'_>) -> Result<((usize, usize), Ends), F
     ))
 }
 
-/// What a run is to be told as.
+/// What a run is to be reported as.
 fn wanted_of(run: &LongRun<'_>) -> ((usize, usize), Ends) {
     (run.at_start, (run.events, u64::from(run.rounds), 0, true))
 }

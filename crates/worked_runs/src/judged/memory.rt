@@ -71,7 +71,7 @@ fn is_judged_right<A: Allocator + Copy>(world: World<A>, round: &[Event]) -> boo
     (report.sweeps, report.refused) == (1, 0) && lends_one(report.world)
 }
 
-/// Whether that is so of a world on a heap, and how much the heap had left; none where the heap
+/// Whether that is so of a world on a heap, and how much the heap had left; none if the heap
 /// refuses the world.
 fn judged_on_full(
     alloc: Global,
@@ -102,7 +102,7 @@ fn judged_within(
 /// found there, and how much of it stays taken.
 type LeastHeap = (bool, (bool, usize), usize);
 
-/// What is found on the least heap that does not refuse a world; none where each heap refuses it,
+/// What is found on the least heap that does not refuse a world; none if each heap refuses it,
 /// or one that does keeps something.
 fn least_heap(alloc: Global, net: &Net, round: &[Event]) -> Result<Option<LeastHeap>, Fail> {
     for units in 1..400usize {

@@ -128,7 +128,7 @@ impl Plain {
         mask
     }
 
-    /// The tally of a link; none where no edge joins the two nodes.
+    /// The tally of a link; none if no edge joins the two nodes.
     fn tally(&self, from: u16, to: u16) -> Option<Tally> {
         let place = usize::from(from)
             .saturating_mul(NODES)

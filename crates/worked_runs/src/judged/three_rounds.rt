@@ -24,7 +24,7 @@ struct Stage<'a> {
 }
 
 /// What a stage's events lead to: how many are privileged and how many lend, and the far node; none
-/// where one of them is refused.
+/// if one of them is refused.
 fn led_to(world: &mut World, events: &str) -> Option<Outcome> {
     if happen(world, events) {
         Some((counted(world), far(world)))

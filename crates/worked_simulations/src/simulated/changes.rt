@@ -39,7 +39,7 @@ privileged 0 lending 0
 sweeps 0 of 461
 ";
 
-/// What stands on the square where an item goes with its edge, and the edge comes back.
+/// What stands on the square if an item goes with its edge, and the edge comes back.
 const BACK: &str = "\
 node 0 distance 4 parent none token no lent none waiting 0
 node 1 distance 4 parent none token no lent none waiting 0
@@ -190,4 +190,63 @@ fn on_the_star(alloc: Global) -> Result<(Option<usize>, usize), Fail> {
 #[test]
 fn an_edge_that_goes_leaves_its_links_to_the_next(rt: HostRuntime) -> Result<(), Fail> {
     as_told(on_the_star(rt.alloc()), &(None, 71))
+}
+
+/// The same as a text.
+fn star_text(alloc: Global) -> Result<String, AllocError> {
+    let mut text = String::new(alloc);
+    for (line, _answer) in &ON_THE_STAR {
+        text.push_str(line)?;
+        text.push_str("\n")?;
+    }
+    Ok(text)
+}
+
+/// What is written of its refused lines.
+const STAR_REFUSALS: &str = "\
+line 9: NoSpare
+line 10: Apart
+line 13: NoSpare
+line 14: OutOfRange
+";
+
+/// How the state ends: R is 4 * 2 + 4 * 65 + 48 * 63 * 63 + 1.
+const STAR_END: &str = "\nprivileged 0 lending 0\nsweeps 0 of 190781\n";
+
+/// How many lines show a link.
+fn links_in(output: &str) -> usize {
+    let mut links = 0usize;
+    for line in output.lines() {
+        if line.starts_with("link ") {
+            links = links.saturating_add(1);
+        }
+    }
+    links
+}
+
+/// Whether an output shows the star with the edges that joined, each with two links, and without the
+/// one that went.
+fn is_star_shown(output: &str) -> bool {
+    output.starts_with(STAR_REFUSALS)
+        && output.ends_with(STAR_END)
+        && links_in(output) == 142
+        && output.contains("\nlink 1 10 items 0\n")
+        && !output.contains("\nlink 0 2 items 0\n")
+}
+
+/// What that text is reported as on the star, and whether its output is so.
+fn simulated_on_the_star(alloc: Global) -> Result<(Summary, bool), Fail> {
+    let net = star(alloc)?;
+    let text = star_text(alloc)?;
+    simulated(alloc, &net, &text, 4096, is_star_shown)
+}
+
+#[test]
+fn a_simulation_of_the_star_has_eight_spare_pairs(rt: HostRuntime) -> Result<(), Fail> {
+    let want = Summary {
+        refused: 4,
+        sweeps: 0,
+        lending: 0,
+    };
+    as_told(simulated_on_the_star(rt.alloc()), &(want, true))
 }

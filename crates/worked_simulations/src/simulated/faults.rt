@@ -66,7 +66,7 @@ struct Outcome {
 }
 
 impl Outcome {
-    /// Whether it is as it must be, where a call that fails is reported as `fault`.
+    /// Whether it is as it must be, if a call that fails is reported as `fault`.
     fn is_right(&self, fault: SimFault) -> bool {
         let want = if self.has_failed { Err(fault) } else { Ok(ALL) };
         self.is_written && self.answer == want
@@ -259,7 +259,7 @@ fn first_heap(
 /// answered there, how much of it stays taken, and whether the output is written.
 type LeastHeap = (bool, Result<Summary, SimFault>, usize, bool);
 
-/// What is found there; none where each heap refuses.
+/// What is found there; none if each heap refuses.
 fn least_heap(alloc: Global, net: &Net) -> Result<Option<LeastHeap>, AllocError> {
     let mut source = MemorySource::new(LINES.as_bytes(), 7);
     let mut sink = MemorySink::new(alloc, ROOM)?;

@@ -3,7 +3,7 @@ use super::*;
 use std::test::Fail;
 use test_parts::as_told;
 
-/// Pieces of a text, each with how often it comes, and the lines that tell what is refused of it.
+/// Pieces of a text, each with how often it comes, and the lines that say what is refused of it.
 type Refused<'a> = (&'a [(&'a str, usize)], &'a str);
 
 /// The row of such a text, after which nothing has happened.

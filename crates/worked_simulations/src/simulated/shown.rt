@@ -29,7 +29,7 @@ fn show(world: &World, sweeps: u64, sink: &mut MemorySink) -> Result<(), SimFaul
     state_text(world, sweeps, sink)
 }
 
-/// What is answered where a world is shown into `room` bytes, and whether the front of its text
+/// What is answered if a world is shown into `room` bytes, and whether the front of its text
 /// fills them.
 fn shown_into(
     alloc: Global,

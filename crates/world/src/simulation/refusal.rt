@@ -5,7 +5,7 @@ ghost use Rattle.byte_streams.specs.Streams.{WritesAll};
 
 use super::line::{Line, push_number};
 use byte_streams::{Failed, Sink, write_all};
-use run_model::EventFault;
+use judge::run_model::EventFault;
 
 /// What a line that spells no event is called.
 pub const UNREAD: &str = "Unread";

@@ -4,11 +4,11 @@ ghost use Rattle.arrayvec.specs.ArrayString.{array_string_len};
 ghost use Rattle.world.specs.StateText.{node_lines, link_line, links_from, link_lines, counts_line};
 ghost use Rattle.world.specs.StateText.{sweeps_line, state_text};
 ghost use Rattle.byte_streams.specs.Streams.{WritesAll};
-ghost use Rattle.configuration.specs.ConfigurationView.{world_of};
+ghost use Rattle.judge.specs.configuration.ConfigurationView.{world_of};
 
 use super::line::{Line, push_number};
 use byte_streams::{Failed, Sink, write_all};
-use configuration::Configuration;
+use judge::configuration::Configuration;
 use std::alloc::Allocator;
 
 /// Writes the text that shows a world, with a count of sweeps.

@@ -7,7 +7,7 @@ ghost use Rattle.world.specs.declared.simulation.SimFault.TheVariants.{Write};
 ghost use Rattle.world.specs.SimulatedText.{line_refusal};
 ghost use Rattle.world.specs.UnderWay.{HasSeenLine, IsUnderWay, RunsNext, RunsLast, TakesNext};
 ghost use Rattle.world.specs.UnderWay.{ReadsAll, EndsThere};
-ghost use Rattle.configuration.specs.ConfigurationView.{world_of};
+ghost use Rattle.judge.specs.configuration.ConfigurationView.{world_of};
 
 use super::refusal::{UNREAD, fault_name, write_refusal};
 use super::state::write_state;
@@ -66,10 +66,10 @@ impl<A: Allocator + Copy> Simulation<A> {
         requires { self.old.lines ≡ 0 }
         // No line is counted twice: there are at most as many as a text may have bytes.
         ensures lines { OnOk result (self.new.lines ≤ longest_text) }
-        // What its whole lines tell has happened, and what is refused of it is written.
+        // What its whole lines spell has happened, and what is refused of it is written.
         ensures text { ReadsAll self.old (R.rest source.old) (W.taken sink.old) result self.new
             (R.rest source.new) (W.taken sink.new) }
-        // That the source or the sink failed is answered only where it did.
+        // That the source or the sink failed is answered only if it did.
         ensures cause { HasCause result (R.failures source.old) (R.failures source.new)
             (W.failures sink.old) (W.failures sink.new) }
         // No failure is forgotten.
@@ -101,7 +101,7 @@ impl<A: Allocator + Copy> Simulation<A> {
     /// has led.
     pub fn finish<W: Sink>(&mut self, sink: &mut W) -> Result<Summary, SimFault>
         requires { self.old.lines < 2 ^ 64 - 1 }
-        // The last line counts also where no newline ended it; then comes the state.
+        // The last line counts also if no newline ended it; then comes the state.
         ensures text { EndsThere self.old (W.taken sink.old) result (W.taken sink.new) }
         ensures failures { CountsFailures result (W.failures sink.old) (W.failures sink.new) }
         ensures err { IfErr result (λ fault. fault ≡ Write) }

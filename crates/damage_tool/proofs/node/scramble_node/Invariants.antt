@@ -1,7 +1,7 @@
 use Rattle.std.proofs.Common.{◌≡◌, drop}
 use Rattle.topology.specs.Network.{neighbours_of}
 use Rattle.topology.specs.Ranges.{ranges_of}
-use Rattle.node_core.specs.View.{site_in, state_of}
+use Rattle.run_model.specs.node_core.View.{site_in, state_of}
 use Rattle.damage_tool.specs.Scrambled.{node_scrambled, ports_scrambled}
 use Rattle.damage_tool.proofs.node.scramble_node.Given as goal
 

@@ -1,7 +1,7 @@
 use Rattle.std.proofs.Common.{◌<◌, ◌∙◌, sym, subst, IsTrue}
 use Rattle.topology.specs.Ranges.{payload_fits}
-use Rattle.node_core.specs.Site.{Site}
-use Rattle.node_core.specs.View.{state_of}
+use Rattle.run_model.specs.node_core.Site.{Site}
+use Rattle.run_model.specs.node_core.View.{state_of}
 use Rattle.damage_tool.proofs.Ports.{on-ok, written}
 use Rattle.damage_tool.proofs.node.write_port.Goals as goal
 

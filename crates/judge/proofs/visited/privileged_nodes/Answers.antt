@@ -1,7 +1,7 @@
 use Rattle.std.proofs.Common.{◌≡◌, ◌∙◌, ap, sym}
-use Rattle.node_core.specs.Machines.{is_node_privileged}
-use Rattle.node_core.specs.View.{site_in}
-use Rattle.run_model.specs.Privilege.{is_privileged}
+use Rattle.configuration.specs.node_core.Machines.{is_node_privileged}
+use Rattle.configuration.specs.node_core.View.{site_in}
+use Rattle.configuration.specs.run_model.Privilege.{is_privileged}
 use Rattle.configuration.specs.ConfigurationView.{world_of}
 use Rattle.judge.proofs.Visits.{one-more, none-more}
 use Rattle.judge.proofs.visited.privileged_nodes.Goals as goal

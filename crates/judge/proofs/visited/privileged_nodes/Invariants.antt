@@ -1,5 +1,5 @@
 use Rattle.std.proofs.Common.{◌≡◌, ◌&&◌, ℕ, nat_lt}
-use Rattle.run_model.specs.Privilege.{is_privileged}
+use Rattle.configuration.specs.run_model.Privilege.{is_privileged}
 use Rattle.configuration.specs.ConfigurationView.{world_of}
 use Rattle.judge.specs.Stretch.{has_bit}
 use Rattle.judge.proofs.visited.privileged_nodes.Given as goal

@@ -1,5 +1,5 @@
 use Rattle.std.proofs.Common.{ap}
-use Rattle.lock_command.proofs.Driven.{IsUnderWay, RunsAt, steps, closes, runs_on, runs_over}
+use Rattle.lock_command.proofs.Drives.{IsUnderWay, RunsAt, steps, closes, runs_on, runs_over}
 use Rattle.lock_command.proofs.driver.drive.Goals as goal
 
 pub returns-in-Finish-clause-outcome : goal.returns-in-Finish-clause-outcome

@@ -1,5 +1,5 @@
 use Rattle.std.proofs.Common.{◌≡◌, false}
-use Rattle.lock_command.proofs.Driven.{IsUnderWay, RunsAt}
+use Rattle.lock_command.proofs.Drives.{IsUnderWay, RunsAt}
 use Rattle.lock_command.proofs.driver.drive.Given as goal
 
 abbrev pub invariant-loop : goal.invariant-loop

@@ -1,5 +1,5 @@
 use Rattle.std.proofs.Common.{rules, ◌≡◌, ◌∙◌, ◌<◌, ℕ, ap, refl, length, get_or}
-use Rattle.topology.specs.At.{at}
+use Rattle.registers.specs.topology.At.{at}
 use Rattle.registers.specs.Registers.{RegistersView, value_of}
 use Rattle.node_core.proofs.Moves.{moved_one_more, stayed_one_more, all_moved}
 use Rattle.node_core.proofs.machines.move_machines.Goals as goal

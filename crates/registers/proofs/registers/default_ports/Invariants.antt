@@ -1,6 +1,6 @@
 use Rattle.std.proofs.Common.{◌≡◌, replicate, ◌≤◌}
 use Rattle.std.specs.Vec.{vec_capacity}
-use Rattle.topology.specs.Ranges.{ranges_of}
+use Rattle.data_link.specs.topology.Ranges.{ranges_of}
 use Rattle.data_link.specs.Port.{default_port}
 use Rattle.registers.proofs.registers.default_ports.Given as goal
 

@@ -1,6 +1,6 @@
 use Rattle.std.proofs.Common.{◌∙◌, ap, ◌<◌, slice_index_or, arith}
 use Rattle.std.proofs.lemmas.Grind.{common_steps}
-use Rattle.configuration.specs.ConfigurationView.{world_of}
+use Rattle.world.specs.judge.configuration.ConfigurationView.{world_of}
 use Rattle.run_recording.specs.Seen.{look_by, nowhere}
 use Rattle.run_recording.proofs.Sights.{place_there, look_there}
 use Rattle.run_recording.proofs.sight.look_at.Goals as goal

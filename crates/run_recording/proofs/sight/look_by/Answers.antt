@@ -1,8 +1,8 @@
 use Rattle.std.proofs.Common.{◌≡◌, ◌∙◌, ap}
-use Rattle.node_core.specs.Machines.{is_node_privileged}
-use Rattle.node_core.specs.View.{site_in}
-use Rattle.run_model.specs.Privilege.{is_privileged}
-use Rattle.configuration.specs.ConfigurationView.{world_of}
+use Rattle.world.specs.judge.node_core.Machines.{is_node_privileged}
+use Rattle.world.specs.judge.node_core.View.{site_in}
+use Rattle.world.specs.run_model.Privilege.{is_privileged}
+use Rattle.world.specs.judge.configuration.ConfigurationView.{world_of}
 use Rattle.run_recording.proofs.Sights.{look_is}
 use Rattle.run_recording.proofs.sight.look_by.Goals as goal
 

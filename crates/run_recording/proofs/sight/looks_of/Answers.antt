@@ -2,7 +2,7 @@ use Rattle.std.proofs.Common.{◌≡◌, ◌∙◌, ap, sym, ◌+◌, ◌<◌, �
 use Rattle.std.specs.List.{range_with_len}
 use Rattle.std.proofs.lemmas.Grind.{common_steps}
 use Rattle.std.proofs.lemmas.List.FromFn.{map-range_with_len_more}
-use Rattle.configuration.specs.ConfigurationView.{world_of}
+use Rattle.world.specs.judge.configuration.ConfigurationView.{world_of}
 use Rattle.run_recording.specs.Seen.{look_at}
 use Rattle.run_recording.proofs.Marking.{first_written, written-length, all_taken}
 use Rattle.run_recording.proofs.sight.looks_of.Goals as goal

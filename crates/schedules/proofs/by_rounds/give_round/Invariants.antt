@@ -1,6 +1,6 @@
 use Rattle.std.proofs.Common.{◌≤◌, ◌-◌, ◌++◌, map}
 use Rattle.std.specs.List.{flat_map, range_with_len}
-use Rattle.run_model.specs.declared.event.Event.TheVariants.{Tick}
+use Rattle.configuration.specs.run_model.declared.event.Event.TheVariants.{Tick}
 use Rattle.schedules.specs.Rounds.{exchanges_from, round}
 use Rattle.schedules.specs.Taking.{IsUnderWay}
 use Rattle.schedules.proofs.by_rounds.give_round.Given as goal

@@ -1,8 +1,8 @@
 use Rattle.std.proofs.Common.{◌≡◌, ◌∙◌, ap}
 use Rattle.std.specs.Prelude.{if◌then◌else◌, is_some}
-use Rattle.run_model.specs.World.{World}
-use Rattle.run_model.specs.Step.{step, changed}
-use Rattle.run_model.specs.declared.event.Event.TheVariants.{Tick}
+use Rattle.configuration.specs.run_model.World.{World}
+use Rattle.configuration.specs.run_model.Step.{step, changed}
+use Rattle.configuration.specs.run_model.declared.event.Event.TheVariants.{Tick}
 use Rattle.configuration.specs.ConfigurationView.{world_of}
 use Rattle.schedules.proofs.random.next_step.Goals as goal
 

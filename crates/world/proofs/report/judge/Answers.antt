@@ -2,17 +2,17 @@ use Rattle.std.proofs.Common.{◌≡◌, ◌≤◌, ◌+◌, ◌-◌, ◌*◌, �
 use Rattle.std.proofs.lemmas.List.{take_more, take_all}
 use Rattle.topology.specs.Network.{Network, bound_of}
 use Rattle.topology.specs.Eccentricity.{sharp_of}
-use Rattle.run_model.specs.World.{World}
-use Rattle.run_model.specs.Links.{AreLinksStable}
-use Rattle.run_model.specs.Tree.{IsTreeReached}
-use Rattle.run_model.specs.Count.{IsSweepCount}
-use Rattle.run_model.specs.Headline.{IsServing}
-use Rattle.convergence.specs.token_ring.Ring.{IsTokenRingGood}
-use Rattle.convergence.specs.token_ring.Legitimate.{IsLegitimate}
-use Rattle.configuration.specs.ConfigurationView.{world_of}
+use Rattle.judge.specs.run_model.World.{World}
+use Rattle.judge.specs.run_model.Links.{AreLinksStable}
+use Rattle.judge.specs.run_model.Tree.{IsTreeReached}
+use Rattle.judge.specs.run_model.Count.{IsSweepCount}
+use Rattle.judge.specs.run_model.Headline.{IsServing}
+use Rattle.convergence.specs.Ring.{IsTokenRingGood}
+use Rattle.convergence.specs.Legitimate.{IsLegitimate}
+use Rattle.judge.specs.configuration.ConfigurationView.{world_of}
 use Rattle.judge.specs.JudgeView.{HasSeen}
 use Rattle.judge.specs.Judging.{counted_up_to}
-use Rattle.run_model.specs.Run.{run}
+use Rattle.judge.specs.run_model.Run.{run}
 use Rattle.judge.specs.Visited.{AreVisited}
 use Rattle.world.proofs.Visits.{from-legitimate, from-each_state, from-each_bound}
 use Rattle.world.proofs.Headline.{LeadsTo, closed, fresh, led, moved, reached}

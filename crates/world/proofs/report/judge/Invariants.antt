@@ -1,5 +1,5 @@
 use Rattle.std.proofs.Common.{take}
-use Rattle.configuration.specs.ConfigurationView.{world_of}
+use Rattle.judge.specs.configuration.ConfigurationView.{world_of}
 use Rattle.judge.specs.JudgeView.{HasSeen}
 use Rattle.world.proofs.report.judge.Given as goal
 

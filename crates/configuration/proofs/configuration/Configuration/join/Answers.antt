@@ -1,13 +1,13 @@
 use Rattle.std.proofs.Common.{◌≡◌, ◌∙◌, ◌<◌, ◌++◌, ◌-◌, ◌∷◌, [], sym, subst, refl, arith, true, List, None}
 use Rattle.topology.specs.Network.{Edge, neighbours_of, joined_net}
-use Rattle.node_core.specs.Site.{site_of}
-use Rattle.node_core.specs.View.{site_in}
+use Rattle.run_model.specs.node_core.Site.{site_of}
+use Rattle.run_model.specs.node_core.View.{site_in}
 use Rattle.run_model.specs.Rewire.{can_join}
 use Rattle.run_model.specs.Step.{refusal}
 use Rattle.run_model.specs.declared.event.Event.TheVariants.{Damage}
 use Rattle.run_model.specs.declared.event.Harm.TheVariants as harm
 use Rattle.run_model.specs.declared.happened.Happened.TheVariants.{Damaged}
-use Rattle.network_links.specs.LinksView.{spare_pairs}
+use Rattle.configuration.specs.LinksView.{spare_pairs}
 use Rattle.configuration.specs.ConfigurationView.{ConfigurationView, AreNodesOf, node_at, world_of}
 use Rattle.configuration.specs.Rewired.{IsRewired}
 use Rattle.configuration.proofs.EdgeHarms.{edge-world, join-fault-none, join-none, joins-two}

@@ -1,14 +1,14 @@
 use Rattle.std.proofs.Common.{◌≡◌, ◌∙◌, ◌+◌, sym, subst, refl, List, None, Err}
 use Rattle.topology.specs.Network.{Edge, IsAcceptedNetwork, neighbours_of, edges_without, parted_net}
-use Rattle.node_core.specs.Site.{site_of}
-use Rattle.node_core.specs.View.{site_in}
+use Rattle.run_model.specs.node_core.Site.{site_of}
+use Rattle.run_model.specs.node_core.View.{site_in}
 use Rattle.run_model.specs.Step.{refusal}
 use Rattle.run_model.specs.declared.event.Event.TheVariants.{Damage}
 use Rattle.run_model.specs.declared.event.EventFault.TheVariants.{Apart}
 use Rattle.run_model.specs.declared.event.Harm.TheVariants as harm
 use Rattle.run_model.specs.declared.happened.Happened.TheVariants.{Damaged}
 use Rattle.configuration.specs.Answers.{Answers}
-use Rattle.network_links.specs.LinksView.{spare_pairs}
+use Rattle.configuration.specs.LinksView.{spare_pairs}
 use Rattle.configuration.specs.ConfigurationView.{ConfigurationView, AreNodesOf, node_at, world_of}
 use Rattle.configuration.specs.Rewired.{IsRewired}
 use Rattle.configuration.proofs.EdgeHarms.{IsParted, edge-world, part-apart, part-did, part-none, part-undone, parts-two, unchanged-answers}

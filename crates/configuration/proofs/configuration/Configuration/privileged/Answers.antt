@@ -1,6 +1,6 @@
 use Rattle.std.proofs.Common.{rules, ◌≡◌, ◌∙◌, ◌≤◌, ◌+◌, ap, sym, subst}
-use Rattle.node_core.specs.Machines.{is_node_privileged}
-use Rattle.node_core.specs.View.{site_in}
+use Rattle.run_model.specs.node_core.Machines.{is_node_privileged}
+use Rattle.run_model.specs.node_core.View.{site_in}
 use Rattle.run_model.specs.Privilege.{is_privileged}
 use Rattle.configuration.specs.ConfigurationView.{world_of}
 use Rattle.configuration.proofs.NodeCounts.{count-yes, count-no, count-most}

@@ -1,6 +1,6 @@
 use Rattle.std.proofs.Common.{◌≡◌, ◌↔◌, subst, sym, refl, IsOk, IsTrue, None}
-use Rattle.lock_desk.specs.Desk.{loan_fits, with_loan}
-use Rattle.node_core.specs.View.{state_of}
+use Rattle.run_model.specs.node_core.lock_desk.Desk.{loan_fits, with_loan}
+use Rattle.run_model.specs.node_core.View.{state_of}
 use Rattle.run_model.specs.declared.event.Harm.{Harm}
 use Rattle.run_model.specs.declared.event.Harm.TheVariants.{Desk}
 use Rattle.run_model.specs.Step.{harm_fits, harm_place_fault}

@@ -1,5 +1,5 @@
 use Rattle.std.proofs.Common.{◌≡◌, ◌↔◌, subst, refl, IsOk, IsTrue, None}
-use Rattle.node_core.specs.Writes.{own_fits}
+use Rattle.run_model.specs.node_core.Writes.{own_fits}
 use Rattle.run_model.specs.declared.event.Harm.{Harm}
 use Rattle.run_model.specs.declared.event.Harm.TheVariants.{Own}
 use Rattle.run_model.specs.Step.{harm_fits, harm_place_fault}

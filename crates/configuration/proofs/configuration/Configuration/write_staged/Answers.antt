@@ -1,6 +1,6 @@
 use Rattle.std.proofs.Common.{◌↔◌, subst, refl, IsOk, IsTrue}
 use Rattle.topology.specs.Ranges.{payload_fits}
-use Rattle.node_core.specs.Writes.{with_port}
+use Rattle.run_model.specs.node_core.Writes.{with_port}
 use Rattle.run_model.specs.declared.event.Harm.{Harm}
 use Rattle.run_model.specs.declared.event.Harm.TheVariants.{Staged}
 use Rattle.run_model.specs.Step.{harm_fits}

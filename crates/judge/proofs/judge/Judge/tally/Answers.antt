@@ -1,7 +1,7 @@
 use Rattle.std.proofs.Common.{◌∙◌, ap, sym, IsTrue}
 use Rattle.topology.specs.Network.{are_joined}
 use Rattle.configuration.specs.ConfigurationView.{world_of}
-use Rattle.run_model.specs.declared.event.Event.TheVariants.{Tick}
+use Rattle.configuration.specs.run_model.declared.event.Event.TheVariants.{Tick}
 use Rattle.judge.proofs.Judging.{joined-then}
 use Rattle.judge.proofs.JudgeSteps.{seen-looked}
 use Rattle.judge.proofs.judge.Judge.tally.Goals as goal

@@ -1,9 +1,14 @@
-use Rattle.std.proofs.Common.{◌≡◌, ◌<◌, ◌∷◌, [], Contains, length, ap, rules}
+use Rattle.std.proofs.Common.{◌≡◌, ◌<◌, ◌∷◌, [], Contains, length, ap, rules, subst, sym, ◌∙◌}
+use Rattle.std.specs.Prelude.{slice_set}
+use Rattle.std.proofs.lemmas.List.{length-set}
+use Rattle.node_core.specs.Site.{Site, site_of}
 use Rattle.topology.specs.Ranges.{ranges_of}
 use Rattle.socket_links.specs.Links.{Pulled}
 use Rattle.socket_links.specs.declared.link.Pull.TheVariants as pull
 use Rattle.node_loop.specs.Hearing.{Comes, Pulls}
 use Rattle.node_loop.proofs.Hearing.{both-set, others-set, frame-came, later-came, broken-came, takes-none, takes-nothing, takes-one, pulls-same}
+use Rattle.node_loop.specs.Loose.{AreLoose}
+use Rattle.node_loop.proofs.Loose.{loose-set}
 use Rattle.node_loop.proofs.run.NodeRun.pull_one.Goals as goal
 
 pub returns-then-not-is_neighbour-clause-ended : goal.returns-then-not-is_neighbour-clause-ended
@@ -57,3 +62,21 @@ returns-clause-came g c _ =
     (both-set (Comes r g.D.P.Pipe.gave g.D.P.Pipe.took (frame ∷ [])) self.ports.items id old new within c.index_mut.ensures.value
     (frame-came r g.D.P.Pipe.gave g.D.P.Pipe.took g.D.P.Pipe.counts frame old new pulled (rw c.in-Frame.is at c.pull.ensures.loose) c.pull.ensures.rest))
     (others-set self.ports.items id new)
+
+pub invariant_of-self-2-clause-strangers : goal.invariant_of-self-2-clause-strangers
+invariant_of-self-2-clause-strangers g c =
+    let self = c.args.self.now in
+    let ns = self.node.registers.neighbours in
+    let has : Contains ns c.args.id = search rules in
+    subst (λ (site : Site). AreLoose site.neighbours (slice_set self.ports.items c.args.id c.pull.new.self)) (sym c.take.ensures.site) (loose-set ns self.ports.items c.args.id c.pull.new.self has self.strangers)
+
+pub invariant_of-self-2-clause-wired : goal.invariant_of-self-2-clause-wired
+invariant_of-self-2-clause-wired g c =
+    let self = c.args.self.now in
+    subst (λ (site : Site). site ≡ site_of self.net site.id) (sym c.take.ensures.site) self.wired
+
+pub invariant_of-self-2-clause-ports_are : goal.invariant_of-self-2-clause-ports_are
+invariant_of-self-2-clause-ports_are g c =
+    let self = c.args.self.now in
+    let new = c.pull.new.self in
+    (length-set self.ports.items c.args.id new ∙ self.ports_are.0, self.ports_are.1)

@@ -1,6 +1,6 @@
 use Rattle.std.proofs.Common.{◌≡◌, ◌∙◌, ◌<◌, All, ap, arith, length, IsTrue}
-use Rattle.topology.specs.Network.{neighbours_of}
-use Rattle.topology.specs.Ranges.{ranges_of}
+use Rattle.data_link.specs.topology.Network.{neighbours_of}
+use Rattle.data_link.specs.topology.Ranges.{ranges_of}
 use Rattle.data_link.specs.Port.{port_fits, default_port}
 use Rattle.registers.specs.Registers.{RegistersView}
 use Rattle.registers.proofs.Start.{registers-start, default_fits}

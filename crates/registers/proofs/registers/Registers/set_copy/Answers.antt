@@ -1,5 +1,5 @@
 use Rattle.std.proofs.Common.{rules, Contains}
-use Rattle.topology.specs.Ranges.{payload_fits}
+use Rattle.data_link.specs.topology.Ranges.{payload_fits}
 use Rattle.data_link.specs.Port.{PortView}
 use Rattle.registers.specs.Registers.{IsPortOf}
 use Rattle.registers.proofs.Places.{registers-with_port, port_kept, port_changed_on_ok}

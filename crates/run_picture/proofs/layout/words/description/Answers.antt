@@ -1,7 +1,7 @@
 use Rattle.std.proofs.Common.{◌∙◌, ◌+◌, ap}
 use Rattle.topology.specs.Network.{bound_of}
 use Rattle.run_recording.specs.judge.Judging.{counted_up_to}
-use Rattle.configuration.specs.ConfigurationView.{world_of}
+use Rattle.run_recording.specs.configuration.ConfigurationView.{world_of}
 use Rattle.run_picture.specs.Words.{description_words}
 use Rattle.run_picture.proofs.Words.{described, tells_of}
 use Rattle.run_picture.proofs.layout.words.description.Goals as goal

@@ -1,6 +1,6 @@
 use Rattle.std.proofs.Common.{◌∙◌, ◌==◌, ap, sym, refl, length, [], ◌∷◌, ◌++◌, arith}
-use Rattle.run_model.specs.Run.{run, is_damage}
-use Rattle.configuration.specs.ConfigurationView.{world_of}
+use Rattle.world.specs.run_model.Run.{run, is_damage}
+use Rattle.world.specs.judge.configuration.ConfigurationView.{world_of}
 use Rattle.run_recording.specs.Recordings.{moment_of}
 use Rattle.run_recording.specs.Seen.{sight_of}
 use Rattle.run_recording.proofs.Recordings.{accepted_is, recorded_more}
@@ -12,11 +12,11 @@ returns-clause-records g c =
     let e = c.args.event.now in
     let now = rw (← c.self.view_is) at h in
     let before = c.sweeps-before.result in
-    let after = c.sweeps.result in
+    let after = c.sweeps-sweeps.result in
     let world = run start (es ++ e ∷ []) in
     let seen = c.step.ensures.judging start es now.seen in
     let accepted = accepted_is c.step.result _ c.step.ensures.ok c.step.ensures.err ∙ sym c.is_ok-accepted.ensures.value in
-    let damaged = c.is_damage.ensures (world_of c.self.inside.judge.configuration) accepted ∙ ap (λ w. is_damage w e) now.seen.judging.now_is in
+    let damaged = c.is_damage-damaged.ensures (world_of c.self.inside.judge.configuration) accepted ∙ ap (λ w. is_damage w e) now.seen.judging.now_is in
     let there = ap world_of c.configuration.ensures in
     let sight = c.follow.ensures (world_of c.self.inside.judge.configuration) c.self.invariant.1.is (there ∙ c.step.ensures.world)
     ∙ ap sight_of (there ∙ seen.judging.now_is) in
@@ -25,9 +25,10 @@ returns-clause-records g c =
     c.moment_of-moment.ensures world sight net
     ∙ ap (λ d. moment_of world d before after) damaged in
     let empty = c.is_empty.ensures ∙ ap (λ xs. length xs == 0) c.columns.ensures in
+    let kept = c.keep_still.ensures.shows world now.stills sight now.reeled in
     recorded_more start es e _ _ before after c.moment_of-moment.result _ now seen (c.sweeps-before.ensures.sweeps start es now.seen)
-    (c.sweeps.ensures.sweeps start (es ++ e ∷ []) seen) moment_is refl c.saturating_add-self-inside.ensures
-    (c.keep.ensures.shows now.moments now.shown) refl empty c.now_where-self-inside.ensures
+    (c.sweeps-sweeps.ensures.sweeps start (es ++ e ∷ []) seen) moment_is refl c.saturating_add-self-inside.ensures
+    (c.keep.ensures.shows now.moments now.shown) refl empty c.now_where-self-inside.ensures (rw damaged at kept)
 
 pub invariant_of-self : goal.invariant_of-self
 invariant_of-self g c =

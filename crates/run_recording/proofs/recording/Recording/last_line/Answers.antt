@@ -1,7 +1,7 @@
 use Rattle.std.proofs.Common.{◌∙◌, ap, [], ◌∷◌, ◌++◌}
 use Rattle.std.proofs.lemmas.Grind.{flat_map-append}
 use Rattle.std.specs.Option.{option_to_list}
-use Rattle.events_text.specs.EventsText.{ended_lines}
+use Rattle.world.specs.events_text.EventsText.{ended_lines}
 use Rattle.world.specs.SimulatedText.{told_event, told_events}
 use Rattle.run_recording.proofs.recording.Recording.last_line.Goals as goal
 

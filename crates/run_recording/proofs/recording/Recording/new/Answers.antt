@@ -1,6 +1,6 @@
 use Rattle.std.proofs.Common.{◌≡◌, ◌∙◌, ap, refl, [], arith}
 use Rattle.std.proofs.lemmas.Grind.{common_steps}
-use Rattle.configuration.specs.ConfigurationView.{world_of}
+use Rattle.world.specs.judge.configuration.ConfigurationView.{world_of}
 use Rattle.run_recording.specs.Seen.{sight_of}
 use Rattle.run_recording.proofs.Recordings.{begun}
 use Rattle.run_recording.proofs.recording.Recording.new.Goals as goal
@@ -11,7 +11,8 @@ returns-clause-recorded g c =
     let sight : c.of-sight.result ≡ sight_of w = c.of-sight.ensures ∙ ap (λ k. sight_of (world_of k)) (c.configuration.ensures ∙ c.new-judge.ensures.configuration) in
     let net = c.net.ensures ∙ ap (λ k. (world_of k).net) (c.configuration-2.ensures ∙ c.new-judge.ensures.configuration) in
     let moment_is = c.moment_of-start.ensures w sight net in
-    begun w _ c.moment_of-start.result c.new-judge.ensures.judging refl refl refl refl moment_is (c.keep.ensures.shows [] c.requires)
+    begun w _ c.moment_of-start.result c.new-judge.ensures.judging refl refl refl refl moment_is (c.keep.ensures.shows [] c.requires.strip)
+    (c.keep_still.ensures.shows w [] sight c.requires.reel)
 
 pub returns-clause-reading : goal.returns-clause-reading
 returns-clause-reading g c =
@@ -21,7 +22,8 @@ returns-clause-reading g c =
     let moment_is = c.moment_of-start.ensures w sight net in
     record {
       stands = c.new.ensures;
-      recorded = begun w _ c.moment_of-start.result c.new-judge.ensures.judging refl refl refl refl moment_is (c.keep.ensures.shows [] c.requires);
+      recorded = begun w _ c.moment_of-start.result c.new-judge.ensures.judging refl refl refl refl moment_is (c.keep.ensures.shows [] c.requires.strip)
+          (c.keep_still.ensures.shows w [] sight c.requires.reel);
     }
 
 pub invariant_of-result : goal.invariant_of-result

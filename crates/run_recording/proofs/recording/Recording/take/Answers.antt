@@ -3,7 +3,7 @@ use Rattle.std.proofs.lemmas.Grind.{common_steps}
 use Rattle.std.proofs.lemmas.List.{append-nil, take_rest}
 use Rattle.std.proofs.Math.Seq.{take-add}
 use Rattle.std.specs.Option.{option_to_list}
-use Rattle.events_text.specs.EventsText.{ended_lines}
+use Rattle.world.specs.events_text.EventsText.{ended_lines}
 use Rattle.world.specs.SimulatedText.{told_events}
 use Rattle.run_recording.proofs.Recordings.{line_ends, half_line_grows}
 use Rattle.run_recording.proofs.recording.Recording.take.Goals as goal
@@ -19,9 +19,10 @@ loop-at-preserved g c =
       grind (arith, common_steps),
       grind (arith, common_steps),
       grind (arith, common_steps),
+      grind (arith, common_steps),
       λ start bytes h.
           let so_far = bytes ++ take at piece in
-          let now = rw (← c.self.view_is) at c.loop-at.invariant.4 start bytes h in
+          let now = rw (← c.self.view_is) at c.loop-at.invariant.5 start bytes h in
           let ends : ended_lines (so_far ++ more) ≡ ended_lines so_far ++ c.in-Some.line ∷ [] =
           c.take-taken.ensures.line so_far now.stands ∙ ap (λ line. ended_lines so_far ++ option_to_list line) c.in-Some.is in
           let longer : take (at + used) piece ≡ take at piece ++ more =
@@ -40,7 +41,7 @@ returns-in_default-clause-text g c =
     let used = c.take-taken.result.used in
     let more = take used (take (length piece - at) (drop at piece)) in
     let so_far = bytes ++ take at piece in
-    let now = rw (← c.self.view_is) at c.loop-at.invariant.4 start bytes h in
+    let now = rw (← c.self.view_is) at c.loop-at.invariant.5 start bytes h in
     let ends : ended_lines (so_far ++ more) ≡ ended_lines so_far =
     c.take-taken.ensures.line so_far now.stands ∙ ap (λ line. ended_lines so_far ++ option_to_list line) c.in_default.is ∙ append-nil (ended_lines so_far) in
     let rest : piece ≡ take at piece ++ more = grind (arith, common_steps) in
@@ -53,4 +54,4 @@ returns-clause-text g c =
     let piece = c.args.piece.now in
     let end : c.loop-at.at ≡ length piece = grind (arith, common_steps) in
     let all : take c.loop-at.at piece ≡ piece = grind (arith, common_steps) in
-    rw all at c.loop-at.invariant.4 start bytes h
+    rw all at c.loop-at.invariant.5 start bytes h

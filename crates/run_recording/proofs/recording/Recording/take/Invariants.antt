@@ -1,5 +1,6 @@
 use Rattle.std.proofs.Common.{◌≡◌, ℕ, ◌+◌, ◌-◌, ◌≤◌, List, ◌++◌, length, take}
-use Rattle.run_model.specs.World.{World}
+use Rattle.world.specs.run_model.World.{World}
+use Rattle.run_recording.specs.Filmed.{room_of}
 use Rattle.run_recording.specs.Recordings.{IsReading}
 use Rattle.run_recording.proofs.recording.Recording.take.Given as goal
 
@@ -10,6 +11,7 @@ invariant-loop-at g l =
     × (l.self.events ≤ l.fn.self.events + l.at)
     × (l.self.window ≡ l.fn.self.window)
     × (l.self.strip.limit ≡ l.fn.self.strip.limit)
+    × (room_of l.self.reel ≡ room_of l.fn.self.reel)
     × ((start : World) (bytes : List ℕ) → IsReading start bytes l.fn.self → IsReading start (bytes ++ take l.at l.piece) l.self)
 
 abbrev pub decreases-loop-at : goal.decreases-loop-at

@@ -1,5 +1,5 @@
 use Rattle.std.proofs.Common.{◌∙◌, ap, sym, subst}
-use Rattle.run_model.specs.Step.{step}
+use Rattle.world.specs.run_model.Step.{step}
 use Rattle.run_recording.specs.Seen.{sight_of}
 use Rattle.run_recording.specs.SightSteps.{DiffersAt}
 use Rattle.run_recording.proofs.Sights.{send_same, lose_same, take_differs, tick_differs, ask_differs, leave_differs}

@@ -1,6 +1,6 @@
 use Rattle.std.proofs.Common.{◌∙◌, ap, sym, ◌<◌, ◌≤◌, slice_index_or, arith}
 use Rattle.std.proofs.lemmas.Grind.{common_steps}
-use Rattle.configuration.specs.ConfigurationView.{world_of}
+use Rattle.world.specs.judge.configuration.ConfigurationView.{world_of}
 use Rattle.run_recording.specs.Seen.{look_by, nowhere, places_of, sight_of}
 use Rattle.run_recording.specs.SightSteps.{with_look}
 use Rattle.run_recording.proofs.Sights.{look_again_is, place_there}

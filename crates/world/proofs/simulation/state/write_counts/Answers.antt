@@ -1,7 +1,7 @@
 use Rattle.std.proofs.Common.{◌≡◌, ◌∙◌, ap, ◌++◌, codes, decimal}
-use Rattle.run_model.specs.NodeCounts.{privileged_count, lending_count}
+use Rattle.judge.specs.run_model.NodeCounts.{privileged_count, lending_count}
 use Rattle.world.specs.StateText.{counts_line}
-use Rattle.configuration.specs.ConfigurationView.{world_of}
+use Rattle.judge.specs.configuration.ConfigurationView.{world_of}
 use Rattle.world.proofs.simulation.state.write_counts.Goals as goal
 
 pub returns : goal.returns

@@ -4,7 +4,7 @@ use Rattle.std.proofs.lemmas.Grind.{common_steps}
 use Rattle.std.proofs.lemmas.List.FromFn.{length-range_with_len}
 use Rattle.world.specs.StateText.{links_from}
 use Rattle.byte_streams.specs.Streams.{Takes, TakesABeginning}
-use Rattle.configuration.specs.ConfigurationView.{world_of}
+use Rattle.judge.specs.configuration.ConfigurationView.{world_of}
 use Rattle.world.proofs.Writing.{fails_on_the_way, texts_fail, texts_go_on, number_at, all_numbers}
 use Rattle.world.proofs.simulation.state.write_links.Goals as goal
 

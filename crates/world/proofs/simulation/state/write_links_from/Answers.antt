@@ -5,7 +5,7 @@ use Rattle.std.proofs.lemmas.List.Elements.{Contains-get_or}
 use Rattle.topology.specs.Network.{neighbours_of}
 use Rattle.world.specs.StateText.{link_line}
 use Rattle.byte_streams.specs.Streams.{Takes, TakesABeginning}
-use Rattle.configuration.specs.ConfigurationView.{world_of}
+use Rattle.judge.specs.configuration.ConfigurationView.{world_of}
 use Rattle.world.proofs.Writing.{fails_on_the_way, texts_fail, texts_go_on}
 use Rattle.world.proofs.simulation.state.write_links_from.Goals as goal
 

@@ -3,7 +3,7 @@ use Rattle.std.specs.List.{flat_map}
 use Rattle.topology.specs.Network.{neighbours_of}
 use Rattle.world.specs.StateText.{link_line}
 use Rattle.byte_streams.specs.Streams.{Takes}
-use Rattle.configuration.specs.ConfigurationView.{world_of}
+use Rattle.judge.specs.configuration.ConfigurationView.{world_of}
 use Rattle.world.proofs.simulation.state.write_links_from.Given as goal
 
 -- the lines of the links to the first neighbours were written

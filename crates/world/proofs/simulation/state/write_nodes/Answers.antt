@@ -2,12 +2,12 @@ use Rattle.std.proofs.Common.{◌≡◌, ◌∙◌, ap, sym, ◌<◌, length, ta
 use Rattle.std.specs.List.{flat_map, range_with_len}
 use Rattle.std.proofs.lemmas.Grind.{common_steps}
 use Rattle.std.proofs.lemmas.List.FromFn.{length-range_with_len}
-use Rattle.node_core.specs.Status.{status_line}
-use Rattle.node_core.specs.View.{state_of}
-use Rattle.run_model.specs.World.{site}
+use Rattle.judge.specs.node_core.Status.{status_line}
+use Rattle.judge.specs.node_core.View.{state_of}
+use Rattle.judge.specs.run_model.World.{site}
 use Rattle.world.specs.StateText.{node_line}
 use Rattle.byte_streams.specs.Streams.{Takes, TakesABeginning}
-use Rattle.configuration.specs.ConfigurationView.{world_of}
+use Rattle.judge.specs.configuration.ConfigurationView.{world_of}
 use Rattle.world.proofs.Writing.{fails_on_the_way, texts_fail, texts_go_on, number_at, all_numbers}
 use Rattle.world.proofs.simulation.state.write_nodes.Goals as goal
 

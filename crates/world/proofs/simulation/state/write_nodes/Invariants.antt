@@ -2,7 +2,7 @@ use Rattle.std.proofs.Common.{◌≤◌, take}
 use Rattle.std.specs.List.{flat_map, range_with_len}
 use Rattle.world.specs.StateText.{node_line}
 use Rattle.byte_streams.specs.Streams.{Takes}
-use Rattle.configuration.specs.ConfigurationView.{world_of}
+use Rattle.judge.specs.configuration.ConfigurationView.{world_of}
 use Rattle.world.proofs.simulation.state.write_nodes.Given as goal
 
 -- what is written for the nodes below `v` was written

@@ -1,7 +1,7 @@
 use Rattle.std.proofs.Common.{◌++◌, arith}
 use Rattle.std.proofs.lemmas.Grind.{common_steps}
 use Rattle.world.specs.StateText.{node_lines, link_lines, counts_line, sweeps_line}
-use Rattle.configuration.specs.ConfigurationView.{world_of}
+use Rattle.judge.specs.configuration.ConfigurationView.{world_of}
 use Rattle.world.proofs.Writing.{fails_on_the_way, then_beginning, beginning_of_more, writes_then}
 use Rattle.world.proofs.simulation.state.write_state.Goals as goal
 

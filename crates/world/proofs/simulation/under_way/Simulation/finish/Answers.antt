@@ -1,6 +1,6 @@
 use Rattle.std.proofs.Common.{◌≡◌, ◌∙◌, ap, inr}
-use Rattle.run_model.specs.NodeCounts.{lending_count}
-use Rattle.configuration.specs.ConfigurationView.{world_of}
+use Rattle.judge.specs.run_model.NodeCounts.{lending_count}
+use Rattle.judge.specs.configuration.ConfigurationView.{world_of}
 use Rattle.world.proofs.SimulatedEnd.{is_shown, is_half_shown}
 use Rattle.world.proofs.simulation.under_way.Simulation.finish.Goals as goal
 

@@ -1,5 +1,5 @@
 use Rattle.std.proofs.Common.{◌≡◌, ℕ, ◌+◌, ◌-◌, ◌≤◌, List, [], Option, Some, length, take, drop}
-use Rattle.run_model.specs.World.{World}
+use Rattle.judge.specs.run_model.World.{World}
 use Rattle.world.specs.Simulating.{longest_text}
 use Rattle.world.specs.UnderWay.{IsUnderWay}
 use Rattle.world.proofs.simulation.under_way.Simulation.read_all.Given as goal

@@ -1,5 +1,5 @@
 use Rattle.std.proofs.Common.{ℕ, ◌+◌, ◌-◌, ◌≤◌, List, ◌++◌, Option, length, take}
-use Rattle.run_model.specs.World.{World}
+use Rattle.judge.specs.run_model.World.{World}
 use Rattle.world.specs.UnderWay.{IsUnderWay}
 use Rattle.world.proofs.simulation.under_way.Simulation.take.Given as goal
 

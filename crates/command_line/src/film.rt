@@ -1,0 +1,26 @@
+//! `draw FILE EVENTS --film`: a film of the run that a list of events makes on a network.
+
+use run_film::{Wanted, film_text, page_text};
+use run_picture::byte_streams::Source;
+use run_picture::command::{Drawn, Draws};
+use run_picture::command_parts::Fault;
+use run_picture::topology::Net;
+use std::alloc::Global;
+
+/// The film that is wanted.
+#[derive(Clone, Copy)]
+pub struct Film(pub Wanted);
+
+impl Draws for Film {
+    fn drawn<S: Source>(self, alloc: Global, net: &Net, source: &mut S) -> Result<Drawn, Fault> {
+        let film = if self.0.page {
+            page_text(alloc, net, source, self.0)?
+        } else {
+            film_text(alloc, net, source, self.0)?
+        };
+        Ok(Drawn {
+            text: film.text,
+            refused: film.refused,
+        })
+    }
+}

@@ -1,0 +1,127 @@
+-- Two nodes and links of capacity 1: the token ring after the first rounds, a world that is
+-- legitimate, and worlds that are not, each for one reason alone.
+use Rattle.std.proofs.Common.{◌≡◌, [], ◌∷◌, IsTrue, ◌==◌, ◌&&◌, refl, ap, inl, arith}
+use Rattle.std.proofs.lemmas.Bool.{false≢true}
+use Rattle.std.specs.Prelude.{if◌then◌else◌}
+use Rattle.topology.specs.declared.frame.Payload.{Payload}
+use Rattle.link_model.specs.declared.item.Item.TheVariants.{Frame}
+use Rattle.lock_desk.specs.Desk.{no_desk}
+use Rattle.run_model.specs.World.{World}
+use Rattle.run_model.specs.Tree.{IsTreeReached}
+use Rattle.run_model.specs.Links.{AreLinksStable}
+use Rattle.run_model.specs.Privilege.{is_privileged, is_lending}
+use Rattle.run_model.specs.NodeCounts.{lending_count}
+use Rattle.run_model.specs.Headline.{IsServing}
+use Rattle.run_model.proofs.RowsTwo.{two_nodes, node_with, shown, lending_desk, calm, calm-links_stable, calm-tree_reached, forged}
+use Rattle.run_model.proofs.RowsServing.{each-distance, each-some_parent, each-parent, one-of_two}
+use Rattle.run_model.proofs.RowsRound.{after}
+use Rattle.convergence.specs.Ring.{token_ring, IsTokenRingGood}
+use Rattle.convergence.specs.Legitimate.{IsLegitimate}
+
+-- ---- the first rounds
+
+-- the values: node 0's machine, what is staged for 1, 1's copy; 1's machine, what is staged for 0,
+-- 0's copy
+ring-after_four : token_ring (after 4) ≡ (1 ∷ 1 ∷ 1 ∷ 1 ∷ 1 ∷ 1 ∷ [])
+ring-after_four = refl
+
+ring-after_five : token_ring (after 5) ≡ (2 ∷ 2 ∷ 1 ∷ 1 ∷ 1 ∷ 1 ∷ [])
+ring-after_five = refl
+
+ring-after_six : token_ring (after 6) ≡ (2 ∷ 2 ∷ 2 ∷ 1 ∷ 1 ∷ 1 ∷ [])
+ring-after_six = refl
+
+ring-after_seven : token_ring (after 7) ≡ (2 ∷ 2 ∷ 2 ∷ 2 ∷ 2 ∷ 2 ∷ [])
+ring-after_seven = refl
+
+-- ---- legitimate, and not
+
+-- if all ring values are 0 and nobody lends
+pub calm-is_legitimate : IsLegitimate calm
+calm-is_legitimate = record {
+  links = calm-links_stable;
+  tree = calm-tree_reached;
+  ring = inl (refl, inl (refl, inl (refl, inl (refl, inl (refl, inl (refl, tt))))));
+  desks = λ v l lends. absurd cc;
+}
+
+-- node 1's machine has a value of its own
+forged-ring : token_ring forged ≡ (0 ∷ 0 ∷ 0 ∷ 1 ∷ 0 ∷ 0 ∷ [])
+forged-ring = refl
+
+ring-not_good : ¬ IsTokenRingGood forged
+ring-not_good h = grind arith
+
+pub forged-not_legitimate : ¬ IsLegitimate forged
+forged-not_legitimate l = ring-not_good l.ring
+
+-- ---- not legitimate for its loans alone
+
+-- node 1 lends, and node 0 alone is privileged
+abbrev unprivileged : World
+unprivileged = record {
+  net = two_nodes;
+  spares = 0;
+  node = λ v. node_with v (if v == 0 then no_desk else lending_desk) 0 0 0;
+  link = λ u v. [];
+}
+
+unprivileged-links_stable : AreLinksStable unprivileged
+unprivileged-links_stable = calm-links_stable
+
+unprivileged-tree_reached : IsTreeReached unprivileged
+unprivileged-tree_reached = record {
+  distance = calm-tree_reached.distance;
+  parent = calm-tree_reached.parent;
+  staged = λ v u j. let p = calm-tree_reached.staged v u j in record { distance = p.distance; parent = p.parent };
+  copied = λ v u j. let p = calm-tree_reached.copied v u j in record { distance = p.distance; parent = p.parent };
+}
+
+unprivileged-ring_good : IsTokenRingGood unprivileged
+unprivileged-ring_good = calm-is_legitimate.ring
+
+unprivileged-not_legitimate : ¬ IsLegitimate unprivileged
+unprivileged-not_legitimate l = false≢true (l.desks 1 (omega arith) refl)
+
+-- it serves all the same: at most one is privileged, and at most one lends
+unprivileged-serves : IsServing unprivileged
+unprivileged-serves = record {
+  distances = each-distance;
+  no_parent = refl;
+  some_parent = each-some_parent;
+  parents = each-parent;
+  one_privileged = one-of_two (λ v. IsTrue (is_privileged unprivileged v)) (λ a b. false≢true b);
+  one_lending = one-of_two (λ v. IsTrue (is_lending unprivileged v)) (λ a b. false≢true a);
+}
+
+-- ---- not legitimate for its links alone
+
+-- a frame is under way to node 1 with the number of node 0's port, and a ring value that node 0 has
+-- not staged
+abbrev late : World
+late = record {
+  net = two_nodes;
+  spares = 0;
+  node = calm.node;
+  link = λ u v. if (u == 0) && (v == 1) then Frame (record { seq = 0; ack = 0; payload = shown 0 3 }) ∷ [] else [];
+}
+
+late-tree_reached : IsTreeReached late
+late-tree_reached = record {
+  distance = calm-tree_reached.distance;
+  parent = calm-tree_reached.parent;
+  staged = λ v u j. let p = calm-tree_reached.staged v u j in record { distance = p.distance; parent = p.parent };
+  copied = λ v u j. let p = calm-tree_reached.copied v u j in record { distance = p.distance; parent = p.parent };
+}
+
+late-ring_good : IsTokenRingGood late
+late-ring_good = calm-is_legitimate.ring
+
+late-lends_not : lending_count late ≡ 0
+late-lends_not = refl
+
+late-links_not_stable : ¬ AreLinksStable late
+late-links_not_stable links = let same = ap (λ (p : Payload). p.ring) (links 0 1 refl).out.0 in absurd (omega (arith, same))
+
+late-not_legitimate : ¬ IsLegitimate late
+late-not_legitimate l = late-links_not_stable l.links

@@ -1,0 +1,96 @@
+//! What holds of the token ring and of privilege: each law is the contract of a function that does
+//! nothing.
+ghost use Rattle.convergence.specs.RingBelow.{Below};
+ghost use Rattle.convergence.specs.RingLaws.{OnePrivileged, OneLending, PrivilegeStays, SettledStays};
+ghost use Rattle.convergence.specs.RingLaws.{EventIsRingRun};
+ghost use Rattle.convergence.specs.RingLaws.{MovesTurnRingGood, HeadMoves, TokenRingStaysGood};
+ghost use Rattle.convergence.specs.RingLaws.{TokenRingTurnsGood};
+ghost use Rattle.convergence.specs.RingLaws.{TokenRingTurnsGoodSoon};
+ghost use Rattle.convergence.specs.RingService.{PrivilegeGoesRound, PrivilegeVisits, MachinesMove};
+ghost use Rattle.convergence.specs.Legs.{EachTour};
+
+/// The legs of the tour: each goes on from the one before and the first from the last, each node
+/// has one for each of its tree neighbours, the first alone is the special machine's, and there are
+/// 2(n-1). Whoever follows a value round the token ring needs these.
+pub fn legs()
+    ensures { EachTour }
+{
+    topology::laws::joined();
+    euler_ring::laws::round_a_node();
+    euler_ring::laws::true_view();
+    euler_ring::laws::the_tour();
+}
+
+/// All that this crate knows of the layers below it, and of the tour. The laws below are proved
+/// from these alone.
+pub fn below()
+    ensures { Below }
+{
+    topology::laws::joined();
+    topology::laws::neighbours();
+    topology::laws::tree();
+    k_state::laws::stays_good();
+    k_state::laws::turns_good();
+    k_state::laws::parallel_copies();
+    k_state::laws::privilege();
+    k_state::laws::ages();
+    euler_ring::laws::true_view();
+    run_model::laws::runs();
+    run_model::laws::in_range();
+    run_model::laws::sweep_numbers();
+    run_model::laws::ticks();
+    tree_convergence::laws::links();
+    tree_convergence::laws::payloads();
+    tree_convergence::laws::tree();
+    legs();
+}
+
+/// One token: if the tree is reached and the token ring is good, at most one node is privileged,
+/// and in a legitimate world at most one lends; a privileged node stays privileged until one of its
+/// machines moves. This is what the lock is for.
+pub fn one_token()
+    ensures privileged { OnePrivileged }
+    ensures lending { OneLending }
+    ensures stays { PrivilegeStays }
+{
+    below();
+}
+
+/// A settled world stays settled: in range, its links stable, its tree reached.
+pub fn settled()
+    ensures { SettledStays }
+{
+    below();
+}
+
+/// The token ring of a settled world, by moves of its head: an event copies values to the right and
+/// moves the head at most once, 6(n - 1) moves make the ring good, and any 8(n - 1) sweeps have
+/// one.
+pub fn head()
+    ensures runs { EventIsRingRun }
+    ensures moves_turn_good { MovesTurnRingGood }
+    ensures moves { HeadMoves }
+{
+    below();
+}
+
+/// The token ring of a settled world, by sweeps: 48(n - 1)(n - 1) make it good, and 16(n - 1) do
+/// too; and it stays good.
+pub fn ring()
+    ensures stays { TokenRingStaysGood }
+    ensures turns { TokenRingTurnsGood }
+    ensures turns_soon { TokenRingTurnsGoodSoon }
+{
+    below();
+}
+
+/// Where the privilege goes on a good token ring: while the head moves twice each node is
+/// privileged at some moment, so in any 16(n - 1) sweeps; and a machine of each node moves in any
+/// 8(n - 1).
+pub fn visits()
+    ensures in_two_moves { PrivilegeGoesRound }
+    ensures in_sweeps { PrivilegeVisits }
+    ensures machines { MachinesMove }
+{
+    below();
+}

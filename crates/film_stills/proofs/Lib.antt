@@ -1,0 +1,2 @@
+pub mod Stills
+mod RowsStills

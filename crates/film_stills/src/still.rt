@@ -1,0 +1,128 @@
+//! What a film shows at a moment.
+ghost use Rattle.std.specs.Prelude.{◌≡◌, IsTrue};
+ghost use Rattle.film_stills.specs.Stills.{is_weighty, joined, with_last, folded, calm_folded};
+ghost use Rattle.film_stills.specs.Stills.{IsLike};
+ghost use Rattle.run_model.specs.topology.Network.{are_joined};
+
+use crate::look::{Look, Place};
+use run_model::Event;
+
+/// The edges that a network has at most.
+pub const MOST_EDGES: usize = 256;
+
+/// Stands for no edge, since an edge joins two different nodes.
+pub const NO_EDGE: (u16, u16) = (0, 0);
+
+/// What is seen of a network at a moment, or at the last of several.
+#[derive(Clone, Copy, Debug, PartialEq, Eq)]
+pub struct Still {
+    /// What is seen of each node, by its id; [`Look::NOTHING`] where there is no such node.
+    pub looks: [Look; 64],
+    /// The true place of each node, by its id.
+    pub places: [Place; 64],
+    /// The edges, and [`NO_EDGE`] at the places that have none.
+    pub edges: [(u16, u16); MOST_EDGES],
+    /// How many events have led to the moment.
+    pub events: u64,
+    /// The last of them; `None` at the start.
+    pub event: Option<Event>,
+    /// How many sweeps there have been since the last damage.
+    pub sweeps: u64,
+    /// Whether damage was accepted at any of the moments.
+    pub damaged: bool,
+    /// How many nodes are privileged: the most at any of the moments.
+    pub privileged: usize,
+    /// How many nodes lend: the most at any of the moments.
+    pub lending: usize,
+}
+
+impl Still {
+    /// Whether there was damage, or two nodes are privileged, or two lend.
+    pub fn is_weighty(&self) -> bool
+        ensures { result ≡ is_weighty self.now }
+    {
+        self.damaged | (self.privileged >= 2) | (self.lending >= 2)
+    }
+
+    /// One still of the moments of this one and of the later one's.
+    pub fn joined(&self, later: &Still) -> Still
+        ensures { result ≡ joined self.now later.now }
+    {
+        Still {
+            damaged: self.damaged | later.damaged,
+            privileged: self.privileged.max(later.privileged),
+            lending: self.lending.max(later.lending),
+            ..*later
+        }
+    }
+
+    /// Whether both show the same nodes in the same way.
+    pub fn is_like(&self, other: &Still) -> bool
+        ensures { IsTrue result → IsLike self.now other.now }
+    {
+        are_same_looks(&self.looks, &other.looks)
+            && are_same_places(&self.places, &other.places)
+            && are_same_edges(&self.edges, &other.edges)
+    }
+
+    /// Whether an edge joins two different nodes.
+    pub fn joins(&self, v: u16, w: u16) -> bool
+        ensures { result ≡ are_joined self.now.edges v w }
+    {
+        self.edges.iter().any(|edge| (edge.0 == v && edge.1 == w) || (edge.0 == w && edge.1 == v))
+    }
+}
+
+/// The last still, if there is one, stands for one moment more.
+pub fn join_last(stills: &mut [Still], moment: &Still)
+    ensures { stills.new ≡ with_last stills.old moment.now }
+{
+    if stills.is_empty() {
+        return;
+    }
+    let place = stills.len() - 1;
+    stills[place] = stills[place].joined(moment);
+}
+
+/// Whether the looks are the same.
+fn are_same_looks(looks: &[Look; 64], others: &[Look; 64]) -> bool
+    ensures { IsTrue result → looks.now ≡ others.now }
+{
+    for v in 0..64 {
+        if !looks[v].is(others[v]) {
+            return false;
+        }
+    }
+    true
+}
+
+/// Whether the places are the same.
+fn are_same_places(places: &[Place; 64], others: &[Place; 64]) -> bool
+    ensures { IsTrue result → places.now ≡ others.now }
+{
+    for v in 0..64 {
+        if !places[v].is(others[v]) {
+            return false;
+        }
+    }
+    true
+}
+
+/// Whether the edges are the same, in the same order.
+fn are_same_edges(edges: &[(u16, u16); MOST_EDGES], others: &[(u16, u16); MOST_EDGES]) -> bool
+    ensures { IsTrue result → edges.now ≡ others.now }
+{
+    for k in 0..MOST_EDGES {
+        if !is_same_edge(edges[k], others[k]) {
+            return false;
+        }
+    }
+    true
+}
+
+/// Whether both have the same ends, in the same order.
+fn is_same_edge(edge: (u16, u16), other: (u16, u16)) -> bool
+    ensures { IsTrue result → edge ≡ other }
+{
+    edge.0 == other.0 && edge.1 == other.1
+}

@@ -1,0 +1,5 @@
+use Rattle.flight_recorder.proofs.Files.{are_records}
+use Rattle.flight_recorder.proofs.laws.files_are_records.Goals as goal
+
+pub returns : goal.returns
+returns c = are_records c.records_grow.ensures

@@ -1,0 +1,4 @@
+pub use Rattle.flight_records.specs as flight_records
+pub mod View
+pub mod Recorder
+pub mod Laws

@@ -1,0 +1,30 @@
+//! A node's recorder, as a pure machine: what is noted where, and when it is written.
+//!
+//! A record is kept in two files of a fixed size, which are written in turn, so that the last file
+//! and what came of the present one are always there. A [`Recorder`] keeps a page of entries. What
+//! the node did is noted; at the end of a turn in which the page has become due, whoever drives the
+//! recorder writes it to the end of the present file, and says so or that it failed.
+//!
+//! ```
+//! recorder.note(now, Noted::Deed(Deed::Ticks));
+//! if recorder.is_due() {
+//!     match file(recorder.side()).append(recorder.page()) {
+//!         Ok(()) => if recorder.wrote() { /* empty the other file, and note the whole state */ }
+//!         Err(_) => recorder.failed(),
+//!     }
+//! }
+//! ```
+//!
+//! A file that has no room for one more page is left, and the other one begins: with the start of a
+//! state, for until then nothing else is noted. A write that failed stops the record, and nothing
+//! else: from then on nothing is noted, and nothing is due.
+//!
+//! The trap: what stands in the page is not yet in a file. A process that is killed loses up to one
+//! page of what it did last.
+#![tactic(auto)]
+
+pub mod laws;
+mod recorder;
+
+pub use flight_records;
+pub use recorder::{LEAST_SIZE, ROOM, Recorder, Side};

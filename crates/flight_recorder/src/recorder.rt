@@ -1,0 +1,183 @@
+//! The recorder.
+ghost use Rattle.std.specs.Prelude.{◌≡◌, ◌≤◌, ◌+◌, IfOk, length};
+ghost use Rattle.flight_recorder.specs.Recorder.{at_start, after_note, after_write, fills};
+ghost use Rattle.flight_recorder.specs.Recorder.{after_failure, is_due, is_start, is_at_start, other};
+ghost use Rattle.flight_recorder.specs.declared.recorder.Side.TheVariants.{First};
+
+use flight_records::{Entry, Noted, StatePart, write_entry};
+use std::alloc::{AllocError, Allocator, Global};
+use std::marker::Model;
+
+/// How many bytes of entries a recorder keeps at most.
+pub const ROOM: usize = 32768;
+
+/// From how many bytes on the page is due.
+const PAGE: usize = 4096;
+
+/// The most bytes of an entry.
+const LONGEST: usize = 121;
+
+/// The least size of a file.
+pub const LEAST_SIZE: u64 = 65536;
+
+/// One of the two files.
+#[derive(Clone, Copy, Debug, PartialEq, Eq)]
+pub enum Side {
+    /// The one that is written first.
+    First,
+    /// The other one.
+    Second,
+}
+
+impl Side {
+    /// The other one of the two.
+    fn other(self) -> Side
+        ensures { result ≡ other self }
+    {
+        match self {
+            Side::First => Side::Second,
+            Side::Second => Side::First,
+        }
+    }
+}
+
+/// Keeps the entries that are not yet written, and where they belong.
+#[derive(Drop)]
+pub struct Recorder<A: Allocator = Global> {
+    page: Vec<u8, A>,
+    /// The most bytes of a file.
+    size: u64,
+    /// How many bytes of the present file are written.
+    written: u64,
+    /// The instant of the entry that was noted last; 0 at the start of a file.
+    last: u64,
+    side: Side,
+    is_stopped: bool,
+}
+
+impl<A: Allocator> Model for Recorder<A> {
+    ghost use Rattle.std.specs.Prelude.{◌+◌, ◌≤◌, vec_len, vec_capacity};
+    ghost use Rattle.flight_recorder.specs.View.{RecorderView};
+
+    ghost Value = { RecorderView };
+
+    ghost view = { λ r. record {
+      page = r.page.items;
+      size = r.size;
+      written = r.written;
+      last = r.last;
+      side = r.side;
+      is_stopped = r.is_stopped;
+    } };
+
+    ghost invariant = { λ r. (32768 ≤ vec_capacity r.page) × (vec_len r.page ≤ 32768)
+        × (r.written + 32768 ≤ r.size) };
+}
+
+impl<A: Allocator> Recorder<A> {
+    /// A recorder at the start of the first of two files, of at most `size` bytes each. All memory
+    /// is reserved here; `AllocError` comes only where that is refused.
+    pub fn new(alloc: A, size: u64) -> Result<Recorder<A>, AllocError>
+        requires { 65536 ≤ size }
+        ensures { IfOk result (λ r. r ≡ at_start size First) }
+    {
+        Ok(Recorder {
+            page: Vec::with_capacity(alloc, ROOM)?,
+            size,
+            written: 0,
+            last: 0,
+            side: Side::First,
+            is_stopped: false,
+        })
+    }
+
+    /// Notes something of this instant, or of the one noted last if that is later. At the start of
+    /// a file only the start of a state is noted; once the record has stopped, nothing is; and where
+    /// the page has no room for one more entry, the record stops.
+    pub fn note(&mut self, instant: u64, noted: Noted)
+        ensures { self.new ≡ after_note instant noted self.old }
+    {
+        if self.is_stopped || self.is_at_start() && !is_start(&noted) {
+            return;
+        }
+        if self.page.len() + LONGEST > ROOM {
+            self.is_stopped = true;
+            return;
+        }
+        let entry = Entry {
+            instant: instant.max(self.last),
+            noted,
+        };
+        write_entry(self.last, &entry, &mut self.page);
+        self.last = entry.instant;
+    }
+
+    /// Whether nothing is noted yet of what belongs into the present file: it is to be emptied, and
+    /// the whole state is to be noted.
+    pub fn is_at_start(&self) -> bool
+        ensures { result ≡ is_at_start self.now }
+    {
+        self.written == 0 && self.page.is_empty()
+    }
+
+    /// Whether the page is to be written.
+    pub fn is_due(&self) -> bool
+        ensures { result ≡ is_due self.now }
+    {
+        !self.is_stopped && self.page.len() >= PAGE
+    }
+
+    /// The page.
+    pub fn page(&self) -> &[u8]
+        ensures page { result.now ≡ self.now.page }
+        // With it, the file is no longer than it may be.
+        ensures fits { self.now.written + length result.now ≤ self.now.size }
+    {
+        self.page.as_slice()
+    }
+
+    /// The file to whose end it belongs.
+    pub fn side(&self) -> Side
+        ensures { result ≡ self.now.side }
+    {
+        self.side
+    }
+
+    /// The page was written, all of it. Whether the file is full with it, and the other one begins.
+    pub fn wrote(&mut self) -> bool
+        ensures full { result ≡ fills self.old }
+        ensures after { self.new ≡ after_write self.old }
+    {
+        let written = self.written + self.page.len() as u64;
+        self.page.clear();
+        if self.size - written >= ROOM as u64 {
+            self.written = written;
+            return false;
+        }
+        self.written = 0;
+        self.last = 0;
+        self.side = self.side.other();
+        true
+    }
+
+    /// The page was not written: the record stops.
+    pub fn failed(&mut self)
+        ensures { self.new ≡ after_failure self.old }
+    {
+        self.is_stopped = true;
+    }
+
+    /// Whether the record has stopped.
+    pub fn is_stopped(&self) -> bool
+        ensures { result ≡ self.now.is_stopped }
+    {
+        self.is_stopped
+    }
+}
+
+/// Whether this is the start of a state.
+fn is_start(noted: &Noted) -> bool
+    ensures { result ≡ is_start noted.now }
+{
+    matches!(noted, Noted::State(StatePart::Start { .. }))
+}

@@ -1,0 +1,4 @@
+mod NotedAgain
+mod Entries
+mod Loop
+mod Rows

@@ -1,0 +1,21 @@
+//! What holds of records: each law is the contract of a function that does nothing.
+ghost use Rattle.flight_records.specs.Laws.{WrittenIsRead, CutIsRead, WhatIsReadIsWritten};
+ghost use Rattle.flight_records.specs.Laws.{RecordsGrow};
+
+/// Every list of entries, each no earlier than the one before, is read again as it was written,
+/// whatever follows; wherever the bytes are cut, the whole entries in front of the cut are read, and
+/// then the bytes are short; and what is read stands there as it is written. Whoever keeps a record
+/// in a file, of which a part may be missing, stands on it.
+pub fn one_reading()
+    ensures again { WrittenIsRead }
+    ensures cut { CutIsRead }
+    ensures only { WhatIsReadIsWritten }
+{
+    leb128::laws::one_reading();
+}
+
+/// An entry that is written at the end of a record, after the instant of its last entry, makes a
+/// record of one more. Whoever writes entry by entry keeps a record by this.
+pub fn records_grow()
+    ensures { RecordsGrow }
+{}

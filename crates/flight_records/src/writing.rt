@@ -1,0 +1,63 @@
+//! Entries are written.
+ghost use Rattle.std.specs.Prelude.{◌≡◌, ◌+◌, ◌*◌, ◌≤◌, ◌++◌, length, vec_len, vec_capacity};
+ghost use Rattle.leb128.specs.Spelling.{in_a_row};
+ghost use Rattle.flight_records.specs.Spelling.{numbers, check, spelling};
+
+use crate::entry::Entry;
+use arrayvec::ArrayVec;
+use leb128::push_number;
+use std::alloc::Allocator;
+
+/// The numbers of an entry: its kind's, the microseconds since the entry before, its fields.
+type Numbers = ArrayVec<u64, 12>;
+
+/// Writes an entry at the end of `out`, into room that is there: at most 121 bytes. `last` is the
+/// instant of the entry before it, and 0 at the start of a record.
+#[tactic(auto, unfolding(crate::specs::Spelling::spelling))]
+pub fn write_entry<A: Allocator>(last: u64, entry: &Entry, out: &mut Vec<u8, A>)
+    requires later { last ≤ entry.now.instant }
+    requires room { vec_len out.old + 121 ≤ vec_capacity out.old }
+    ensures items { out.new.items ≡ out.old.items ++ spelling last entry.now }
+    ensures most { vec_len out.new ≤ vec_len out.old + 121 }
+    ensures room { vec_capacity out.new ≡ vec_capacity out.old }
+{
+    let start = out.len();
+    push_numbers(&numbers(last, entry), out);
+    let check = check(&out[start..]);
+    out.push_reserved(check);
+}
+
+/// The numbers of an entry, after one of the instant `last`.
+fn numbers(last: u64, entry: &Entry) -> Numbers
+    requires { last ≤ entry.now.instant }
+    ensures { result.items ≡ numbers last entry.now }
+{
+    let mut numbers = Numbers::new();
+    numbers.push(entry.noted.kind());
+    numbers.push(entry.instant - last);
+    let _fits = numbers.try_extend_from_slice(&entry.noted.fields());
+    numbers
+}
+
+/// Writes numbers at the end, into room that is there.
+fn push_numbers<A: Allocator>(numbers: &[u64], out: &mut Vec<u8, A>)
+    requires { vec_len out.old + 10 * length numbers.now ≤ vec_capacity out.old }
+    ensures items { out.new.items ≡ out.old.items ++ in_a_row numbers.now }
+    ensures most { vec_len out.new ≤ vec_len out.old + 10 * length numbers.now }
+    ensures room { vec_capacity out.new ≡ vec_capacity out.old }
+{
+    for number in numbers {
+        push_number(out, *number);
+    }
+}
+
+/// The check of some bytes.
+pub(crate) fn check(bytes: &[u8]) -> u8
+    ensures { result ≡ check bytes.now }
+{
+    let mut total: u8 = 0;
+    for byte in bytes {
+        total = total.wrapping_add(*byte);
+    }
+    255 - total
+}

@@ -1,7 +1,0 @@
-mod Changing
-mod Placing
-mod LinkMoves
-mod LinkPlaces
-mod PairTables
-mod JoinedPairs
-mod RowsLinks

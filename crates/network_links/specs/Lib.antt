@@ -1,3 +1,0 @@
-pub mod PairTable
-pub mod Placed
-pub mod LinksView

@@ -1,0 +1,5 @@
+pub mod Films
+pub mod FilmTexts
+pub mod Pages
+pub mod Tracks
+mod RowsFilms

@@ -1,0 +1,21 @@
+use Rattle.run_film.proofs.Films.{keeps_on, played_kept}
+use Rattle.run_film.proofs.playing.put_parts.Goals as goal
+
+pub returns-clause-plays : goal.returns-clause-plays
+returns-clause-plays c =
+    let told = c.in_ok-put_told.ensures in
+    let edges = c.in_ok-put_edges.ensures in
+    let frames = c.in_ok-put_frames.ensures in
+    let nodes = c.in_ok-put_nodes.ensures in
+    record {
+      nodes = nodes.nodes;
+      edges = λ w below v less there. played_kept _ _ _ nodes.keeps (played_kept _ _ _ frames.keeps (edges.edges w below v less there));
+      frames = λ few. played_kept _ _ _ nodes.keeps (frames.frames few);
+      sweeps = played_kept _ _ _ nodes.keeps (played_kept _ _ _ frames.keeps (played_kept _ _ _ edges.keeps told.sweeps));
+      damage = played_kept _ _ _ nodes.keeps (played_kept _ _ _ frames.keeps (played_kept _ _ _ edges.keeps told.damage));
+    }
+
+pub returns-clause-keeps : goal.returns-clause-keeps
+returns-clause-keeps c =
+    keeps_on _ _ _ c.in_ok-put_told.ensures.keeps
+    (keeps_on _ _ _ c.in_ok-put_edges.ensures.keeps (keeps_on _ _ _ c.in_ok-put_frames.ensures.keeps c.in_ok-put_nodes.ensures.keeps))

@@ -1,0 +1,57 @@
+-- The texts of a film and of its page, and what of a run they show.
+use Rattle.std.specs.Prelude.{◌≡◌, ℕ, ◌≤◌, List, length, Some}
+use Rattle.topology.specs.Network.{Network}
+use Rattle.svg_drawing.specs.declared.element.Document.{Document}
+use Rattle.svg_drawing.specs.declared.element.Scene.{Scene}
+use Rattle.svg_drawing.specs.Grouped.{scene_shown}
+use Rattle.svg_drawing.specs.Spelling.{document_text, scene_text}
+use Rattle.svg_drawing.specs.Xml.{IsContent, IsDocument}
+use Rattle.run_recording.specs.run_model.declared.event.Event.{Event}
+use Rattle.run_recording.specs.declared.window.Window.{Window}
+use Rattle.run_recording.specs.film_stills.declared.still.Still.{Still}
+use Rattle.run_recording.specs.film_stills.Reels.{ReelView, Shows}
+use Rattle.run_recording.specs.Filmed.{AreFilmed}
+use Rattle.run_recording.specs.SimulatedText.{simulated_start}
+use Rattle.run_film.specs.declared.pace.Pace.{Pace}
+use Rattle.run_film.specs.Beats.{Film, beats_at}
+use Rattle.run_film.specs.Films.{ShowsFilm}
+use Rattle.run_film.specs.Pages.{ShowsPage}
+
+-- Of the moments of a run that a window holds, from the start of a network on, a reel stands for all,
+-- in their order: the first is shown as it was, and then come the reel's stills.
+pub record IsReelOf (net : Network) (window : Window) (es : List Event) (reel : ReelView) : Type 0 where
+  pub moments : List Still
+  pub ended : ℕ
+  pub are : AreFilmed window (simulated_start net) es ended moments
+  pub shown : Shows reel moments
+
+-- the film of a reel, from its first moment on
+abbrev pub film_at : ReelView → Pace → Still → Film
+film_at reel pace opening = record { opening = opening; later = reel.stills; pace = pace }
+
+-- each still is shown for a beat at least
+abbrev pub IsEachShown : ReelView → Pace → Type 0
+IsEachShown reel pace = (opening : Still) (place : ℕ) → place ≤ length reel.stills → 1 ≤ beats_at (film_at reel pace opening) place
+
+-- A text is a film of a run: it spells, with tags that nest, what shows a reel of the run; if the
+-- window holds no moment, no still.
+pub record IsFilm (net : Network) (window : Window) (es : List Event) (text : List ℕ) : Type 0 where
+  pub reel : ReelView
+  pub of_run : IsReelOf net window es reel
+  pub pace : Pace
+  pub each : IsEachShown reel pace
+  pub scene : Scene
+  pub plays : (opening : Still) → reel.opening ≡ Some opening → ShowsFilm (scene_shown scene) (film_at reel pace opening) net
+  pub spelled : text ≡ scene_text scene
+  pub nests : IsContent text
+
+-- A text is a page with a film of a run.
+pub record IsPage (net : Network) (window : Window) (es : List Event) (text : List ℕ) : Type 0 where
+  pub reel : ReelView
+  pub of_run : IsReelOf net window es reel
+  pub pace : Pace
+  pub each : IsEachShown reel pace
+  pub page : Document
+  pub plays : (opening : Still) → reel.opening ≡ Some opening → ShowsPage page (film_at reel pace opening) net
+  pub spelled : text ≡ document_text page
+  pub nests : IsDocument text

@@ -1,0 +1,11 @@
+pub mod Beats
+pub mod Tracks
+pub mod Words
+pub mod Shapes
+pub mod Heads
+pub mod Places
+pub mod Curves
+pub mod Symbols
+pub mod Films
+pub mod Pages
+pub mod FilmTexts

@@ -1,0 +1,182 @@
+//! What stands first: title, style, ground and legend.
+ghost use Rattle.std.specs.Prelude.{◌≡◌, IfOk, codes, map, string_bytes};
+ghost use Rattle.svg_drawing.specs.Drawn.{given_of, note_shown};
+ghost use Rattle.svg_drawing.specs.Grouped.{grouped_of};
+ghost use Rattle.run_film.specs.Heads.{attributes_of, line_shown, stills_text, title_text};
+ghost use Rattle.run_film.specs.Heads.{told_text, IsHeaded};
+ghost use Rattle.run_film.specs.Words.{alone};
+
+use crate::stage::Stage;
+use crate::words::words;
+use std::alloc::{AllocError, Global};
+use svg_drawing::{Attribute, Element, Group, Point, Px};
+
+/// Colours of dark pages.
+const STYLE: &str = "\
+@media (prefers-color-scheme: dark) {
+.ground { fill: #16191c }
+text, .ink { fill: #e8eaec }
+.settled { fill: #3a4854; stroke: #cfd6dc }
+.wrong { fill: #6d7378; stroke: #e8eaec }
+.gold { fill: #8a6a00; stroke: #ffe9a8 }
+.golden { stroke: #f2b705 }
+.lent { fill: #6b2430; stroke: #ffd9de }
+.framed, .cross { stroke: #ff6b81 }
+.red { fill: #ff6b81 }
+.blue { fill: #6db3f2 }
+.arrow { stroke: #6db3f2 }
+.edge { stroke: #59626a }
+.way { stroke: #e8eaec }
+.dot { fill: #e8eaec; stroke: #16191c }
+.curve-lending { stroke: #ff6b81 }
+}";
+
+/// How high the drawing is below the graph.
+pub const BELOW: Px = Px(150);
+
+/// What a film says of its run.
+#[derive(Clone, Copy, Debug, PartialEq, Eq)]
+pub struct Told {
+    /// How many nodes there are.
+    pub nodes: u16,
+    /// How many events there were.
+    pub events: u64,
+    /// How many lines were refused.
+    pub refused: u64,
+    /// How many stills are shown.
+    pub stills: usize,
+    /// Whether weighty moments had to be joined.
+    pub crowded: bool,
+}
+
+/// The attributes of the element that holds the film.
+pub fn attributes(alloc: Global, stage: &Stage) -> Result<Vec<Attribute>, AllocError>
+    ensures { IfOk result (λ attributes. map given_of attributes.items ≡ attributes_of stage.now) }
+{
+    let width = stage.width.0;
+    let height = (stage.floor + BELOW).0;
+    let view = format!(in alloc; "0 0 {width} {height}")?;
+    let holder = Element::new(alloc, "svg")
+        .with(alloc, "xmlns", "http://www.w3.org/2000/svg")?
+        .with_number(alloc, "width", width)?
+        .with_number(alloc, "height", height)?
+        .with(alloc, "viewBox", view.as_str())?
+        .with(alloc, "font-family", "sans-serif")?
+        .with(alloc, "font-size", "13")?;
+    Ok(holder.attributes)
+}
+
+/// What stands first: the title and what the run was, which a screen reader says; and below all else
+/// the ground, with these words, how the stills stand for the run, and the legend.
+pub fn head(alloc: Global, stage: &Stage, told: Told) -> Result<Vec<Group>, AllocError>
+    ensures { IfOk result (λ groups. IsHeaded (map grouped_of groups.items) told) }
+{
+    let mut groups = under_title(alloc, stage, told)?;
+    groups.push(film_title(alloc, told)?)?;
+    Ok(groups)
+}
+
+/// The title.
+fn film_title(alloc: Global, told: Told) -> Result<Group, AllocError>
+    ensures { IfOk result (λ group. grouped_of group
+        ≡ alone (note_shown (codes "title") (title_text told))) }
+{
+    let title = title_told(alloc, told)?;
+    said_note(alloc, "title", title.as_str())
+}
+
+/// The words of the title.
+fn title_told(alloc: Global, told: Told) -> Result<String, AllocError>
+    ensures { IfOk result (λ text. string_bytes text ≡ title_text told) }
+{
+    let nodes = told.nodes;
+    format!(in alloc; "A run of a lock on {nodes} nodes, as a film")
+}
+
+/// What the run was.
+fn run_told(alloc: Global, told: Told) -> Result<String, AllocError>
+    ensures { IfOk result (λ text. string_bytes text ≡ told_text told) }
+{
+    let (events, refused) = (told.events, told.refused);
+    format!(in alloc; "{events} events, {refused} lines refused")
+}
+
+/// What follows the title.
+fn under_title(alloc: Global, stage: &Stage, told: Told) -> Result<Vec<Group>, AllocError> {
+    let title = title_told(alloc, told)?;
+    let was = run_told(alloc, told)?;
+    let stills = stills_told(alloc, told)?;
+    let mut groups = Vec::new(alloc);
+    groups.push(said_note(alloc, "desc", was.as_str())?)?;
+    groups.push(said_note(alloc, "style", STYLE)?)?;
+    groups.push(film_ground(alloc, stage)?)?;
+    groups.push(written_line(alloc, Px(26), title.as_str())?)?;
+    groups.push(written_line(alloc, Px(46), was.as_str())?)?;
+    groups.push(written_line(alloc, stage.floor + Px(140), stills.as_str())?)?;
+    put_legend(alloc, &mut groups)?;
+    Ok(groups)
+}
+
+/// An element that says something of the film.
+fn said_note(alloc: Global, name: &'static str, text: &str) -> Result<Group, AllocError>
+    ensures { IfOk result (λ group. grouped_of group ≡ alone (note_shown name.now text.now)) }
+{
+    Ok(Group::alone(alloc, Element::new(alloc, name).saying(text)?))
+}
+
+/// A line of text.
+fn written_line(alloc: Global, y: Px, text: &str) -> Result<Group, AllocError>
+    ensures { IfOk result (λ group. grouped_of group ≡ alone (line_shown y text.now)) }
+{
+    Ok(Group::alone(alloc, words(alloc, Point { x: Px(16), y }, text)?))
+}
+
+/// How many stills there are, and whether stretches are shown by their last state.
+fn stills_told(alloc: Global, told: Told) -> Result<String, AllocError>
+    ensures { IfOk result (λ text. string_bytes text ≡ stills_text told) }
+{
+    let stills = told.stills;
+    if told.crowded {
+        format!(in alloc;
+            "{stills} stills, fewer than moments that count: each is the last of a stretch"
+        )
+    } else {
+        format!(in alloc; "{stills} stills; calm stretches are shown by their last moment")
+    }
+}
+
+/// The ground.
+fn film_ground(alloc: Global, stage: &Stage) -> Result<Group, AllocError> {
+    let ground = Element::new(alloc, "rect")
+        .with(alloc, "class", "ground")?
+        .with_number(alloc, "width", stage.width.0)?
+        .with_number(alloc, "height", (stage.floor + BELOW).0)?
+        .with(alloc, "fill", "#ffffff")?;
+    Ok(Group::alone(alloc, ground))
+}
+
+/// A sign of the legend: its symbol, and what it means.
+const SIGNS: [(&str, u32, &str); 4] = [
+    ("#p", 34, "distance and parent true"),
+    ("#w", 252, "one of them wrong"),
+    ("#g", 440, "privileged"),
+    ("#l", 566, "lends the lock"),
+];
+
+/// Draws the legend.
+fn put_legend(alloc: Global, groups: &mut Vec<Group>) -> Result<(), AllocError> {
+    for sign in SIGNS {
+        let (name, x, text) = sign;
+        let mark = Element::new(alloc, "use")
+            .with(alloc, "href", name)?
+            .with_number(alloc, "x", x)?
+            .with_number(alloc, "y", 76)?;
+        groups.push(Group::alone(alloc, mark))?;
+        let at = Point {
+            x: Px(x) + Px(26),
+            y: Px(81),
+        };
+        groups.push(Group::alone(alloc, words(alloc, at, text)?))?;
+    }
+    Ok(())
+}

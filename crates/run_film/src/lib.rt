@@ -1,0 +1,39 @@
+//! A run of a network as a film: a drawing that plays, and a page that holds it.
+//!
+//! [`film`] draws the stills that a recording has kept: the network as a graph, the root at the top
+//! and each node as far below as its true distance; in each node the distance that it has, and an
+//! arrow towards the parent that it has. It plays by the animation elements of SVG, without any
+//! script; what plays nothing shows the last still:
+//!
+//! ```
+//! let recording = record_film(alloc, &net, &mut source, Pace::of(&net, 20).most(), Window::ALL)?;
+//! let scene = film(alloc, &net, &recording, Pace::of(&net, 20))?;
+//! let text = spelled_scene(alloc, &scene)?;      // bytes of a file that a browser plays
+//! ```
+//!
+//! Each still is shown for some *beats*, a part of a second each. What changes from still to still
+//! is a [`Track`]: its values, beat by beat.
+//!
+//! The trap: nodes stand where the network that is given has them, also after edges join and go.
+#![tactic(auto)]
+
+mod counts;
+mod curve;
+mod head;
+mod nodes;
+mod pace;
+mod page;
+mod playing;
+mod shapes;
+mod stage;
+mod symbols;
+mod text;
+mod track;
+mod words;
+
+pub use pace::{Pace, Shown};
+pub use playing::film;
+pub use run_recording::{Look, Place, Recording, Reel, SimFault, Still, Window, record_film};
+pub use svg_drawing::{Document, Scene, spelled_document, spelled_scene};
+pub use text::{FilmText, Wanted, film_text, page_text};
+pub use track::Track;

@@ -1,0 +1,133 @@
+//! A whole film.
+ghost use Rattle.std.specs.Prelude.{◌≡◌, ◌≤◌, Some, IfOk, OnOk, length, map};
+ghost use Rattle.run_recording.specs.film_stills.declared.still.Still.{Still};
+ghost use Rattle.run_recording.specs.film_stills.Reels.{ReelView};
+ghost use Rattle.svg_drawing.specs.Grouped.{scene_shown};
+ghost use Rattle.run_film.specs.Beats.{film_of};
+ghost use Rattle.svg_drawing.specs.Grouped.{grouped_of};
+ghost use Rattle.run_film.specs.Films.{Keeps, ShowsFilm, ShowsParts};
+ghost use Rattle.run_film.specs.Pages.{ShowsPage};
+
+use crate::counts::counts;
+use crate::head::{Told, attributes, head};
+use crate::nodes::{put_edges, put_frames, put_nodes, put_told};
+use crate::pace::{EMPTY, Pace, Shown};
+use crate::page::{controls, page_head};
+use crate::stage::Stage;
+use crate::symbols::put_symbols;
+use run_recording::{Recording, Reel, Still, first_visits};
+use std::alloc::{AllocError, Global};
+use svg_drawing::{Document, Group, Scene};
+use topology::Net;
+
+/// The film of a run that was recorded for it, at a pace. If its window holds no moment, the network
+/// stands there as nothing is seen of it.
+pub fn film(
+    alloc: Global,
+    net: &Net,
+    recording: &Recording,
+    pace: Pace,
+) -> Result<Scene, AllocError>
+    ensures plays { (reel : ReelView) (opening : Still) → recording.now.reel ≡ Some reel
+        → reel.opening ≡ Some opening
+        → IfOk result (λ scene. ShowsFilm (scene_shown scene)
+        (record { opening = opening; later = reel.stills; pace = pace }) net.now) }
+    ensures few { (reel : ReelView) → recording.now.reel ≡ Some reel
+        → length reel.stills ≤ reel.limit }
+{
+    let empty = EMPTY;
+    scene(alloc, net, recording, shown_of(recording, &empty, pace))
+}
+
+/// A page with that film, its controls, and a sentence for each still.
+pub fn page(
+    alloc: Global,
+    net: &Net,
+    recording: &Recording,
+    pace: Pace,
+) -> Result<Document, AllocError>
+    ensures plays { (reel : ReelView) (opening : Still) → recording.now.reel ≡ Some reel
+        → reel.opening ≡ Some opening
+        → IfOk result (λ page. ShowsPage page
+        (record { opening = opening; later = reel.stills; pace = pace }) net.now) }
+    ensures few { (reel : ReelView) → recording.now.reel ≡ Some reel
+        → length reel.stills ≤ reel.limit }
+{
+    let empty = EMPTY;
+    let shown = shown_of(recording, &empty, pace);
+    Ok(Document {
+        before: page_head(alloc)?,
+        scene: scene(alloc, net, recording, shown)?,
+        after: controls(alloc, shown)?,
+    })
+}
+
+/// What is shown of a recording; if its window holds no moment, this still.
+fn shown_of<'a>(recording: &'a Recording, empty: &'a Still, pace: Pace) -> Shown<'a>
+    ensures shown { (reel : ReelView) (opening : Still) → recording.now.reel ≡ Some reel
+        → reel.opening ≡ Some opening
+        → film_of result ≡ record { opening = opening; later = reel.stills; pace = pace } }
+    ensures few { (reel : ReelView) → recording.now.reel ≡ Some reel
+        → length reel.stills ≤ reel.limit }
+{
+    match recording.reel() {
+        Some(reel) => Shown::new(opening_of(reel, empty), reel.stills(), pace),
+        None => Shown::new(empty, &[], pace),
+    }
+}
+
+/// The first still of a reel; if it has none, this one.
+fn opening_of<'a>(reel: &'a Reel, empty: &'a Still) -> &'a Still
+    ensures { (opening : Still) → reel.now.opening ≡ Some opening → result.now ≡ opening }
+{
+    match reel.opening() {
+        Some(opening) => opening,
+        None => empty,
+    }
+}
+
+/// The drawing of these stills.
+fn scene(
+    alloc: Global,
+    net: &Net,
+    recording: &Recording,
+    shown: Shown<'_>,
+) -> Result<Scene, AllocError>
+    ensures { IfOk result (λ scene. ShowsFilm (scene_shown scene) (film_of shown.entry) net.now) }
+{
+    let order = first_visits(alloc, net)?;
+    let stage = Stage::of(net, order.as_slice());
+    let told = Told {
+        nodes: net.nodes(),
+        events: recording.events(),
+        refused: recording.refused(),
+        stills: shown.later().len().saturating_add(1),
+        crowded: recording.reel().is_some_and(|reel| reel.is_crowded()),
+    };
+    let mut groups = head(alloc, &stage, told)?;
+    groups.extend(counts(alloc, &stage, shown)?)?;
+    put_symbols(alloc, &mut groups, net, &stage, shown)?;
+    put_parts(alloc, &mut groups, net, &stage, shown)?;
+    Ok(Scene {
+        attributes: attributes(alloc, &stage)?,
+        groups,
+    })
+}
+
+/// Draws what changes from still to still.
+fn put_parts(
+    alloc: Global,
+    groups: &mut Vec<Group>,
+    net: &Net,
+    stage: &Stage,
+    shown: Shown<'_>,
+) -> Result<(), AllocError>
+    ensures plays { OnOk result (ShowsParts (map grouped_of groups.new.items) (film_of shown.entry) net.now) }
+    ensures keeps { OnOk result (Keeps (map grouped_of groups.old.items) (map grouped_of groups.new.items)) }
+{
+    put_told(alloc, groups, stage, shown)?;
+    put_edges(alloc, groups, net, shown)?;
+    put_frames(alloc, groups, net, shown)?;
+    put_nodes(alloc, groups, net, stage, shown)?;
+    Ok(())
+}

@@ -1,0 +1,134 @@
+//! Where the nodes stand.
+ghost use Rattle.std.specs.Prelude.{◌≡◌, ◌<◌, ◌≤◌, ◌+◌, ◌*◌, ℕ, slice_index_or};
+ghost use Rattle.topology.specs.Tree.{distance_of};
+ghost use Rattle.run_film.specs.Places.{place_in, root_place, IsStage};
+
+use svg_drawing::{Point, Px};
+use topology::Net;
+
+/// The least width of the drawing.
+const LEAST_WIDTH: u32 = 720;
+
+/// The height at which the root stands.
+const ROOT: Px = Px(136);
+
+/// Where the nodes of a network stand: each as far below the root as its true distance, and those of
+/// one distance in the order in which the tour of the tree comes to them first. So no two edges of
+/// the tree cross.
+#[derive(Clone, Copy)]
+pub struct Stage {
+    /// The place of each node, by its id.
+    places: [Point; 64],
+    /// The width of the drawing.
+    pub width: Px,
+    /// Where the graph ends.
+    pub floor: Px,
+    /// How far apart two neighbours in a row stand.
+    pub stride: Px,
+}
+
+/// How many nodes of the order have each distance.
+fn row_lengths(net: &Net, order: &[u16]) -> [usize; 64] {
+    let mut lengths = [0; 64];
+    for v in order {
+        let row = row_of(net, *v);
+        lengths[row] = usize::saturating_add(lengths[row], 1);
+    }
+    lengths
+}
+
+/// The row of a node: its true distance.
+fn row_of(net: &Net, v: u16) -> usize
+    ensures { result < 64 }
+{
+    if v < net.nodes() {
+        usize::from(net.distance(v)).min(63)
+    } else {
+        0
+    }
+}
+
+/// The longest of the rows.
+fn longest(lengths: &[usize; 64]) -> usize {
+    let mut most = 1;
+    for length in lengths.as_slice() {
+        most = most.max(*length);
+    }
+    most
+}
+
+/// How far two rows are apart, of so many below the root.
+fn rise_of(depth: usize) -> Px
+    ensures least { 60 ≤ result.0 }
+    ensures most { result.0 ≤ 96 }
+{
+    Px((300 / depth.max(1)).min(96).max(60) as u32)
+}
+
+/// The places of the nodes, all at the left, each at the height of its row.
+fn rows_of(net: &Net, rise: Px) -> [Point; 64]
+    requires { rise.0 ≤ 96 }
+    ensures { (v : ℕ) → v < net.now.nodes → (slice_index_or result v root_place).y.0
+        ≡ 136 + rise.0 * distance_of net.now v }
+{
+    let mut places = [Point { x: Px(0), y: ROOT }; 64];
+    for v in 0..net.nodes() {
+        places[usize::from(v)].y = ROOT + rise * usize::from(net.distance(v));
+    }
+    places
+}
+
+impl Stage {
+    /// The stage of a network; the nodes come in the order of the tour.
+    pub fn of(net: &Net, order: &[u16]) -> Stage
+        ensures { IsStage net.now result }
+    {
+        let lengths = row_lengths(net, order);
+        let most = longest(&lengths);
+        let stride = Px((560 / most.max(1)).min(132).max(48) as u32);
+        let depth = usize::from(net.eccentricity());
+        let rise = rise_of(depth);
+        let width = Px((stride * most + Px(96)).0.max(LEAST_WIDTH));
+        let mut stage = Stage {
+            places: rows_of(net, rise),
+            width,
+            floor: ROOT + rise * depth + Px(40),
+            stride,
+        };
+        stage.stand(net, order, &lengths);
+        stage
+    }
+
+    /// Gives each node its place within its row.
+    fn stand(&mut self, net: &Net, order: &[u16], lengths: &[usize; 64])
+        ensures { (v : ℕ) → (place_in self.new v).y ≡ (place_in self.old v).y }
+    {
+        let mut taken = [0; 64];
+        for v in order {
+            let row = row_of(net, *v);
+            let left = self.width.half() - (self.stride * lengths[row]).half();
+            self.shift(*v, left + self.stride * taken[row] + self.stride.half());
+            taken[row] = usize::saturating_add(taken[row], 1);
+        }
+    }
+
+    /// Gives a node its place from the left.
+    fn shift(&mut self, v: u16, x: Px)
+        ensures { (u : ℕ) → (place_in self.new u).y ≡ (place_in self.old u).y }
+    {
+        if v < 64 {
+            self.places[usize::from(v)].x = x;
+        }
+    }
+
+    /// The place of a node.
+    pub fn at(&self, v: u16) -> Point
+        ensures { result ≡ place_in self.now v }
+    {
+        if v < 64 {
+            self.places[usize::from(v)]
+        } else {
+            Point { x: Px(0), y: ROOT }
+        }
+    }
+}

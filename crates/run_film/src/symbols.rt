@@ -1,0 +1,506 @@
+//! The symbols of which a film is made: each has a short name, and is drawn where a part shows it.
+ghost use Rattle.std.specs.Prelude.{◌≡◌, ◌<◌, ℕ, ◌++◌, ◌∷◌, [], IfOk, OnOk, IsTrue, map, codes};
+ghost use Rattle.std.specs.Prelude.{List, decimal};
+ghost use Rattle.std.specs.List.{list_any};
+ghost use Rattle.svg_drawing.specs.Grouped.{grouped_of};
+ghost use Rattle.run_film.specs.Beats.{film_of, joins_in};
+ghost use Rattle.run_film.specs.Films.{Keeps};
+ghost use Rattle.run_film.specs.Shapes.{symbol_shown};
+ghost use Rattle.run_film.specs.Symbols.{has_parent, parents_in, HasArrows, HasDistances, HasEdges};
+ghost use Rattle.run_film.specs.Symbols.{HasMarks, HasSymbols, IsDefined};
+ghost use Rattle.run_film.specs.Tracks.{pair_code};
+
+use crate::curve::{first_quarter, half, last_quarter, middle_of, whole};
+use crate::pace::Shown;
+use crate::shapes::{circle, form, outline, symbol};
+use crate::stage::Stage;
+use crate::track::look_of;
+use crate::words::words;
+use run_recording::run_model::Event;
+use run_recording::{Still, is_tree_edge};
+use std::alloc::{AllocError, Global};
+use svg_drawing::{Element, Group, Point, Px};
+use topology::Net;
+
+/// The most nodes of a network whose frames are shown.
+pub const MOST_FRAMED: u16 = 12;
+
+/// The most tickets that have a symbol.
+const MOST_TICKETS: usize = 256;
+
+/// The place of what is drawn round its own middle.
+const MIDDLE: Point = Point { x: Px(0), y: Px(0) };
+
+/// The frame of a node that lends.
+const FRAME: &str = "M-19 -19H19V19H-19z";
+
+/// The second circle of a privileged node.
+const RING: &str = "M-20 0a20 20 0 1 0 40 0a20 20 0 1 0 -40 0";
+
+/// What strikes a node.
+const BOLT: &str = "M-18 -42l14 0l-6 12l9 0l-19 24l5 -18l-9 0z";
+
+/// Adds the symbols of a film.
+pub fn put_symbols(
+    alloc: Global,
+    groups: &mut Vec<Group>,
+    net: &Net,
+    stage: &Stage,
+    shown: Shown<'_>,
+) -> Result<(), AllocError>
+    ensures { OnOk result (HasSymbols (map grouped_of groups.new.items)
+        (film_of shown.entry) net.now) }
+{
+    put_others(alloc, groups, net, stage, shown)?;
+    put_marks(alloc, groups)?;
+    put_distances(alloc, groups, net)?;
+    put_arrows(alloc, groups, net, stage, shown)?;
+    put_edges(alloc, groups, net, stage, shown)?;
+    Ok(())
+}
+
+/// Those of tickets, of sweeps and of frames, and what stands at the ends of lines.
+fn put_others(
+    alloc: Global,
+    groups: &mut Vec<Group>,
+    net: &Net,
+    stage: &Stage,
+    shown: Shown<'_>,
+) -> Result<(), AllocError> {
+    let head = form(alloc, "M-8 -6L4 0L-8 6z", "blue", "#0b5394")?;
+    groups.push(line_end(alloc, "h", head)?)?;
+    let dot = circle(alloc, MIDDLE, 6, "dot", "#22262a")?;
+    groups.push(line_end(alloc, "f", dot)?)?;
+    put_tickets(alloc, groups, net, shown)?;
+    put_sweeps(alloc, groups, net, shown)?;
+    put_frame_symbols(alloc, groups, net, stage, shown)
+}
+
+/// A symbol that holds one element.
+fn symbol_of(alloc: Global, name: &str, element: Element) -> Result<Group, AllocError>
+    ensures { IfOk result (λ group. (grouped_of group).element ≡ symbol_shown name.now) }
+{
+    symbol(alloc, name)?.holding(element)
+}
+
+/// The four ways in which a node stands, told apart by their outlines too: settled plain, wrong with
+/// dashes, privileged with two circles, lending in a frame; what strikes a node, damage, and nothing.
+fn put_marks(alloc: Global, groups: &mut Vec<Group>) -> Result<(), AllocError>
+    ensures marks { OnOk result (HasMarks (map grouped_of groups.new.items)) }
+{
+    put_symbol(groups, settled(alloc)?)?;
+    put_symbol(groups, wrong(alloc)?)?;
+    put_symbol(groups, privileged(alloc)?)?;
+    put_symbol(groups, lending(alloc)?)?;
+    put_symbol(groups, symbol(alloc, "n")?)?;
+    put_symbol(
+        groups,
+        symbol_of(alloc, "z", form(alloc, BOLT, "red", "#c3263f")?)?,
+    )?;
+    put_symbol(
+        groups,
+        symbol_of(alloc, "y", words(alloc, MIDDLE, "damage")?)?,
+    )?;
+    Ok(())
+}
+
+/// Adds a symbol.
+fn put_symbol(groups: &mut Vec<Group>, group: Group) -> Result<(), AllocError>
+    ensures defined { OnOk result ((name : List ℕ) → (grouped_of group).element ≡ symbol_shown name
+        → IsDefined (map grouped_of groups.new.items) name) }
+    ensures keeps { OnOk result (Keeps (map grouped_of groups.old.items) (map grouped_of groups.new.items)) }
+{
+    groups.push(group)?;
+    Ok(())
+}
+
+/// A node whose place is the true one.
+fn settled(alloc: Global) -> Result<Group, AllocError>
+    ensures { IfOk result (λ group. (grouped_of group).element ≡ symbol_shown (codes "p")) }
+{
+    symbol_of(alloc, "p", circle(alloc, MIDDLE, 15, "settled", "#e6edf2")?)
+}
+
+/// A node whose place is not the true one.
+fn wrong(alloc: Global) -> Result<Group, AllocError>
+    ensures { IfOk result (λ group. (grouped_of group).element ≡ symbol_shown (codes "w")) }
+{
+    let dashed = circle(alloc, MIDDLE, 15, "wrong", "#8a8f94")?.with(
+        alloc,
+        "stroke-dasharray",
+        "4 3",
+    )?;
+    symbol_of(alloc, "w", dashed)
+}
+
+/// A privileged node.
+fn privileged(alloc: Global) -> Result<Group, AllocError>
+    ensures { IfOk result (λ group. (grouped_of group).element ≡ symbol_shown (codes "g")) }
+{
+    let gold = circle(alloc, MIDDLE, 15, "gold", "#f2b705")?;
+    symbol_of(alloc, "g", gold)?.holding(outline(alloc, RING, "golden", "#b98500", 3)?)
+}
+
+/// A node that lends.
+fn lending(alloc: Global) -> Result<Group, AllocError>
+    ensures { IfOk result (λ group. (grouped_of group).element ≡ symbol_shown (codes "l")) }
+{
+    let lent = circle(alloc, MIDDLE, 15, "lent", "#f3c3ca")?;
+    symbol_of(alloc, "l", lent)?.holding(outline(alloc, FRAME, "framed", "#c3263f", 4)?)
+}
+
+/// The number of each distance that a node may have.
+fn put_distances(alloc: Global, groups: &mut Vec<Group>, net: &Net) -> Result<(), AllocError>
+    ensures distances { OnOk result (HasDistances (map grouped_of groups.new.items) net.now) }
+    ensures keeps { OnOk result (Keeps (map grouped_of groups.old.items) (map grouped_of groups.new.items)) }
+{
+    for distance in 0..net.nodes() + 1 {
+        put_distance(alloc, groups, distance)?;
+    }
+    Ok(())
+}
+
+/// The number of a distance.
+fn put_distance(alloc: Global, groups: &mut Vec<Group>, distance: u16) -> Result<(), AllocError>
+    ensures distance { OnOk result (IsDefined (map grouped_of groups.new.items)
+        (codes "d" ++ decimal distance)) }
+    ensures keeps { OnOk result (Keeps (map grouped_of groups.old.items) (map grouped_of groups.new.items)) }
+{
+    put_symbol(groups, distance_text(alloc, distance)?)
+}
+
+/// The number of a distance, in the middle of a node.
+fn distance_text(alloc: Global, distance: u16) -> Result<Group, AllocError>
+    ensures { IfOk result (λ group. (grouped_of group).element
+        ≡ symbol_shown (codes "d" ++ decimal distance)) }
+{
+    let name = format!(in alloc; "d{distance}")?;
+    let number = format!(in alloc; "{distance}")?;
+    let text = Element::new(alloc, "text")
+        .with(alloc, "y", "5")?
+        .with(alloc, "text-anchor", "middle")?
+        .saying(number.as_str())?;
+    symbol_of(alloc, name.as_str(), text)
+}
+
+/// The arrow from each node to each parent that it has in some still.
+fn put_arrows(
+    alloc: Global,
+    groups: &mut Vec<Group>,
+    net: &Net,
+    stage: &Stage,
+    shown: Shown<'_>,
+) -> Result<(), AllocError>
+    ensures arrows { OnOk result (HasArrows (map grouped_of groups.new.items)
+        (film_of shown.entry) net.now) }
+    ensures keeps { OnOk result (Keeps (map grouped_of groups.old.items) (map grouped_of groups.new.items)) }
+{
+    for v in 0..net.nodes() {
+        put_arrows_of(alloc, groups, net, stage, shown, v)?;
+    }
+    Ok(())
+}
+
+/// Those of a node.
+fn put_arrows_of(
+    alloc: Global,
+    groups: &mut Vec<Group>,
+    net: &Net,
+    stage: &Stage,
+    shown: Shown<'_>,
+    v: u16,
+) -> Result<(), AllocError>
+    ensures arrows { OnOk result ((w : ℕ) → w < net.now.nodes
+        → IsTrue (parents_in (film_of shown.entry) v w)
+        → IsDefined (map grouped_of groups.new.items) (pair_code (codes "a") v w)) }
+    ensures keeps { OnOk result (Keeps (map grouped_of groups.old.items) (map grouped_of groups.new.items)) }
+{
+    for w in 0..net.nodes() {
+        put_arrow(alloc, groups, stage, shown, v, w)?;
+    }
+    Ok(())
+}
+
+/// The arrow from a node to another, if that is its parent in some still.
+fn put_arrow(
+    alloc: Global,
+    groups: &mut Vec<Group>,
+    stage: &Stage,
+    shown: Shown<'_>,
+    v: u16,
+    w: u16,
+) -> Result<(), AllocError>
+    ensures arrow { OnOk result (IsTrue (parents_in (film_of shown.entry) v w)
+        → IsDefined (map grouped_of groups.new.items) (pair_code (codes "a") v w)) }
+    ensures keeps { OnOk result (Keeps (map grouped_of groups.old.items) (map grouped_of groups.new.items)) }
+{
+    if is_parent(shown, v, w) {
+        put_symbol(groups, arrow(alloc, stage, v, w)?)?;
+    }
+    Ok(())
+}
+
+/// Whether a node has another for its parent in some still.
+fn is_parent(shown: Shown<'_>, v: u16, parent: u16) -> bool
+    ensures { result ≡ parents_in (film_of shown.entry) v parent }
+{
+    has_parent(shown.opening(), v, parent) || any_has_parent(shown.later(), v, parent)
+}
+
+/// Whether a node has another for its parent in some of these stills.
+fn any_has_parent(stills: &[Still], v: u16, parent: u16) -> bool
+    ensures { result ≡ list_any (λ still. has_parent still v parent) stills.now }
+{
+    stills.iter().any(|still| has_parent(still, v, parent))
+}
+
+/// Whether a node has another for its parent in a still.
+fn has_parent(still: &Still, v: u16, parent: u16) -> bool
+    ensures { result ≡ has_parent still.now v parent }
+{
+    match look_of(still, v).own.parent {
+        Some(w) => w == parent,
+        None => false,
+    }
+}
+
+/// The arrow from a node to a parent.
+fn arrow(alloc: Global, stage: &Stage, v: u16, parent: u16) -> Result<Group, AllocError>
+    ensures { IfOk result (λ group. (grouped_of group).element
+        ≡ symbol_shown (pair_code (codes "a") v parent)) }
+{
+    let name = format!(in alloc; "a{v}-{parent}")?;
+    let steps = half(alloc, stage, v, parent)?;
+    let line = outline(alloc, steps.as_str(), "arrow", "#0b5394", 3)?.with(
+        alloc,
+        "marker-end",
+        "url(#h)",
+    )?;
+    symbol_of(alloc, name.as_str(), line)
+}
+
+/// The line of each edge that some still has: those of the true tree thick.
+fn put_edges(
+    alloc: Global,
+    groups: &mut Vec<Group>,
+    net: &Net,
+    stage: &Stage,
+    shown: Shown<'_>,
+) -> Result<(), AllocError>
+    ensures edges { OnOk result (HasEdges (map grouped_of groups.new.items)
+        (film_of shown.entry) net.now) }
+    ensures keeps { OnOk result (Keeps (map grouped_of groups.old.items) (map grouped_of groups.new.items)) }
+{
+    for w in 0..net.nodes() {
+        put_edges_of(alloc, groups, net, stage, shown, w)?;
+    }
+    Ok(())
+}
+
+/// Those between a node and one of a smaller id.
+fn put_edges_of(
+    alloc: Global,
+    groups: &mut Vec<Group>,
+    net: &Net,
+    stage: &Stage,
+    shown: Shown<'_>,
+    w: u16,
+) -> Result<(), AllocError>
+    ensures edges { OnOk result ((v : ℕ) → v < w → IsTrue (joins_in (film_of shown.entry) v w)
+        → IsDefined (map grouped_of groups.new.items) (pair_code (codes "e") v w)) }
+    ensures keeps { OnOk result (Keeps (map grouped_of groups.old.items) (map grouped_of groups.new.items)) }
+{
+    for v in 0..w {
+        put_edge(alloc, groups, net, stage, shown, v, w)?;
+    }
+    Ok(())
+}
+
+/// The line of the edge between two nodes, if some still has it.
+fn put_edge(
+    alloc: Global,
+    groups: &mut Vec<Group>,
+    net: &Net,
+    stage: &Stage,
+    shown: Shown<'_>,
+    v: u16,
+    w: u16,
+) -> Result<(), AllocError>
+    ensures edge { OnOk result (IsTrue (joins_in (film_of shown.entry) v w)
+        → IsDefined (map grouped_of groups.new.items) (pair_code (codes "e") v w)) }
+    ensures keeps { OnOk result (Keeps (map grouped_of groups.old.items) (map grouped_of groups.new.items)) }
+{
+    if shown.joins(v, w) {
+        put_symbol(groups, edge(alloc, net, stage, v, w)?)?;
+    }
+    Ok(())
+}
+
+/// The line of an edge.
+fn edge(alloc: Global, net: &Net, stage: &Stage, v: u16, w: u16) -> Result<Group, AllocError>
+    ensures { IfOk result (λ group. (grouped_of group).element
+        ≡ symbol_shown (pair_code (codes "e") v w)) }
+{
+    let name = format!(in alloc; "e{v}-{w}")?;
+    let steps = whole(alloc, stage, v, w)?;
+    let width = if is_tree_edge(net, v, w) { 5 } else { 2 };
+    symbol_of(
+        alloc,
+        name.as_str(),
+        outline(alloc, steps.as_str(), "edge", "#b4bac0", width)?,
+    )
+}
+
+/// What stands at the end of a line.
+fn line_end(alloc: Global, name: &str, drawn: Element) -> Result<Group, AllocError> {
+    let element = Element::new(alloc, "marker")
+        .with(alloc, "id", name)?
+        .with(alloc, "viewBox", "-8 -8 16 16")?
+        .with(alloc, "markerWidth", "16")?
+        .with(alloc, "markerHeight", "16")?
+        .with(alloc, "markerUnits", "userSpaceOnUse")?
+        .with(alloc, "orient", "auto")?;
+    Group::alone(alloc, element).holding(drawn)
+}
+
+/// The number of each ticket that a node lends to in some still, of the first so many.
+fn put_tickets(
+    alloc: Global,
+    groups: &mut Vec<Group>,
+    net: &Net,
+    shown: Shown<'_>,
+) -> Result<(), AllocError> {
+    let mut tickets: Vec<u16> = Vec::new(alloc);
+    note_tickets(&mut tickets, net, shown.opening())?;
+    for still in shown.later() {
+        note_tickets(&mut tickets, net, still)?;
+    }
+    for ticket in tickets.as_slice() {
+        let name = format!(in alloc; "t{ticket}")?;
+        let told = format!(in alloc; "lends to {ticket}")?;
+        groups.push(symbol_of(alloc, name.as_str(), words(alloc, MIDDLE, told.as_str())?)?)?;
+    }
+    Ok(())
+}
+
+/// Notes the tickets that nodes lend to in a still, each once.
+fn note_tickets(tickets: &mut Vec<u16>, net: &Net, still: &Still) -> Result<(), AllocError> {
+    for v in 0..net.nodes() {
+        if let Some(ticket) = look_of(still, v).lent {
+            let is_new = tickets.iter().all(|other| *other != ticket);
+            if is_new && tickets.len() < MOST_TICKETS {
+                tickets.push(ticket)?;
+            }
+        }
+    }
+    Ok(())
+}
+
+/// The text of each number of sweeps that some still has.
+fn put_sweeps(
+    alloc: Global,
+    groups: &mut Vec<Group>,
+    net: &Net,
+    shown: Shown<'_>,
+) -> Result<(), AllocError> {
+    let mut counts: Vec<u64> = Vec::new(alloc);
+    counts.push(shown.opening().sweeps)?;
+    for still in shown.later() {
+        if counts.iter().all(|other| *other != still.sweeps) {
+            counts.push(still.sweeps)?;
+        }
+    }
+    for sweeps in counts.as_slice() {
+        groups.push(sweeps_text(alloc, net, *sweeps)?)?;
+    }
+    Ok(())
+}
+
+/// The text of a number of sweeps.
+fn sweeps_text(alloc: Global, net: &Net, sweeps: u64) -> Result<Group, AllocError> {
+    let name = format!(in alloc; "s{sweeps}")?;
+    let (sharp, bound) = (net.sharp_bound(), net.bound());
+    let told = format!(in alloc;
+        "sweeps since the last damage: {sweeps}; proved to suffice: {sharp} (bound: {bound})"
+    )?;
+    symbol_of(alloc, name.as_str(), words(alloc, MIDDLE, told.as_str())?)
+}
+
+/// What the last event of some still does with a frame, if the network is small enough to show it.
+fn put_frame_symbols(
+    alloc: Global,
+    groups: &mut Vec<Group>,
+    net: &Net,
+    stage: &Stage,
+    shown: Shown<'_>,
+) -> Result<(), AllocError> {
+    if net.nodes() > MOST_FRAMED {
+        return Ok(());
+    }
+    for from in 0..net.nodes() {
+        for to in 0..net.nodes() {
+            put_frame_symbols_of(alloc, groups, stage, shown, from, to)?;
+        }
+    }
+    Ok(())
+}
+
+/// The same for the frames from a node to another: one that is sent has left it, one that is taken
+/// comes in, and a cross stands in the middle if one is lost.
+fn put_frame_symbols_of(
+    alloc: Global,
+    groups: &mut Vec<Group>,
+    stage: &Stage,
+    shown: Shown<'_>,
+    from: u16,
+    to: u16,
+) -> Result<(), AllocError> {
+    if happens(shown, Event::Send { from, to }) {
+        let name = format!(in alloc; "o{from}-{to}")?;
+        let way = first_quarter(alloc, stage, from, to)?;
+        groups.push(frame(alloc, name.as_str(), way.as_str())?)?;
+    }
+    if happens(shown, Event::Take { from, to }) {
+        let name = format!(in alloc; "i{from}-{to}")?;
+        let way = last_quarter(alloc, stage, from, to)?;
+        groups.push(frame(alloc, name.as_str(), way.as_str())?)?;
+    }
+    if loses(shown.opening(), from, to)
+        || shown.later().iter().any(|still| loses(still, from, to))
+    {
+        groups.push(loss(alloc, stage, from, to)?)?;
+    }
+    Ok(())
+}
+
+/// Whether the last event of some still is this one.
+fn happens(shown: Shown<'_>, event: Event) -> bool {
+    shown.opening().event == Some(event)
+        || shown.later().iter().any(|still| still.event == Some(event))
+}
+
+/// Whether the last event of a still loses a frame from a node to another.
+fn loses(still: &Still, v: u16, w: u16) -> bool {
+    match still.event {
+        Some(Event::Lose { from, to, .. }) => from == v && to == w,
+        _ => false,
+    }
+}
+
+/// A frame that has come along a way, as a dot at its end.
+fn frame(alloc: Global, name: &str, steps: &str) -> Result<Group, AllocError> {
+    let way = outline(alloc, steps, "way", "#22262a", 2)?.with(alloc, "marker-end", "url(#f)")?;
+    symbol_of(alloc, name, way)
+}
+
+/// A cross where a frame from a node to another is lost.
+fn loss(alloc: Global, stage: &Stage, from: u16, to: u16) -> Result<Group, AllocError> {
+    let name = format!(in alloc; "x{from}-{to}")?;
+    let Point { x, y } = middle_of(stage, from, to);
+    let steps = format!(in alloc; "M{} {}m-6 -6l12 12m0 -12l-12 12", x.0, y.0)?;
+    symbol_of(
+        alloc,
+        name.as_str(),
+        outline(alloc, steps.as_str(), "cross", "#c3263f", 4)?,
+    )
+}

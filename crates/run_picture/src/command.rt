@@ -1,0 +1,150 @@
+//! `draw FILE EVENTS`: a picture of the run that a list of events makes on a network.
+ghost use Rattle.std.specs.Prelude.{◌≡◌, ◌⊎◌, IfOk, IfErr, OnOk};
+ghost use Rattle.std.specs.Process.{exit_status};
+ghost use Rattle.std.specs.Io.KnownBytes.{Appends};
+ghost use Rattle.command_parts.specs.declared.fault.Fault.TheVariants.{Output};
+
+mod watched;
+
+use crate::layout::draw;
+use byte_streams::Source;
+use command_parts::{
+    Fault, ReadSource, Returns, STANDARD_INPUT, events_status, read_network, return_hint, say_hint,
+};
+use run_recording::{Recording, Window, record};
+use std::alloc::{AllocError, Global};
+use std::fs;
+use std::io::{Input, Read, Write, writer};
+use std::process::ExitCode;
+use std::rt::Files;
+use std::time::Clock;
+use svg_drawing::spelled;
+use topology::Net;
+use watched::Watched;
+
+/// The most columns of a picture.
+pub const MOST_COLUMNS: u16 = 1200;
+
+/// What is to be drawn of a run.
+#[derive(Clone, Copy)]
+pub struct Wanted {
+    /// The most columns, 1 to [`MOST_COLUMNS`]; 0 counts as 1.
+    pub columns: u16,
+    /// The moments that are shown.
+    pub window: Window,
+}
+
+/// A picture as a text.
+#[derive(Drop)]
+pub struct Drawn {
+    /// The bytes of a file.
+    pub text: Vec<u8>,
+    /// How many lines of the events text were refused.
+    pub refused: u64,
+}
+
+/// What makes a picture of a run.
+pub trait Draws: Copy {
+    /// The picture of what the events that a source gives lead to on a network.
+    ///
+    /// # Errors
+    /// If memory runs out, or the source fails or gives too many bytes.
+    fn drawn<S: Source>(self, alloc: Global, net: &Net, source: &mut S) -> Result<Drawn, Fault>;
+}
+
+impl Draws for Wanted {
+    fn drawn<S: Source>(self, alloc: Global, net: &Net, source: &mut S) -> Result<Drawn, Fault> {
+        let columns = usize::from(self.columns.max(1));
+        let recording = record(alloc, net, source, columns, self.window)?;
+        match picture(alloc, net, &recording) {
+            Ok(text) => Ok(Drawn {
+                text,
+                refused: recording.refused(),
+            }),
+            Err(_) => Err(Fault::Memory),
+        }
+    }
+}
+
+/// Prints the picture of what the events of a file, or of standard input for `-`, lead to on the
+/// network of a file. Then it says on standard error why lines were refused that end in a
+/// carriage return. If `shows` says so, a line on standard error shows from the second second on how much of
+/// the events was read.
+///
+/// What is unproved: that the events of a file are the bytes that were read, and that the picture
+/// stands in standard output; neither says what its bytes are.
+///
+/// # Errors
+/// If no network is read of the file, the events cannot be read or are too long, memory runs
+/// out, or standard output does not take the picture: the first of these that is met. Nothing is
+/// printed but the whole picture, as far as standard output takes it.
+pub fn run<R: Files + Input + Clock + Print + Eprint + AllocGlobal, D: Draws>(
+    rt: &R,
+    network: &str,
+    events: &str,
+    wanted: D,
+    shows: bool,
+) -> Result<ExitCode, Fault>
+    ensures { IfOk result (λ status. (exit_status status ≡ 0) ⊎ (exit_status status ≡ 3)) }
+{
+    let net = read_network(rt, network)?;
+    let refused = if events == STANDARD_INPUT {
+        print_picture(rt, &net, rt.reader(), wanted, shows)?
+    } else {
+        let file = fs::open(rt, events).map_err(|_| Fault::EventsUnreadable)?;
+        print_picture(rt, &net, file, wanted, shows)?
+    };
+    Ok(events_status(refused))
+}
+
+/// Prints the picture of what the events that a reader gives lead to, and says then what there is to say
+/// of refused lines. The answer is how many were refused.
+fn print_picture<R: Clock + Print + Eprint + AllocGlobal, E: Read + Drop, D: Draws>(
+    rt: &R,
+    net: &Net,
+    events: E,
+    wanted: D,
+    shows: bool,
+) -> Result<u64, Fault> {
+    let events = Returns::new(ReadSource::new(events));
+    let mut source = Watched::start(rt, events, shows);
+    let written = write_picture(rt.alloc(), net, &mut source, &mut writer(rt), wanted);
+    let events = source.end();
+    let refused = written?;
+    say_hint(rt, return_hint(refused, events.were_seen()));
+    Ok(refused)
+}
+
+/// Writes the picture of what the events that a source gives lead to. The answer is how many lines were
+/// refused.
+///
+/// # Errors
+/// If memory runs out, the source fails or gives too many bytes, or the writer fails.
+pub fn write_picture<S: Source, W: Write, D: Draws>(
+    alloc: Global,
+    net: &Net,
+    source: &mut S,
+    output: &mut W,
+    wanted: D,
+) -> Result<u64, Fault> {
+    let drawn = wanted.drawn(alloc, net, source)?;
+    put(output, drawn.text.as_slice(), drawn.refused)
+}
+
+/// The picture of a recording, as a text.
+fn picture(alloc: Global, net: &Net, recording: &Recording) -> Result<Vec<u8>, AllocError> {
+    let drawing = draw(alloc, net, recording)?;
+    spelled(alloc, &drawing)
+}
+
+/// Writes a text whole, and answers this number then.
+fn put<W: Write>(output: &mut W, text: &[u8], refused: u64) -> Result<u64, Fault>
+    ensures text { OnOk result (Appends (W.contents output.old) (W.contents output.new) text.now) }
+    ensures ok { IfOk result (λ given. given ≡ refused) }
+    ensures err { IfErr result (λ fault. fault ≡ Output) }
+{
+    match output.write_all(text) {
+        Ok(()) => Ok(refused),
+        Err(_) => Err(Fault::Output),
+    }
+}

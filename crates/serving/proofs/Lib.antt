@@ -1,3 +1,0 @@
-mod RowsSight
-mod Serving
-mod Sights

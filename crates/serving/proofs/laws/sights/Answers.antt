@@ -1,5 +1,0 @@
-use Rattle.serving.proofs.Sights.{sights-decide}
-use Rattle.serving.proofs.laws.sights.Goals as goal
-
-pub returns : goal.returns
-returns c = sights-decide c.own_changes.ensures.node c.runs.ensures.network

@@ -1,2 +1,0 @@
-pub mod Sight
-pub mod TreeShown

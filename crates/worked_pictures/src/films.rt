@@ -1,0 +1,166 @@
+//! What a film of the forged tokens shows, by hand.
+ghost use Rattle.std.specs.Prelude.{◌≤◌};
+
+use crate::rows::{FORGED, two};
+use byte_streams::MemorySource;
+use run_film::{
+    Look, Place, Recording, SimFault, Still, Wanted, Window, film_text, page_text, record_film,
+};
+use std::alloc::{AllocError, Global};
+use std::test::Fail;
+use test_parts::{as_told, is_told};
+use topology::Net;
+
+/// A recording of the forged tokens with so many stills after the first moment.
+fn filmed(alloc: Global, stills: usize) -> Result<Recording, Fail>
+    requires { 2 ≤ stills }
+{
+    let net = two(alloc)?;
+    let mut source = MemorySource::new(FORGED.as_bytes(), 7);
+    Ok(record_film(alloc, &net, &mut source, stills, Window::ALL)?)
+}
+
+/// What is checked of a still: how many events led to it, whether there was damage, how many nodes
+/// are privileged and lend, and the looks of both nodes.
+type Seen = (u64, bool, usize, usize, (Look, Look));
+
+/// That of a still.
+fn seen(still: &Still) -> Seen {
+    (
+        still.events,
+        still.damaged,
+        still.privileged,
+        still.lending,
+        (still.looks[0], still.looks[1]),
+    )
+}
+
+/// The last still of a film with so many, and whether it is crowded.
+fn last_of(alloc: Global, stills: usize) -> Result<Option<(Seen, bool)>, Fail>
+    requires { 2 ≤ stills }
+{
+    let recording = filmed(alloc, stills)?;
+    Ok(
+        recording.reel().and_then(|reel| {
+            reel.stills()
+                .last()
+                .map(|still| (seen(still), reel.is_crowded()))
+        }),
+    )
+}
+
+/// A node that is where it belongs, with a token that it lends to a ticket.
+fn lending(distance: u16, parent: Option<u16>, ticket: u16) -> Look {
+    Look {
+        own: Place { distance, parent },
+        settled: true,
+        privileged: true,
+        lent: Some(ticket),
+    }
+}
+
+/// The end: after 8 harms both nodes are where they belong, privileged, and lend.
+fn end() -> Seen {
+    (8, true, 2, 2, (lending(0, None, 5), lending(1, Some(0), 6)))
+}
+
+#[test]
+fn a_film_ends_with_the_last_moment(rt: HostRuntime) -> Result<(), Fail> {
+    as_told(last_of(rt.alloc(), 20), &Some((end(), false)))
+}
+
+/// Two stills are too few for nine moments that differ.
+#[test]
+fn a_crowded_film_ends_with_the_last_moment_too(rt: HostRuntime) -> Result<(), Fail> {
+    as_told(last_of(rt.alloc(), 2), &Some((end(), true)))
+}
+
+/// How many events led to the first moment of a film, and how many nodes lend there.
+fn first_of(alloc: Global) -> Result<Option<(u64, usize)>, Fail> {
+    let recording = filmed(alloc, 2)?;
+    Ok(
+        recording.reel().and_then(|reel| {
+            reel.opening().map(|still| (still.events, still.lending))
+        }),
+    )
+}
+
+#[test]
+fn a_film_begins_with_the_start(rt: HostRuntime) -> Result<(), Fail> {
+    as_told(first_of(rt.alloc()), &Some((0, 0)))
+}
+
+/// One event that writes a distance and a parent.
+const WRITTEN: &str = "harm own 1 1 0\n";
+
+/// A film of two seconds: it has 20 beats, of which 10 hold the first still, and 30 more that hold the
+/// last for 3 seconds. Each of the two stills has 5 of the others.
+const SHORT: Wanted = Wanted {
+    seconds: 2,
+    window: Window::ALL,
+    page: false,
+};
+
+/// The text of a film of that event.
+fn short_film(alloc: Global) -> Result<Vec<u8>, SimFault> {
+    let net = Net::make(alloc, 2, 0, 1, 0, &[(0, 1)]).map_err(|_| SimFault::Memory)?;
+    let mut source = MemorySource::new(WRITTEN.as_bytes(), 7);
+    Ok(film_text(alloc, &net, &mut source, SHORT)?.text)
+}
+
+/// The values of what is shown for 15 beats, and then for 35.
+fn values(alloc: Global, first: &str, last: &str) -> Result<String, AllocError> {
+    let mut text = format!(in alloc; "values=\"{first}")?;
+    for beat in 1..50 {
+        text.push_str(";")?;
+        text.push_str(if beat < 15 { first } else { last })?;
+    }
+    text.push_str("\"")?;
+    Ok(text)
+}
+
+/// Whether the film has such values.
+fn has_values(alloc: Global, first: &str, last: &str) -> Result<bool, Fail> {
+    let film = short_film(alloc)?;
+    let values = values(alloc, first, last)?;
+    Ok(holds(film.as_slice(), values.as_str().as_bytes()))
+}
+
+/// Whether a text has another within it.
+fn holds(text: &[u8], part: &[u8]) -> bool {
+    text.windows(part.len().max(1)).any(|window| window == part)
+}
+
+/// At the start node 1 has the distance 2, as many as there are nodes, and no parent; then 1 and the root.
+#[test]
+fn distances_are_those_of_the_beats(rt: HostRuntime) -> Result<(), Fail> {
+    as_told(has_values(rt.alloc(), "#d2", "#d1"), &true)
+}
+
+#[test]
+fn parents_are_those_of_the_beats(rt: HostRuntime) -> Result<(), Fail> {
+    as_told(has_values(rt.alloc(), "#n", "#a1-0"), &true)
+}
+
+/// Damage strikes node 1, and not the root.
+#[test]
+fn lightning_strikes_with_damage(rt: HostRuntime) -> Result<(), Fail> {
+    as_told(has_values(rt.alloc(), "#n", "#z"), &true)
+}
+
+/// The edge is there all the time, so no part of the film shows it go.
+#[test]
+fn an_edge_that_stays_stays(rt: HostRuntime) -> Result<(), Fail> {
+    as_told(has_values(rt.alloc(), "#e0-1", "#n"), &false)
+}
+
+/// A page says what happened.
+#[test]
+fn a_page_says_each_still(rt: HostRuntime) -> Result<(), Fail> {
+    let alloc = rt.alloc();
+    let net = two(alloc)?;
+    let mut source = MemorySource::new(WRITTEN.as_bytes(), 7);
+    let page = page_text(alloc, &net, &mut source, SHORT)?.text;
+    let said = "<li data-beats=\"35\">Event 1, harm own 1 1 0: damage, 1 wrong, ";
+    is_told(&holds(page.as_slice(), said.as_bytes()), &true)
+}
