@@ -337,7 +337,9 @@ fn is_there_once(rt: &HostRuntime, dir: &str) -> Result<bool, Fail> {
 fn is_waited_for_in_vain(rt: &HostRuntime, dir: &str) -> Result<bool, Fail> {
     let mut holder = client(rt, dir, 0)?;
     let is_held = ask(rt, &mut holder, "lock\n")?.as_str() == "granted";
-    let words = format!(in rt.alloc(); "tokentree\nlock\n--timeout\n1\n{dir}\n2\ntrue")?;
+    let words = format!(in rt.alloc();
+        "tokentree\nlock\n--guard-as\n{GUARD}\n--timeout\n1\n{dir}\n2\ntrue"
+    )?;
     let told = "tokentree: node 2 did not lend the lock within 1 s\n";
     Ok(ends(rt, copy(rt, words.as_str(), "1")?, "status 124", told)? && is_held)
 }
