@@ -1,4 +1,4 @@
--- How a command line ends: with which status, and what is said if it is not done.
+-- How a command line ends: its status, and what it says if it fails.
 use Rattle.std.specs.Prelude.{◌≡◌, ◌⊎◌, ℕ, Bool, false, ◌||◌, List, [], ◌∷◌, Result, Ok, Err, if◌then◌else◌, codes}
 use Rattle.std.specs.Str.{bytes_eq}
 use Rattle.std.specs.Process.{exit_status}
@@ -17,20 +17,20 @@ abbrev pub asks_for_lock : List (List ℕ) → Bool
 asks_for_lock (program ∷ command ∷ words) = bytes_eq command (codes "lock")
 asks_for_lock _ = false
 
--- the one word after it is `version` or `-v`, or the second of two is `--version`
+-- the only word after it is `version` or `-v`, or the second of two is `--version`
 abbrev pub asks_for_version : List (List ℕ) → Bool
 asks_for_version (program ∷ word ∷ []) = bytes_eq word (codes "version") || bytes_eq word (codes "-v")
 asks_for_version (program ∷ command ∷ word ∷ []) = bytes_eq word (codes "--version")
 asks_for_version _ = false
 
--- what is said if the words of `network` say no network
+-- the message if the words of `network` describe no network
 abbrev pub kind_fault_text : KindFault → List ℕ
 kind_fault_text Unknown = codes "KIND is none of line, ring, star, complete, tree, grid and random"
 kind_fault_text NoColumns = codes "a grid takes two numbers, of rows and of columns"
 kind_fault_text OneNumber = codes "this kind takes one number, of nodes"
 kind_fault_text RandomAlone = codes "--edges and --seed are for random alone"
 
--- what is said after the program's name
+-- the message after the program's name
 abbrev pub refusal_text : Refusal → List ℕ
 refusal_text (Word fault) = word_fault_text fault
 refusal_text (Time fault) = time_fault_text fault
@@ -41,7 +41,8 @@ refusal_text (Kind fault) = kind_fault_text fault
 refusal_text NoCommand = codes "no command"
 refusal_text (Fault fault) = fault_text fault
 
--- the command's own status; 2 if the words are refused; else that of a fault, which is 125 for `lock`, since 1 may be its command's
+-- the command's own status; 2 if the words are invalid; else that of a fault, which is 125 for
+-- `lock`, since 1 may be its command's
 abbrev pub status_of : Bool → Result ExitCode Refusal → ℕ
 status_of is_lock (Ok status) = exit_status status
 status_of is_lock (Err (Fault fault)) = if is_lock then 125 else 1

@@ -8,7 +8,7 @@ abbrev pub in_range : Option ℕ → Option ℕ
 in_range None = None
 in_range (Some millis) = if nat_le 100 millis && nat_le millis 3600000 then Some millis else None
 
--- what the word of `--every` says, in milliseconds; half a second if it is left out
+-- the time of `--every` in milliseconds; half a second by default
 abbrev pub interval : Option (Bor (List ℕ)) → Option ℕ
 interval None = Some 500
 interval (Some word) = in_range (micros_of word.now)

@@ -16,10 +16,10 @@ kind_named name =
     else if bytes_eq name (codes "random") then Some (Random 0 0)
     else None
 
--- the most edges of n nodes: all pairs, and 256 at most
+-- the most edges of n nodes: all pairs, but at most 256
 abbrev pub most_edges : ℕ → ℕ
 most_edges n = min (n * (n - 1) / 2) 256
 
--- how many edges a random graph has if nothing is said: twice as many as a tree, if there are so many
+-- the default number of edges of a random graph: twice as many as a tree, if it can have so many
 abbrev pub usual_edges : ℕ → ℕ
 usual_edges n = min (2 * (n - 1)) (most_edges n)

@@ -1,4 +1,4 @@
--- The plan that the words of `measure` say.
+-- The plan, by the words of `measure`.
 use Rattle.std.specs.Prelude.{◌≡◌, ◌⊎◌, Bool, true, false, Some, codes}
 use Rattle.clap.specs.declared.parser.matches.Found.{Found}
 use Rattle.command_grammar.specs.Given.{IsGiven, IsFlag, IsRefused}
@@ -7,12 +7,13 @@ use Rattle.subcommands.specs.experiments.declared.measured_run.Scheduler.{Schedu
 use Rattle.subcommands.specs.experiments.declared.measured_run.Scheduler.TheVariants.{Rounds, Random}
 use Rattle.subcommands.specs.declared.measure.Plan.{Plan}
 
--- the runs go by steps that are drawn
+-- the runs take random steps
 abbrev pub is_random : Scheduler → Bool
 is_random Random = true
 is_random Rounds = false
 
--- the numbers of `--runs` and `--seed`, which have defaults; steps with `--random`; a table with `--table`
+-- the numbers of `--runs` and `--seed`, or their defaults; random steps with `--random`; a table
+-- with `--table`
 abbrev pub IsPlanOf : Found → Bool → Plan → Type 0
 IsPlanOf found progress plan =
     IsGiven found (codes "runs") 1 1000000 (Some plan.runs)
@@ -21,6 +22,6 @@ IsPlanOf found progress plan =
     × IsFlag found (codes "table") plan.table
     × (plan.progress ≡ progress)
 
--- one of the numbers is refused
+-- one of the numbers is invalid
 abbrev pub IsPlanRefused : Found → WordFault → Type 0
 IsPlanRefused found fault = IsRefused found (codes "runs") 1 1000000 fault ⊎ IsRefused found (codes "seed") 0 4294967295 fault

@@ -1,4 +1,4 @@
--- The turns that the words of `schedule` say.
+-- The turns, by the words of `schedule`.
 use Rattle.std.specs.Prelude.{◌≡◌, ◌⊎◌, Some, None, codes}
 use Rattle.clap.specs.Matches.{first_value}
 use Rattle.clap.specs.declared.parser.matches.Found.{Found}
@@ -7,8 +7,9 @@ use Rattle.command_grammar.specs.declared.words.WordFault.{WordFault}
 use Rattle.subcommands.specs.declared.schedule.Turns.{Turns}
 use Rattle.subcommands.specs.declared.schedule.Turns.TheVariants.{Rounds, Random}
 
--- with `--rounds` as many rounds; else as many steps as `--random` says, drawn from `--seed`, of whose takes `--loss` in a hundred
--- are losses, 0 if it is left out, and among which clients move with `--clients`
+-- with `--rounds`, that many rounds; else as many steps as `--random` says, drawn from `--seed`,
+-- with `--loss` of a hundred takes lost, by default 0, and with moves of clients if `--clients` is
+-- given
 abbrev pub AreTurnsOf : Found → Turns → Type 0
 AreTurnsOf found (Rounds count) = IsGiven found (codes "rounds") 0 4294967295 (Some count)
 AreTurnsOf found (Random steps seed chances) =
@@ -18,7 +19,7 @@ AreTurnsOf found (Random steps seed chances) =
     × IsGivenOr found (codes "loss") 0 100 0 chances.loss
     × IsFlag found (codes "clients") chances.clients
 
--- one of the numbers is refused
+-- one of the numbers is invalid
 abbrev pub AreTurnsRefused : Found → WordFault → Type 0
 AreTurnsRefused found fault =
     IsRefused found (codes "rounds") 0 4294967295 fault

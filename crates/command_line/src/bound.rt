@@ -55,7 +55,7 @@ pub fn add_to<'a>(parser: Command<'a>, alloc: Global) -> Result<Command<'a>, All
     with_command(parser, alloc, &BOUND)
 }
 
-/// What the help calls a time.
+/// The name of a time in the help.
 const MILLISECONDS: &str = "MILLISECONDS";
 
 /// What follows the options in its help.
@@ -120,7 +120,7 @@ pub fn run<R: Files + Print + AllocGlobal>(
     Ok(bound::run(rt, path, sharp, premises)?)
 }
 
-/// The premises that the words say, if times are asked for.
+/// The premises, if times are asked for.
 fn premises(given: &ArgMatches) -> Result<Option<Premises>, TimeFault> {
     if !given.get_flag("time") {
         return Ok(None);

@@ -19,8 +19,8 @@ use std::convert::AsStr;
 use std::process::ExitCode;
 use subcommands::Fault;
 
-/// Does what the words say, of which the first is the program's name, and says with which status it
-/// is done. Progress is shown if standard error is a terminal.
+/// Does what the words say, after the first, the program's name, and returns the exit status.
+/// Shows progress if standard error is a terminal.
 pub fn run_words<R: Runtime, S: AsStr>(rt: &R, words: &[S], on_terminal: bool) -> ExitCode {
     if asks_for_version(words) {
         return say_version(rt);
@@ -36,7 +36,7 @@ pub fn run_words<R: Runtime, S: AsStr>(rt: &R, words: &[S], on_terminal: bool) -
     }
 }
 
-/// The same for words of which none is left out.
+/// The same, once it is known that no word is lost.
 fn run_whole<R: Runtime, S: AsStr>(rt: &R, words: &[S], on_terminal: bool) -> ExitCode {
     let matches = match matches_of(rt, words) {
         Ok(matches) => matches,
@@ -50,7 +50,7 @@ fn run_whole<R: Runtime, S: AsStr>(rt: &R, words: &[S], on_terminal: bool) -> Ex
     status(rt, done, asks_for_lock(words), matches.subcommand_name())
 }
 
-/// Says before a fault's own line which file it is, and what is wrong with it.
+/// Before a fault's own line, says which file it is and what is wrong with it.
 fn explain<R: Runtime>(rt: &R, matches: &ArgMatches, fault: Fault) {
     let Some((_, given)) = matches.subcommand() else {
         return;
@@ -78,7 +78,7 @@ fn say_version<R: Print + Eprint>(rt: &R) -> ExitCode
     }
 }
 
-/// What the words give, or the status of a line that has shown help or was refused.
+/// What the parser made of the words, or the status of a line that showed help or was invalid.
 fn matches_of<'a, R: Print + Eprint + AllocGlobal, S: AsStr>(
     rt: &R,
     words: &'a [S],
@@ -103,7 +103,7 @@ fn program_parser<'a>(alloc: Global) -> Result<Command<'a>, AllocError> {
     with_experiments(with_nodes(parser, alloc)?, alloc)
 }
 
-/// Adds the commands of a network's numbers and runs, and those of the lock.
+/// Adds the commands for a network's numbers and runs, and those for the lock.
 fn with_lock<'a>(parser: Command<'a>, alloc: Global) -> Result<Command<'a>, AllocError> {
     let parser = bound::add_to(parser, alloc)?;
     let parser = simulate::add_to(parser, alloc)?;
@@ -111,7 +111,7 @@ fn with_lock<'a>(parser: Command<'a>, alloc: Global) -> Result<Command<'a>, Allo
     crate::status::add_to(parser, alloc)
 }
 
-/// Adds the commands that do damage, and those that run nodes.
+/// Adds the commands that damage files, and those that run nodes.
 fn with_nodes<'a>(parser: Command<'a>, alloc: Global) -> Result<Command<'a>, AllocError> {
     let parser = scramble::add_to(parser, alloc)?;
     let parser = cut::add_to(parser, alloc)?;
@@ -121,7 +121,7 @@ fn with_nodes<'a>(parser: Command<'a>, alloc: Global) -> Result<Command<'a>, All
     stop::add_to(parser, alloc)
 }
 
-/// Adds the commands of experiments, and of runs that are drawn or go on threads.
+/// Adds the commands for experiments, for pictures of runs, and for runs on threads.
 fn with_experiments<'a>(parser: Command<'a>, alloc: Global) -> Result<Command<'a>, AllocError> {
     let parser = network::add_to(parser, alloc)?;
     let parser = schedule::add_to(parser, alloc)?;
@@ -140,8 +140,8 @@ fn asks_for_lock<S: AsStr>(words: &[S]) -> bool
     }
 }
 
-/// Whether the words ask for the version in a way of their own: `version`, `-v`, or `--version` after a
-/// command.
+/// Whether the words ask for the version in a way that the parser does not know: `version`, `-v`,
+/// or `--version` after a command.
 fn asks_for_version<S: AsStr>(words: &[S]) -> bool
     ensures { result ≡ asks_for_version (map S.text words.now) }
 {
@@ -152,8 +152,8 @@ fn asks_for_version<S: AsStr>(words: &[S]) -> bool
     }
 }
 
-/// Does what the words of a command say, of which the last is `--` or not, and says with which status
-/// it is done.
+/// Does what the words of a command say, and returns the exit status. It knows whether the last
+/// word is `--`.
 fn act<R: Runtime>(
     rt: &R,
     matches: &ArgMatches,
@@ -170,7 +170,7 @@ fn act<R: Runtime>(
     }
 }
 
-/// Does what the words of a command say that needs no more than these.
+/// Does what the words of a command say, for commands that need nothing else.
 fn act_plainly<R: Runtime>(rt: &R, name: &str, given: &ArgMatches) -> Result<ExitCode, Refusal> {
     match name {
         "bound" => bound::run(rt, given),

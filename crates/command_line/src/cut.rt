@@ -38,7 +38,7 @@ half a second: stop the node first, or cut and kill it at once.
 Statuses: 0 done; 1 the file is not there, cannot be written or is no plain
 file; 2 invalid arguments.";
 
-/// To how many bytes a file is cut.
+/// The number of bytes that a file is cut to.
 const LENGTH: Number<'static> = Number {
     id: "LENGTH",
     name: "LENGTH",

@@ -94,7 +94,7 @@ const COLUMNS: Number<'static> = Number {
     most: 1200,
 };
 
-/// For how many seconds a film may play.
+/// How many seconds a film may play.
 const SECONDS: Number<'static> = Number {
     id: "seconds",
     name: "--seconds",
@@ -134,7 +134,7 @@ pub fn run<R: Files + Input + Clock + Print + Eprint + AllocGlobal>(
     Ok(command::run(rt, network, events, wanted, on_terminal)?)
 }
 
-/// What film the words of `draw` ask for.
+/// The film that the words of `draw` ask for.
 ///
 /// # Errors
 /// If a word spells no number in its range, or the window ends before it begins.
@@ -154,7 +154,7 @@ fn wanted_film(given: &ArgMatches) -> Result<run_film::Wanted, Refusal>
     })
 }
 
-/// What the words of `draw` ask for.
+/// The picture that the words of `draw` ask for.
 ///
 /// # Errors
 /// If a word spells no number in its range, or the window ends before it begins.

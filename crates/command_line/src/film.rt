@@ -7,7 +7,7 @@ use run_picture::command_parts::Fault;
 use run_picture::topology::Net;
 use std::alloc::Global;
 
-/// The film that is wanted.
+/// The film that is asked for.
 #[derive(Clone, Copy)]
 pub struct Film(pub Wanted);
 

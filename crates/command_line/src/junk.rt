@@ -36,7 +36,7 @@ machine.
 
 Statuses: 0 done; 1 standard output did not take the text; 2 invalid arguments.";
 
-/// Which seed is taken.
+/// The seeds.
 const SEED: Number<'static> = Number {
     id: "SEED",
     name: "SEED",
@@ -44,7 +44,7 @@ const SEED: Number<'static> = Number {
     most: 4_294_967_295,
 };
 
-/// How many lines of junk are printed.
+/// The numbers of lines of junk.
 const LINES: Number<'static> = Number {
     id: "LINES",
     name: "LINES",

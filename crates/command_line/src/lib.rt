@@ -1,15 +1,15 @@
-//! The command lines of `tokentree`: what each command takes, its help, and what is done with its
-//! words. Each command is a file here.
+//! The command lines of `tokentree`: what each command takes, its help, and what it does with its
+//! words. Each command has a file here.
 //!
 //! ```
 //! let status = run_words(rt, &["tokentree", "bound", "two-nodes.toml"], false); // prints, status 0
 //! let status = run_words(rt, &["tokentree", "bound"], false);                   // status 2
 //! ```
 //!
-//! What a command does stands in `subcommands`, `live_commands`, `run_picture`, `lock_command`,
-//! `status_command` and `node_process`; how the program ends, in `program_ends`.
+//! The work of a command is in `subcommands`, `live_commands`, `run_picture`, `lock_command`,
+//! `status_command` or `node_process`; `program_ends` says how the program ends.
 //!
-//! The trap: which words a command takes is the parser's to say, and no contract says; tests try
+//! The trap: the parser decides which words a command takes, and no contract covers it; tests try
 //! command lines.
 #![tactic(auto)]
 

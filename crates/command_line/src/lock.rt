@@ -40,10 +40,10 @@ const LOCK: Grammar<'static> = Grammar {
             "wait-children",
             "Hold the lock until what the command started ends",
         ),
-        // With it the program starts its own guard.
+        // The program starts its own guard with it.
         Parameter::HiddenFlag("guard"),
         Parameter::HiddenFlag("guard-keeping"),
-        // The word by which a test program becomes a guard.
+        // A test program becomes a guard with this word.
         Parameter::HiddenValue("guard-as"),
         Parameter::Place("DIR", SOCKETS_FOLDER),
         Parameter::Place(
@@ -126,7 +126,7 @@ service at DIR, or it or the system failed, or the second process could not be
 started; 126 the command cannot be run; 127 there is no such command; 2 invalid
 arguments. A signal that ends lock while it waits gives 128 and its number.";
 
-/// Which ids are taken; which nodes there are the folder says.
+/// The ids that the parser takes. The folder says which nodes there are.
 const ID: Number<'static> = Number {
     id: "ID",
     name: "ID",
@@ -134,7 +134,7 @@ const ID: Number<'static> = Number {
     most: 65_535,
 };
 
-/// The word that stands for whichever node answers first.
+/// The word for the node that answers first.
 const ANY: &str = "any";
 
 /// The status of a lost lock.
@@ -145,22 +145,22 @@ const LOST: Number<'static> = Number {
     most: 255,
 };
 
-/// For how many milliseconds the lock is waited for that is to be had at once: a token that is lent to
-/// nobody comes round sooner.
+/// How many milliseconds `lock` waits if it must have the lock at once: a token that nobody
+/// borrows comes round sooner.
 const AT_ONCE: u32 = 500;
 
-/// The variables of the environment that stand in for DIR and ID.
+/// The environment variables that stand in for DIR and ID.
 const FOLDER_VARIABLE: &str = "TOKENTREE_DIR";
 
 const NODE_VARIABLE: &str = "TOKENTREE_NODE";
 
-/// The words with which the program becomes the guard of a command. DIR and ID are not used then.
+/// The words that make the program the guard of a command. DIR and ID are not used then.
 const GUARD: [&str; 5] = ["lock", "--guard", "--", ".", "0"];
 
-/// The same, of a command that runs on if the lock is lost.
+/// The same for a command that runs on if the lock is lost.
 const KEEPING_GUARD: [&str; 5] = ["lock", "--guard-keeping", "--", ".", "0"];
 
-/// What stands in for words that are left out.
+/// What stands in for omitted words.
 #[derive(Drop)]
 pub struct Surroundings {
     folder: Option<String>,
@@ -168,7 +168,7 @@ pub struct Surroundings {
 }
 
 impl Surroundings {
-    /// What the environment has. An empty variable is none.
+    /// The stand-ins of the environment. An empty variable counts as none.
     pub fn of<R: Env + AllocGlobal>(rt: &R) -> Surroundings {
         Surroundings {
             folder: variable(rt, FOLDER_VARIABLE),
@@ -193,8 +193,8 @@ fn variable<R: Env + AllocGlobal>(rt: &R, name: &str) -> Option<String> {
     }
 }
 
-/// Does what the words of `lock` say, or what the guard of a command does. Of the words the last is
-/// `--` or not.
+/// Does what the words of `lock` say, or what the guard of a command does. `is_dashed` says
+/// whether the last word is `--`.
 pub fn run<R: Runtime>(rt: &R, given: &ArgMatches, is_dashed: bool) -> Result<ExitCode, Refusal> {
     let is_keeping_guard = given.get_flag("guard-keeping");
     if is_keeping_guard || given.get_flag("guard") {
@@ -207,7 +207,7 @@ pub fn run<R: Runtime>(rt: &R, given: &ArgMatches, is_dashed: bool) -> Result<Ex
     Ok(ExitCode::from(lock::run(rt, &request(given, command)?)))
 }
 
-/// What the words ask for, with this command.
+/// The request that the words make, with this command.
 fn request<'a>(given: &'a ArgMatches, command: &'a [&'a str]) -> Result<Request<'a>, Refusal> {
     let keeps_running = given.get_flag("keep");
     let guard = if keeps_running {
@@ -228,7 +228,7 @@ fn request<'a>(given: &'a ArgMatches, command: &'a [&'a str]) -> Result<Request<
     })
 }
 
-/// The node that is asked; none if that is any.
+/// The node to ask; none for any.
 fn node(given: &ArgMatches) -> Result<Option<u16>, Refusal> {
     if word(given, "ID")? == ANY {
         Ok(None)
@@ -237,7 +237,7 @@ fn node(given: &ArgMatches) -> Result<Option<u16>, Refusal> {
     }
 }
 
-/// For how long the lock is waited for.
+/// How long to wait for the lock.
 fn limit(given: &ArgMatches) -> Result<Option<Seconds>, Refusal> {
     let millis = match given.get_str("timeout") {
         Some(word) => Some(limit_of(word).ok_or(Refusal::Limit)?),

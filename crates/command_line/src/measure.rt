@@ -81,7 +81,7 @@ const RUNS: Number<'static> = Number {
     most: 1_000_000,
 };
 
-/// Which seeds of a first run there are.
+/// The seeds of a first run.
 const SEED: Number<'static> = Number {
     id: "seed",
     name: "--seed",
@@ -89,7 +89,7 @@ const SEED: Number<'static> = Number {
     most: 4_294_967_295,
 };
 
-/// Does what the words of `measure` say, and shows its progress if that is asked for.
+/// Does what the words of `measure` say. `progress` says whether to show progress.
 pub fn run<R: Files + Print + Eprint + Clock + AllocGlobal + Threads + Sync>(
     rt: &R,
     given: &ArgMatches,
@@ -102,7 +102,7 @@ pub fn run<R: Files + Print + Eprint + Clock + AllocGlobal + Threads + Sync>(
     Ok(measure::run(rt, file, plan)?)
 }
 
-/// The plan that the words of `measure` say.
+/// The plan, by the words of `measure`.
 ///
 /// # Errors
 /// If a word spells no number in its range.

@@ -72,7 +72,7 @@ always a network file that is accepted.
 
 Statuses: 0 done; 1 memory or standard output was refused; 2 invalid arguments.";
 
-/// Which roots there are, in a network of two nodes; else more.
+/// The roots in a network of two nodes; larger ones have more.
 const ROOT: Number<'static> = Number {
     id: "root",
     name: "--root",
@@ -80,7 +80,7 @@ const ROOT: Number<'static> = Number {
     most: 1,
 };
 
-/// Which capacities there are.
+/// The capacities.
 const CAPACITY: Number<'static> = Number {
     id: "capacity",
     name: "--capacity",
@@ -88,7 +88,7 @@ const CAPACITY: Number<'static> = Number {
     most: 4096,
 };
 
-/// Which leases there are.
+/// The leases.
 const LEASE: Number<'static> = Number {
     id: "lease",
     name: "--lease",
@@ -96,7 +96,7 @@ const LEASE: Number<'static> = Number {
     most: 65_535,
 };
 
-/// Which numbers of nodes, or of rows, there are.
+/// The numbers of nodes, or of rows.
 const NODES: Number<'static> = Number {
     id: "N",
     name: "N",
@@ -104,7 +104,7 @@ const NODES: Number<'static> = Number {
     most: 64,
 };
 
-/// Which numbers of columns there are.
+/// The numbers of columns.
 const COLUMNS: Number<'static> = Number {
     id: "M",
     name: "M",
@@ -112,7 +112,7 @@ const COLUMNS: Number<'static> = Number {
     most: 64,
 };
 
-/// Which numbers of edges there are, in a network of two nodes; else more.
+/// The numbers of edges in a network of two nodes; larger ones have more.
 const EDGES: Number<'static> = Number {
     id: "edges",
     name: "--edges",
@@ -120,7 +120,7 @@ const EDGES: Number<'static> = Number {
     most: 1,
 };
 
-/// Which seeds there are.
+/// The seeds.
 const SEED: Number<'static> = Number {
     id: "seed",
     name: "--seed",
@@ -134,10 +134,10 @@ pub fn run<R: Print + AllocGlobal>(rt: &R, given: &ArgMatches) -> Result<ExitCod
     Ok(network::run(rt, wanted)?)
 }
 
-/// The network that the words of `network` say.
+/// The network that the words of `network` describe.
 ///
 /// # Errors
-/// If a word names no kind, or spells no number in its range; or if the kind does not take it.
+/// If a word names no kind, spells no number in its range, or does not go with the kind.
 fn wanted(given: &ArgMatches) -> Result<Wanted, Refusal> {
     let kind = kind_named(word(given, "KIND")?).ok_or(Refusal::Kind(KindFault::Unknown))?;
     let (kind, nodes) = sized(given, kind)?;
@@ -151,7 +151,7 @@ fn wanted(given: &ArgMatches) -> Result<Wanted, Refusal> {
     })
 }
 
-/// The kind of a name, with sizes that say nothing yet; none of any other word.
+/// The kind with this name, its sizes not yet set; none for any other word.
 fn kind_named(name: &str) -> Option<Kind>
     ensures { result ≡ kind_named name.now }
 {
@@ -167,7 +167,7 @@ fn kind_named(name: &str) -> Option<Kind>
     }
 }
 
-/// The kind with its sizes, and how many nodes there are.
+/// The kind with its sizes, and its number of nodes.
 fn sized(given: &ArgMatches, kind: Kind) -> Result<(Kind, u16), Refusal> {
     let is_random = matches!(kind, Kind::Random { .. });
     if !is_random && (given.get_str("edges").is_some() || given.get_str("seed").is_some()) {
@@ -183,7 +183,7 @@ fn sized(given: &ArgMatches, kind: Kind) -> Result<(Kind, u16), Refusal> {
     }
 }
 
-/// How many nodes there are.
+/// The number of nodes.
 fn nodes_of(given: &ArgMatches, kind: Kind) -> Result<u16, Refusal> {
     let nodes = Number {
         least: u64::from(least_nodes(kind)),
@@ -193,7 +193,7 @@ fn nodes_of(given: &ArgMatches, kind: Kind) -> Result<u16, Refusal> {
     Ok(given_number(given, nodes)? as u16)
 }
 
-/// A grid, and its nodes.
+/// A grid, and its number of nodes.
 fn grid_of(given: &ArgMatches, word: &str) -> Result<(Kind, u16), Refusal> {
     let rows = given_number(given, NODES)?;
     let columns = Number {
@@ -208,7 +208,7 @@ fn grid_of(given: &ArgMatches, word: &str) -> Result<(Kind, u16), Refusal> {
     Ok((kind, (rows * count) as u16))
 }
 
-/// A random graph, and its nodes.
+/// A random graph, and its number of nodes.
 fn random_of(given: &ArgMatches) -> Result<(Kind, u16), Refusal> {
     let nodes = nodes_of(given, Kind::Random { edges: 0, seed: 0 })?;
     let edges = Number {
@@ -223,7 +223,7 @@ fn random_of(given: &ArgMatches) -> Result<(Kind, u16), Refusal> {
     Ok((kind, nodes))
 }
 
-/// The most edges of `nodes` nodes within the limits of a network: all pairs, and 256 at most.
+/// The most edges of `nodes` nodes within the limits of a network: all pairs, but at most 256.
 fn most_edges(nodes: u16) -> u16
     ensures { result ≡ most_edges nodes }
 {
@@ -231,7 +231,7 @@ fn most_edges(nodes: u16) -> u16
     (nodes * nodes.saturating_sub(1) / 2).min(256) as u16
 }
 
-/// How many edges a random graph of `nodes` nodes has if nothing is said.
+/// The default number of edges of a random graph of `nodes` nodes.
 fn usual_edges(nodes: u16) -> u16
     ensures { result ≡ usual_edges nodes }
 {

@@ -88,7 +88,7 @@ many it left out. If JOURNAL_STREAM is set, a line begins with its priority, as
 Statuses: 0 ended by the stop file; 1 it cannot run, with the reason on standard
 error; 2 invalid arguments.";
 
-/// Which id is taken; which ids there are the network says.
+/// The ids that the parser takes. The network says which there are.
 const ID: Number<'static> = Number {
     id: "ID",
     name: "ID",

@@ -1,4 +1,4 @@
-//! What `node` and `up` have in common: options, and how they end.
+//! What `node` and `up` share: options, and how they end.
 ghost use Rattle.std.specs.Prelude.{◌≡◌, Some, None, IfOk, IfErr, if◌then◌else◌, is_ok, codes};
 ghost use Rattle.std.specs.Process.{exit_status};
 ghost use Rattle.clap.specs.Matches.{found_of, first_value, one_text};
@@ -16,7 +16,7 @@ use recovery_times::{TimeFault, micros_of};
 use std::process::ExitCode;
 use std::rt::Files;
 
-/// What the folder of a network is.
+/// The help of the folder of a network.
 pub const FOLDER: &str = "The folder of the network's files and sockets";
 
 /// How long a node holds quiet news, in microseconds.
@@ -27,10 +27,10 @@ pub const HOLD: Number<'static> = Number {
     most: 2_000,
 };
 
-/// The same, as the help says it.
+/// Its help.
 pub const HOLD_HELP: &str = "How long quiet news waits, 0-2000 [default: 2000]";
 
-/// After which time a frame is given again, in microseconds.
+/// After how many microseconds a frame is repeated.
 pub const REPEAT: Number<'static> = Number {
     id: "repeat",
     name: "--repeat",
@@ -38,13 +38,13 @@ pub const REPEAT: Number<'static> = Number {
     most: 100_000,
 };
 
-/// The same, as the help says it.
+/// Its help.
 pub const REPEAT_HELP: &str = "Repeat a frame then, 0-100000 [default: 8000]";
 
-/// After how many milliseconds a turn is late, as the help says it.
+/// The help of the time after which a turn is late.
 pub const TURN_HELP: &str = "After which time a turn is late [default: 2.2]";
 
-/// From which level on a node says what happens, by the numbers of syslog.
+/// The lowest level of a node's log, by the numbers of syslog.
 pub const LOG: Number<'static> = Number {
     id: "log",
     name: "--log",
@@ -52,10 +52,10 @@ pub const LOG: Number<'static> = Number {
     most: 6,
 };
 
-/// The same, as the help says it.
+/// Its help.
 pub const LOG_HELP: &str = "Log 4 what is amiss, 5 links too, 6 grants too";
 
-/// What a node is to say of itself, as the words of `node` or `up` say; nothing if they do not.
+/// The level of the log, by the words of `node` or `up`; none if they set none.
 ///
 /// # Errors
 /// If a word spells no number from 4 to 6.
@@ -69,10 +69,10 @@ pub fn log_level(given: &ArgMatches) -> Result<Option<Level>, WordFault<'static>
     }
 }
 
-/// What `--group-locks` does, as the help says it.
+/// The help of `--group-locks`.
 pub const GROUP_HELP: &str = "Let the group take the lock, and do nothing else";
 
-/// Who may use the folder and the sockets, as the words of `node` or `up` say.
+/// Who may use the folder and the sockets, by the words of `node` or `up`.
 pub fn rights(given: &ArgMatches) -> Rights
     ensures given { one_text (found_of given.now) (codes "group-locks") ≡ Some (codes "true")
         → result ≡ GroupLocks }
@@ -85,7 +85,8 @@ pub fn rights(given: &ArgMatches) -> Rights
     }
 }
 
-/// After how many microseconds a turn is late, as the words of `node` or `up` say; 2200 if they do not.
+/// After how many microseconds a turn is late, by the words of `node` or `up`; 2200 if they set
+/// none.
 ///
 /// # Errors
 /// [`TimeFault::Turn`] if the word is no time from 0.001 milliseconds to an hour.
@@ -102,7 +103,7 @@ pub fn late_after(given: &ArgMatches) -> Result<u64, TimeFault>
     }
 }
 
-/// The manner that the words of `node` or `up` say; of what they leave out, the usual one.
+/// The manner, by the words of `node` or `up`, with defaults for what they leave out.
 ///
 /// # Errors
 /// If a word spells no number in its range.
@@ -117,7 +118,7 @@ pub fn manner(given: &ArgMatches) -> Result<Manner, WordFault<'static>>
     })
 }
 
-/// The status of a command that is done, or the line of its fault and status 1.
+/// The status of a finished command; after a fault, prints its line and returns 1.
 pub fn ended<R: Files + Eprint + AllocGlobal>(
     rt: &R,
     file: &str,

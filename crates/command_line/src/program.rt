@@ -9,7 +9,7 @@ use std::sync::Wait;
 use std::thread::Threads;
 use std::time::Clock;
 
-/// What the commands need of the runtime.
+/// What the commands need from the runtime.
 pub trait Runtime: Files<File = File>
     + Net
     + Clock
@@ -39,13 +39,13 @@ where
         + Sync,
 {}
 
-/// What the first argument of most commands is.
+/// The help of the first argument of most commands.
 pub const NETWORK_FILE: &str = "The network file (TOML)";
 
-/// What the events of a run are.
+/// The help of the events of a run.
 pub const EVENTS_TEXT: &str = "The events text, or - for standard input";
 
-/// What the first argument of the commands for those who use the lock is.
+/// The help of the folder in the commands that use the lock.
 pub const SOCKETS_FOLDER: &str = "The folder of the nodes' sockets";
 
 /// The program `tokentree`.

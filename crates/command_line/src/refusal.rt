@@ -1,4 +1,4 @@
-//! Why a command line is not done, and how the program ends then.
+//! Why a command line fails, and how the program ends then.
 ghost use Rattle.std.specs.Prelude.{◌≡◌, IfOk, IfErr};
 ghost use Rattle.std.specs.Process.{exit_status};
 ghost use Rattle.command_line.specs.Ends.{EndsWith};
@@ -12,7 +12,7 @@ use std::process::ExitCode;
 use std::rt::Files;
 use subcommands::{Fault, PathFault};
 
-/// Why the words of `network` say no network.
+/// Why the words of `network` describe no network.
 #[derive(Clone, Copy, Debug, PartialEq, Eq, Drop)]
 pub enum KindFault {
     /// There is no such kind.
@@ -21,11 +21,11 @@ pub enum KindFault {
     NoColumns,
     /// Another kind has a second number.
     OneNumber,
-    /// Another kind has what is for random graphs.
+    /// Another kind has options for random graphs.
     RandomAlone,
 }
 
-/// Prints as what the message says after the program's name.
+/// Prints the message without the program's name.
 impl fmt::Display for KindFault {
     ghost use Rattle.std.specs.Prelude.{Some};
     ghost use Rattle.command_line.specs.Ends.{kind_fault_text};
@@ -44,22 +44,22 @@ impl fmt::Display for KindFault {
     }
 }
 
-/// Why a command line is not done.
+/// Why a command line fails.
 #[derive(Clone, Copy, Debug, PartialEq, Eq, Drop)]
 pub enum Refusal {
-    /// A word is refused that the parser took.
+    /// A word that the parser took is invalid.
     Word(WordFault<'static>),
-    /// A word is no time that its option takes.
+    /// A word is no valid time for its option.
     Time(TimeFault),
-    /// The word of `--timeout` is no time that `lock` waits.
+    /// The word of `--timeout` is no valid time.
     Limit,
     /// No command follows the `--` of `lock`.
     NoWords,
     /// The window of a picture ends before it begins.
     Window,
-    /// The kind of a network is none, or does not take what is given with it.
+    /// The kind of a network is unknown, or does not go with the other words.
     Kind(KindFault),
-    /// The program has no such command, which the parser rules out.
+    /// The program has no such command. The parser rules that out.
     NoCommand,
     /// The command ended with this fault.
     Fault(Fault),
@@ -98,7 +98,7 @@ impl From<TimeFault> for Refusal {
     }
 }
 
-/// Prints as what the message says after the program's name.
+/// Prints the message without the program's name.
 impl fmt::Display for Refusal {
     ghost use Rattle.std.specs.Prelude.{Some};
     ghost use Rattle.command_line.specs.Ends.{refusal_text};
@@ -123,8 +123,8 @@ impl fmt::Display for Refusal {
     }
 }
 
-/// The status of a command line; why it is not done stands in a line on standard error, which names the
-/// command's help if words are refused.
+/// The status of a command line. If it fails, a line on standard error says why, and names the
+/// command's help if words are invalid.
 pub fn status<R: Print + Eprint>(
     rt: &R,
     done: Result<ExitCode, Refusal>,
@@ -145,8 +145,8 @@ pub fn status<R: Print + Eprint>(
     }
 }
 
-/// The status of a command that changes a file; why it did not stands in a line on standard error, after
-/// one that says what is wrong with the file.
+/// The status of a command that changes a file. If it fails, a line on standard error says why,
+/// after one that says what is wrong with the network file.
 pub fn ended<R: Files + Eprint + AllocGlobal>(
     rt: &R,
     file: &str,

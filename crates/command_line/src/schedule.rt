@@ -17,8 +17,8 @@ use std::rt::Files;
 use subcommands::schedule::Turns;
 use subcommands::{Chances, schedule};
 
-/// What `schedule` takes. What only random steps have conflicts with `--rounds` too, beside which
-/// the parser asks for no `--random`.
+/// What `schedule` takes. Options for random steps conflict with `--rounds` too: beside that, the
+/// parser does not require `--random`.
 const SCHEDULE: Grammar<'static> = Grammar {
     name: "schedule",
     about: "Prints a list of events for simulate: damage, rounds, random steps",
@@ -111,7 +111,7 @@ on any machine. SEED, N and EVENTS are 0 to 4294967295.
 Statuses: 0 done; 1 a file, memory or standard output was refused, and a line on
 standard error says which; 2 invalid arguments.";
 
-/// Which seeds a scramble takes.
+/// The seeds of a scramble.
 const SCRAMBLE: Number<'static> = Number {
     id: "scramble",
     name: "--scramble",
@@ -135,7 +135,7 @@ const RANDOM: Number<'static> = Number {
     most: 4_294_967_295,
 };
 
-/// Which seeds of random steps there are.
+/// The seeds of random steps.
 const SEED: Number<'static> = Number {
     id: "seed",
     name: "--seed",
@@ -151,7 +151,7 @@ const LOSS: Number<'static> = Number {
     most: 100,
 };
 
-/// After how many ticks the lock is given back.
+/// After how many ticks the lock is released.
 const GIVE_BACK: Number<'static> = Number {
     id: "give-back",
     name: "--give-back",
@@ -170,7 +170,7 @@ pub fn run<R: Files + Print + AllocGlobal>(
     Ok(schedule::run(rt, network, scramble, loan, turns(given)?)?)
 }
 
-/// After how many ticks the lock is given back, if that is asked for.
+/// After how many ticks the lock is released, if that is asked for.
 ///
 /// # Errors
 /// If the word spells no number in its range.
@@ -184,7 +184,7 @@ fn loan(given: &ArgMatches) -> Result<Option<u16>, WordFault<'static>>
     }
 }
 
-/// The turns that the words of `schedule` say.
+/// The turns, by the words of `schedule`.
 ///
 /// # Errors
 /// If a word spells no number in its range.

@@ -46,7 +46,7 @@ Statuses: 0 done; 1 the network, the id or the file was refused, with its fault
 on standard error; 2 invalid arguments. If the file cannot be opened for
 writing, or is no plain file, what was there is still there.";
 
-/// Which id is taken; which ids there are the network says.
+/// The ids that the parser takes. The network says which there are.
 const ID: Number<'static> = Number {
     id: "ID",
     name: "ID",
@@ -54,7 +54,7 @@ const ID: Number<'static> = Number {
     most: 65_535,
 };
 
-/// Which seed is taken.
+/// The seeds.
 const SEED: Number<'static> = Number {
     id: "SEED",
     name: "SEED",

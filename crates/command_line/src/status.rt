@@ -124,7 +124,7 @@ Statuses: 0 each node answered; 1 one gave no answer, or none is there; 2
 invalid arguments; with --check those above; 0 for a watch that was ended by a
 key.";
 
-/// Which ids are taken; which nodes there are the folder says.
+/// The ids that the parser takes. The folder says which nodes there are.
 const ID: Number<'static> = Number {
     id: "ID",
     name: "ID",
@@ -139,7 +139,7 @@ pub fn run<R: Runtime>(rt: &R, given: &ArgMatches) -> Result<ExitCode, Refusal> 
     Ok(ExitCode::from(shown(rt, given, folder, nodes.as_slice())))
 }
 
-/// Shows what the flags ask for, and answers the status to end with.
+/// Shows what the flags ask for, and returns the exit status.
 fn shown<R: Runtime>(rt: &R, given: &ArgMatches, folder: &str, nodes: &[u16]) -> u8 {
     if let Some(file) = given.get_str("check") {
         return check::run(rt, folder, file);
@@ -173,7 +173,7 @@ fn watched<R: Runtime>(rt: &R, given: &ArgMatches, folder: &str, nodes: &[u16]) 
     )
 }
 
-/// In which form the nodes are shown.
+/// The form in which the nodes are shown.
 fn form(given: &ArgMatches) -> Form {
     if given.get_flag("json") {
         Form::Json
@@ -182,7 +182,7 @@ fn form(given: &ArgMatches) -> Form {
     }
 }
 
-/// The time between two looks of a watch, in milliseconds: half a second if it is left out; none if the
+/// The time between two looks of a watch, in milliseconds: half a second by default; none if the
 /// word spells no time from a tenth of a second to an hour, with at most three decimals.
 fn interval(word: Option<&str>) -> Option<u64>
     ensures { result ≡ interval word.entry }

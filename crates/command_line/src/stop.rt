@@ -48,7 +48,7 @@ Such a stop is no damage. Nodes that `up` keeps running are ended with `up`.
 Statuses: 0 each node ran, and has ended; 1 one did not run or has not ended in
 time, with the reason on standard error; 2 invalid arguments.";
 
-/// How many seconds a node is waited for.
+/// How many seconds `stop` waits for a node.
 const TIMEOUT: Number<'static> = Number {
     id: "timeout",
     name: "--timeout",

@@ -71,7 +71,7 @@ const TURNS: Number<'static> = Number {
     most: 1_000_000,
 };
 
-/// Does what the words of `threads` say, and shows its progress if that is asked for.
+/// Does what the words of `threads` say. `progress` says whether to show progress.
 pub fn run<R: Runtime>(rt: &R, given: &ArgMatches, progress: bool) -> Result<ExitCode, Refusal> {
     let network = word(given, "FILE")?;
     let turns = given_number(given, TURNS)? as u32;

@@ -8,7 +8,7 @@ use Rattle.command_parts.specs.EventText.{event_line, GrowsByText}
 pub line-appended : (a b : Option (List ℕ)) (e : Event) → Appends a b (event_line e) → GrowsByText a (e ∷ []) b
 line-appended a b e more = subst (Appends a b) (sym (append-nil (event_line e))) more
 
--- bytes that are kept after the text leave it there
+-- bytes that are added after the text leave it there
 pub kept-behind : (a b c : Option (List ℕ)) (es : List Event) → GrowsByText a es b → Keeps b c → GrowsByText a es c
 kept-behind None b c es grown kept = tt
 kept-behind (Some bytes) None c es grown kept = absurd grown

@@ -1,4 +1,4 @@
--- Small examples of what is reported and written, and some that look like them and are none.
+-- Small examples of what is reported and written, with some that fail.
 use Rattle.std.proofs.Common.{◌≡◌, ◌≢◌, ℕ, true, false, List, [], ◌∷◌, ◌++◌, Option, Some, None, Ok, Err, codes, decimal, refl, inl, inr, arith}
 use Rattle.std.proofs.lemmas.Fmt.{decimal_digit}
 use Rattle.memchr.specs.Find.{first_of, places_from}
@@ -85,25 +85,25 @@ told_not-write = grind arith
 abbrev start : World
 start = default_world (record { nodes = 2; root = 0; capacity = 1; lease = 0; edges = (0, 1) ∷ [] })
 
--- output that is refused once all is simulated is reported as output
+-- a failure of the output after the simulation is reported as one of the output
 tells-output : (summary : Summary) → IsToldAs (Ok summary) fault.Output
 tells-output summary = refl
 
 tells_not-long : (summary : Summary) → ¬ IsToldAs (Ok summary) fault.EventsLong
 tells_not-long summary told = grind (arith, told)
 
--- where memory is refused nothing is read or written, and memory is reported
+-- if memory is refused, nothing is read or written, and memory is reported
 fails-memory : IsFailed start (codes "tick 0") (Some (codes "tick 0")) (Some []) (Some []) fault.Memory
 fails-memory = record { answer = Err simulation.Memory; simulated = (refl, refl); cause = refl }
 
 done-memory : IsDone start (codes "tick 0") (Some (codes "tick 0")) (Some []) (Some []) (Err fault.Memory)
 done-memory = fails-memory
 
--- no summary is shown where nothing was read
+-- no summary is shown if nothing was read
 done_not-unread : (summary : Summary) → ¬ IsDone start (codes "tick 0") (Some (codes "tick 0")) (Some []) (Some []) (Ok summary)
 done_not-unread summary done = grind (arith, done.0)
 
--- events are unreadable only if the source's count of failures rose, output is refused only if the
+-- events are unreadable only if the source's count of failures rose, and output fails only if the
 -- sink's did
 caused-read : IsCaused {T = ℕ} (Err fault.EventsUnreadable) 3 4 0 0
 caused-read = inl (omega arith)
@@ -114,7 +114,7 @@ caused_not-read rose = grind (arith, rose)
 caused_not-write : ¬ IsCaused {T = ℕ} (Err fault.Output) 3 4 0 0
 caused_not-write rose = grind (arith, rose)
 
--- ---- carriage returns: one among the bytes of a line, none in a line that ends in a newline alone
+-- ---- carriage returns: one among the bytes of a line, none in a line that ends in just a newline
 return-there : has_return (codes "tick 0" ++ (13 ∷ 10 ∷ [])) ≡ true
 unfolding first_of places_from
 return-there = refl
@@ -123,7 +123,7 @@ return_not-there : has_return (codes "tick 0" ++ (10 ∷ [])) ≡ false
 unfolding first_of places_from
 return_not-there = refl
 
--- a read gave three bytes, or two, and the third is one
+-- a read gave three bytes, or two, and the third is a carriage return
 gave-three : gave_return {E = ℕ} (Ok 3) (48 ∷ 49 ∷ 13 ∷ []) ≡ true
 unfolding first_of places_from
 gave-three = refl
@@ -138,7 +138,7 @@ gave_not-failed = refl
 hint-refused : return_hint 2 true ≡ Some (codes "the events have carriage returns (CRLF): a line ends in a newline alone")
 hint-refused = refl
 
--- nothing is said if no line was refused, or for another reason
+-- there is no hint if no line was refused, or for another reason
 hint_not-taken : return_hint 0 true ≡ None
 hint_not-taken = refl
 

@@ -5,7 +5,7 @@ use Rattle.command_parts.specs.declared.fault.Fault.{Fault}
 use Rattle.command_parts.specs.declared.fault.Fault.TheVariants.{Network, NoNode, EventsUnreadable, EventsLong, Memory}
 use Rattle.command_parts.specs.declared.fault.Fault.TheVariants.{Output, EventsUnwritable, Threads}
 
--- what was refused, and by which name
+-- what failed, with its name
 abbrev pub fault_text : Fault → List ℕ
 fault_text (Network fault) = network_fault_text fault
 fault_text NoNode = codes "id NoNode"

@@ -1,4 +1,4 @@
--- What a simulation between a source and a sink says of what was read and written.
+-- What a simulation between a source and a sink says about what was read and written.
 use Rattle.std.specs.Prelude.{◌≡◌, ℕ, List, Option, Result, Ok, Err}
 use Rattle.world.specs.run_model.World.{World}
 use Rattle.world.specs.declared.simulation.Summary.{Summary}
@@ -9,28 +9,28 @@ use Rattle.command_parts.specs.declared.fault.Fault.{Fault}
 use Rattle.command_parts.specs.declared.fault.Fault.TheVariants.{EventsUnreadable, Output}
 use Rattle.command_parts.specs.SimulationFault.{fault_of}
 
--- a simulation's fault is reported as its own fault of the program; one that is done, as output that
--- was refused
+-- a simulation's fault is reported as the program's fault for it; if the simulation is done, the
+-- fault is the output's
 abbrev pub IsToldAs : Result Summary SimFault → Fault → Type 0
 IsToldAs (Ok _) told = told ≡ Output
 IsToldAs (Err fault) told = told ≡ fault_of fault
 
--- Something was simulated, and its fault is reported, or that its output was refused.
+-- Something was simulated, and its fault is reported, or the failure of its output.
 pub record IsFailed (start : World) (bytes : List ℕ) (rest before after : Option (List ℕ))
     (told : Fault) : Type 0 where
   pub answer : Result Summary SimFault
   pub simulated : IsSimulated start bytes rest before after answer
   pub cause : IsToldAs answer told
 
--- these bytes were simulated, and the summary is the simulation's; or a fault is reported
+-- these bytes were simulated and the summary is theirs, or a fault is reported
 abbrev pub IsDone : World → List ℕ → Option (List ℕ) → Option (List ℕ) → Option (List ℕ)
     → Result Summary Fault → Type 0
 IsDone start bytes rest before after (Ok summary) =
     IsSimulated start bytes rest before after (Ok summary)
 IsDone start bytes rest before after (Err fault) = IsFailed start bytes rest before after fault
 
--- that events cannot be read is answered only if the source's count of failures rose, and that
--- output is refused only if the sink's rose
+-- "events cannot be read" comes only if the source's count of failures rose, "the output fails"
+-- only if the sink's did
 abbrev pub IsCaused : {T : Type 0} → Result T Fault → ℕ → ℕ → ℕ → ℕ → Type 0
 IsCaused (Err EventsUnreadable) source source_after sink sink_after = Rose source source_after
 IsCaused (Err Output) source source_after sink sink_after = Rose sink sink_after

@@ -30,7 +30,7 @@ impl<W: Write + Drop> EventText<W> {
         }
     }
 
-    /// Sees to it that all that was taken is written.
+    /// Writes all that was taken.
     ///
     /// # Errors
     /// [`Failed`] if it failed in this call; then some of it may be unwritten.
@@ -51,7 +51,7 @@ impl<W: Write + Drop> EventSink for EventText<W> {
     ghost use Rattle.std.specs.Io.Buffered.{writer_contents};
     ghost use Rattle.command_parts.specs.EventText.{GrowsByText, grows-nowhere, grows-both};
 
-    // The writer and its buffer get the text of the events, if the writer says what its bytes are.
+    // The writer and its buffer get the text of the events, if the writer shows its bytes.
     ghost takes = { λ a events b. GrowsByText (writer_contents W.contents a.writer) events
         (writer_contents W.contents b.writer) };
 

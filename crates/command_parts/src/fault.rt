@@ -1,9 +1,9 @@
-//! Why a command ends without its work.
+//! Why a command fails.
 use network_file::NetworkFault;
 use std::fmt;
 use world::simulation::SimFault;
 
-/// Why a command ends with status 1. Printed, it is what a fault line has after `tokentree: `.
+/// Why a command ends with status 1. Printed, it is the fault's line without `tokentree: `.
 #[derive(Clone, Copy, Debug, PartialEq, Eq, Drop)]
 pub enum Fault {
     /// The network file gives no network.
@@ -12,11 +12,11 @@ pub enum Fault {
     NoNode,
     /// The events file cannot be opened, or a read of the events failed.
     EventsUnreadable,
-    /// The events text has more bytes than it may have.
+    /// The events text is too long.
     EventsLong,
     /// Memory ran out in the command's own work.
     Memory,
-    /// Standard output did not take the text.
+    /// Standard output failed.
     Output,
     /// The file for the events cannot be written.
     EventsUnwritable,

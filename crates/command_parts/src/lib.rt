@@ -1,6 +1,6 @@
-//! What the commands of `tokentree` have in common: why they end without their work, the ends of
-//! what they read and write, a simulation between such ends, and a line that says how far they are.
-//! The network of a file, and numbers as words, are those of the crates below.
+//! What the commands of `tokentree` share: their faults, the ends of what they read and write, a
+//! simulation between such ends, and a line that shows their progress. Networks of files, and
+//! numbers as words, come from the crates below.
 //!
 //! ```
 //! let net = read_network(rt, "two-nodes.toml")?;       // or a `Fault`
@@ -9,8 +9,8 @@
 //! let mut sink = WriteSink::new(BufWriter::new(alloc, writer(rt))?);
 //! ```
 //!
-//! The trap: a [`WriteSink`] and an [`EventText`] have written all that they took only once they
-//! were flushed.
+//! The trap: a [`WriteSink`] and an [`EventText`] have written all that they took only after a
+//! flush.
 #![tactic(auto)]
 
 mod event_text;

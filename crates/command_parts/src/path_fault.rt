@@ -1,10 +1,10 @@
-//! Why a command that changes a file ends without its work.
+//! Why a command that changes a file fails.
 use crate::fault::Fault;
 use network_file::NetworkFault;
 use std::fmt;
 
-/// Why a command that changes a file of its own ends with status 1. Printed, it is what a fault
-/// line has after `tokentree: `.
+/// Why a command that changes a file ends with status 1. Printed, it is the fault's line without
+/// `tokentree: `.
 #[derive(Clone, Copy, Debug, PartialEq, Eq, Drop)]
 pub enum PathFault<'a> {
     /// What may happen to any command.

@@ -2,26 +2,26 @@
 use std::sync::atomic::{AtomicU64, Ordering};
 use std::time::{Clock, Instant};
 
-/// How many milliseconds a tenth of a second has.
+/// The milliseconds in a tenth of a second.
 const MILLISECONDS_A_TENTH: u128 = 100;
 
-/// Shows how many of some things are done, on one line that is written over again and again: at
-/// most once in each tenth of a second, and not in the first. Threads may share it.
+/// Shows how many of some things are done, on one line that it keeps overwriting: at most once in
+/// each tenth of a second, and not in the first. Threads may share it.
 #[derive(Drop)]
 pub struct Progress {
     started: Instant,
-    /// What is counted, in the plural.
+    /// The name of what is counted, in the plural.
     things: &'static str,
     /// How many there are.
     most: u32,
     /// How many are done, if they are counted here.
     done: AtomicU64,
-    /// The last tenth of a second in which it showed anything; 0 if it has shown nothing.
+    /// The last tenth of a second in which it showed something; 0 if it has shown nothing.
     told: AtomicU64,
 }
 
 impl Progress {
-    /// None of the `most` things is done; nothing if the clock cannot be read.
+    /// The start, with none of the `most` things done; none if the clock cannot be read.
     pub fn begin<R: Clock>(rt: &R, things: &'static str, most: u32) -> Option<Progress> {
         let started = Instant::now(rt).ok()?;
         Some(Progress {
@@ -39,7 +39,8 @@ impl Progress {
         self.tell(rt, done);
     }
 
-    /// `done` of them are done, by a count of the caller's. What standard error does not take is left out.
+    /// Shows that `done` of them are done, by the caller's count. If standard error fails, nothing
+    /// is shown.
     pub fn tell<R: Clock + Eprint>(&self, rt: &R, done: u64) {
         let Ok(elapsed) = self.started.elapsed(rt) else {
             return;
@@ -52,7 +53,7 @@ impl Progress {
         }
     }
 
-    /// All is done: the line is taken away.
+    /// All is done: removes the line.
     pub fn end<R: Eprint>(&self, rt: &R) {
         if self.told.load(Ordering::SeqCst) > 0 {
             let _ = eprint!(rt; "\r\x1b[K");

@@ -1,4 +1,4 @@
-//! Whether a text has carriage returns, so that a user learns why its lines are refused.
+//! Whether a text has carriage returns: so that a user learns why its lines are refused.
 ghost use Rattle.std.specs.Prelude.{◌≡◌, ◌||◌, false, length, option_map};
 ghost use Rattle.byte_streams.specs.Streams.{Reads};
 ghost use Rattle.command_parts.specs.Returns.{gave_return, has_return, return_hint};
@@ -6,7 +6,7 @@ ghost use Rattle.command_parts.specs.Returns.{gave_return, has_return, return_hi
 use memchr::memchr;
 use world::streams::{Failed, Source};
 
-/// A source that keeps whether any byte that it gave was a carriage return.
+/// A source that notes whether any byte that it gave was a carriage return.
 #[derive(Drop)]
 pub struct Returns<S> {
     source: S,
@@ -14,7 +14,7 @@ pub struct Returns<S> {
 }
 
 impl<S> Returns<S> {
-    /// A source that gives what the other gives; nothing was seen yet.
+    /// A source that gives what the other gives, and has seen nothing yet.
     pub fn new(source: S) -> Returns<S>
         ensures source { result.source ≡ source }
         ensures seen { result.were_seen ≡ false }
@@ -57,7 +57,7 @@ fn has_return(bytes: &[u8]) -> bool
     memchr(b'\r', bytes).is_some()
 }
 
-/// What is said of a text of events of which so many lines were refused, if it has carriage returns.
+/// The hint for a text of events with this many refused lines, if it has carriage returns.
 pub fn return_hint(refused: u64, were_returns_seen: bool) -> Option<&'static str>
     ensures { option_map (λ text. text.now) result ≡ return_hint refused were_returns_seen }
 {
@@ -68,7 +68,7 @@ pub fn return_hint(refused: u64, were_returns_seen: bool) -> Option<&'static str
     }
 }
 
-/// Says a line on standard error, if there is one.
+/// Prints a hint on standard error, if there is one.
 pub fn say_hint<R: Eprint>(rt: &R, hint: Option<&str>) {
     if let Some(hint) = hint {
         let _ = eprintln!(rt; "tokentree: {hint}");

@@ -1,4 +1,4 @@
-//! A simulation whose text is all written, and the status of a run of events.
+//! A simulation that writes all its text, and the status of a run of events.
 ghost use Rattle.std.specs.Prelude.{◌≡◌, ℕ, List, [], Some, ◌==◌, if◌then◌else◌, OnOk};
 ghost use Rattle.std.specs.Process.{exit_status};
 ghost use Rattle.world.specs.SimulatedText.{simulated_start};
@@ -12,18 +12,18 @@ use topology::Net;
 use world::simulation::{Summary, simulate};
 use world::streams::Source;
 
-/// The name of standard input, in place of a file of events.
+/// The name that means standard input, in place of a file of events.
 pub const STANDARD_INPUT: &str = "-";
 
 /// The status if a line was refused.
 const LINES_REFUSED: u8 = 3;
 
-/// Simulates from the source to the sink, and sees to it that all the text is written: after a
-/// fault too, as far as it had come.
+/// Simulates from the source to the sink, and writes all its text; after a fault, the text up to
+/// there.
 ///
-/// What is unproved: that the events of a file, or of standard input, are the bytes that were
-/// simulated, and that the text stands in standard output. Neither end shows its bytes, so of them
-/// the contract says when a fault comes; of ends that show theirs it says all that [`simulate`]
+/// What is unproved: that the bytes that were simulated are those of the file or of standard
+/// input, and that the text reaches standard output. Neither end shows its bytes, so for them the
+/// contract only says when a fault comes. For ends that show theirs it says all that [`simulate`]
 /// says.
 ///
 /// # Errors
@@ -34,12 +34,13 @@ pub fn simulate_between<S: Source, W: Flush>(
     source: &mut S,
     sink: &mut W,
 ) -> Result<Summary, Fault>
-    // If both ends show their bytes, the answer is that of a simulation of them.
+    // If both ends show their bytes, this is a simulation of them.
     ensures text { (bytes : List ℕ) → S.rest source.old ≡ Some bytes
         → IsDone (simulated_start net.now) bytes (S.rest source.new) (W.taken sink.old)
         (W.taken sink.new) result }
     ensures written { OnOk result (W.unwritten sink.new ≡ []) }
-    // A fault of the events only if the source failed, one of the output only if the sink did.
+    // A fault of the events comes only if the source failed, one of the output only if the sink
+    // did.
     ensures cause { IsCaused result (S.failures source.old) (S.failures source.new)
         (W.failures sink.old) (W.failures sink.new) }
 {
@@ -52,7 +53,7 @@ pub fn simulate_between<S: Source, W: Flush>(
     }
 }
 
-/// The status of a command that went through a text of events, of which as many lines were refused.
+/// The status of a command that read a text of events with this many refused lines.
 pub fn events_status(refused: u64) -> ExitCode
     ensures { exit_status result ≡ (if refused == 0 then 0 else 3) }
 {

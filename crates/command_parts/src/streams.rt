@@ -1,8 +1,8 @@
 //! Readers and writers as the ends of a simulation.
 //!
 //! Std's readers and writers may show their bytes to contracts (`remaining`, `contents`). A file
-//! says nothing of them, so neither do these ends; but each of their calls says what it read of
-//! such a reader, or wrote to such a writer.
+//! does not, so neither do these ends; but each of their calls says what it read from a reader
+//! that does, or wrote to such a writer.
 ghost use Rattle.std.specs.Prelude.{◌≡◌, ◌≤◌, ℕ, List, [], None, OnOk, length};
 ghost use Rattle.std.specs.Io.Buffered.{writer_buffer, writer_contents};
 ghost use Rattle.std.specs.Io.KnownBytes.{Appends, Keeps, ReadConsumes};
@@ -36,11 +36,11 @@ impl<R: Read> Source for ReadSource<R> {
 
     ghost failures = { λ s. s.failures };
 
-    /// A read that a signal interrupts is tried again.
+    /// A read that a signal interrupted is tried again.
     fn read(&mut self, buffer: &mut [u8]) -> Result<usize, Failed>
         ensures len { length buffer.new ≡ length buffer.old }
         ensures reads { Reads result None None buffer.new self.old.failures self.new.failures }
-        // What it gave is what the reader gave, if the reader says it.
+        // It gave what the reader gave, if the reader shows that.
         ensures bytes { ReadConsumes (R.remaining self.old.reader)
             (R.remaining self.new.reader) result buffer.new }
     {
@@ -55,7 +55,7 @@ impl<R: Read> Source for ReadSource<R> {
     }
 }
 
-/// A sink that may hold back what it takes until it is flushed.
+/// A sink that may keep what it takes until it is flushed.
 pub trait Flush: Sink {
     /// The bytes that it has taken and not yet written.
     ghost unwritten: { Self → List ℕ };
@@ -66,12 +66,12 @@ pub trait Flush: Sink {
     /// [`Failed`] if it failed in this call; then some of it may be unwritten.
     fn flush(&mut self) -> Result<(), Failed>
         ensures written { OnOk result (unwritten self.new ≡ []) }
-        // What it has taken stays taken, whether it is written or not.
+        // What it has taken stays taken, written or not.
         ensures taken { Self.taken self.new ≡ Self.taken self.old }
         ensures cause { CountsFailures result (Self.failures self.old) (Self.failures self.new) };
 }
 
-/// A buffered writer as a sink. What it has taken is all written only after [`Flush::flush`].
+/// A buffered writer as a sink. All that it took is written only after [`Flush::flush`].
 #[derive(Drop)]
 pub struct WriteSink<W: Write + Drop> {
     writer: BufWriter<W>,
@@ -79,7 +79,7 @@ pub struct WriteSink<W: Write + Drop> {
 }
 
 impl<W: Write + Drop> WriteSink<W> {
-    /// A sink that hands on to the writer.
+    /// A sink that passes its bytes to the writer.
     pub fn new(writer: BufWriter<W>) -> WriteSink<W>
         ensures writer { result.writer ≡ writer }
         ensures failures { result.failures ≡ 0 }
@@ -96,7 +96,7 @@ impl<W: Write + Drop> Flush for WriteSink<W> {
 
     fn flush(&mut self) -> Result<(), Failed>
         ensures written { OnOk result (writer_buffer self.new.writer ≡ []) }
-        // The writer and its buffer hold the same bytes as before, if the writer says them.
+        // The writer and its buffer hold the same bytes as before, if the writer shows them.
         ensures bytes { Keeps (writer_contents W.contents self.old.writer)
             (writer_contents W.contents self.new.writer) }
         ensures cause { CountsFailures result self.old.failures self.new.failures }
@@ -115,7 +115,7 @@ impl<W: Write + Drop> Sink for WriteSink<W> {
 
     fn write(&mut self, bytes: &[u8]) -> Result<usize, Failed>
         ensures writes { Writes result bytes.now None None self.old.failures self.new.failures }
-        // All bytes stand after those before, in the writer or in its buffer.
+        // All bytes follow those before, in the writer or in its buffer.
         ensures all { OnOk result
             (Appends (writer_contents W.contents self.old.writer)
             (writer_contents W.contents self.new.writer) bytes.now) }
@@ -127,7 +127,7 @@ impl<W: Write + Drop> Sink for WriteSink<W> {
     }
 }
 
-/// Counts a failure; the count stays at its greatest value.
+/// Counts a failure; the count stops at its greatest value.
 pub(crate) fn count_failure(failures: &mut u64) -> Failed
     ensures rose { Rose failures.old failures.new }
     ensures grows { failures.old ≤ failures.new }

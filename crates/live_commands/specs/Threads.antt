@@ -1,4 +1,4 @@
--- What the command `threads` does: all turns of all nodes, and the text of what they lead to.
+-- The command `threads`: all turns of all nodes, and the text of what they lead to.
 use Rattle.std.specs.Prelude.{◌≡◌, ◌⊎◌, ℕ, List, Option}
 use Rattle.byte_streams.specs.Streams.{Takes}
 use Rattle.topology.specs.Network.{Network}
@@ -16,21 +16,23 @@ use Rattle.command_parts.specs.declared.fault.Fault.{Fault}
 use Rattle.command_parts.specs.declared.fault.Fault.TheVariants.{Memory, Threads, Output, EventsUnwritable}
 use Rattle.thread_net.specs.ThreadRun.{IsThreadRun}
 
--- each node did `turns` turns, from the network's nodes as they start and empty links on
+-- each node did `turns` turns, starting from fresh nodes and empty links
 abbrev pub AllRan : {A : Type 0} → ℕ → Network → Woven A → Type 0
 AllRan turns net woven = IsThreadRun (λ v. turns) (default_world net) woven.events.items (world_of woven.world)
 
--- The state text of a world was written, with as many sweeps as the events hold from the start on.
+-- The state text of a world was written, with the number of sweeps that the events have from the
+-- start.
 pub record IsStateWritten (start : World) (events : List Event) (last : World) (before after : Option (List ℕ)) : Type 0 where
   pub count : ℕ
   pub counted : IsSweepCount start events count
   pub text : Takes (state_text last (counted_up_to count)) before after
 
--- as which fault of the program it is reported that nodes cannot run on threads
+-- the program's fault if nodes cannot run on threads
 abbrev pub refused : RunFault → Fault
 refused (MemoryRefused _) = Memory
 refused (Spawn _) = Threads
 
--- what they did, or what it led to, is not written: memory ran out, or its file or standard output does not take it
+-- what they did, or what it led to, is not written: memory ran out, or the file or standard output
+-- failed
 abbrev pub IsUnwritten : Fault → Type 0
 IsUnwritten fault = (fault ≡ Memory) ⊎ ((fault ≡ EventsUnwritable) ⊎ (fault ≡ Output))

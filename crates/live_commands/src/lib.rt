@@ -1,11 +1,11 @@
-//! The command `threads`, which lets nodes run on threads of their own and shows what they did.
+//! The command `threads`: runs each node on its own thread and shows what they did.
 //!
 //! ```
 //! let status = threads::run(rt, "two-nodes.toml", 100, None, false)?;   // 100 turns of each node
 //! ```
 //!
-//! The trap: what threads do differs from one run to the next; the events file that they write does
-//! not, and `simulate` and `draw` take it.
+//! The trap: what threads do differs from run to run. The events file of a run is fixed, and
+//! `simulate` and `draw` replay it.
 #![tactic(auto)]
 
 pub mod threads;

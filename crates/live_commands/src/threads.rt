@@ -1,5 +1,5 @@
-//! `threads FILE TURNS`: each node of a network on a thread of its own, and the state that this
-//! leads to.
+//! `threads FILE TURNS`: runs each node of a network on its own thread, and shows the state that
+//! this leads to.
 ghost use Rattle.std.specs.Prelude.{◌≡◌, [], IfOk, IfErr, OnOk};
 ghost use Rattle.std.specs.Io.Buffered.{writer_buffer, writer_contents};
 ghost use Rattle.byte_streams.specs.Streams.{CountsFailures, Rose};
@@ -32,10 +32,10 @@ use world::simulation::state_text;
 use world::streams::Failed;
 use world::{Event, World};
 
-/// Lets each node of the network of a file do its turns on a thread of its own, from nodes as they
-/// start and empty links on, and prints the state that they lead to, with the sweeps of what they
-/// did. What they did is written to the file `events`, if one is named, as an events text. If
-/// `tells` says so, a line of standard error shows meanwhile how far they are.
+/// Runs each node of the network of a file on its own thread, from fresh nodes and empty links,
+/// and prints the state that they lead to, with the sweeps of what they did. Writes what they did
+/// to the file `events`, if one is named, as an events text. If `tells` is set, a line on standard
+/// error shows the progress.
 ///
 /// # Errors
 /// If no network is read of the file, memory runs out, a thread is refused, the events cannot be
@@ -55,7 +55,7 @@ pub fn run<R: Files + Clock + Print + Eprint + Threads + Wait + Sync + AllocGlob
     show(rt, start, &woven, events)
 }
 
-/// What the nodes of a network do on threads, with a line that shows how far they are if wanted.
+/// What the nodes of a network do on threads; if `tells` is set, a line shows the progress.
 fn run_watched<R: Clock + Eprint + Threads + Wait + Sync + AllocGlobal>(
     rt: &R,
     net: &Net,
@@ -70,8 +70,8 @@ fn run_watched<R: Clock + Eprint + Threads + Wait + Sync + AllocGlobal>(
     ran
 }
 
-/// Writes what the nodes did from their start on to the file `events`, if one is named, and prints
-/// the state that it led to.
+/// Writes what the nodes did from the start to the file `events`, if one is named, and prints the
+/// state that it led to.
 fn show<R: Files + Print + AllocGlobal>(
     rt: &R,
     start: World,
@@ -88,7 +88,7 @@ fn show<R: Files + Print + AllocGlobal>(
     Ok(ExitCode::SUCCESS)
 }
 
-/// The world in which every node is as it starts and nothing is under way.
+/// The world of fresh nodes and empty links.
 fn new_world(alloc: Global, net: &Net) -> Result<World, Fault>
     ensures ok { IfOk result (λ world. world_of world ≡ default_world net.now) }
     ensures err { IfErr result (λ fault. fault ≡ Memory) }
@@ -99,7 +99,7 @@ fn new_world(alloc: Global, net: &Net) -> Result<World, Fault>
     }
 }
 
-/// What the nodes of a network do on threads, from that world on.
+/// What the nodes of a network do on threads, from this world on.
 fn run_nodes<R: Threads + Wait + Sync, G: Gate>(
     rt: &R,
     alloc: Global,
@@ -128,7 +128,7 @@ fn refused(fault: &RunFault) -> Fault
 
 /// Writes the events text of what nodes did to a file, line by line.
 ///
-/// What is unproved: that the text stands in the file, which says nothing of its bytes.
+/// What is unproved: that the text reaches the file, which does not show its bytes.
 fn write_file<R: Files + AllocGlobal>(rt: &R, path: &str, events: &[Event]) -> Result<(), Fault>
     ensures { IfErr result IsUnwritten }
 {
@@ -139,7 +139,7 @@ fn write_file<R: Files + AllocGlobal>(rt: &R, path: &str, events: &[Event]) -> R
     write_events(events, &mut EventText::new(writer))
 }
 
-/// Writes the line of each event, and sees to it that all of them are written.
+/// Writes the lines of all events.
 fn write_events<W: Write + Drop>(events: &[Event], text: &mut EventText<W>) -> Result<(), Fault>
     // If the writer says what its bytes are, they are the text.
     ensures text { OnOk result (GrowsByText (writer_contents W.contents text.old.writer) events.now
@@ -172,7 +172,7 @@ fn give_events<S: EventSink>(events: &[Event], sink: &mut S) -> Result<(), Faile
     Ok(())
 }
 
-/// Prints the state to which nodes have led a start.
+/// Prints the state that the nodes have led to from a start.
 ///
 /// What is unproved: that the text stands in standard output, which says nothing of its bytes.
 fn print_state<R: Print + AllocGlobal>(rt: &R, start: World, woven: &Woven) -> Result<(), Fault>
@@ -184,8 +184,8 @@ fn print_state<R: Print + AllocGlobal>(rt: &R, start: World, woven: &Woven) -> R
     write_state(start, woven, &mut WriteSink::new(output))
 }
 
-/// Judges what nodes did from a start on, and writes the state to which it led, with the sweeps that
-/// the judge has counted; all of it.
+/// Judges what nodes did from a start on, and writes the whole state that it led to, with the
+/// sweeps that the judge has counted.
 ///
 /// # Errors
 /// [`Fault::Output`] if the sink fails.

@@ -7,7 +7,7 @@ use Rattle.lock_client.specs.declared.client.Event.{Event}
 use Rattle.lock_client.specs.Steps.{stage_after, deed_between, deeds}
 use Rattle.lock_client.specs.Laws.{is_start, is_giving_back, is_ending}
 
--- how many starts are still to come at most
+-- how many starts may still come
 abbrev starts_left : Stage → ℕ
 starts_left Asking = 1
 starts_left _ = 0

@@ -18,22 +18,23 @@ nobody = Looked (record { somebody = false; signalled = false })
 signalled : GuardEvent
 signalled = Looked (record { somebody = true; signalled = true })
 
--- the usual way: the client says that it starts a command, which one, and that it is done
+-- the usual course: the client says that it starts a command, then which process it is, then that
+-- it is done
 usual : guard_deeds false Idle (Said Start ∷ Said (Runs 71) ∷ Said Done ∷ []) ≡ Listen ∷ Listen ∷ End ∷ []
 usual = refl
 
--- the client is killed before it announced a command
+-- the client is killed before it announces a command
 unused : guard_deeds false Idle (Closed ∷ []) ≡ End ∷ []
 unused = refl
 
--- it is killed while the command runs, which is asked to end, and killed; and whoever is found after
--- that is killed too
+-- it is killed while the command runs: the command is asked to end, then killed, and so is whoever
+-- is found after that
 ends_it : guard_deeds false Idle (Said Start ∷ Closed ∷ somebody ∷ somebody ∷ GraceIsOver ∷ nobody ∷ somebody ∷ [])
     ≡ Listen ∷ Look ∷ Ask ∷ Look ∷ Kill ∷ Look ∷ Kill ∷ []
 unfolding somebody nobody
 ends_it = refl
 
--- the lock goes back when four looks in a row have found nobody, and not before
+-- the lock is released when four looks in a row have found nobody, and not before
 goes_back : guard_after_all false Idle (Said Start ∷ Closed ∷ somebody ∷ nobody ∷ nobody ∷ nobody ∷ nobody ∷ []) ≡ Over
 unfolding somebody nobody
 goes_back = refl
@@ -46,7 +47,7 @@ again : guard_after_all true Idle (Said Start ∷ Closed ∷ nobody ∷ nobody �
 unfolding somebody nobody
 again = refl
 
--- with --keep, and if the command has had the signal too, nobody is asked
+-- nobody is asked with --keep, or if the command has had the signal too
 keeps : guard_deeds true Idle (Said Start ∷ Closed ∷ somebody ∷ GraceIsOver ∷ somebody ∷ []) ≡ Listen ∷ Look ∷ Look ∷ Look ∷ Look ∷ []
 unfolding somebody
 keeps = refl
@@ -55,8 +56,8 @@ has_had_it : guard_deeds false Idle (Said Start ∷ Closed ∷ signalled ∷ som
 unfolding somebody signalled
 has_had_it = refl
 
--- the words of the laws: looks that find nobody count in a row alone, `done` announces nothing, and a
--- deed that kills comes after one that asks
+-- the words of the laws: looks that find nobody count only in a row, `done` announces nothing, and
+-- a deed that kills comes after one that asks
 counts-row : quiet_looks 2 (nobody ∷ Closed ∷ nobody ∷ []) ≡ 4
 unfolding nobody
 counts-row = refl

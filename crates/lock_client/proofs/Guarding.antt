@@ -109,7 +109,7 @@ asks keeps stage (e ∷ es) =
     let rest : _ = asks keeps (guard_after keeps e stage) es in
     grind (arith, common_steps)
 
--- before it asked, and after it has chosen to wait, it kills nobody
+-- before it has asked, and after it has chosen to wait, it kills nobody
 abbrev IsBefore : GuardStage → Type 0
 IsBefore Idle = ⊤
 IsBefore Watching = ⊤
@@ -128,7 +128,7 @@ asks_first keeps stage [] before = record {}
 asks_first keeps stage (e ∷ es) before =
     first-one keeps stage e (guard_deeds keeps (guard_after keeps e stage) es) before (λ next. asks_first keeps (guard_after keeps e stage) es next)
 
--- with the command left alone nobody is asked
+-- if the command is left alone, nobody is asked
 abbrev IsCalm : Bool → GuardStage → Type 0
 IsCalm keeps (Waiting quiet) = ⊤
 IsCalm keeps Over = ⊤

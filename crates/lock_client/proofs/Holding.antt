@@ -1,4 +1,4 @@
--- A command's own status is answered if the lock was held all the while, and nowhere else.
+-- A command's own status is returned exactly if the lock was held all the while.
 use Rattle.std.proofs.Common.{◌≡◌, Bool, false, List, [], ◌∷◌, arith, refl, inl, inr}
 use Rattle.lock_client.specs.declared.answer.Answer.{Answer}
 use Rattle.lock_client.specs.declared.answer.Answer.TheVariants as answer
@@ -17,7 +17,7 @@ over : (outcome : Outcome) (events : List Event) → stage_after_all false (Over
 over outcome [] = refl
 over outcome (e ∷ es) = over outcome es
 
--- what is over without the lock is never done
+-- a client that is over without the lock is never done
 lost : (end : CommandEnd) (events : List Event) → stage_after_all false (Over Lost) events ≡ Over (Done end) → ⊥
 lost end events same = let no : Over Lost ≡ Over (Done end) = rw (over Lost events) at same in grind arith
 
@@ -89,7 +89,7 @@ throughout end (Unserved ∷ es) same = elim (refused end es same) [ ]
 throughout end (TimeIsUp ∷ es) same = elim (late end es same) [ ]
 throughout end (Signal s ∷ es) same = elim (stopped end s es same) [ ]
 
--- and there it is
+-- and it did
 is-released : (end : CommandEnd) (events : List Event) → IsReleasedNext events → stage_after_all false (Returning end) events ≡ Over (Done end)
 is-released end [] none = elim none [ ]
 is-released end (e ∷ es) (inl same) = rw same (over (Done end) es)

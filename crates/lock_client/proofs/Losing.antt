@@ -18,7 +18,7 @@ over : (keeps : Bool) (outcome : Outcome) (events : List Event) → stage_after_
 over keeps outcome [] = refl
 over keeps outcome (e ∷ es) = over keeps outcome es
 
--- where a client is that lost the lock
+-- the stages of a client that lost the lock
 abbrev IsLosing : Stage → Type 0
 IsLosing stage = (stage ≡ Losing) ⊎ (stage ≡ Over Lost)
 
@@ -43,7 +43,7 @@ pub lost : (e : Event) (events : List Event) (outcome : Outcome) → is_loss e �
 lost e events outcome loss same =
     only-lost (stage_after_all false (stage_after false e Holding) events) outcome (all-losing events (stage_after false e Holding) (loses e loss)) same
 
--- a client that was past asking is stopped by no signal
+-- no signal stops a client that is past asking
 abbrev IsPast : Signal → Stage → Type 0
 IsPast signal stage = (stage ≡ Asking → ⊥) × (stage ≡ Over (Stopped signal) → ⊥)
 

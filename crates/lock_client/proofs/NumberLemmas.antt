@@ -14,7 +14,7 @@ use Rattle.lock_client.specs.Words.{process_number}
 digit-is : (c : ℕ) → is_ascii_digit c ≡ true → digit_value c ≡ c - 48
 digit-is c d = grind (arith, nat_tests, digit_value_digit c)
 
--- one digit more
+-- the value with one more digit
 pub more-value : (ds : List ℕ) (i value : ℕ) → i < length ds → value ≡ digits_value 10 (take i ds) → is_ascii_digit (get_or ds i 0) ≡ true
     → 10 * value + (get_or ds i 0 - 48) ≡ digits_value 10 (take (i + 1) ds)
 more-value ds i value h v d = omega (arith, digits_value_more 10 ds i h, digit-is (get_or ds i 0) d)
@@ -23,6 +23,6 @@ pub more-digits : (ds : List ℕ) (i : ℕ) → i < length ds → list_all is_as
     → list_all is_ascii_digit (take (i + 1) ds) ≡ true
 more-digits ds i h a d = grind (arith, common_steps)
 
--- the first digits spell no more than all
+-- the first digits spell no more than all of them
 pub too-large : (ds : List ℕ) (i : ℕ) → 4194304 < digits_value 10 (take i ds) → process_number ds ≡ None
 too-large ds i big = grind (arith, nat_tests, digits_value-take-le 10 ds i (omega arith))

@@ -24,7 +24,8 @@ reads_not-upper = refl
 reads_not-space : answer_line (codes "lost ") ≡ answer.Other
 reads_not-space = refl
 
--- statuses: the command's own, signal 9, no right to run it, none there; and if the lock failed
+-- statuses: the command's own, signal 9, no right to run it, no such command; and those of a lock
+-- that failed
 status-own : outcome_status (Done (Exited 3)) ≡ 3
 status-own = refl
 
@@ -46,7 +47,7 @@ status-late = refl
 status-no_service : outcome_status NoService ≡ 125
 status-no_service = refl
 
--- one lock, with a full desk first: the command runs once, and the lock is given back once
+-- one lock, with a full desk first: the command runs once, and the lock is released once
 one_lock : List Event
 one_lock = Line answer.Full ∷ Line answer.Granted ∷ TimeIsUp ∷ Ended (Exited 0) ∷ Line answer.Released ∷ []
 
@@ -58,7 +59,7 @@ holds-one_lock : HeldThroughout (Exited 0) one_lock
 unfolding one_lock
 holds-one_lock = inr (record {}, inl (refl, inr (inl refl, inl (refl, inl refl))))
 
--- the lock is lost under the command: it is ended, and its status counts for nothing
+-- the lock is lost while the command runs: it is ended, and its status counts for nothing
 lost_lock : List Event
 lost_lock = Line answer.Granted ∷ Line answer.Lost ∷ Ended (Exited 0) ∷ []
 
@@ -70,29 +71,29 @@ holds_not-lost_lock : HeldThroughout (Exited 0) lost_lock → ⊥
 unfolding lost_lock
 holds_not-lost_lock held = grind arith
 
--- save if it is to run on
+-- unless it may run on
 does-kept : deeds true Asking lost_lock ≡ Start ∷ SayLost ∷ Finish (Done (Exited 0)) ∷ []
 unfolding lost_lock
 does-kept = refl
 
--- the node goes away before it says that it has the lock back: nobody knows whether it was held
+-- the node goes away before it says that it took the lock back: nobody knows whether it was held
 gone_early : stage_after_all false Asking (Line answer.Granted ∷ Ended (Exited 0) ∷ Gone ∷ []) ≡ Over Lost
 gone_early = refl
 
--- not in time; no node; a node that answers something else; a command that cannot be run gives the
--- lock back
+-- not in time; no node; a node that answers something else; a command that cannot be run, after
+-- which the lock is released
 late : deeds false Asking (TimeIsUp ∷ []) ≡ Finish NotInTime ∷ []
 late = refl
 
 no_node : deeds false Asking (Gone ∷ Unserved ∷ []) ≡ ConnectAgain ∷ Finish NoService ∷ []
 no_node = refl
 
--- a node that closed the connection for want of room is connected to again
+-- if the node closed the connection for want of room, the client connects again
 no_room : deeds false Asking (Gone ∷ Line answer.Granted ∷ []) ≡ ConnectAgain ∷ Start ∷ []
 no_room = refl
 
--- the guard is gone while the command runs: the command is ended once, whatever comes then, and its
--- end counts for nothing, even if the node says that the lock was held
+-- the guard is gone while the command runs: the command is ended once, whatever comes then, and
+-- its status counts for nothing, even if the node says that the lock was held
 unguarded : List Event
 unguarded = Line answer.Granted ∷ GuardGone ∷ Line answer.Lost ∷ Ended (Killed 15) ∷ Line answer.Released ∷ []
 
@@ -104,11 +105,12 @@ holds_not-unguarded : HeldThroughout (Killed 15) unguarded → ⊥
 unfolding unguarded
 holds_not-unguarded held = grind arith
 
--- a guard that is gone once the command has ended had nothing more to hold
+-- once the command has ended the guard has nothing to hold, so its end does no harm
 late_guard : stage_after_all false Asking (Line answer.Granted ∷ Ended (Exited 0) ∷ GuardGone ∷ Line answer.Released ∷ []) ≡ Over (Done (Exited 0))
 late_guard = refl
 
--- Ctrl-C before the lock is granted; while the command runs, which has it too; and SIGTERM then
+-- Ctrl-C before the lock is granted; Ctrl-C while the command runs, which gets it too; then
+-- SIGTERM
 stopped : deeds false Asking (Signal Interrupt ∷ []) ≡ Finish (Stopped Interrupt) ∷ []
 stopped = refl
 

@@ -21,7 +21,7 @@ use Rattle.lock_client.specs.Words.{are_digits, process_number}
 
 -- ---- a client
 
--- whoever asks waits on where the desk was full, and a signal ends it
+-- a client that asks keeps waiting if the desk is full, and a signal ends it
 asks-granted : asking_after (Line answer.Granted) ≡ Holding
 asks-granted = refl
 
@@ -74,7 +74,7 @@ says-lost = refl
 ends-command : losing_deed false ≡ EndCommand
 ends-command = refl
 
--- SIGTERM alone is handed on, and to a command that was asked to end no more
+-- only SIGTERM is passed on, and no longer once the command was asked to end
 hands-on : running_deed (Signal Terminate) ≡ PassOn
 hands-on = refl
 

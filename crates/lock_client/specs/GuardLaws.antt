@@ -1,5 +1,4 @@
--- Laws of the guard of a command: what those who run a command under the lock may rest on if its
--- client is killed.
+-- Laws of the guard of a command: what users of the lock may rely on if the client is killed.
 use Rattle.std.specs.Prelude.{◌≡◌, ◌⊎◌, ⊤, ℕ, ◌+◌, ◌≤◌, Bool, true, false, if◌then◌else◌, List, [], ◌∷◌, ◌++◌, filter, length}
 use Rattle.std.specs.List.{AllByRecursion}
 use Rattle.lock_client.specs.declared.guard.GuardStage.TheVariants.{Idle, Watching, Searching, Over}
@@ -11,7 +10,7 @@ use Rattle.lock_client.specs.declared.guard.GuardDeed.TheVariants.{Ask, Kill}
 use Rattle.lock_client.specs.declared.words.GuardWord.TheVariants as word
 use Rattle.lock_client.specs.Guards.{guard_after, guard_after_all, guard_deed, guard_deeds}
 
--- how many looks in a row found nobody when these things had happened, after so many before them
+-- how many looks in a row have found nobody after these events, if so many had before them
 abbrev pub quiet_looks : ℕ → List GuardEvent → ℕ
 quiet_looks quiet [] = quiet
 quiet_looks quiet (Looked sight ∷ es) = quiet_looks (if sight.somebody then 0 else quiet + 1) es
@@ -21,8 +20,8 @@ quiet_looks quiet (e ∷ es) = quiet_looks quiet es
 abbrev pub IsUnannounced : List GuardEvent → Type 0
 IsUnannounced events = AllByRecursion (λ e. e ≡ Said word.Start → ⊥) events
 
--- A guard gives the lock back with its next event only if the client says that it is done, or is
--- gone and never announced a command, or four looks in a row found nobody of it.
+-- A guard releases the lock with its next event only if the client says that it is done, or is
+-- gone and never announced a command, or four looks in a row found nobody of the command.
 abbrev pub GivesBackRightly : Type 0
 GivesBackRightly =
     (keeps : Bool) (events : List GuardEvent) (next : GuardEvent)
@@ -57,15 +56,15 @@ abbrev pub KillsAfterAsking : Type 0
 KillsAfterAsking =
     (keeps : Bool) (events : List GuardEvent) → AsksFirst (guard_deeds keeps Idle events)
 
--- nobody is asked who may run on, or has had the signal that ended the client
+-- a command that may run on, or has had the signal that ended the client, is never asked
 pub record LeavesAlone : Type 0 where
   pub keeps : (events : List GuardEvent)
       → filter is_asking (guard_deeds true Idle events) ≡ []
   pub signalled : (quiet : ℕ) (sight : Sight) (events : List GuardEvent) → sight.signalled ≡ true
       → filter is_asking (guard_deeds false (Searching quiet) (Looked sight ∷ events)) ≡ []
 
--- a guard ends when its client is done, or is gone and announced no command; one whose client is gone
--- looks for the command, and asks it when it is found
+-- a guard ends when its client is done, or is gone and announced no command; if the client is
+-- gone, the guard looks for the command and asks it to end once found
 pub record GuardEnds : Type 0 where
   pub done : (keeps : Bool) → guard_after keeps (Said word.Done) Watching ≡ Over
   pub unused : (keeps : Bool) → guard_after keeps Closed Idle ≡ Over

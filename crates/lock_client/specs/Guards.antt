@@ -1,4 +1,4 @@
--- What the guard of a command makes of what happens to it.
+-- How the guard of a command answers what happens to it.
 use Rattle.std.specs.Prelude.{ℕ, zero, ◌+◌, Bool, ◌||◌, if◌then◌else◌, nat_lt, Option, Some, None}
 use Rattle.std.specs.Prelude.{List, [], ◌∷◌}
 use Rattle.std.specs.Option.{option_map_or}
@@ -11,14 +11,14 @@ use Rattle.lock_client.specs.declared.guard.GuardDeed.{GuardDeed}
 use Rattle.lock_client.specs.declared.guard.GuardDeed.TheVariants.{Listen, Look, Ask, Kill, End}
 use Rattle.lock_client.specs.declared.words.GuardWord.TheVariants as word
 
--- a guard to which no command was announced gives the lock back when its client is done or gone
+-- a guard that heard of no command releases the lock when its client is done or gone
 abbrev pub idle_after : GuardEvent → GuardStage
 idle_after (Said word.Start) = Watching
 idle_after (Said word.Done) = Over
 idle_after Closed = Over
 idle_after _ = Idle
 
--- once a command was announced, it looks for the command when its client is gone
+-- once a command was announced, the guard looks for it when the client is gone
 abbrev pub watching_after : GuardEvent → GuardStage
 watching_after (Said word.Done) = Over
 watching_after Closed = Searching 0
@@ -33,8 +33,8 @@ abbrev pub looked : (ℕ → GuardStage) → Sight → ℕ → GuardStage
 looked stage sight quiet =
     if sight.somebody then stage 0 else option_map_or stage (unseen quiet) Over
 
--- a command that may run on, or has had the signal itself, is left to end; any other is asked to end
--- when it is found
+-- a command that may run on, or has had the signal itself, is left to end; any other is asked to
+-- end when found
 abbrev pub searching_after : Bool → GuardEvent → ℕ → GuardStage
 searching_after keeps (Looked sight) quiet =
     if keeps || sight.signalled then looked Waiting sight quiet
@@ -42,7 +42,7 @@ searching_after keeps (Looked sight) quiet =
     else option_map_or Searching (unseen quiet) Over
 searching_after keeps _ quiet = Searching quiet
 
--- one that was asked is killed when its time is over
+-- a command that was asked is killed when its time is up
 abbrev pub asked_after : GuardEvent → ℕ → GuardStage
 asked_after (Looked sight) quiet = looked Asked sight quiet
 asked_after GraceIsOver quiet = Killed 0
@@ -66,7 +66,7 @@ guard_after keeps event (Killed quiet) = killed_after event quiet
 guard_after keeps event (Waiting quiet) = waiting_after event quiet
 guard_after keeps event Over = Over
 
--- what is to be done at a stage, which came after another one; whoever is still there is killed again
+-- what to do at a stage, by the stage before it; whoever is still there is killed again
 abbrev pub guard_deed : GuardStage → GuardStage → GuardDeed
 guard_deed _ Over = End
 guard_deed _ Idle = Listen
@@ -75,8 +75,8 @@ guard_deed (Searching quiet) (Asked _) = Ask
 guard_deed _ (Killed zero) = Kill
 guard_deed _ _ = Look
 
--- for how many milliseconds it rests before a look: a command that runs for long is looked for less
--- often
+-- how many milliseconds it rests before a look; it looks less often for a command that is left to
+-- end
 abbrev pub look_rest : GuardStage → ℕ
 look_rest (Waiting zero) = 200
 look_rest _ = 50
@@ -86,7 +86,7 @@ abbrev pub guard_after_all : Bool → GuardStage → List GuardEvent → GuardSt
 guard_after_all keeps stage [] = stage
 guard_after_all keeps stage (e ∷ es) = guard_after_all keeps (guard_after keeps e stage) es
 
--- what was to be done in them, one after the other
+-- the deeds of these events, one after the other
 abbrev pub guard_deeds : Bool → GuardStage → List GuardEvent → List GuardDeed
 guard_deeds keeps stage [] = []
 guard_deeds keeps stage (e ∷ es) =

@@ -1,4 +1,4 @@
--- Laws of a client of the lock: what those who run a command under it may rest on.
+-- Laws of a client of the lock: what users may rely on.
 use Rattle.std.specs.Prelude.{◌≡◌, ◌⊎◌, ◌↔◌, ◌≤◌, Bool, true, false, List, [], ◌∷◌, filter, length}
 use Rattle.lock_client.specs.declared.answer.Answer.{Answer}
 use Rattle.lock_client.specs.declared.answer.Answer.TheVariants as answer
@@ -14,21 +14,21 @@ use Rattle.lock_client.specs.declared.client.Deed.{Deed}
 use Rattle.lock_client.specs.declared.client.Deed.TheVariants.{Start, GiveBack, EndCommand, PassOn}
 use Rattle.lock_client.specs.Steps.{stage_after, stage_after_all, deed_between, deeds}
 
--- what puts nothing in doubt once the command has ended: a further end, the end of the guard, a signal
+-- what raises no doubt once the command has ended: another end, the end of the guard, a signal
 abbrev pub IsHarmless : Event → Type 0
 IsHarmless (event.Ended end) = Unit {0}
 IsHarmless event.GuardGone = Unit {0}
 IsHarmless (event.Signal signal) = Unit {0}
 IsHarmless _ = ⊥
 
--- the next thing that happened, but for what is harmless, is that the node said `released`
+-- the next event, apart from harmless ones, is that the node said `released`
 abbrev pub IsReleasedNext : List Event → Type 0
 IsReleasedNext [] = ⊥
 IsReleasedNext (e ∷ es) =
     (e ≡ event.Line answer.Released) ⊎ (IsHarmless e × IsReleasedNext es)
 
--- nothing came from the node and the guard lived until the command ended so, and next the node said
--- `released`
+-- nothing came from the node and the guard lived until the command ended like this, and next the
+-- node said `released`
 abbrev pub IsHeldToTheEnd : CommandEnd → List Event → Type 0
 IsHeldToTheEnd end [] = ⊥
 IsHeldToTheEnd end (e ∷ es) =
@@ -36,7 +36,7 @@ IsHeldToTheEnd end (e ∷ es) =
     ⊎ (((e ≡ event.TimeIsUp) ⊎ ((signal : Signal) × (e ≡ event.Signal signal)))
     × IsHeldToTheEnd end es)
 
--- what leaves a client waiting: no room, a connection that closed, and what is of an earlier command
+-- what leaves a client waiting: no room, a closed connection, and leftovers of an earlier command
 abbrev pub IsWaiting : Event → Type 0
 IsWaiting (event.Line answer.Full) = Unit {0}
 IsWaiting event.Gone = Unit {0}
@@ -44,22 +44,22 @@ IsWaiting (event.Ended end) = Unit {0}
 IsWaiting event.GuardGone = Unit {0}
 IsWaiting _ = ⊥
 
--- the lock was held all the while, and the guard lived: the node said nothing but `full` until it
--- said `granted`, then nothing until the command ended so, and then `released`
+-- the lock was held all the while and the guard lived: the node said nothing but `full` until it
+-- said `granted`, then nothing until the command ended like this, and then `released`
 abbrev pub HeldThroughout : CommandEnd → List Event → Type 0
 HeldThroughout end [] = ⊥
 HeldThroughout end (e ∷ es) =
     ((e ≡ event.Line answer.Granted) × IsHeldToTheEnd end es)
     ⊎ (IsWaiting e × HeldThroughout end es)
 
--- the command's own status is answered if the lock was held all the while and the guard lived, and
--- else never
+-- the command's own status is returned exactly if the lock was held all the while and the guard
+-- lived
 abbrev pub HeldThroughoutLaw : Type 0
 HeldThroughoutLaw =
     (end : CommandEnd) (events : List Event)
     → (stage_after_all false Asking events ≡ Over (Done end)) ↔ HeldThroughout end events
 
--- the command is started; the lock is given back; the command is asked to end
+-- the command is started; the lock is released; the command is asked to end
 abbrev pub is_start : Deed → Bool
 is_start Start = true
 is_start _ = false
@@ -77,13 +77,13 @@ abbrev pub StartsAtMostOnce : Type 0
 StartsAtMostOnce =
     (keeps : Bool) (events : List Event) → length (filter is_start (deeds keeps Asking events)) ≤ 1
 
--- whatever happens, the lock is given back at most once
+-- whatever happens, the lock is released at most once
 abbrev pub GivesBackOnce : Type 0
 GivesBackOnce =
     (keeps : Bool) (events : List Event)
     → length (filter is_giving_back (deeds keeps Asking events)) ≤ 1
 
--- what takes the lock from a command that runs, or leaves it without its guard
+-- what takes the lock, or its guard, from a running command
 abbrev pub is_loss : Event → Bool
 is_loss (event.Line answer) = true
 is_loss event.Gone = true
@@ -92,7 +92,7 @@ is_loss event.GuardGone = true
 is_loss _ = false
 
 -- if the node's connection or the guard ends first, the command is asked to end, at most once in
--- all, and 122 is the only status; nobody asks a command that may run on
+-- all, and the status is always 122; a command that may run on is never asked
 pub record EndsWhatLostItsLock : Type 0 where
   pub asks : (e : Event) → is_loss e ≡ true
       → deed_between false e Holding (stage_after false e Holding) ≡ EndCommand
@@ -101,8 +101,8 @@ pub record EndsWhatLostItsLock : Type 0 where
       → stage_after_all false Holding (e ∷ events) ≡ Over outcome → outcome ≡ Lost
   pub kept : (events : List Event) → filter is_ending (deeds true Asking events) ≡ []
 
--- a signal ends a client only if no command was started; to one that runs SIGTERM is handed on, and
--- no other signal does anything
+-- a signal ends a client only if no command was started; a running command gets SIGTERM passed on,
+-- and no other signal does anything
 pub record SignalsAreHeeded : Type 0 where
   pub before : (keeps : Bool) (signal : Signal) (events : List Event)
       → stage_after_all keeps Asking events ≡ Over (Stopped signal)
@@ -113,8 +113,8 @@ pub record SignalsAreHeeded : Type 0 where
       → (deed_between keeps (event.Signal signal) Holding Holding ≡ PassOn) ↔ (signal ≡ Terminate)
 
 -- a client that asks ends when its time is up, nobody serves or a signal comes; one that holds the
--- lock gives it back when its command ends; one that lost it ends then; and one that gave it back
--- ends with the node's next word, when the node is gone, or when the time is up
+-- lock releases it when its command ends; one that lost the lock ends when its command does; one
+-- that released it ends with the node's next word, when the node is gone, or when the time is up
 pub record EndsByItself : Type 0 where
   pub in_time : (keeps : Bool) → stage_after keeps event.TimeIsUp Asking ≡ Over NotInTime
   pub unserved : (keeps : Bool) → stage_after keeps event.Unserved Asking ≡ Over NoService

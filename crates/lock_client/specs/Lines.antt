@@ -32,6 +32,6 @@ answer_text Stranger = codes "stranger"
 answer_text Unknown = codes "unknown"
 answer_text Other = []
 
--- each answer is read as what it is
+-- each answer's line is read back as that answer
 abbrev pub AnswersAreRead : Type 0
 AnswersAreRead = (answer : Answer) → answer_line (answer_text answer) ≡ answer

@@ -1,4 +1,4 @@
--- What a client of the lock makes of what happens to it.
+-- How a client of the lock answers what happens to it.
 use Rattle.std.specs.Prelude.{Bool, true, false, List, [], ◌∷◌}
 use Rattle.lock_client.specs.declared.answer.Answer.TheVariants as answer
 use Rattle.lock_client.specs.declared.outcome.CommandEnd.{CommandEnd}
@@ -13,8 +13,8 @@ use Rattle.lock_client.specs.declared.client.Deed.{Deed}
 use Rattle.lock_client.specs.declared.client.Deed.TheVariants.{Wait, AskAgain, ConnectAgain, Start, PassOn}
 use Rattle.lock_client.specs.declared.client.Deed.TheVariants.{GiveBack, EndCommand, SayLost, Finish}
 
--- a client that asked holds the lock once that is granted, and asks again if there was no room or
--- the node closed the connection; any other word, nobody who listens, none in time or a signal ends
+-- a client that asked holds the lock once it is granted, and asks again if there was no room or
+-- the node closed the connection; any other word, no listener, a time that is up or a signal ends
 -- it
 abbrev pub asking_after : Event → Stage
 asking_after (Line answer.Granted) = Holding
@@ -27,8 +27,8 @@ asking_after (Ended end) = Asking
 asking_after GuardGone = Asking
 asking_after (Signal signal) = Over (Stopped signal)
 
--- a client that holds the lock gives it back when its command ends; any word of the node, its going
--- away, and the end of the guard put the lock in doubt; signals that are held back do not
+-- a client that holds the lock releases it when its command ends; any word of the node, its going
+-- away, and the end of the guard put the lock in doubt; held signals do not
 abbrev pub holding_after : Event → Stage
 holding_after (Line _) = Losing
 holding_after Gone = Losing
@@ -38,19 +38,19 @@ holding_after (Ended end) = Returning end
 holding_after GuardGone = Losing
 holding_after (Signal signal) = Holding
 
--- if the lock may have been lost under the command, that is how it ends, unless the client was asked
--- to let the command run on
+-- if the lock may have been lost while the command ran, the client ends with that, unless it was
+-- asked to let the command run on
 abbrev pub in_doubt : Bool → CommandEnd → Outcome
 in_doubt true end = Done end
 in_doubt false end = Lost
 
--- without the lock, the end of the command is awaited
+-- without the lock, the client waits for the end of the command
 abbrev pub losing_after : Bool → Event → Stage
 losing_after keeps (Ended end) = Over (in_doubt keeps end)
 losing_after keeps _ = Losing
 
--- once the command has ended, the node's word that the lock was given back makes all well; the
--- guard has nothing more to hold, and a signal comes too late; anything else puts it in doubt
+-- once the command has ended, all is well if the node says that the lock was released; the guard
+-- has nothing more to hold, and a signal comes too late; anything else puts the lock in doubt
 abbrev pub returning_after : Bool → Event → CommandEnd → Stage
 returning_after keeps (Line answer.Released) end = Over (Done end)
 returning_after keeps (Ended again) end = Returning end
@@ -66,18 +66,18 @@ stage_after keeps event Losing = losing_after keeps event
 stage_after keeps event (Returning end) = returning_after keeps event end
 stage_after keeps event (Over outcome) = Over outcome
 
--- what is said of a lock that is lost, and what becomes of the command
+-- what to do if the lock is lost: say so, and end the command unless it may run on
 abbrev pub losing_deed : Bool → Deed
 losing_deed true = SayLost
 losing_deed false = EndCommand
 
--- if the desk was full the client asks again, and connects again if the node closed the connection
+-- if the desk was full the client asks again; if the node closed the connection it connects again
 abbrev pub asking_deed : Event → Deed
 asking_deed (Line answer.Full) = AskAgain
 asking_deed Gone = ConnectAgain
 asking_deed _ = Wait
 
--- SIGTERM is handed on to a command that runs
+-- SIGTERM is passed on to a running command
 abbrev pub running_deed : Event → Deed
 running_deed (Signal Terminate) = PassOn
 running_deed _ = Wait
@@ -87,7 +87,7 @@ abbrev pub lost_deed : Bool → Event → Deed
 lost_deed true event = running_deed event
 lost_deed false event = Wait
 
--- what is to be done between one stage and the next
+-- what to do between one stage and the next
 abbrev pub deed_between : Bool → Event → Stage → Stage → Deed
 deed_between keeps event _ (Over outcome) = Finish outcome
 deed_between keeps event _ Asking = asking_deed event
@@ -103,7 +103,7 @@ abbrev pub stage_after_all : Bool → Stage → List Event → Stage
 stage_after_all keeps stage [] = stage
 stage_after_all keeps stage (e ∷ es) = stage_after_all keeps (stage_after keeps e stage) es
 
--- what was to be done in them, one after the other
+-- the deeds of these events, one after the other
 abbrev pub deeds : Bool → Stage → List Event → List Deed
 deeds keeps stage [] = []
 deeds keeps stage (e ∷ es) =

@@ -7,19 +7,19 @@ ghost use Rattle.lock_client.specs.Lines.{answer_text};
 pub enum Answer {
     /// `granted`: the lock is lent to the client.
     Granted,
-    /// `lost`: its loan ended without it.
+    /// `lost`: the node ended its loan.
     Lost,
-    /// `released`: it gave the lock back, or waits no longer.
+    /// `released`: it released the lock, or waits no longer.
     Released,
-    /// `full`: 64 wait at the node, the most that may.
+    /// `full`: 64 clients wait at the node, and no more may.
     Full,
-    /// `twice`: it waits or borrows already.
+    /// `twice`: it already waits or borrows.
     Twice,
-    /// `stranger`: it neither waits nor borrows.
+    /// `stranger`: it neither waits nor borrows, so it has nothing to release.
     Stranger,
     /// `unknown`: the desk knows no such line.
     Unknown,
-    /// Any other line, as a status line.
+    /// Any other line, such as a status line.
     Other,
 }
 

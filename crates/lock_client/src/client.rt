@@ -11,13 +11,13 @@ use held_signals::Signal;
 /// How far a client is.
 #[derive(Clone, Copy, Debug, PartialEq, Eq)]
 pub enum Stage {
-    /// It asked for the lock, and has no answer yet.
+    /// It has asked for the lock, and has no answer yet.
     Asking,
     /// The lock is lent to it, and its command runs.
     Holding,
-    /// The lock is lost, or in doubt, and its command still runs.
+    /// The lock is lost or in doubt, and its command still runs.
     Losing,
-    /// Its command ended so, and it gave the lock back; the node has not yet said that it did.
+    /// Its command ended like this, and it released the lock; the node has not confirmed that yet.
     Returning(CommandEnd),
     /// All is over.
     Over(Outcome),
@@ -30,31 +30,31 @@ pub enum Event {
     Line(Answer),
     /// The connection closed or failed.
     Gone,
-    /// There is no connection to be had: nobody listens at the node any more.
+    /// There is no connection: nobody listens at the node any more.
     Unserved,
-    /// The time that the client was ready to wait for an answer is over.
+    /// The time for which the client waits for an answer is up.
     TimeIsUp,
     /// The command ended, or could not be started.
     Ended(CommandEnd),
-    /// The guard of the command is gone, which would hold the lock if this client were killed.
+    /// The guard of the command is gone. It would hold the lock if this client were killed.
     GuardGone,
-    /// This signal came to the client, which had it held back.
+    /// This signal came to the client, which holds it back.
     Signal(Signal),
 }
 
-/// What is to be done now.
+/// What to do now.
 #[derive(Clone, Copy, Debug, PartialEq, Eq)]
 pub enum Deed {
     /// Nothing: wait for what happens next.
     Wait,
     /// Write `lock` again, after a rest: there was no room at the desk.
     AskAgain,
-    /// Connect again, after a rest, and write `lock`: the node closed the connection, as one does
-    /// that has no room for a client.
+    /// Connect again, after a rest, and write `lock`: the node closed the connection, as a node
+    /// without room for a client does.
     ConnectAgain,
     /// Start the guard and the command.
     Start,
-    /// Hand SIGTERM on to the command.
+    /// Pass SIGTERM on to the command.
     PassOn,
     /// Write `unlock`.
     GiveBack,
@@ -62,11 +62,11 @@ pub enum Deed {
     EndCommand,
     /// Say that the lock is lost, and let the command run on.
     SayLost,
-    /// Close the connection, and end so.
+    /// Close the connection, and end like this.
     Finish(Outcome),
 }
 
-/// A client that takes the lock once, runs a command under it, and gives it back. Who makes one
+/// A client that takes the lock once, runs a command under it, and releases it. Whoever makes one
 /// writes `lock` first.
 #[derive(Clone, Copy, Debug, PartialEq, Eq)]
 pub struct LockClient {
@@ -77,8 +77,8 @@ pub struct LockClient {
 impl LockClient {
     ghost use Rattle.lock_client.specs.declared.client.Stage.TheVariants.{Asking};
 
-    /// A client that has just asked. If the lock is lost under its command, the command runs on
-    /// or is ended, as this says.
+    /// A client that has just asked. `keeps_running` says whether the command runs on if the lock
+    /// is lost.
     pub fn new(keeps_running: bool) -> LockClient
         ensures keeps { result.keeps_running ≡ keeps_running }
         ensures asks { result.stage ≡ Asking }
@@ -96,8 +96,8 @@ impl LockClient {
         self.stage
     }
 
-    /// Takes note of what happened, and says what is to be done. What cannot happen at that stage
-    /// changes nothing.
+    /// Takes note of what happened, and says what to do. What cannot happen at that stage changes
+    /// nothing.
     pub fn step(&mut self, event: Event) -> Deed
         ensures stage { self.new ≡ record self.old {
           stage = stage_after self.old.keeps_running event self.old.stage;
@@ -137,7 +137,7 @@ impl LockClient {
         }
     }
 
-    /// How it ends if the command ended so and the lock may have been lost under it.
+    /// How it ends if the command ended like this and the lock may have been lost meanwhile.
     fn in_doubt(&self, end: CommandEnd) -> Outcome
         ensures { result ≡ in_doubt self.now.keeps_running end }
     {
@@ -148,7 +148,7 @@ impl LockClient {
         }
     }
 
-    /// What is to be done, now that the stage was another one before.
+    /// What to do, by the stage before this one.
     fn deed(&self, event: Event, before: Stage) -> Deed
         ensures { result ≡ deed_between self.now.keeps_running event before self.now.stage }
     {
@@ -164,7 +164,7 @@ impl LockClient {
         }
     }
 
-    /// What is to be done while the command runs without the lock.
+    /// What to do while the command runs without the lock.
     fn lost_deed(&self, event: Event) -> Deed
         ensures { result ≡ lost_deed self.now.keeps_running event }
     {
@@ -175,7 +175,7 @@ impl LockClient {
         }
     }
 
-    /// What is to be done if the lock is lost under the command.
+    /// What to do if the lock is lost while the command runs.
     fn losing_deed(&self) -> Deed
         ensures { result ≡ losing_deed self.now.keeps_running }
     {
@@ -187,7 +187,7 @@ impl LockClient {
     }
 }
 
-/// What is to be done while the lock is waited for.
+/// What to do while the client waits for the lock.
 fn asking_deed(event: Event) -> Deed
     ensures { result ≡ asking_deed event }
 {
@@ -198,8 +198,8 @@ fn asking_deed(event: Event) -> Deed
     }
 }
 
-/// What is to be done while the command runs. Of the signals that are held back, those of a
-/// terminal came to the command too.
+/// What to do while the command runs. A terminal's signals came to the command too, so only
+/// SIGTERM is passed on.
 fn running_deed(event: Event) -> Deed
     ensures { result ≡ running_deed event }
 {
@@ -223,7 +223,7 @@ fn while_asking(event: Event) -> Stage
     }
 }
 
-/// It has the lock. Whatever the node says now, the lock is lost or in doubt; and a command without
+/// It has the lock. Whatever the node says now, the lock is lost or in doubt. A command without
 /// its guard would keep running without the lock if this client were killed.
 fn while_holding(event: Event) -> Stage
     ensures { result ≡ holding_after event }

@@ -1,4 +1,4 @@
-//! How a command ended, by what the system says of it.
+//! How a command ended, as the system reports it.
 ghost use Rattle.std.specs.Prelude.{◌≡◌, ◌≢◌};
 ghost use Rattle.lock_client.specs.Ends.{command_end};
 ghost use Rattle.lock_client.specs.declared.outcome.CommandEnd.TheVariants.{NotThere, CannotRun};
@@ -11,7 +11,7 @@ use std::process::ExitStatus;
 /// The status of a command whose own status cannot be known, as `env` has it for its failures.
 pub const UNKNOWN_STATUS: u8 = 125;
 
-/// How it ended if it could not be started for this reason.
+/// The end of a command that could not be started for this reason.
 pub fn spawn_end(kind: ErrorKind) -> CommandEnd
     ensures not_there { kind ≡ ErrorKind.NotFound → result ≡ NotThere }
     ensures cannot_run { kind ≢ ErrorKind.NotFound → result ≡ CannotRun }
@@ -22,7 +22,7 @@ pub fn spawn_end(kind: ErrorKind) -> CommandEnd
     }
 }
 
-/// How a command ended that the system says ended so.
+/// How a command ended, by this wait status.
 pub fn command_end(status: ExitStatus) -> CommandEnd
     ensures { result ≡ command_end status }
 {

@@ -29,13 +29,13 @@ pub enum GuardStage {
     Over,
 }
 
-/// What a look found.
+/// What a look has found.
 #[derive(Clone, Copy, Debug, PartialEq, Eq)]
 pub struct Sight {
     /// Whether somebody of the command is left.
     pub somebody: bool,
-    /// Whether a signal came to the guard. It is sent to nobody alone who knows of no guard: so it
-    /// came to the whole group, and the command has had it too.
+    /// Whether a signal came to the guard. Nobody sends one to the guard alone, so it came to the
+    /// whole group, and the command has had it too.
     pub signalled: bool,
 }
 
@@ -48,27 +48,27 @@ pub enum GuardEvent {
     Closed,
     /// A look for the command found this.
     Looked(Sight),
-    /// The time is over that a command has to end after it was asked.
+    /// The time that a command has to end after it was asked is up.
     GraceIsOver,
 }
 
-/// What a guard is to do now.
+/// What a guard does now.
 #[derive(Clone, Copy, Debug, PartialEq, Eq)]
 pub enum GuardDeed {
     /// Wait for what the client says next.
     Listen,
     /// Look for the command, after a rest.
     Look,
-    /// Ask all of the command to end, and look after a rest.
+    /// Ask all processes of the command to end, and look after a rest.
     Ask,
-    /// Kill all of the command, and look after a rest.
+    /// Kill all processes of the command, and look after a rest.
     Kill,
-    /// Give the lock back, by ending.
+    /// Release the lock, by ending.
     End,
 }
 
-/// The guard of a command that runs under the lock: it holds the lock with the client, and for as
-/// long as the command runs if the client is killed.
+/// The guard of a command that runs under the lock. It holds the lock together with the client; if
+/// the client is killed, it holds it as long as the command runs.
 #[derive(Clone, Copy, Debug, PartialEq, Eq)]
 pub struct Guard {
     keeps_running: bool,
@@ -78,8 +78,8 @@ pub struct Guard {
 impl Guard {
     ghost use Rattle.lock_client.specs.declared.guard.GuardStage.TheVariants.{Idle};
 
-    /// A guard to which the client has said nothing. Whether the command runs on if the client is
-    /// gone, or is ended.
+    /// A guard to which the client has said nothing. `keeps_running` says whether the command runs
+    /// on if the client is gone.
     pub fn new(keeps_running: bool) -> Guard
         ensures keeps { result.keeps_running ≡ keeps_running }
         ensures idle { result.stage ≡ Idle }
@@ -90,8 +90,8 @@ impl Guard {
         }
     }
 
-    /// For how many milliseconds it rests before its next look: 50, and 200 while a command runs that
-    /// is left to end by itself.
+    /// How many milliseconds it rests before its next look: 50, or 200 if the command is left to
+    /// end by itself.
     pub fn rest(&self) -> u64
         ensures { result ≡ look_rest self.now.stage }
     {
@@ -101,8 +101,8 @@ impl Guard {
         }
     }
 
-    /// Takes note of what happened, and says what is to be done. What cannot happen at that stage
-    /// changes nothing.
+    /// Takes note of what happened, and says what to do. What cannot happen at that stage changes
+    /// nothing.
     pub fn step(&mut self, event: GuardEvent) -> GuardDeed
         ensures stage { self.new ≡ record self.old {
           stage = guard_after self.old.keeps_running event self.old.stage;
@@ -122,7 +122,7 @@ impl Guard {
         deed(before, self.stage)
     }
 
-    /// It looks for the command for the first time, or has not found it yet.
+    /// It has not found the command yet.
     fn searching_after(&self, event: GuardEvent, quiet: u8) -> GuardStage
         ensures { result ≡ searching_after self.now.keeps_running event quiet }
     {
@@ -216,7 +216,7 @@ fn unseen(quiet: u8) -> Option<u8>
     }
 }
 
-/// What is to be done at this stage, which came after that one.
+/// What to do at this stage, by the one before it.
 fn deed(before: GuardStage, now: GuardStage) -> GuardDeed
     ensures { result ≡ guard_deed before now }
 {

@@ -1,9 +1,9 @@
 //! A client of the lock: what it writes to a node's desk, what the answers mean, and what it does
 //! next.
 //!
-//! A program that runs a command under the lock holds a [`LockClient`] and reports to it what happens:
-//! a line came, the node is gone, the time is up, the command ended. Each call answers what is to
-//! be done now. It opens no socket, starts no command and reads no clock; whoever holds it does.
+//! A program that runs a command under the lock holds a [`LockClient`] and reports to it what
+//! happens: a line came, the node is gone, the time is up, the command ended. Each call returns
+//! what to do now. It opens no socket, starts no command and reads no clock; its caller does.
 //!
 //! ```
 //! let mut client = LockClient::new(false);            // `lock` is written first
@@ -12,8 +12,8 @@
 //! client.step(Event::Line(Answer::Released));         // Deed::Finish(..), whose status is 0
 //! ```
 //!
-//! The trap: that the command has ended is not enough. Its own status is answered only if the
-//! node then says `released`: else the lock may have been lost while the command ran.
+//! The trap: it is not enough that the command has ended. Its own status is returned only if the
+//! node then says `released`; else the lock may have been lost while the command ran.
 //!
 //! Its statuses are those of `timeout` and `env`, with one of its own, 122, for a lock that was
 //! lost.

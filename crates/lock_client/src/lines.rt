@@ -10,8 +10,8 @@ use byte_lines::{HalfLine, LineReading};
 use lock_desk::ClientLine;
 use std::marker::Model;
 
-/// What a client writes for this, with its newline: a desk reads this very line and no other. For
-/// `Unknown` that is the empty line.
+/// What a client writes for this, with its newline: a desk reads exactly this line so. For
+/// `Unknown` it is the empty line.
 pub fn spelled(line: ClientLine) -> &'static [u8]
     ensures { client_lines result.now ≡ line ∷ [] }
 {
@@ -39,7 +39,7 @@ impl Model for AnswerReader {
 }
 
 impl AnswerReader {
-    /// A reader to which no byte came.
+    /// A reader to which no byte has come.
     pub fn new() -> AnswerReader
         ensures { StandsAfter 8 [] result }
     {
@@ -48,7 +48,7 @@ impl AnswerReader {
         }
     }
 
-    /// Takes the next byte, and answers the line that it ends, if it is a newline.
+    /// Takes the next byte. If it is a newline, returns the line that it ends.
     pub fn push(&mut self, byte: u8) -> Option<Answer>
         ensures stands { (bytes : List ℕ) → StandsAfter 8 bytes self.old
             → StandsAfter 8 (bytes ++ byte ∷ []) self.new }

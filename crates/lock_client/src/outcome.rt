@@ -15,14 +15,14 @@ pub enum CommandEnd {
     CannotRun,
     /// It is not there.
     NotThere,
-    /// It was not run, since no guard could be started that holds the lock if this program is
+    /// It was not run, since no guard could be started. A guard holds the lock if this program is
     /// killed.
     NotGuarded,
 }
 
 impl CommandEnd {
-    /// The status that stands for it: the command's own; 128 and the signal's number, at most 255;
-    /// 126; 127; 125.
+    /// The status for it: the command's own; 128 plus the signal's number, at most 255; 126; 127;
+    /// 125.
     fn status(self) -> u8
         ensures { result ≡ end_status self }
     {
@@ -39,9 +39,9 @@ impl CommandEnd {
 /// How it all ended.
 #[derive(Clone, Copy, Debug, PartialEq, Eq)]
 pub enum Outcome {
-    /// The command ended so, and the lock was held all the while.
+    /// The command ended like this, and the lock was held all the while.
     Done(CommandEnd),
-    /// The lock was lost, or may have been, before it was given back.
+    /// The lock was lost, or may have been, before it was released.
     Lost,
     /// The lock was not granted in time.
     NotInTime,
@@ -52,9 +52,9 @@ pub enum Outcome {
 }
 
 impl Outcome {
-    /// The status of the program: the command's; 122 for a lost lock; 124, as `timeout` has it; 125,
-    /// as `env` has it for a failure of its own; and 128 and the number of the signal that came, as
-    /// a shell has it.
+    /// The status of the program: the command's; 122 for a lost lock; 124, as `timeout` has it;
+    /// 125, as `env` has it for its own failures; and 128 plus the number of the signal that came,
+    /// as a shell has it.
     pub fn status(self) -> u8
         ensures { result ≡ outcome_status self }
     {
@@ -67,7 +67,7 @@ impl Outcome {
         }
     }
 
-    /// The same, but that a lost lock has this status.
+    /// The same, except that a lost lock has this status.
     pub fn status_or(self, lost: u8) -> u8
         ensures { result ≡ chosen_status lost self }
     {

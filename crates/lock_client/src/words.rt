@@ -7,7 +7,7 @@ ghost use Rattle.lock_client.specs.Words.{guard_word, guard_words, runs_word, pr
 use byte_lines::{HalfLine, LineReading};
 use std::marker::Model;
 
-/// The most that the id of a process is on Linux.
+/// The greatest id of a process on Linux.
 const MOST_PROCESS: u32 = 4_194_304;
 
 /// A line from a client to its guard.
@@ -17,7 +17,7 @@ pub enum GuardWord {
     Start,
     /// `runs N`: the command runs as process N.
     Runs(u32),
-    /// `done`: the command has ended, and the lock is given back or lost.
+    /// `done`: the command has ended, and the lock is released or lost.
     Done,
     /// Any other line.
     Other,
@@ -38,7 +38,7 @@ impl Model for WordReader {
 }
 
 impl WordReader {
-    /// A reader to which no byte came.
+    /// A reader to which no byte has come.
     pub fn new() -> WordReader
         ensures { StandsAfter 16 [] result }
     {
@@ -47,7 +47,7 @@ impl WordReader {
         }
     }
 
-    /// Takes the next byte, and answers the line that it ends, if it is a newline.
+    /// Takes the next byte. If it is a newline, returns the line that it ends.
     pub fn push(&mut self, byte: u8) -> Option<GuardWord>
         ensures stands { (bytes : List ℕ) → StandsAfter 16 bytes self.old
             → StandsAfter 16 (bytes ++ byte ∷ []) self.new }
@@ -89,7 +89,7 @@ fn known(line: &[u8]) -> GuardWord
     }
 }
 
-/// What a line says that is none of the others.
+/// What a line that is none of the others says.
 fn runs(line: &[u8]) -> GuardWord
     ensures { result ≡ runs_word line.now }
 {

@@ -1,4 +1,4 @@
--- A client that was told all that happened.
+-- A client that hears all that happened.
 use Rattle.std.proofs.Common.{◌≡◌, ◌≢◌, Bool, true, false, Option, Some, List, [], ◌∷◌, ◌++◌, option_map, refl, arith}
 use Rattle.std.proofs.lemmas.Grind.{common_steps}
 use Rattle.lock_client.specs.declared.client.Event.{Event}
@@ -17,7 +17,7 @@ pub one_more : (keeps : Bool) (stage : Stage) (events : List Event) (e : Event)
 one_more keeps stage [] e = refl
 one_more keeps stage (d ∷ es) e = one_more keeps (stage_after keeps d stage) es e
 
--- what was told since nothing was led a client to this stage
+-- all that was heard, from the first event on, led a client to this stage
 abbrev pub IsUnderWay : Bool → Option (List Event) → Option (List Event) → Stage → Type 0
 IsUnderWay keeps from now stage =
     from ≡ Some [] → (events : List Event) × (now ≡ Some events) × (stage_after_all keeps Asking events ≡ stage)
@@ -40,7 +40,7 @@ steps keeps had from now next after stage new e same under told acted is none =
     let end : stage_after keeps e stage ≡ new = grind arith in
     (so.0, rw acted so.1, rw so.2 end)
 
--- who is to finish is over
+-- a client that must finish is over
 pub closes : (keeps : Bool) (e : Event) (before after : Stage) (deed : Deed) (outcome : Outcome) → deed ≡ deed_between keeps e before after
     → deed ≡ Finish outcome → after ≡ Over outcome
 closes keeps e before after deed outcome is same = grind (arith, common_steps)
@@ -53,7 +53,8 @@ RunsAt runs Losing = Unit {0}
 RunsAt runs (Returning end) = runs ≡ false
 RunsAt runs (Over outcome) = runs ≡ false
 
--- the same after a step: no command starts but by the deed for it, and none runs whose end is told
+-- the same after a step: a command starts only by the deed for it, and none runs whose end was
+-- reported
 pub runs_on : (keeps : Bool) (e : Event) (before after : Stage) (deed : Deed) (was is will : Bool) → RunsAt was before
     → after ≡ stage_after keeps e before → deed ≡ deed_between keeps e before after → (is ≡ true → was ≡ true)
     → ((end : CommandEnd) → e ≡ Ended end → is ≡ false) → (deed ≢ Start → will ≡ is) → RunsAt will after

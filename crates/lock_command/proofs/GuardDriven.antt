@@ -1,4 +1,4 @@
--- A guard that was told all that happened.
+-- A guard that hears all that happened.
 use Rattle.std.proofs.Common.{◌≡◌, Bool, Option, Some, List, [], ◌∷◌, ◌++◌, option_map, refl, arith}
 use Rattle.std.proofs.lemmas.Grind.{common_steps}
 use Rattle.lock_client.specs.declared.guard.GuardEvent.{GuardEvent}
@@ -14,7 +14,7 @@ pub one_more : (keeps : Bool) (stage : GuardStage) (events : List GuardEvent) (e
 one_more keeps stage [] e = refl
 one_more keeps stage (d ∷ es) e = one_more keeps (guard_after keeps d stage) es e
 
--- what was told since nothing was led a guard to this stage
+-- all that was heard, from the first event on, led a guard to this stage
 abbrev pub IsOnGuard : Bool → Option (List GuardEvent) → Option (List GuardEvent) → GuardStage → Type 0
 IsOnGuard keeps from now stage =
     from ≡ Some [] → (events : List GuardEvent) × (now ≡ Some events) × (guard_after_all keeps Idle events ≡ stage)
@@ -36,6 +36,6 @@ watches keeps had from now next after stage new e same under told acted is none 
     let end : guard_after keeps e stage ≡ new = grind arith in
     (so.0, rw acted so.1, rw so.2 end)
 
--- a guard that is to end is over
+-- a guard that must end is over
 pub ends : (before after : GuardStage) (deed : GuardDeed) → deed ≡ guard_deed before after → deed ≡ End → after ≡ Over
 ends before after deed is same = grind (arith, common_steps)

@@ -1,4 +1,4 @@
--- What is due when, and how long is rested: small examples, and some that are none.
+-- What is due when, and how long to rest: small examples, with some that fail.
 use Rattle.std.proofs.Common.{◌≡◌, ◌≢◌, true, false, Some, None, refl, arith}
 use Rattle.lock_command.specs.declared.course.Course.{Course}
 use Rattle.lock_command.specs.Course.{later, new_course, asked_course, timed, closed, connected, started, given_back, asked_to_end, is_past, without_due, killed_again, lacks_room, age_of, left_of}
@@ -39,7 +39,7 @@ closes = refl
 connects : (connected course).connected ≡ 1000
 connects = refl
 
--- a connection that was closed stays so noted
+-- that a connection was closed stays noted
 connects_not-forgotten : (connected course).was_closed ≡ true
 connects_not-forgotten = refl
 
@@ -49,7 +49,7 @@ starts = refl
 starts_not-due : is_past (started course).due 18446744073709551615 ≡ false
 starts_not-due = refl
 
--- the word is awaited for 10 seconds, and a command has 3
+-- the node has 10 seconds for its word, and a command 3 to end
 gives-back : (given_back course).due ≡ Some 11000
 gives-back = refl
 
@@ -83,7 +83,7 @@ kills_not-yet = refl
 lacks-young : lacks_room course ≡ true
 lacks-young = refl
 
--- after half a second the connection is one that the node keeps
+-- after half a second the node counts as keeping the connection
 lacks_not-old : lacks_room (timed 1200 course) ≡ false
 lacks_not-old = refl
 
@@ -102,7 +102,7 @@ left-due = refl
 left-family : left_of true course ≡ Some 100
 left-family = refl
 
--- what is late is due now
+-- what is overdue is due now
 left_not-below : left_of false (timed 6000 course) ≡ Some 0
 left_not-below = refl
 

@@ -1,4 +1,5 @@
--- Lines on standard error and when they are reported: small examples, written out by hand, and some that are none.
+-- Lines on standard error and when they are reported: small examples, written by hand, with some
+-- that fail.
 use Rattle.std.proofs.Common.{◌≡◌, ◌≢◌, ℕ, List, true, false, Some, None, codes, refl, arith, inl, inr}
 use Rattle.std.specs.Borrow.{Bor}
 use Rattle.std.specs.Fmt.{digits}
@@ -98,14 +99,14 @@ loss-gone = refl
 loss-word : loss_notice 2 (event.Line answer.Lost) fate.Ended ≡ notice.Lost 2 cause.Ended fate.Ended
 loss-word = refl
 
--- of a command's own status nothing is reported; if the node did not say that the lock was held, that is
+-- a command's own status is not reported; a node that did not say that the lock was held is
 end_not-own : end_notice 2 notice.System (event.Line answer.Released) (outcome.Done (Exited 3)) ≡ None
 end_not-own = refl
 
 end-in_doubt : end_notice 2 notice.System event.TimeIsUp outcome.Lost ≡ Some (notice.InDoubt 2)
 end-in_doubt = refl
 
--- a loss that was reported when it came is not reported again
+-- a loss is reported when it comes, and not again at the end
 end_not-again : end_notice 2 notice.System (event.Ended (Exited 0)) outcome.Lost ≡ None
 end_not-again = refl
 
@@ -184,19 +185,19 @@ module _ (folder : Bor (List ℕ)) where
   is-unbegun : IsUnbegun notice.Memory
   is-unbegun = inr refl
 
-  -- a session that begins is not said to have been granted the lock
+  -- a session that fails to begin is not reported as granted
   unbegun_not-granted : ¬ IsUnbegun (notice.Granted 2)
   unbegun_not-granted (inl e) = grind (arith, e)
   unbegun_not-granted (inr e) = grind (arith, e)
 
-  -- what is reported of one node names that node, and not that nobody answers in the folder
+  -- what is reported of one node names that node, not the whole folder
   is-unreachable : IsUnreachable folder (Some 2) (notice.NoNode folder 2)
   is-unreachable = inr (kind.NotFound, true, refl)
 
   unreachable-any : IsUnreachable folder None (notice.NoAnswer folder)
   unreachable-any = inr (inr (inl refl))
 
-  -- nothing is lost that was not asked for
+  -- a lock that was not asked for is not lost
   unread_not-lost : ¬ IsUnread folder (notice.NoNode folder 2)
   unread_not-lost (why, e) = grind (arith, e)
 

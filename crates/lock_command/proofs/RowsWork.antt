@@ -1,4 +1,5 @@
--- Small examples of what is done under the lock, how standard input is watched and which status follows, and some that are none.
+-- Small examples of what is done under the lock, how standard input is watched and which status
+-- follows, with some that fail.
 use Rattle.std.proofs.Common.{◌≡◌, ◌≢◌, ◌++◌, ℕ, List, [], ◌∷◌, Ok, Err, Some, None, true, false, codes, refl, arith, inl, inr}
 use Rattle.std.specs.Fmt.{digits}
 use Rattle.std.specs.declared.io.ErrorKind.TheVariants.{Interrupted, BrokenPipe}
@@ -50,11 +51,11 @@ reads_not-input = grind arith
 is-outcome : IsOutcomeOf false (Some (Line answer.Granted ∷ Ended (Exited 3) ∷ Line answer.Released ∷ [])) (Done (Exited 3))
 is-outcome = (Line answer.Granted ∷ Ended (Exited 3) ∷ Line answer.Released ∷ [], refl, refl)
 
--- the node went away: a client may not answer that the command held the lock
+-- the node went away: a client may not say that the command held the lock
 outcome_not-gone : ¬ IsOutcomeOf false (Some (Line answer.Granted ∷ Ended (Exited 0) ∷ Gone ∷ [])) (Done (Exited 0))
 outcome_not-gone (events, told, over) = grind (arith, told, over)
 
--- nor can it be said of a client of which it is not known what happened to it
+-- nor may one of which nobody knows what happened to it
 outcome_not-unknown : ¬ IsOutcomeOf false None Lost
 outcome_not-unknown (events, told, over) = grind (arith, told)
 
@@ -102,7 +103,7 @@ watched_not-told (inr e) = grind (arith, e)
 taken-ready : IsTaken Ready Waiting
 taken-ready = inl refl
 
--- what the system said counts once
+-- what the system said counts only once
 taken_not-ready : ¬ IsTaken Ready Ready
 taken_not-ready taken = watched_not-told taken
 
@@ -138,7 +139,7 @@ module _ (P A B C : Type 0) where
   ends_not-failed (inl e) = grind (arith, e)
   ends_not-failed (inr e) = grind (arith, e)
 
-  -- what the command started is awaited before its end is told
+  -- what the command started must end before its end is reported
   ends_not-family : ¬ EndsSo {P = P} {A = A} {B = B} {C = C} (work.Family (Exited 3)) true (Some (Exited 3))
   ends_not-family e = grind (arith, e)
 
@@ -149,7 +150,7 @@ module _ (P A B C : Type 0) where
   family_not-other (inl e) = grind (arith, e)
   family_not-other (inr e) = grind (arith, e)
 
-  -- an end is told once
+  -- an end is reported once
   goes-over : GoesOn {P = P} {A = A} {B = B} {C = C} (Some (Exited 3)) (work.Family (Exited 3)) work.None
   goes-over = refl
 

@@ -8,7 +8,7 @@ use Rattle.lock_command.specs.declared.seconds.Seconds.{Seconds}
 abbrev pub later : ℕ → ℕ → ℕ
 later millis now = min (now + millis) 18446744073709551615
 
--- just asked, and waited for so long
+-- just asked, with this long to wait
 abbrev pub new_course : Option ℕ → Course
 new_course limit = record { time = 0; connected = 0; was_closed = false; started = 0; due = limit; kill_due = None }
 
@@ -26,7 +26,7 @@ closed c = record c { was_closed = true }
 abbrev pub connected : Course → Course
 connected c = record c { connected = c.time }
 
--- the command is started, and no answer is awaited
+-- the command is started, and no answer is due
 abbrev pub started : Course → Course
 started c = record c { due = None; started = c.time }
 
@@ -46,7 +46,7 @@ abbrev pub without_due : Bool → Course → Course
 without_due true c = record c { due = None }
 without_due false c = c
 
--- whoever is left is killed again a second later
+-- whatever is left is killed again a second later
 abbrev pub killed_again : Bool → Course → Course
 killed_again true c = record c { kill_due = Some (later 1000 c.time) }
 killed_again false c = c
@@ -59,7 +59,7 @@ abbrev pub age_of : Bool → Course → Option ℕ
 age_of true c = Some (c.time - c.started)
 age_of false c = None
 
--- a tenth of a second if what the command started is awaited; else until the time is up
+-- a tenth of a second while it waits for what the command started; else until the time is up
 abbrev pub left_of : Bool → Course → Option ℕ
 left_of true c = Some 100
 left_of false c = option_map (λ due. due - c.time) c.due

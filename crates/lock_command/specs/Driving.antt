@@ -1,11 +1,11 @@
--- What a client answers over all that happened to it.
+-- The outcome of a client, from all that happened to it.
 use Rattle.std.specs.Prelude.{◌≡◌, Bool, List, Option, Some}
 use Rattle.lock_client.specs.declared.client.Event.{Event}
 use Rattle.lock_client.specs.declared.client.Stage.TheVariants.{Asking, Over}
 use Rattle.lock_client.specs.declared.outcome.Outcome.{Outcome}
 use Rattle.lock_client.specs.Steps.{stage_after_all}
 
--- a client to which these things happened, and no others, is over with this outcome
+-- a client to which exactly these things happened is over with this outcome
 abbrev pub IsOutcomeOf : Bool → Option (List Event) → Outcome → Type 0
 IsOutcomeOf keeps told outcome =
     (events : List Event) × (told ≡ Some events)

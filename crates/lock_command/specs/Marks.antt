@@ -1,7 +1,7 @@
--- The mark of a command, by which it and whatever it starts are found.
+-- The mark of a command: it finds the command and whatever that starts.
 use Rattle.std.specs.Prelude.{◌≡◌, ℕ, List, ◌++◌, codes, decimal}
 
--- the id of a process, or 0 if that is not known, and what time it is in nanoseconds: `12.34;`
+-- the id of a process, or 0 if unknown, and the time in nanoseconds: `12.34;`
 abbrev pub IsMark : List ℕ → Type 0
 IsMark mark = (process : List ℕ) × (nanos : ℕ) × (mark ≡ process ++ (codes "." ++ (decimal nanos ++ codes ";")))
 

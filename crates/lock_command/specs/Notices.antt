@@ -22,8 +22,8 @@ loss_notice node event.GuardGone command = GuardGone command
 loss_notice node event.Gone command = Lost node cause.WentAway command
 loss_notice node _ command = Lost node cause.Ended command
 
--- of a command's own end, a signal, a loss that was reported and a node that could not be reached
--- nothing is reported at the end
+-- at the end nothing is reported of a command's own end, a signal, a loss that was reported
+-- before, or a node that could not be reached
 abbrev pub end_notice : ℕ → Notice → Event → Outcome → Option Notice
 end_notice node waited event.Unserved outcome.NoService = None
 end_notice node waited event outcome.NoService = Some (NoService node)
@@ -33,24 +33,24 @@ end_notice node waited event outcome.Lost = Some (InDoubt node)
 end_notice node waited event (outcome.Done end) = None
 end_notice node waited event (outcome.Stopped signal) = None
 
--- the lock is granted when the command is to be started, and is back if the node says so at the end
+-- the lock is granted when the command starts, and released if the node says so at the end
 abbrev pub course_notice : ℕ → Event → Deed → Option Notice
 course_notice node event deed.Start = Some (Granted node)
 course_notice node (event.Line answer.Released) (deed.Finish (outcome.Done end)) = Some (Released node)
 course_notice node event deed = None
 
--- a node that closed a connection and at which nobody listens any more went away
+-- a node that closed a connection, and then has no listener, went away
 abbrev pub why_unserved : Notice → Notice
 why_unserved (NoNode folder node) = WentAway node
 why_unserved notice = notice
 
--- the lock was not granted in time: the node has no room for a client, or did not lend it
+-- the lock was not granted in time: the node had no room for a client, or did not lend it
 abbrev pub vain_notice : Bool → ℕ → Option Seconds → Notice
 vain_notice true node limit = NoRoom node
 vain_notice false node (Some limit) = NotInTime node limit
 vain_notice false node None = NotInTime node (record { millis = 0 })
 
--- nothing can be waited for
+-- the system cannot wait
 abbrev pub no_wait_notice : ErrorKind → Notice
 no_wait_notice kind.OutOfMemory = Memory
 no_wait_notice _ = System

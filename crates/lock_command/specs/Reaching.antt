@@ -7,13 +7,14 @@ use Rattle.lock_command.specs.declared.notice.Notice.{Notice}
 use Rattle.lock_command.specs.declared.notice.Notice.TheVariants.{NoFolder, Forbidden, NoSockets, NoNode, TooLong, NoService}
 use Rattle.lock_command.specs.declared.notice.Notice.TheVariants.{NobodyListens, NoAnswer, System, Memory}
 
--- nothing is there: the node is not, or the folder is not
+-- nothing is there: no node, or no folder
 abbrev pub missing_notice : Bool → Bor (List ℕ) → ℕ → Notice
 missing_notice true folder node = NoNode folder node
 missing_notice false folder node = NoFolder folder
 
--- what is reported of a node that is not reached: too many wait to be accepted; the socket's name is too long; the user has not the
--- right; the process has no descriptor left; else nobody is there
+-- what is reported of a node that is not reached: too many connections wait to be accepted; the
+-- socket's name is too long; the user has no right to it; the process has no descriptor left; else
+-- nobody listens
 abbrev pub unreached_notice : ErrorKind → Bool → Bor (List ℕ) → ℕ → Notice
 unreached_notice kind.WouldBlock has_folder folder node = NoService node
 unreached_notice kind.InvalidInput has_folder folder node = TooLong folder node
@@ -27,7 +28,7 @@ IsUnreached folder node notice =
     (notice ≡ Memory)
     ⊎ ((kind : ErrorKind) × (has_folder : Bool) × (notice ≡ unreached_notice kind has_folder folder node))
 
--- what is reported of a folder that is not read
+-- what is reported of a folder that cannot be read
 abbrev pub unread_notice : ErrorKind → Bor (List ℕ) → Notice
 unread_notice kind.NotFound folder = NoFolder folder
 unread_notice kind.NotADirectory folder = NoFolder folder
@@ -39,21 +40,22 @@ unread_notice _ folder = Forbidden folder
 abbrev pub IsUnread : Bor (List ℕ) → Notice → Type 0
 IsUnread folder notice = (kind : ErrorKind) × (notice ≡ unread_notice kind folder)
 
--- nobody is found in a folder: it has no socket, nobody listens, nobody answers, memory ran out, or it is not read
+-- nobody is found in a folder: it has no socket, nobody listens, nobody answers, memory ran out,
+-- or it cannot be read
 abbrev pub IsUnanswered : Bor (List ℕ) → Notice → Type 0
 IsUnanswered folder notice =
     (notice ≡ NoSockets folder) ⊎ ((notice ≡ NobodyListens folder) ⊎ ((notice ≡ NoAnswer folder)
     ⊎ ((notice ≡ Memory) ⊎ IsUnread folder notice)))
 
--- a session does not begin: the system has no clock or poll to give, or memory ran out
+-- a session does not begin: the system gives no clock or poll, or memory ran out
 abbrev pub IsUnbegun : Notice → Type 0
 IsUnbegun notice = (notice ≡ System) ⊎ (notice ≡ Memory)
 
--- the desk of the node that is asked is not reached, or that of any node
+-- the desk of the chosen node is not reached, or no node's desk is
 abbrev pub IsUnreachable : Bor (List ℕ) → Option ℕ → Notice → Type 0
 IsUnreachable folder (Some node) notice = IsUnreached folder node notice
 IsUnreachable folder None notice = IsUnanswered folder notice
 
--- the lock is not even asked for
+-- the lock could not be asked for
 abbrev pub IsUnasked : Bor (List ℕ) → Option ℕ → Notice → Type 0
 IsUnasked folder node notice = IsUnreachable folder node notice ⊎ IsUnbegun notice

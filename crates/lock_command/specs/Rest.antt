@@ -1,12 +1,12 @@
--- How long a program waits that holds the lock.
+-- How long a program that holds the lock waits.
 use Rattle.std.specs.Prelude.{ℕ, ◌/◌, min, max, Bool, true, false, Option, Some, None}
 
--- a sixteenth of the age of a command, 1 to 25 milliseconds
+-- a sixteenth of the command's age, 1 to 25 milliseconds
 abbrev pub child_rest : ℕ → ℕ
 child_rest age = max 1 (min (age / 16) 25)
 
--- the longest rest: by the command that runs; a tenth of a second if signals are held back; or a
--- second
+-- the longest rest: by the age of a running command; a tenth of a second if signals are held back;
+-- else a second
 abbrev pub longest_of : Option ℕ → Bool → ℕ
 longest_of (Some age) signals = child_rest age
 longest_of None true = 100

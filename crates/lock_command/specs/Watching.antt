@@ -14,12 +14,12 @@ has_input Always = true
 abbrev pub IsWatched : Watch → Type 0
 IsWatched watch = (watch ≡ Waiting) ⊎ (watch ≡ Always)
 
--- whoever was told that there is something asks again; else nothing changes
+-- after the system said that there is something, it is asked again; else nothing changes
 abbrev pub IsTaken : Watch → Watch → Type 0
 IsTaken Ready new = IsWatched new
 IsTaken old new = new ≡ old
 
--- while it is waited the system may say so
+-- during a wait the system may say so
 abbrev pub IsAwaited : Watch → Watch → Type 0
 IsAwaited Waiting new = (new ≡ Waiting) ⊎ (new ≡ Ready)
 IsAwaited old new = new ≡ old

@@ -5,18 +5,18 @@ use Rattle.lock_client.specs.declared.outcome.CommandEnd.TheVariants.{Exited}
 use Rattle.lock_command.specs.declared.work.Work.{Work}
 use Rattle.lock_command.specs.declared.work.Work.TheVariants as work
 
--- a command runs, whose end is seen only by looking
+-- a command runs; only a look shows its end
 abbrev pub is_running : {P A B C : Type 0} → Work P A B C → Bool
 is_running (work.Running child) = true
 is_running _ = false
 
--- the command has ended, and what it started is awaited
+-- the command has ended, and what it started has not
 abbrev pub is_family : {P A B C : Type 0} → Work P A B C → Bool
 is_family (work.Family end) = true
 is_family _ = false
 
--- how it ended: what is done is told as it is; a command as the system says, if it has ended; standard input only if it has something to
--- read, and it ends with 0
+-- how it ended: a finished work as noted; a command as the system reports it, if it has ended;
+-- standard input with 0, and only if it has something to read
 abbrev pub EndsSo : {P A B C : Type 0} → Work P A B C → Bool → Option CommandEnd → Type 0
 EndsSo work.None has_input end = end ≡ None
 EndsSo (work.Running child) has_input end = Unit {0}
@@ -25,18 +25,19 @@ EndsSo work.Input false end = end ≡ None
 EndsSo work.Input true end = (end ≡ None) ⊎ (end ≡ Some (Exited 0))
 EndsSo (work.Done told) has_input end = end ≡ Some told
 
--- once what the command started is gone, its end is told
+-- once what the command started is gone, its end is reported
 abbrev pub FamilyEndsSo : {P A B C : Type 0} → Work P A B C → Option CommandEnd → Type 0
 FamilyEndsSo (work.Family told) end = (end ≡ None) ⊎ (end ≡ Some told)
 FamilyEndsSo _ end = end ≡ None
 
--- what has ended is over; else it goes on, a command as one that runs
+-- what has ended is over; else it goes on, and a command keeps running
 abbrev pub GoesOn : {P A B C : Type 0} → Option CommandEnd → Work P A B C → Work P A B C → Type 0
 GoesOn (Some end) old new = new ≡ work.None
 GoesOn None (work.Running child) new = is_running new ≡ true
 GoesOn None old new = new ≡ old
 
--- after it was asked to end: a command runs until it has ended; standard input is awaited no more, as if it had ended so
+-- after it was asked to end: a command runs until it has ended; standard input is no longer read,
+-- as if it had ended like this
 abbrev pub IsAsked : {P A B C : Type 0} → CommandEnd → Work P A B C → Work P A B C → Type 0
 IsAsked end (work.Running child) new = is_running new ≡ true
 IsAsked end work.Input new = new ≡ work.Done end

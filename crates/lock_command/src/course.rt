@@ -4,41 +4,41 @@ ghost use Rattle.lock_command.specs.Course.{new_course, timed, connected, closed
 ghost use Rattle.lock_command.specs.Course.{given_back, asked_to_end, is_past, without_due};
 ghost use Rattle.lock_command.specs.Course.{killed_again, lacks_room, left_of, age_of};
 
-/// For how many milliseconds the node's word is awaited that it took the lock back.
+/// How many milliseconds the node has to say that it took the lock back.
 const WORD: u64 = 10_000;
 
-/// For how many milliseconds a command may run on that was asked to end; then it is killed.
+/// How many milliseconds a command that was asked to end may run on before it is killed.
 const GRACE: u64 = 3_000;
 
-/// After how many milliseconds whoever is left is killed again: it may have started somebody
+/// After how many milliseconds whatever is left is killed again: it may have started more
 /// meanwhile.
 const KILL_AGAIN: u64 = 1_000;
 
-/// For how many milliseconds is rested between two looks for what a command started.
+/// How many milliseconds pass between two looks for what a command started.
 const FAMILY_REST: u64 = 100;
 
-/// For how many milliseconds a connection may stand after which one was closed, and still count as
-/// one for which the node has no room.
+/// How many milliseconds the connection after a closed one must last before the node counts as
+/// having room for it.
 const CLOSING: u64 = 500;
 
 /// What time it is, and what is due when: in milliseconds since the lock was asked for.
 #[derive(Clone, Copy, Debug, PartialEq, Eq)]
 pub struct Course {
     time: u64,
-    /// Since when the connection stands.
+    /// When the connection was made.
     connected: u64,
     /// Whether the node closed the connection before it.
     was_closed: bool,
     /// When the command was started, or the lock was granted.
     started: u64,
-    /// When the time is up for which an answer is awaited.
+    /// When the time to wait for an answer is up.
     due: Option<u64>,
-    /// When a command is killed that was asked to end.
+    /// When a command that was asked to end is killed.
     kill_due: Option<u64>,
 }
 
 impl Course {
-    /// The lock is asked for, and waited for as long as this; without an end if nothing is given.
+    /// The lock was asked for. The client waits for at most this long, or without limit.
     pub fn new(limit: Option<u32>) -> Course
         ensures { result ≡ new_course limit }
     {
@@ -52,7 +52,7 @@ impl Course {
         }
     }
 
-    /// It is this time now. The clock never goes back.
+    /// Sets the time. The clock never goes back.
     pub fn set_time(&mut self, now: u64)
         ensures { self.new ≡ timed now self.old }
     {
@@ -83,7 +83,7 @@ impl Course {
         self.started = self.time;
     }
 
-    /// The lock is given back, and the node's word is awaited.
+    /// The lock is released, and the node's word is due.
     pub fn give_back(&mut self)
         ensures { self.new ≡ given_back self.old }
     {
@@ -97,7 +97,7 @@ impl Course {
         self.kill_due = Some(self.time.saturating_add(GRACE));
     }
 
-    /// Whether the time is up. It is so once.
+    /// Whether the time is up. It says so once.
     pub fn takes_time_up(&mut self) -> bool
         ensures up { result ≡ is_past self.old.due self.old.time }
         ensures once { self.new ≡ without_due result self.old }
@@ -109,7 +109,7 @@ impl Course {
         is_up
     }
 
-    /// Whether the command is to be killed now. It is so again a second later.
+    /// Whether to kill the command now. It says so again a second later.
     pub fn takes_kill(&mut self) -> bool
         ensures due { result ≡ is_past self.old.kill_due self.old.time }
         ensures again { self.new ≡ killed_again result self.old }
@@ -122,14 +122,14 @@ impl Course {
     }
 
     /// Whether the node has no room for a client: it closed a connection, and the next one has not
-    /// stood for half a second.
+    /// lasted half a second.
     pub fn lacks_room(&self) -> bool
         ensures { result ≡ lacks_room self.now }
     {
         self.was_closed && self.time.saturating_sub(self.connected) < CLOSING
     }
 
-    /// For how long a command has run that runs.
+    /// How long a running command has run.
     pub fn age(&self, is_running: bool) -> Option<u64>
         ensures { result ≡ age_of is_running self.now }
     {
@@ -140,8 +140,8 @@ impl Course {
         }
     }
 
-    /// In how many milliseconds something is due: the next look for what the command started, if that
-    /// is awaited.
+    /// In how many milliseconds something is due: the next look for what the command started, if
+    /// the lock waits for that.
     pub fn left(&self, is_family: bool) -> Option<u64>
         ensures { result ≡ left_of is_family self.now }
     {

@@ -12,11 +12,11 @@ use std::net::Net;
 /// How many bytes are read at once.
 const PIECE: usize = 64;
 
-/// How many reads are made in search of one line.
+/// How many reads may be made for one line.
 const READS: u32 = 16;
 
-/// A connection to a node's desk, which never waits. What a socket gives is in no contract; the
-/// lines of what it gave are read by [`AnswerReader`], whose contract says how.
+/// A connection to a node's desk, which never waits. No contract says what a socket gives;
+/// [`AnswerReader`], whose contract says how, reads its lines.
 #[derive(Drop)]
 pub struct Desk {
     /// Whose desk it is.
@@ -24,7 +24,7 @@ pub struct Desk {
     stream: UnixStream,
     reader: AnswerReader,
     bytes: [u8; PIECE],
-    /// Where the bytes begin that were taken of the socket and not yet read.
+    /// Where the bytes that came from the socket and are not yet read begin.
     next: usize,
     /// Where they end.
     end: usize,
@@ -75,7 +75,7 @@ impl Desk {
     /// Writes a line.
     ///
     /// # Errors
-    /// Where the connection is closed, or failed, or has no room for so few bytes.
+    /// If the connection is closed, has failed, or has no room for so few bytes.
     pub fn write(&mut self, line: ClientLine) -> io::Result<()>
         ensures { self.new.node ≡ self.old.node }
     {
@@ -103,7 +103,7 @@ impl Desk {
         Heard::Nothing
     }
 
-    /// The first line that ends in the bytes not yet read.
+    /// The first line that ends within the unread bytes.
     fn next_line(&mut self) -> Option<Answer>
         ensures { self.new.node ≡ self.old.node }
     {

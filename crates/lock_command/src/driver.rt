@@ -10,29 +10,29 @@ ghost use Rattle.lock_command.specs.Driving.{IsOutcomeOf};
 use lock_client::{Deed, Event, LockClient, Outcome};
 use std::sync::Wait;
 
-/// What is around a client: a connection, a command, a clock, which happen as they happen.
+/// What is around a client: a connection, a command, a clock. They act on their own.
 pub trait Surroundings {
-    /// What it has said happened, in order; none if nobody keeps that.
+    /// The events that it reported, in order; none if nobody records them.
     ghost told: { Self → Option (List Event) };
 
     /// Whether a command runs.
     ghost runs: { Self → Bool };
 
-    /// Waits for the next thing that happens, and says what it is. No command starts meanwhile, and none
-    /// runs whose end is said.
+    /// Waits for the next event, and says what it is. No command starts meanwhile, and after the
+    /// event that reports its end none runs.
     fn next_event(&mut self) -> Event
         ensures told { told self.new ≡ option_map (λ events. events ++ result ∷ []) (told self.old) }
         ensures starts_none { runs self.new ≡ true → runs self.old ≡ true }
         ensures ended { (end : CommandEnd) → result ≡ Ended end → runs self.new ≡ false };
 
-    /// Does what is to be done now that this happened. A command starts only if that is to be done.
+    /// Does this deed after this event. A command starts only by the deed for it.
     fn act(&mut self, event: Event, deed: Deed)
         ensures told { told self.new ≡ told self.old }
         ensures starts { deed ≢ Start → runs self.new ≡ runs self.old };
 }
 
-/// How it all ended for a client that was told what happened. [`drive`] alone makes one, so whoever has one
-/// has the client's own word.
+/// How it all ended for a client that heard what happened. Only [`drive`] makes one, so it is
+/// always the client's own word.
 #[derive(Clone, Copy, Debug, PartialEq, Eq)]
 pub struct Driven {
     outcome: Outcome,
@@ -47,9 +47,8 @@ impl Driven {
     }
 }
 
-/// Lets happen what happens, until all is over: each thing is told to a client, and what the client
-/// answers is done. How it ended is the client's own word over all that happened. It does not end as long as
-/// a command runs that it started.
+/// Runs until all is over: a client hears each event, and its answer is done. The outcome is the
+/// client's own word on all that happened. It does not end while a command that it started runs.
 pub fn drive<R: Wait, S: Surroundings>(rt: &R, surroundings: &mut S, keeps_running: bool) -> Driven
     ensures outcome { S.told surroundings.old ≡ Some []
         → IsOutcomeOf keeps_running (S.told surroundings.new) result.outcome }

@@ -10,10 +10,10 @@ use std::rt::{Env, Files};
 use std::time::{Clock, SystemTime, UNIX_EPOCH};
 use std::{env, fs, io};
 
-/// The variable of a command's environment by which it and whatever it starts are found.
+/// The environment variable that marks a command and whatever it starts.
 pub const MARKS: &str = "TOKENTREE_LOCK";
 
-/// A mark that no other lock on this machine has: the id of this process, and what time it is.
+/// A mark that no other lock on this machine has: the id of this process, and the time.
 ///
 /// # Errors
 /// If memory runs out.
@@ -40,7 +40,8 @@ fn mark_of(alloc: Global, process: &str, nanos: u128) -> Result<String, AllocErr
     format!(in alloc; "{process}.{nanos};")
 }
 
-/// The marks of a command: this one after those of the locks under which this process runs itself.
+/// The marks of a command: this one, after those of the locks under which this process itself
+/// runs.
 ///
 /// # Errors
 /// If memory runs out.
@@ -53,7 +54,7 @@ pub fn with_marks_before<R: Env + AllocGlobal>(rt: &R, mark: &str) -> Result<Str
     }
 }
 
-/// Whether a process lives, by `/proc`; one that has ended and was not waited for does not.
+/// Whether a process lives, by `/proc`. One that has ended, but was not waited for, does not.
 pub fn lives<R: Files + AllocGlobal>(rt: &R, process: u32) -> bool {
     let Ok(path) = format!(in rt.alloc(); "/proc/{process}/stat") else {
         return true;
@@ -73,7 +74,7 @@ fn has_ended(stat: &[u8]) -> bool {
     }
 }
 
-/// Sends a signal to processes, by the shell's own `kill`, since the library has SIGKILL alone.
+/// Sends a signal to processes by the shell's own `kill`, since the library only has SIGKILL.
 ///
 /// # Errors
 /// If the shell cannot be started, or memory runs out.
@@ -101,7 +102,7 @@ fn add_numbers(command: &mut Command, alloc: Global, numbers: &[u32]) -> io::Res
     Ok(())
 }
 
-/// The shell, which reads nothing and whose output goes nowhere.
+/// The shell, with no input and no output.
 fn shell(alloc: Global) -> io::Result<Command> {
     let mut command = Command::new(alloc, "/bin/sh")?;
     command
@@ -111,7 +112,7 @@ fn shell(alloc: Global) -> io::Result<Command> {
     Ok(command)
 }
 
-/// The processes in whose environment this mark stands, by their ids.
+/// The ids of the processes whose environment has this mark.
 ///
 /// # Errors
 /// If `/proc` cannot be read, or memory runs out.
@@ -136,7 +137,7 @@ fn process_of(name: &[u8]) -> Option<u32> {
     str::from_utf8(name).ok()?.parse().ok()
 }
 
-/// Whether a process has this mark. Whoever may not look into it finds none.
+/// Whether a process has this mark. One that may not be read has none.
 fn is_marked<R: Files + AllocGlobal>(rt: &R, process: u32, mark: &str) -> bool {
     let Ok(path) = format!(in rt.alloc(); "/proc/{process}/environ") else {
         return false;

@@ -13,18 +13,17 @@ use std::rt::{Clock, Files};
 use std::time::Duration;
 use std::{fs, io, thread};
 
-/// How often the nodes are looked at, and how many milliseconds the rest between two looks is: a
-/// second in all.
+/// How many looks at the nodes there are, and how many milliseconds between two: a second in all.
 const LOOKS: u32 = 1000;
 
 const BETWEEN_LOOKS: u64 = 1;
 
-/// Connects to all nodes that have a socket in a folder, and answers the desk of the one that is the
-/// first to say how it stands.
+/// Connects to all nodes that have a socket in a folder, and returns the desk of the first that
+/// says how it stands.
 ///
 /// # Errors
-/// Why there is none: there is no such folder, it may not be read, it has no socket, nobody listens,
-/// or nobody answers within a second.
+/// If there is no such folder, it may not be read, it has no socket, nobody listens, or nobody
+/// answers within a second.
 pub fn reach_first<'a, R: Net + Files + Clock + AllocGlobal>(
     rt: &R,
     folder: &'a str,
@@ -47,7 +46,7 @@ pub fn reach_first<'a, R: Net + Files + Clock + AllocGlobal>(
     }
 }
 
-/// Waits until one of the nodes has answered, for a second at most.
+/// Waits until one of the nodes answers, for a second at most.
 fn wait_for_one<R: Clock>(rt: &R, desks: &mut Vec<Desk>) -> Option<Desk> {
     for _ in 0..LOOKS {
         let found = take_first(desks);
@@ -59,7 +58,7 @@ fn wait_for_one<R: Clock>(rt: &R, desks: &mut Vec<Desk>) -> Option<Desk> {
     None
 }
 
-/// Takes the first desk out at which a line came.
+/// Takes out the first desk at which a line came.
 fn take_first(desks: &mut Vec<Desk>) -> Option<Desk> {
     for at in 0..desks.len() {
         if let Some(desk) = desks.get_mut(at)
@@ -72,7 +71,7 @@ fn take_first(desks: &mut Vec<Desk>) -> Option<Desk> {
     None
 }
 
-/// Asks each of these nodes how it stands, and keeps the connections that there are.
+/// Asks each of these nodes how it stands, and keeps the open connections.
 fn ask_all<R: Net + AllocGlobal>(
     rt: &R,
     folder: &str,
@@ -116,7 +115,7 @@ fn add_sockets<R: Files + AllocGlobal>(
     nodes: &mut Vec<u16>,
 ) -> io::Result<()> {
     for entry in fs::read_dir(&rt, folder)? {
-        // What has a name that is no text is no desk's.
+        // A name that is no text is not a desk's.
         let Ok(entry) = entry else {
             continue;
         };
@@ -127,7 +126,7 @@ fn add_sockets<R: Files + AllocGlobal>(
     Ok(())
 }
 
-/// Why a folder is not read, by what the system answered.
+/// Why a folder cannot be read, by the system's answer.
 fn why_unread<'a>(kind: ErrorKind, folder: &'a str) -> Notice<'a>
     ensures { result ≡ unread_notice kind folder.entry }
 {

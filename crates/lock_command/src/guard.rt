@@ -1,5 +1,5 @@
-//! The guard of a command: a second process of this program, which holds the lock as long as the
-//! command runs if the first one is killed.
+//! The guard of a command: a second process of this program. If the first one is killed, the guard
+//! holds the lock as long as the command runs.
 ghost use Rattle.std.specs.Prelude.{◌≡◌, ◌≢◌, ◌⊎◌, true, is_some, IfSome, None, string_bytes, if◌then◌else◌};
 ghost use Rattle.lock_client.specs.declared.guard.GuardEvent.TheVariants.{Said, GraceIsOver};
 ghost use Rattle.lock_command.specs.GuardDriving.{named};
@@ -18,10 +18,10 @@ use std::sync::Wait;
 use std::time::{Clock, Duration, Instant};
 use std::{env, thread};
 
-/// For how many seconds a command may run on that was asked to end; then it is killed.
+/// How many seconds a command that was asked to end may run on before it is killed.
 const GRACE: u64 = 3;
 
-/// The status if nobody said which command is guarded: the command line was refused.
+/// The status if the environment names no command: the command line was invalid.
 const NO_MARK: u8 = 2;
 
 /// A guard at work.
@@ -34,19 +34,19 @@ struct Watch<'a, R> {
     mark: String,
     /// The command's own process, as the client named it.
     command: Option<u32>,
-    /// Whom the last look found.
+    /// The processes that the last look found.
     seen: Vec<u32>,
-    /// When the command is killed that was asked to end.
+    /// When the command that was asked to end is killed.
     kill_due: Option<Instant>,
 }
 
-/// Holds the lock, whose connection is standard output, as long as the client says so, whom standard
-/// input comes from; and, if that is killed, until nobody of the command is left. It asks the
-/// command to end, unless that may run on or has had the same signal; the environment names its
-/// mark. Answers the status to end with: 2 if the environment names none.
+/// Holds the lock, whose connection is standard output, as long as the client on standard input
+/// says so; if the client is killed, until nobody of the command is left. It then asks the command
+/// to end, unless that may run on or has had the same signal. The environment names the command's
+/// mark. Returns the exit status: 2 if the environment names none.
 ///
-/// What it does next is a [`Guard`](lock_client::Guard)'s, whose laws are proved. What `/proc` says is
-/// in no contract.
+/// A [`Guard`](lock_client::Guard), whose laws are proved, decides what it does next. No contract
+/// says what `/proc` shows.
 pub fn run<R: Env + Files + Processes + Clock + Input + Eprint + AllocGlobal + Wait>(
     rt: &R,
     keeps_running: bool,
@@ -56,7 +56,7 @@ pub fn run<R: Env + Files + Processes + Clock + Input + Eprint + AllocGlobal + W
     run_marked(rt, told_mark(rt), keeps_running)
 }
 
-/// The same of the command that has this mark: the status is 2 if there is none.
+/// The same for the command with this mark: the status is 2 if there is none.
 pub fn run_marked<R: Files + Processes + Clock + Input + Eprint + AllocGlobal + Wait>(
     rt: &R,
     mark: Option<String>,
@@ -79,7 +79,7 @@ pub fn run_marked<R: Files + Processes + Clock + Input + Eprint + AllocGlobal + 
     0
 }
 
-/// The mark of the command, which the environment has without the semicolon at its end.
+/// The mark of the command. The environment has it without the semicolon at its end.
 pub fn told_mark<R: Env + AllocGlobal>(rt: &R) -> Option<String>
     ensures { IfSome result (λ mark. IsClosed (string_bytes mark)) }
 {
@@ -129,7 +129,7 @@ impl<R: GuardSystem> Guarded for Watch<'_, R> {
 }
 
 impl<R: GuardSystem> Watch<'_, R> {
-    /// What the client says next. A line that cannot be read is the end.
+    /// What the client says next. A line that cannot be read is its end.
     fn listen(&mut self) -> GuardEvent
         ensures { result ≢ GraceIsOver }
     {
@@ -160,7 +160,7 @@ impl<R: GuardSystem> Watch<'_, R> {
         GuardEvent::Said(word)
     }
 
-    /// Whether the command's grace is over, the first time that this is seen.
+    /// Whether the command's grace is over. It says so once.
     fn is_grace_over(&mut self) -> bool
         ensures granted { result ≡ true → is_some self.old.kill_due ≡ true }
         ensures once { result ≡ true → self.new.kill_due ≡ None }
@@ -175,7 +175,7 @@ impl<R: GuardSystem> Watch<'_, R> {
         is_over
     }
 
-    /// Who is left of the command: it, and whoever has its mark.
+    /// What is left of the command: its process, and all that have its mark.
     fn look_for_all(&mut self) -> Vec<u32> {
         let mut found = match members(self.rt, self.mark.as_str()) {
             Ok(found) => found,

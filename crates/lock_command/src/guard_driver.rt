@@ -9,29 +9,29 @@ ghost use Rattle.lock_command.specs.GuardDriving.{IsOver};
 use lock_client::{Guard, GuardDeed, GuardEvent};
 use std::sync::Wait;
 
-/// What is around a guard: a client, its command, a clock, which happen as they happen.
+/// What is around a guard: a client, its command, a clock. They act on their own.
 pub trait Guarded {
-    /// What it has said happened, in order; none if nobody keeps that.
+    /// The events that it reported, in order; none if nobody records them.
     ghost told: { Self → Option (List GuardEvent) };
 
-    /// Whether a grace runs that a command has to end.
+    /// Whether a grace runs in which a command must end.
     ghost grants: { Self → Bool };
 
-    /// Waits for the next thing that happens, and says what it is: for what the client says, or for
-    /// what a look finds after a rest of so many milliseconds, as `deed` has it. A grace is over only if
-    /// one runs, and once.
+    /// Waits for the next event, and says what it is: by `deed`, a word of the client, or what a
+    /// look finds after a rest of `rest` milliseconds. A grace ends only if one runs, and only
+    /// once.
     fn next_event(&mut self, deed: GuardDeed, rest: u64) -> GuardEvent
         ensures told { told self.new ≡ option_map (λ events. events ++ result ∷ []) (told self.old) }
         ensures over { result ≡ GraceIsOver → (grants self.old ≡ true) × (grants self.new ≡ false) };
 
-    /// Does what is to be done now. A grace begins only if the command is asked to end.
+    /// Does this deed. A grace begins only if the command is asked to end.
     fn act(&mut self, deed: GuardDeed)
         ensures told { told self.new ≡ told self.old }
         ensures grace { deed ≢ Ask → grants self.new ≡ grants self.old };
 }
 
-/// Lets happen what happens, until the lock is given back: a guard hears each thing, and what the
-/// guard answers is done. It ends only when the guard is over by all that happened.
+/// Runs until the lock is released: a guard hears each event, and its answer is done. It ends only
+/// when the guard is over, by all that happened.
 pub fn drive_guard<R: Wait, S: Guarded>(rt: &R, guarded: &mut S, keeps_running: bool)
     ensures { S.told guarded.old ≡ Some [] → IsOver keeps_running (S.told guarded.new) }
 {

@@ -1,4 +1,4 @@
-//! The guard of a command, as the client has it that started it.
+//! The guard of a command, as seen by the client that started it.
 ghost use Rattle.std.specs.Prelude.{◌≡◌};
 ghost use Rattle.lock_command.specs.Reading.{is_end};
 
@@ -12,28 +12,28 @@ use std::process::{Command, Processes};
 use std::rt::Files;
 use std::{env, io};
 
-/// The variable of a guard's environment by which it knows the command: its mark without the semicolon
-/// at its end. So a guard is not found by the mark itself.
+/// The environment variable that names the command to its guard: the command's mark, without the
+/// semicolon at its end. So a search for the mark does not find the guard.
 pub const GUARDED: &str = "TOKENTREE_GUARD";
 
-/// By which program the guard is started so that the signals of a terminal, of `timeout` and of a
-/// service manager do not end it. GNU coreutils have had this option since 8.31.
+/// The program that starts the guard so that the signals of a terminal, of `timeout` and of a
+/// service manager do not end it. GNU coreutils have its option since 8.31.
 const ENV: &str = "/usr/bin/env";
 
 const HOLD_SIGNALS_BACK: &str = "--block-signal=HUP,INT,QUIT,TERM";
 
-/// A pair of sockets, whose other end the guard reads.
+/// One end of a pair of sockets; the guard reads the other.
 #[derive(Drop)]
 pub struct GuardLink {
     stream: UnixStream,
 }
 
 impl GuardLink {
-    /// Starts this program as a guard, with these words. It has a descriptor of the desk's
-    /// connection: so the node takes the lock back only when the guard has ended too.
+    /// Starts this program as a guard, with these words. The guard gets a descriptor of the desk's
+    /// connection, so the node takes the lock back only when the guard has ended too.
     ///
     /// # Errors
-    /// If the system has no descriptor or process to give, or memory runs out.
+    /// If the system gives no descriptor or process, or memory runs out.
     pub fn start<R: Files + Net + Processes + AllocGlobal>(
         rt: &R,
         words: &[&str],
@@ -56,18 +56,18 @@ impl GuardLink {
         &mut self.stream
     }
 
-    /// Says something to the guard. If it is gone, that shows in [`GuardLink::is_gone`].
+    /// Says something to the guard. [`GuardLink::is_gone`] shows if it is gone.
     pub fn say(&mut self, words: &str) {
         let _ = self.stream.write_all(words.as_bytes());
     }
 
-    /// Whether the guard has ended. It says nothing itself.
+    /// Whether the guard has ended. A guard never says anything.
     pub fn is_gone(&mut self) -> bool {
         is_end(&self.stream.read(&mut [0; 8]))
     }
 }
 
-/// Whether a read that was answered so shows that the other end is gone.
+/// Whether this answer to a read shows that the other end is gone.
 fn is_end(answer: &io::Result<usize>) -> bool
     ensures { result ≡ is_end answer.now }
 {

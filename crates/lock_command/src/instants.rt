@@ -4,7 +4,8 @@ ghost use Rattle.std.specs.Duration.{as_nanos};
 
 use std::time::{Clock, Duration, Instant};
 
-/// A clock that shows milliseconds since it was started. One that cannot be read stands still.
+/// A clock that shows milliseconds since its start. If the system's clock cannot be read, it
+/// stands still.
 #[derive(Drop)]
 pub struct Stopwatch {
     start: Instant,

@@ -1,10 +1,10 @@
-//! The command `lock`: a command is run under the lock.
+//! The command `lock`: runs a command under the lock.
 //!
 //! [`lock::run`] connects to a node's desk, asks for the lock, runs a command while the node lends
-//! it, and gives it back. What it does next, whatever happens, is decided by a
-//! [`LockClient`](lock_client::LockClient); here are the socket, the command, the clock and the
-//! lines on standard error. While the command runs, [`guard::run`] holds the lock in a second
-//! process, which takes over if the first one is killed.
+//! it, and releases it. A [`LockClient`](lock_client::LockClient) decides what it does next; here
+//! are the socket, the command, the clock and the lines on standard error. While the command runs,
+//! a second process in [`guard::run`] holds the lock too, and takes over if the first one is
+//! killed.
 //!
 //! ```
 //! let request = Request { folder: "/run/lock", node: Some(1), limit: None, lost: 122, command, .. };

@@ -1,4 +1,4 @@
-//! `lock`: a command is run under the lock.
+//! `lock`: runs a command under the lock.
 ghost use Rattle.std.specs.Prelude.{◌≡◌, ℕ, Some, IfOk, IfErr};
 ghost use Rattle.lock_command.specs.Held.{held_status};
 ghost use Rattle.lock_command.specs.Reaching.{IsUnreachable, IsUnasked};
@@ -18,40 +18,39 @@ use std::rt::{Env, Files};
 use std::sync::Wait;
 use std::time::Clock;
 
-/// What `lock` is asked to do.
+/// What `lock` must do.
 #[derive(Clone, Copy, Debug)]
 pub struct Request<'a> {
     /// The folder of the nodes' sockets.
     pub folder: &'a str,
-    /// The node that is asked for the lock; none if that is whichever node answers first.
+    /// The node to ask for the lock; if none, the node that answers first.
     pub node: Option<u16>,
-    /// For how long the lock is waited for; none if it is waited for without an end.
+    /// How long to wait for the lock; none for no limit.
     pub limit: Option<Seconds>,
     /// The status if the lock is lost.
     pub lost: u8,
-    /// Whether it is reported that the lock is waited for, granted and given back.
+    /// Whether to report that it waits, and that the lock is granted and released.
     pub is_verbose: bool,
     /// Whether the command runs on if the lock is lost.
     pub keeps_running: bool,
-    /// Whether the lock is given back only when all that the command started has ended too.
+    /// Whether the lock is released only when all that the command started has ended too.
     pub waits_for_children: bool,
-    /// The words with which this program becomes the guard of the command ([`crate::guard::run`]).
+    /// The words that make this program the guard of the command ([`crate::guard::run`]).
     pub guard: &'a [&'a str],
-    /// The command and its arguments. Without any, `granted` is printed, and the lock is kept until
-    /// standard input ends.
+    /// The command and its arguments. If there are none, it prints `granted` and holds the lock
+    /// until standard input ends.
     pub command: &'a [&'a str],
 }
 
-/// Takes the lock, runs the command, gives the lock back, and answers the status to end with: the
-/// command's own, or 128 and the number of the signal that ended it; `lost` if the lock was; 124
-/// if it was not granted in time; 125 if there is no lock service, or no guard could be started; 126
-/// and 127 if the command cannot be run, or is not there. Each status of its own is reported on
-/// standard error.
+/// Takes the lock, runs the command, releases the lock, and returns the exit status: the command's
+/// own, or 128 plus the number of the signal that ended it; `lost` if the lock was lost; 124 if it
+/// was not granted in time; 125 if there is no lock service, or no guard could be started; 126 if
+/// the command cannot be run, and 127 if there is none. A line on standard error explains each
+/// status that is not the command's.
 ///
 /// While the command runs, a guard holds the lock too, so that nobody else gets it if this process
-/// is killed. What it does next is a [`LockClient`](lock_client::LockClient)'s, whose laws are
-/// proved. That its socket, command and clock are as they should be no contract can say; tests show
-/// it.
+/// is killed. A [`LockClient`](lock_client::LockClient), whose laws are proved, decides what it
+/// does next. No contract covers its socket, command and clock; tests do.
 pub fn run<R: Env + Net + Files + Processes + Clock + Input + Print + Eprint + AllocGlobal + Wait>(
     rt: &R,
     request: &Request,
@@ -63,7 +62,7 @@ pub fn run<R: Env + Net + Files + Processes + Clock + Input + Print + Eprint + A
     held_status(&held, request.lost)
 }
 
-/// The status to end with, if the lock was asked for and it all ended so, or if it was not asked for.
+/// The exit status, by how it all ended, or by why the lock could not be asked for.
 fn held_status(held: &Result<Driven, Notice>, lost: u8) -> u8
     ensures { result ≡ held_status held.now lost }
 {

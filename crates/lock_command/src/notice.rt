@@ -1,4 +1,4 @@
-//! What is reported on standard error.
+//! The lines on standard error.
 ghost use Rattle.std.specs.Prelude.{◌≡◌};
 ghost use Rattle.lock_command.specs.Notices.{loss_notice, end_notice, why_unserved, course_notice};
 
@@ -15,7 +15,7 @@ pub enum Cause {
     WentAway,
 }
 
-/// What becomes of the command where the lock is lost.
+/// What becomes of the command if the lock is lost.
 #[derive(Clone, Copy, Debug, PartialEq, Eq, Drop)]
 pub enum Fate {
     /// It is ended.
@@ -26,8 +26,7 @@ pub enum Fate {
     NoCommand,
 }
 
-/// What is said on standard error, in one line each. Printed, it is that line after the program's
-/// name.
+/// A line on standard error. Printed, it is that line without the program's name.
 #[derive(Clone, Copy, Debug, PartialEq, Eq, Drop)]
 pub enum Notice<'a> {
     /// There is no such folder.
@@ -48,15 +47,15 @@ pub enum Notice<'a> {
     },
     /// The node went away before it lent the lock.
     WentAway(u16),
-    /// What answers for the node is no lock service, or one that is out of its mind.
+    /// What answers for the node is no lock service, or a corrupted one.
     NoService(u16),
     /// The node did not lend the lock within this time.
     NotInTime {
         node: u16,
         limit: Seconds,
     },
-    /// The node closed each connection while the lock was waited for: it serves as many clients as it
-    /// has room for.
+    /// The node closed each connection while the client waited for the lock: it already serves as
+    /// many clients as it has room for.
     NoRoom(u16),
     /// Nobody listens at any of the sockets in this folder.
     NobodyListens(&'a str),
@@ -70,7 +69,7 @@ pub enum Notice<'a> {
     Released(u16),
     /// The guard of the command is gone while the command runs.
     GuardGone(Fate),
-    /// The process that ran the command is gone, says its guard.
+    /// The guard says that the process that ran the command is gone.
     ClientGone,
     /// No guard of the command could be started.
     NoGuard,
@@ -224,7 +223,7 @@ impl fmt::Display for Notice<'_> {
     }
 }
 
-/// What is reported of a lock that is lost by this, and of its command.
+/// The line for a lock that this event lost, and for its command.
 pub fn loss_notice<'a>(node: u16, event: Event, command: Fate) -> Notice<'a>
     ensures { result ≡ loss_notice node event command }
 {
@@ -243,8 +242,8 @@ pub fn loss_notice<'a>(node: u16, event: Event, command: Fate) -> Notice<'a>
     }
 }
 
-/// What is reported when all ended so, by this: nothing if the command shows it, or it was reported
-/// before. `waited` is what is reported if the lock was not granted in time.
+/// The line at the end, by the last event and the outcome: none if the command shows it, or it was
+/// reported before. `waited` is the line if the lock was not granted in time.
 pub fn end_notice<'a>(
     node: u16,
     waited: Notice<'a>,
@@ -262,8 +261,8 @@ pub fn end_notice<'a>(
     }
 }
 
-/// What is reported of a node that closed a connection and then could not be reached for this: if
-/// nobody listens there any more, it went away.
+/// The line for a node that closed a connection and then could not be reached: if nobody listens
+/// there any more, it went away.
 pub fn why_unserved(notice: Notice<'_>) -> Notice<'_>
     ensures { result ≡ why_unserved notice.entry }
 {
@@ -273,8 +272,8 @@ pub fn why_unserved(notice: Notice<'_>) -> Notice<'_>
     }
 }
 
-/// What is reported of how far the lock is, if that is asked for, by what happened and what is to be
-/// done: that it is granted, and that the node took it back.
+/// The line of `--verbose`, by the event and the deed: the lock is granted, or the node took it
+/// back.
 pub fn course_notice<'a>(node: u16, event: Event, deed: Deed) -> Option<Notice<'a>>
     ensures { result ≡ course_notice node event deed }
 {

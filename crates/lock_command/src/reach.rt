@@ -1,4 +1,4 @@
-//! How a desk is reached, and why it is not.
+//! How a desk is reached, or why it is not.
 ghost use Rattle.std.specs.Prelude.{◌≡◌, IfOk, IfErr};
 ghost use Rattle.lock_command.specs.Reaching.{IsUnreached, unreached_notice};
 
@@ -11,7 +11,7 @@ use std::rt::{Clock, Files};
 use std::time::Duration;
 use std::{fs, thread};
 
-/// How often a connection is tried where too many wait already to be accepted.
+/// How often a connection is tried if too many wait to be accepted.
 const TRIES: u32 = 500;
 
 /// How many milliseconds between two such tries.
@@ -41,8 +41,7 @@ pub fn reach<'a, R: Net + Files + Clock + AllocGlobal>(
     }
 }
 
-/// Connects to this socket, and waits if too many wait already to be accepted, for five seconds at
-/// most.
+/// Connects to this socket. If too many wait to be accepted, tries again for at most five seconds.
 fn connect<R: Net + Clock>(rt: &R, path: &str, node: u16) -> Result<Desk, ErrorKind>
     ensures { IfOk result (λ desk. desk.node ≡ node) }
 {
@@ -58,7 +57,7 @@ fn connect<R: Net + Clock>(rt: &R, path: &str, node: u16) -> Result<Desk, ErrorK
     Err(ErrorKind::WouldBlock)
 }
 
-/// Why a desk is not reached, by what the system answered and whether the folder is there.
+/// Why a desk is not reached, by the system's answer and whether the folder is there.
 fn why_not<'a>(kind: ErrorKind, has_folder: bool, folder: &'a str, node: u16) -> Notice<'a>
     ensures { result ≡ unreached_notice kind has_folder folder.entry node }
 {
@@ -66,7 +65,7 @@ fn why_not<'a>(kind: ErrorKind, has_folder: bool, folder: &'a str, node: u16) ->
         ErrorKind::WouldBlock => Notice::NoService(node),
         ErrorKind::InvalidInput => Notice::TooLong { folder, node },
         ErrorKind::PermissionDenied => Notice::Forbidden(folder),
-        // So std names what a process without a descriptor left is answered.
+        // Std has this kind for a process that has no descriptor left.
         ErrorKind::Uncategorized => Notice::System,
         _ if has_folder => Notice::NoNode { folder, node },
         _ => Notice::NoFolder(folder),

@@ -7,14 +7,14 @@ const LEAST: u64 = 1;
 
 const MOST: u64 = 25;
 
-/// The most milliseconds of any rest, and of one between two looks at the signals that are held back.
+/// The most milliseconds of any rest, and of one between two looks at held signals.
 const LONGEST: u64 = 1000;
 
 const SIGNALS: u64 = 100;
 
-/// For how many milliseconds to wait if the command has run for `age` (none if no command is looked
-/// at), something is due in `left` (none if nothing is), and signals are held back or not: a socket
-/// wakes at once, the end of a command and such a signal do not.
+/// How many milliseconds to wait if the command has run for `age` (none if no command runs) and
+/// something is due in `left` (none if nothing is). A socket ends the wait at once; the end of a
+/// command and a held signal do not.
 pub fn rest(age: Option<u64>, left: Option<u64>, holds_signals_back: bool) -> u64
     ensures { result ≡ rest_of age left holds_signals_back }
 {
@@ -36,8 +36,8 @@ fn longest(age: Option<u64>, holds_signals_back: bool) -> u64
     }
 }
 
-/// For how many milliseconds a command that has run for `age` is not looked at: a sixteenth of its
-/// age, so that a short one is seen to end at once and a long one costs little.
+/// How many milliseconds pass between two looks at a command that has run for `age`: a sixteenth
+/// of its age. So the end of a short command shows at once, and a long one costs little.
 fn child_rest(age: u64) -> u64
     ensures value { result ≡ child_rest age }
     ensures least { 1 ≤ result }

@@ -1,14 +1,14 @@
 //! A time in seconds.
 use std::fmt;
 
-/// A time. Printed, it is in seconds, with as many decimals as it needs, three at most.
+/// A time. Printed, it is in seconds, with up to three decimals.
 #[derive(Clone, Copy, Debug, PartialEq, Eq, Drop)]
 pub struct Seconds {
     /// How many milliseconds it is.
     pub millis: u32,
 }
 
-/// So many thousandths, as what follows the whole seconds.
+/// Thousandths, printed as the decimals of a number of seconds.
 #[derive(Clone, Copy, Debug, PartialEq, Eq, Drop)]
 struct Decimals(u32);
 

@@ -1,4 +1,4 @@
-//! One time that the lock is taken.
+//! One taking of the lock.
 ghost use Rattle.std.specs.Prelude.{◌≡◌, ◌≢◌, None, Some, IfOk, IfErr, IfSome, true, false};
 ghost use Rattle.lock_client.specs.declared.client.Event.TheVariants.{Ended};
 ghost use Rattle.lock_client.specs.declared.client.Deed.TheVariants.{Start};
@@ -35,11 +35,11 @@ use std::sync::Wait;
 use std::time::{Clock, Duration};
 use std::{io, thread};
 
-/// For how many milliseconds a client rests that was told that the desk is full, or was closed,
-/// before it asks again.
+/// How many milliseconds a client rests before it asks again, if the desk was full or closed the
+/// connection.
 const FULL_REST: u64 = 100;
 
-/// One time that the lock is taken: the connection, the command and its guard, and what is due.
+/// One taking of the lock: the connection, the command and its guard, and what is due.
 #[derive(Drop)]
 pub struct Session<'a, P: OpenProcess> {
     request: Request<'a>,
@@ -47,22 +47,22 @@ pub struct Session<'a, P: OpenProcess> {
     node: u16,
     /// The connection; none once it is gone.
     desk: Option<Desk>,
-    /// Whether the connection failed in a write, and nobody was told yet.
+    /// Whether the connection failed in a write that is not reported yet.
     has_failed: bool,
-    /// Whether no connection could be had again, and nobody was told yet.
+    /// Whether a new connection failed, and that is not reported yet.
     is_unserved: bool,
     waiter: Waiter,
     work: Work<P>,
-    /// The guard of the command. It is started while the lock is waited for, so that the command need
-    /// not wait for it; none if that failed, and once the command has ended.
+    /// The guard of the command. It starts while the client waits for the lock, so that the
+    /// command need not wait for it. None if that failed, and once the command has ended.
     guard: Option<GuardLink>,
     /// The mark of the command and of whatever it starts.
     mark: String,
-    /// Whether whatever the command started is awaited to end too.
+    /// Whether to wait for the end of whatever the command started, too.
     awaits_family: bool,
-    /// Whether signals are held back, so that they must be looked for.
+    /// Whether signals are held back, so that it must look for them.
     holds_signals_back: bool,
-    /// The signals that were looked at.
+    /// The signals already seen.
     seen: Signals,
     stopwatch: Stopwatch,
     /// What time it is, and what is due.
@@ -156,7 +156,7 @@ impl<'a, P: OpenProcess + Drop> Session<'a, P> {
         }
     }
 
-    /// Waits for what happens next: the node's word goes first.
+    /// Waits for the next event. The node's word goes first.
     fn wait_for_event<R: Files + Processes + Clock + Input + Eprint + AllocGlobal + Wait>(
         &mut self,
         rt: &R,
@@ -177,8 +177,8 @@ impl<'a, P: OpenProcess + Drop> Session<'a, P> {
         unreachable!()
     }
 
-    /// Notes what time it is, and kills a command that has had its grace. A clock that cannot be
-    /// read stands still.
+    /// Notes the time, and kills a command whose grace is over. A clock that cannot be read stands
+    /// still.
     fn look_at_the_clock<R: Files + Processes + Clock + AllocGlobal>(&mut self, rt: &R)
         ensures { is_running self.new.work ≡ is_running self.old.work }
     {
@@ -189,7 +189,7 @@ impl<'a, P: OpenProcess + Drop> Session<'a, P> {
         }
     }
 
-    /// What the node or the guard lets happen.
+    /// An event from the node or the guard.
     fn from_others(&mut self) -> Option<Event>
         ensures work { self.new.work ≡ self.old.work }
         ensures ended { (end : CommandEnd) → result ≢ Some (Ended end) }
@@ -226,7 +226,7 @@ impl<'a, P: OpenProcess + Drop> Session<'a, P> {
         }
     }
 
-    /// Whether there was a guard, which has ended.
+    /// Whether there was a guard that has ended.
     fn has_lost_its_guard(&mut self) -> bool
         ensures { self.new.work ≡ self.old.work }
     {
@@ -236,7 +236,7 @@ impl<'a, P: OpenProcess + Drop> Session<'a, P> {
         }
     }
 
-    /// What the user, the command or the clock lets happen.
+    /// An event from the user, the command or the clock.
     fn from_here<R: Files + Input + Eprint + AllocGlobal>(&mut self, rt: &R) -> Option<Event>
         ensures starts_none { is_running self.new.work ≡ true → is_running self.old.work ≡ true }
         ensures ended { (end : CommandEnd) → result ≡ Some (Ended end)
@@ -256,7 +256,7 @@ impl<'a, P: OpenProcess + Drop> Session<'a, P> {
         }
     }
 
-    /// A signal that came and is held back, the first time that it is seen.
+    /// A held signal that came, the first time that it is seen.
     fn new_signal<R: Files + AllocGlobal>(&mut self, rt: &R) -> Option<Signal>
         ensures { self.new.work ≡ self.old.work }
     {
@@ -268,7 +268,7 @@ impl<'a, P: OpenProcess + Drop> Session<'a, P> {
         Some(signal)
     }
 
-    /// What a signal lets happen: without a command, it ends the time for which the lock is held.
+    /// The event of a signal: if there is no command, it ends the holding of the lock.
     fn event_of_signal(&mut self, signal: Signal) -> Event
         ensures starts_none { is_running self.new.work ≡ is_running self.old.work }
         ensures ended { (end : CommandEnd) → result ≡ Ended end → is_running self.new.work ≡ false }
@@ -282,7 +282,7 @@ impl<'a, P: OpenProcess + Drop> Session<'a, P> {
         }
     }
 
-    /// How the command ended, once it has, and whatever else is awaited; then the guard may go.
+    /// How the command ended, once it and all that the lock waits for have; then the guard may go.
     fn end_of_command<R: Files + Input + Eprint + AllocGlobal>(
         &mut self,
         rt: &R,
@@ -301,7 +301,7 @@ impl<'a, P: OpenProcess + Drop> Session<'a, P> {
         Some(self.dismiss_guard(end))
     }
 
-    /// Says to the guard that the command has ended so.
+    /// Says to the guard that the command has ended.
     fn dismiss_guard(&mut self, end: CommandEnd) -> CommandEnd
         ensures end { result ≡ end }
         ensures gone { self.new.guard ≡ None }
@@ -314,7 +314,7 @@ impl<'a, P: OpenProcess + Drop> Session<'a, P> {
         end
     }
 
-    /// Does what is to be done now that this happened.
+    /// Does this deed after this event.
     fn do_deed<
         R: Env + Net + Files + Processes<Started = P> + Clock + Print + Eprint + AllocGlobal,
     >(&mut self, rt: &R, event: Event, deed: Deed)
@@ -360,7 +360,7 @@ impl<'a, P: OpenProcess + Drop> Session<'a, P> {
                     || desk.write(ClientLine::Lock).is_err();
                 self.node = desk.node();
                 self.desk = Some(desk);
-                // A guard that holds the connection before it ends by itself.
+                // A guard that holds the earlier connection ends by itself.
                 self.guard = None;
                 let now = self.stopwatch.millis(rt);
                 self.course.set_time(now);
@@ -391,8 +391,8 @@ impl<'a, P: OpenProcess + Drop> Session<'a, P> {
         }
     }
 
-    /// Starts the guard while the lock is waited for, if a command is to run under it. If it cannot be
-    /// started now, that is tried again when the lock is granted.
+    /// Starts the guard while the client waits for the lock, if there is a command. If that fails,
+    /// it is tried again when the lock is granted.
     pub fn prepare_guard<R: Net + Files + Processes + AllocGlobal>(&mut self, rt: &R)
         ensures { self.new.work ≡ self.old.work }
     {
@@ -401,7 +401,7 @@ impl<'a, P: OpenProcess + Drop> Session<'a, P> {
         }
     }
 
-    /// Announces the command to the guard, which is started if there is none.
+    /// Announces the command to the guard, and starts a guard if there is none.
     fn have_guard<R: Net + Files + Processes + AllocGlobal>(&mut self, rt: &R) -> io::Result<()> {
         if self.guard.is_none() {
             self.start_guard(rt)?;
@@ -427,7 +427,7 @@ impl<'a, P: OpenProcess + Drop> Session<'a, P> {
         Ok(())
     }
 
-    /// Starts the command, and says to the guard which process it is.
+    /// Starts the command, and names its process to the guard.
     fn start_command<R: Env + Processes<Started = P> + Eprint + AllocGlobal>(&mut self, rt: &R) {
         let started = match with_marks_before(rt, self.mark.as_str()) {
             Ok(marks) => start(rt, rt.alloc(), self.request.command, marks.as_str()),
@@ -442,7 +442,7 @@ impl<'a, P: OpenProcess + Drop> Session<'a, P> {
         };
     }
 
-    /// Says to the guard which process the command is.
+    /// Names the command's process to the guard.
     fn announce<R: AllocGlobal>(&mut self, rt: &R, process: u32) {
         if let Ok(line) = format!(in rt.alloc(); "runs {process}\n")
             && let Some(guard) = &mut self.guard
@@ -462,7 +462,7 @@ impl<'a, P: OpenProcess + Drop> Session<'a, P> {
         end
     }
 
-    /// Says that the lock is granted, and waits for the end of standard input from now on.
+    /// Says that the lock is granted, and watches for the end of standard input from now on.
     fn start_waiting<R: Print + Eprint>(&mut self, rt: &R) {
         self.work = match rt.println("granted") {
             Ok(()) => {
@@ -476,7 +476,7 @@ impl<'a, P: OpenProcess + Drop> Session<'a, P> {
         };
     }
 
-    /// Asks the command to end, and has it killed later.
+    /// Asks the command to end, and sets the time to kill it.
     fn end_command<R: Files + Processes + Eprint + AllocGlobal>(&mut self, rt: &R, event: Event)
         ensures { is_running self.new.work ≡ is_running self.old.work }
     {
@@ -493,14 +493,15 @@ impl<'a, P: OpenProcess + Drop> Session<'a, P> {
         let _ = rt.eprintln(NoticeLine(loss_notice(self.node, event, command)));
     }
 
-    /// Reports why all ended so, if it was not reported before and the command does not show it.
+    /// Reports why it ended like this, if the command does not show it and it was not reported
+    /// before.
     fn report_end<R: Eprint>(&self, rt: &R, event: Event, outcome: Outcome) {
         if let Some(notice) = end_notice(self.node, self.waited_in_vain(), event, outcome) {
             let _ = rt.eprintln(NoticeLine(notice));
         }
     }
 
-    /// What is reported if the lock was not granted in time.
+    /// The line if the lock was not granted in time.
     fn waited_in_vain(&self) -> Notice<'a>
         ensures { result ≡ vain_notice (lacks_room self.now.course) self.now.node self.now.request.limit }
     {
@@ -515,7 +516,7 @@ impl<'a, P: OpenProcess + Drop> Session<'a, P> {
         }
     }
 
-    /// Reports how far the lock is, if that is asked for.
+    /// Reports how far the lock is, if it is verbose.
     fn report_course<R: Eprint>(&self, rt: &R, event: Event, deed: Deed) {
         if self.request.is_verbose
             && let Some(notice) = course_notice(self.node, event, deed)
@@ -534,7 +535,7 @@ impl<'a, P: OpenProcess + Drop> Session<'a, P> {
     }
 }
 
-/// Why nothing can be waited for, by what the system answered.
+/// Why the system cannot wait, by its answer.
 fn why_no_wait<'a>(kind: ErrorKind) -> Notice<'a>
     ensures { result ≡ no_wait_notice kind }
 {

@@ -15,15 +15,15 @@ use std::time::Duration;
 /// The descriptor of standard input.
 const INPUT: i32 = 0;
 
-/// Under which tokens they are waited for.
+/// Their tokens in the poll.
 const DESK: Token = Token(0);
 
 const STANDARD_INPUT: Token = Token(1);
 
 const GUARD: Token = Token(2);
 
-/// Waits for a desk's connection and, once it is asked to, for a guard and for standard input. What
-/// the system says of them is in no contract.
+/// Waits for a desk's connection and, once asked to, for a guard and for standard input. No
+/// contract covers what the system says of them.
 #[derive(Drop)]
 pub struct Waiter {
     poll: Poll,
@@ -36,16 +36,16 @@ pub struct Waiter {
 enum Watch {
     /// Not at all.
     Not,
-    /// By the system, which says when it has something to read.
+    /// The system says when it has something to read.
     Waiting,
     /// The system said so.
     Ready,
-    /// It cannot be waited for, as a file cannot, so it is always ready.
+    /// A poll cannot wait for it (a file, say), so it is always ready.
     Always,
 }
 
 impl Watch {
-    /// How it is watched after the system was asked to say when it has something to read: it may refuse.
+    /// How it is watched after the system was asked for that, and perhaps refused.
     fn after(is_registered: bool) -> Watch
         ensures { IsWatched result }
     {
@@ -58,7 +58,7 @@ impl Watch {
 }
 
 impl Waiter {
-    /// Waits for a connection alone.
+    /// Waits only for a connection.
     ///
     /// # Errors
     /// What the system answers; `OutOfMemory`.
@@ -74,7 +74,7 @@ impl Waiter {
         Ok(waiter)
     }
 
-    /// Waits for this connection too, as that of the desk.
+    /// Waits for this connection from now on, as that of the desk.
     ///
     /// # Errors
     /// What the system answers.
@@ -105,7 +105,7 @@ impl Waiter {
         self.input = Watch::after(registered.is_ok());
     }
 
-    /// Whether standard input has something to read, or has ended. Whoever asks reads it once.
+    /// Whether standard input has something to read, or has ended. The caller reads it once.
     pub fn takes_input(&mut self) -> bool
         ensures takes { result ≡ has_input self.old.input }
         ensures after { IsTaken self.old.input self.new.input }
@@ -120,7 +120,7 @@ impl Waiter {
         }
     }
 
-    /// Has the system say once more when standard input has something to read: at once, where
+    /// Asks the system again to say when standard input has something to read: at once, if
     /// something is left.
     fn watch_again(&mut self)
         ensures { IsWatched self.new.input }
@@ -132,7 +132,7 @@ impl Waiter {
         self.input = Watch::after(registered.is_ok());
     }
 
-    /// Waits until something comes, for `millis` milliseconds at most.
+    /// Waits until something comes, for at most `millis` milliseconds.
     pub fn wait(&mut self, millis: u64)
         ensures { IsAwaited self.old.input self.new.input }
     {

@@ -1,4 +1,4 @@
-//! What is done under the lock: a command, or waiting for the end of standard input.
+//! What is done under the lock: a command runs, or standard input is read to its end.
 ghost use Rattle.std.specs.Prelude.{◌≡◌, ◌⊎◌, Some, None};
 ghost use Rattle.lock_client.specs.declared.outcome.CommandEnd.TheVariants.{Exited, Killed};
 ghost use Rattle.lock_command.specs.Working.{is_running, is_family, EndsSo, FamilyEndsSo, GoesOn, IsAsked, IsKilled};
@@ -19,11 +19,11 @@ pub enum Work<P: OpenProcess> {
     None,
     /// A command runs.
     Running(Child<P>),
-    /// The command ended so; what it started is awaited to end.
+    /// The command ended like this; what it started has not ended yet.
     Family(CommandEnd),
-    /// Standard input is awaited to end.
+    /// It waits for the end of standard input.
     Input,
-    /// It is done, so, and nobody was told.
+    /// It ended like this, and that is not reported yet.
     Done(CommandEnd),
 }
 
@@ -48,22 +48,22 @@ pub fn start<R: Processes>(
 }
 
 impl<P: OpenProcess + Drop> Work<P> {
-    /// Whether a command runs, whose end is seen only by looking.
+    /// Whether a command runs. Only a look shows its end.
     pub fn is_running(&self) -> bool
         ensures { result ≡ is_running self.now }
     {
         matches!(self, Work::Running(_))
     }
 
-    /// Whether what a command started is awaited.
+    /// Whether it waits for what a command started.
     pub fn is_family(&self) -> bool
         ensures { result ≡ is_family self.now }
     {
         matches!(self, Work::Family(_))
     }
 
-    /// How it ended, the first time that this is known. Standard input is read if it has something to
-    /// read, and what it holds is dropped.
+    /// How it ended, the first time that this is known. It reads standard input if that has
+    /// something to read, and drops what it reads.
     pub fn ended<R: Input + Eprint>(&mut self, rt: &R, has_input: bool) -> Option<CommandEnd>
         ensures end { EndsSo self.old has_input result }
         ensures after { GoesOn result self.old self.new }
@@ -81,7 +81,7 @@ impl<P: OpenProcess + Drop> Work<P> {
         end
     }
 
-    /// How the command ended, once nobody with this mark is left.
+    /// How the command ended, once no process with this mark is left.
     pub fn family_ended<R: Files + AllocGlobal>(&mut self, rt: &R, mark: &str) -> Option<CommandEnd>
         ensures end { FamilyEndsSo self.old result }
         ensures after { GoesOn result self.old self.new }
@@ -96,8 +96,8 @@ impl<P: OpenProcess + Drop> Work<P> {
         Some(end)
     }
 
-    /// Asks the command, and whatever it started and has this mark, to end, by SIGTERM; kills the
-    /// command if nobody can be asked. Standard input is awaited no more.
+    /// Asks the command, and all processes with this mark, to end, by SIGTERM. Kills the command
+    /// if that fails. Standard input is no longer read.
     pub fn end<R: Files + Processes + AllocGlobal>(&mut self, rt: &R, mark: &str)
         ensures { IsAsked (Exited 0) self.old self.new }
     {
@@ -113,7 +113,7 @@ impl<P: OpenProcess + Drop> Work<P> {
         }
     }
 
-    /// Hands SIGTERM on to the command alone.
+    /// Passes SIGTERM on to the command alone.
     pub fn pass_on<R: Processes + AllocGlobal>(&mut self, rt: &R)
         ensures { IsAsked (Killed 15) self.old self.new }
     {
@@ -126,7 +126,7 @@ impl<P: OpenProcess + Drop> Work<P> {
         }
     }
 
-    /// Kills the command, and whatever it started and has this mark, by SIGKILL.
+    /// Kills the command, and all processes with this mark, by SIGKILL.
     pub fn kill<R: Files + Processes + AllocGlobal>(&mut self, rt: &R, mark: &str)
         ensures { IsKilled self.old self.new }
     {
@@ -139,7 +139,8 @@ impl<P: OpenProcess + Drop> Work<P> {
     }
 }
 
-/// The command's process, and those that have this mark. If `/proc` cannot be read, the first alone.
+/// The command's process, and those that have this mark. If `/proc` cannot be read, only the
+/// first.
 fn family_of<R: Files + AllocGlobal>(rt: &R, command: u32, mark: &str) -> Vec<u32> {
     let mut family = match members(rt, mark) {
         Ok(family) => family,
@@ -151,12 +152,12 @@ fn family_of<R: Files + AllocGlobal>(rt: &R, command: u32, mark: &str) -> Vec<u3
     family
 }
 
-/// How a command ended, if it did; it is reported if the system does not say how.
+/// How a command ended, if it did. Reports it if the system does not say how.
 fn look<R: Eprint, P: OpenProcess>(rt: &R, child: &mut Child<P>) -> Option<CommandEnd> {
     match child.try_wait() {
         Ok(Some(status)) => Some(command_end(status)),
         Ok(None) => None,
-        // Whoever started us may have said that the ends of children are not kept.
+        // Our parent may have said that the ends of children are not kept.
         Err(_) => {
             let _ = rt.eprintln(NoticeLine(Notice::UnknownEnd));
             Some(CommandEnd::Exited(UNKNOWN_STATUS))

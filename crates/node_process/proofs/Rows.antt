@@ -1,4 +1,4 @@
--- Small examples of each definition, and ones that fail.
+-- Small examples of each definition, with some that fail.
 use Rattle.std.proofs.Common.{◌≡◌, ◌≢◌, true, false, Some, None, [], ◌∷◌, refl, codes, arith}
 use Rattle.std.specs.Fmt.{digits}
 use Rattle.std.specs.Process.{status_bits}
@@ -44,7 +44,7 @@ ends-memory = refl
 ends_not-system : may_end Begun System ≡ false
 ends_not-system = refl
 
--- a node that was displaced ends with a fault of its own; one that was stopped with none
+-- a displaced node ends with its own fault, a stopped one with none
 fault-displaced : end_fault save.Displaced ≡ Some Displaced
 fault-displaced = refl
 
@@ -80,7 +80,7 @@ says-blocked : blocked_line (codes "run/desk-1.sock")
     ≡ codes "tokentree: run/desk-1.sock: cannot be made again; remove what stands there: the node runs on, and tries again"
 says-blocked = refl
 
--- a child gets all options, its turns' time in milliseconds
+-- a child gets all options; the time of a turn is in milliseconds
 tells-child : child_words (record { hold = 2000; repeat = 8000 }) 2250 GroupLocks (Some Notice) (codes "ring.toml") 1 (codes "run")
     ≡ codes "node" ∷ codes "--child" ∷ codes "--hold" ∷ codes "2000" ∷ codes "--repeat" ∷ codes "8000"
     ∷ codes "--turn" ∷ codes "2.250" ∷ codes "--group-locks" ∷ codes "--log" ∷ codes "5" ∷ codes "--" ∷ codes "ring.toml" ∷ codes "1" ∷ codes "run" ∷ []

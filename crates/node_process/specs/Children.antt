@@ -11,8 +11,8 @@ use Rattle.node_log.specs.declared.event.Level.{Level}
 use Rattle.node_texts.specs.declared.lines.End.{End}
 use Rattle.node_texts.specs.declared.lines.End.TheVariants.{Status, Signal, Unknown}
 
--- the words by which this program is a node in this manner, as a child that names itself and ends with its
--- input, and whose turns are late after so many microseconds
+-- the options that make this program a node in this manner: a child that names itself, ends with
+-- its input, and has late turns after this many microseconds
 abbrev pub child_options : Manner → ℕ → List (List ℕ)
 child_options manner turn =
     codes "node" ∷ codes "--child"
@@ -20,23 +20,24 @@ child_options manner turn =
     ∷ codes "--repeat" ∷ decimal manner.repeat
     ∷ codes "--turn" ∷ millis_text turn ∷ []
 
--- and whether the group may take the lock
+-- the option that lets the group take the lock
 abbrev pub rights_options : Rights → List (List ℕ)
 rights_options Usual = []
 rights_options GroupLocks = codes "--group-locks" ∷ []
 
--- and from which level on it says what happens
+-- the option for the lowest level of its log
 abbrev pub log_options : Option Level → List (List ℕ)
 log_options None = []
 log_options (Some level) = codes "--log" ∷ decimal (priority_of level) ∷ []
 
--- the words of node `id` of a network; after `--` a FILE or DIR that begins with a hyphen is one too
+-- the words that start node `id` of a network; `--` allows a FILE or DIR that begins with a hyphen
 abbrev pub child_words : Manner → ℕ → Rights → Option Level → List ℕ → ℕ → List ℕ → List (List ℕ)
 child_words manner turn rights log file id dir =
     child_options manner turn ++ (rights_options rights ++ (log_options log ++ codes "--" ∷ file ∷ decimal id ∷ dir ∷ []))
 
--- how a process ended, by POSIX's wait status: the low seven bits are 0 if it ended by itself, with
--- the status in the next byte, and else the signal that ended it; 127 there is no end
+-- how a process ended, by POSIX's wait status: low seven bits of 0 mean that it ended by itself,
+-- and the next byte is its status; else they are the signal that ended it; 127 means that it has
+-- not ended
 abbrev pub end_of : ExitStatus → End
 end_of s =
     if status_bits s % 128 == 0 then Status (status_bits s / 256 % 256)

@@ -1,4 +1,4 @@
--- With which fault a node ends.
+-- The fault with which a node ends.
 use Rattle.std.specs.Prelude.{Bool, true, false, Option, None, Some}
 use Rattle.node_keeping.specs.declared.saved.AfterSave.{AfterSave}
 use Rattle.node_keeping.specs.declared.saved.AfterSave.TheVariants as save
@@ -12,7 +12,7 @@ end_fault save.Displaced = Some Displaced
 end_fault save.StopStays = Some StopStays
 end_fault _ = None
 
--- a node goes on only if that is what it is to do
+-- a node goes on only if it was decided so
 abbrev pub ends_by : AfterSave → Bool
 ends_by (save.GoOn lost) = false
 ends_by _ = true

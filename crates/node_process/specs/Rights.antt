@@ -1,5 +1,6 @@
--- Who may use the folder of a network and what stands in it, as modes of POSIX: 256, 128 and 64 let the user read, write
--- and enter, 32, 16 and 8 the group; whoever writes to a socket connects to it.
+-- Who may use the folder of a network and its files, as modes of POSIX: 256, 128 and 64 let the
+-- user read, write and enter, 32, 16 and 8 the group. The right to write to a socket is the right
+-- to connect to it.
 use Rattle.std.specs.Prelude.{ℕ, ◌+◌, Option, None, Some}
 use Rattle.node_process.specs.declared.rights.Rights.{Rights}
 use Rattle.node_process.specs.declared.rights.Rights.TheVariants.{Usual, GroupLocks}

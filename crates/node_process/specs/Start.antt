@@ -1,4 +1,4 @@
--- Which fault ends a start, by how far it was.
+-- Which faults may end a start, by how far it is.
 use Rattle.std.specs.Prelude.{Bool, true, false}
 use Rattle.node_process.specs.declared.start.Stage.{Stage}
 use Rattle.node_process.specs.declared.start.Stage.TheVariants.{Begun, Checked, Entered, Held, Listening}
@@ -7,9 +7,9 @@ use Rattle.node_process.specs.declared.fault.NodeFault.TheVariants.{Network, NoN
 use Rattle.node_process.specs.declared.fault.NodeFault.TheVariants.{Folder, RightsStay, Lock, Running}
 use Rattle.node_process.specs.declared.fault.NodeFault.TheVariants.{Links, Clients, Looks, System, Input, Memory}
 
--- words that are refused end a start before anything is made; a folder that cannot be had ends it
--- before its place is taken; a place that another process has ends it before a socket is made; and
--- memory may be refused at any time
+-- invalid words end a start before anything is made, a missing folder before its place is taken,
+-- and a place that another process holds before a socket is made; memory may be refused at any
+-- time
 abbrev pub may_end : Stage → NodeFault → Bool
 may_end stage Memory = true
 may_end Begun (Network fault) = true

@@ -58,7 +58,7 @@ blocked_line path =
     codes "tokentree: " ++ (path
     ++ codes ": cannot be made again; remove what stands there: the node runs on, and tries again")
 
--- how a node ended that is left alone
+-- how a node that is left alone ended
 abbrev pub last_end : End → List ℕ
 last_end (Status status) = codes "ended with status " ++ decimal status
 last_end (Signal signal) = codes "was ended by signal " ++ decimal signal
@@ -71,7 +71,7 @@ left_line id end =
     codes "node " ++ (decimal id ++ (codes " " ++ (last_end end
     ++ codes " for the third time at its start, and is left alone; mend what it says, and start up again")))
 
--- how a node ended that was to end; one that ended well has ended
+-- how a node that was asked to end did end; after a good end the line just says that it has ended
 abbrev pub good_end : End → List ℕ
 good_end (Status status) = if status == 0 then codes "has ended" else last_end (Status status)
 good_end end = last_end end

@@ -23,24 +23,24 @@ const LOOK_AT_END: u64 = 10;
 /// Standard input in a poll.
 const INPUT: Token = Token(0);
 
-/// For how many seconds a process waits for a second Ctrl-C: longer than any node is waited for.
+/// How many seconds a process waits for a second Ctrl-C: longer than `up` waits for any node.
 const SECONDS: &str = "9";
 
-/// What may ask `up` to end. Signals are looked at if any is held back. The end of standard input is
-/// waited for if a poll waits for it: no file has one, nor has `/dev/null`.
+/// What may ask `up` to end. Signals count if any is held back. The end of standard input counts
+/// if a poll can wait for it: it cannot for a file or for `/dev/null`.
 #[derive(Drop)]
 pub struct Asks<P: OpenProcess + Drop> {
     poll: Poll,
     events: Events,
     watches_input: bool,
     holds_signals_back: bool,
-    /// A process beside this one, which holds no signal back: a signal that is held back shows once, and
-    /// so a second Ctrl-C shows by the end of this process.
+    /// A second process, which holds no signal back. A held signal shows only once, so a second
+    /// Ctrl-C shows by the end of this process.
     beside: Option<Child<P>>,
 }
 
 impl<P: OpenProcess + Drop> Asks<P> {
-    /// Nothing was asked yet.
+    /// Nothing has asked yet.
     ///
     /// # Errors
     /// If the system gives no poll, or memory runs out.
@@ -58,12 +58,12 @@ impl<P: OpenProcess + Drop> Asks<P> {
         })
     }
 
-    /// Waits for as long as a look takes at most, and says what asks `up` to end.
+    /// Waits for at most one look, and says what asks `up` to end.
     pub fn sights<R>(&mut self, rt: &R, is_ending: bool) -> UpSights
     where
         R: Files + Clock + Input + Processes<Started = P> + AllocGlobal,
         ensures held { self.old.holds_signals_back ≡ false → result.signals ≡ no_signals }
-        // An input for which no poll waits never ends, nor does one that is not looked at.
+        // An input that is not watched, or for which no poll can wait, never counts as ended.
         ensures endless { self.old.watches_input ≡ false → result.has_input_ended ≡ false }
         ensures ending { is_ending ≡ true → result.has_input_ended ≡ false }
         ensures alone { is_ending ≡ false → self.old.beside ≡ None → result.is_pressed ≡ false }
@@ -82,7 +82,7 @@ impl<P: OpenProcess + Drop> Asks<P> {
         }
     }
 
-    /// Waits for standard input, and says whether it is at its end.
+    /// Waits for standard input, and says whether it has ended.
     fn await_input<R: Clock + Input>(&mut self, rt: &R) -> bool
         ensures endless { self.old.watches_input ≡ false → result ≡ false }
         ensures stays { (self.new.holds_signals_back ≡ self.old.holds_signals_back)
@@ -102,7 +102,7 @@ impl<P: OpenProcess + Drop> Asks<P> {
         sight == InputSight::Ended
     }
 
-    /// Waits while the nodes are to end, beside a process that a second Ctrl-C ends.
+    /// Waits while the nodes end. A second Ctrl-C ends the process beside this one.
     fn stand_by<R: Clock + Processes<Started = P> + AllocGlobal>(&mut self, rt: &R)
         ensures { self.new.holds_signals_back ≡ self.old.holds_signals_back }
     {
@@ -112,7 +112,7 @@ impl<P: OpenProcess + Drop> Asks<P> {
         thread::sleep(rt, Duration::from_millis(LOOK_AT_END));
     }
 
-    /// The signals that came, are held back, and mean something to this process.
+    /// The held signals that came and mean something to this process.
     fn signals<R: Files + AllocGlobal>(&self, rt: &R) -> Signals
         ensures { self.now.holds_signals_back ≡ false → result ≡ no_signals }
     {

@@ -1,4 +1,4 @@
-//! Why a node does not run, or a network is not kept up.
+//! Why a node does not run, or `up` does not keep a network running.
 ghost use Rattle.std.specs.Prelude.{◌≡◌, ◌≢◌};
 ghost use Rattle.std.specs.declared.io.ErrorKind.TheVariants.{OutOfMemory};
 ghost use Rattle.node_process.specs.declared.fault.NodeFault.TheVariants.{Memory, System};
@@ -15,17 +15,17 @@ pub enum NodeFault {
     Network(NetworkFault),
     /// There is no such node; the network has this many.
     NoNode(u16),
-    /// The sockets' names would have more bytes than such a name may have.
+    /// The sockets' names would have too many bytes.
     LongName,
     /// The folder is not there, and cannot be made.
     Folder,
     /// The rights of the folder cannot be set.
     RightsStay,
-    /// The file by which a node says that it runs cannot be opened.
+    /// The file that marks a node as running cannot be opened.
     Lock,
     /// Another process is the node already.
     Running,
-    /// The file by which `up` says that it runs cannot be opened.
+    /// The file that marks `up` as running cannot be opened.
     UpLock,
     /// Another `up` keeps nodes running there already.
     UpRunning,
@@ -37,14 +37,14 @@ pub enum NodeFault {
     Looks,
     /// The system gives no clock, no poll or no process.
     System,
-    /// Standard input, whose end is to be waited for, is a file or nothing.
+    /// Standard input, whose end ends the node, is a file or absent.
     Input,
-    /// The file by which a node says that it runs is not the node's own any more: its folder was
-    /// removed or made again.
+    /// The file that marks a node as running is no longer its own: its folder was removed or made
+    /// again.
     Displaced,
-    /// The file that stops a node is there, and cannot be removed.
+    /// The stop file is there and cannot be removed.
     StopStays,
-    /// Each node failed at its start again and again, and is left alone.
+    /// Each node failed at its start three times, and is left alone.
     NoneStays,
     /// Memory ran out.
     Memory,
@@ -60,7 +60,7 @@ impl From<AllocError> for NodeFault {
     }
 }
 
-/// The fault of a call by which the system was to give something.
+/// The fault that a failed system call means.
 pub fn fault_of(kind: ErrorKind) -> NodeFault
     ensures memory { kind ≡ OutOfMemory → result ≡ Memory }
     ensures system { kind ≢ OutOfMemory → result ≡ System }
@@ -71,8 +71,8 @@ pub fn fault_of(kind: ErrorKind) -> NodeFault
     }
 }
 
-/// A fault with the words of the command that it ends. Printed, it names the file, and says what to
-/// do; it is what the line on standard error has after `tokentree: `.
+/// A fault with the words of the command that it ends. Printed, it names the file and says what to
+/// do. It is the line on standard error, without `tokentree: `.
 #[derive(Drop)]
 pub struct Refusal<'a> {
     /// The network file.

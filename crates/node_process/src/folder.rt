@@ -26,7 +26,7 @@ use unix_doors::Listeners;
 /// Who may open a file that is made here: its owner.
 const FILE_MODE: u32 = 0o600;
 
-/// Refuses a folder in which a socket of a network of this many nodes would have too long a name.
+/// Refuses a folder if a socket of one of this many nodes would have too long a name there.
 ///
 /// # Errors
 /// `LongName`, or `Memory`.
@@ -41,8 +41,8 @@ pub fn check_names(alloc: Global, dir: &str, nodes: u16) -> Result<(), NodeFault
     Ok(())
 }
 
-/// Makes the folder if it is missing, but none above it, with these rights. Those of the group are set in a
-/// folder that is there, too.
+/// Makes the folder with these rights if it is missing, but none above it. In a folder that is
+/// there, the group's rights are set too.
 ///
 /// # Errors
 /// `Folder` if there is none and none can be made; `RightsStay` if its rights cannot be set.
@@ -78,7 +78,7 @@ pub fn set_mode<F: Files>(files: &F, path: &str, mode: Option<u32>) -> io::Resul
     }
 }
 
-/// Whether a folder stands there.
+/// Whether there is such a folder.
 fn is_folder<F: Files>(files: &F, dir: &str) -> bool {
     match fs::metadata(files, dir) {
         Ok(found) => found.is_dir(),
@@ -86,8 +86,8 @@ fn is_folder<F: Files>(files: &F, dir: &str) -> bool {
     }
 }
 
-/// A process's place in a folder: a file that is locked for as long as this is kept. The system lets
-/// it go when the process ends, whichever way.
+/// A process's place in a folder: a file that is locked as long as this value lives. However the
+/// process ends, the system unlocks it then.
 #[derive(Drop)]
 pub struct Place {
     _file: File,
@@ -96,13 +96,13 @@ pub struct Place {
 
 impl Place {
     /// Whether the name of the place still leads to it. If not, another process may hold the place
-    /// of this name.
+    /// of that name.
     pub fn sight<F: Files>(&self, files: &F, path: &str) -> FileSight {
         sight(self.id, fs::metadata(files, path))
     }
 }
 
-/// Takes the place of this name, whose file is made if it is missing.
+/// Takes the place of this name, and makes its file if it is missing.
 ///
 /// # Errors
 /// `Running` if another process holds it, `Lock` if it cannot be opened or locked.
@@ -162,7 +162,7 @@ fn sight(own: FileId, found: io::Result<Metadata>) -> FileSight {
     }
 }
 
-/// A socket that listens, and which file its name led to then.
+/// A listening socket, and the file that its name led to when it was made.
 #[derive(Drop)]
 pub struct Listener {
     /// The socket.
@@ -171,7 +171,7 @@ pub struct Listener {
     pub file: FileId,
 }
 
-/// The sockets of a node, which listen, and their files.
+/// The listening sockets of a node, and their files.
 #[derive(Drop)]
 pub struct NodeSockets {
     /// The sockets.
@@ -184,8 +184,8 @@ pub struct NodeSockets {
     pub looks: FileId,
 }
 
-/// Makes the sockets of a node whose place is held, for neighbours, for clients and for whoever looks, in
-/// place of files that were left there.
+/// Makes the sockets of a node whose place is held: for neighbours, for clients and for whoever
+/// looks. They replace files that were left there.
 ///
 /// # Errors
 /// `Links`, `Clients` or `Looks`.
@@ -227,13 +227,14 @@ fn joined(links: Listener, clients: Listener, looks: Listener) -> NodeSockets {
     }
 }
 
-/// A socket of this name and mode, if one is given, in place of a file that stands there.
+/// A socket of this name, and of this mode if one is given. It replaces a file of that name.
 ///
-/// The mode is set after `bind`, as the kit has no `umask`. The folder is closed before. Under a mask that
-/// lets the group write, the group could open the socket for some microseconds; the unit's mask is 0077.
+/// The mode is set after `bind`, since the kit has no `umask`. Until then the folder is closed to
+/// others. Under a mask that lets the group write, the group could open the socket for some
+/// microseconds; the unit's mask is 0077.
 ///
 /// # Errors
-/// If what stands there cannot be removed, as a folder, or the system makes none.
+/// If what has this name cannot be removed (a folder, say), or the system makes no socket.
 pub fn bind_again<R: Files + Net>(rt: &R, path: &str, mode: Option<u32>) -> io::Result<Listener> {
     remove(rt, path)?;
     let socket = UnixListener::bind(rt, path)?;

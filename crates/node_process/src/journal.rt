@@ -14,13 +14,13 @@ pub struct Journal<'a, R> {
     rt: &'a R,
     /// The node.
     id: u16,
-    /// Whether a journal reads the lines, which takes priorities.
+    /// Whether the lines go to a journal, which understands priorities.
     has_priority: bool,
     log: NodeLog,
 }
 
 impl<'a, R: Eprint> Journal<'a, R> {
-    /// The log of a node that is started with these words, at that time.
+    /// The log of a node that starts with these words at this time.
     pub fn begin(rt: &'a R, words: &NodeWords<'_>, now: u64) -> Journal<'a, R>
     where
         R: Env + AllocGlobal,
@@ -36,7 +36,7 @@ impl<'a, R: Eprint> Journal<'a, R> {
         journal
     }
 
-    /// Says what happened in a turn that ended at that time. A log that is off sees nothing.
+    /// Says what happened in a turn that ended at this time. A log that is off says nothing.
     pub fn turn_ended<D: Doors, S: Store + Drop>(
         &mut self,
         run: &NodeRun<D, S>,
@@ -73,7 +73,7 @@ impl<'a, R: Eprint> Journal<'a, R> {
         }
     }
 
-    /// Says what happened at that time, unless it is not urgent enough, or too much is said.
+    /// Says what happened at this time, unless it is not urgent enough or too much was said.
     pub fn say(&mut self, event: Event, now: u64)
         ensures level { self.new.log.least ≡ self.old.log.least }
     {

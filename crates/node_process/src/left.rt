@@ -1,4 +1,4 @@
-//! The lines which say that a node is left alone, or has ended as it was to.
+//! The lines which say that a node is left alone, or has ended as asked.
 use node_texts::End;
 use std::fmt;
 
@@ -27,7 +27,7 @@ impl fmt::Display for LeftLine {
     }
 }
 
-/// The line which says that a node has ended that was to end, and how.
+/// The line which says how a node that was asked to end did end.
 #[derive(Drop)]
 pub struct GoneLine {
     /// The node.
@@ -48,7 +48,7 @@ impl fmt::Display for GoneLine {
     }
 }
 
-/// How a node ended that was to end.
+/// How a node that was asked to end did end.
 #[derive(Drop)]
 struct GoodEnd(End);
 
@@ -66,7 +66,7 @@ impl fmt::Display for GoodEnd {
     }
 }
 
-/// How a node ended last.
+/// The last end of a node.
 #[derive(Drop)]
 struct LastEnd(End);
 

@@ -9,16 +9,16 @@
 //! ```
 //!
 //! Node U of a network uses these files of a folder, and touches nothing outside it: `state-U.tkt`
-//! (its state), `node-U.sock` (where the nodes above it connect), `desk-U.sock` (where clients do),
-//! `look-U.sock` (where whoever looks at it does), `stop-U` (whoever makes it ends the node) and `lock-U`
-//! (held while it runs, so that no second process is node U there).
+//! (its state), `node-U.sock` (nodes with greater ids connect to it), `desk-U.sock` (clients do),
+//! `look-U.sock` (lookers do), `stop-U` (making it ends the node) and `lock-U` (held while the
+//! node runs, so that no second process is node U there).
 //!
-//! What a turn of a node does stands in the crate `node_loop`, over doors; those over Unix sockets
-//! stand in `unix_doors`, the names of files and the lines that are printed in `node_texts`. What a
-//! node does after each 256th turn, and what `up` makes of a node that ended, `node_keeping`
-//! decides; who is shown how the node stands, and what, `look_window`. What the system answers is not
-//! known to contracts, so the functions that call it say little: in which order a start goes, which fault
-//! ends it, what a node notes of a turn, and which words a child is given.
+//! The crate `node_loop` has the turn of a node, over doors; `unix_doors` has those over Unix
+//! sockets, and `node_texts` the names of files and the lines that are printed. `node_keeping`
+//! decides what a node does after each 256th turn, and what `up` does with a node that ended;
+//! `look_window` decides what lookers are shown. Contracts know nothing of the system's answers,
+//! so the functions that call it promise little: in which order a start goes, which fault ends it,
+//! what a node notes of a turn, and which words a child is given.
 //!
 //! The trap: whoever can open the sockets can take the lock. The folder is made so that only its
 //! owner can enter it.

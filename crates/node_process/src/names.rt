@@ -1,4 +1,4 @@
-//! The names of a node's sockets while it runs: each is taken back if it leads elsewhere.
+//! The names of a running node's sockets: a name that leads elsewhere is taken back.
 ghost use Rattle.std.specs.Prelude.{◌≡◌, ◌↔◌, true, false, IfOk, IsErr, IsTrue};
 
 use crate::folder::{Place, bind_again, sight_at};
@@ -14,7 +14,7 @@ use unix_doors::UnixDoors;
 #[derive(Drop)]
 pub struct Name<'a> {
     path: &'a str,
-    /// The mode that its socket is given, if any.
+    /// The mode that its socket gets, if any.
     mode: Option<u32>,
     /// The file that it led to when the socket was made.
     file: FileId,
@@ -22,7 +22,7 @@ pub struct Name<'a> {
 }
 
 impl<'a> Name<'a> {
-    /// The name of a socket that was just made, with this mode.
+    /// The name of a socket that was just made with this mode.
     pub fn new(path: &'a str, mode: Option<u32>, file: FileId) -> Name<'a>
         ensures { (result.path ≡ path.entry) × (result.mode ≡ mode) × (result.file ≡ file)
             × (result.complaint.lasts ≡ false) }
@@ -40,7 +40,7 @@ impl<'a> Name<'a> {
         sight_at(files, self.path, self.file)
     }
 
-    /// Takes note of the file of a socket that was made again. If none could be made, that is said
+    /// Takes note of the file of a socket that was made again. If none could be made, it says so
     /// the first time.
     fn note<R: Eprint>(&mut self, rt: &R, made: io::Result<FileId>)
         ensures made { IfOk made (λ file. self.new.file ≡ file) }
@@ -75,8 +75,8 @@ pub struct Names<'a> {
 }
 
 impl<'a> Names<'a> {
-    /// Makes those sockets again whose names are lost. What cannot be made now is tried again when the
-    /// names are looked at next.
+    /// Makes a new socket for each name that is lost. What fails now is tried again at the next
+    /// look.
     pub fn take_back<R: Files + Sockets + Eprint>(
         &mut self,
         rt: &'a R,

@@ -47,7 +47,7 @@ pub struct NodeWords<'a> {
     pub id: u16,
     /// The folder.
     pub dir: &'a str,
-    /// The trade between quiet and haste.
+    /// How quiet or how fast the node is.
     pub manner: Manner,
     /// After how many microseconds a turn is late.
     pub turn: u64,
@@ -55,9 +55,9 @@ pub struct NodeWords<'a> {
     pub version: &'a str,
     /// Who may use its folder and its sockets.
     pub rights: Rights,
-    /// How urgent what it says of itself is at least, if it says anything.
+    /// The lowest level of its log, if it has one.
     pub log: Option<Level>,
-    /// Whether `up` has started it: its lines begin with its name, and it ends with its input.
+    /// Whether `up` started it: then its lines begin with its name, and it ends with its input.
     pub is_child: bool,
 }
 
@@ -66,13 +66,15 @@ pub type Run<'a, R> = NodeRun<UnixDoors<'a, R>, FileStore<'a, R>>;
 
 /// Runs node ID of the network of FILE in DIR, until its stop file is there.
 ///
-/// It prints `start loaded` or `start default NAME`, then `ready` once its sockets listen. Whoever connects
-/// to its socket for lookers is shown how it stands. After each 256th turn it has saved its state, looks
-/// whether its names in DIR still lead to its own files, looks for the stop file, and reads FILE again.
+/// It prints `start loaded` or `start default NAME`, then `ready` once its sockets listen. It
+/// shows how it stands to whoever connects to its socket for lookers. After each 256th turn its
+/// state is saved; then it checks that its names in DIR still lead to its own files, looks for the
+/// stop file, and reads FILE again.
 ///
 /// # Errors
-/// Why it does not run; nothing is made before the network, the id and the folder's name are right.
-/// Or why it ends: its stop file cannot be removed, or its place in DIR is not its own any more.
+/// Why it does not run; nothing is made before the network, the id and the folder's name are
+/// right. Or why it ends: its stop file cannot be removed, or its place in DIR is no longer its
+/// own.
 pub fn run<R>(rt: &R, words: &NodeWords<'_>) -> Result<(), NodeFault>
 where
     R: Files<File = File> + Sockets + Clock + Env + Input + Print + Eprint + AllocGlobal,
@@ -86,10 +88,11 @@ where
     run_in_place(rt, words, &paths, &place, net, stage)
 }
 
-/// Reads the network, and refuses it, an id that is no node's, and a folder whose name is too long.
+/// Reads the network. Refuses an invalid file, an id that is no node's, and a folder whose name is
+/// too long.
 ///
 /// # Errors
-/// Which of these it is; nothing is made then.
+/// Which of these it is; then nothing is made.
 fn check_words<R: Files + AllocGlobal>(
     rt: &R,
     words: &NodeWords<'_>,
@@ -153,7 +156,7 @@ fn remove_sockets<F: Files>(files: &F, paths: &NodePaths) {
     let _ = remove(files, paths.looks.as_str());
 }
 
-/// The fault with which a node ends that ends so.
+/// The fault of a node that ends like this.
 fn fault_of_end(end: AfterSave) -> Result<(), NodeFault>
     ensures ok { IfOk result (λ _. end_fault end ≡ None) }
     ensures err { IfErr result (λ fault. end_fault end ≡ Some fault) }
@@ -193,8 +196,8 @@ where
     Ok((run, names))
 }
 
-/// Makes the node's sockets, and has a child watch its input; any other node says here what its
-/// sockets may hold.
+/// Makes the node's sockets. A child then watches its input; any other node warns here if its
+/// links are small.
 fn open_doors<'a, R>(
     rt: &'a R,
     words: &NodeWords<'_>,
@@ -243,7 +246,7 @@ fn make_doors<'a, R: Sockets + AllocGlobal>(
     }
 }
 
-/// Takes turns until the node is to end, and says how it is to.
+/// Takes turns until the node must end, and says how it ends.
 fn run_turns<'a, R: Files + Sockets + Clock + Env + Input + Eprint + AllocGlobal>(
     rt: &'a R,
     words: &NodeWords<'_>,
@@ -270,8 +273,9 @@ fn run_turns<'a, R: Files + Sockets + Clock + Env + Input + Eprint + AllocGlobal
     AfterSave::Stop
 }
 
-/// Takes a turn, notes it, says what happened in it, and shows whoever looks how the node stands then. Whether
-/// the node's files are looked at now: after each 256th turn, whatever the store answered.
+/// Takes a turn, notes it, says what happened in it, and shows lookers how the node stands then.
+/// Returns whether to look at the node's files now: after each 256th turn, whatever the store
+/// answered.
 fn take_turn<'a, R: Files + Sockets + Clock + Eprint>(
     alloc: Global,
     observer: &mut Observer<'a, '_, R>,
@@ -290,7 +294,7 @@ fn take_turn<'a, R: Files + Sockets + Clock + Eprint>(
     turned.is_to_look()
 }
 
-/// Shows all who look how the node stands. If memory is refused they wait.
+/// Shows all lookers how the node stands. If memory is refused, they wait.
 fn show_all<'a, R: Files + Sockets>(
     alloc: Global,
     window: &Window<'_>,
@@ -310,15 +314,15 @@ fn show_all<'a, R: Files + Sockets>(
     }
 }
 
-/// Whether a node ends that is to do this.
+/// Whether a node ends with this.
 fn ends(next: AfterSave) -> bool
     ensures { result ≡ ends_by next }
 {
     !matches!(next, AfterSave::GoOn(_))
 }
 
-/// Looks at the node's files after a turn that saved, and does what is to be done if it runs on. What
-/// it does next.
+/// Looks at the node's files after a turn that saved, and does what it must if it runs on. Returns
+/// what it does next.
 fn look<'a, R>(
     rt: &'a R,
     words: &NodeWords<'_>,
@@ -338,8 +342,8 @@ where
     next
 }
 
-/// What a node sees after a turn that saved. In a folder that is another's no file is touched. One that
-/// `up` has started is asked to end by the end of its input, or by a SIGTERM, which is held back from it.
+/// What a node sees after a turn that saved. It touches no file in another's folder. A node that
+/// `up` started is asked to end by the end of its input, or by a SIGTERM, which it holds back.
 fn see<'a, R>(
     rt: &'a R,
     words: &NodeWords<'_>,
@@ -375,15 +379,16 @@ fn look_for_stop<F: Files>(files: &F, stop: &str) -> StopSight {
     }
 }
 
-/// Reads the network file again, takes up its edges, and says what is new in it. A file that is refused, or
-/// whose network differs in more than edges, changes nothing; nor do the edges that the node has already.
+/// Reads the network file again, takes over its edges, and says what is new in it. An invalid
+/// file, a network that differs in more than edges, and edges that the node already has change
+/// nothing.
 fn rewire_by_file<'a, R: Files + Sockets + Eprint + AllocGlobal>(
     rt: &R,
     words: &NodeWords<'_>,
     news: &mut FileNews,
     run: &mut Run<'a, R>,
 )
-    // More than its edges never changes.
+    // Nothing but its edges ever changes.
     ensures { IsTrue (is_same_frame run.old.net run.new.net) }
 {
     let read = read_network(rt, words.file);
@@ -395,7 +400,7 @@ fn rewire_by_file<'a, R: Files + Sockets + Eprint + AllocGlobal>(
     }
 }
 
-/// Says what a node that has this network found in its file.
+/// Says what a node of this network found in its file.
 fn say_news<R: Eprint + AllocGlobal>(
     rt: &R,
     words: &NodeWords<'_>,
@@ -407,7 +412,8 @@ fn say_news<R: Eprint + AllocGlobal>(
     }
 }
 
-/// Says that the node is ready, whose sockets listen; to a service manager too, if that has started it.
+/// Says that the node is ready: its sockets listen. A service manager that started it learns it
+/// too.
 fn say_ready<R: Env + Print + AllocGlobal>(rt: &R, words: &NodeWords<'_>, stage: &mut Stage)
     requires { stage.old ≡ Listening }
     ensures { stage.new ≡ Ready }
@@ -428,7 +434,7 @@ fn say<R: Print + AllocGlobal>(rt: &R, words: &NodeWords<'_>, note: Note) {
     }
 }
 
-/// Says so if links hold fewer frames than a socket may.
+/// Warns if links hold fewer frames than a socket may.
 pub fn warn_of_capacity<R: Eprint>(rt: &R, capacity: u16) {
     if capacity < SOCKET_FRAMES {
         let _ = rt.eprintln(CapacityLine(capacity));

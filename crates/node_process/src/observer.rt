@@ -12,14 +12,14 @@ use unix_doors::Stopwatch;
 pub struct Observer<'a, 'w, R> {
     /// Its clock.
     pub watch: Stopwatch<'a, R>,
-    /// What it notes of itself, for whoever looks.
+    /// What it notes of itself for lookers.
     pub window: Window<'w>,
     /// What it says of itself.
     pub journal: Journal<'a, R>,
 }
 
 impl<'a, 'w, R: Files + Clock + Env + Eprint + AllocGlobal> Observer<'a, 'w, R> {
-    /// What watches a node from now on that is started with these words.
+    /// What watches a node that starts now with these words.
     pub fn open(
         rt: &'a R,
         words: &NodeWords<'w>,

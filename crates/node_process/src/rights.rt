@@ -5,8 +5,8 @@ ghost use Rattle.node_process.specs.Rights.{folder_mode, own_mode, clients_mode}
 /// The rights that a node gives to others than its own user.
 #[derive(Clone, Copy, Debug, PartialEq, Eq)]
 pub enum Rights {
-    /// Only its user enters a folder that it makes; in a folder that is there, all is as the folder and the
-    /// user's mask have it.
+    /// Only its user enters a folder that it makes. In a folder that is there, the folder and the
+    /// user's mask decide.
     Usual,
     /// The user's group enters the folder, and uses the socket for clients; only the user uses the rest.
     GroupLocks,

@@ -1,8 +1,8 @@
 //! In which order a node, or `up`, starts.
 //!
-//! Whatever changes the folder says by its `requires` how far the start must be. So the prover finds
-//! at each call that nothing is made before the words are right, that no socket is made before the
-//! place is held, and that no node says `ready` before its sockets listen.
+//! Each function that changes the folder says in its `requires` how far the start must be. So the
+//! prover checks at each call that nothing is made before the words are right, that no socket is
+//! made before the place is held, and that no node says `ready` before its sockets listen.
 
 /// How far a start is.
 #[derive(Clone, Copy, Debug, PartialEq, Eq)]
@@ -17,6 +17,6 @@ pub enum Stage {
     Held,
     /// All sockets listen.
     Listening,
-    /// It was said that the node is ready.
+    /// The node has said that it is ready.
     Ready,
 }

@@ -1,4 +1,4 @@
-//! `up FILE DIR`: all nodes of a network as processes, until it is asked to end.
+//! `up FILE DIR`: runs all nodes of a network as processes, until it is asked to end.
 ghost use Rattle.std.specs.Prelude.{◌≡◌, ◌≢◌, ◌⊎◌, ◌++◌, ◌∷◌, [], true, None, Some};
 ghost use Rattle.std.specs.Prelude.{OnOk, IfOk, IfErr};
 ghost use Rattle.std.specs.Prelude.{codes, decimal, length};
@@ -41,16 +41,17 @@ use std::rt::{Clock, Env, Files};
 use std::{env, io};
 use topology::Net;
 
-/// Where a program is that starts another one, from which signals are held back.
+/// A program that starts another one with signals held back.
 const ENV: &str = "/usr/bin/env";
 
-/// Which of its options does that, for those that a terminal or a service manager sends to all processes.
+/// Its option for that, for the signals that a terminal or a service manager sends to all
+/// processes.
 const HOLD_SIGNALS_BACK: &str = "--block-signal=HUP,INT,QUIT,TERM";
 
 /// How the processes of nodes are started.
 pub trait NodeProgram {
     /// The command that runs node `id`. It prints its lines with its name in front, and ends when
-    /// its standard input is at its end.
+    /// its standard input ends.
     ///
     /// # Errors
     /// If memory runs out.
@@ -68,13 +69,13 @@ pub struct OwnProgram<'a> {
     holds_signals_back: bool,
     file: &'a str,
     dir: &'a str,
-    /// The trade between quiet and haste, the same for each node.
+    /// How quiet or how fast each node is.
     manner: Manner,
     /// After how many microseconds a turn is late.
     turn: u64,
     /// Who may use the folder and the nodes' sockets.
     rights: Rights,
-    /// How urgent what nodes say of themselves is at least, if they say anything.
+    /// The lowest level of the nodes' logs, if they have any.
     log: Option<Level>,
 }
 
@@ -129,7 +130,7 @@ impl NodeProgram for OwnProgram<'_> {
     }
 }
 
-/// Whether the system's `env` holds signals back from what it starts: that of GNU does, since 8.31.
+/// Whether the system's `env` can hold signals back from what it starts: GNU's can since 8.31.
 fn can_hold_back<R: Processes + AllocGlobal>(rt: &R) -> io::Result<bool> {
     let mut command = Command::new(rt.alloc(), ENV)?;
     command.arg(HOLD_SIGNALS_BACK)?.arg("true")?;
@@ -137,7 +138,7 @@ fn can_hold_back<R: Processes + AllocGlobal>(rt: &R) -> io::Result<bool> {
     Ok(command.status(rt)?.success())
 }
 
-/// A command that starts this program, from which signals are held back.
+/// A command that starts this program with signals held back.
 fn held_back(alloc: Global, program: &PathBuf) -> io::Result<Command> {
     let mut command = Command::new(alloc, ENV)?;
     command.arg(HOLD_SIGNALS_BACK)?;
@@ -145,7 +146,7 @@ fn held_back(alloc: Global, program: &PathBuf) -> io::Result<Command> {
     Ok(command)
 }
 
-/// Adds the words by which this program is node `id` of the network of FILE in DIR, as a child.
+/// Adds the words that make this program node `id` of the network of FILE in DIR, as a child.
 fn add_words(
     alloc: Global,
     command: &mut Command,
@@ -164,7 +165,7 @@ fn add_words(
     add_place(alloc, command, file, id, dir)
 }
 
-/// Adds the words by which this program is a node as a child, in this manner, whose turns are late after
+/// Adds the options that make this program a child node in this manner, with late turns after
 /// `turn` microseconds.
 fn add_options(alloc: Global, command: &mut Command, manner: Manner, turn: u64) -> io::Result<()>
     ensures { OnOk result (command_args command.new
@@ -186,7 +187,7 @@ fn add_rights(command: &mut Command, rights: Rights) -> io::Result<()>
     Ok(())
 }
 
-/// Adds what nodes say of themselves.
+/// Adds the level of the log.
 fn add_log(alloc: Global, command: &mut Command, log: Option<Level>) -> io::Result<()>
     ensures { OnOk result (command_args command.new
         ≡ command_args command.old ++ log_options log) }
@@ -197,7 +198,7 @@ fn add_log(alloc: Global, command: &mut Command, log: Option<Level>) -> io::Resu
     Ok(())
 }
 
-/// Adds the trade between quiet and haste.
+/// Adds how quiet or how fast the node is.
 fn add_manner(alloc: Global, command: &mut Command, manner: Manner) -> io::Result<()>
     ensures { OnOk result (command_args command.new ≡ command_args command.old
         ++ codes "--hold" ∷ decimal manner.hold
@@ -207,7 +208,7 @@ fn add_manner(alloc: Global, command: &mut Command, manner: Manner) -> io::Resul
     add_option(alloc, command, "--repeat", manner.repeat)
 }
 
-/// Adds after how many microseconds a turn is late, in milliseconds.
+/// Adds when a turn is late: microseconds in, milliseconds out.
 fn add_turn(alloc: Global, command: &mut Command, turn: u64) -> io::Result<()>
     ensures { OnOk result (command_args command.new ≡ command_args command.old
         ++ codes "--turn" ∷ millis_text turn ∷ []) }
@@ -251,7 +252,7 @@ fn add_two(command: &mut Command, first: &str, second: &str) -> io::Result<()>
 struct Kept<P: OpenProcess + Drop> {
     id: u16,
     keeper: Keeper,
-    /// Its process, from its start until it is seen to have ended.
+    /// Its process, from its start until `up` sees that it has ended.
     child: Option<Child<P>>,
 }
 
@@ -275,14 +276,14 @@ impl<P: OpenProcess + Drop> Kept<P> {
         match &mut self.child {
             Some(child) => match child.try_wait() {
                 Ok(Some(status)) => Seen::Ended(end_of(status)),
-                // Nothing is known of it: it is asked again.
+                // Nothing is known of it, so it is asked again.
                 Ok(None) | Err(_) => Seen::Nothing,
             },
             None => Seen::Nothing,
         }
     }
 
-    /// Has its process end by its input.
+    /// Makes its process end, by its input.
     fn close_input(&mut self)
         ensures { (self.new.id ≡ self.old.id) × (self.new.keeper ≡ self.old.keeper) }
     {
@@ -306,13 +307,14 @@ impl<P: OpenProcess + Drop> Kept<P> {
     }
 }
 
-/// Keeps all nodes of the network of FILE running in DIR until it is asked to end: by a signal, if its
-/// start held signals back, or by the end of its standard input, if that is a terminal or a pipe. Its nodes
-/// then save their states and end, each with a line, and are killed if it is asked again.
+/// Keeps all nodes of the network of FILE running in DIR until it is asked to end: by a signal, if
+/// its start held signals back, or by the end of its standard input, if that is a terminal or a
+/// pipe. Its nodes then save their states and end, each with a line. If it is asked again, it
+/// kills them.
 ///
 /// # Errors
-/// Why it does not begin, or that no node stays up. Once it has begun, all processes that it started
-/// have ended when it ends.
+/// Why it does not begin, or that no node stays up. Once it has begun, it ends only after all
+/// processes that it started.
 pub fn run<R, C: NodeProgram>(rt: &R, program: &C, file: &str, dir: &str) -> Result<(), NodeFault>
 where
     R: Files<File = File> + Sockets + Clock + Input + Print + Eprint + Processes + AllocGlobal,
@@ -326,10 +328,10 @@ where
     run_in_place(rt, program, &net)
 }
 
-/// Reads the network, and refuses it, and a folder whose name is too long.
+/// Reads the network. Refuses an invalid file and a folder whose name is too long.
 ///
 /// # Errors
-/// Which of these it is; nothing is made then.
+/// Which of these it is; then nothing is made.
 fn check_network<R: Files + AllocGlobal>(
     rt: &R,
     file: &str,
@@ -366,7 +368,7 @@ where
     }
 }
 
-/// All nodes of a network of `nodes` nodes, none of which was started.
+/// All nodes of a network of `nodes` nodes, none of them started.
 fn all_new<P: OpenProcess + Drop>(alloc: Global, nodes: u16) -> Result<Vec<Kept<P>>, AllocError>
     ensures { IfOk result (λ kept. length kept.items ≡ nodes) }
 {
@@ -377,14 +379,14 @@ fn all_new<P: OpenProcess + Drop>(alloc: Global, nodes: u16) -> Result<Vec<Kept<
     Ok(kept)
 }
 
-/// Whether there is more to do with any node.
+/// Whether any node is still kept.
 fn any_is_kept<P: OpenProcess + Drop>(kept: &[Kept<P>]) -> bool
     ensures { result ≡ list_any (λ one. is_kept one.keeper.stage) kept.now }
 {
     kept.iter().any(|one| one.keeper.is_kept())
 }
 
-/// Looks at each node again and again, until no node is kept. Whether that was asked for.
+/// Looks at each node again and again, until no node is kept. Returns whether that was asked for.
 fn keep_running<R, C: NodeProgram>(
     rt: &R,
     program: &C,
@@ -408,7 +410,7 @@ where
     course.is_ending()
 }
 
-/// Takes note of what was seen of `up` itself; of what a look at the node shows, if that is nothing.
+/// Takes note of what was seen of `up` itself; if nothing was, of what a look at the node shows.
 fn note_of_one<R, C: NodeProgram>(
     rt: &R,
     program: &C,
@@ -431,7 +433,7 @@ where
     take_note(rt, program, kept, seen);
 }
 
-/// What stands in the way of `up` if it takes its place in a folder as a node does.
+/// The fault of `up` if it fails to take its place in a folder as a node does.
 fn fault_of_up(fault: NodeFault) -> NodeFault
     ensures lock { fault ≡ Lock → result ≡ UpLock }
     ensures running { fault ≡ Running → result ≡ UpRunning }
@@ -443,12 +445,12 @@ fn fault_of_up(fault: NodeFault) -> NodeFault
     }
 }
 
-/// Does what is to be done with a node of which this was seen.
+/// Does what must be done with a node of which this was seen.
 fn take_note<R, C: NodeProgram>(rt: &R, program: &C, kept: &mut Kept<R::Started>, seen: Seen)
 where
     R: Print + Processes + AllocGlobal,
     ensures id { kept.new.id ≡ kept.old.id }
-    // What the keeper made of it; and a start shows at once whether it went well.
+    // The keeper decides; and a start shows at once whether it succeeded.
     ensures noted { deed_at seen kept.old.keeper.failures kept.old.keeper.stage ≢ Start
         → kept.new.keeper.stage ≡ stage_after seen kept.old.keeper.failures kept.old.keeper.stage }
     ensures started { deed_at seen kept.old.keeper.failures kept.old.keeper.stage ≡ Start
@@ -488,7 +490,8 @@ where
     }
 }
 
-/// Starts the process of a node. It ends, by its input, when this process ends in whatever way.
+/// Starts the process of a node. However this process ends, the node's input ends then, and so the
+/// node.
 fn start<R, C: NodeProgram>(rt: &R, program: &C, id: u16) -> io::Result<Child<R::Started>>
 where
     R: Processes + AllocGlobal,
@@ -509,7 +512,7 @@ fn end_of(status: ExitStatus) -> End
     }
 }
 
-/// Says how the process of a node ended, which is started again.
+/// Says how the process of a node that is started again ended.
 fn say_again<R, P: OpenProcess + Drop>(rt: &R, kept: &mut Kept<P>, end: End)
 where
     R: Print + AllocGlobal,
@@ -521,7 +524,7 @@ where
     print_line(rt, &line);
 }
 
-/// Says how the process of a node ended, which is left alone.
+/// Says how the process of a node that is left alone ended.
 fn say_left<R, P: OpenProcess + Drop>(rt: &R, kept: &mut Kept<P>, end: End)
 where
     R: Print + AllocGlobal,
@@ -533,7 +536,7 @@ where
     print_line(rt, &line);
 }
 
-/// Says how the process of a node ended that was to end.
+/// Says how the process of a node that was asked to end did end.
 fn say_gone<R, P: OpenProcess + Drop>(rt: &R, kept: &mut Kept<P>, end: End)
 where
     R: Print + AllocGlobal,

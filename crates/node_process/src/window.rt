@@ -1,4 +1,4 @@
-//! What a node notes of itself, and says to whoever looks.
+//! What a node notes of itself, and shows to lookers.
 ghost use Rattle.std.specs.Prelude.{◌≡◌, ◌≢◌, ◌<◌, ℕ, false, is_some, length, slice_get, replicate};
 ghost use Rattle.std.specs.Prelude.{IfOk, Some, string_bytes};
 ghost use Rattle.node_core.specs.View.{site_in, state_of};
@@ -32,7 +32,7 @@ pub struct Window<'a> {
 }
 
 impl<'a> Window<'a> {
-    /// Nothing was noted before that time. Turns are late after `limit` microseconds.
+    /// Notes begin at this time. Turns are late after `limit` microseconds.
     pub fn open<R: Files + Clock + AllocGlobal>(
         rt: &R,
         limit: u64,
@@ -69,7 +69,8 @@ impl<'a> Window<'a> {
         self.notes.attended(now, run.node().lent().is_some());
     }
 
-    /// A turn has ended, which did this. The link to one node is noted, that to the next in the next turn.
+    /// A turn that did this has ended. Each turn notes the link to one node, the next turn that to
+    /// the next.
     pub fn turn_ended<D: Doors, S: Store + Drop>(
         &mut self,
         run: &NodeRun<D, S>,
@@ -107,7 +108,7 @@ impl<'a> Window<'a> {
         }
     }
 
-    /// The line for whoever looks at the node at that time.
+    /// The line for whoever looks at the node at this time.
     ///
     /// # Errors
     /// If memory runs out.

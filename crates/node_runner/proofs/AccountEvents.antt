@@ -146,7 +146,7 @@ before-stays : (v : ℕ) (xs ys : List Event) → before_tick (xs ++ Tick v ∷ 
 before-stays v [] ys = refl
 before-stays v (e ∷ xs) ys = ap (λ zs. if is_tick e then [] else e ∷ zs) (before-stays v xs ys)
 
--- what follows from the next tick on does not matter
+-- what comes from the next tick on does not matter
 pub first-stays : (w : World) (v : ℕ) (xs ys : List Event) → IsFirstTurn w v xs → IsFirstTurn w v (xs ++ Tick v ∷ ys)
 first-stays w v xs ys first =
     let same : before_tick (first.later ++ Tick v ∷ ys) ≡ before_tick first.later = before-stays v first.later ys in

@@ -1,5 +1,5 @@
--- What is at hand at the start of a run: a place for each item that a link has room for, and each
--- item that is there.
+-- What a link offers at the start of a run: a place for each item that it has room for, and each
+-- item on it.
 use Rattle.std.proofs.Common.{◌≡◌, ℕ, ◌<◌, ◌≤◌, nat_lt, false, true, IsTrue, List, [], length, ap, arith}
 use Rattle.std.proofs.lemmas.Grind.{common_steps}
 use Rattle.rtrb.specs.Ring.{known_free, known_items}
@@ -9,7 +9,7 @@ use Rattle.weaving.specs.Account.{Note, sent_to, taken_from}
 use Rattle.node_runner.specs.declared.runner.Port.{Port}
 use Rattle.node_runner.specs.Ports.{IsSender, IsReceiver}
 
--- what is not there is not there
+-- nothing is both there and absent
 pub none-there : false ≡ true → ⊥
 none-there same = grind (arith, common_steps, same)
 

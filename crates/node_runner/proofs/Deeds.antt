@@ -1,4 +1,4 @@
--- What one deed of a node does to what its account says.
+-- What one deed of a node changes in its account.
 use Rattle.std.proofs.Common.{◌≡◌, ℕ, ◌+◌, ◌<◌, ◌≤◌, List, [], ◌∷◌, ◌++◌, map, length, ap, sym, subst, ◌∙◌, arith, All, vec_capacity, length-append}
 use Rattle.std.specs.List.{AllByRecursion}
 use Rattle.topology.specs.Network.{Network}

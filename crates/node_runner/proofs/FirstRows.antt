@@ -1,4 +1,4 @@
--- Rows: what node 0 of two nodes does first, and what is no first turn of it.
+-- Rows: what node 0 of two nodes does first, and what is not a first turn.
 use Rattle.std.proofs.Common.{◌≡◌, ◌<◌, ◌≤◌, min, IsTrue, List, [], ◌∷◌, All, length, ap, refl, sym, subst, arith}
 use Rattle.std.proofs.lemmas.Grind.{common_steps}
 use Rattle.topology.specs.Network.{neighbours_of}
@@ -8,7 +8,7 @@ use Rattle.run_model.specs.declared.event.Event.{Event}
 use Rattle.run_model.specs.declared.event.Event.TheVariants.{Send, Take, Tick}
 use Rattle.node_runner.specs.FirstTurn.{IsFirstTurn, before_tick, count_of, deeds_of, is_send_on, is_take_on, is_tick_of}
 
--- an event is its receiver's if it is a take, else its sender's
+-- a take is its receiver's deed, any other event its sender's
 row-deeds : deeds_of 0 (Tick 0 ∷ Tick 1 ∷ Send 0 1 ∷ Send 1 0 ∷ Take 0 1 ∷ Take 1 0 ∷ []) ≡ Tick 0 ∷ Send 0 1 ∷ Take 1 0 ∷ []
 row-deeds = refl
 

@@ -1,4 +1,4 @@
--- What a deed over one port does to what the node's account says.
+-- What a deed over one port changes in the node's account.
 use Rattle.std.proofs.Common.{◌≡◌, ◌≢◌, ℕ, ◌<◌, ◌≤◌, List, [], ◌++◌, map, length, ap, refl, sym, subst, ◌∙◌, arith, append-nil, slice_index_or, All, Contains, set, vec_capacity}
 use Rattle.std.specs.List.{AllByRecursion}
 use Rattle.std.specs.List.Sorted.{IsStrictlyIncreasing}

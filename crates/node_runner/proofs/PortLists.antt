@@ -1,4 +1,4 @@
--- The ports of a node, of which one changes.
+-- The ports of a node when one changes.
 use Rattle.std.proofs.Common.{◌≡◌, ◌≢◌, ◌⊎◌, inl, inr, ℕ, zero, suc, ◌<◌, List, [], ◌∷◌, ◌++◌, map, length, ap, refl, sym, subst, ◌∙◌, rules, arith, append-nil, slice_index_or, All, Contains, set}
 use Rattle.std.proofs.lemmas.Bool.{cases_eq}
 use Rattle.std.proofs.lemmas.Grind.{common_steps}

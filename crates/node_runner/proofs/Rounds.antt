@@ -122,7 +122,7 @@ mul-step n k a b some one = grind arith
 
 -- ---- what is due
 
--- more deeds after leave what was sent and taken
+-- later deeds leave what was sent and taken
 more-sent : (u n : ℕ) (ds es : List Note) → n < length (sent_to u ds) → n < length (sent_to u (ds ++ es))
 more-sent u n ds es some = let a = ap length (sent-on u ds es) in let b = length-append (sent_to u ds) (sent_to u es) in omega (arith, a, b, some)
 
@@ -145,7 +145,7 @@ nothing : {X : Type 0} (xs : List X) → length xs ≡ 0 → xs ≡ []
 nothing [] none = refl
 nothing (x ∷ xs) none = absurd (omega (arith, none))
 
--- of two takes each is made if fewer items were taken than there are
+-- each of two takes is made if fewer items were taken than there are
 two-takes : (least m e f : ℕ) → (m < least → 0 < e) → (m + e < least → 0 < f) → e ≤ 1 → f ≤ 1 → min 2 least ≤ m + (e + f)
 two-takes least m e f first second few few' =
     let cases : (m < least) ⊎ (least ≤ m) = grind arith in
@@ -282,7 +282,7 @@ module _ {A : Type 0} where
             second (subst (λ xs. IsTakeDue (slice_index_or xs k 0) c two.0) (ids' ∙ ids) two.3),
       )
 
-  -- a tick, the sends and the takes are a round
+  -- a tick, then the sends, then the takes are a round
   pub one-round : (a b c d : Runner A) → IsReady a
       → (t : ℕ) × Does (Ticked t ∷ []) a b × IsSlow 1 a b
       → (ss : List Note) × Does ss b c × AreSendsTo (port_ids b) ss × (length ss ≤ length b.ports.items) × AreSendsDue (port_ids b) b ss
@@ -323,7 +323,7 @@ module _ {A : Type 0} where
             (subst (All (λ u. min 2 (length (w.link u v)) ≤ length (taken_from u takes.0))) (ids' ∙ ids) taken),
       )
 
-  -- the first round is whole, and further ones leave it so
+  -- the first round is whole, and later ones leave it so
   whole-turn : (a b : Runner A) (n : ℕ) (ds es : List Note) → Does ds a b → AreRounds (port_ids a) n ds → IsRound (port_ids a) es → (n ≡ 0 → b.clock ≡ a.clock)
       → (0 < n → BeginsWhole a ds) → BeginsWhole b es → BeginsWhole a (ds ++ es)
   whole-turn a b zero ds es does are round same was one = λ clock most w v told links.

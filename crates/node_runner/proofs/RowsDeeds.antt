@@ -1,4 +1,5 @@
--- Rows: whose deed an event is, what one send or take is, and which worlds keep to their capacity.
+-- Rows: whose deed an event is, what one send or take is, and which worlds stay within their
+-- capacity.
 use Rattle.std.proofs.Common.{◌≡◌, ℕ, ◌+◌, ◌≤◌, true, false, List, [], ◌∷◌, Some, None, length, inl, inr, refl, arith}
 use Rattle.link_model.specs.declared.item.Item.TheVariants.{Noise}
 use Rattle.run_model.specs.World.{World}
@@ -25,7 +26,7 @@ takes-itself = refl
 takes_not-other : is_deed_of 1 (Take 1 0) ≡ false
 takes_not-other = refl
 
--- what a client does is no deed of a node
+-- what a client does is not a node's deed
 asks-nobody : is_deed_of 0 (Ask 0 5) ≡ false
 asks-nobody = refl
 
@@ -75,7 +76,7 @@ one_not-sent (inr some) = grind (arith, some.1)
 
 -- ---- what went out and came in
 
--- what stood on a link at the start has the stamp 0
+-- what was on a link at the start has the stamp 0
 opens : opening (Noise ∷ []) ≡ noise 0 ∷ []
 opens = refl
 
@@ -94,7 +95,7 @@ takes-more = refl
 takes-none : with_taken [] None ≡ []
 takes-none = refl
 
--- the last place comes well before the last stamp
+-- the last place is well below the last stamp
 last : last_stamp ≡ last_place + last_place
 last = refl
 

@@ -1,4 +1,4 @@
--- Rows: what a node does in a round, and what is no round.
+-- Rows: what a node does in a round, and what is not a round.
 use Rattle.std.proofs.Common.{◌≡◌, ℕ, List, [], ◌∷◌, ◌++◌, Option, Some, None, length, inl, inr, ap, refl, ◌∙◌, arith, length-append}
 use Rattle.link_model.specs.declared.item.Item.TheVariants.{Noise}
 use Rattle.weaving.specs.declared.journal.Stamped.{Stamped}
@@ -62,7 +62,7 @@ tick-round = record {
 two-rounds : AreRounds both 2 (full ++ Ticked 7 ∷ [])
 two-rounds = (full, Ticked 7 ∷ [], refl, full-round, (Ticked 7 ∷ [], [], refl, tick-round, refl))
 
--- ---- what is none
+-- ---- no rounds
 
 -- two ticks are not one round, nor is nothing
 not-two_ticks : AreRounds both 1 (full ++ Ticked 7 ∷ []) → ⊥
@@ -105,7 +105,7 @@ not-three_takes (first, second, later, are, one, two, none) =
 
 -- ---- clocks
 
--- an event is later than both that it waited for; the last stamp ends it
+-- an event is later than both events that it waited for; after the last stamp there is none
 row-behind : stamp_behind 3 5 ≡ Some 6
 row-behind = refl
 
@@ -115,7 +115,7 @@ row-behind-other = refl
 row-last : stamp_behind 4611686018427387904 0 ≡ None
 row-last = refl
 
--- a take is later than its item, and not at its time
+-- a take is later than its item, not at the same time
 row-take : IsTakeOf (at_time 3) (at_time 2)
 row-take = record { item = refl; later = omega arith }
 

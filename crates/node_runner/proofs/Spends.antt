@@ -4,7 +4,7 @@ use Rattle.weaving.specs.declared.journal.Stamped.{Stamped}
 use Rattle.weaving.specs.Matched.{AreAbove, stamps}
 use Rattle.node_runner.proofs.Stamps.{above-push, stamps-push, length-stamps, drop-push, drop-past}
 
--- what a sender knows of its places: the record IsSender, without its ring
+-- what a sender knows about its places: the record IsSender without its ring
 pub record Spends (f free : ℕ) (sends : List Stamped) (places : List ℕ) : Type 0 where
   pub spent : length sends + free ≡ f + length places
   pub first : 0 < free → places ≡ []

@@ -13,7 +13,7 @@ above-push [] (b ∷ ys) x y all same later = absurd (omega (arith, same))
 above-push (a ∷ xs) [] x y all same later = absurd (omega (arith, same))
 above-push (a ∷ xs) (b ∷ ys) x y all same later = (all.0, above-push xs ys x y all.1 (omega (arith, same)) later)
 
--- what stands after the second list does not matter
+-- what follows the second list does not matter
 pub above-longer : (xs ys zs : List ℕ) → AreAbove xs ys → AreAbove xs (ys ++ zs)
 above-longer [] ys zs all = tt
 above-longer (x ∷ xs) [] zs all = absurd all
@@ -24,7 +24,7 @@ pub stamps-push : (xs : List Stamped) (x : Stamped) → stamps (xs ++ x ∷ []) 
 stamps-push [] x = refl
 stamps-push (y ∷ xs) x = ap (λ ys. y.stamp ∷ ys) (stamps-push xs x)
 
--- there are as many stamps
+-- there are as many stamps as items
 pub length-stamps : (xs : List Stamped) → length (stamps xs) ≡ length xs
 length-stamps [] = refl
 length-stamps (x ∷ xs) = ap suc (length-stamps xs)
@@ -47,11 +47,11 @@ pub given-back-more : (takes : List Stamped) (t : Stamped) → t.stamp ≤ last_
 given-back-more [] t le = grind (arith, common_steps)
 given-back-more (x ∷ takes) t le = let later = given-back-more takes t le in grind (arith, common_steps)
 
--- or keeps it, at the end of the clock
+-- or keeps it, when the clock is at its end
 pub given-back-same : (takes : List Stamped) (t : Stamped) → last_place < t.stamp → given_back (takes ++ t ∷ []) ≡ given_back takes
 given-back-same [] t le = grind (arith, common_steps)
 given-back-same (x ∷ takes) t le = let later = given-back-same takes t le in grind (arith, common_steps)
 
--- a prefix of a list is no longer, counted without the list's first
+-- a prefix of a list without its first item is no longer than the rest
 pub one-fewer : (known : List Stamped) (came : Stamped) (later : List Stamped) → IsPrefix known (came ∷ later) → length known ≤ length later + 1
 one-fewer known came later begins = let n = length-append known begins.0 in let m = ap length begins.1 in omega arith

@@ -1,4 +1,4 @@
--- What a node on its own thread does not leave out if it can be done.
+-- What a node on its own thread must do if it can.
 use Rattle.std.specs.Prelude.{◌≡◌, ℕ, ◌+◌, ◌<◌, ◌≤◌, min, IsTrue, List, [], All, map, length}
 use Rattle.topology.specs.Network.{are_joined}
 use Rattle.run_model.specs.World.{World}
@@ -18,40 +18,41 @@ events_of v notes = map (λ d. (entry_of v d).event) notes
 abbrev pub IsWithin : World → Type 0
 IsWithin w = (u v : ℕ) → IsTrue (are_joined w.net.edges u v) → length (w.link u v) ≤ w.net.capacity
 
--- If the world that the run began with had room on the link to u, nothing was sent over it so
--- far, and the clock is not at its end, something is noted.
+-- If the link to u had room in the world that the run began with, nothing was sent over it so far,
+-- and the clock is not at its end, then something is noted.
 abbrev pub IsSendDue : {A : Type 0} → ℕ → Runner A → List Note → Type 0
 IsSendDue u r notes =
     (w : World) (v : ℕ) (past : List Note)
     → IsTold w v past r → IsTrue (has_room w v u) → sent_to u past ≡ [] → r.clock < last_stamp → 0 < length notes
 
--- If the link from u held more items in that world than were taken so far, something is noted.
+-- If the link from u held more items in that world than were taken so far, then something is
+-- noted.
 abbrev pub IsTakeDue : {A : Type 0} → ℕ → Runner A → List Note → Type 0
 IsTakeDue u r notes =
     (w : World) (v : ℕ) (past : List Note)
     → IsTold w v past r → IsWithin w → length (taken_from u past) < length (w.link u v) → 0 < length notes
 
--- the clock goes on by as many at most, once it is as late as places may be
+-- once the clock is past the stamps of places, it rises by at most this much
 abbrev pub IsSlow : {A : Type 0} → ℕ → Runner A → Runner A → Type 0
 IsSlow steps old new = (bound : ℕ) → last_place ≤ bound → old.clock ≤ bound → new.clock ≤ bound + steps
 
--- Among these notes something is sent to each of these neighbours over whose link there was room,
--- and nothing was sent so far; the clock is that of a first turn.
+-- These notes have a send to each of these neighbours whose link had room and was not used so far;
+-- the clock is that of a first turn.
 abbrev pub AreSendsDue : {A : Type 0} → List ℕ → Runner A → List Note → Type 0
 AreSendsDue us r notes =
     (w : World) (v : ℕ) (past : List Note)
     → IsTold w v past r → ((u : ℕ) → sent_to u past ≡ []) → r.clock ≤ last_place + 1 → length r.ports.items ≤ 64
     → All (λ u. IsTrue (has_room w v u) → 0 < length (sent_to u notes)) us
 
--- Among these notes as many items are taken from each of these neighbours as there were on the
--- link, or two, if nothing was taken so far.
+-- From each of these neighbours, if nothing was taken so far, these notes take as many items as
+-- there were on the link, or two if there were more.
 abbrev pub AreTakesDue : {A : Type 0} → List ℕ → Runner A → List Note → Type 0
 AreTakesDue us r notes =
     (w : World) (v : ℕ) (past : List Note)
     → IsTold w v past r → IsWithin w → ((u : ℕ) → taken_from u past ≡ [])
     → All (λ u. min 2 (length (w.link u v)) ≤ length (taken_from u notes)) us
 
--- From the start of a run on these notes begin with a whole first turn.
+-- At the start of a run, these notes begin with a whole first turn.
 abbrev pub BeginsWhole : {A : Type 0} → Runner A → List Note → Type 0
 BeginsWhole r notes =
     r.clock ≡ 0 → length r.ports.items ≤ 64

@@ -7,7 +7,7 @@ use Rattle.run_model.specs.Sweep.{is_link}
 use Rattle.run_model.specs.declared.event.Event.{Event}
 use Rattle.run_model.specs.declared.event.Event.TheVariants.{Send, Take, Tick}
 
--- v does the event: it ticks, sends or takes
+-- v does the event: its tick, send or take
 abbrev pub is_deed_of : ℕ → Event → Bool
 is_deed_of v (Tick u) = u == v
 is_deed_of v (Send u t) = u == v
@@ -47,8 +47,8 @@ abbrev pub before_tick : List Event → List Event
 before_tick [] = []
 before_tick (e ∷ es) = if is_tick e then [] else e ∷ before_tick es
 
--- What v does, if this begins with its first turn from the world: a tick, and before its next
--- one a send over each link out of it that has room, and from each link into it as many takes as
+-- These deeds of v begin with its first turn from the world: a tick, and before its next tick a
+-- send over each of its outgoing links that has room, and from each incoming link as many takes as
 -- there are items, or two if there are more.
 pub record IsFirstTurn (w : World) (v : ℕ) (deeds : List Event) : Type 0 where
   pub later : List Event

@@ -1,4 +1,4 @@
--- What a node's ends of its links have seen of a run.
+-- What a node's ends of its links have seen in a run.
 use Rattle.std.specs.Prelude.{◌≡◌, ℕ, ◌+◌, ◌-◌, ◌<◌, ◌≤◌, List, [], ◌∷◌, ◌++◌, map, drop, length, Option, Some, None}
 use Rattle.std.specs.List.{AllZip}
 use Rattle.rtrb.specs.Ring.{sent, received, known_free, known_items, SameProducer, SameConsumer}
@@ -27,17 +27,17 @@ abbrev pub with_taken : List Stamped → Option Stamped → List Stamped
 with_taken takes (Some t) = takes ++ t ∷ []
 with_taken takes None = takes
 
--- they are ends of the same rings
+-- these are ends of the same rings
 abbrev pub SameOutgoing : {A : Type 0} → Outgoing A → Outgoing A → Type 0
 SameOutgoing a b = SameProducer a.frames b.frames × SameConsumer a.places b.places
 
--- they are ends of the same rings
+-- these are ends of the same rings
 abbrev pub SameIncoming : {A : Type 0} → Incoming A → Incoming A → Type 0
 SameIncoming a b = SameConsumer a.frames b.frames × SameProducer a.places b.places
 
 -- The sender's end of a link that began with these items, after these sends. Each send spent a
--- place: one of those that were free at the start, or else one that came back, in their order, and
--- then it is later than the take that left it free.
+-- place: first those that were free at the start, then those that came back, in order; such a send
+-- is later than the take that freed its place.
 pub record IsSender {A : Type 0} (capacity : ℕ) (old : List Item) (sends : List Stamped) (o : Outgoing A) : Type 0 where
   pub sent : sent o.frames ≡ opening old ++ sends
   pub spent : length sends + o.free ≡ (capacity - length old) + length (received o.places)
@@ -45,8 +45,8 @@ pub record IsSender {A : Type 0} (capacity : ℕ) (old : List Item) (sends : Lis
   pub later : AreAbove (drop (capacity - length old) (stamps sends)) (received o.places)
   pub room : capacity - length old ≤ known_free o.frames + length sends
 
--- The receiver's end of a link that began with as many items, after these takes. What was taken is
--- what came in, in order, each take later than the item, and each gave its place back.
+-- The receiver's end of a link that began with this many items, after these takes. They took what
+-- came in, in order; each take is later than its item, and gave its place back.
 pub record IsReceiver {A : Type 0} (capacity old : ℕ) (takes : List Stamped) (i : Incoming A) : Type 0 where
   pub taken : AllZip IsTakeOf takes (received i.frames)
   pub returned : sent i.places ≡ given_back takes

@@ -24,7 +24,7 @@ pub record IsRound (neighbours : List ℕ) (notes : List Note) : Type 0 where
   pub are_sends : AreSendsTo neighbours sends
   pub are_takes : AreTakesFrom neighbours takes
 
--- as many rounds, one after the other, so as many ticks
+-- n rounds, one after the other, so n ticks
 abbrev pub AreRounds : List ℕ → ℕ → List Note → Type 0
 AreRounds neighbours zero notes = notes ≡ []
 AreRounds neighbours (suc n) notes = (first : List Note) × (later : List Note) × (notes ≡ first ++ later) × IsRound neighbours first × AreRounds neighbours n later

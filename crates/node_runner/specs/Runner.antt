@@ -1,4 +1,4 @@
--- What one node does on its own thread, and how that hangs together with its ends of the links.
+-- What one node does on its own thread, and how its ends of the links match that.
 use Rattle.std.specs.Prelude.{◌≡◌, ◌⊎◌, ℕ, ◌+◌, ◌*◌, ◌<◌, ◌≤◌, List, [], ◌∷◌, ◌++◌, All, map, length, slice_index_or, vec_capacity}
 use Rattle.std.specs.List.{AllByRecursion}
 use Rattle.node_core.specs.Site.{site_of}
@@ -19,9 +19,8 @@ IsPortTold w v account p =
     IsSender w.net.capacity (w.link v p.neighbour) (sent_to p.neighbour account) p.outgoing
     × IsReceiver w.net.capacity (length (w.link p.neighbour v)) (taken_from p.neighbour account) p.incoming
 
--- The account says all that v did since it was as in this world: its journal has the entries, with
--- stamps that rise and are not above its clock, its state is where the account leads, and the ends
--- of its links have seen it.
+-- The account says all that v did since this world: the journal has its entries, with rising
+-- stamps up to the clock; the state is where it leads; and the ends of its links have seen it.
 pub record IsTold {A : Type 0} (w : World) (v : ℕ) (account : List Note) (r : Runner A) : Type 0 where
   pub id : r.id ≡ v
   pub site : site_in r.node ≡ site_of w.net v
@@ -39,13 +38,13 @@ port_ids r = map (λ p. p.neighbour) r.ports.items
 abbrev pub round_room : {A : Type 0} → Runner A → ℕ
 round_room r = 1 + 3 * length r.ports.items
 
--- It has a port to each neighbour, and its clock is not far above the greatest stamp that may come
+-- It has a port to each neighbour, and its clock is not far above the greatest stamp that can come
 -- in.
 pub record IsReady {A : Type 0} (r : Runner A) : Type 0 where
   pub clock : r.clock ≤ last_stamp + length r.journal.entries.items
   pub ports : port_ids r ≡ (site_in r.node).neighbours
 
--- they are ends of the same rings
+-- these are ends of the same rings
 abbrev pub IsSamePort : {A : Type 0} → Port A → Port A → Type 0
 IsSamePort a b = (b.neighbour ≡ a.neighbour) × SameOutgoing a.outgoing b.outgoing × SameIncoming a.incoming b.incoming
 
@@ -53,8 +52,8 @@ IsSamePort a b = (b.neighbour ≡ a.neighbour) × SameOutgoing a.outgoing b.outg
 abbrev pub AreSamePorts : {A : Type 0} → List (Port A) → List (Port A) → Type 0
 AreSamePorts {A} ps qs = (length qs ≡ length ps) × ((k : ℕ) (d : Port A) → k < length ps → IsSamePort (slice_index_or ps k d) (slice_index_or qs k d))
 
--- Between two moments a node did this: whatever account said of it before, with this after it
--- says of it now. An entry was made for each note, in the room that was there.
+-- Between two moments a node did this: any account that held before holds now with these notes
+-- added. Each note has an entry, in room that was there.
 pub record Does {A : Type 0} (notes : List Note) (old new : Runner A) : Type 0 where
   pub told : (w : World) (v : ℕ) (past : List Note) → IsTold w v past old → IsTold w v (past ++ notes) new
   pub ready : IsReady new

@@ -1,4 +1,5 @@
--- The clocks of nodes that run side by side (Lamport 1978): whatever waited for something is later.
+-- The clocks of nodes that run side by side (Lamport 1978): an event is later than what it waited
+-- for.
 use Rattle.std.specs.Prelude.{◌≡◌, ℕ, ◌+◌, ◌<◌, ◌^◌, if◌then◌else◌, nat_lt, nat_le, max, List, filter, Option, Some, None}
 use Rattle.weaving.specs.declared.journal.Stamped.{Stamped}
 use Rattle.weaving.specs.Matched.{stamps}
@@ -7,15 +8,15 @@ use Rattle.weaving.specs.Matched.{stamps}
 abbrev pub last_stamp : ℕ
 last_stamp = 2 ^ 62
 
--- the greatest stamp of a place that comes back; whoever waits for one may still send
+-- the greatest stamp of a place that comes back: after waiting for it, a node may still send
 abbrev pub last_place : ℕ
 last_place = 2 ^ 61
 
--- the stamp of an event after two others, unless it is above the last one
+-- the stamp of an event after two others, if it is not above the last stamp
 abbrev pub stamp_behind : ℕ → ℕ → Option ℕ
 stamp_behind a b = if nat_lt (max a b) last_stamp then Some (max a b + 1) else None
 
--- what was taken is what came in, and the take is later
+-- the take took what came in, and is later
 pub record IsTakeOf (taken came : Stamped) : Type 0 where
   pub item : taken.item ≡ came.item
   pub later : came.stamp < taken.stamp

@@ -1,12 +1,12 @@
-//! What holds nodes back at their turns.
+//! Gates that hold nodes back at their turns.
 ghost use Rattle.std.specs.Prelude.{◌≡◌};
 
 use std::sync::atomic::{AtomicBool, AtomicU64, Ordering};
 use std::thread;
 
-/// Holds each node back before and after each of its turns, for as long as it likes. Nothing is
-/// claimed of a gate but that its calls return: what nodes do is a run whatever the gate does, and
-/// a gate decides only how far one thread may be ahead of another.
+/// Holds each node back before and after each of its turns, as long as it likes. A gate promises
+/// only that its calls return. Whatever it does, what the nodes do is a run; a gate only decides
+/// how far one thread may be ahead of another.
 pub trait Gate: Sync {
     /// Called by the node's own thread before a turn; turns count from 0.
     fn before(&self, node: u16, turn: u32);
@@ -25,19 +25,19 @@ impl Gate for Open {
     fn after(&self, _node: u16, _turn: u32) {}
 }
 
-/// How often a gate looks, in one call, before it gives up, if nothing else is said.
+/// How often a gate looks, in one call, before it gives up, by default.
 const POLLS: u32 = 100_000_000;
 
 /// After how many looks a waiting thread lets others run.
 const POLLS_A_YIELD: u32 = 16;
 
-/// A count that threads raise and wait for. The wait is bounded: if it was in vain, it is noted,
-/// and nobody is held back any more.
+/// A count that threads raise and wait for. The wait is bounded: a wait in vain is noted, and then
+/// nobody is held back any more.
 #[derive(Drop)]
 struct Rally {
     count: AtomicU64,
     gave_up: AtomicBool,
-    /// How often a wait looks before it was in vain.
+    /// How often a wait looks before it gives up.
     polls: u32,
 }
 
@@ -61,12 +61,12 @@ impl Rally {
         self.gave_up.load(Ordering::SeqCst)
     }
 
-    /// Whether as many are counted, or a wait was in vain.
+    /// Whether the count is reached, or a wait was in vain.
     fn is_over(&self, wanted: u64) -> bool {
         self.count.load(Ordering::SeqCst) >= wanted || self.gave_up()
     }
 
-    /// Waits until as many are counted.
+    /// Waits until the count is reached.
     fn wait_for(&self, wanted: u64) {
         for poll in 0..self.polls {
             if self.is_over(wanted) {
@@ -80,7 +80,7 @@ impl Rally {
     }
 }
 
-/// Holds each node before its first turn until every node stands there, so that all run at the same
+/// Holds each node before its first turn until every node is there, so that all run at the same
 /// time. It gives up after 100,000,000 looks, or as many as it is given.
 #[derive(Drop)]
 pub struct Meet {
@@ -89,14 +89,14 @@ pub struct Meet {
 }
 
 impl Meet {
-    /// A gate for as many nodes. It takes no memory.
+    /// A gate for this many nodes. It takes no memory.
     pub fn new(nodes: u16) -> Meet
         ensures { (result.nodes ≡ nodes) × (result.here.polls ≡ 100000000) }
     {
         Meet::within(nodes, POLLS)
     }
 
-    /// The same, which gives up after as many looks.
+    /// The same, giving up after this many looks.
     pub fn within(nodes: u16, polls: u32) -> Meet
         ensures { (result.nodes ≡ nodes) × (result.here.polls ≡ polls) }
     {
@@ -132,14 +132,14 @@ pub struct Pace {
 }
 
 impl Pace {
-    /// A gate for as many nodes. It takes no memory.
+    /// A gate for this many nodes. It takes no memory.
     pub fn new(nodes: u16) -> Pace
         ensures { (result.nodes ≡ nodes) × (result.done.polls ≡ 100000000) }
     {
         Pace::within(nodes, POLLS)
     }
 
-    /// The same, which gives up after as many looks.
+    /// The same, giving up after this many looks.
     pub fn within(nodes: u16, polls: u32) -> Pace
         ensures { (result.nodes ≡ nodes) × (result.done.polls ≡ polls) }
     {

@@ -1,7 +1,7 @@
-//! What holds of a node's rounds: a law is the contract of a function that does nothing.
+//! What holds for a node's rounds: a law is the contract of a function that does nothing.
 ghost use Rattle.node_runner.specs.Laws.{EachRoundTicks};
 
-/// A node that did a number of rounds ticked as often: each round is one turn.
+/// A node ticks once in each round: each round is one turn.
 pub fn rounds()
     ensures { EachRoundTicks }
 {}

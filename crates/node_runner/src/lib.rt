@@ -1,10 +1,10 @@
-//! One node on a thread of its own: its ends of the links, what it does in a turn, and the gate that
+//! One node on its own thread: its ends of the links, what it does in a turn, and the gate that
 //! holds it back.
 //!
-//! A node sends over an [`Outgoing`] and takes from an [`Incoming`], the two ends of a link that are
-//! at hand to it: each is a ring of `rtrb` for items, and one for the places that items leave free.
-//! Each item and each place has the stamp of the event that sent it. A [`Runner`] is a node with its
-//! [`Port`]s, its clock, and the journal of what it did.
+//! A node sends over an [`Outgoing`] and takes from an [`Incoming`], its ends of the two links to
+//! a neighbour. Each link is a ring of `rtrb` for items, and one for the places that items leave
+//! free. Each item and each place has the stamp of the event that sent it. A [`Runner`] is a node
+//! with its [`Port`]s, its clock, and the journal of what it did.
 //!
 //! ```
 //! let mut runner = Runner { id, node, ports, clock: 0, journal };

@@ -37,7 +37,7 @@ impl Protocol<u64> for StampBound {
     ghost allows = { λ before x. x ≤ last_place };
 }
 
-/// The stamp of an event after two others; none if it would be above 2^62.
+/// The stamp of an event after two others; none if that were above 2^62.
 fn stamp_behind(one: u64, other: u64) -> Option<u64>
     ensures { result ≡ stamp_behind one other }
 {
@@ -49,18 +49,18 @@ fn stamp_behind(one: u64, other: u64) -> Option<u64>
     }
 }
 
-/// The end of a link at its sender: it pushes items, and gets back the places that they leave free.
+/// The sender's end of a link: it pushes items, and gets back the places that they leave free.
 #[derive(Drop)]
 pub struct Outgoing<A: Allocator = Global> {
     /// Items go out here.
     pub frames: Producer<Stamped, A, StampBound>,
     /// Free places come back here, each with the stamp of the take that left it.
     pub places: Consumer<u64, A, StampBound>,
-    /// How many places are at hand that were free at the start.
+    /// How many places are left of those that were free at the start.
     pub free: usize,
 }
 
-/// The end of a link at its receiver: it pops items, and gives back the places that they leave free.
+/// The receiver's end of a link: it pops items, and gives back the places that they leave free.
 #[derive(Drop)]
 pub struct Incoming<A: Allocator = Global> {
     /// Items come in here.
@@ -79,7 +79,7 @@ impl<A: Allocator> Outgoing<A> {
             × (received self.new.places ≡ received self.old.places)) }
         ensures some { IfSome result
             (λ t. (clock < t) × (t ≤ last_stamp) × (t ≤ max clock last_place + 1)) }
-        // A place of the start comes before all that came back.
+        // Places free at the start are spent before those that came back.
         ensures first { 0 < self.old.free → IfSome result (λ t. (self.new.free + 1 ≡ self.old.free)
             × (received self.new.places ≡ received self.old.places)) }
         ensures back { self.old.free ≡ 0
@@ -100,17 +100,17 @@ impl<A: Allocator> Outgoing<A> {
         Some(stamp)
     }
 
-    /// Sends an item, if a place is free for it, and answers the stamp of that. None comes if
-    /// no place is at hand, or the clock has come to its end; then nothing is sent.
+    /// Sends an item, if a place is free for it, and returns its stamp. Sends nothing and returns
+    /// none if no place is free, or the clock is at its end.
     pub fn send(&mut self, clock: u64, item: Item) -> Option<u64>
         ensures same { SameOutgoing self.old self.new }
         ensures later { IfSome result
             (λ t. (clock < t) × (t ≤ last_stamp) × (t ≤ max clock last_place + 1)) }
-        // What is sent is the item, with the stamp that is answered.
+        // The item is sent, with the returned stamp.
         ensures sent { (capacity : ℕ) (old : List Item) (sends : List Stamped)
             → IsSender capacity old sends self.old
             → IsSender capacity old (with_sent sends item result) self.new }
-        // With a place of the start at hand the item goes out.
+        // If a place of the start is left, the item goes out.
         ensures succeeds { 0 < self.old.free → 0 < known_free self.old.frames → clock < last_stamp
             → IsSome result }
     {
@@ -124,9 +124,9 @@ impl<A: Allocator> Outgoing<A> {
 }
 
 impl<A: Allocator> Incoming<A> {
-    /// Takes the oldest item, if there is one, and gives its place back. Answers the item with the
-    /// stamp of the take, which is later than the item's. A place whose stamp would be above 2^61 is
-    /// not given back.
+    /// Takes the oldest item, if there is one, and gives its place back. Returns the item with the
+    /// stamp of the take, which is later than the item's. A place whose stamp would be above 2^61
+    /// is not given back.
     pub fn take(&mut self, clock: u64) -> Option<Stamped>
         requires { clock + 1 < 2 ^ 64 }
         ensures same { SameIncoming self.old self.new }

@@ -29,8 +29,7 @@ pub struct Port<A: Allocator = Global> {
     pub incoming: Incoming<A>,
 }
 
-/// A node with all that its thread needs: its ends of the links, its clock, and the journal of what
-/// it does.
+/// A node with all that its thread needs: its ends of the links, its clock, and its journal.
 #[derive(Drop)]
 pub struct Runner<A: Allocator = Global> {
     /// The node's id.
@@ -46,7 +45,7 @@ pub struct Runner<A: Allocator = Global> {
 }
 
 impl<A: Allocator> Runner<A> {
-    /// Notes what the node did, and sets the clock to the stamp of that.
+    /// Notes what the node did, and sets the clock to its stamp.
     fn note(&mut self, stamp: u64, event: Event)
         requires { length self.old.journal.entries.items < vec_capacity self.old.journal.entries }
         ensures clock { self.new.clock ≡ stamp }
@@ -178,15 +177,14 @@ impl<A: Allocator> Runner<A> {
         self.take_all();
     }
 
-    /// The turns of a node, each between the gate's two calls. What it did is in its journal, for
-    /// which the room is to be there: one entry a turn, and three more for each port. No memory is
-    /// taken.
+    /// Does the turns of a node, each between the gate's two calls. What it did is in its journal,
+    /// which must have room: one entry a turn, and three more for each port. Takes no memory.
     pub fn run<G: Gate>(&mut self, gate: &G, turns: u32)
         requires ready { IsReady self.old }
         requires room { length self.old.journal.entries.items + turns * round_room self.old
             ≤ vec_capacity self.old.journal.entries }
-        // As many rounds as turns: each begins with the one tick of it. In the first one, at the
-        // start of a run, nothing is left out for which there is room or an item.
+        // There are as many rounds as turns, and each begins with its one tick. The first round,
+        // at the start of a run, leaves out nothing for which there is room or an item.
         ensures { (notes : List Note) × Does notes self.old self.new
             × AreRounds (port_ids self.old) turns notes
             × (length notes ≤ turns * round_room self.old)

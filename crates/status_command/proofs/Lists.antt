@@ -15,12 +15,12 @@ count-on a (suc n) j e = ap (λ l. a ∷ l) (count-on (a + 1) n j (omega (arith,
 pub counted-on : (a n j : ℕ) → a + n ≡ j → range_with_len a (n + 1) ≡ range_with_len a n ++ j ∷ []
 counted-on a n j e = let on : n + 1 ≡ suc n = omega arith in ap (range_with_len a) on ∙ count-on a n j e
 
--- answers are of the nodes that were asked
+-- the answers are those of the nodes that were asked
 pub nodes-answer : (all : List Asked) → nodes_of (answers_in all) ≡ nodes_in all
 nodes-answer [] = refl
 nodes-answer (asked ∷ all) = ap (λ nodes. asked.node ∷ nodes) (nodes-answer all)
 
--- whichever of two answers of one node it is, it is that node's
+-- either of two answers of one node is that node's
 either-node : (b : Bool) (x y : NodeAnswer) → y.node ≡ x.node → (if b then x else y).node ≡ x.node
 either-node true x y same = refl
 either-node false x y same = same
@@ -33,7 +33,7 @@ nodes-filled windows (answer ∷ answers) =
     either-node (is_some answer.line) answer (record { node = answer.node; line = standing_in answer.node windows }) refl
     in ap (λ node. node ∷ nodes_of (filled windows answers)) here ∙ ap (λ nodes. answer.node ∷ nodes) (nodes-filled windows answers)
 
--- a node that is looked at stays the same node
+-- a look at a node does not change which node it is
 pub same-nodes : (all : List Asked) (i : ℕ) (old new : Asked) → i < length all → new.node ≡ (get_or all i old).node
     → nodes_in (set all i new) ≡ nodes_in all
 same-nodes [] i old new within same = absurd (omega (arith, within))

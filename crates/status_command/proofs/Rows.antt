@@ -1,4 +1,4 @@
--- What is asked, answered and shown, by hand.
+-- What is asked, answered and shown: examples by hand.
 use Rattle.std.proofs.Common.{◌≡◌, true, false, None, Some, [], ◌∷◌, codes, refl}
 use Rattle.std.specs.Fmt.{digits}
 use Rattle.status_readings.specs.declared.minute.Sample.{Sample}
@@ -16,7 +16,7 @@ path-look : question_path Look (codes "run") 2 ≡ codes "run/look-2.sock"
 unfolding digits
 path-look = refl
 
--- a desk reads the word with its newline alone
+-- a desk reads the word only with its newline
 words-status : AreWordsOf Status (codes "status\n")
 words-status = refl
 
@@ -26,7 +26,7 @@ words_not-whole e = absurd (cc)
 words_not-look : ¬ AreWordsOf Look (codes "status\n")
 words_not-look e = absurd (cc)
 
--- no answer is there before its line ends
+-- an answer is there only once its line ends
 answered-line : is_answered Status (codes "node\n") ≡ true
 answered-line = refl
 
@@ -40,7 +40,7 @@ line-none = refl
 nodes-two : nodes_of (record { node = 4; line = None } ∷ record { node = 1; line = None } ∷ []) ≡ 4 ∷ 1 ∷ []
 nodes-two = refl
 
--- a line goes between two blocks, not in front of the first
+-- an empty line goes between two blocks, not in front of the first
 block-first : after_block (Blocks false) ≡ Blocks true
 block-first = refl
 

@@ -1,4 +1,4 @@
--- Bytes that are a text, or not.
+-- Bytes that are a text, or are not.
 use Rattle.std.proofs.Common.{◌≡◌, ℕ, Bool, true, false, List, [], refl}
 use Rattle.std.specs.Prelude.{if◌then◌else◌}
 use Rattle.std.specs.Str.{IsUtf8, is_utf8}

@@ -1,4 +1,4 @@
--- Nodes that have no room for a client, by hand.
+-- Nodes that have no room for a client: examples by hand.
 use Rattle.std.proofs.Common.{◌≡◌, true, false, None, Some, [], ◌∷◌, refl}
 use Rattle.node_texts.specs.declared.answers.NodeAnswer.{NodeAnswer}
 use Rattle.status_command.specs.Windows.{is_closed, filled}
@@ -17,6 +17,6 @@ said = record { node = 4; line = Some (record { node = 4; distance = 1; parent =
 abbrev silent : NodeAnswer
 silent = record { node = 5; line = None }
 
--- what a desk said stays; of whom no window is known, nothing is known
+-- what a desk said stays; a node with no window stays unknown
 stays : filled [] (said ∷ silent ∷ []) ≡ said ∷ silent ∷ []
 stays = refl

@@ -1,4 +1,4 @@
--- What a node answered, of the bytes that came from it.
+-- What a node answered, from the bytes that came.
 use Rattle.std.specs.Prelude.{ℕ, ◌==◌, if◌then◌else◌, List, take, Option, None, Some, option_and_then}
 use Rattle.std.specs.List.{position}
 use Rattle.std.specs.Option.{option_map}
@@ -17,7 +17,7 @@ line_said line = short_line_status line
 abbrev pub own_line : ℕ → StatusLine → Option StatusLine
 own_line node line = if line.node == node then Some line else None
 
--- the status line of this node, if it is the first line that came
+-- this node's status line, if it is the first line that came
 abbrev pub status_in : ℕ → List ℕ → Option StatusLine
 status_in node came = option_and_then (own_line node) (option_and_then line_said (first_line came))
 

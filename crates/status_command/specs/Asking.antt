@@ -12,7 +12,7 @@ use Rattle.status_command.specs.declared.question.Question.{Question}
 use Rattle.status_command.specs.declared.question.Question.TheVariants.{Status, Look}
 use Rattle.status_command.specs.declared.asking.Asked.{Asked}
 
--- the status line is asked for at the node's desk, the line for whoever looks at its window
+-- the status line is asked for at the node's desk, the line for lookers at its window
 abbrev pub question_path : Question → List ℕ → ℕ → List ℕ
 question_path Status folder node = desk_path folder node
 question_path Look folder node = look_path folder node
@@ -22,12 +22,12 @@ abbrev pub AreWordsOf : Question → List ℕ → Type 0
 AreWordsOf Status words = client_lines words ≡ line.Status ∷ []
 AreWordsOf Look words = words ≡ []
 
--- the most bytes of the line that is the answer
+-- the most bytes of the answer's line
 abbrev pub most_bytes : Question → ℕ
 most_bytes Status = 96
 most_bytes Look = 8192
 
--- the answer is there with its first line, or with more bytes than that may have
+-- the answer is there once its first line is, or more bytes than that may have
 abbrev pub is_answered : Question → List ℕ → Bool
 is_answered question came = is_some (first_line came) || nat_lt (most_bytes question) (length came)
 
@@ -40,7 +40,7 @@ abbrev pub answers_in : List Asked → List NodeAnswer
 answers_in [] = []
 answers_in (asked ∷ all) = answer_in asked.node asked.came.items ∷ answers_in all
 
--- of which nodes these are the answers
+-- the nodes of these answers
 abbrev pub nodes_of : List NodeAnswer → List ℕ
 nodes_of answers = map (λ answer. answer.node) answers
 

@@ -26,6 +26,6 @@ notice_text Output = codes "output Refused"
 abbrev pub notice_line : Notice → List ℕ
 notice_line notice = codes "tokentree: " ++ notice_text notice
 
--- the line of a check that could not look
+-- the line of a check that could not read the nodes
 abbrev pub unknown_line : Notice → List ℕ
 unknown_line notice = codes "tokentree UNKNOWN - " ++ notice_text notice

@@ -1,4 +1,4 @@
--- Why nodes are not asked, by what the system answered.
+-- Why nodes are not asked, by the system's answer.
 use Rattle.std.specs.Prelude.{List, ℕ}
 use Rattle.std.specs.Borrow.{Bor}
 use Rattle.std.specs.declared.io.ErrorKind.{ErrorKind}
@@ -6,7 +6,8 @@ use Rattle.std.specs.declared.io.ErrorKind.TheVariants as kind
 use Rattle.status_command.specs.declared.notice.Notice.{Notice}
 use Rattle.status_command.specs.declared.notice.Notice.TheVariants.{NoFolder, Forbidden, System, Memory}
 
--- why a folder is not read; so std names what a process without a descriptor left is answered
+-- why a folder cannot be read; std has the kind Uncategorized for a process that has no descriptor
+-- left
 abbrev pub why_no_nodes : ErrorKind → Bor (List ℕ) → Notice
 why_no_nodes kind.NotFound folder = NoFolder folder
 why_no_nodes kind.NotADirectory folder = NoFolder folder

@@ -11,7 +11,7 @@ use Rattle.status_command.specs.declared.status.Form.TheVariants as form
 use Rattle.status_command.specs.declared.screen.Screen.{Screen}
 use Rattle.status_command.specs.declared.screen.Screen.TheVariants.{Terminal, Blocks}
 
--- the answers as lines, or as JSON on a line of its own
+-- the answers as lines, or as JSON on one line
 abbrev pub IsTextOf : Form → List NodeAnswer → List ℕ → Type 0
 IsTextOf form.Lines answers text = text ≡ report_text answers
 IsTextOf form.Json answers text = IsStatusLine answers text
@@ -20,7 +20,7 @@ abbrev pub with_some : Option Sample → List Sample → List Sample
 with_some None samples = samples
 with_some (Some sample) samples = with_sample sample samples
 
--- what is kept of the last minute after a reading, in which perhaps not all nodes said their loans
+-- what is kept of the last minute after a reading; some nodes may not have said their loans
 abbrev pub minute_after : ℕ → List NodeLoans → List Sample → List Sample
 minute_after at loans samples = with_some (sample_of at loans) samples
 
@@ -29,7 +29,7 @@ abbrev pub after_block : Screen → Screen
 after_block (Blocks has_shown) = Blocks true
 after_block screen = screen
 
--- one picture is shown over the other
+-- each picture is shown over the one before
 abbrev pub is_in_place : Screen → Bool
 is_in_place (Terminal settings) = true
 is_in_place _ = false

@@ -24,16 +24,16 @@ without_room [] = []
 without_room (asked ∷ all) =
     if is_without_room asked then asked.node ∷ without_room all else without_room all
 
--- how the node stands that was asked, by its own line
+-- how the node stands, by its own line
 abbrev pub own_standing : Asked → Option StatusLine
 own_standing asked = option_and_then (own_line asked.node) (line_standing (text_in asked))
 
--- how a node stands, by the first of these that is of it
+-- how a node stands, by the first of these that is about it
 abbrev pub standing_in : ℕ → List Asked → Option StatusLine
 standing_in node [] = None
 standing_in node (asked ∷ all) = if asked.node == node then own_standing asked else standing_in node all
 
--- a node that gave a line at its desk is known by that; any other by what it says at its window
+-- the line at the desk counts if there is one; else what the node says at its window
 abbrev pub filled_one : List Asked → NodeAnswer → NodeAnswer
 filled_one windows answer =
     if is_some answer.line then answer

@@ -1,4 +1,4 @@
-//! What a node answered, of what came from it.
+//! What a node answered, from the bytes that came.
 ghost use Rattle.std.specs.Prelude.{◌≡◌, ◌==◌, IfOk, take};
 ghost use Rattle.std.specs.List.{position};
 ghost use Rattle.std.specs.Option.{option_map};
@@ -24,7 +24,8 @@ fn newline_at(came: &[u8]) -> Option<usize>
     came.iter().position(|byte| *byte == b'\n')
 }
 
-/// What a node answered: its status line, if that is the first line that came, and is this node's.
+/// What a node answered: its status line, if that is the first line that came and is about this
+/// node.
 pub fn answer(node: u16, came: &[u8]) -> NodeAnswer
     ensures { result ≡ answer_in node came.now }
 {
@@ -34,7 +35,7 @@ pub fn answer(node: u16, came: &[u8]) -> NodeAnswer
     }
 }
 
-/// The status line of this node, if it is the first line that came.
+/// This node's status line, if it is the first line that came.
 fn status_in(node: u16, came: &[u8]) -> Option<StatusLine>
     ensures { result ≡ status_in node came.now }
 {

@@ -1,4 +1,4 @@
-//! Nodes that are asked for a line, all at once.
+//! Asking nodes for a line, all at once.
 ghost use Rattle.std.specs.Prelude.{◌≡◌, ◌%◌, ◌==◌, IfOk, ◌++◌, OnOk};
 ghost use Rattle.status_command.specs.Asking.{nodes_in, is_answered};
 ghost use Rattle.status_command.specs.Windows.{is_without_room};
@@ -12,17 +12,17 @@ use std::net::Net;
 use std::time::{Clock, Duration};
 use std::{io, thread};
 
-/// How many milliseconds the rest between two looks at the nodes is that have not answered yet.
+/// How many milliseconds pass between two looks at the nodes that have not answered yet.
 const BETWEEN_LOOKS: u64 = 1;
 
-/// At every how many looks a node is asked again that closed the connection, as one does that has no
-/// room for a client.
+/// A node that closed the connection, as a node without room for a client does, is asked again
+/// every so many looks.
 const LOOKS_AGAIN: u32 = 100;
 
 /// How many bytes are read at once.
 const PIECE: usize = 1024;
 
-/// How it stands with a connection.
+/// The state of a connection.
 #[derive(Drop)]
 enum Contact {
     /// It is open, and the line has not come.
@@ -38,7 +38,7 @@ enum Contact {
 pub struct Asked {
     /// The node.
     pub node: u16,
-    /// What has come from it, by the last connection.
+    /// What has come over the last connection.
     pub came: Vec<u8>,
     question: Question,
     /// The path of its socket.
@@ -46,12 +46,12 @@ pub struct Asked {
     contact: Contact,
 }
 
-/// Asks each of the nodes, all at once, and waits for their lines, for as many milliseconds as there are
-/// looks at most. A node that closes the connection, as one does that has no room, is asked again. What
-/// came stands in the order of the nodes.
+/// Asks all the nodes at once, and waits for their lines, for at most `looks` looks of a
+/// millisecond. A node that closes the connection, as a node without room does, is asked again.
+/// The result is in the order of the nodes.
 ///
 /// # Errors
-/// What the system or memory has not to give, which is no node's silence.
+/// If the system or memory fails. A silent node is no error.
 pub fn ask_all<R: Net + Clock>(
     rt: &R,
     alloc: Global,
@@ -70,7 +70,7 @@ pub fn ask_all<R: Net + Clock>(
     Ok(all)
 }
 
-/// Waits until no line is waited for any more, for this many looks at most.
+/// Waits until no line is missing, for at most this many looks.
 fn wait_for_all<R: Net + Clock>(rt: &R, all: &mut [Asked], looks: u32) -> io::Result<()>
     ensures { nodes_in all.new ≡ nodes_in all.old }
 {
@@ -83,16 +83,16 @@ fn wait_for_all<R: Net + Clock>(rt: &R, all: &mut [Asked], looks: u32) -> io::Re
     Ok(())
 }
 
-/// Whether nodes that closed the connection are asked again at this look: at each hundredth, counted from
-/// the fiftieth, so that a node has time to close once more before the last look.
+/// Whether nodes that closed the connection are asked again at this look: at every hundredth, from
+/// the fiftieth on. So a node has time to close once more before the last look.
 fn is_time_again(look: u32) -> bool
     ensures { result ≡ (look % 100 == 49) }
 {
     look % LOOKS_AGAIN == LOOKS_AGAIN / 2 - 1
 }
 
-/// Looks at what came of each, and asks those again that closed the connection, if it is time to.
-/// Whether a line is still waited for.
+/// Looks at what came from each node, and, if it is time, asks those that closed the connection
+/// again. Returns whether a line is still missing.
 fn look_at_all<R: Net>(rt: &R, all: &mut [Asked], is_time: bool) -> io::Result<bool>
     ensures { nodes_in all.new ≡ nodes_in all.old }
 {
@@ -103,8 +103,8 @@ fn look_at_all<R: Net>(rt: &R, all: &mut [Asked], is_time: bool) -> io::Result<b
     Ok(waits)
 }
 
-/// Looks at what came of one, and asks it again, if it is time to and it closed the connection. Whether its
-/// line is still waited for.
+/// Looks at what came from one node, and asks it again if it is time and it closed the connection.
+/// Returns whether its line is still missing.
 fn look_at<R: Net>(rt: &R, asked: &mut Asked, is_time: bool) -> io::Result<bool>
     ensures { asked.new.node ≡ asked.old.node }
 {
@@ -135,12 +135,12 @@ fn ask<R: Net>(
     })
 }
 
-/// A connection that has asked; none if nobody takes it.
+/// A connection over which the question was sent; none if nobody takes it.
 fn connect<R: Net>(rt: &R, question: Question, path: &str) -> io::Result<Contact> {
     match UnixStream::connect(rt, path) {
         Ok(mut stream) => match stream.write_all(question.words()) {
             Ok(()) => Ok(Contact::Open(stream)),
-            // It was closed before the words were taken.
+            // It was closed before it took the words.
             Err(_) => Ok(Contact::Closed),
         },
         Err(error) => match error.kind() {
@@ -151,15 +151,16 @@ fn connect<R: Net>(rt: &R, question: Question, path: &str) -> io::Result<Contact
 }
 
 impl Asked {
-    /// Whether the node closed the last connection, and gave no line, as one does that has no room for a client.
+    /// Whether the node closed the last connection and gave no line, as a node without room for a
+    /// client does.
     pub fn is_closed(&self) -> bool
         ensures { result ≡ is_without_room self.now }
     {
         matches!(self.contact, Contact::Closed)
     }
 
-    /// Connects once more, if the node closed the connection. If nobody listens any more, no line is
-    /// waited for.
+    /// Connects again if the node closed the connection. If nobody listens any more, no line is
+    /// expected.
     fn ask_again<R: Net>(&mut self, rt: &R)
         ensures { self.new.node ≡ self.old.node }
     {
@@ -172,7 +173,7 @@ impl Asked {
         }
     }
 
-    /// Reads what came; whether the line is still waited for.
+    /// Reads what came. Returns whether the line is still missing.
     fn look(&mut self) -> io::Result<bool>
         ensures { self.new.node ≡ self.old.node }
     {
@@ -191,7 +192,7 @@ impl Asked {
         Ok(!matches!(self.contact, Contact::Done))
     }
 
-    /// Takes these bytes. No more are waited for if the answer is there.
+    /// Takes these bytes. Once the answer is there, no more are expected.
     fn take(&mut self, piece: &[u8]) -> io::Result<()>
         ensures node { self.new.node ≡ self.old.node }
         ensures came { OnOk result (self.new.came.items ≡ self.old.came.items ++ piece.now) }
@@ -204,7 +205,7 @@ impl Asked {
     }
 }
 
-/// Whether the answer is there: with the first line, or with more bytes than it may have.
+/// Whether the answer is there: its first line, or more bytes than that may have.
 fn is_answered(question: Question, came: &[u8]) -> bool
     ensures { result ≡ is_answered question came.now }
 {

@@ -16,14 +16,14 @@ use std::thread;
 use std::time::{Clock, Duration};
 use topology::Net;
 
-/// How many seconds are between two readings.
+/// How many seconds pass between two readings.
 const BETWEEN_READINGS: u64 = 1;
 
-/// Reads three times, a second apart, what each node of the network of a file answers in a folder, and
-/// prints a line with the verdict. Answers the status to end with: 0 to 3, as plugins of monitors do.
+/// Reads three times, a second apart, what each node of a file's network answers in a folder, and
+/// prints a line with the verdict. Returns the exit status: 0 to 3, as monitoring plugins do.
 ///
-/// What is found is [`verdict`]'s to say, and how bad it is
-/// [`Finding::severity`](status_readings::Finding::severity)'s.
+/// [`verdict`] says what is found, and [`Finding::severity`](status_readings::Finding::severity)
+/// how bad it is.
 pub fn run<R: std::net::Net + Files + Clock + Print + AllocGlobal>(
     rt: &R,
     folder: &str,
@@ -46,7 +46,7 @@ pub fn run<R: std::net::Net + Files + Clock + Print + AllocGlobal>(
 /// What is found.
 ///
 /// # Errors
-/// Why it cannot be looked at.
+/// Why the nodes cannot be read.
 fn checked<'a, R: std::net::Net + Files + Clock + AllocGlobal>(
     rt: &R,
     folder: &'a str,
@@ -63,7 +63,7 @@ fn checked<'a, R: std::net::Net + Files + Clock + AllocGlobal>(
     }
 }
 
-/// Sees that the folder can be read, and has no node that the network has not.
+/// Checks that the folder can be read, and has no node that is not in the network.
 fn see_folder<'a, R: Files + AllocGlobal>(
     rt: &R,
     folder: &'a str,

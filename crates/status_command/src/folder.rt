@@ -1,4 +1,4 @@
-//! Which nodes have a socket in a folder.
+//! The nodes that have a socket in a folder.
 ghost use Rattle.std.specs.Prelude.{◌≡◌, ◌≢◌, [], IfOk, IsSorted, nat_le};
 ghost use Rattle.std.specs.Ordering.{nat_cmp};
 ghost use Rattle.std.specs.List.{find};
@@ -45,7 +45,7 @@ fn copied(alloc: Global, nodes: &[u16]) -> io::Result<Vec<u16>>
     Ok(nodes.iter().copied().collect(alloc)?)
 }
 
-/// Why the nodes of a folder are not known, by what the system answered.
+/// Why the nodes of a folder are not known, by the system's answer.
 pub fn why_no_nodes<'a>(kind: ErrorKind, folder: &'a str) -> Notice<'a>
     ensures { result ≡ why_no_nodes kind folder.entry }
 {
@@ -57,7 +57,7 @@ pub fn why_no_nodes<'a>(kind: ErrorKind, folder: &'a str) -> Notice<'a>
     }
 }
 
-/// The nodes that have a socket in a folder, by ascending id; or what the system answers.
+/// The nodes that have a socket in a folder, by ascending id; or the system's error.
 pub fn sockets_in<R: Files + AllocGlobal>(
     rt: &R,
     alloc: Global,
@@ -78,7 +78,7 @@ fn add_sockets<R: Files + AllocGlobal>(
     nodes: &mut Vec<u16>,
 ) -> io::Result<()> {
     for entry in fs::read_dir(&rt, folder)? {
-        // What has a name that is no text is no desk's.
+        // A name that is no text is not a desk's.
         let Ok(entry) = entry else {
             continue;
         };
@@ -89,8 +89,8 @@ fn add_sockets<R: Files + AllocGlobal>(
     Ok(())
 }
 
-/// Whether a folder has neither the socket nor the state of a node, so that it never ran there. If that
-/// cannot be seen, it may have.
+/// Whether a folder has neither the socket nor the state of a node, so that it never ran there. If
+/// that cannot be seen, it may have run.
 pub fn was_never<R: Files + AllocGlobal>(rt: &R, folder: &str, node: u16) -> bool {
     match NodePaths::new(rt.alloc(), folder, node) {
         Ok(paths) => {
@@ -101,7 +101,7 @@ pub fn was_never<R: Files + AllocGlobal>(rt: &R, folder: &str, node: u16) -> boo
     }
 }
 
-/// The first node of these that a network of so many nodes does not have.
+/// The first of these nodes that a network of `count` nodes does not have.
 pub fn first_beyond(nodes: &[u16], count: u16) -> Option<u16>
     ensures { result ≡ find (λ node. nat_le count node) nodes.now }
 {

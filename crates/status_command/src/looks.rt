@@ -1,4 +1,4 @@
-//! `status --premises` and `status --links`: what nodes say at their sockets for whoever looks.
+//! `status --premises` and `status --links`: what nodes say at their sockets for lookers.
 ghost use Rattle.std.specs.Prelude.{◌≡◌, ◌≤◌, IfOk};
 ghost use Rattle.status_command.specs.Asking.{text_or_empty, text_in, loans_in};
 
@@ -15,17 +15,17 @@ use std::net::Net;
 use std::rt::Files;
 use std::time::Clock;
 
-/// What is shown of the nodes' lines for whoever looks.
+/// What to show of the nodes' lines for lookers.
 #[derive(Clone, Copy, Debug, PartialEq, Eq, Drop)]
 pub enum Part {
-    /// How long the longest times between two turns were.
+    /// The longest times between two turns.
     Premises,
     /// How each link stands.
     Links,
 }
 
-/// Prints this part of what the nodes say to whoever looks. Answers the status to end with: 1 if a node
-/// gave no answer, or nothing can be shown.
+/// Prints this part of what the nodes say to lookers. Returns the exit status: 1 if a node gave no
+/// answer, or nothing can be shown.
 pub fn run<R: Net + Files + Clock + Print + Eprint + AllocGlobal>(
     rt: &R,
     folder: &str,
@@ -41,7 +41,7 @@ pub fn run<R: Net + Files + Clock + Print + Eprint + AllocGlobal>(
     }
 }
 
-/// Asks, and prints; whether each node answered.
+/// Asks and prints. Returns whether each node answered.
 fn print_part<'a, R: Net + Files + Clock + Print + AllocGlobal>(
     rt: &R,
     folder: &'a str,
@@ -63,7 +63,7 @@ fn print_part<'a, R: Net + Files + Clock + Print + AllocGlobal>(
     }
 }
 
-/// Prints what came; whether each node answered.
+/// Prints what came. Returns whether each node answered.
 fn print_said<'a, R: Print + AllocGlobal>(
     rt: &R,
     all: &[Asked],

@@ -1,10 +1,10 @@
-//! What is reported on standard error.
+//! The lines on standard error.
 ghost use Rattle.std.specs.Prelude.{◌≡◌};
 
 use network_file::NetworkFault;
 use std::fmt;
 
-/// Why nothing is shown of the nodes. Printed, it is what the message says after the program's name.
+/// Why nothing is shown of the nodes. Printed, it is the message without the program's name.
 #[derive(Clone, Copy, Debug, PartialEq, Eq, Drop)]
 pub enum Notice<'a> {
     /// There is no such folder.
@@ -18,7 +18,7 @@ pub enum Notice<'a> {
         folder: &'a str,
         node: u16,
     },
-    /// The folder has a node that the network of a file has not.
+    /// The folder has a node that is not in the file's network.
     OtherNetwork {
         file: &'a str,
         folder: &'a str,
@@ -29,7 +29,7 @@ pub enum Notice<'a> {
         file: &'a str,
         fault: NetworkFault,
     },
-    /// `--every` is no time that a watch takes.
+    /// A watch does not accept this time for `--every`.
     NoInterval,
     /// The system gives no descriptor or no clock.
     System,
@@ -95,7 +95,7 @@ impl fmt::Display for NoticeLine<'_> {
     }
 }
 
-/// Reports why nothing is shown, and answers the status to end with.
+/// Reports why nothing is shown, and returns the exit status.
 pub fn told<R: Eprint>(rt: &R, notice: Notice<'_>) -> u8
     ensures { result ≡ 1 }
 {
@@ -103,7 +103,7 @@ pub fn told<R: Eprint>(rt: &R, notice: Notice<'_>) -> u8
     1
 }
 
-/// Reports why a command line is refused, and answers the status to end with.
+/// Reports why a command line is invalid, and returns the exit status.
 pub fn refused<R: Eprint>(rt: &R, notice: Notice<'_>) -> u8
     ensures { result ≡ 2 }
 {
@@ -111,7 +111,7 @@ pub fn refused<R: Eprint>(rt: &R, notice: Notice<'_>) -> u8
     2
 }
 
-/// The line of a check that could not look, without its newline.
+/// The line of a check that could not read the nodes, without its newline.
 #[derive(Drop)]
 pub struct UnknownLine<'a>(pub Notice<'a>);
 

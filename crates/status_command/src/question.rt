@@ -8,7 +8,7 @@ use node_texts::MOST_STATUS_BYTES;
 use node_texts::desk_file::{desk_path, look_path};
 use std::alloc::{AllocError, Global};
 
-/// The most bytes of a line for whoever looks. With 63 neighbours and the greatest numbers it has fewer.
+/// The most bytes of a line for lookers. With 63 neighbours and the greatest numbers it has fewer.
 pub const MOST_LOOK_BYTES: usize = 8192;
 
 /// What a node is asked.
@@ -16,7 +16,7 @@ pub const MOST_LOOK_BYTES: usize = 8192;
 pub enum Question {
     /// Its status line, at its desk.
     Status,
-    /// Its line for whoever looks.
+    /// Its line for lookers, at its window.
     Look,
 }
 
@@ -34,7 +34,7 @@ impl Question {
         }
     }
 
-    /// What is written there.
+    /// What to write there.
     pub fn words(&self) -> &'static [u8]
         ensures { AreWordsOf self.now result.now }
     {

@@ -1,4 +1,4 @@
-//! Where a watch is shown: in its place on a terminal, or as blocks one after the other.
+//! How a watch is shown: in place on a terminal, or as one block after the other.
 ghost use Rattle.std.specs.Prelude.{◌≡◌, ◌==◌, ◌||◌, true, false, OnOk};
 ghost use Rattle.status_command.specs.declared.screen.End.TheVariants.{NotYet};
 ghost use Rattle.status_command.specs.declared.screen.Screen.TheVariants.{Lines};
@@ -24,31 +24,31 @@ pub enum End {
     Asked,
 }
 
-/// What is written before the first picture: another page, no cursor, and long lines are cut.
+/// Written before the first picture: another page, no cursor, and long lines are cut.
 const BEGIN: &str = "\x1b[?1049h\x1b[?25l\x1b[?7l";
 
-/// What is written after the last one.
+/// Written after the last picture.
 const END: &str = "\x1b[?7h\x1b[?25h\x1b[?1049l";
 
 /// Where a watch is shown.
 #[derive(Drop)]
 pub enum Screen {
-    /// On a terminal, whose settings were these.
+    /// On a terminal that had these settings.
     Terminal(String),
-    /// Elsewhere; whether a block was printed, after which an empty line comes.
+    /// Elsewhere, as blocks; whether one was printed, so that an empty line comes next.
     Blocks(bool),
-    /// Elsewhere, a line a time.
+    /// Elsewhere, as one line a reading.
     Lines,
 }
 
 impl Screen {
-    /// The terminal, if standard input and output are one and lines are to be shown; from then on keys
+    /// The terminal, if standard input and output are one and the form is lines. From then on keys
     /// are not echoed, and Ctrl-C is a key.
     pub fn begin<R: Files<File = File> + Print + Processes + AllocGlobal>(
         rt: &R,
         form: Form,
     ) -> Screen
-        // JSON is for programs, wherever it goes.
+        // JSON is for programs, also on a terminal.
         ensures { form ≡ Json → result ≡ Lines }
     {
         if form == Form::Json {
@@ -66,7 +66,7 @@ impl Screen {
     /// Shows a block.
     ///
     /// # Errors
-    /// If the output does not take it, or memory runs out.
+    /// If the output fails, or memory runs out.
     pub fn show<R: Print + AllocGlobal>(&mut self, rt: &R, block: &str) -> io::Result<()>
         ensures { OnOk result (self.new ≡ after_block self.old) }
     {
@@ -84,9 +84,9 @@ impl Screen {
         Ok(())
     }
 
-    /// Rests for so many milliseconds, or until somebody types that it is to end.
+    /// Rests for so many milliseconds, or until somebody types a key that ends the watch.
     pub fn rest<R: Clock + Input>(&self, rt: &R, millis: u64) -> End
-        // Keys are read of a terminal alone.
+        // Keys are read only from a terminal.
         ensures { is_in_place self.now ≡ false → result ≡ NotYet }
     {
         match self {
@@ -115,8 +115,9 @@ fn is_terminal<R: Files<File = File>>(rt: &R, path: &str) -> bool {
     }
 }
 
-/// The settings of the terminal that is standard input, which gets those of a watch: a key is read when it
-/// is typed, and reading ends after a tenth of a second without one. None if it is no terminal.
+/// The settings of the terminal on standard input, which now gets those of a watch: a key is read
+/// when it is typed, and a read ends after a tenth of a second without one. None if it is no
+/// terminal.
 fn settings<R: Processes>(rt: &R, alloc: Global) -> Option<String> {
     let before = stty(rt, alloc, &["-g"])?;
     let watching = ["-icanon", "-isig", "-echo", "min", "0", "time", "1"];
@@ -124,7 +125,7 @@ fn settings<R: Processes>(rt: &R, alloc: Global) -> Option<String> {
     Some(before)
 }
 
-/// What `stty` prints, on the terminal that is standard input; none if it fails.
+/// What `stty` prints about the terminal on standard input; none if it fails.
 fn stty<R: Processes>(rt: &R, alloc: Global, words: &[&str]) -> Option<String> {
     let output = stty_output(rt, alloc, words).ok()?;
     let text = str::from_utf8(output.as_slice()).ok()?;
@@ -144,8 +145,8 @@ fn stty_output<R: Processes>(rt: &R, alloc: Global, words: &[&str]) -> io::Resul
     }
 }
 
-/// A block that is written over the one before: from the top left, each line cleared to its end, and what
-/// is under it.
+/// A block written over the one before: from the top left, with each line, and all below the
+/// block, cleared.
 fn in_place(alloc: Global, block: &str) -> Result<String, AllocError> {
     let mut text = String::from_str(alloc, "\x1b[H")?;
     for line in block.lines() {
@@ -155,7 +156,7 @@ fn in_place(alloc: Global, block: &str) -> Result<String, AllocError> {
     Ok(text)
 }
 
-/// Waits until a key is typed that ends a watch, for so long at most.
+/// Waits until somebody types a key that ends a watch, at most for this long.
 fn typed_end<R: Clock + Input>(rt: &R, rest: Duration) -> End {
     let Ok(start) = Instant::now(rt) else {
         return End::Asked;
@@ -173,7 +174,7 @@ fn typed_end<R: Clock + Input>(rt: &R, rest: Duration) -> End {
     End::NotYet
 }
 
-/// Whether a key was typed that ends a watch; or the terminal is gone.
+/// Whether a key that ends a watch was typed, or the terminal is gone.
 fn has_end_key<R: Input>(rt: &R) -> bool {
     let mut keys = [0u8; 64];
     match rt.reader().read(&mut keys) {

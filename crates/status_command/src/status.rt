@@ -1,4 +1,4 @@
-//! `status`: how nodes stand.
+//! `status`: shows how nodes stand.
 ghost use Rattle.std.specs.Prelude.{◌≡◌, ◌≤◌, IfOk, string_bytes};
 ghost use Rattle.status_command.specs.Asking.{nodes_of};
 ghost use Rattle.status_command.specs.Shown.{IsTextOf};
@@ -18,13 +18,13 @@ use std::net::Net;
 use std::rt::Files;
 use std::time::Clock;
 
-/// For how many milliseconds a node's line is waited for.
+/// How many milliseconds a node has to send its line.
 pub const WAIT: u32 = 1000;
 
 /// The status if a node gave no answer.
 pub const NO_ANSWER: u8 = 1;
 
-/// In which form answers are printed.
+/// The form in which answers are printed.
 #[derive(Clone, Copy, Debug, PartialEq, Eq, Drop)]
 pub enum Form {
     /// A line for each node, and their counts.
@@ -33,14 +33,14 @@ pub enum Form {
     Json,
 }
 
-/// Prints the status line of each of these nodes, or of each that has a socket in the folder if
-/// none is named, by ascending id; and how many of them are privileged, and lend. A node that closes the
-/// connection, as one does that has no room, is asked again, and then at its socket for whoever looks. One
-/// that gives no line within a second is reported to have given none. Answers the status to end with: 1 if a
-/// node gave none, or there is none.
+/// Prints the status line of each of these nodes, or, if none is named, of each that has a socket
+/// in the folder, by ascending id; and how many of them are privileged, and how many lend. A node
+/// that closes the connection, as a node without room does, is asked again, and then at its socket
+/// for lookers. A node that gives no line within a second is reported as silent. Returns the exit
+/// status: 1 if a node gave no line, or there is no node.
 ///
-/// What the nodes answer no contract can say; how their lines are read, and what is printed of
-/// them, [`StatusLine::read`](node_texts::StatusLine::read) and [`report`] say.
+/// No contract can say what the nodes answer. [`StatusLine::read`](node_texts::StatusLine::read)
+/// says how their lines are read, and [`report`] what is printed of them.
 pub fn run<R: Net + Files + Clock + Print + Eprint + AllocGlobal>(
     rt: &R,
     folder: &str,
@@ -56,7 +56,7 @@ pub fn run<R: Net + Files + Clock + Print + Eprint + AllocGlobal>(
     }
 }
 
-/// Asks, and prints; whether each node answered.
+/// Asks and prints. Returns whether each node answered.
 fn print_status<'a, R: Net + Files + Clock + Print + Eprint + AllocGlobal>(
     rt: &R,
     folder: &'a str,
@@ -70,11 +70,11 @@ fn print_status<'a, R: Net + Files + Clock + Print + Eprint + AllocGlobal>(
     }
 }
 
-/// What the nodes answer within so many milliseconds, in their order. A node that has no room for a client is
-/// known by what it says at its socket for whoever looks.
+/// What the nodes answer within so many milliseconds, in their order. For a node that has no room
+/// for a client, what it says at its socket for lookers counts.
 ///
 /// # Errors
-/// What the system or memory has not to give.
+/// If the system or memory fails.
 pub fn answers_of<R: Net + Clock>(
     rt: &R,
     alloc: Global,
@@ -90,7 +90,7 @@ pub fn answers_of<R: Net + Clock>(
     Ok(answers_with(alloc, desks.as_slice(), windows.as_slice())?)
 }
 
-/// Why nodes are not asked, by what the system answered.
+/// Why nodes are not asked, by the system's answer.
 pub fn why_not_asked<'a>(kind: ErrorKind) -> Notice<'a>
     ensures { result ≡ why_not_asked kind }
 {
@@ -100,7 +100,7 @@ pub fn why_not_asked<'a>(kind: ErrorKind) -> Notice<'a>
     }
 }
 
-/// Prints what the nodes answered; whether each did.
+/// Prints what the nodes answered. Returns whether each did.
 fn print_answers<'a, R: Files + Print + Eprint + AllocGlobal>(
     rt: &R,
     folder: &'a str,
@@ -136,7 +136,7 @@ pub fn text_of(alloc: Global, answers: &[NodeAnswer], form: Form) -> Result<Stri
     }
 }
 
-/// Reports the nodes that gave no answer, and of which the folder has no file: they never ran there.
+/// Reports the nodes that gave no answer and have no file in the folder: they never ran there.
 fn tell_of_absent<R: Files + Eprint + AllocGlobal>(rt: &R, folder: &str, answers: &[NodeAnswer]) {
     for answer in answers {
         let node = answer.node;

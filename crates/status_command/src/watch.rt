@@ -1,4 +1,4 @@
-//! `status --watch`: how nodes stand, again and again.
+//! `status --watch`: shows how nodes stand, again and again.
 ghost use Rattle.std.specs.Prelude.{◌≡◌, ◌≤◌, IfOk, OnOk, string_bytes};
 ghost use Rattle.status_readings.specs.Minute.{rates_of};
 ghost use Rattle.status_readings.specs.Picture.{picture_text};
@@ -22,25 +22,25 @@ use std::process::Processes;
 use std::rt::Files;
 use std::time::{Clock, Instant};
 
-/// For how many milliseconds a node's line is waited for.
+/// How many milliseconds a node has to send its line.
 const WAIT: u32 = 300;
 
-/// What is watched, and how.
+/// What to watch, and how.
 #[derive(Clone, Copy, Debug)]
 pub struct Watch<'a> {
     /// The folder of the nodes' sockets.
     pub folder: &'a str,
     /// The nodes; none for those that have a socket there.
     pub nodes: &'a [u16],
-    /// How many milliseconds are between two readings.
+    /// How many milliseconds pass between two readings.
     pub every: u64,
-    /// In which form they are shown.
+    /// The form in which they are shown.
     pub form: Form,
 }
 
-/// Shows how nodes stand again and again: on a terminal in its place, until Ctrl-C or `q` is typed;
-/// elsewhere one after the other, with an empty line between, until the output takes no more. Answers the
-/// status to end with.
+/// Shows how nodes stand again and again: in place on a terminal, until Ctrl-C or `q` is typed;
+/// elsewhere one after the other, with an empty line between, until the output fails. Returns the
+/// exit status.
 pub fn run<R: Net + Files<File = File> + Clock + Input + Print + Eprint + Processes + AllocGlobal>(
     rt: &R,
     watch: &Watch,
@@ -56,7 +56,7 @@ pub fn run<R: Net + Files<File = File> + Clock + Input + Print + Eprint + Proces
     }
 }
 
-/// Shows one reading after the other until somebody ends it.
+/// Shows one reading after the other until somebody ends the watch.
 fn show_all<'a, R: Net + Files + Clock + Input + Print + AllocGlobal>(
     rt: &R,
     watch: &Watch<'a>,
@@ -125,7 +125,7 @@ fn block<R: Net + Clock>(
     Ok(picture_at(alloc, at, answers.as_slice(), loans.as_slice(), minute)?)
 }
 
-/// The picture of a reading at this time, in milliseconds, with the loans of the minute up to it.
+/// The picture of a reading at this time in milliseconds, with the loans of the minute before.
 fn picture_at(
     alloc: Global,
     at: u64,

@@ -1,4 +1,4 @@
-//! Nodes that have no room for a client: how they stand is read at their sockets for whoever looks.
+//! Nodes that have no room for a client: their sockets for lookers show how they stand.
 ghost use Rattle.std.specs.Prelude.{◌≡◌, ◌==◌, IfOk};
 ghost use Rattle.status_command.specs.Windows.{is_without_room, without_room, own_standing, standing_in};
 ghost use Rattle.status_command.specs.Asking.{nodes_in, nodes_of, answers_in};
@@ -27,7 +27,7 @@ pub fn without_room(alloc: Global, all: &[Asked]) -> Result<Vec<u16>, AllocError
     Ok(nodes)
 }
 
-/// What each node said at its desk; of one that gave no line there, what it says at its window.
+/// What each node said at its desk, or, if it gave no line there, at its window.
 ///
 /// # Errors
 /// If memory runs out.
@@ -44,7 +44,7 @@ pub fn answers_with(
     Ok(all)
 }
 
-/// The answers; of a node that gave no line, what it says at its window.
+/// The answers; for a node that gave no line, what it says at its window.
 ///
 /// # Errors
 /// If memory runs out.
@@ -62,7 +62,7 @@ fn filled(
     Ok(all)
 }
 
-/// The answer; if it has no line, with what the node says at its window.
+/// The answer; if it has no line, what the node says at its window.
 fn filled_one(
     alloc: Global,
     answer: NodeAnswer,
@@ -79,7 +79,7 @@ fn filled_one(
     })
 }
 
-/// How a node stands by what it says at its window, if it is one of these.
+/// How a node stands, by what it says at its window, if it is one of these.
 fn standing_in(
     alloc: Global,
     node: u16,
@@ -95,7 +95,7 @@ fn standing_in(
     Ok(None)
 }
 
-/// How the node stands that was asked, by its own line.
+/// How the node stands, by its own line.
 fn own_standing(alloc: Global, asked: &Asked) -> Result<Option<StatusLine>, AllocError>
     ensures { IfOk result (λ said. said ≡ own_standing asked.now) }
 {

@@ -1,4 +1,4 @@
--- Lines of junk that are written one after the other.
+-- Writing lines of junk, one after the other.
 use Rattle.std.proofs.Common.{◌≡◌, ◌<◌, ◌+◌, ◌-◌, ◌∙◌, ap, sym, arith, ℕ, suc, List, ◌++◌, Option, Some, None, option_map, codes, append_assoc}
 use Rattle.rand_pcg.specs.Lcg.{Lcg}
 use Rattle.byte_streams.specs.Streams.{Takes}

@@ -1,4 +1,4 @@
--- The data of one node more.
+-- The data of one more node.
 use Rattle.std.proofs.Common.{◌≡◌, ◌∙◌, ℕ, zero, suc, ◌+◌, List, [], ◌∷◌, ◌++◌, map, refl, ap, arith}
 use Rattle.std.specs.List.{range_with_len}
 use Rattle.std.proofs.lemmas.List.{map-append}
@@ -12,7 +12,7 @@ listed-from f a (suc n) =
     let same : a + 1 + n ≡ a + suc n = omega arith in
     ap (λ ds. f a ∷ ds) (rw same at (listed-from f (a + 1) n))
 
--- the data of n nodes, and then of the next too
+-- the data of n nodes, and then of the next
 pub listed-more : (f : ℕ → Data) (n : ℕ) (old new : List Value) (v : Value)
     → map view old ≡ map f (range_with_len 0 n) → new ≡ old ++ v ∷ [] → view v ≡ f n
     → map view new ≡ map f (range_with_len 0 (n + 1))

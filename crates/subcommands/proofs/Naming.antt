@@ -1,4 +1,4 @@
--- The text of a network that is named by its kind.
+-- The text of a network that its kind names.
 use Rattle.std.proofs.Common.{◌≡◌, ℕ, List, String, Global, Result, Ok, Err, IfOk, string_bytes, subst}
 use Rattle.topology.specs.Network.{Network}
 use Rattle.topology.specs.Accept.{IsAccepted}
@@ -8,7 +8,7 @@ use Rattle.network_kinds.specs.Made.{values_for}
 use Rattle.subcommands.specs.declared.network.Wanted.{Wanted}
 use Rattle.subcommands.specs.Named.{IsTextOf}
 
--- a text of the values of the network of a kind reads as that network
+-- a text of the values of a kind's network reads as that network
 pub named : (w : Wanted) (text : List ℕ) (net : Network)
     → IsAccepted (values_for w.kind w.nodes w.root w.capacity w.lease) net
     → read_text text ≡ Ok (values_of net) → IsTextOf w text

@@ -1,5 +1,4 @@
--- Small examples of the texts of `bound` and `measure`, and of files that are cut, and some that
--- look like them and are none.
+-- Small examples of the texts of `bound` and `measure` and of cut files, with some that fail.
 use Rattle.std.proofs.Common.{◌≡◌, ◌≢◌, ℕ, ◌++◌, true, false, IsTrue, [], ◌∷◌, Some, None, codes, decimal, refl, arith}
 use Rattle.std.proofs.lemmas.Fmt.{decimal_digit}
 use Rattle.std.proofs.lemmas.List.Elements.{All-head, All-tail}
@@ -45,12 +44,12 @@ eight-is = decimal_digit 8 (omega arith)
 
 -- ---- `bound`
 
--- of two nodes: the counter's modulus is 2 * 1 + 3, the ring's 6 * (2 - 1) + 1, the bound 69
+-- for two nodes the counter's modulus is 2 * 1 + 3, the ring's 6 * (2 - 1) + 1, and the bound 69
 prints-bound : bound_text two_nodes
     ≡ codes "nodes 2\nedges 1\ncapacity 1\ncounter 5\nring 7\ndistances 0 1\nparents none 0\nsweeps " ++ (decimal 69 ++ codes "\n")
 prints-bound = rw (zero-is, one-is, two-is, five-is, seven-is)
 
--- the sharper bound has a line of its own, if it is asked for
+-- the sharper bound has its own line, if it is asked for
 prints-sharp : shown_text two_nodes true
     ≡ bound_text two_nodes ++ (codes "sharp " ++ (decimal 35 ++ codes "\n"))
 prints-sharp = refl
@@ -69,7 +68,7 @@ prints-nodes = rw (zero-is, one-is)
 abbrev recovery : ℕ → ℕ → ℕ → Recovery
 recovery seed sweeps seen = record { seed = seed; sweeps = sweeps; seen = seen }
 
--- a run of eight sweeps served after five; one that had seven is none that has served by eight
+-- a run of eight sweeps served after five; a run of only seven has not served by eight
 served : has_served (recovery 4 5 8) 8 ≡ true
 served = refl
 
@@ -85,7 +84,7 @@ prints-run = rw (four-is, five-is)
 prints-unserved : run_line 8 (recovery 4 5 7) ≡ codes "seed 4 sweeps none\n"
 prints-unserved = rw four-is
 
--- in a table each run has its line; without one those alone that have not served
+-- in a table each run has a line; without one, only runs that have not served
 prints-table : run_lines 8 true (recovery 4 5 8 ∷ recovery 5 2 7 ∷ []) ≡ codes "seed 4 sweeps 5\nseed 5 sweeps none\n"
 prints-table = rw (four-is, five-is)
 
@@ -109,7 +108,7 @@ all_not-served h =
     let P : Recovery → Type 0 = λ r. IsTrue (has_served r 8) in
     grind (arith, All-head P (recovery 5 2 7) [] (All-tail P (recovery 4 5 8) (recovery 5 2 7 ∷ []) h))
 
--- a plan of two runs is not met by one, nor by runs of other seeds
+-- one run does not meet a plan of two, nor do runs of other seeds
 abbrev two_runs : Plan
 two_runs = record { runs = 2; seed = 4; scheduler = scheduler.Rounds; table = false; progress = false }
 

@@ -13,7 +13,7 @@ use Rattle.subcommands.specs.declared.measure.Plan.{Plan}
 
 module _ {E : Type 0} (net : Network) (scheduler : Scheduler) (seed : ℕ) (answers : ℕ → Result Recovery E → Type 0)
     (each : (i : ℕ) (r : Recovery) → answers i (Ok r) → IsRunOf net scheduler (seed + i) r) where
-  -- n runs from the one with the number a on
+  -- n runs, from number a on
   runs-from : (a n : ℕ) (runs : List Recovery) → AllZip answers (range_with_len a n) (map Ok runs)
       → AreRunsFrom net scheduler (seed + a) runs × (length runs ≡ n)
   runs-from a zero [] all = (tt, refl)
@@ -24,7 +24,7 @@ module _ {E : Type 0} (net : Network) (scheduler : Scheduler) (seed : ℕ) (answ
       let next : seed + (a + 1) ≡ seed + a + 1 = omega arith in
       ((each a r all.0, subst (λ k. AreRunsFrom net scheduler k rs) next rest.0), ap suc rest.1)
 
--- what was gathered are the runs of the plan, or one of them was refused
+-- the gathered runs are those of the plan, or one of them was refused
 pub runs-of : {E : Type 0} (net : Network) (plan : Plan) (answers : ℕ → Result Recovery E → Type 0)
     → ((i : ℕ) (r : Recovery) → answers i (Ok r) → IsRunOf net plan.scheduler (plan.seed + i) r)
     → (numbers : List ℕ) (gathered : List (Result Recovery E)) (v : Result (Vec Recovery Global) E)

@@ -1,4 +1,4 @@
--- The words of one node more.
+-- The words of one more node.
 use Rattle.std.proofs.Common.{◌≡◌, ◌∙◌, ℕ, zero, suc, ◌+◌, List, ◌++◌, map, refl, ap, arith, codes, append_assoc, append-nil, sym}
 use Rattle.std.specs.List.{range_with_len}
 use Rattle.subcommands.specs.Bound.{spaced}
@@ -10,7 +10,7 @@ spaced-from word_of a (suc n) =
     ap (λ bytes. codes " " ++ (word_of a ++ bytes)) (rw same at (spaced-from word_of (a + 1) n))
     ∙ ap (λ bytes. codes " " ++ bytes) (sym (append_assoc (word_of a) (spaced (map word_of (range_with_len (a + 1) n))) (codes " " ++ word_of (a + suc n))))
 
--- what stands after a start and the words of n nodes, and then after the next word
+-- a start, then the words of n nodes, then the next word
 pub spaced-more : (word_of : ℕ → List ℕ) (n : ℕ) (start old new : List ℕ) → old ≡ start ++ spaced (map word_of (range_with_len 0 n)) → new ≡ old ++ (codes " " ++ word_of n)
     → new ≡ start ++ spaced (map word_of (range_with_len 0 (n + 1)))
 spaced-more word_of n start old new so_far now =

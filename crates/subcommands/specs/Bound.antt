@@ -1,5 +1,5 @@
--- The text that `bound` prints of a network: eight lines, or nine, and perhaps three of times, with
--- one space between words.
+-- The text that `bound` prints for a network: eight lines or nine, and perhaps three of times,
+-- with one space between words.
 use Rattle.std.specs.Prelude.{ℕ, Bool, if◌then◌else◌, List, [], ◌∷◌, ◌++◌, length, map, Option, Some, None, codes, decimal}
 use Rattle.std.specs.List.{range_with_len}
 use Rattle.topology.specs.Network.{Network, counter_of, ring_of, bound_of}
@@ -17,7 +17,7 @@ abbrev pub spaced : List (List ℕ) → List ℕ
 spaced [] = []
 spaced (word ∷ words) = codes " " ++ (word ++ spaced words)
 
--- a line of a word, and of a word for each of n nodes, by ascending id
+-- a line of a word, and then a word for each of n nodes, by ascending id
 abbrev pub nodes_line : List ℕ → ℕ → (ℕ → List ℕ) → List ℕ
 nodes_line word n word_of = word ++ (spaced (map word_of (range_with_len 0 n)) ++ codes "\n")
 

@@ -1,4 +1,5 @@
--- What `bound --json` prints of a network, as data. An object has its members in the order of their names.
+-- What `bound --json` prints for a network, as data. An object's members stand in the order of
+-- their names.
 use Rattle.std.specs.Prelude.{ℕ, zero, suc, Bool, if◌then◌else◌, List, [], ◌∷◌, ◌++◌, length, map, Option, Some, None, codes}
 use Rattle.std.specs.List.{range_with_len}
 use Rattle.serde_json.specs.Data.{Data, Members, null, number, unsigned, array, object, no_members, put}
@@ -17,14 +18,14 @@ abbrev pub or_null : Option ℕ → Data
 or_null None = null
 or_null (Some id) = count id
 
--- of so many nodes, by ascending id
+-- the distances of the first nodes, by ascending id
 abbrev pub distances_data : Network → ℕ → List Data
 distances_data net nodes = map (λ v. count (distance_of net v)) (range_with_len 0 nodes)
 
 abbrev pub parents_data : Network → ℕ → List Data
 parents_data net nodes = map (λ v. or_null (parent_of net v)) (range_with_len 0 nodes)
 
--- the numbers of the first five lines, beside other members
+-- the numbers of the first five lines, added to other members
 abbrev pub shape_members : Network → Members → Members
 shape_members net others =
     put (codes "ring") (count (ring_of net))

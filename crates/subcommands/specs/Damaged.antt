@@ -1,4 +1,4 @@
--- What the commands that damage files write: it is drawn from a generator with a seed.
+-- What the commands that damage files write, drawn from a generator with a seed.
 use Rattle.std.specs.Prelude.{ℕ, zero, suc, List, [], ◌++◌, codes}
 use Rattle.rand_core.specs.Pcg32Seed.{pcg32_seed}
 use Rattle.rand_pcg.specs.Lcg.{Lcg}

@@ -10,7 +10,7 @@ use Rattle.experiments.specs.Summary.{IsSummaryOf}
 use Rattle.subcommands.specs.Bound.{number_line}
 use Rattle.subcommands.specs.declared.measure.Plan.{Plan}
 
--- a run had as many sweeps as the bound says, and served after that many of them
+-- a run had as many sweeps as the bound says, and served by then
 abbrev pub has_served : Recovery → ℕ → Bool
 has_served r bound = nat_le bound r.seen && nat_le r.sweeps bound
 
@@ -20,7 +20,7 @@ run_line bound r =
     codes "seed " ++ (decimal r.seed
     ++ (codes " sweeps " ++ ((if has_served r bound then decimal r.sweeps else codes "none") ++ codes "\n")))
 
--- the line of a run in a table; without one, of a run that has not served
+-- the line of a run: in a table, of each; without one, only of a run that has not served
 abbrev pub shown_line : ℕ → Bool → Recovery → List ℕ
 shown_line bound table r = if table || not (has_served r bound) then run_line bound r else []
 
@@ -29,7 +29,7 @@ abbrev pub run_lines : ℕ → Bool → List Recovery → List ℕ
 run_lines bound table [] = []
 run_lines bound table (r ∷ rs) = shown_line bound table r ++ run_lines bound table rs
 
--- after how many sweeps those runs served that did
+-- after how many sweeps the runs that served did so
 abbrev pub served_sweeps : List Recovery → ℕ → List ℕ
 served_sweeps [] bound = []
 served_sweeps (r ∷ rs) bound = if has_served r bound then r.sweeps ∷ served_sweeps rs bound else served_sweeps rs bound
@@ -41,25 +41,25 @@ summary_line (Some s) =
     codes "sweeps least " ++ (decimal s.least
     ++ (codes " median " ++ (decimal s.median ++ (codes " most " ++ (decimal s.most ++ codes "\n")))))
 
--- how many runs there were, what sums up those that have served, and both bounds
+-- the number of runs, the summary of those that have served, and both bounds
 abbrev pub totals : Network → ℕ → Option Summary → List ℕ
 totals net runs summary =
     number_line (codes "runs") runs
     ++ (summary_line summary
     ++ (number_line (codes "sharp") (sharp_of net) ++ number_line (codes "sweeps-bound") (bound_of net)))
 
--- the text of the runs on a network: their lines, and what sums them up
+-- the text of the runs on a network: their lines, and their summary
 pub record IsMeasured (net : Network) (runs : List Recovery) (table : Bool) (text : List ℕ) : Type 0 where
   pub summary : Option Summary
   pub sums_up : IsSummaryOf (served_sweeps runs (sharp_of net)) summary
   pub text_is : text ≡ run_lines (sharp_of net) table runs ++ totals net (length runs) summary
 
--- runs of successive seeds under a scheduler, the first of this seed
+-- runs of successive seeds under a scheduler, from this seed on
 abbrev pub AreRunsFrom : Network → Scheduler → ℕ → List Recovery → Type 0
 AreRunsFrom net scheduler seed [] = Unit {0}
 AreRunsFrom net scheduler seed (r ∷ rs) = IsRunOf net scheduler seed r × AreRunsFrom net scheduler (seed + 1) rs
 
--- all runs of a plan: as many as it says, of its first seed and those that follow
+-- all runs of a plan: as many as it says, from its first seed on
 pub record AreRunsOf (net : Network) (plan : Plan) (runs : List Recovery) : Type 0 where
   pub all : length runs ≡ plan.runs
   pub each : AreRunsFrom net plan.scheduler plan.seed runs

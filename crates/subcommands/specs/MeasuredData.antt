@@ -1,4 +1,4 @@
--- What `measure --json` prints, as data. An object has its members in the order of their names.
+-- What `measure --json` prints, as data. An object's members stand in the order of their names.
 use Rattle.std.specs.Prelude.{ℕ, Bool, ◌||◌, not, if◌then◌else◌, List, [], ◌∷◌, length, Option, None, Some, codes}
 use Rattle.std.specs.Option.{option_map}
 use Rattle.serde_json.specs.Data.{Data, Members, null, number, unsigned, array, object, no_members, put}
@@ -20,7 +20,7 @@ abbrev pub run_data : ℕ → Recovery → Data
 run_data bound r =
     object (put (codes "sweeps") (sweeps_data bound r) (put (codes "seed") (count r.seed) no_members))
 
--- the runs that are shown: with a table all, else those that have not served
+-- the runs that are shown: all with a table, else those that have not served
 abbrev pub runs_data : ℕ → Bool → List Recovery → List Data
 runs_data bound table [] = []
 runs_data bound table (r ∷ rs) =
@@ -34,7 +34,7 @@ summary_members summary others =
     (put (codes "median") (or_null (option_map (λ s. s.median) summary))
     (put (codes "least") (or_null (option_map (λ s. s.least) summary)) others))
 
--- how many runs there were, those that are shown, and both bounds
+-- the number of runs, those that are shown, and both bounds
 abbrev pub measured_members : Network → List Recovery → Bool → Members → Members
 measured_members net runs table others =
     put (codes "sweeps-bound") (count (bound_of net))
@@ -46,7 +46,7 @@ abbrev pub measured_data : Network → List Recovery → Bool → Option Summary
 measured_data net runs table summary =
     object (measured_members net runs table (summary_members summary no_members))
 
--- the text is the object of the runs on a network, with what sums those up that have served
+-- the text is the object of the runs on a network, with the summary of those that have served
 pub record IsMeasuredJson (net : Network) (runs : List Recovery) (table : Bool) (text : List ℕ) : Type 0 where
   pub summary : Option Summary
   pub sums_up : IsSummaryOf (served_sweeps runs (sharp_of net)) summary

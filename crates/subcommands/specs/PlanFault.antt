@@ -1,10 +1,10 @@
--- As which fault of the program a schedule's fault is reported.
+-- The program's fault for a schedule's fault.
 use Rattle.experiments.specs.declared.plan.PlanFault.{PlanFault}
 use Rattle.experiments.specs.declared.plan.PlanFault.TheVariants.{Memory as MemoryRefused, Sink}
 use Rattle.command_parts.specs.declared.fault.Fault.{Fault}
 use Rattle.command_parts.specs.declared.fault.Fault.TheVariants.{Memory, Output}
 
--- memory, or output that was refused
+-- memory or output that failed
 abbrev pub fault_of : PlanFault → Fault
 fault_of MemoryRefused = Memory
 fault_of Sink = Output

@@ -6,7 +6,7 @@ use Rattle.subcommands.specs.declared.schedule.Turns.{Turns}
 use Rattle.subcommands.specs.declared.schedule.Turns.TheVariants.{Rounds, Random}
 use Rattle.subcommands.specs.Damaged.{seeded}
 
--- as many rounds, or as many random steps, drawn from the generator of their seed
+-- rounds, or random steps drawn from the generator of their seed
 abbrev pub order_of : Turns → Order
 order_of (Rounds count) = InRounds count
 order_of (Random steps seed chances) = AtRandom steps chances (seeded seed)

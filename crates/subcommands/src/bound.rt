@@ -16,12 +16,11 @@ use std::process::ExitCode;
 use std::rt::Files;
 use topology::Net;
 
-/// Prints the text of the network of a file, with the line of the sharp bound if that is asked for,
-/// and with the lines of times if premises are given.
+/// Prints the text of the network of a file, with the line of the sharp bound if asked for, and
+/// the lines of times if premises are given.
 ///
 /// # Errors
-/// If no network is read of the file, memory runs out, or standard output does not take the
-/// text.
+/// If the file gives no network, memory runs out, or standard output fails.
 pub fn run<R: Files + Print + AllocGlobal>(
     rt: &R,
     path: &str,
@@ -35,7 +34,7 @@ pub fn run<R: Files + Print + AllocGlobal>(
     done(rt.print(text.as_str()))
 }
 
-/// How the command ends, by what printing its text answered.
+/// How the command ends, by the result of printing its text.
 pub(crate) fn done<E: Drop>(printed: Result<(), E>) -> Result<ExitCode, Fault>
     ensures printed { IsOk printed ↔ IsOk result }
     ensures ok { IfOk result (λ status. exit_status status ≡ 0) }

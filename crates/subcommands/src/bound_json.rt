@@ -16,12 +16,12 @@ use std::process::ExitCode;
 use std::rt::Files;
 use topology::Net;
 
-/// Prints the numbers of the network of a file as a JSON object on one line, with the sharp bound if that
-/// is asked for, and with times if premises are given. Names are those of the lines of `bound`, and
+/// Prints the numbers of the network of a file as a JSON object on one line, with the sharp bound
+/// if asked for, and times if premises are given. The names are those of the lines of `bound`, and
 /// `none` is null; `window_us` is in microseconds, the other times in milliseconds, rounded up.
 ///
 /// # Errors
-/// If no network is read of the file, memory runs out, or standard output does not take the text.
+/// If the file gives no network, memory runs out, or standard output fails.
 pub fn run<R: Files + Print + AllocGlobal>(
     rt: &R,
     path: &str,

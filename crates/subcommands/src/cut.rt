@@ -1,4 +1,4 @@
-//! `cut PATH LENGTH`: a file, as a write that broke off may leave it.
+//! `cut PATH LENGTH`: a file as an interrupted write may leave it.
 ghost use Rattle.std.specs.Prelude.{◌≡◌, ℕ, List, IfOk, IfErr, length, take};
 ghost use Rattle.std.specs.Process.{exit_status};
 ghost use Rattle.command_parts.specs.declared.path_fault.PathFault.TheVariants.{Unwritable};
@@ -11,7 +11,7 @@ use std::process::ExitCode;
 use std::rt::Files;
 use std::{fs, io};
 
-/// Shortens a file to its first bytes, and leaves one that is not longer as it is.
+/// Shortens a file to its first `most` bytes. A shorter file stays as it is.
 ///
 /// # Errors
 /// If the file cannot be written, is not there, or is no plain file.
@@ -25,8 +25,8 @@ pub fn run<'a, R: Files>(rt: &R, path: &'a str, most: u32) -> Result<ExitCode, P
     }
 }
 
-/// Shortens a file, whose bytes are not read. No contract says what a file holds, so this has
-/// none; tests look at the files.
+/// Shortens a file without reading it. No contract says what a file holds, so this has none; tests
+/// look at the files.
 fn shorten<R: Files>(rt: &R, path: &str, most: u64) -> io::Result<()> {
     if !fs::metadata(rt, path)?.is_file() {
         return Err(io::Error::from(ErrorKind::InvalidInput));
@@ -38,8 +38,8 @@ fn shorten<R: Files>(rt: &R, path: &str, most: u64) -> io::Result<()> {
     Ok(())
 }
 
-/// How many bytes a file of that length keeps, if it is cut to `most` bytes at most; none if
-/// it stays as it is.
+/// The bytes that a file of length `len` keeps if it is cut to at most `most`; none if it stays as
+/// it is.
 fn cut_length(len: u64, most: u64) -> Option<u64>
     ensures { (bytes : List ℕ) → length bytes ≡ len → IsCutTo result bytes (take most bytes) }
 {

@@ -1,4 +1,4 @@
-//! `junk SEED LINES`: lines that mean nothing.
+//! `junk SEED LINES`: lines without meaning.
 ghost use Rattle.std.specs.Prelude.{◌≡◌, ◌+◌, ◌≤◌, ◌⊎◌, IfOk, IfErr, OnOk, [], ◌++◌, codes, length, take};
 ghost use Rattle.byte_streams.specs.Streams.{Rose, Takes};
 ghost use Rattle.damage_tool.specs.Draws.{draw_junk};
@@ -14,10 +14,10 @@ use rand_pcg::Lcg64Xsh32;
 use std::io::{BufWriter, writer};
 use std::process::ExitCode;
 
-/// Prints that many lines of junk, drawn by the generator of that seed.
+/// Prints this many lines of junk, drawn from the generator of this seed.
 ///
 /// # Errors
-/// If memory runs out, or standard output does not take the text.
+/// If memory runs out, or standard output fails.
 pub fn run<R: Print + AllocGlobal>(rt: &R, seed: u32, lines: u32) -> Result<ExitCode, Fault>
     ensures ok { IfOk result (λ status. exit_status status ≡ 0) }
     ensures err { IfErr result (λ fault. (fault ≡ Memory) ⊎ (fault ≡ Output)) }
@@ -29,9 +29,9 @@ pub fn run<R: Print + AllocGlobal>(rt: &R, seed: u32, lines: u32) -> Result<Exit
     Ok(ExitCode::SUCCESS)
 }
 
-/// Writes that many lines of junk, all of them.
+/// Writes this many lines of junk, all of them.
 ///
-/// What is unproved: that the text stands in standard output, which says nothing of its bytes.
+/// What is unproved: that the text reaches standard output, which does not show its bytes.
 ///
 /// # Errors
 /// If the sink fails.

@@ -1,9 +1,9 @@
-//! What each command of `tokentree` does: its files and texts, and how it ends.
+//! The work of the commands of `tokentree`: their files and texts, and how they end.
 //!
-//! A command is a module here, and its `run` takes the words that it was given. What it works out
-//! stands in the crates below; here it is read from files and printed, and every way to fail is one
+//! A command is a module here, and its `run` takes the words that it was given. The crates below
+//! work out the answers; here files are read and answers printed. Every failure is one
 //! [`Fault`](command_parts::Fault), or a [`PathFault`](command_parts::PathFault) if a command
-//! changes a file. `draw` stands in `run_picture`, `threads` in `live_commands`.
+//! changes a file. `draw` is in `run_picture`, `threads` in `live_commands`.
 //!
 //! ```
 //! let status = bound::run(rt, "two-nodes.toml", false, None)?;         // prints eight lines
@@ -19,8 +19,8 @@
 //! let status = measure::run(rt, "two-nodes.toml", &plan)?;
 //! ```
 //!
-//! The trap: what was printed before a fault stays printed; `simulate` names the refused lines of
-//! all that it had read.
+//! The trap: what was printed before a fault stays printed. `simulate` has then named the refused
+//! lines of all that it had read.
 #![tactic(auto)]
 
 pub mod bound;

@@ -20,14 +20,14 @@ use std::thread::Threads;
 use std::time::Clock;
 use topology::Net;
 
-/// What is measured.
+/// What to measure.
 #[derive(Clone, Copy, Debug, PartialEq, Eq)]
 pub struct Plan {
     /// How many runs there are.
     pub runs: u32,
-    /// The first one's seed; each other has the next one.
+    /// The seed of the first run; each further run has the next seed.
     pub seed: u32,
-    /// Who moves when.
+    /// The order of the events.
     pub scheduler: Scheduler,
     /// Whether each run has a line.
     pub table: bool,
@@ -38,8 +38,8 @@ pub struct Plan {
 /// Prints after how many sweeps the runs served.
 ///
 /// # Errors
-/// If no network is read of the file, memory runs out, or standard output does not take the
-/// text: the first of these that is met.
+/// If the file gives no network, memory runs out, or standard output fails: the first of these
+/// that happens.
 pub fn run<R: Files + Print + Eprint + Clock + AllocGlobal + Threads + Sync>(
     rt: &R,
     network: &str,
@@ -54,7 +54,7 @@ pub fn run<R: Files + Print + Eprint + Clock + AllocGlobal + Threads + Sync>(
     }
 }
 
-/// Makes the runs of a plan. Their text, and whether each has served.
+/// Makes the runs of a plan. Returns their text, and whether each has served.
 fn plan_text<R: Eprint + Clock + Threads + Sync>(
     rt: &R,
     alloc: Global,
@@ -69,7 +69,7 @@ fn plan_text<R: Eprint + Clock + Threads + Sync>(
     Ok((text, served))
 }
 
-/// How the command ends if all runs were made, by what printing their text answered.
+/// How the command ends after all its runs, by the result of printing their text.
 ///
 /// # Errors
 /// If the text was not printed.
@@ -85,8 +85,8 @@ pub fn ending<E: Drop>(printed: Result<(), E>, all_served: bool) -> Result<ExitC
     }
 }
 
-/// Makes the runs of a plan, over as many threads as there are processors: run i is that of the
-/// first seed and i.
+/// Makes the runs of a plan, on as many threads as there are processors. Run i has the first seed
+/// plus i.
 pub(crate) fn measured<R: Eprint + Clock + Threads + Sync>(
     rt: &R,
     alloc: Global,
@@ -107,7 +107,7 @@ pub(crate) fn measured<R: Eprint + Clock + Threads + Sync>(
     runs
 }
 
-/// Makes the runs of a plan, and shows meanwhile how many are done.
+/// Makes the runs of a plan, and shows how many are done.
 fn make_runs<R: Eprint + Clock + Threads + Sync>(
     rt: &R,
     alloc: Global,
@@ -120,7 +120,7 @@ fn make_runs<R: Eprint + Clock + Threads + Sync>(
     (0..plan.runs)
         .into_par_iter()
         .map(
-            // Run i is that of its own seed, shown from the world which that seed scrambles.
+            // Run i has its own seed, and starts from the world that this seed scrambles.
             |i: u32| -> Result<Recovery, AllocError>
                 ensures { IfOk result (IsRunOf net.entry.now plan.scheduler (plan.seed + i)) }
             {
@@ -135,7 +135,7 @@ fn make_runs<R: Eprint + Clock + Threads + Sync>(
         .collect(rt, alloc)?
 }
 
-/// Whether a run had as many sweeps as the sharper bound says, and served after that many of them.
+/// Whether a run had as many sweeps as the sharper bound says, and served by then.
 pub fn has_served(run: &Recovery, bound: u32) -> bool
     ensures { result ≡ has_served run.now bound }
 {
@@ -149,7 +149,7 @@ pub(crate) fn have_served(runs: &[Recovery], bound: u32) -> bool
     runs.iter().all(|run| has_served(run, bound))
 }
 
-/// The lines of the runs, all of them or those alone that have not served, and the lines that sum
+/// The lines of the runs, of all or only of those that have not served, and the lines that sum
 /// them up.
 pub fn measured_text(
     alloc: Global,
@@ -184,7 +184,7 @@ fn push_totals(
     push_number(text, "sweeps-bound", net.bound())
 }
 
-/// Adds the lines of the runs, all of them or those alone that have not served.
+/// Adds the lines of the runs: of all, or only of those that have not served.
 fn push_runs(
     text: &mut String,
     runs: &[Recovery],
@@ -200,7 +200,7 @@ fn push_runs(
     Ok(())
 }
 
-/// Adds the line of a run if it is to be shown.
+/// Adds the line of a run, if it is shown.
 fn push_shown(text: &mut String, run: &Recovery, bound: u32, table: bool) -> Result<(), AllocError>
     ensures { OnOk result (string_bytes text.new
         ≡ string_bytes text.old ++ shown_line bound table run.now) }
@@ -224,7 +224,7 @@ fn push_run(text: &mut String, run: &Recovery, bound: u32) -> Result<(), AllocEr
     }
 }
 
-/// The sweeps after which those runs served that did.
+/// The sweeps after which the runs that served did so.
 pub(crate) fn served_sweeps(
     alloc: Global,
     runs: &[Recovery],

@@ -21,8 +21,8 @@ use topology::Net;
 /// Prints after how many sweeps the runs of a plan served, as a JSON object on one line.
 ///
 /// # Errors
-/// If no network is read of the file, memory runs out, or standard output does not take the text: the
-/// first of these that is met.
+/// If the file gives no network, memory runs out, or standard output fails: the first of these
+/// that happens.
 pub fn run<R: Files + Print + Eprint + Clock + AllocGlobal + Threads + Sync>(
     rt: &R,
     network: &str,
@@ -37,7 +37,7 @@ pub fn run<R: Files + Print + Eprint + Clock + AllocGlobal + Threads + Sync>(
     }
 }
 
-/// Makes the runs of a plan. Their object, and whether each has served.
+/// Makes the runs of a plan. Returns their object, and whether each has served.
 fn plan_json<R: Eprint + Clock + Threads + Sync>(
     rt: &R,
     alloc: Global,
@@ -50,8 +50,8 @@ fn plan_json<R: Eprint + Clock + Threads + Sync>(
     Ok((text, served))
 }
 
-/// The object of runs, with those runs in it that have a line of their own in the text: with a table all,
-/// else those that have not served.
+/// The object of runs. It has the runs that have a line in the text: all with a table, else those
+/// that have not served.
 ///
 /// # Errors
 /// If memory runs out.
@@ -69,7 +69,7 @@ pub fn measured_json(
     value.to_string(alloc)
 }
 
-/// The same as a value, of what sums the runs up.
+/// The same as a value, by the summary of the runs.
 fn measured_value(
     alloc: Global,
     net: &Net,
@@ -85,7 +85,7 @@ fn measured_value(
     Ok(Value::Object(map))
 }
 
-/// Adds how many runs there were, the runs that are shown, and both bounds.
+/// Adds the number of runs, the runs that are shown, and both bounds.
 fn put_runs(
     map: &mut Map<String, Value>,
     alloc: Global,

@@ -12,7 +12,7 @@ use std::alloc::Global;
 use std::process::ExitCode;
 use topology::Net;
 
-/// Which network is wanted.
+/// The network to make.
 #[derive(Clone, Copy, Debug, PartialEq, Eq)]
 pub struct Wanted {
     /// Its kind.
@@ -23,14 +23,14 @@ pub struct Wanted {
     pub root: u16,
     /// How many items each direction of an edge holds.
     pub capacity: u16,
-    /// For how many ticks the lock is lent at most; 0 is no limit.
+    /// The most ticks of a loan; 0 is no limit.
     pub lease: u16,
 }
 
-/// Prints the network file of the network that is wanted.
+/// Prints the network file of this network.
 ///
 /// # Errors
-/// If there is no such network, memory runs out, or standard output does not take the text.
+/// If there is no such network, memory runs out, or standard output fails.
 pub fn run<R: Print + AllocGlobal>(rt: &R, wanted: Wanted) -> Result<ExitCode, Fault>
     ensures { IfOk result (λ status. exit_status status ≡ 0) }
 {
@@ -38,13 +38,13 @@ pub fn run<R: Print + AllocGlobal>(rt: &R, wanted: Wanted) -> Result<ExitCode, F
     done(rt.print(text.as_str()))
 }
 
-/// The network file of the network that is wanted.
+/// The network file of this network.
 ///
 /// # Errors
 /// If there is no such network, or memory runs out.
 #[tactic(auto, using(crate::proofs::Naming::named_if))]
 pub fn named_text(alloc: Global, wanted: Wanted) -> Result<String, Fault>
-    // It reads as the network with exactly the edges of the kind, and these numbers.
+    // It reads as the network with these numbers and exactly the edges of the kind.
     ensures { IfOk result (λ text. IsTextOf wanted (string_bytes text)) }
 {
     let made = network_of(

@@ -24,7 +24,7 @@ use topology::Net;
 /// What follows the scramble.
 #[derive(Clone, Copy, Debug, PartialEq, Eq)]
 pub enum Turns {
-    /// As many rounds.
+    /// This many rounds.
     Rounds(u32),
     /// Steps drawn from a seed.
     Random {
@@ -32,7 +32,7 @@ pub enum Turns {
         steps: u32,
         /// The seed.
         seed: u32,
-        /// Which steps there are beside ticks, sends and takes.
+        /// The steps other than ticks, sends and takes.
         chances: Chances,
     },
 }
@@ -66,7 +66,7 @@ pub fn seeded(seed: u32) -> Lcg64Xsh32
     Lcg64Xsh32::seed_from_u64(u64::from(seed))
 }
 
-/// The fault of a command whose schedule could not be given.
+/// The fault of a command whose schedule failed.
 fn fault_of(fault: PlanFault) -> Fault
     ensures { result ≡ fault_of fault }
 {
@@ -76,14 +76,14 @@ fn fault_of(fault: PlanFault) -> Fault
     }
 }
 
-/// Prints the events text of a schedule for the network of a file: the harms of a scramble by a
-/// seed, if one is given, and then its turns, with loans that last `loan` ticks, if that is given.
+/// Prints the events text of a schedule for the network of a file: the damage of a scramble, if a
+/// seed is given, and then its turns, with loans of `loan` ticks, if that is given.
 ///
-/// What is unproved: that the text stands in standard output, which says nothing of its bytes.
+/// What is unproved: that the text reaches standard output, which does not show its bytes.
 ///
 /// # Errors
-/// If no network is read of the file, memory runs out, or standard output does not take the
-/// text: the first of these that is met.
+/// If the file gives no network, memory runs out, or standard output fails: the first of these
+/// that happens.
 pub fn run<R: Files + Print + AllocGlobal>(
     rt: &R,
     network: &str,
@@ -102,9 +102,9 @@ pub fn run<R: Files + Print + AllocGlobal>(
     Ok(ExitCode::SUCCESS)
 }
 
-/// Writes the lines of a schedule's events, the harms of a scramble by a seed, if one is given, and
-/// then its turns; and sees to it that all of them are written: after a fault too, as far as it had
-/// come. If `loan` says so, whoever has the lock gives it back after so many ticks of its node.
+/// Writes the lines of a schedule's events: the damage of a scramble, if a seed is given, and then
+/// its turns. It writes all of them; after a fault, those up to there. If `loan` is given, a
+/// client releases the lock after that many ticks of its node.
 ///
 /// # Errors
 /// If memory runs out, or the writer fails.
@@ -116,12 +116,12 @@ pub fn write_plan<W: Write + Drop>(
     turns: Turns,
     text: &mut EventText<W>,
 ) -> Result<(), Fault>
-    // If the writer says what its bytes are, they are the text.
+    // If the writer shows its bytes, they are the text.
     ensures text { OnOk result (GrowsByText (writer_contents W.contents text.old.writer)
         (planned net.now (option_map seeded scramble) loan (order_of turns))
         (writer_contents W.contents text.new.writer)) }
     ensures written { OnOk result (writer_buffer text.new.writer ≡ []) }
-    // A fault is one of memory or of the output, and of the output only if the writer failed.
+    // A fault is one of memory or of the output, the latter only if the writer failed.
     ensures fault { IfErr result (λ fault. (fault ≡ Memory) ⊎ (fault ≡ Output)) }
     ensures cause { result ≡ Err Output → Rose text.old.failures text.new.failures }
 {

@@ -1,4 +1,4 @@
-//! `scramble FILE ID PATH SEED`: the state file of a node, as a fault may leave it.
+//! `scramble FILE ID PATH SEED`: the state file of a node as a fault may leave it.
 ghost use Rattle.std.specs.Prelude.{◌≡◌, ◌<◌, ◌≤◌, IfOk, IfErr, nat_lt, if◌then◌else◌, take};
 ghost use Rattle.std.specs.Process.{exit_status};
 ghost use Rattle.node_state_file.specs.Stores.{Saves};
@@ -17,11 +17,11 @@ use std::rt::Files;
 use topology::Net;
 
 /// Writes the state file of a node of the network of a file: its default state, scrambled by the
-/// generator of that seed.
+/// generator of this seed.
 ///
 /// # Errors
-/// If no network is read of the file, it has no such node, memory runs out, or the state file
-/// cannot be written: the first of these that is met.
+/// If the file gives no network, it has no such node, memory runs out, or the state file cannot be
+/// written: the first of these that happens.
 pub fn run<'a, R: Files + AllocGlobal>(
     rt: &R,
     network: &str,
@@ -39,7 +39,7 @@ pub fn run<'a, R: Files + AllocGlobal>(
     }
 }
 
-/// Saves the state file of a scrambled node, and says what the store answers.
+/// Saves the state file of a scrambled node, and returns what the store answers.
 ///
 /// # Errors
 /// If the network has no such node, or memory runs out; then the store is not asked.
@@ -50,7 +50,7 @@ pub fn save_scrambled<S: Store>(
     seed: u32,
     store: &mut S,
 ) -> Result<Result<(), StoreFault>, Fault>
-    // The store is asked to save those very bytes.
+    // The store is asked to save exactly those bytes.
     ensures saves { IfOk result (λ saved. Saves saved (scrambled_file net.now id seed)
         (S.stored store.old) (S.stored store.new) (S.failures store.old) (S.failures store.new)) }
     ensures err { IfErr result
@@ -62,8 +62,7 @@ pub fn save_scrambled<S: Store>(
     Ok(store.save(&bytes[..count]))
 }
 
-/// Writes the state file of a scrambled node to the front of `bytes`, and answers how many bytes it
-/// has.
+/// Writes the state file of a scrambled node to the front of `bytes`, and returns its length.
 fn write_scrambled(
     alloc: Global,
     net: &Net,

@@ -1,4 +1,4 @@
-//! `simulate FILE EVENTS`: what a list of events leads to on a network.
+//! `simulate FILE EVENTS`: replays a list of events on a network.
 ghost use Rattle.std.specs.Prelude.{◌≡◌, ◌⊎◌, IfOk, option_map};
 ghost use Rattle.std.specs.Process.{exit_status};
 ghost use Rattle.subcommands.specs.Hints.{loan_hint};
@@ -14,12 +14,12 @@ use std::rt::Files;
 use topology::Net;
 
 /// Prints what the events of a file, or of standard input for `-`, lead to on the network of a
-/// file. Then it says on standard error why lines were refused that end in a carriage return, and
-/// what holds up the sweeps, a line each.
+/// file. Then, in a line each on standard error, it says that lines were refused because they end
+/// in a carriage return, and what holds up the sweeps.
 ///
 /// # Errors
-/// If no network is read of the file, the events cannot be read or are too long, memory runs
-/// out, or standard output does not take the text: the first of these that is met.
+/// If the file gives no network, the events cannot be read or are too long, memory runs out, or
+/// standard output fails: the first of these that happens.
 pub fn run<R: Files + Input + Print + Eprint + AllocGlobal>(
     rt: &R,
     network: &str,
@@ -37,7 +37,7 @@ pub fn run<R: Files + Input + Print + Eprint + AllocGlobal>(
     Ok(events_status(summary.refused))
 }
 
-/// Prints what the events that a reader gives lead to, and says then what there is to say of it.
+/// Prints what the events of a reader lead to, and then the hints.
 fn print_simulation<R: Print + Eprint + AllocGlobal, E: Read + Drop>(
     rt: &R,
     net: &Net,
@@ -54,7 +54,7 @@ fn print_simulation<R: Print + Eprint + AllocGlobal, E: Read + Drop>(
     Ok(summary)
 }
 
-/// What is said if there were too few sweeps so far, and a loan that no lease ends keeps others away.
+/// The hint if there were too few sweeps so far, and a loan that no lease ends holds them up.
 fn loan_hint(lease: u16, bound: u32, summary: &Summary) -> Option<&'static str>
     ensures { option_map (λ text. text.now) result ≡ loan_hint lease bound summary.now }
 {

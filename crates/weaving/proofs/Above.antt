@@ -1,9 +1,9 @@
--- Stamps of which each is above the one in its place of another list.
+-- Stamps that are each above the stamp at the same place of another list.
 use Rattle.std.proofs.Common.{ℕ, zero, suc, ◌≤◌, List, [], ◌∷◌, drop, arith}
 use Rattle.std.specs.List.{AllByRecursion}
 use Rattle.weaving.specs.Matched.{AreAbove}
 
--- the same of what follows in both
+-- the same for what follows in both
 pub above-next : (n : ℕ) (xs : List ℕ) (y : ℕ) (ys : List ℕ) → AreAbove (drop n xs) (y ∷ ys) → AreAbove (drop (suc n) xs) ys
 above-next zero [] y ys h = tt
 above-next zero (x ∷ xs) y ys h = h.1

@@ -23,12 +23,12 @@ by-take : (site : Site) (w : ℕ) (i : Item) (ds : List Deed) (s last : LocalSta
 by-take site w (Frame f) ds s last h = h.1
 by-take site w Noise ds s last h = h
 
--- what is sent is the frame of the port, and goes over a link; the state stays
+-- a send sends the frame of its port, over a link, and leaves the state
 pub leads-by_send : (net : Network) (v : ℕ) (s : LocalState) (u : ℕ) (x : Stamped) (ns : List Note) (last : LocalState) → Leads net v s (Sent u x ∷ ns) last
     → IsTrue (are_joined net.edges v u) × (x.item ≡ Frame (frame_of (s.port u))) × Leads net v s ns last
 leads-by_send net v s u x ns last h = let on = by-send (site_of net v) u x.item _ s last h.0.1 h.1 in (h.0.0, on.0, (h.0.2, on.1))
 
--- what is taken comes over a link, and changes the state
+-- a take takes from a link, and changes the state
 pub leads-by_take : (net : Network) (v : ℕ) (s : LocalState) (u : ℕ) (x : Stamped) (ns : List Note) (last : LocalState) → Leads net v s (Took u x ∷ ns) last
     → IsTrue (are_joined net.edges u v) × Leads net v (taken (site_of net v) u x.item s) ns last
 leads-by_take net v s u x ns last h = (h.0.0, (h.0.1, by-take (site_of net v) u x.item _ s last h.1))

@@ -11,14 +11,14 @@ at-here f k x = grind (arith, common_steps)
 pub at-other : {X : Type 0} (f : ℕ → X) (k : ℕ) (x : X) (i : ℕ) → i ≢ k → at f k x i ≡ f i
 at-other f k x i apart = grind (arith, common_steps)
 
--- what holds at the place and elsewhere holds everywhere
+-- what holds at the place, and at all others, holds everywhere
 pub at-each : {X : Type 0} (P : ℕ → X → Type 0) (f : ℕ → X) (k : ℕ) (x : X) → P k x → ((i : ℕ) → i ≢ k → P i (f i)) → (i : ℕ) → P i (at f k x i)
 at-each P f k x here there i = elim (cases_eq i k) [
   | inl same ↦ subst (λ j. P j (at f k x j)) (sym same) (subst (λ y. P k y) (sym (at-here f k x)) here)
   | inr apart ↦ subst (λ y. P i y) (sym (at-other f k x i apart)) (there i apart)
 ]
 
--- the same of two functions that are changed at one place
+-- the same for two functions that are changed at one place
 pub at-two : {X Y : Type 0} (P : ℕ → X → Y → Type 0) (f : ℕ → X) (g : ℕ → Y) (k : ℕ) (x : X) (y : Y) → P k x y → ((i : ℕ) → i ≢ k → P i (f i) (g i))
     → (i : ℕ) → P i (at f k x i) (at g k y i)
 at-two P f g k x y here there i =

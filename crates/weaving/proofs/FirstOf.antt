@@ -9,7 +9,7 @@ use Rattle.weaving.specs.declared.journal.Entry.{Entry}
 use Rattle.weaving.specs.Woven.{AreRising, Placed, IsNoLater, entries_of, IsWoven}
 use Rattle.weaving.proofs.Changed.{at-each, at-here, at-other}
 
--- what holds of the entries of a node holds of those after the first
+-- what holds for the entries of a node holds for those after the first
 behind : (P : Placed → Type 0) (v : ℕ) (p : Placed) (ps : List Placed) → AllByRecursion (λ e. P (record { node = v; entry = e })) (entries_of v (p ∷ ps))
     → AllByRecursion (λ e. P (record { node = v; entry = e })) (entries_of v ps)
 behind P v p ps all = go (p.node == v) all where
@@ -18,7 +18,7 @@ behind P v p ps all = go (p.node == v) all where
   go true both = both.1
   go false rest = rest
 
--- what holds of each node's entries holds of all
+-- what holds for each node's entries holds for all
 of-all : (P : Placed → Type 0) (ps : List Placed) → ((v : ℕ) → AllByRecursion (λ e. P (record { node = v; entry = e })) (entries_of v ps)) → AllByRecursion P ps
 of-all P [] each = tt
 of-all P (p ∷ ps) each =
@@ -30,7 +30,7 @@ grows : (p : Placed) (v : ℕ) (e x : Entry) → IsNoLater p (record { node = v;
 grows p v e x (inl l) more = inl (omega arith)
 grows p v e x (inr both) more = let same = both.0 in inl (omega arith)
 
--- what is no earlier than the first of a journal that rises
+-- nothing in a rising journal is earlier than its first entry
 from-first : (p : Placed) (v : ℕ) (es : List Entry) → AreRising es → ((e : Entry) (rest : List Entry) → es ≡ e ∷ rest → IsNoLater p (record { node = v; entry = e }))
     → AllByRecursion (λ e. IsNoLater p (record { node = v; entry = e })) es
 from-first p v [] rise first = tt
@@ -53,7 +53,7 @@ complete-one journal v e later ps is all u = elim (cases_eq u v) [
       there ∙ (all u ∙ at-other journal v later u apart)
 ]
 
--- one entry, and then what is woven of the rest
+-- one entry, and then what is woven from the rest
 pub woven-on : (journal : ℕ → List Entry) (v : ℕ) (e : Entry) (later : List Entry) (events : List Event)
     → ((u : ℕ) → AreRising (journal u)) → journal v ≡ e ∷ later
     → ((u : ℕ) (x : Entry) (xs : List Entry) → journal u ≡ x ∷ xs → IsNoLater (record { node = v; entry = e }) (record { node = u; entry = x }))
@@ -75,11 +75,11 @@ woven-on journal v e later events rise is first woven =
       complete = λ u. complete-one journal v e later woven.placed is woven.complete u;
     }
 
--- of empty journals nothing is woven
+-- nothing is woven from empty journals
 pub woven-none : (journal : ℕ → List Entry) → ((v : ℕ) → journal v ≡ []) → IsWoven journal []
 woven-none journal none = record { placed = []; are_events = refl; ordered = tt; complete = λ v. sym (none v) }
 
--- a journal that rises still does when one of its first entries is gone
+-- a rising journal still rises without one of its first entries
 pub still-rising : (journal : ℕ → List Entry) (v : ℕ) (e : Entry) (later : List Entry) → ((u : ℕ) → AreRising (journal u)) → journal v ≡ e ∷ later
     → (u : ℕ) → AreRising (at journal v later u)
 still-rising journal v e later rise is =

@@ -8,7 +8,7 @@ use Rattle.weaving.specs.declared.journal.Journal.{Journal}
 use Rattle.weaving.specs.Woven.{IsNoLater}
 use Rattle.weaving.specs.Journals.{entries_in, journal_of, IsFirst, earlier, with_next}
 
--- the entry of a node would be the first
+-- this node's entry is earlier
 abbrev pub IsEarlier : Entry → Option (ℕ × Entry) → Type 0
 IsEarlier x None = Unit {0}
 IsEarlier x (Some first) = x.stamp < first.1.stamp
@@ -16,7 +16,7 @@ IsEarlier x (Some first) = x.stamp < first.1.stamp
 below-next : (u n : ℕ) → u < n + 1 → u ≢ n → u < n
 below-next u n l apart = grind (arith, apart)
 
--- a journal of which all is read
+-- a journal that is read to its end
 pub first-passes : (xs : List (List Entry)) (n : ℕ) (first : Option (ℕ × Entry)) → journal_of xs n ≡ [] → IsFirst xs n first → IsFirst xs (n + 1) first
 first-passes xs n None none h = λ u l. elim (cases_eq u n) [
   | inl same ↦ subst (λ i. journal_of xs i ≡ []) (sym same) none
@@ -96,7 +96,7 @@ first-on xs n first [] is h = first-passes xs n first is h
 first-on xs n None (x ∷ later) is h = first-changes xs n None x later is tt h
 first-on xs n (Some (v, e)) (x ∷ later) is h = by-stamps xs n v e x later is h
 
--- what is after k entries is one more entry, and what is after k + 1
+-- after k entries come one more entry, and what is after k + 1
 pub drop-some : (k : ℕ) (es : List Entry) → k < length es → (x : Entry) × (drop k es ≡ x ∷ drop (suc k) es) × (slice_get es k ≡ Some x)
 drop-some k [] l = absurd (omega arith)
 drop-some zero (e ∷ es) l = (e, refl, refl)
@@ -108,7 +108,7 @@ drop-none zero (e ∷ es) l = absurd (omega arith)
 drop-none (suc k) [] l = refl
 drop-none (suc k) (e ∷ es) l = drop-none k es (omega arith)
 
--- a journal in a row is the one of its place
+-- a journal in a row is the one at its place
 pub own-journal : {A : Type 0} (js : List (Journal A)) (n : ℕ) (j : Journal A) → n < length js → j ≡ slice_index_or js n j
     → journal_of (entries_in js) n ≡ j.entries.items
 own-journal [] n j l is = absurd (omega arith)

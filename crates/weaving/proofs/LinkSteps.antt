@@ -8,7 +8,7 @@ use Rattle.weaving.specs.Matched.{AreAbove, IsLinkMatched, stamps, items}
 use Rattle.weaving.proofs.Above.{above-next, not-least}
 
 module _ (capacity : ℕ) where
-  -- if the next send is the first of all that is to come, there is room
+  -- if the next send comes first of all that is left, there is room
   pub has-room : (old : List Item) (s : Stamped) (sent taken : List Stamped) (left : List Item)
       → IsLinkMatched capacity old (s ∷ sent) taken left → length old ≤ capacity → AllByRecursion (λ t. s.stamp ≤ t) (stamps taken)
       → length old < capacity
@@ -17,7 +17,7 @@ module _ (capacity : ℕ) where
       = λ e. not-least s.stamp (stamps sent) (stamps taken) (subst (λ n. AreAbove (drop n (stamps (s ∷ sent))) (stamps taken)) e m.sent_later) all
       in grind (arith, full)
 
-  -- if the next take is the first of all that is to come, there is an item
+  -- if the next take comes first of all that is left, there is an item
   pub has-item : (old : List Item) (sent : List Stamped) (t : Stamped) (taken : List Stamped) (left : List Item)
       → IsLinkMatched capacity old sent (t ∷ taken) left → AllByRecursion (λ s. t.stamp ≤ s) (stamps sent)
       → 0 < length old

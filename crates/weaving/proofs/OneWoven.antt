@@ -14,7 +14,7 @@ entries-here p ps = grind (arith, common_steps)
 entries-there : (p : Placed) (ps : List Placed) (v : ℕ) → v ≢ p.node → entries_of v (p ∷ ps) ≡ entries_of v ps
 entries-there p ps v apart = grind (arith, common_steps)
 
--- none of those after is earlier, a node's first among them
+-- none of those after it is earlier, nor is a node's first
 first-no-earlier : (q : Placed) (qs : List Placed) (v : ℕ) (e : Entry) (es : List Entry) → AllByRecursion (IsNoLater q) qs → entries_of v qs ≡ e ∷ es
     → IsNoLater q (record { node = v; entry = e })
 first-no-earlier q [] v e es all is = absurd cc
@@ -28,7 +28,7 @@ first-no-earlier q (r ∷ qs) v e es all is = elim (cases_eq v r.node) [
   | inr apart ↦ first-no-earlier q qs v e es all.1 (sym (entries-there r qs v apart) ∙ is)
 ]
 
--- two that are no later than each other are of one node
+-- two entries that are each no later than the other are of one node
 both-ways : (p q : Placed) → p.node ≢ q.node → IsNoLater p q → IsNoLater q p → ⊥
 both-ways p q apart (inl a) (inl b) = absurd (omega arith)
 both-ways p q apart (inl a) (inr b) = let s = b.0 in absurd (omega arith)

@@ -1,4 +1,4 @@
--- Woven lists and matching links, small enough to see through.
+-- Woven lists and matching links: small examples.
 use Rattle.std.proofs.Common.{◌≡◌, ℕ, zero, suc, List, [], ◌∷◌, Some, None, refl, inl, inr, arith}
 use Rattle.std.proofs.lemmas.Grind.{common_steps}
 use Rattle.link_model.specs.declared.item.Item.TheVariants.{Noise}
@@ -26,7 +26,7 @@ all-there zero = refl
 all-there (suc zero) = refl
 all-there (suc (suc v)) = grind (arith, common_steps)
 
--- of two with one stamp the smaller node's comes first
+-- of two entries with one stamp, the smaller node's comes first
 woven-together : IsWoven (journal_of (of_sender ∷ of_taker ∷ [])) (Tick 0 ∷ Tick 1 ∷ Send 0 1 ∷ Take 0 1 ∷ [])
 woven-together = record {
   placed = in_order;
@@ -38,18 +38,18 @@ woven-together = record {
   complete = all-there;
 }
 
--- and not the greater's
+-- and not the greater node's
 not-the-later-first : AreOrdered (record { node = 1; entry = record { stamp = 1; event = Tick 1 } } ∷ record { node = 0; entry = record { stamp = 1; event = Tick 0 } } ∷ []) → ⊥
 not-the-later-first h = grind arith
 
--- the entries of both, and of what is not read
+-- the entries of both, and of what is unread
 all-counted : entry_count (of_sender ∷ of_taker ∷ []) ≡ 4
 all-counted = refl
 
 rest-unread : unread (of_sender ∷ of_taker ∷ []) (1 ∷ 2 ∷ []) ≡ (record { stamp = 2; event = Send 0 1 } ∷ []) ∷ [] ∷ []
 rest-unread = refl
 
--- of two with one stamp the first that was seen stays the first
+-- of two entries with one stamp, the one seen first stays first
 stays-first : with_next (Some (0, record { stamp = 1; event = Tick 0 })) 1 of_taker ≡ Some (0, record { stamp = 1; event = Tick 0 })
 stays-first = refl
 
@@ -60,14 +60,14 @@ comes-first = refl
 not-none_first : IsFirst (of_sender ∷ []) 1 None → ⊥
 not-none_first none = let nothing : ◌≡◌ {A = List Entry} of_sender [] = none 0 (omega arith) in absurd cc
 
--- nor what is later
+-- nor does a later entry
 not-later_first : IsFirst (of_sender ∷ of_taker ∷ []) 2 (Some (1, record { stamp = 1; event = Tick 1 })) → ⊥
 not-later_first first =
     let later : IsNoLater (record { node = 1; entry = record { stamp = 1; event = Tick 1 } }) (record { node = 0; entry = record { stamp = 1; event = Tick 0 } }) =
     first.3 0 (record { stamp = 1; event = Tick 0 }) (record { stamp = 2; event = Send 0 1 } ∷ []) (omega arith) refl in
     grind arith
 
--- stamps that stand are not rising
+-- equal stamps are not rising
 not-rising : AreRising (record { stamp = 1; event = Tick 0 } ∷ record { stamp = 1; event = Tick 0 } ∷ []) → ⊥
 not-rising h = grind arith
 

@@ -1,4 +1,4 @@
--- The parts of an account and of links that match: entries, deeds, stamps, and what is no link.
+-- The parts of an account and of matching links: entries, deeds, stamps, and what is no link.
 use Rattle.std.proofs.Common.{◌≡◌, ◌≢◌, ℕ, ◌<◌, zero, suc, List, [], ◌∷◌, Option, Some, None, refl, arith}
 use Rattle.std.proofs.lemmas.Bool.{false≢true}
 use Rattle.topology.specs.declared.frame.Frame.{Frame as FrameType}
@@ -90,11 +90,11 @@ above = (omega arith, (omega arith, tt))
 above_not-equal : ¬ AreAbove (5 ∷ []) (5 ∷ [])
 above_not-equal are = grind (arith, are.0)
 
--- nor what has nothing in its place
+-- nor is a stamp with nothing at its place
 above_not-more : ¬ AreAbove (5 ∷ 3 ∷ []) (4 ∷ [])
 above_not-more are = are.1
 
--- of two with one stamp the first stays, and of two others the smaller is the earlier
+-- of two entries with one stamp the first stays; else the smaller stamp is earlier
 abbrev at_time : ℕ → Entry
 at_time t = record { stamp = t; event = Tick 0 }
 

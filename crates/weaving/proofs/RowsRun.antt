@@ -1,4 +1,4 @@
--- What two nodes did by themselves, what it leads to, and what is no run of theirs.
+-- What two nodes did by themselves, where it leads, and what is no run of theirs.
 use Rattle.std.proofs.Common.{◌≡◌, ℕ, ◌<◌, ◌≤◌, zero, suc, List, [], ◌∷◌, IsTrue, refl, ap, arith}
 use Rattle.std.proofs.lemmas.Bool.{false≢true}
 use Rattle.std.proofs.lemmas.Grind.{common_steps}
@@ -34,11 +34,11 @@ events = Tick 0 ∷ Tick 1 ∷ Send 0 1 ∷ Take 0 1 ∷ []
 goes-through : GoesThrough start events
 goes-through = (refl, tt, (refl, tt, (refl, refl, (refl, omega arith, tt))))
 
--- a take of nothing is no event of a node on its thread, though it is not refused
+-- a node on its thread takes only what is there, though an empty take is not refused
 no-take_of_nothing : GoesThrough start (Take 0 1 ∷ []) → ⊥
 no-take_of_nothing through = let some : 0 < 0 = through.1 in omega (arith, some)
 
--- nor is a send to a full link
+-- nor does it send to a full link
 no-send_to_a_full_link : HasEffect (run start (Send 0 1 ∷ [])) (Send 0 1) → ⊥
 no-send_to_a_full_link room = false≢true room
 
@@ -83,15 +83,15 @@ leads-node_1 = ((refl, tt), ((0, omega arith, refl), refl))
 the-deeds : deeds_in (account 0) ≡ Ticks ∷ Sends 1 (frame_of (ticked_0.port 1)) ∷ []
 the-deeds = refl
 
--- noise that is taken off a link is no deed, and changes nothing
+-- taking noise off a link is no deed, and changes nothing
 noise-taken : Leads two_nodes 0 (start.node 0) (Took 1 (record { stamp = 1; item = Noise }) ∷ []) (start.node 0)
 noise-taken = ((refl, tt), refl)
 
--- but it comes over a link as well
+-- but noise comes over a link too
 no-noise_from_itself : Leads two_nodes 0 (start.node 0) (Took 0 (record { stamp = 1; item = Noise }) ∷ []) (start.node 0) → ⊥
 no-noise_from_itself leads = false≢true leads.0.0
 
--- a node sends what its port says, and no other frame
+-- a node sends the frame of its port, and no other
 no-other_frame : Leads two_nodes 0 (start.node 0) (Ticked 1 ∷ Sent 1 (record { stamp = 2; item = Frame (record (frame_of (ticked_0.port 1)) { seq = 1 }) }) ∷ []) ticked_0 → ⊥
 no-other_frame leads = let number : 1 ≡ 0 = ap (λ (f : FrameType). f.seq) leads.1.1 in omega (arith, number)
 
@@ -99,11 +99,11 @@ no-other_frame leads = let number : 1 ≡ 0 = ap (λ (f : FrameType). f.seq) lea
 no-noise : Leads two_nodes 0 (start.node 0) (Ticked 1 ∷ Sent 1 (record { stamp = 2; item = Noise }) ∷ []) ticked_0 → ⊥
 no-noise leads = leads.0.1
 
--- to a neighbour alone
+-- and only to a neighbour
 no-send_to_itself : Leads two_nodes 0 (start.node 0) (Sent 0 sent ∷ []) (start.node 0) → ⊥
 no-send_to_itself leads = false≢true leads.0.0
 
--- and its state is what its deeds make of it
+-- and its state is what its deeds make it
 no-tick_untold : Leads two_nodes 0 (start.node 0) [] ticked_0 → ⊥
 no-tick_untold leads = let distance : 0 ≡ 2 = ap (λ (s : LocalState). s.distance) leads.1 in omega (arith, distance)
 
@@ -136,7 +136,7 @@ matched-each (suc (suc u)) (suc (suc v)) = untouched _ _ _ refl refl (grind (ari
 are-matched : AreMatched start account (run start events)
 are-matched = record { network = refl; spares = refl; nodes = leads-each; nobody = nobody-else; links = matched-each }
 
--- a frame that was sent is taken, or still there
+-- a frame that was sent was taken, or is still there
 abbrev sender_alone : ℕ → List Note
 sender_alone zero = account 0
 sender_alone (suc v) = []
@@ -144,6 +144,6 @@ sender_alone (suc v) = []
 no-lost_frame : AreMatched start sender_alone (run start (Tick 0 ∷ [])) → ⊥
 no-lost_frame m = let kept = (m.links 0 1).kept in absurd cc
 
--- and nobody acts who is no node
+-- and only nodes act
 no-deed_of_nobody : (last : World) → AreMatched start (λ v. Ticked 1 ∷ []) last → ⊥
 no-deed_of_nobody last m = let nothing = m.nobody 2 (omega arith) in absurd cc

@@ -1,5 +1,5 @@
--- One deed of a node, if the accounts match: its event is not refused, does what it says, and
--- the accounts of what is to come match again.
+-- One deed of a node, if the accounts match: its event is not refused, does what it says, and the
+-- accounts of what is left match again.
 use Rattle.std.proofs.Common.{◌≡◌, ◌≢◌, ℕ, suc, ◌<◌, ◌≤◌, List, [], ◌∷◌, ◌++◌, IsTrue, None, length, refl, ap, ◌∙◌, sym, subst, arith}
 use Rattle.std.proofs.lemmas.Grind.{common_steps}
 use Rattle.std.proofs.lemmas.List.{length-append}
@@ -31,7 +31,7 @@ AreNodes w = (u v : ℕ) → IsTrue (are_joined w.net.edges u v) → (u < w.net.
 abbrev pub IsWithin : World → Type 0
 IsWithin w = (u v : ℕ) → IsTrue (are_joined w.net.edges u v) → length (w.link u v) ≤ w.net.capacity
 
--- an event that is not refused changes what it changes
+-- what an accepted event changes
 step-is : (w : World) (e : Event) → refusal w e ≡ None → step w e ≡ changed w e
 step-is w e fine = grind (arith, common_steps)
 
@@ -41,7 +41,7 @@ tick-fine w v in-net = grind (arith, common_steps)
 pub send-fine : (w : World) (u v : ℕ) → (u < w.net.nodes) × (v < w.net.nodes) → IsTrue (are_joined w.net.edges u v) → refusal w (Send u v) ≡ None
 send-fine w u v nodes joined = grind (arith, common_steps)
 
--- what goes on from a world by an event
+-- a world that goes on by an event
 pub record GoesOn (w last : World) (e : Event) (next : ℕ → List Note) : Type 0 where
   pub fine : refusal w e ≡ None
   pub effect : HasEffect w e
@@ -49,7 +49,7 @@ pub record GoesOn (w last : World) (e : Event) (next : ℕ → List Note) : Type
   pub within : IsWithin (step w e)
   pub matched : AreMatched (step w e) next last
 
--- the same, said of what the event changes
+-- the same, by what the event changes
 goes-on : (w last : World) (e : Event) (next : ℕ → List Note) → refusal w e ≡ None → HasEffect w e → (changed w e).net ≡ w.net
     → IsWithin (changed w e) → AreMatched (changed w e) next last → GoesOn w last e next
 goes-on w last e next fine effect network within matched =
@@ -62,7 +62,7 @@ goes-on w last e next fine effect network within matched =
     }
 
 module _ (w last : World) (account : ℕ → List Note) (v : ℕ) (ds : List Note) (nodes : AreNodes w) (within : IsWithin w) (m : AreMatched w account last) where
-  -- a node with a deed is a node
+  -- only a node has a deed
   somebody : (d : Note) → account v ≡ d ∷ ds → v < w.net.nodes
   somebody d is =
       let none : w.net.nodes ≤ v → ⊥ = λ out. let e : ◌≡◌ {A = List Note} [] (d ∷ ds) = sym (m.nobody v out) ∙ is in absurd cc in
@@ -74,7 +74,7 @@ module _ (w last : World) (account : ℕ → List Note) (v : ℕ) (ds : List Not
   leads-here : (d : Note) → account v ≡ d ∷ ds → Leads w.net v (w.node v) (d ∷ ds) (last.node v)
   leads-here d is = subst (λ xs. Leads w.net v (w.node v) xs (last.node v)) is (m.nodes v)
 
-  -- what is sent and taken, but for one deed
+  -- what is sent and taken, without one deed
   sent-same : (d : Note) → account v ≡ d ∷ ds → (b : ℕ) → sent_to b (d ∷ ds) ≡ sent_to b ds → (a : ℕ) → sent_to b (account a) ≡ sent_to b (at account v ds a)
   sent-same d is b skip = at-each (λ a xs. sent_to b (account a) ≡ sent_to b xs) account v ds (ap (sent_to b) is ∙ skip) (λ a _. refl)
 

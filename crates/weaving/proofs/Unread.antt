@@ -1,4 +1,4 @@
--- Reading journals on, entry by entry.
+-- Reading journals, entry by entry.
 use Rattle.std.proofs.Common.{◌≡◌, ℕ, zero, suc, ◌<◌, ◌≤◌, List, [], ◌∷◌, drop, length, refl, ap, ◌∙◌, sym, subst, slice_index, replicate, slice_set, arith}
 use Rattle.std.proofs.lemmas.Grind.{common_steps}
 use Rattle.topology.specs.At.{at}
@@ -36,7 +36,7 @@ unread-at (j ∷ js) [] v l = absurd (omega arith)
 unread-at (j ∷ js) (k ∷ ks) zero l = refl
 unread-at (j ∷ js) (k ∷ ks) (suc v) l = unread-at js ks v (omega arith)
 
--- one more is read of v's
+-- one more of v's entries is read
 pub read-on : (js : List (List Entry)) (ks : List ℕ) (v : ℕ) (e : Entry) (rest : List Entry) → v < length ks → journal_of (unread js ks) v ≡ e ∷ rest
     → (u : ℕ) → journal_of (unread js (slice_set ks v (suc (slice_index ks v)))) u ≡ at (journal_of (unread js ks)) v rest u
 read-on [] ks v e rest l h u = absurd cc
@@ -69,7 +69,7 @@ journal-past [] v l = refl
 journal-past (j ∷ js) zero l = absurd (omega arith)
 journal-past (j ∷ js) (suc v) l = journal-past js v (omega arith)
 
--- there is an entry that is not read, so less was read than the journal has
+-- if an entry is unread, less was read than the journal has
 pub fewer-read : (k : ℕ) (es : List Entry) (e : Entry) (later : List Entry) → drop k es ≡ e ∷ later → k < length es
 fewer-read zero [] e later h = absurd cc
 fewer-read zero (x ∷ es) e later h = omega arith
@@ -81,7 +81,7 @@ some-unread [] v e later h = absurd cc
 some-unread (j ∷ js) zero e later h = let l : length j ≡ suc (length later) = ap length h in omega (arith, l)
 some-unread (j ∷ js) (suc v) e later h = let l = some-unread js v e later h in omega (arith, l)
 
--- a row of noughts
+-- a row of zeros
 pub noughts : (n i : ℕ) → slice_index (replicate n 0) i ≡ 0
 noughts zero i = refl
 noughts (suc n) zero = refl

@@ -1,4 +1,4 @@
--- One entry more is woven.
+-- One more entry is woven.
 use Rattle.std.proofs.Common.{◌≡◌, ◌⊎◌, ℕ, zero, suc, ◌<◌, ◌≤◌, ◌+◌, List, [], ◌∷◌, ◌++◌, Some, None, length, inl, inr, ap, ◌∙◌, sym, subst, slice_index, slice_set, arith}
 use Rattle.std.proofs.Math.Path.{fun_ext}
 use Rattle.std.proofs.Math.Numerals.{add-one}
@@ -17,7 +17,7 @@ use Rattle.weaving.proofs.Unread.{unread-length, unread-at, read-on, read-one-le
 abbrev pub one-more : List ℕ → ℕ → List ℕ
 one-more read v = slice_set read v (slice_index read v + 1)
 
--- what follows if one more entry is read
+-- what follows from reading one more entry
 pub record IsReadOn (js : List (List Entry)) (read : List ℕ) (v : ℕ) (e : Entry) : Type 0 where
   pub place : v < length read
   pub within : slice_index read v < length (journal_of js v)
@@ -68,7 +68,7 @@ all-read js read none = woven-none (journal_of (unread js read)) (λ u. by-place
     | inr l ↦ journal-past (unread js read) u (subst (λ n. n ≤ u) (sym (unread-length js read)) l)
   ]
 
--- the same of journals in a row, at most 64
+-- the same for at most 64 journals in a row
 pub journals-read-on : {A : Type 0} (js : List (Journal A)) (read : List ℕ) (v : ℕ) (e : Entry) → length js ≤ 64 → length read ≡ 64
     → IsFirst (unread (entries_in js) read) (length js) (Some (v, e)) → ((u : ℕ) → AreRising (journal_of (unread (entries_in js) read) u))
     → IsReadOn (entries_in js) read v e

@@ -20,7 +20,7 @@ use Rattle.weaving.proofs.Steps.{AreNodes, IsWithin, GoesOn, ticks, sends, takes
 
 -- ---- what comes later has no smaller stamp
 
--- what holds of both holds of either
+-- what holds for both holds for either
 of-either : {X : Type 0} (P : X → Type 0) (b : Bool) (x y : X) → P x → P y → P (if b then x else y)
 of-either P true x y a b = a
 of-either P false x y a b = b
@@ -49,7 +49,7 @@ late-taken t v u (Took a s ∷ ds) all =
     let rest = late-taken t v u ds all.1 in
     of-either (λ xs. AllByRecursion (λ x. t ≤ x) (stamps xs)) (a == u) (s ∷ taken_from u ds) (taken_from u ds) (all.0, rest) rest
 
--- ---- the first of what is to come
+-- ---- the first of what is left
 
 first-deed : (v : ℕ) (e : Entry) (es : List Entry) (ds : List Note) → e ∷ es ≡ map (entry_of v) ds
     → (d : Note) × (rest : List Note) × (ds ≡ d ∷ rest) × (e ≡ entry_of v d) × (es ≡ map (entry_of v) rest)
@@ -80,7 +80,7 @@ no-deeds : (v : ℕ) (ds : List Note) → [] ≡ map (entry_of v) ds → ds ≡ 
 no-deeds v [] h = refl
 no-deeds v (d ∷ ds) h = absurd cc
 
--- if nothing is to come, the last world is reached
+-- if nothing is left, the last world is reached
 reached : (w last : World) (account : ℕ → List Note) → AreMatched w account last → ((v : ℕ) → account v ≡ []) → w ≡ last
 reached w last account m none =
     let node-is : (v : ℕ) → last.node v ≡ w.node v = λ v. (subst (λ ds. Leads w.net v (w.node v) ds (last.node v)) (none v) (m.nodes v)).1 in

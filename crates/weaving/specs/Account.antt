@@ -1,5 +1,5 @@
--- An account: what one node did on a thread of its own, in order, with the stamps and the items that
--- it sent and took. What the node does is said of its deeds, as of any node, in `accounts`.
+-- An account: what one node did on its own thread, in order, with the stamps and the items that it
+-- sent and took. `accounts` says of its deeds, as of any node's, what the node does.
 use Rattle.std.specs.Prelude.{◌≡◌, ℕ, ◌==◌, if◌then◌else◌, IsTrue, List, [], ◌∷◌}
 use Rattle.topology.specs.Network.{Network, are_joined}
 use Rattle.link_model.specs.declared.item.Item.{Item}
@@ -12,8 +12,8 @@ use Rattle.run_model.specs.declared.event.Event.TheVariants.{Send, Take, Tick}
 use Rattle.weaving.specs.declared.journal.Entry.{Entry}
 use Rattle.weaving.specs.declared.journal.Stamped.{Stamped}
 
--- what a node notes of its thread: that it ticked, with the stamp of that; what it sent to a
--- neighbour; what it took from a neighbour
+-- what a node notes on its thread: a tick, with its stamp; what it sent to a neighbour; what it
+-- took from a neighbour
 pub data Note : Type 0 where
   Ticked : ℕ → Note
   Sent : ℕ → Stamped → Note
@@ -44,13 +44,13 @@ abbrev pub send_first : ℕ → Item → List Deed → List Deed
 send_first w (Frame f) ds = Sends w f ∷ ds
 send_first w Noise ds = ds
 
--- A frame that comes from w, then more deeds. Noise that stood on a link when the run began is taken
--- off it by no deed: it changes nothing in the node.
+-- A frame that comes from w, then more deeds. Taking noise that was on a link when the run began
+-- is no deed: it changes nothing in the node.
 abbrev pub take_first : ℕ → Item → List Deed → List Deed
 take_first w (Frame f) ds = Takes w f ∷ ds
 take_first w Noise ds = ds
 
--- the deeds of a node, which its notes report
+-- the deeds that a node's notes report
 abbrev pub deeds_in : List Note → List Deed
 deeds_in [] = []
 deeds_in (Ticked t ∷ ns) = Ticks ∷ deeds_in ns
@@ -62,7 +62,7 @@ abbrev pub IsFrame : Item → Type 0
 IsFrame (Frame f) = Unit {0}
 IsFrame Noise = ⊥
 
--- what v sends are frames, and what it sends and takes goes over links of the network
+-- v sends frames, and sends and takes only over links of the network
 abbrev pub AreOverLinks : Network → ℕ → List Note → Type 0
 AreOverLinks net v [] = Unit {0}
 AreOverLinks net v (Ticked t ∷ ns) = AreOverLinks net v ns
@@ -70,8 +70,8 @@ AreOverLinks net v (Sent u s ∷ ns) =
     IsTrue (are_joined net.edges v u) × IsFrame s.item × AreOverLinks net v ns
 AreOverLinks net v (Took u s ∷ ns) = IsTrue (are_joined net.edges u v) × AreOverLinks net v ns
 
--- The account leads v from one state to another by the node's own steps: its deeds do, and what it
--- sends and takes goes over links.
+-- The account leads v from one state to another by the node's own steps: its deeds do, and it
+-- sends and takes only over links.
 abbrev pub Leads : Network → ℕ → LocalState → List Note → LocalState → Type 0
 Leads net v s notes last =
     AreOverLinks net v notes × deeds.Leads (site_of net v) (deeds_in notes) s last

@@ -1,4 +1,4 @@
--- Journals in a row, and what of them is not yet read.
+-- Journals in a row, and what is unread of them.
 use Rattle.std.specs.Prelude.{◌≡◌, ◌+◌, ℕ, ◌<◌, Option, Some, None, if◌then◌else◌, nat_le}
 use Rattle.std.specs.Prelude.{List, [], ◌∷◌, map, drop, length, slice_index_or}
 use Rattle.weaving.specs.declared.journal.Entry.{Entry}
@@ -18,24 +18,23 @@ abbrev pub entry_count : List (List Entry) → ℕ
 entry_count [] = 0
 entry_count (j ∷ js) = length j + entry_count js
 
--- each journal without as many of its first entries as were read
+-- each journal without the entries that were read
 abbrev pub unread : List (List Entry) → List ℕ → List (List Entry)
 unread [] read = []
 unread (j ∷ js) [] = j ∷ js
 unread (j ∷ js) (k ∷ ks) = drop k j ∷ unread js ks
 
--- the entry that comes first of two, by stamp; of two with one stamp it is the first
+-- the earlier of two entries by stamp; with one stamp, the first
 abbrev pub earlier : Option (ℕ × Entry) → ℕ → Entry → Option (ℕ × Entry)
 earlier None n e = Some (n, e)
 earlier (Some first) n e = if nat_le first.1.stamp e.stamp then Some first else Some (n, e)
 
--- the entry that comes first, if the next entry of one more node is looked at
+-- the earliest entry, once the next entry of one more node is seen
 abbrev pub with_next : Option (ℕ × Entry) → ℕ → List Entry → Option (ℕ × Entry)
 with_next first n [] = first
 with_next first n (e ∷ es) = earlier first n e
 
--- Of the entries of the first n journals this is the one that comes first, with its node;
--- there is none if they are all empty.
+-- The earliest entry of the first n journals, with its node; none if they are all empty.
 abbrev pub IsFirst : List (List Entry) → ℕ → Option (ℕ × Entry) → Type 0
 IsFirst journals n None = (u : ℕ) → u < n → journal_of journals u ≡ []
 IsFirst journals n (Some first) =

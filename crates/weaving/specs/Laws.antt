@@ -20,20 +20,20 @@ HasEffect w (Ask v t) = ⊥
 HasEffect w (Leave v t) = ⊥
 HasEffect w (Damage h) = ⊥
 
--- every event of the list is such, and none is refused
+-- every event of the list has an effect, and none is refused
 abbrev pub GoesThrough : World → List Event → Type 0
 GoesThrough w [] = Unit {0}
 GoesThrough w (e ∷ es) = (refusal w e ≡ None) × HasEffect w e × GoesThrough (step w e) es
 
--- the woven list of matching journals is a run from the one world to the other, in which no event
--- is refused, no send meets a full link, and no take an empty one
+-- the woven list of matching journals is a run from one world to the other: no event is refused,
+-- no send meets a full link, and no take an empty one
 abbrev pub WovenIsRun : Type 0
 WovenIsRun =
     (w last : World) (account : ℕ → List Note) (journal : ℕ → List Entry) (events : List Event)
     → IsWorldInRange w → AreMatched w account last → AreOf account journal → IsWoven journal events
     → (run w events ≡ last) × GoesThrough w events
 
--- journals have one woven list
+-- journals have only one woven list
 abbrev pub OneWovenList : Type 0
 OneWovenList =
     (journal : ℕ → List Entry) (xs ys : List Event) → IsWoven journal xs → IsWoven journal ys

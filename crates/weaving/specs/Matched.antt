@@ -1,4 +1,4 @@
--- Journals that match: what they say of each link is what a link of that capacity can do.
+-- Journals that match: they say of each link what a link of that capacity can do.
 use Rattle.std.specs.Prelude.{◌≡◌, ℕ, ◌-◌, ◌<◌, ◌≤◌, List, [], ◌∷◌, ◌++◌, map, drop, length}
 use Rattle.link_model.specs.declared.item.Item.{Item}
 use Rattle.run_model.specs.World.{World}
@@ -6,7 +6,7 @@ use Rattle.weaving.specs.declared.journal.Entry.{Entry}
 use Rattle.weaving.specs.declared.journal.Stamped.{Stamped}
 use Rattle.weaving.specs.Account.{Note, entry_of, sent_to, taken_from, Leads}
 
--- each of the first is above the one in its place of the second, which is there
+-- each of the first list is above the one at its place in the second, which is there
 abbrev pub AreAbove : List ℕ → List ℕ → Type 0
 AreAbove [] below = Unit {0}
 AreAbove (x ∷ xs) [] = ⊥
@@ -20,9 +20,9 @@ stamps xs = map (λ x. x.stamp) xs
 abbrev pub items : List Stamped → List Item
 items xs = map (λ x. x.item) xs
 
--- What stood on a link, then what was sent, is what was taken, then what is left. What was sent is
--- taken later. If no place is free, a send waits for a take: with f places free at the start,
--- send number f + j is later than take number j.
+-- What was on a link, then what was sent, is what was taken, then what is left. An item is taken
+-- later than it was sent. If no place is free, a send waits for a take: with f places free at the
+-- start, send number f + j is later than take number j.
 pub record IsLinkMatched (capacity : ℕ) (old : List Item) (sent taken : List Stamped)
     (left : List Item) : Type 0 where
   pub kept : old ++ items sent ≡ items taken ++ left

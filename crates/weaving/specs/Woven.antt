@@ -14,12 +14,13 @@ pub record Placed : Type 0 where
   pub node : ℕ
   pub entry : Entry
 
--- p comes no later than q: its stamp is smaller, or they are equal and its node is no greater
+-- p comes no later than q: its stamp is smaller, or the stamps are equal and its node is no
+-- greater
 abbrev pub IsNoLater : Placed → Placed → Type 0
 IsNoLater p q =
     (p.entry.stamp < q.entry.stamp) ⊎ ((p.entry.stamp ≡ q.entry.stamp) × (p.node ≤ q.node))
 
--- each comes no later than those after it
+-- each comes no later than all after it
 abbrev pub AreOrdered : List Placed → Type 0
 AreOrdered [] = Unit {0}
 AreOrdered (p ∷ ps) = AllByRecursion (IsNoLater p) ps × AreOrdered ps
@@ -29,8 +30,8 @@ abbrev pub entries_of : ℕ → List Placed → List Entry
 entries_of v [] = []
 entries_of v (p ∷ ps) = if p.node == v then p.entry ∷ entries_of v ps else entries_of v ps
 
--- A list of events is woven of some journals if its entries, in their order, are those of each
--- node's journal, and stand by stamp, then by node.
+-- A list of events is woven from some journals if each node's entries in it are its journal, in
+-- order, and all stand by stamp, then by node.
 pub record IsWoven (journal : ℕ → List Entry) (events : List Event) : Type 0 where
   pub placed : List Placed
   pub are_events : map (λ p. p.entry.event) placed ≡ events

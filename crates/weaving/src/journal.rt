@@ -1,11 +1,11 @@
-//! What a node notes of its run, and what it puts on a link.
+//! What a node notes in its run, and what it puts on a link.
 
 use link_model::Item;
 use run_model::Event;
 use std::alloc::{Allocator, Global};
 
-/// An event of one node, with the time of that node's clock. Of two events of which one waited for
-/// the other, that one has the greater stamp.
+/// An event of one node, with the time of that node's clock. If one event waited for another, it
+/// has the greater stamp.
 #[derive(Clone, Copy, Debug, PartialEq, Eq)]
 pub struct Entry {
     /// The clock's time.

@@ -1,17 +1,17 @@
-//! What holds of journals that are woven: each law is the contract of a function that does nothing.
+//! What holds for woven journals: each law is the contract of a function that does nothing.
 ghost use Rattle.weaving.specs.Laws.{OneWovenList, WovenIsRun};
 
-/// If the nodes' journals match, the woven list is a run: each node does in it what its journal
-/// says, meets on each link the item that it met, and no event is refused. Whoever runs the nodes
-/// side by side needs no more than matching journals to know that what they did is a run.
+/// If the nodes' journals match, the woven list is a run: in it each node does what its journal
+/// says and takes from each link the item that it took, and no event is refused. So matching
+/// journals are enough to know that nodes side by side did a run.
 pub fn weave()
     ensures { WovenIsRun }
 {
     topology::laws::joined();
 }
 
-/// Journals have one woven list: stamps, and nodes if two have the same, leave no choice. So
-/// whoever weaves them otherwise has the same list.
+/// Journals have only one woven list: stamps, and nodes if stamps are equal, leave no choice. So
+/// every way to weave them gives the same list.
 pub fn one_list()
     ensures { OneWovenList }
 {}

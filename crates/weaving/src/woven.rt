@@ -1,4 +1,4 @@
-//! One list of events of many journals.
+//! One list of events from many journals.
 ghost use Rattle.std.specs.Prelude.{◌≡◌, ◌+◌, ◌≤◌, ℕ, [], length, map, drop, slice_index, vec_len};
 ghost use Rattle.std.specs.Prelude.{vec_capacity};
 ghost use Rattle.weaving.specs.Woven.{AreRising, IsWoven};
@@ -9,10 +9,10 @@ use crate::journal::{Entry, Journal};
 use run_model::Event;
 use std::alloc::Allocator;
 
-/// The most journals that are woven.
+/// The most journals that can be woven.
 const MOST: usize = 64;
 
-/// The entry that comes first of two, by stamp; of two with one stamp it is the first.
+/// The earlier of two entries by stamp; with one stamp, the first.
 fn earlier(first: Option<(usize, Entry)>, node: usize, entry: Entry) -> Option<(usize, Entry)>
     ensures { result ≡ earlier first node entry }
 {
@@ -22,7 +22,7 @@ fn earlier(first: Option<(usize, Entry)>, node: usize, entry: Entry) -> Option<(
     }
 }
 
-/// The entry that comes first, if the next entry of one more node is looked at, if it has one.
+/// The earliest entry, once the next entry of one more node, if any, is seen.
 fn with_next<A: Allocator>(
     first: Option<(usize, Entry)>,
     node: usize,
@@ -37,8 +37,7 @@ fn with_next<A: Allocator>(
     }
 }
 
-/// Of the entries that are not yet read, the one that comes first, by stamp and then by node, with
-/// its node.
+/// The earliest unread entry, by stamp and then by node, with its node.
 fn first_unread<A: Allocator>(
     journals: &[Journal<A>],
     read: &[usize; MOST],
@@ -61,8 +60,8 @@ fn nothing_read() -> [usize; MOST]
     [0; MOST]
 }
 
-/// Weaves journals, one of each node at the place of its id: all their entries, by stamp, then by
-/// node. `out` is to be empty, with room for all of them; no memory is taken.
+/// Weaves journals, each at the place of its node's id: all their entries, by stamp, then by node.
+/// `out` must be empty, with room for all of them. Takes no memory.
 pub fn weave<A: Allocator, B: Allocator>(journals: &[Journal<A>], out: &mut Vec<Event, B>)
     requires few { length journals.now ≤ 64 }
     // A journal's own order is that of its stamps.

@@ -1,4 +1,4 @@
-//! How far nodes on threads are, shown on a terminal.
+//! The progress of nodes on threads, shown on a terminal.
 ghost use Rattle.std.specs.Prelude.{◌≡◌, None, false};
 
 use super::together::Together;
@@ -9,8 +9,7 @@ use thread_net::Gate;
 /// Node 0 looks at the clock before each 64th of its turns.
 const TURNS_A_LOOK: u32 = 64;
 
-/// A gate at which nodes wait for one another, and which shows how many turns node 0 has done, if that is
-/// wanted.
+/// A gate at which nodes wait for one another. It may also show how many turns node 0 has done.
 #[derive(Drop)]
 pub struct Watch<'a, R> {
     rt: &'a R,
@@ -20,7 +19,7 @@ pub struct Watch<'a, R> {
 }
 
 impl<'a, R: Eprint + Clock> Watch<'a, R> {
-    /// The watch of a run that starts now, in which each of `nodes` nodes does `turns` turns.
+    /// The watch of a run that starts now: each of `nodes` nodes does `turns` turns.
     pub fn start(rt: &'a R, nodes: u16, turns: u32, tells: bool) -> Watch<'a, R>
         ensures { tells ≡ false → result.progress ≡ None }
     {
@@ -36,7 +35,7 @@ impl<'a, R: Eprint + Clock> Watch<'a, R> {
         }
     }
 
-    /// Takes the line away, if it was written.
+    /// Removes the line, if it was written.
     pub fn end(&self) {
         if let Some(progress) = &self.progress {
             progress.end(self.rt);

@@ -4,7 +4,7 @@ use Rattle.weaving.specs.Woven.{AreRising, IsWoven}
 use Rattle.weaving.specs.Journals.{entries_in, journal_of, unread, entry_count}
 use Rattle.weaving.proofs.woven.weave.Given as goal
 
--- what is woven so far, and then what is woven of the rest, is woven of the whole
+-- what is woven so far, and then what is woven from the rest, is woven from the whole
 abbrev pub invariant-loop-node : goal.invariant-loop-node
 invariant-loop-node g l =
     let rest = unread (entries_in l.fn.journals) l.read in record {

@@ -2,6 +2,6 @@ use Rattle.std.proofs.Common.{◌≡◌}
 use Rattle.std.specs.Io.KnownBytes.{Keeps}
 use Rattle.command_parts.proofs.streams.ReadSourceSource.read.Given as goal
 
--- nothing was read, and no failure counted
+-- nothing was read, and no failure was counted
 abbrev pub invariant-loop : goal.invariant-loop
 invariant-loop g l = (l.self.failures ≡ l.fn.self.failures) × Keeps (g.R.Read.remaining l.fn.self.reader) (g.R.Read.remaining l.self.reader)
