@@ -1,5 +1,5 @@
--- A node that lends moves no machine, so a loan with privilege keeps it; and a full tick ends each
--- other loan.
+-- A node that lends moves no machine, so a loan with privilege keeps it; and a full tick ends
+-- every other loan.
 use Rattle.std.proofs.Common.{◌≡◌, ℕ, ◌<◌, inl, inr, true, false, ◌==◌, ◌&&◌, List, [], ◌∷◌, Option, Some, None, refl, sym, ◌∙◌, ap, subst}
 use Rattle.std.specs.Prelude.{is_some, is_none, if◌then◌else◌}
 use Rattle.std.specs.List.{list_any}
@@ -33,13 +33,12 @@ pub none-not_some : (o : Option ℕ) → is_none o ≡ true → is_some o ≡ fa
 none-not_some None h = refl
 none-not_some (Some t) h = absurd (false≢true h)
 
--- after a tick with a loan each machine has the value that it had
+-- a tick with a loan leaves each machine its value
 loan_stops_machines : (site : Site) (s : LocalState) (t : ℕ) → is_none (ticked site s).desk.lent ≡ false → (ticked site s).value t ≡ s.value t
 loan_stops_machines site s t h =
     ap (λ c. if c && (list_any (λ u. u == t) (tree_of site (ticked site s)) && may_move site (desk_done site (recomputed site s)) t) then moved_value site (desk_done site (recomputed site s)) t else s.value t) h
 
--- a node that lends after a tick is privileged then: the loan needed privilege, and no machine
--- moved
+-- a node that lends after a tick is privileged: the loan needed privilege, and no machine moved
 pub tick-keeps_privilege : LoansNeedPrivilege → (site : Site) (s : LocalState) → is_some (ticked site s).desk.lent ≡ true → is_node_privileged site (ticked site s) ≡ true
 tick-keeps_privilege loans site s h =
     let old = recomputed site s in
@@ -49,7 +48,7 @@ tick-keeps_privilege loans site s h =
     ap (λ test. list_any test (tree_of site old)) kept ∙ p
 
 module _ (b : Below) where
-  -- a loan of the node is with privilege
+  -- if the node lends, it is privileged
   abbrev pub IsLoanPrivileged : World → ℕ → Type 0
   IsLoanPrivileged w v = is_lending w v ≡ true → is_privileged w v ≡ true
 
@@ -94,7 +93,7 @@ module _ (b : Below) where
   full-lends_not w (Leave u x) v h = absurd (false≢true h)
   full-lends_not w (Damage x) v h = absurd (false≢true h)
 
-  -- after a full tick of the node its loans are with privilege
+  -- after a full tick of the node its loans have privilege
   pub loan-after_full_tick : (w : World) (es : List Event) (v : ℕ) → IsUndamaged w es → IsGoodWorld w → v < w.net.nodes → has_full_tick w es v ≡ true
       → IsLoanPrivileged (run w es) v
   loan-after_full_tick w es v u g h t =

@@ -30,7 +30,8 @@ moves-join w (e ∷ xs) ys = omega (arith, moves-join (step w e) xs ys)
 pub other-number : (w : World) (r s : ℕ) (es : List Event) → r ≡ s → Sweeps w r es → Sweeps w s es
 other-number w r s es e h = subst (λ k. Sweeps w k es) e h
 
--- a list that is parted in two is without damage in each part, and its moves are those of the parts
+-- a list in two parts without damage has no damage in each part, and its moves are those of the
+-- parts
 pub record IsParted (w : World) (es first rest : List Event) : Type 0 where
   pub early : IsUndamaged w first
   pub late : IsUndamaged (run w first) rest
@@ -106,8 +107,8 @@ module _ (b : Below) where
         (run mid y.0) y.1 (later-within mid x.1 y.0 y.1 h1 q) taken in
         subst (λ v. Known v (suc j)) (sym (p.leads ∙ q.leads)) done
 
-    -- four sweeps for each leg that is still ahead, and three for what is staged and copied of the
-    -- last
+    -- four sweeps for each leg that is still ahead, and three for what the last one stages and
+    -- copies
     pub copied-ahead : (k : ℕ) (w : World) (es : List Event) (j : ℕ) → Within w es → j + k ≡ last → Known w j → Sweeps w (4 * k + 3) es
         → IsCopied place since (run w es) last
     copied-ahead zero w es j h e c sweeps =
@@ -122,7 +123,7 @@ module _ (b : Below) where
     pub nothing-known : (w : World) → Known w 0
     nothing-known w = record { staged = λ i h. absurd (omega (arith, h)); copied = λ i h. absurd (omega (arith, h)); next = λ i h. absurd (omega (arith, h)) }
 
-    -- four sweeps make known the values up to the next machine, whatever they were
+    -- four sweeps make the values up to the next machine known, whatever they were
     pub known-in : (k : ℕ) (w : World) (es : List Event) → Within w es → k ≤ last → Sweeps w (4 * k) es → Known (run w es) k
     known-in zero w es h l sweeps = nothing-known (run w es)
     known-in (suc k) w es h l sweeps =
@@ -161,9 +162,9 @@ module _ (b : Below) where
     abbrev behind : ℕ
     behind = length tour.others
 
-    -- If the values up to the j-th machine are the head's, the head moves in four sweeps for
-    -- each machine from there on: were there no move, all values would be its own, and a full tick
-    -- of the root would move it.
+    -- If the values up to the j-th machine are the head's, the head moves within four sweeps for
+    -- each machine from there on: without a move all values would be its own, and a full tick of
+    -- the root would move it.
     pub moves-ahead : (j k : ℕ) (w : World) (es : List Event) (small : 0 < ring_of net) → IsSettledOn net w → IsUndamaged w es → j + k ≡ behind
         → IsKnown (leg b net tour (machine_value w tour.first) 0 small) (old b net tour (machine_value w tour.first) 0 small) w j
         → Sweeps w ((4 * k + 3) + 1) es → 0 < head_moves w es
@@ -195,7 +196,7 @@ module _ (b : Below) where
                 (omega (arith, least, now.2)) in
                 special-ticks b net tour start 0 small v e now.0 now.1 same f (omega (arith, now.2))
 
-    -- so in any 8(n - 1) sweeps
+    -- so it moves in any 8(n - 1) sweeps
     pub moves-in_round : (w : World) (es : List Event) → IsSettledOn net w → IsUndamaged w es → Sweeps w (8 * (net.nodes - 1)) es → 0 < head_moves w es
     moves-in_round w es s u sweeps =
         let two = two-values-at-least b net tour w s in

@@ -1,6 +1,6 @@
--- How what the head held since some moment goes round the tour: four sweeps a leg. Its age says of
--- a value when the head held it; if the values of the first legs are known, their ages do not
--- rise from one to the next.
+-- How the values that the head has held since some moment go round the tour: four sweeps a leg.
+-- The age of a value says when the head held it; if the values of the first legs are known, their
+-- ages fall from each to the next, or stay.
 use Rattle.std.proofs.Common.{◌≡◌, ◌≢◌, ℕ, zero, suc, ◌+◌, ◌<◌, ◌≤◌, ◌⊎◌, inl, inr, Bool, true, false, ◌==◌, List, [], ◌∷◌, length, refl, sym, ◌∙◌, ap, subst, arith}
 use Rattle.std.specs.Prelude.{if◌then◌else◌, nat_le}
 use Rattle.std.proofs.lemmas.Bool.{eq-eqb, ne_eqb, cases_eq, cases_Bool}
@@ -26,19 +26,19 @@ use Rattle.convergence.proofs.Settled.{IsSettledOn, settled-event}
 use Rattle.convergence.proofs.LegEvents.{moved_leg, staged-event, copied-event, full-tick, present-is, leg-joined}
 use Rattle.convergence.proofs.RingEvents.{plain-event, special-event, head-move-is, first-sees, special-on, head-goes-on, head-in, two-values-at-least}
 
--- From the head to the machine of leg j ages do not rise: nor from a machine to what is staged of
--- it, nor to what is copied of that, nor to the next machine.
+-- From the head to the machine of leg j ages do not rise: not from a machine to its staged value,
+-- not from there to the copy, and not to the next machine.
 pub record IsKnown (leg : ℕ → Leg) (old : ℕ → ℕ) (w : World) (j : ℕ) : Type 0 where
   pub staged : (i : ℕ) → i < j → old (staged_value w (leg i)) ≤ old (machine_value w (leg i))
   pub copied : (i : ℕ) → i < j → old (copied_value w (leg i)) ≤ old (staged_value w (leg i))
   pub next : (i : ℕ) → i < j → old (machine_value w (leg (suc i))) ≤ old (copied_value w (leg i))
 
--- so with what the last of these machines has staged,
+-- nor to what the last of these machines has staged,
 pub record IsStaged (leg : ℕ → Leg) (old : ℕ → ℕ) (w : World) (j : ℕ) : Type 0 where
   pub known : IsKnown leg old w j
   pub staged : old (staged_value w (leg j)) ≤ old (machine_value w (leg j))
 
--- and with what is copied of it
+-- nor to the copy of that
 pub record IsCopied (leg : ℕ → Leg) (old : ℕ → ℕ) (w : World) (j : ℕ) : Type 0 where
   pub staged : IsStaged leg old w j
   pub copied : old (copied_value w (leg j)) ≤ old (staged_value w (leg j))
@@ -102,7 +102,7 @@ module _ (b : Below) (net : Network) (tour : IsTour net) (start bound : ℕ) (sm
             omega (arith, one, next, is))
       ]
 
-  -- in such a stretch: an event, and a list
+  -- an event, and a list, within such a stretch
   abbrev pub IsEventWithin : World → Event → Type 0
   IsEventWithin w e = IsSettledOn net w × (is_damage w e ≡ false) × (head_age w + head_move w e ≤ bound)
 
@@ -128,7 +128,7 @@ module _ (b : Below) (net : Network) (tour : IsTour net) (start bound : ℕ) (sm
       let one = head-event w e now.0 now.1 now.2 in
       omega (arith, one, head-run (step w e) es (rest-within w e es h))
 
-  -- ---- one event: no value gets younger, and none passes the one before it
+  -- ---- one event: no value gets younger, and none overtakes the one before it
 
   staged-rises : (w : World) (e : Event) (i : ℕ) → IsEventWithin w e → i ≤ end → old (staged_value w (leg i)) ≤ old (machine_value w (leg i))
       → old (staged_value w (leg i)) ≤ old (staged_value (step w e) (leg i))
@@ -140,7 +140,7 @@ module _ (b : Below) (net : Network) (tour : IsTour net) (start bound : ℕ) (sm
   copied-rises w e i now l h = at-least old (copied_value w (leg i)) (staged_value w (leg i)) (copied_value (step w e) (leg i)) (old (copied_value w (leg i)))
       (copied-event b net w e (leg i) now.0 now.1 (leg-tree i l)) (omega arith) h
 
-  -- a machine other than the first stays or takes what is copied of the one before it
+  -- a machine other than the first stays, or takes the copy of the one before it
   next-event : (w : World) (e : Event) (i : ℕ) → IsEventWithin w e → i < end
       → (machine_value (step w e) (leg (suc i)) ≡ machine_value w (leg (suc i))) ⊎ (machine_value (step w e) (leg (suc i)) ≡ copied_value w (leg i))
   next-event w e i now l = elim (plain-event b net tour w e (leg (suc i)) now.0 now.1 (among-later tour.first tour.others i l)) [
@@ -209,7 +209,7 @@ module _ (b : Below) (net : Network) (tour : IsTour net) (start bound : ℕ) (sm
       (λ x e now k. (staged-stays j l x e now k.0, up_to first (old (staged_value x (leg j))) (old (staged_value (step x e) (leg j))) k.1 (staged-rises x e j now l k.0.staged)))
       w es h (c, omega arith)).1
 
-  -- until its end a machine says no value older than the one that it then has
+  -- until the end a machine says no value older than the one that it has then
   says-young : (j : ℕ) → j ≤ end → (w : World) (es : List Event) → IsWithin w es → IsKnown leg old w j
       → AlwaysPresent (young (old (machine_value (run w es) (leg j)))) w es (leg j).here (leg j).onward
   says-young j l w [] h c =
@@ -221,7 +221,7 @@ module _ (b : Below) (net : Network) (tour : IsTour net) (start bound : ℕ) (sm
     says-young j l (step w e) es (rest-within w e es h) (known-event j l w e (event-within w e es h) c),
   )
 
-  -- and its node stages none older than the one that it then has staged
+  -- and its node stages none older than the one that it has staged then
   stages-young : (j : ℕ) → j ≤ end → (w : World) (es : List Event) → IsWithin w es → IsStaged leg old w j
       → AlwaysStaged (young (old (staged_value (run w es) (leg j)))) w es (leg j).here (leg j).onward
   stages-young j l w [] h c = within (old (staged_value w (leg j))) (old (staged_value w (leg j))) (omega arith)

@@ -1,4 +1,4 @@
--- What an event does to the three values of one leg of the tour, in a settled world.
+-- What an event changes in the three values of one leg of the tour, in a settled world.
 use Rattle.std.proofs.Common.{◌≡◌, ℕ, ◌<◌, ◌⊎◌, inl, inr, Bool, true, false, ◌==◌, ◌&&◌, List, sym, ◌∙◌, ap, subst}
 use Rattle.std.specs.Prelude.{is_none, if◌then◌else◌}
 use Rattle.std.specs.List.{list_any}
@@ -28,7 +28,7 @@ use Rattle.convergence.specs.RingBelow.{Below}
 use Rattle.convergence.proofs.Settled.{IsSettledOn, settled-event}
 use Rattle.run_model.specs.Ticks.{IsTicking}
 
--- the value of a machine after a tick, for the tree neighbours that the node then has
+-- the value of a machine after a tick, by the tree neighbours that the node has then
 abbrev value_ticked : Site → LocalState → ℕ → List ℕ → Bool → ℕ
 value_ticked site s t ts free =
     if free && (list_any (λ u. u == t) ts && machine.is_privileged (is_named (special site.is_root ts) t) (s.value t) (before s t))
@@ -43,8 +43,8 @@ tick-value site s t ts e = ap (λ us. value_ticked site s t us (is_none (ticked 
 abbrev pub moved_leg : World → Leg → ℕ
 moved_leg w l = if is_special_leg w.net l then root_moved (machine_value w l) (ring_of w.net) else seen_value w l
 
--- after a tick of the leg's node its machine has moved if it may and the node lends to nobody,
--- and it sees what it saw
+-- after a tick of the leg's node, its machine has moved if it may and the node lends to nobody,
+-- and it sees what it saw before
 abbrev pub IsLegTicked : World → World → Leg → Type 0
 IsLegTicked w new l =
     (machine_value new l ≡ (if is_none (new.node l.here).desk.lent && leg_may_move w l then moved_leg w l else machine_value w l))
@@ -71,7 +71,7 @@ module _ (b : Below) where
         ap (λ (x : LocalState). (x.port l.from).copy.ring) ticks,
       )
 
-  -- a machine stays, or it may move and does, and then it sees what it saw
+  -- a machine stays, or moves as it may, and then sees what it saw before
   pub machine-event : (net : Network) (w : World) (e : Event) (l : Leg) → IsSettledOn net w → is_damage w e ≡ false → IsTreeLeg net l
       → (machine_value (step w e) l ≡ machine_value w l)
       ⊎ ((leg_may_move w l ≡ true) × (machine_value (step w e) l ≡ moved_leg w l) × (seen_value (step w e) l ≡ seen_value w l))
@@ -104,7 +104,7 @@ module _ (b : Below) where
   full-tick net w (Leave u v) l s d t h = absurd (false≢true h)
   full-tick net w (Damage x) l s d t h = absurd (false≢true h)
 
-  -- what the leg's node says to the node that the leg goes on to has the machine's value
+  -- the leg's node tells the node that the leg goes on to its machine's value
   pub present-is : (net : Network) (w : World) (l : Leg) → IsSettledOn net w → IsTreeLeg net l → (present w l.here l.onward).ring ≡ machine_value w l
   present-is net w l s t =
       let tl = tree-leg-on net w l s.1 t in

@@ -3,7 +3,7 @@ use Rattle.std.proofs.Common.{◌≡◌, ℕ, zero, suc, ◌<◌, ◌≤◌, inl
 use Rattle.convergence.specs.Ring.{Leg}
 use Rattle.convergence.specs.Legs.{IsFollowed, IsAmong, last_leg}
 
--- the leg at a place of p and those that follow it; the last beyond them
+-- the leg at a place of p and its followers; beyond them the last
 abbrev pub leg_at : Leg → List Leg → ℕ → Leg
 leg_at p ls zero = p
 leg_at p [] (suc i) = p

@@ -1,5 +1,5 @@
--- A machine moves in a full tick with privilege: so at a desk if a ticket waits, only if it
--- had served or a loan ends.
+-- A machine moves only in a full tick with privilege. So if a ticket waits at the desk, it moves
+-- only if the desk had served or a loan ends.
 use Rattle.std.proofs.Common.{◌≡◌, ◌≢◌, ℕ, inl, inr, true, false, ◌==◌, ◌&&◌, sym, ◌∙◌, ap}
 use Rattle.std.specs.Prelude.{is_none, is_some, if◌then◌else◌}
 use Rattle.std.specs.List.{list_any}
@@ -20,7 +20,7 @@ use Rattle.convergence.specs.Service.{MovesPassServed, MovesClearDesks}
 use Rattle.convergence.specs.Below.{Below}
 use Rattle.convergence.proofs.Desks.{none-not_some}
 
--- the tick is with privilege, and full
+-- the tick is full, and the node was privileged
 pub record IsFullWithPrivilege (site : Site) (s : LocalState) : Type 0 where
   pub desk : (ticked site s).desk ≡ desk_ticked site.lease true s.desk
   pub full : is_some (desk_ticked site.lease true s.desk).lent ≡ false

@@ -18,7 +18,7 @@ use Rattle.convergence.proofs.Settled.{IsSettledOn, settled-event}
 use Rattle.convergence.proofs.LegEvents.{tree-leg-on}
 
 module _ (b : Below) (net : Network) (tour : IsTour net) where
-  -- what a privileged machine sees does not change: what comes to it is what it sees
+  -- what a privileged machine sees does not change: what comes to it equals what it sees
   seen-stays : (w : World) (e : Event) (l : Leg) → IsSettledOn net w → is_damage w e ≡ false → IsTreeLeg net l → coming_value w l ≡ seen_value w l
       → seen_value (step w e) l ≡ seen_value w l
   seen-stays w e l s d t c =

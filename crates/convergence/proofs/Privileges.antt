@@ -80,13 +80,13 @@ module _ (back : JoinedBack) (nodes : JoinedAreNodes) (near : NeighboursAreJoine
       ap (λ x. may_move (site w x) (w.node x) e.0.from) e.3 ∙ ap (may_move (site w v) (w.node v)) e.2 ∙ m.1 in
       (e.0, e.1, e.3, sym (may-move-is w e.0 a t here) ∙ may)
 
-  -- and the other way round
+  -- and conversely
   pub leg-privileged : (w : World) (l : Leg) → IsAcceptedNetwork w.net → IsTreeReached w → IsTreeLeg w.net l → leg_may_move w l ≡ true → is_privileged w l.here ≡ true
   leg-privileged w l a t i m =
       somewhere-passes (may_move (site w l.here) (w.node l.here)) l.from (tree_of (site w l.here) (w.node l.here)) (may-move-is w l a t i.here_in ∙ m)
       (subst (λ ts. list_any (λ u. u == l.from) ts ≡ true) (sym (tree-is back view w l.here a t i.here_in)) i.from)
 
-  -- at most one machine may move, and what comes to it is what it sees
+  -- at most one machine may move, and what comes to it equals what it sees
   abbrev pub IsOneMover : World → List Leg → Type 0
   IsOneMover w ls =
       ((l k : Leg) → IsAmong l ls → IsAmong k ls → leg_may_move w l ≡ true → leg_may_move w k ≡ true → l ≡ k)

@@ -1,4 +1,4 @@
--- On the token ring an event is a parallel step, or a parallel step and then a move of the head.
+-- On the token ring an event is a parallel step, perhaps followed by a move of the head.
 use Rattle.std.proofs.Common.{◌≡◌, ◌≢◌, ℕ, ◌+◌, ◌*◌, ◌-◌, ◌<◌, ◌≤◌, ◌⊎◌, inl, inr, Bool, true, false, ◌==◌, List, [], ◌∷◌, length, refl, sym, ◌∙◌, ap, subst, arith}
 use Rattle.std.specs.Prelude.{if◌then◌else◌}
 use Rattle.std.specs.List.{AllByRecursion}
@@ -47,7 +47,7 @@ module _ (b : Below) (net : Network) (tour : IsTour net) where
   pub first-sees : (w : World) → seen_value w tour.first ≡ copied_value w (last_leg tour.first tour.others)
   first-sees w = seen-is_copied w (last_leg tour.first tour.others) tour.first tour.closed.0
 
-  -- a machine other than the special one stays or takes what it sees
+  -- a machine other than the special one stays, or takes what it sees
   pub plain-event : (w : World) (e : Event) (l : Leg) → IsSettledOn net w → is_damage w e ≡ false → IsAmong l tour.others
       → (machine_value (step w e) l ≡ machine_value w l) ⊎ (machine_value (step w e) l ≡ seen_value w l)
   plain-event w e l s d i = elim (machine-event b net w e l s d (tour.tree l (inr i))) [
@@ -55,7 +55,7 @@ module _ (b : Below) (net : Network) (tour : IsTour net) where
     | inr m ↦ inr (m.1 ∙ ap (λ c. if c then root_moved (machine_value w l) (ring_of w.net) else seen_value w l) (special-on net w l false s.1 (tour.others_not l i)))
   ]
 
-  -- the special machine stays, or it sees its own value and goes on to the next
+  -- the special machine stays, or sees its own value and takes the next
   pub special-event : (w : World) (e : Event) → IsSettledOn net w → is_damage w e ≡ false
       → (machine_value (step w e) tour.first ≡ machine_value w tour.first)
       ⊎ ((machine_value (step w e) tour.first ≡ root_moved (machine_value w tour.first) (ring_of net)) × (seen_value (step w e) tour.first ≡ machine_value w tour.first))
@@ -80,7 +80,7 @@ module _ (b : Below) (net : Network) (tour : IsTour net) where
         (staged-event b net w e l s d t, (copied-event b net w e l s d t, others-event w e s d l ls f.1 (λ k m. i k (inr m)))),
       )
 
-  -- all that stands after the head makes a parallel step
+  -- all that follows the head makes a parallel step
   abbrev behind : World → List ℕ
   behind w = staged_value w tour.first ∷ copied_value w tour.first ∷ values_of w tour.others
 
@@ -158,7 +158,7 @@ module _ (b : Below) (net : Network) (tour : IsTour net) where
       let below' : AllByRecursion (λ y. y < ring_of net) (values_of w whole) = subst (λ n. AllByRecursion (λ y. y < ring_of n) (values_of w whole)) s.1 below in
       subst (λ xs. IsRing (ring_of net) xs) (sym (ring-is w s.1)) (omega arith, below')
 
-  -- after as many moves of the head as the ring has values it is good
+  -- the ring is good after as many moves of the head as it has values
   pub good-after_moves : (w : World) (es : List Event) → IsSettledOn net w → IsUndamaged w es → 6 * (net.nodes - 1) ≤ head_moves w es → IsTokenRingGood (run w es)
   good-after_moves w es s u many =
       let z = settled-run b net w es s u in
@@ -166,7 +166,7 @@ module _ (b : Below) (net : Network) (tour : IsTour net) where
       let g = b.ring_turns (ring_of net) (head_moves w es) (token_ring w) (token_ring (run w es)) (ring-run w es s u) (ring-in w s) (omega (arith, count)) (omega (arith, count)) in
       subst (λ n. IsGood (ring_of n) (token_ring (run w es))) (sym z.1) g
 
-  -- what the special machine sees is in range, too
+  -- what the special machine sees is in range too
   pub seen-in_range : (w : World) → IsSettledOn net w → seen_value w tour.first < ring_of net
   seen-in_range w s =
       subst (λ n. seen_value w tour.first < ring_of n) s.1

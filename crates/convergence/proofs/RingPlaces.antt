@@ -1,5 +1,5 @@
--- The places of a leg's values on the token ring: the machine's is three times the leg's own place.
--- So what is known of privilege on a good ring holds of legs.
+-- The places of a leg's values on the token ring: the machine's is three times the leg's own
+-- place. So what is known about privilege on a good ring holds for legs.
 use Rattle.std.proofs.Common.{◌≡◌, ℕ, zero, suc, ◌*◌, ◌<◌, ◌≤◌, inl, inr, Bool, true, false, List, [], ◌∷◌, length, refl, sym, ◌∙◌, ap, subst, arith}
 use Rattle.std.specs.Prelude.{flat_map}
 use Rattle.std.proofs.lemmas.Bool.{cases_Bool}
@@ -16,7 +16,7 @@ use Rattle.convergence.proofs.LegPlaces.{leg_at, among-later, followed-at, last-
 abbrev pub values_of : World → List Leg → List ℕ
 values_of w ls = flat_map (leg_values w) ls
 
--- what the machine of the leg after p sees is p's copy, and what comes to it is what p staged
+-- the machine of the leg after p sees p's copy, and what p staged comes to it
 pub seen-is_copied : (w : World) (p l : Leg) → (l.from ≡ p.here) × (l.here ≡ p.onward) → seen_value w l ≡ copied_value w p
 seen-is_copied w p l (a, b) = ap (λ h. ((w.node h).port l.from).copy.ring) b ∙ ap (λ f. ((w.node p.onward).port f).copy.ring) a
 
@@ -69,7 +69,7 @@ module _ (one : OneItemIsPrivileged) (w : World) (q : ℕ) (first : Leg) (others
       (machine-place w first others i closed.1 (omega arith)
       ∙ ap (λ c. is_privileged c (machine_value w (leg_at first others (suc i))) (seen_value w (leg_at first others (suc i)))) (sym (plain (leg_at first others (suc i)) (among-later first others i (omega arith)))))
 
-  -- one machine at most may move
+  -- at most one machine may move
   pub one-mover : (l k : Leg) → IsAmong l (first ∷ others) → IsAmong k (first ∷ others) → leg_may_move w l ≡ true → leg_may_move w k ≡ true → l ≡ k
   one-mover l k a b h o =
       let i = place-of l first others a in
@@ -92,7 +92,7 @@ module _ (one : OneItemIsPrivileged) (w : World) (q : ℕ) (first : Leg) (others
   fed-by : (p l : Leg) → (l.from ≡ p.here) × (l.here ≡ p.onward) → copied_value w p ≡ staged_value w p → coming_value w l ≡ seen_value w l
   fed-by p l f stands = coming-is_staged w p l f ∙ sym stands ∙ sym (seen-is_copied w p l f)
 
-  -- so what comes to that machine is what it sees
+  -- so what comes to that machine equals what it sees
   pub mover-is_fed : (l : Leg) → IsAmong l (first ∷ others) → leg_may_move w l ≡ true → coming_value w l ≡ seen_value w l
   mover-is_fed l (inl e) h =
       let stands = subst (λ p. copied_value w p ≡ staged_value w p) (sym (last-at first others)) (copies-stand l (inl e) h (length others) (omega arith)) in

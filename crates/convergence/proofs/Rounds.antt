@@ -1,7 +1,7 @@
--- On a good token ring each machine moves in any 8(n - 1) sweeps. One that has not the head's value
--- takes it, 4 sweeps a leg from the head. One that has it stands at the end of values that all are
--- the head's: so the head moves in 4 sweeps for each leg from the machine on, and then the machine
--- has not its value.
+-- On a good token ring each machine moves in any 8(n - 1) sweeps. A machine without the head's
+-- value takes it, after 4 sweeps a leg from the head. If it has the head's value, so have all
+-- before it: so the head moves within 4 sweeps for each leg from the machine on, and then the
+-- machine no longer has its value.
 use Rattle.std.proofs.Common.{◌≡◌, ◌≢◌, ℕ, zero, suc, ◌+◌, ◌*◌, ◌-◌, ◌<◌, ◌≤◌, inl, inr, List, [], ◌∷◌, ◌++◌, length, refl, sym, ◌∙◌, ap, subst, arith}
 use Rattle.std.specs.List.{AllByRecursion}
 use Rattle.std.proofs.lemmas.Bool.{cases_eq}
@@ -68,7 +68,7 @@ other-list w xs ys l e m = subst (λ z. Moment w z l) (sym e) m
 equals : (f : ℕ → ℕ) (x y : ℕ) → x ≡ y → f x ≤ f y
 equals f x y e = subst (λ z. f x ≤ f z) e (omega arith)
 
--- ---- if a machine has the value a, and the a's stand in front, all before it are a
+-- ---- if a machine has the value a, and the a's come first, all before it are a
 
 machine-at : (P : ℕ → Type 0) (w : World) (p : Leg) (ls : List Leg) (k : ℕ) → k ≤ length ls → AllByRecursion P (values_of w (p ∷ ls)) → P (machine_value w (leg_at p ls k))
 machine-at P w p ls k h all = machine-among P w (p ∷ ls) (leg_at p ls k) all (among-at p ls k h)
@@ -110,7 +110,7 @@ module _ (b : Below) (net : Network) (tour : IsTour net) where
       tree-on : (l : Leg) → IsAmong l (whole b net tour) → IsTreeLeg w.net l
       tree-on l i = subst (λ n. IsTreeLeg n l) (sym s.1) (tour.tree l i)
 
-  -- if the head moves, a machine that has not its value changes
+  -- if the head moves, a machine without its value changes
   catches-up : (w : World) (es : List Event) (k : ℕ) → IsSettledOn net w → IsUndamaged w es → IsTokenRingGood w → k ≤ count
       → machine_value w (place k) ≢ machine_value w tour.first → 0 < head_moves w es → Moment w es (place k)
   catches-up w es k s u g h ne more =
@@ -126,7 +126,7 @@ module _ (b : Below) (net : Network) (tour : IsTour net) where
       other-list w es (m.first ++ m.event ∷ m.rest) (place k) m.parts
       (early w m.first (m.event ∷ m.rest) (place k) (changed-at w m.first (place k) (λ same. ne (sym same ∙ all ∙ stands))))
 
-  -- and in 4 sweeps for each leg before it, it changes in any case
+  -- and within 4 sweeps for each leg before it, it changes in any case
   behind-head : (w : World) (es : List Event) (k : ℕ) → IsSettledOn net w → IsUndamaged w es → IsTokenRingGood w → k ≤ count
       → machine_value w (place k) ≢ machine_value w tour.first → Sweeps w (4 * k) es → Moment w es (place k)
   behind-head w es k s u g h ne sweeps = elim (cases_eq (head_moves w es) 0) [
@@ -164,8 +164,8 @@ module _ (b : Below) (net : Network) (tour : IsTour net) where
         next = λ i l. equals older (machine_value w (place (suc i))) (copied_value w (place i)) ((all i l).3 ∙ sym (all i l).2);
       }
 
-  -- If a machine has the head's value, the head moves in 4 sweeps for each leg from the machine
-  -- on; then the machine has not its value.
+  -- If a machine has the head's value, the head moves within 4 sweeps for each leg from the
+  -- machine on; then the machine no longer has its value.
   with-head : (w : World) (xs ys : List Event) (k : ℕ) → IsSettledOn net w → IsUndamaged w xs → IsUndamaged (run w xs) ys → IsTokenRingGood w → k ≤ count
       → machine_value w (place k) ≡ machine_value w tour.first → Sweeps w ((4 * (count - k) + 3) + 1) xs → Sweeps (run w xs) (4 * k) ys → Moment w (xs ++ ys) (place k)
   with-head w xs ys k s u v g h same sweeps more =

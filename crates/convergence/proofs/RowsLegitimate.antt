@@ -1,5 +1,5 @@
--- Two nodes and links of capacity 1: the token ring after the first rounds, a world that is
--- legitimate, and worlds that are not, each for one reason alone.
+-- Two nodes and links of capacity 1: the token ring after the first rounds, a legitimate world,
+-- and worlds that fail in just one way each.
 use Rattle.std.proofs.Common.{◌≡◌, [], ◌∷◌, IsTrue, ◌==◌, ◌&&◌, refl, ap, inl, arith}
 use Rattle.std.proofs.lemmas.Bool.{false≢true}
 use Rattle.std.specs.Prelude.{if◌then◌else◌}
@@ -34,7 +34,7 @@ ring-after_six = refl
 ring-after_seven : token_ring (after 7) ≡ (2 ∷ 2 ∷ 2 ∷ 2 ∷ 2 ∷ 2 ∷ [])
 ring-after_seven = refl
 
--- ---- legitimate, and not
+-- ---- legitimate worlds, and others
 
 -- if all ring values are 0 and nobody lends
 pub calm-is_legitimate : IsLegitimate calm
@@ -45,7 +45,7 @@ calm-is_legitimate = record {
   desks = λ v l lends. absurd cc;
 }
 
--- node 1's machine has a value of its own
+-- node 1's machine has another value
 forged-ring : token_ring forged ≡ (0 ∷ 0 ∷ 0 ∷ 1 ∷ 0 ∷ 0 ∷ [])
 forged-ring = refl
 
@@ -55,9 +55,9 @@ ring-not_good h = grind arith
 pub forged-not_legitimate : ¬ IsLegitimate forged
 forged-not_legitimate l = ring-not_good l.ring
 
--- ---- not legitimate for its loans alone
+-- ---- not legitimate, just for its loans
 
--- node 1 lends, and node 0 alone is privileged
+-- node 1 lends, and only node 0 is privileged
 abbrev unprivileged : World
 unprivileged = record {
   net = two_nodes;
@@ -94,7 +94,7 @@ unprivileged-serves = record {
   one_lending = one-of_two (λ v. IsTrue (is_lending unprivileged v)) (λ a b. false≢true a);
 }
 
--- ---- not legitimate for its links alone
+-- ---- not legitimate, just for its links
 
 -- a frame is under way to node 1 with the number of node 0's port, and a ring value that node 0 has
 -- not staged

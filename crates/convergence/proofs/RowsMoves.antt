@@ -9,10 +9,11 @@ use Rattle.run_model.specs.declared.event.Event.{Event}
 use Rattle.run_model.specs.declared.event.Event.TheVariants.{Send, Take, Tick}
 use Rattle.convergence.specs.Moves.{head_move, head_moves}
 
--- ---- The token ring needs a value more than it has places: with 4 values on the 6 places of two nodes it may go round for ever and never be good.
+-- ---- The token ring needs more values than it has places: with 4 values on the 6 places of two
+-- nodes it may go round for ever and never be good.
 
--- values are copied to the right and the head moves, with the number of its moves, and no ring on
--- the way or at the end is good
+-- values are copied to the right and the head moves, so many times, and no ring on the way or at
+-- the end is good
 data NeverGood (q : ℕ) : ℕ → List ℕ → List ℕ → Type 0 where
   Ends : {xs : List ℕ} → NeverGood q zero xs xs
   Copies : {n : ℕ} {xs ys zs : List ℕ} → Change xs ys → ¬ IsGood q ys → NeverGood q n ys zs → NeverGood q n xs zs
@@ -28,14 +29,14 @@ one_of_two P Q c [] back (inr (q, qs)) = inr q
 one_of_two P Q c (x ∷ front) back (inl (p, f)) = one_of_two P Q c front back f
 one_of_two P Q c (x ∷ front) back (inr (q, qs)) = inr (one_of_all Q c front back qs)
 
--- a ring that holds a value which neither is the head's nor one below it is not good
+-- a ring with a value that is neither the head's nor one below it is not good
 third-value : (q a c : ℕ) (front back : List ℕ) → c ≢ a → root_moved c q ≢ a → ¬ IsGood q (a ∷ (front ++ c ∷ back))
 third-value q a c front back ne low g =
     elim (one_of_two (λ x. x ≡ a) (λ x. root_moved x q ≡ a) c (a ∷ front) back g) [ inl e ↦ ne e | inr e ↦ low e ]
 
--- With a, b, c, d one above the other, modulo 4: each place takes what stands at its left, from the
--- right to the left, and the head moves from a to b. Of the six places these are the machine of
--- node 0, what it stages, what node 1 copies, and the same of node 1.
+-- With a, b, c, d each one above the next, modulo 4: from right to left, each place takes the
+-- value on its left, and then the head moves from a to b. The six places are the machine of node
+-- 0, what it stages, what node 1 copies, and the same for node 1.
 round_by_one : (a b c d : ℕ) → root_moved a 4 ≡ b → c ≢ a → root_moved c 4 ≢ a → d ≢ b → root_moved d 4 ≢ b
     → NeverGood 4 1 (a ∷ d ∷ c ∷ b ∷ a ∷ a ∷ []) (b ∷ a ∷ d ∷ c ∷ b ∷ b ∷ [])
 round_by_one a b c d e ca ca' db db' =
@@ -54,7 +55,7 @@ then q {n = n} {zs = zs} (Ends {xs = xs}) s = let e : n ≡ 0 + n = omega arith 
 then q {n = n} {zs = zs} (Copies c g r) s = Copies c g (then q r s)
 then q {n = n} {zs = zs} (Moves {n = m} {xs = xs} c g r) s = let e : suc (m + n) ≡ suc m + n = omega arith in subst (λ k. NeverGood q k xs zs) e (Moves c g (then q r s))
 
--- after four moves of the head, one for each value, the ring is what it was
+-- after four moves of the head, one for each value, the ring is as before
 four_values_are_too_few : NeverGood 4 4 (0 ∷ 3 ∷ 2 ∷ 1 ∷ 0 ∷ 0 ∷ []) (0 ∷ 3 ∷ 2 ∷ 1 ∷ 0 ∷ 0 ∷ [])
 four_values_are_too_few =
     then 4 (round_by_one 0 1 2 3 refl (λ e. absurd cc) (λ e. absurd cc) (λ e. absurd cc) (λ e. absurd cc))

@@ -1,4 +1,4 @@
--- Rows: places of a list of tickets, and who leaves.
+-- Rows: places in a list of tickets, and who leaves.
 use Rattle.std.proofs.Common.{◌≡◌, true, false, [], ◌∷◌, refl, arith}
 use Rattle.run_model.specs.declared.event.Event.TheVariants.{Ask, Leave}
 use Rattle.convergence.specs.Service.{IsAtPlace, is_leave}

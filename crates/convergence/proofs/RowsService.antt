@@ -1,5 +1,5 @@
--- A run on two nodes in which all premises of the service law hold and somebody is lent the lock;
--- and what is lent, visited and given up in it.
+-- A run on two nodes in which all premises of the service law hold and a client gets the lock; and
+-- what is lent, visited and given up in it.
 use Rattle.std.proofs.Common.{◌≡◌, ℕ, ◌<◌, zero, suc, List, [], ◌∷◌, ◌++◌, length, Bool, true, false, IsTrue, IsFalse, Some, None, refl, sym, subst, ap, inl, arith}
 use Rattle.std.specs.Prelude.{◌&&◌, ◌==◌, if◌then◌else◌, not, All}
 use Rattle.std.proofs.lemmas.Bool.{false≢true}
@@ -24,7 +24,7 @@ use Rattle.convergence.specs.Service.{IsAtPlace, is_lent_once, gives_up}
 abbrev waiting_desk : DeskState
 waiting_desk = record { waiting = 7 ∷ []; lent = None; left = 0; served = false }
 
--- the calm world, but for ticket 7, which waits at node 1
+-- the calm world, except that ticket 7 waits at node 1
 abbrev asking : World
 asking = record { net = two_nodes; spares = 0; node = λ v. node_with v (if v == 0 then no_desk else waiting_desk) 0 0 0; link = λ u v. [] }
 
@@ -32,7 +32,7 @@ asking = record { net = two_nodes; spares = 0; node = λ v. node_with v (if v ==
 abbrev least : List Event
 least = Tick 0 ∷ Tick 1 ∷ Send 0 1 ∷ Take 0 1 ∷ Send 1 0 ∷ Take 1 0 ∷ []
 
--- the same if a loan of node 1 begins: ticket 7 gives the lock back, and node 1 makes a full tick
+-- the same if a loan of node 1 begins: ticket 7 releases the lock, and node 1 makes a full tick
 abbrev lending : List Event
 lending = Tick 0 ∷ Tick 1 ∷ Leave 1 7 ∷ Tick 1 ∷ Send 0 1 ∷ Take 0 1 ∷ Send 1 0 ∷ Take 1 0 ∷ []
 
@@ -153,7 +153,7 @@ enough = sweeps-of_two asking stretches (
   ),
 )
 
--- ---- what the law says of them
+-- ---- what the law says about them
 
 -- the lock is lent to the ticket, in the third sweep and not before
 is-lent : is_lent_once asking events 1 7 ≡ true
@@ -172,17 +172,17 @@ not-to_another = refl
 not-elsewhere : is_lent_once asking events 0 7 ≡ false
 not-elsewhere = refl
 
--- it counts that it was lent once, though it was given back
+-- a loan counts even after it has ended
 given-back : ((run asking (least ++ least ++ lending)).node 1).desk.lent ≡ None
 given-back = refl
 
--- at the start of a list that is already so
+-- and one at the very start of a list counts
 lent-at_the_start : is_lent_once (run asking (least ++ least ++ Tick 0 ∷ Tick 1 ∷ [])) [] 1 7 ≡ true
 lent-at_the_start = refl
 
 -- ---- who is privileged on the way
 
--- node 0 at the start, node 1 only once the new value has come there
+-- node 0 at the start, node 1 only once the new value has arrived
 node-0_at_the_start : is_privileged_once asking [] 0 ≡ true
 node-0_at_the_start = refl
 
@@ -198,14 +198,14 @@ node-1_not_in_the_first = refl
 leaves-while_it_waits : gives_up asking (Tick 0 ∷ Leave 1 7 ∷ []) 1 7 ≡ true
 leaves-while_it_waits = refl
 
--- no ticket that only waits, nor one that leaves while it is lent to
+-- not one that only waits, nor one that leaves while it has the lock
 only-waits : gives_up asking least 1 7 ≡ false
 only-waits = refl
 
 leaves-while_lent_to : gives_up asking (least ++ least ++ lending) 1 7 ≡ false
 leaves-while_lent_to = refl
 
--- nor if another leaves, or it leaves elsewhere
+-- nor if another ticket leaves, or it leaves elsewhere
 another-leaves : gives_up asking (Ask 1 8 ∷ Leave 1 8 ∷ []) 1 7 ≡ false
 another-leaves = refl
 

@@ -1,5 +1,5 @@
--- The tour and the token ring of a square, 0 - 1 - 3 - 2 - 0 with root 0: node 3 is as near by 1 as
--- by 2, and its parent is 1.
+-- The tour and the token ring of a square, 0 - 1 - 3 - 2 - 0 with root 0: node 3 is as near
+-- through 1 as through 2, and its parent is 1.
 use Rattle.std.proofs.Common.{◌≡◌, ℕ, ◌+◌, ◌*◌, [], ◌∷◌, None, refl}
 use Rattle.run_model.proofs.RowsFaults.{square}
 use Rattle.topology.specs.declared.frame.Payload.{Payload}
@@ -8,14 +8,14 @@ use Rattle.run_model.specs.node_core.State.{LocalState}
 use Rattle.euler_ring.specs.Tour.{tour}
 use Rattle.convergence.specs.Ring.{token_ring}
 
--- it comes to the root from 1, goes out to 2 and back, to 1, and by 1 out to 3 and back
+-- it comes to the root from 1, goes out to 2 and back, to 1, and through 1 out to 3 and back
 the-square_is_toured : tour square ≡ ((1, 0) ∷ (0, 2) ∷ (2, 0) ∷ (0, 1) ∷ (1, 3) ∷ (3, 1) ∷ [])
 the-square_is_toured = refl
 
 abbrev says : ℕ → Payload
 says ring = record { distance = 0; parent = None; ring = ring }
 
--- each place has a number of its own, three digits: the node, the neighbour, and 0 for a machine's
+-- each place has its own number of three digits: the node, the neighbour, and 0 for a machine's
 -- value, 1 for a staged one, 2 for a copy
 abbrev numbered : ℕ → LocalState
 numbered v = record {

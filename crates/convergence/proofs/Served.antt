@@ -1,6 +1,7 @@
--- A ticket that waits is served. In 8(n - 1) sweeps a machine of its node moves; each move but the
--- first ends a loan of its desk, and each loan takes the first of the list. So the number of moves
--- that may still come stands above the ticket's place, or at it if the desk is ready to lend.
+-- A ticket that waits is served. Within 8(n - 1) sweeps a machine of its node moves. Each move
+-- except the first ends a loan of its desk, and each loan takes the first of the list. So the
+-- number of moves that may still come is the ticket's place, or one more if the desk is not ready
+-- to lend.
 use Rattle.std.proofs.Common.{◌≡◌, ◌≢◌, ℕ, zero, suc, ◌+◌, ◌*◌, ◌-◌, ◌<◌, ◌≤◌, ◌⊎◌, inl, inr, Bool, true, false, ◌==◌, ◌&&◌, ◌||◌, List, [], ◌∷◌, ◌++◌, length, Option, Some, None, refl, sym, ◌∙◌, ap, subst, arith}
 use Rattle.std.specs.Prelude.{is_none, is_some, not, if◌then◌else◌}
 use Rattle.std.proofs.lemmas.Bool.{cases_Bool, cases_eq, false≢true, cond-true, cond-false, eq-eqb, ne_eqb, or_left, or_right, or_cases, or_parts}
@@ -54,7 +55,7 @@ not_refused (Some f) h = absurd (false≢true (sym h))
 abbrev desk : World → ℕ → DeskState
 desk w v = (w.node v).desk
 
--- what holds of the desk, and of what an ask, a leave and a tick make of it, holds after the event
+-- what holds for the desk, and still after an ask, a leave or a tick, holds after the event
 module _ (P : DeskState → Type 0) (w : World) (v : ℕ) (stays : P (desk w v)) (asks : (s : ℕ) → P (asked s (desk w v)))
     (ticks : (privileged : Bool) → P (desk_ticked (site w v).lease privileged (desk w v))) where
   changed-desk : (e : Event) → is_damage w e ≡ false → is_some (refusal w e) ≡ false → ((s : ℕ) → e ≡ Leave v s → P (after_leave s (desk w v))) → P (desk (changed w e) v)
@@ -101,7 +102,7 @@ pub record IsUpTo (t p : ℕ) (xs : List ℕ) : Type 0 where
   pub at : IsAtPlace t place xs
   pub most : place ≤ p
 
--- of a choice holds what holds of both
+-- what holds for both alternatives holds for the choice
 by_if : {X : Type 0} (P : X → Type 0) (c : Bool) (x y : X) → (c ≡ true → P x) → (c ≡ false → P y) → P (if c then x else y)
 by_if P true x y f g = f refl
 by_if P false x y f g = g refl
@@ -127,7 +128,8 @@ some-at : (t p : ℕ) (xs : List ℕ) → IsAtPlace t p xs → 0 < length xs
 some-at t p [] h = absurd h
 some-at t p (x ∷ xs) h = omega arith
 
--- ---- how many moves may come before the ticket is lent the lock: as many as its place, and one more if the desk is not ready to lend
+-- ---- how many moves may come before the ticket gets the lock: as many as its place, and one more
+-- if the desk is not ready to lend
 
 pub record Stands (t k : ℕ) (tickets : List ℕ) (lent : Option ℕ) (served : Bool) : Type 0 where
   pub place : ℕ
@@ -180,8 +182,8 @@ turned t k before after (Some y) (Some x) was served e c s = inr (record {
   ready = elim s.ready [ inl l ↦ inl l | inr q ↦ absurd (false≢true (sym q.0)) ];
 })
 
--- a tick after which the desk lends to nobody leaves the list as it was; and one that ends a loan
--- had one
+-- a tick after which the desk lends to nobody leaves the list; and a tick that ends a loan had one
+-- before
 same-list : (before after : List ℕ) (old new : Option ℕ) → is_some new ≡ false → IsTurn before after (act_between old new) → before ≡ after
 same-list before after None None h e = e
 same-list before after (Some y) None h e = e
@@ -254,7 +256,7 @@ module _ (b : Below) where
         ]
       ]
 
-  -- if a machine moves, the desk was not ready, and it is then: so one move fewer may come
+  -- if a machine moves, the desk was not ready and then is: so one move fewer may come
   pub record OneFewer (t k : ℕ) (d : DeskState) : Type 0 where
     pub fewer : ℕ
     pub is : k ≡ suc fewer
@@ -295,7 +297,7 @@ module _ (b : Below) where
         stands = record { place = s.place; at = subst (IsAtPlace t s.place) list s.at; most = omega (arith, l); ready = inr (clear.0, clear.1) };
       }
 
-  -- so in each round
+  -- so it is in each round
   round-over : (w : World) (es : List Event) (v t k : ℕ) → IsSettled w → IsUndamaged w es → IsTokenRingGood w → v < w.net.nodes → gives_up w es v t ≡ false
       → StandsAt t k (desk w v) → Sweeps w (8 * (w.net.nodes - 1)) es → (is_lent_once w es v t ≡ true) ⊎ OneFewer t k (desk (run w es) v)
   round-over w es v t k s u g h stays st sweeps =

@@ -1,4 +1,4 @@
--- A settled world stays settled, and its network is the one of the start.
+-- A settled world stays settled, with its network.
 use Rattle.std.proofs.Common.{◌≡◌, false, List, [], ◌∷◌, ◌∙◌}
 use Rattle.topology.specs.Network.{Network}
 use Rattle.run_model.specs.World.{World}
@@ -9,7 +9,7 @@ use Rattle.run_model.proofs.Along.{undamaged-one, kept, in_range}
 use Rattle.convergence.specs.Settled.{IsSettled}
 use Rattle.convergence.specs.RingBelow.{Below}
 
--- the world is settled, on this network
+-- the world is settled, and has this network
 abbrev pub IsSettledOn : Network → World → Type 0
 IsSettledOn net w = IsSettled w × (w.net ≡ net)
 

@@ -1,4 +1,4 @@
--- The legs of the tour, from what the tour's laws say of its stops.
+-- The legs of the tour, from the tour's laws about its stops.
 use Rattle.std.proofs.Common.{◌≡◌, ℕ, inl, inr, true, false, ◌==◌, List, [], ◌∷◌, Some, length, refl, sym, ◌∙◌, ap, subst, arith}
 use Rattle.std.proofs.lemmas.Bool.{cases_Bool, eq-eqb, eqb-true, false≢true, false_from_ne_true}
 use Rattle.topology.specs.Network.{Network, IsAcceptedNetwork}
@@ -10,7 +10,7 @@ use Rattle.convergence.specs.Ring.{Leg, legs, legs_to, first_here}
 use Rattle.convergence.specs.Legs.{IsTreeLeg, IsFollowed, IsAmong, last_leg, is_special_leg, EachTour}
 use Rattle.convergence.proofs.TrueTree.{tree-joined}
 
--- the leg of a stop, when these stops follow
+-- the leg of a stop that these stops follow
 abbrev leg_of : ℕ → Stop → List Stop → Leg
 leg_of end p [] = record { from = p.0; here = p.1; onward = end }
 leg_of end p (q ∷ qs) = record { from = p.0; here = p.1; onward = q.1 }
@@ -104,7 +104,7 @@ module _ (joined : JoinedAreNodes) (source : SourceOfNext) (next : NextIsOn) (ar
         source = ap (source_for ts) i.next ∙ source ts l.from (ascend net l.here) from;
       }
 
-  -- the leg of a stop other than the tour's first is no special one
+  -- only the leg of the tour's first stop is special
   not-special : (net : Network) (child : ℕ) (l : Leg) → special true (true_neighbours net net.root) ≡ Some child → (stop_of l ≡ (child, net.root) → ⊥)
       → is_special_leg net l ≡ true → ⊥
   not-special net child l sp ne h = elim (cases_Bool (l.here == net.root)) [

@@ -1,4 +1,5 @@
--- The privilege visits each node: from a legitimate world, and so from any once it is legitimate.
+-- The privilege visits each node: from a legitimate world, and so from any world once it is
+-- legitimate.
 use Rattle.std.proofs.Common.{◌≡◌, ℕ, ◌-◌, ◌*◌, ◌<◌, true, List, [], ◌∷◌, ◌++◌, sym, subst}
 use Rattle.std.proofs.lemmas.Bool.{or_right}
 use Rattle.topology.specs.Eccentricity.{sharp_of}

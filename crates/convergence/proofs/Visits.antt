@@ -61,7 +61,7 @@ pub head-stands : (w : World) (es : List Event) → head_moves w es ≡ 0 → he
 head-stands w [] z = refl
 head-stands w (e ∷ es) z = head-stands (step w e) es (omega (arith, z)) ∙ same-head (head_value (step w e)) (head_value w) (omega (arith, z))
 
--- if the head moves, there is an event at which it does for the first time
+-- if the head moves, some event moves it for the first time
 pub record FirstMove (w : World) (es : List Event) : Type 0 where
   pub first : List Event
   pub event : Event
@@ -84,7 +84,7 @@ first-move w (e ∷ es) h = elim (cases_eq (head_move w e) 0) [
   | inr ne ↦ record { first = []; event = e; rest = es; parts = refl; none = refl; moves = ne }
 ]
 
--- ---- if the a's stand in front and the last value is a, all are
+-- ---- if the a's come first and the last value is a, all are
 
 last-is_not : (a x : ℕ) (xs : List ℕ) → AllByRecursion (λ y. y ≢ a) (x ∷ xs) → last_of x xs ≢ a
 last-is_not a x [] all = all.0
@@ -135,7 +135,7 @@ module _ (b : Below) (net : Network) (tour : IsTour net) where
           let same : head_value (step w e) ≡ head_value w = head-is b net tour (step w e) (settled-event b net w e s d).1 ∙ k ∙ sym (head-is b net tour w s.1) in
           ap (λ c. if c then 0 else 1) (eq-eqb (head_value (step w e)) (head_value w) same)
 
-  -- and after the move the head has another
+  -- and after the move the head has another value
   pub head-leaves : (w : World) (e : Event) → IsSettledOn net w → is_damage w e ≡ false → head_move w e ≢ 0 → machine_value (step w e) tour.first ≢ machine_value w tour.first
   head-leaves w e s d ne k =
       let same : head_value (step w e) ≡ head_value w = head-is b net tour (step w e) (settled-event b net w e s d).1 ∙ k ∙ sym (head-is b net tour w s.1) in

@@ -30,7 +30,7 @@ one-more r = omega arith
 pub other-number : (w : World) (r s : ℕ) (es : List Event) → r ≡ s → Sweeps w r es → Sweeps w s es
 other-number w r s es e h = subst (λ k. Sweeps w k es) e h
 
--- a list that is parted in two is without damage in each part
+-- a list in two parts without damage has no damage in each part
 pub record IsParted (w : World) (es first rest : List Event) : Type 0 where
   pub early : IsUndamaged w first
   pub late : IsUndamaged (run w first) rest
@@ -84,7 +84,8 @@ module _ (b : Below) where
         one_lending = λ u v h k p o. b.one_lending w u v r l h k p o;
       }
 
--- ---- from any state, for whatever numbers of sweeps make links stable, reach the tree on stable links, and make the token ring of a settled world good
+-- ---- from any state, for any numbers of sweeps that make links stable, reach the tree on stable
+-- links, and make the token ring of a settled world good
 
 module _ (b : Below) (links tree ring : Network → ℕ)
     (turn : (w : World) (es : List Event) → IsWorldInRange w → IsUndamaged w es → Sweeps w (links w.net) es → AreLinksStable (run w es))

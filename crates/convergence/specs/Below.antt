@@ -1,5 +1,5 @@
--- What this crate knows of the layers below: each field is a law of one of them, and nothing else
--- of them is used.
+-- What this crate knows about the layers below: each field is a law of one of them, and nothing
+-- else is used.
 use Rattle.topology.specs.Laws.{DistanceIs, ParentIs, EachTree}
 use Rattle.lock_desk.specs.Laws.{LoansNeedPrivilege, PassesOnlyServed, FullTicksClear, FirstComeFirstServed}
 use Rattle.run_model.specs.Laws as run
@@ -8,8 +8,8 @@ use Rattle.tree_convergence.specs.Laws as tree
 use Rattle.convergence.specs.RingLaws as ring
 use Rattle.convergence.specs.RingService.{PrivilegeVisits, MachinesMove}
 
--- of networks: distances and parents; of a desk; of runs, sweeps and ticks; of links, payloads and
--- the tree; of the token ring and its one token
+-- laws of networks: distances and parents; of a desk; of runs, sweeps and ticks; of links,
+-- payloads and the tree; of the token ring and its one token
 pub record Below : Type 0 where
   pub distances : DistanceIs
   pub parents : ParentIs

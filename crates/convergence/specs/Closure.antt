@@ -6,8 +6,7 @@ use Rattle.convergence.specs.Legitimate.{IsLegitimate}
 use Rattle.run_model.specs.Headline.{IsServing}
 use Rattle.run_model.specs.declared.event.Event.{Event}
 
--- at each moment of the run, its start and its end among them, the world is legitimate, and it
--- serves
+-- at each moment of the run, including its start and its end, the world is legitimate and serves
 abbrev pub IsLegitimateThroughout : World → List Event → Type 0
 IsLegitimateThroughout start es =
     (before rest : List Event) → es ≡ before ++ rest

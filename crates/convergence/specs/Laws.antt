@@ -18,8 +18,7 @@ use Rattle.convergence.specs.Said.{said_in}
 
 -- ---- desks
 
--- on a good token ring a node whose loan is with privilege, or that does not lend, stays such a
--- node in an event
+-- on a good token ring, a node that lends only with privilege still does so after an event
 abbrev pub LoansStayPrivileged : Type 0
 LoansStayPrivileged =
     (w : World) (e : Event) (v : ℕ) → IsSettled w → is_damage w e ≡ false → IsTokenRingGood w
@@ -36,7 +35,7 @@ DesksTurnPrivileged =
 -- ---- legitimate worlds
 
 -- closure: from a legitimate world every list without damage leads to a legitimate world, and so
--- through such worlds alone
+-- only through such worlds
 abbrev pub LegitimateStays : Type 0
 LegitimateStays =
     (w : World) (es : List Event) → IsWorldInRange w → IsUndamaged w es → IsLegitimate w
@@ -55,8 +54,8 @@ LinksConverge =
     (w : World) (es : List Event) → IsWorldInRange w → IsUndamaged w es
     → Sweeps w (4 * (w.net.capacity + 1)) es → AreLinksStable (run w es)
 
--- from then on, after any three more, what u has staged for v and what v has copied from u is what
--- u had to say to v at some moment of these three
+-- from then on, after any three more sweeps, what u has staged for v, and what v has copied from
+-- u, is what u would have said to v at some moment of these three
 abbrev pub PayloadsConverge : Type 0
 PayloadsConverge =
     (w : World) (first es : List Event) (u v : ℕ) → IsWorldInRange w → IsUndamaged w (first ++ es)
@@ -65,7 +64,7 @@ PayloadsConverge =
     → Contains (said_in (run w first) es u v) (((run (run w first) es).node u).port v).staged
     × Contains (said_in (run w first) es u v) (((run (run w first) es).node v).port u).copy
 
--- after 4(n + 1) more than those of the links, the tree is reached
+-- 4(n + 1) sweeps after the links are stable, the tree is reached
 abbrev pub TreeConverges : Type 0
 TreeConverges =
     (w : World) (es : List Event) → IsWorldInRange w → IsUndamaged w es

@@ -21,7 +21,7 @@ is_special_leg net leg =
 abbrev pub machine_value : World → Leg → ℕ
 machine_value w leg = (w.node leg.here).value leg.from
 
--- what is staged for the node that the leg goes on to
+-- what that machine's node has staged for the node that the leg goes on to
 abbrev pub staged_value : World → Leg → ℕ
 staged_value w leg = ((w.node leg.here).port leg.onward).staged.ring
 
@@ -37,13 +37,13 @@ seen_value w leg = ((w.node leg.here).port leg.from).copy.ring
 abbrev pub coming_value : World → Leg → ℕ
 coming_value w leg = ((w.node leg.from).port leg.here).staged.ring
 
--- each leg begins with the step of the one before it, of which the first is `before`
+-- each leg begins with the last step of the leg before it; the first follows `before`
 abbrev pub IsFollowed : Leg → List Leg → Type 0
 IsFollowed before [] = Unit {0}
 IsFollowed before (leg ∷ legs) =
     ((leg.from ≡ before.here) × (leg.here ≡ before.onward)) × IsFollowed leg legs
 
--- the last of a leg and those that follow it
+-- the last of a leg and its followers
 abbrev pub last_leg : Leg → List Leg → Leg
 last_leg leg [] = leg
 last_leg leg (next ∷ legs) = last_leg next legs
@@ -62,9 +62,9 @@ pub record IsTreeLeg (net : Network) (leg : Leg) : Type 0 where
   pub next : leg.onward ≡ next_after (true_neighbours net leg.here) leg.from
   pub source : source_for (true_neighbours net leg.here) leg.onward ≡ leg.from
 
--- The legs of a network's tour: they are closed to a ring, they are legs of the true tree and there
--- is one for each of its machines, the first alone is the special machine's, and there are two for
--- each edge of the tree.
+-- The legs of a network's tour: they form a closed ring of legs of the true tree, one for each of
+-- its machines; only the first is the special machine's; and there are two for each edge of the
+-- tree.
 pub record IsTour (net : Network) : Type 0 where
   pub first : Leg
   pub others : List Leg
@@ -77,6 +77,6 @@ pub record IsTour (net : Network) : Type 0 where
       → (leg : Leg) × IsAmong leg (first ∷ others) × (leg.from ≡ t) × (leg.here ≡ v)
   pub count : length (first ∷ others) ≡ 2 * (net.nodes - 1)
 
--- the tour of each accepted network is such
+-- each accepted network has such a tour
 abbrev pub EachTour : Type 0
 EachTour = (net : Network) → IsAcceptedNetwork net → IsTour net

@@ -1,4 +1,4 @@
--- What a run says of the payloads that its nodes have staged and copied.
+-- What a run says about the payloads that its nodes have staged and copied.
 use Rattle.std.specs.Prelude.{◌≡◌, ℕ, ◌+◌, ◌*◌, IsTrue, List, ◌++◌, Contains}
 use Rattle.topology.specs.Network.{are_joined}
 use Rattle.run_model.specs.World.{World}
@@ -8,9 +8,9 @@ use Rattle.run_model.specs.Count.{after_damage}
 use Rattle.run_model.specs.declared.event.Event.{Event}
 use Rattle.convergence.specs.Said.{said_in}
 
--- Wherever the events since the last damage end in three sweeps after a part that holds 4(C + 1),
--- what u has staged for v now and what v has copied from u now is what u had to say to v at some
--- moment of these three.
+-- If the events since the last damage are a part that holds 4(C + 1) sweeps and then three sweeps,
+-- what u has staged for v now, and what v has copied from u now, is what u would have said to v at
+-- some moment of these three.
 abbrev pub ArePayloadsFresh : World → List Event → World → Type 0
 ArePayloadsFresh start es now =
     (first last : List Event) (u v : ℕ) → (after_damage start es).rest ≡ first ++ last

@@ -13,15 +13,14 @@ pub record Leg : Type 0 where
   pub here : ℕ
   pub onward : ℕ
 
--- the legs of a stretch of the tour, whose last pair goes on to `end`
+-- the legs of a part of the tour whose last pair goes on to `end`
 abbrev pub legs_to : ℕ → List (ℕ × ℕ) → List Leg
 legs_to end [] = []
 legs_to end (p ∷ []) = record { from = p.0; here = p.1; onward = end } ∷ []
 legs_to end (p ∷ q ∷ rest) =
     record { from = p.0; here = p.1; onward = q.1 } ∷ legs_to end (q ∷ rest)
 
--- the node to which the first pair of a closed tour comes, and so that to which its last pair goes
--- on
+-- the node that the first pair of a closed tour comes to; its last pair goes on to it
 abbrev pub first_here : List (ℕ × ℕ) → ℕ
 first_here [] = 0
 first_here (p ∷ rest) = p.1
@@ -30,8 +29,8 @@ first_here (p ∷ rest) = p.1
 abbrev pub legs : Network → List Leg
 legs net = legs_to (first_here (tour net)) (tour net)
 
--- The three values of a leg: that of the machine which comes in, what is staged for the node that
--- the tour goes on to, and what that node has copied.
+-- The three values of a leg: the value of its machine, what is staged for the node that the tour
+-- goes on to, and what that node has copied.
 abbrev pub leg_values : World → Leg → List ℕ
 leg_values w leg =
     (w.node leg.here).value leg.from
@@ -44,7 +43,7 @@ leg_values w leg =
 abbrev pub token_ring : World → List ℕ
 token_ring w = flat_map (leg_values w) (legs w.net)
 
--- the token ring is good: some values equal to the head's, and then only values that are one less,
--- modulo K
+-- the token ring is good: first values equal to the head's, and then only values that are one
+-- less, modulo K
 abbrev pub IsTokenRingGood : World → Type 0
 IsTokenRingGood w = IsGood (ring_of w.net) (token_ring w)

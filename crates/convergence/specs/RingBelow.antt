@@ -1,5 +1,5 @@
--- What this crate knows of the layers below: each field is a law of one of them, and nothing else
--- of them is used.
+-- What this crate knows about the layers below: each field is a law of one of them, and nothing
+-- else is used.
 use Rattle.topology.specs.Laws.{JoinedBack, JoinedAreNodes, NeighboursAreJoined, EachTree}
 use Rattle.k_state.specs.Laws as ring
 use Rattle.euler_ring.specs.Laws.{OwnViewIsTrue, TrueNeighboursAre}
@@ -8,8 +8,8 @@ use Rattle.run_model.specs.Ticks.{NodesMoveInTicks, TicksAreAccepted}
 use Rattle.tree_convergence.specs.Laws as tree
 use Rattle.convergence.specs.Legs.{EachTour}
 
--- of networks: who is joined to whom; of copying rings; of the tour; of runs, sweeps and ticks; of
--- links, payloads and the tree
+-- laws of networks: who is joined to whom; of copying rings; of the tour; of runs, sweeps and
+-- ticks; of links, payloads and the tree
 pub record Below : Type 0 where
   pub back : JoinedBack
   pub nodes : JoinedAreNodes

@@ -17,7 +17,7 @@ PrivilegeGoesRound =
     → v < w.net.nodes
     → 2 ≤ head_moves w es → IsTrue (is_privileged_once w es v)
 
--- so in any 16(n - 1) sweeps each node is
+-- so each node is privileged at some moment of any 16(n - 1) sweeps
 abbrev pub PrivilegeVisits : Type 0
 PrivilegeVisits =
     (w : World) (es : List Event) (v : ℕ) → IsSettled w → IsUndamaged w es → IsTokenRingGood w

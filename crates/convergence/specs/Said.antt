@@ -6,7 +6,7 @@ use Rattle.run_model.specs.Step.{step}
 use Rattle.run_model.specs.Project.{present}
 use Rattle.run_model.specs.declared.event.Event.{Event}
 
--- the payloads that u had to say to v, one for each moment of the run
+-- the payloads that u would have said to v, one for each moment of the run
 abbrev pub said_in : World → List Event → ℕ → ℕ → List Payload
 said_in w [] u v = present w u v ∷ []
 said_in w (e ∷ es) u v = present w u v ∷ said_in (step w e) es u v

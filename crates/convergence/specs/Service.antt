@@ -1,4 +1,4 @@
--- Whom the privilege visits, and what it passes.
+-- The nodes that the privilege visits, and the desks that it passes.
 use Rattle.std.specs.Prelude.{◌≡◌, ◌≢◌, ℕ, zero, suc, ◌+◌, ◌-◌, ◌*◌, ◌<◌, ◌⊎◌, List, [], ◌∷◌, length}
 use Rattle.std.specs.Prelude.{Bool, true, false, ◌==◌, ◌&&◌, ◌||◌, IsTrue, IsFalse}
 use Rattle.lock_desk.specs.Act.{desk_act}
@@ -22,7 +22,7 @@ LegitimateVisits =
     → v < w.net.nodes
     → Sweeps w (16 * (w.net.nodes - 1)) es → IsTrue (is_privileged_once w es v)
 
--- from any, at some moment of as many sweeps after those that make it legitimate
+-- from any world, at some moment of as many sweeps after it became legitimate
 abbrev pub EachStateVisits : Type 0
 EachStateVisits =
     (w : World) (es : List Event) (v : ℕ) → IsWorldInRange w → IsUndamaged w es → v < w.net.nodes
@@ -51,7 +51,7 @@ IsAtPlace t i [] = ⊥
 IsAtPlace t zero (x ∷ xs) = x ≡ t
 IsAtPlace t (suc i) (x ∷ xs) = IsAtPlace t i xs
 
--- the lock is lent to the ticket at v at some moment of a run, its start and its end among them
+-- the lock is lent to the ticket at v at some moment of a run, including its start and its end
 abbrev pub is_lent_once : World → List Event → ℕ → ℕ → Bool
 is_lent_once w [] v t = borrows (w.node v).desk t
 is_lent_once w (e ∷ es) v t = borrows (w.node v).desk t || is_lent_once (step w e) es v t
@@ -66,7 +66,7 @@ abbrev pub gives_up : World → List Event → ℕ → ℕ → Bool
 gives_up w [] v t = false
 gives_up w (e ∷ es) v t = (is_leave e v t && waits (w.node v).desk t) || gives_up (step w e) es v t
 
--- Service: a ticket at place i of a desk's list, which does not leave while it waits, is lent the
+-- Service: a ticket at place i of a desk's list that does not leave while it waits is lent the
 -- lock within 8(n - 1)(i + 2) sweeps.
 abbrev pub WaitingAreServed : Type 0
 WaitingAreServed =

@@ -1,4 +1,4 @@
--- Worlds on whose tree the token ring is laid.
+-- Worlds whose tree carries the token ring.
 use Rattle.run_model.specs.World.{World, IsWorldInRange}
 use Rattle.run_model.specs.Tree.{IsTreeReached}
 use Rattle.run_model.specs.Links.{AreLinksStable}

@@ -1,5 +1,5 @@
 -- From any state to a legitimate world, in a number of sweeps that is linear in the nodes and does
--- not grow with the capacity. e is the greatest distance of a node from the root.
+-- not depend on the capacity. e is the greatest distance of a node from the root.
 use Rattle.std.specs.Prelude.{◌+◌, ◌-◌, ◌*◌, List}
 use Rattle.topology.specs.Eccentricity.{eccentricity_of, sharp_of}
 use Rattle.run_model.specs.World.{World, IsWorldInRange}

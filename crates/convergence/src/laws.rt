@@ -1,5 +1,5 @@
-//! From any state to a world that serves, and no way back: each law is the contract of a function
-//! that does nothing.
+//! From any state to a world that serves, and then for good: each law is the contract of a
+//! function that does nothing.
 ghost use Rattle.convergence.specs.Below.{Below};
 ghost use Rattle.convergence.specs.Laws.{LoansStayPrivileged, DesksTurnPrivileged, LegitimateStays};
 ghost use Rattle.convergence.specs.Laws.{LegitimateServes, LinksConverge, PayloadsConverge};
@@ -13,7 +13,7 @@ ghost use Rattle.convergence.specs.Service.{MovesClearDesks};
 ghost use Rattle.convergence.specs.Service.{WaitingAreServed};
 ghost use Rattle.run_model.specs.Headline.{Headline};
 
-/// All that this crate knows of the layers below it. Each law here is proved from these alone.
+/// All that this crate knows about the layers below. Each law here is proved only from these.
 pub fn below()
     ensures { Below }
 {
@@ -54,8 +54,8 @@ pub fn closure()
 
 /// Convergence: from every world in range, over every list of events without damage, the links are
 /// stable after 4(C + 1) sweeps, and from then on any three sweeps replace all that is staged and
-/// copied; the tree is reached after 4(n + 1) more, and the token ring is good after 48(n - 1)(n -
-/// 1) more; after one more, the R-th, the world is legitimate. So it serves.
+/// copied. The tree is reached after 4(n + 1) more, and the token ring is good after 48(n - 1)(n -
+/// 1) more. After one more, the R-th, the world is legitimate, and so it serves.
 pub fn converge()
     ensures links { LinksConverge }
     ensures payloads { PayloadsConverge }
@@ -68,9 +68,9 @@ pub fn converge()
 }
 
 /// Convergence by the sharper count, with e the greatest distance of a node from the root: the
-/// links are stable after 6 sweeps, whatever their capacity; the tree is reached after 4(e + 2)
-/// more, and the token ring is good after 16(n - 1) more; after one more, 16(n - 1) + 4e + 15 in
-/// all, the world is legitimate. So it serves.
+/// links are stable after 6 sweeps, whatever their capacity. The tree is reached after 4(e + 2)
+/// more, and the token ring is good after 16(n - 1) more. After one more, 16(n - 1) + 4e + 15 in
+/// all, the world is legitimate, and so it serves.
 pub fn sharp()
     ensures links { LinksConvergeSooner }
     ensures tree { TreeConvergesSooner }
@@ -82,11 +82,10 @@ pub fn sharp()
 }
 
 /// Service: from a legitimate world, over every list of events without damage, each node is
-/// privileged at some moment of any 16(n - 1) sweeps; from any world, of as many after those after
-/// which it is legitimate. The privilege passes a desk at which a ticket waits only if that had
-/// served, or a loan ends in that very tick; and after it the desk is ready to lend. So a ticket
-/// that waits after i others, and does not leave while it waits, is lent the lock within
-/// 8(n - 1)(i + 2) sweeps.
+/// privileged at some moment of any 16(n - 1) sweeps; from any other world, once it is legitimate.
+/// The privilege passes a desk at which a ticket waits only if the desk had served, or a loan ends
+/// in that very tick; after that the desk is ready to lend. So a ticket that waits after i others,
+/// and does not leave while it waits, is lent the lock within 8(n - 1)(i + 2) sweeps.
 pub fn service()
     ensures legitimate { LegitimateVisits }
     ensures each_state { EachStateVisits }

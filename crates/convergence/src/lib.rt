@@ -1,10 +1,10 @@
-//! Self-stabilisation: from every state the lock comes to serve, and then serves for good.
+//! Self-stabilisation: from every state the lock comes to serve, and then always serves.
 //!
 //! Over any list of events without damage (losses, asks, leaves and refused events are none),
-//! sweeps bring one layer after the other to rest: the links are stable, the tree is reached, the
-//! token ring is good, and each node that lends is privileged. Then the world is legitimate and
-//! stays so, each node has its shortest distance and its true parent, and at most one node holds
-//! the privilege and lends the lock.
+//! sweeps repair one layer after the other: the links become stable, the tree is reached, the
+//! token ring becomes good, and each node that lends is privileged. Then the world is legitimate
+//! and stays so: each node has its shortest distance and its true parent, and at most one node
+//! holds the privilege and lends the lock.
 //!
 //! The token ring is Dijkstra's K-state machines on a tree, laid along its Euler tour. On a
 //! *settled* world (in range, every link stable, the tree reached) each event of the network copies
@@ -13,16 +13,16 @@
 //! privileged. A world is *legitimate* if it is settled, its ring is good, and each node that lends
 //! is privileged.
 //!
-//! Nothing is computed here, and nothing is claimed of time: not that sweeps occur, only what holds
-//! once they have. The laws are contracts of functions without parameters; whoever proves something
-//! of a running program calls `laws::closure` and `laws::converge` and cites their clauses. The laws
-//! of the ring are `ring_laws`; its definitions stand in `specs/`, in the order Ring, Legs, Settled,
+//! Nothing is computed here, and nothing is claimed about time: not that sweeps occur, only what
+//! holds once they have. The laws are contracts of functions without parameters. A proof about a
+//! running program calls `laws::closure` and `laws::converge` and cites their clauses. `ring_laws`
+//! has the laws of the ring; read its definitions in `specs/` in the order Ring, Legs, Settled,
 //! Legitimate, Moves, RingLaws, RingService.
 //!
-//! The traps: a sweep needs a *full* tick of each node, a tick after which it lends to nobody; while
-//! a client keeps the lock, no sweep ends. And the ring has three places for each step of the tour
-//! (a machine's value, the one staged, and the one copied), so it needs 6(n - 1) + 1 values, not as
-//! many as there are machines.
+//! The traps: a sweep needs a *full* tick of each node, a tick after which it lends to nobody;
+//! while a client holds the lock, no sweep ends. And the ring has three places for each step of
+//! the tour (a machine's value, the staged one and the copied one), so it needs 6(n - 1) + 1
+//! values, not one for each machine.
 //!
 //! Sources: E. W. Dijkstra, Self-stabilizing systems in spite of distributed control, 1974; S.
 //! Dolev, A. Israeli, S. Moran, Self-stabilization of dynamic systems assuming only read/write

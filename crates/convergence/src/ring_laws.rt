@@ -1,5 +1,5 @@
-//! What holds of the token ring and of privilege: each law is the contract of a function that does
-//! nothing.
+//! What holds for the token ring and for privilege: each law is the contract of a function that
+//! does nothing.
 ghost use Rattle.convergence.specs.RingBelow.{Below};
 ghost use Rattle.convergence.specs.RingLaws.{OnePrivileged, OneLending, PrivilegeStays, SettledStays};
 ghost use Rattle.convergence.specs.RingLaws.{EventIsRingRun};
@@ -9,9 +9,9 @@ ghost use Rattle.convergence.specs.RingLaws.{TokenRingTurnsGoodSoon};
 ghost use Rattle.convergence.specs.RingService.{PrivilegeGoesRound, PrivilegeVisits, MachinesMove};
 ghost use Rattle.convergence.specs.Legs.{EachTour};
 
-/// The legs of the tour: each goes on from the one before and the first from the last, each node
-/// has one for each of its tree neighbours, the first alone is the special machine's, and there are
-/// 2(n-1). Whoever follows a value round the token ring needs these.
+/// The legs of the tour: each goes on from the one before, and the first from the last; each node
+/// has one for each of its tree neighbours; only the first is the special machine's; and there are
+/// 2(n-1). Proofs that follow a value round the token ring need these.
 pub fn legs()
     ensures { EachTour }
 {
@@ -21,8 +21,8 @@ pub fn legs()
     euler_ring::laws::the_tour();
 }
 
-/// All that this crate knows of the layers below it, and of the tour. The laws below are proved
-/// from these alone.
+/// All that this crate knows about the layers below, and about the tour. The laws below are proved
+/// only from these.
 pub fn below()
     ensures { Below }
 {
@@ -46,8 +46,8 @@ pub fn below()
 }
 
 /// One token: if the tree is reached and the token ring is good, at most one node is privileged,
-/// and in a legitimate world at most one lends; a privileged node stays privileged until one of its
-/// machines moves. This is what the lock is for.
+/// and in a legitimate world at most one lends. A privileged node stays privileged until one of
+/// its machines moves. This is the purpose of the lock.
 pub fn one_token()
     ensures privileged { OnePrivileged }
     ensures lending { OneLending }
@@ -84,9 +84,9 @@ pub fn ring()
     below();
 }
 
-/// Where the privilege goes on a good token ring: while the head moves twice each node is
-/// privileged at some moment, so in any 16(n - 1) sweeps; and a machine of each node moves in any
-/// 8(n - 1).
+/// Where the privilege goes on a good token ring: while the head moves twice, and so in any 16(n -
+/// 1) sweeps, each node is privileged at some moment; and a machine of each node moves in any 8(n
+/// - 1).
 pub fn visits()
     ensures in_two_moves { PrivilegeGoesRound }
     ensures in_sweeps { PrivilegeVisits }

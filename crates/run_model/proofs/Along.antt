@@ -1,6 +1,6 @@
--- Along a run: what each event keeps, the run keeps; and what a full tick of a node brings about, a
--- list with such a tick brings about. No clause can range over what may hold of a world, so the
--- crates above cite the two from here.
+-- Along a run: what each event keeps, the run keeps; and what a full tick of a node brings about,
+-- a list with such a tick brings about. No clause can range over all properties of a world, so the
+-- crates above cite these two from here.
 use Rattle.std.proofs.Common.{◌≡◌, List, [], ◌∷◌, ℕ, true, false, refl, inl, inr}
 use Rattle.std.proofs.lemmas.Bool.{or_parts, or_cases, or_from, false≢true}
 use Rattle.run_model.specs.World.{World, IsWorldInRange}
@@ -10,7 +10,7 @@ use Rattle.run_model.specs.Sweep.{is_full_tick, has_full_tick}
 use Rattle.run_model.specs.Laws.{RangesStay}
 use Rattle.run_model.specs.declared.event.Event.{Event}
 
--- a list without damage has no damage first, and none after it
+-- a list without damage has none in its first event, and none after it
 pub undamaged-front : (w : World) (e : Event) (es : List Event) → IsUndamaged w (e ∷ es) → (is_damage w e ≡ false) × IsUndamaged (step w e) es
 undamaged-front w e es u = or_parts (is_damage w e) (has_damage (step w e) es) u
 
@@ -18,8 +18,8 @@ undamaged-front w e es u = or_parts (is_damage w e) (has_damage (step w e) es) u
 pub undamaged-one : (w : World) (e : Event) → is_damage w e ≡ false → IsUndamaged w (e ∷ [])
 undamaged-one w e d = or_from (is_damage w e) false d refl
 
--- What is known along a run: it holds of a world and the events to come, says something of the
--- next event, and holds after that event too.
+-- What is known along a run: it holds for a world and the events to come, says something about the
+-- next event, and still holds after that event.
 pub record Course : Type 1 where
   pub holds : World → List Event → Type 0
   pub tells : World → Event → Type 0
@@ -49,7 +49,7 @@ ticked c P Q v kp kq tick w (e ∷ es) h p t =
       | inr r ↦ ticked c P Q v kp kq tick (step w e) es later (kp w e now p) r
     ]
 
--- the course that all others are part of: worlds in range, and no damage
+-- the most general course: worlds in range, and no damage
 abbrev pub IsUndamagedEvent : World → Event → Type 0
 IsUndamagedEvent w e = IsWorldInRange w × (is_damage w e ≡ false)
 

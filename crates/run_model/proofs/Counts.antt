@@ -38,7 +38,7 @@ sweeps-join w (suc r) s first rest edges fine (one, others, e, sweep, a) b (suc 
       (subst (λ x. Sweeps x s rest) (ap (run w) e ∙ runs-join w one others) b) n (omega arith),
 )
 
--- of two beginnings of one list, the first is a beginning of the second, or the second a proper one
+-- of two prefixes of one list, the first is a prefix of the second, or the second a proper prefix
 -- of the first
 pub data TwoBeginnings (a b c d : List Event) : Type 0 where
   Longer : (mid : List Event) → c ≡ a ++ mid → b ≡ mid ++ d → TwoBeginnings a b c d
@@ -76,7 +76,7 @@ no-sweep_count w es none = record { held = tt; no_more = λ s. none s.0 s.1 s.2 
 
 -- ---- event by event
 
--- what is counted so far is the greatest count
+-- the count so far is the greatest count
 pub counted-greatest : (w : World) (r : ℕ) (done rest : List Event) → AreEdges w.net → IsUndamaged w (done ++ rest) → EarliestSweeps w r done
     → IsUnfinished (run w done) rest → IsGreatestCount w (done ++ rest) r
 counted-greatest w zero done rest edges fine none unfinished =
@@ -89,12 +89,12 @@ counted-greatest w (suc r) done rest edges fine (first, others, e, sweep, earlie
     (counted-greatest (run w first) r others rest (subst AreEdges (sym (run-network w first sweep.undamaged)) edges) (undamaged-splits w first (others ++ rest) all).1 later
     (subst (λ x. IsUnfinished x rest) (ap (run w) e ∙ runs-join w first others) unfinished)))
 
--- no events are no sweep, since there is a node
+-- an empty list is no sweep, since there is a node
 pub nothing-unfinished : (w : World) → 0 < w.net.nodes → IsUnfinished w []
 nothing-unfinished w some [] back e sweep = let none = sweep.ticked 0 some in cc
 nothing-unfinished w some (event ∷ front) back e sweep = absurd cc
 
--- a beginning of an unfinished stretch and one more event: no sweep, or the whole
+-- a prefix of an unfinished stretch and one more event is no sweep, unless it is the whole
 one-more : (w : World) (rest : List Event) (e : Event) (front back : List Event) → IsUnfinished w rest → rest ++ e ∷ [] ≡ front ++ back → IsSweep w front
     → (front ≡ rest ++ e ∷ []) × (back ≡ [])
 one-more w rest e front back unfinished same sweep = elim (two-beginnings front back rest (e ∷ []) (sym same)) [

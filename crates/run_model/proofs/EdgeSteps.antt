@@ -1,4 +1,4 @@
--- An event of the world is one event of each edge.
+-- An event of the world is one event for each edge.
 use Rattle.std.proofs.Common.{◌≡◌, ◌≢◌, ℕ, ◌<◌, ◌≤◌, List, [], ◌∷◌, true, false, IsTrue, length, refl, ◌∙◌, ap, inl, inr, arith}
 use Rattle.std.proofs.lemmas.Grind.{common_steps}
 use Rattle.std.proofs.lemmas.Bool.{cases_Bool, cond-true, cond-false}
@@ -28,14 +28,14 @@ use Rattle.run_model.proofs.Ranges.{AllFit, linked}
 pub remove-beyond : {X : Type 0} (xs : List X) (i : ℕ) → length xs ≤ i → remove xs i ≡ xs
 remove-beyond xs i l = grind (arith, common_steps)
 
--- v takes an item of these, and p may be staged then
+-- v takes one of these items, and may stage p then
 abbrev handed_with : Payload → World → ℕ → ℕ → List Item → World
 handed_with p w u v [] = w
 handed_with p w u v (Noise ∷ rest) = with_link (with_node w v (w.node v)) u v rest
 handed_with p w u v (Frame f ∷ rest) =
     with_link (with_node w v (record (w.node v) { port = at (w.node v).port u (port_after (ranges_of w.net).counter ((w.node v).port u) f p) })) u v rest
 
--- it is what v says of itself that may be staged
+-- what may be staged is what v says of itself
 handed-present : (w : World) (u v : ℕ) (items : List Item) → AllFit w items → handed_over w u v items ≡ handed_with (present w v u) w u v items
 handed-present w u v [] fit = refl
 handed-present w u v (Noise ∷ rest) fit = refl
@@ -43,7 +43,7 @@ handed-present w u v (Frame f ∷ rest) fit =
     let fits : frame_fits (ranges_of w.net) f ≡ true = All-head (λ (item : Item). IsTrue (item_fits (ranges_of w.net) item)) (Frame f) rest fit in
     ap (λ s. with_link (with_node w v s) u v rest) (cond-true (frame_fits (ranges_of w.net) f) (heard (site w v) u f (w.node v)) (w.node v) fits)
 
--- the same with any payloads
+-- the same for any payloads
 takes-any : (w : World) (u v a b : ℕ) (p q r : Payload) → u ≢ v → (a ≡ u → b ≡ v → p ≡ q) → (a ≡ v → b ≡ u → p ≡ r)
     → edge_of (handed_with p w a b (w.link a b)) u v ≡ edge_step w.net.capacity (edge_of w u v) (either_way u v a b (TakeOut q) (TakeBack r))
 takes-any w u v a b p q r apart out back = grind (arith, common_steps)

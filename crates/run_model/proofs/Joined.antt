@@ -1,4 +1,4 @@
--- What is known of two nodes that an edge joins.
+-- What is known about two nodes that an edge joins.
 use Rattle.std.proofs.Common.{◌≢◌, ℕ, ◌<◌, IsTrue, sym, ◌∙◌, subst}
 use Rattle.std.proofs.lemmas.Bool.{both_ways}
 use Rattle.link_model.specs.topology.Network.{Network, are_joined, IsAcceptedNetwork}
@@ -12,7 +12,7 @@ pub record IsEdge (net : Network) (u v : ℕ) : Type 0 where
   pub joined : IsTrue (are_joined net.edges u v)
   pub back : IsTrue (are_joined net.edges v u)
 
--- all that are joined are so
+-- all joined nodes are like that
 abbrev pub AreEdges : Network → Type 0
 AreEdges net = (u v : ℕ) → IsTrue (are_joined net.edges u v) → IsEdge net u v
 

@@ -11,8 +11,7 @@ use Rattle.run_model.specs.Privilege.{is_privileged}
 use Rattle.run_model.specs.Visited.{is_privileged_once, is_visited}
 use Rattle.run_model.specs.declared.event.Event.{Event}
 
--- if there is damage in a list, the moment lies after its first event; if there is none,
--- before it
+-- the moment is after the first event if there is damage in the list, else before it
 skips : (w : World) (e : Event) (es : List Event) → has_damage w (e ∷ es) ≡ true → after_damage w (e ∷ es) ≡ after_damage (step w e) es
 skips w e es h = cond-true (has_damage w (e ∷ es)) (after_damage (step w e) es) (record { world = w; rest = e ∷ es }) h
 
@@ -49,7 +48,7 @@ moment-moves w (x ∷ es) e harm =
 
 -- ---- the moment, and from it to the end
 
--- from a moment of a run its rest leads to the end, without damage
+-- from a moment of a run, the rest leads to the end without damage
 pub record LeadsTo (end : World) (m : Moment) : Type 0 where
   pub range : IsWorldInRange m.world
   pub fine : IsUndamaged m.world m.rest

@@ -33,7 +33,7 @@ at_other f a v s ne = cond-false (v == a) s (f v) (ne_eqb v a ne)
 same_node : (w new : World) (v : ℕ) → new.node v ≡ w.node v → IsResting w new v
 same_node w new v e = record { values = ap (λ (s : LocalState). s.value) e; loan = λ h. ap (λ (s : LocalState). is_some s.desk.lent) (sym e) ∙ h }
 
--- the node with another desk, which lends only if the desk lent before
+-- the node gets another desk that lends only if the old one did
 desk-quiet : (w new : World) (a v : ℕ) (d : DeskState) → new.node ≡ at w.node a (record (w.node a) { desk = d })
     → (is_some d.lent ≡ true → is_some (w.node a).desk.lent ≡ true) → IsResting w new v
 desk-quiet w new a v d is lent = elim (cases_eq v a) [

@@ -24,7 +24,7 @@ use Rattle.node_core.specs.State.{LocalState, IsNodeInRange}
 use Rattle.node_core.specs.Machines.{tree_of, ring_for, payload_for, before, is_special, may_move, moved_value, is_node_privileged}
 use Rattle.node_core.specs.Step.{heard, taken, copied_distance, recomputed, desk_done, machines_moved, ticked}
 
--- laws of the layers below, by which each part of a node stays in range
+-- the laws of the layers below that keep each part of a node in range
 pub record KeepRanges : Type 0 where
   pub near : NeighboursAreJoined
   pub ports : PortStaysInRange
@@ -42,7 +42,7 @@ fits-from : (r : Ranges) (distance : ℕ) (parent : Option ℕ) (ring : ℕ) →
     → payload_fits r (record { distance = distance; parent = parent; ring = ring }) ≡ true
 fits-from r distance parent ring d p x = grind (arith, common_steps, nat_tests)
 
--- ---- what is chosen among the neighbours is as they all are
+-- ---- what holds for all neighbours holds for a chosen one
 
 highest-is : (P : ℕ → Type 0) (d : ℕ) (ts : List ℕ) → P d → All P ts → P (unwrap_or (highest ts) d)
 highest-is P d [] p all = p
@@ -95,7 +95,7 @@ heard-range keep site s u f sound range fits = record {
   desk = range.desk;
 }
 
--- whatever the item, since one out of range changes nothing
+-- for any item, since one out of range changes nothing
 pub taken-range : KeepRanges → (site : Site) (s : LocalState) (u : ℕ) (item : Item) → IsSiteSound site → IsNodeInRange site s
     → IsNodeInRange site (taken site u item s)
 taken-range keep site s u item.Noise sound range = range

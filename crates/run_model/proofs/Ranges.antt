@@ -42,7 +42,7 @@ default-fits net = grind (arith, common_steps, nat_tests)
 no-desk_fits : (lease : ℕ) → desk_fits lease no_desk ≡ true
 no-desk_fits lease = grind (arith, common_steps, nat_tests)
 
--- the world in which nothing has happened yet is in range
+-- the world in which nothing has happened is in range
 pub start-range : (net : Network) (pairs : ℕ) → IsAcceptedNetwork net → IsWorldInRange (world_with_spares net pairs)
 start-range net pairs ok = record {
   network = ok;
@@ -104,7 +104,7 @@ desk-range w v d range new = node-range w v (record (w.node v) { desk = d }) ran
       desk = new old.desk;
     })
 
--- ---- what an event that is not refused knows
+-- ---- what is known if an event is not refused
 
 -- the two are nodes, and joined
 pub record IsLinked (w : World) (u v : ℕ) : Type 0 where
@@ -119,7 +119,7 @@ linked w u v fine = record {
   joined = grind (arith, common_steps, nat_tests);
 }
 
--- the first refusal is none if both are
+-- the first refusal is none if neither refuses
 pub neither : (first later : Option EventFault) → is_some (first_fault first later) ≡ false → (is_some first ≡ false) × (is_some later ≡ false)
 neither None later h = (refl, h)
 neither (Some fault) later h = absurd (grind arith)

@@ -1,5 +1,5 @@
--- Longer stretches: what a part of a stretch hands over, the whole hands over, and so a sweep stays
--- one if events are added before or after it.
+-- Longer stretches: the whole hands over what a part of it does, so a sweep stays a sweep if
+-- events are added before or after it.
 use Rattle.std.proofs.Common.{◌≡◌, ℕ, ◌<◌, suc, List, [], ◌∷◌, ◌++◌, true, IsTrue, length, map, refl, sym, ap, subst, arith}
 use Rattle.std.proofs.lemmas.Bool.{or_left, or_right, or_parts}
 use Rattle.std.proofs.lemmas.List.{map-append}
@@ -37,8 +37,8 @@ ticked-late w (e ∷ xs) ys v h = or_right (is_full_tick w e v) (has_full_tick (
 abbrev pub IsSent : Origin → Type 0
 IsSent origin = IsTrue (is_first_sent (origin ∷ []))
 
--- if each item that was sent inside one stretch was sent inside another, the other hands over
--- such an item too
+-- if each item that was sent inside one stretch was sent inside another, that one hands over such
+-- an item too
 more-sent : (capacity i j : ℕ) (acts : List LinkAct) (few many : List Origin) → IsMarked IsSent few many
     → hands_over_sent capacity i acts few ≡ true → hands_over_sent capacity j acts many ≡ true
 more-sent capacity i j [] few many m h = h
@@ -65,18 +65,18 @@ hands-early capacity i (act ∷ xs) ys origins h =
     (λ now. or_left (takes_sent act origins) rest now)
     (λ not_now then. or_right (takes_sent act origins) rest (hands-early capacity (suc i) xs ys later then))
 
--- the marks of a stretch may start over wherever there are as many items
+-- the marks of a stretch may start over if there are as many items
 fresh-marks : (xs : List Item) (origins : List Origin) → length origins ≡ length xs → map (λ item. Before) xs ≡ map (λ origin. Before) origins
 fresh-marks [] [] e = refl
 fresh-marks [] (o ∷ os) e = absurd (omega (arith, e))
 fresh-marks (x ∷ xs) [] e = absurd (omega (arith, e))
 fresh-marks (x ∷ xs) (o ∷ os) e = ap (λ l. Before ∷ l) (fresh-marks xs os (omega (arith, e)))
 
--- beside the items stand as many marks
+-- there are as many marks as items
 abbrev pub IsBeside : List Origin → List Item → Type 0
 IsBeside origins items = IsMarked (λ item. Unit {0}) origins items
 
--- a stretch hands over what its end does, counted on its own
+-- a stretch hands over what its end alone does
 hands-late : (w : World) (i : ℕ) (xs ys : List Event) (u v : ℕ) (origins : List Origin) → IsEdge w.net u v
     → IsUndamaged w xs → IsBeside origins (w.link u v) → is_renewed (run w xs) ys u v ≡ true
     → hands_over_sent w.net.capacity i (map (link_act u v) (xs ++ ys)) origins ≡ true

@@ -30,7 +30,7 @@ pub record AreNetworksKept : Type 0 where
   pub others_at_join : OthersStayAtJoin
   pub others_at_part : OthersStayAtPart
 
--- what all of some nodes are, each of them is
+-- what holds for all nodes of a list holds for each
 among : (P : ℕ → Type 0) (ns : List ℕ) (x : ℕ) → All P ns → is_among ns x ≡ true → P x
 among P [] x all h = absurd (false≢true h)
 among P (n ∷ ns) x all h = elim (or_cases (n == x) (list_any (λ u. u == x) ns) h) [

@@ -1,5 +1,5 @@
--- Edges that join and go on a square, if its nodes and links are not as at the start: what
--- changes, what stays, and what is refused.
+-- Edges that join and go on a square whose nodes and links are not as at the start: what changes,
+-- what stays, and what is refused.
 use Rattle.std.proofs.Common.{◌≡◌, List, [], ◌∷◌, Some, None, true, false, refl, ap}
 use Rattle.node_core.specs.data_link.Port.{default_port}
 use Rattle.link_model.specs.topology.Network.{Network, Edge, neighbours_of}
@@ -16,8 +16,8 @@ use Rattle.run_model.specs.declared.event.EventFault.TheVariants.{NoNode, NoLink
 use Rattle.run_model.specs.declared.event.Harm.TheVariants.{Counters, Value, Own, Item, Join, Part}
 use Rattle.run_model.proofs.RowsFaults.{square}
 
--- each node's port and value to node 3 are marked, and so are node 3's to 1 and 2; an item is under
--- way on each link of the edge between 1 and 3, and one on another
+-- each node's port and value for node 3 are marked, and so are node 3's for 1 and 2; an item is
+-- under way on each link of the edge between 1 and 3, and one on another link
 abbrev marked : World
 marked =
     run (world_with_spares square 1)
@@ -35,7 +35,7 @@ part-is_fine = refl
 part-takes_the_edge : parted.net.edges ≡ (0, 1) ∷ (0, 2) ∷ (2, 3) ∷ []
 part-takes_the_edge = refl
 
--- node 3 is still two steps away, by 2 now
+-- node 3 is still two steps away, now through 2
 part-keeps_a_walk : distance_of parted.net 3 ≡ 2
 part-keeps_a_walk = refl
 
@@ -51,7 +51,7 @@ part-keeps_other_ports = refl
 part-keeps_other_values : (parted.node 3).value 2 ≡ 6
 part-keeps_other_values = refl
 
--- what node 3 holds of itself stays, though its parent is no neighbour any more
+-- node 3's own values stay, though its parent is no longer a neighbour
 part-keeps_what_is_own : ((parted.node 3).distance ≡ 2) × ((parted.node 3).parent ≡ Some 1)
 part-keeps_what_is_own = (refl, refl)
 
@@ -75,15 +75,14 @@ join-puts_the_edge_last = refl
 join-takes_a_pair : joined.spares ≡ 1
 join-takes_a_pair = refl
 
--- nothing of what stood there comes back with it
+-- nothing that was there comes back with it
 join-forgets : (((joined.node 3).port 1) ≡ default_port (ranges_of square)) × (joined.link 1 3 ≡ [])
 join-forgets = (refl, refl)
 
 join-keeps_other_ports : ((joined.node 3).port 2).seq ≡ 2
 join-keeps_other_ports = refl
 
--- the network is another one, since its edges come in another order; the neighbours are those that
--- were
+-- the network is another one, since its edges are in another order; the neighbours are the same
 not_the_same_network : ¬ (joined.net ≡ square)
 not_the_same_network same =
     let edges : ◌≡◌ {A = List Edge} ((0, 1) ∷ (0, 2) ∷ (2, 3) ∷ (3, 1) ∷ []) ((0, 1) ∷ (0, 2) ∷ (1, 3) ∷ (2, 3) ∷ []) = ap (λ (net : Network). net.edges) same in
@@ -92,7 +91,7 @@ not_the_same_network same =
 same_neighbours : neighbours_of joined.net 3 ≡ neighbours_of square 3
 same_neighbours = refl
 
--- both are damage, and what is refused is none
+-- both are damage, and a refused one is not
 part-is_damage : is_damage marked (Damage (Part 1 3)) ≡ true
 part-is_damage = refl
 
@@ -127,11 +126,11 @@ no-second_edge = (refl, refl)
 no-join_of_no_node : refusal marked (Damage (Join 0 4)) ≡ Some NoNode
 no-join_of_no_node = refl
 
--- the opposite corners may be joined if a pair is left, and not if none is
+-- the opposite corners may be joined only if a pair is left
 no-join_without_a_pair : (refusal marked (Damage (Join 0 3)) ≡ None) × (refusal start (Damage (Join 0 3)) ≡ Some NoSpare)
 no-join_without_a_pair = (refl, refl)
 
--- a part gives a pair to the next join
+-- a removed edge gives its pair to the next one
 part-then_join : refusal (step start (Damage (Part 1 3))) (Damage (Join 0 3)) ≡ None
 part-then_join = refl
 
@@ -141,6 +140,6 @@ out-of_range_before_no_pair = refl
 no-node_before_no_pair : refusal start (Damage (Join 4 4)) ≡ Some NoNode
 no-node_before_no_pair = refl
 
--- no event goes over an edge that is gone, and over a new one each does
+-- no event crosses an edge that is gone, and any event may cross a new one
 gone-with_its_links : (refusal parted (Send 1 3) ≡ Some NoLink) × (refusal joined (Send 1 3) ≡ None)
 gone-with_its_links = (refl, refl)

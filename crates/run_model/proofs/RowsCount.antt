@@ -22,7 +22,7 @@ are-joined = each-link (IsEdge two_nodes)
     (record { apart = λ e. absurd (omega arith); first = omega arith; second = omega arith; joined = refl; back = refl })
     (record { apart = λ e. absurd (omega arith); first = omega arith; second = omega arith; joined = refl; back = refl })
 
--- a stretch that leaves a link without service is unfinished
+-- a stretch that leaves a link unrenewed is unfinished
 unrenewed : (w : World) (es : List Event) (u v : ℕ) → IsTrue (are_joined w.net.edges u v) → is_renewed w es u v ≡ false → IsUnfinished w es
 unrenewed w es u v joined none front back e sweep =
     both_ways (is_renewed w es u v) none (subst (λ l. is_renewed w l u v ≡ true) (sym e) (renewed-early w front back u v (sweep.renewed u v joined)))
@@ -35,7 +35,7 @@ one-counted : IsCounted start least [] 1
 one-counted = count-rises start 0 [] nearly (Take 1 0) (omega arith)
     (record { sweeps = refl; unfinished = unrenewed start nearly 1 0 refl refl }) least-is_sweep
 
--- the least sweep is counted as one
+-- the shortest sweep counts as one
 one-sweep : IsSweepCount start least 1
 one-sweep = counted-greatest start 1 least [] are-joined refl one-counted.sweeps one-counted.unfinished
 
@@ -54,16 +54,16 @@ two-counted = count-rises start 1 least nearly (Take 1 0) (omega arith)
 two-sweeps : IsSweepCount start (least ++ least) 2
 two-sweeps = counted-greatest start 2 (least ++ least) [] are-joined refl two-counted.sweeps two-counted.unfinished
 
--- an event short of it is one still
+-- without the last event it is still one
 not-yet_two : IsSweepCount start (least ++ nearly) 1
 not-yet_two = counted-greatest start 1 least nearly are-joined refl one-counted.sweeps (unrenewed (run start least) nearly 1 0 refl refl)
 
--- damage takes back what was counted: what follows it is an event short of one
+-- damage resets the count: what follows it lacks one event
 none-since_damage : IsSweepCount start (least ++ Damage (harm.Empty 0 1) ∷ nearly) 0
 none-since_damage = counted-greatest (run start (least ++ Damage (harm.Empty 0 1) ∷ [])) 0 [] nearly are-joined refl refl
     (unrenewed (run start (least ++ Damage (harm.Empty 0 1) ∷ [])) nearly 1 0 refl refl)
 
--- an old item that is taken or lost is one old item less; a new one is none
+-- an old item that is taken or lost is one old item fewer; a new item does not count
 old-taken : old_items (run start (Send 0 1 ∷ [])) (Take 0 1 ∷ Send 0 1 ∷ []) 0 1 ≡ 0
 old-taken = refl
 

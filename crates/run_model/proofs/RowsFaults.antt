@@ -28,7 +28,7 @@ no-node = refl
 no-link : refusal (default_world square) (Send 0 3) ≡ Some NoLink
 no-link = refl
 
--- no node is looked for first
+-- the check for a node comes first
 no-node_before_no_link : refusal (default_world square) (Send 0 4) ≡ Some NoNode
 no-node_before_no_link = refl
 
@@ -50,7 +50,7 @@ no-link_before_out_of_range = refl
 no-room : refusal (step start (Damage (harm.Item 0 1 Noise))) (Damage (harm.Item 0 1 Noise)) ≡ Some OutOfRange
 no-room = refl
 
--- 64 tickets wait, and one of them asks again
+-- 64 tickets wait
 abbrev crowd : World
 crowd = with_desk start 0 (record { waiting = range_with_len 0 64; lent = None; left = 0; served = false })
 
@@ -66,7 +66,7 @@ twice = refl
 stranger : refusal (step start (Ask 0 5)) (Leave 0 6) ≡ Some Stranger
 stranger = refl
 
--- the first refusal counts: no node before Full and Twice, before Stranger, and before what is out
+-- the first refusal counts: no node comes before Full and Twice, before Stranger, and before out
 -- of range
 no-node_before_full : refusal crowd (Ask 2 64) ≡ Some NoNode
 no-node_before_full = refl
@@ -77,7 +77,7 @@ no-node_before_stranger = refl
 no-node_before_range : refusal start (Damage (harm.Own 2 9 None)) ≡ Some NoNode
 no-node_before_range = refl
 
--- a ticket is below 65536, wherever it asks
+-- at every node a ticket is below 65536
 no-ticket : refusal crowd (Ask 0 65536) ≡ Some OutOfRange
 no-ticket = refl
 
@@ -114,7 +114,8 @@ payloads-fit = (refl, refl)
 payloads-beyond : (refusal start (Damage (harm.Staged 0 1 too_far)) ≡ Some OutOfRange) × (refusal start (Damage (harm.Copy 0 1 too_far)) ≡ Some OutOfRange)
 payloads-beyond = (refl, refl)
 
--- there is no lease, so nothing is left of a loan; and a ticket that waits is not lent to
+-- there is no lease, so no ticks are left of a loan; and a ticket that waits does not have the
+-- lock
 desk-fits : refusal start (Damage (harm.Desk 0 (Some 5) 0 true)) ≡ None
 desk-fits = refl
 
@@ -155,8 +156,8 @@ link-is_emptied = refl
 
 -- ---- a take of a frame
 
--- node 0 takes a frame by which node 1 says that 0 is its parent: what 0 then stages for 1 is what
--- it had to say before it knew of its child
+-- node 0 takes a frame in which node 1 says that 0 is its parent: what 0 then stages for 1 is what
+-- it would have said before it knew its child
 abbrev child : Payload
 child = record { distance = 1; parent = Some 0; ring = 3 }
 
@@ -172,6 +173,6 @@ told-copies = refl
 told-stages_before : ((told.node 0).port 1).staged ≡ record { distance = 0; parent = None; ring = 0 }
 told-stages_before = refl
 
--- after it, 0 would have said its value for its child
+-- afterwards, 0 would say its value for its child
 told-says_now : present told 0 1 ≡ record { distance = 0; parent = None; ring = 5 }
 told-says_now = refl

@@ -16,8 +16,8 @@ start = default_world two_nodes
 full-tick : happened start (Tick 0) ≡ FullTick 0
 full-tick = refl
 
--- node 0 has copied that node 1 is its child, so it is privileged, and lends to the client that
--- asked; at the next tick it lends still
+-- node 0 has copied that node 1 is its child, so it is privileged and lends to the client that
+-- asked; at the next tick it still lends
 abbrev lending : World
 lending = run start (Damage (Copy 0 1 (record { distance = 1; parent = Some 0; ring = 0 })) ∷ Ask 0 5 ∷ [])
 
@@ -33,7 +33,7 @@ full-again = refl
 taken : happened (run start (Send 0 1 ∷ [])) (Take 0 1) ≡ Taken 0 1
 taken = refl
 
--- the other way nothing is under way
+-- nothing is under way in the other direction
 nothing-taken : happened (run start (Send 0 1 ∷ [])) (Take 1 0) ≡ NothingTaken 1 0
 nothing-taken = refl
 
@@ -46,6 +46,6 @@ damaged = refl
 other : happened start (Send 0 1) ≡ Other
 other = refl
 
--- a tick that lends is no full one
+-- a tick that lends is not full
 not_full : ¬ (happened lending (Tick 0) ≡ FullTick 0)
 not_full full = absurd cc

@@ -23,19 +23,19 @@ rounds (suc n) = round ++ rounds n
 abbrev pub after : ℕ → World
 after n = run (default_world two_nodes) (rounds n)
 
--- if all values of the token ring are equal, the special machine may move: node 0 is privileged,
--- alone
+-- if all values of the token ring are equal, the special machine may move: only node 0 is
+-- privileged
 node-0_after_four : is_privileged (after 4) 0 ≡ true
 node-0_after_four = refl
 
 alone-after_four : privileged_count (after 4) ≡ 1
 alone-after_four = refl
 
--- while the new value is on its way, nobody is
+-- while the new value is under way, no node is privileged
 nobody-after_five : privileged_count (after 5) ≡ 0
 nobody-after_five = refl
 
--- if it has come, node 1 is
+-- once it has arrived, node 1 is
 node-1_after_six : is_privileged (after 6) 1 ≡ true
 node-1_after_six = refl
 
@@ -48,15 +48,15 @@ node-0_after_seven = refl
 alone-after_seven : privileged_count (after 7) ≡ 1
 alone-after_seven = refl
 
--- from there the privilege has visited node 0 alone after one round, and both nodes after two
+-- from there the privilege has visited only node 0 after one round, and both nodes after two
 one-visited : is_visited (after 4) round 1 ≡ false
 one-visited = refl
 
 both-visited : is_visited (after 4) (rounds 2) 1 ≡ true
 both-visited = refl
 
--- Damage starts over, with the nodes that are privileged right after it: an emptied link takes the
--- visit of node 1 away, and node 0's machine is where it was.
+-- Damage starts the visits over, with the nodes that are privileged right after it: an emptied
+-- link removes the visit of node 1, and node 0's machine is where it was.
 visited-before_damage : is_visited (after 4) (rounds 2 ++ round) 1 ≡ true
 visited-before_damage = refl
 

@@ -1,4 +1,4 @@
--- Worlds on two nodes that serve, and worlds that do not, each for one reason alone.
+-- Worlds on two nodes that serve, and worlds that fail in just one way each.
 use Rattle.std.proofs.Common.{◌≡◌, ◌≢◌, ℕ, ◌<◌, ◌≤◌, List, [], ◌∷◌, length, IsTrue, Some, None, IfSome, refl, arith}
 use Rattle.std.proofs.lemmas.Bool.{false≢true}
 use Rattle.std.specs.Prelude.{◌==◌, if◌then◌else◌, IsSome}
@@ -16,7 +16,7 @@ use Rattle.run_model.proofs.RowsTwo.{two_nodes, each-node, node_with, calm, lend
 root-distance : IsDistance two_nodes 0 0
 root-distance = record { walk = ([], refl, refl); least = λ ws walk. omega arith }
 
--- node 1 is no walk of no step away
+-- no walk of length 0 leads to node 1
 other-least : (ws : List ℕ) → IsWalk two_nodes.edges 0 ws 1 → 1 ≤ length ws
 other-least [] walk = absurd cc
 other-least (w ∷ ws) walk = omega arith
@@ -39,7 +39,7 @@ each-some_parent = each-node (λ v. v ≢ 0 → IsSome (calm.node v).parent) (λ
 pub each-parent : (v : ℕ) → v < 2 → IfSome (calm.node v).parent (IsTrueParent two_nodes v)
 each-parent = each-node (λ v. IfSome (calm.node v).parent (IsTrueParent two_nodes v)) tt root-is_parent
 
--- what holds of one of two nodes at most
+-- what holds for at most one of two nodes
 pub one-of_two : (P : ℕ → Type 0) → (P 0 → P 1 → ⊥) → (u v : ℕ) → u < 2 → v < 2 → P u → P v → u ≡ v
 one-of_two P not_both u v l k p q =
     each-node (λ x. P x → x ≡ v) (λ a. each-node (λ y. P y → 0 ≡ y) (λ b. refl) (λ b. absurd (not_both a b)) v k q)
@@ -87,7 +87,7 @@ stale-tree_not_reached tree = let same = (tree.copied 1 0 refl).distance in absu
 abbrev calm-but : ℕ → LocalState → World
 calm-but v s = record { net = two_nodes; spares = 0; node = λ u. if u == v then s else calm.node u; link = calm.link }
 
--- node 1's machine has a value of its own, so both nodes are privileged
+-- node 1's machine has another value, so both nodes are privileged
 abbrev pub two_tokens : World
 two_tokens = calm-but 1 (node_with 1 no_desk 1 0 0)
 
@@ -108,7 +108,7 @@ two_loans-do_not_serve s = let same = s.one_lending 0 1 (omega arith) (omega ari
 pub wrong-distance_does_not_serve : ¬ IsServing (calm-but 1 (record (calm.node 1) { distance = 2 }))
 wrong-distance_does_not_serve s = let l : 2 ≤ 1 = (s.distances 1 (omega arith)).least (1 ∷ []) (refl, refl) in absurd (omega (arith, l))
 
--- and the root, that it is one away
+-- the root says that it is one away
 pub wrong-root_does_not_serve : ¬ IsServing (calm-but 0 (record (calm.node 0) { distance = 1 }))
 wrong-root_does_not_serve s = let l : 1 ≤ 0 = (s.distances 0 (omega arith)).least [] refl in absurd (omega (arith, l))
 

@@ -1,4 +1,4 @@
--- Stretches of two nodes that are sweeps, and stretches that only look like one.
+-- Stretches of two nodes that are sweeps, and stretches that only look like sweeps.
 use Rattle.std.proofs.Common.{◌≡◌, ◌<◌, List, [], ◌∷◌, true, false, refl, arith}
 use Rattle.link_model.specs.declared.item.Item.TheVariants.{Noise}
 use Rattle.run_model.specs.World.{World, with_link}
@@ -93,7 +93,7 @@ tick-that_lends = refl
 tick-after_the_loan : has_full_tick calm (Ask 0 5 ∷ Tick 0 ∷ Leave 0 5 ∷ Tick 0 ∷ []) 0 ≡ true
 tick-after_the_loan = refl
 
--- a harm that is accepted makes a stretch no sweep; one that is refused does not count
+-- a stretch with an accepted harm is no sweep; a refused harm does not matter
 harm-that_is_accepted : has_damage start (Damage (harm.Value 0 1 6) ∷ []) ≡ true
 harm-that_is_accepted = refl
 

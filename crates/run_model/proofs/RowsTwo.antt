@@ -1,5 +1,5 @@
--- The least network, two nodes and links of capacity 1; worlds on it that are in range, calm, and
--- forged.
+-- The smallest network, two nodes and links of capacity 1; worlds on it that are in range, calm,
+-- and forged.
 use Rattle.std.proofs.Common.{◌≡◌, ℕ, ◌<◌, zero, suc, List, [], ◌∷◌, false, IsTrue, Some, None, refl, inl, arith}
 use Rattle.std.proofs.lemmas.Bool.Decides.{nat_tests}
 use Rattle.std.specs.Prelude.{◌==◌, if◌then◌else◌}
@@ -57,7 +57,7 @@ is-accepted = record {
   connected = is-connected;
 }
 
--- so there is a world in range to start from
+-- so there is a possible start
 start-in_range : IsWorldInRange (default_world two_nodes)
 start-in_range = start-range two_nodes 0 is-accepted
 
@@ -99,8 +99,7 @@ calm-tree_reached = record {
 abbrev pub lending_desk : DeskState
 lending_desk = record { waiting = []; lent = Some 5; left = 0; served = false }
 
--- links and tree are as they should be, but node 1's machine has a value of its own, and both nodes
--- lend
+-- links and tree are right, but node 1's machine has another value, and both nodes lend
 abbrev pub forged : World
 forged = record {
   net = two_nodes;

@@ -62,7 +62,7 @@ value-range w v u x range fits = node-range w v (record (w.node v) { value = at 
       desk = old.desk;
     })
 
--- if a link has room, there is no harm in one item more
+-- a link with room stays in range with one more item
 room : (w : World) (u v : ℕ) (item : Item) → has_room w u v ≡ true → length (w.link u v ++ item ∷ []) ≤ w.net.capacity
 room w u v item h = grind (arith, common_steps, nat_tests)
 

@@ -1,4 +1,4 @@
--- What one event leaves as it is.
+-- What one event leaves unchanged.
 use Rattle.std.proofs.Common.{◌≡◌, ℕ, List, IsTrue, false, refl, arith}
 use Rattle.std.proofs.lemmas.Grind.{common_steps}
 use Rattle.std.proofs.lemmas.Bool.{cond_both}
@@ -18,7 +18,7 @@ refused-stays w e r = grind (arith, common_steps)
 handing-network : (w : World) (u v : ℕ) (items : List Item) → (handed_over w u v items).net ≡ w.net
 handing-network w u v items = grind (arith, common_steps)
 
--- an event that is no damage leaves the network as it is
+-- an event that is no damage leaves the network unchanged
 pub step-network : (w : World) (e : Event) → is_damage w e ≡ false → (step w e).net ≡ w.net
 step-network w e fine = grind (arith, common_steps, handing-network)
 

@@ -1,4 +1,4 @@
--- Stretches event by event: the old items of a link are the oldest, and a take meets a new one
+-- Stretches event by event: the old items of a link are the oldest, and a take meets a new item
 -- exactly if none of them is left.
 use Rattle.std.proofs.Common.{◌≡◌, ℕ, ◌+◌, ◌-◌, ◌≤◌, zero, suc, List, [], ◌∷◌, ◌++◌, false, ◌||◌, length, map, take, drop, refl, sym, ◌∙◌, ap, subst, arith}
 use Rattle.std.specs.Prelude.{nat_lt}
@@ -34,7 +34,7 @@ ticks-go_on w (x ∷ es) e v =
 
 -- ---- old items are the oldest
 
--- first the old ones, and then those that were sent
+-- first the old ones, then those that were sent
 abbrev IsOldFirst : List Origin → Type 0
 IsOldFirst [] = Unit {0}
 IsOldFirst (Before ∷ os) = IsOldFirst os
@@ -136,7 +136,7 @@ old-goes_on w es e u v =
     ∙ ap old_count (origins-join w.net.capacity 0 i acts (link_act u v e) start (omega arith))
     ∙ (first-after w.net.capacity i (link_act u v e) (origins_in w es u v) (first-in w es u v)).1
 
--- the marks stand beside the items
+-- there is a mark for each item
 beside : (w : World) (i : ℕ) (es : List Event) (u v : ℕ) (os : List Origin) → IsEdge w.net u v → IsUndamaged w es → IsBeside os (w.link u v)
     → IsBeside (origins_after w.net.capacity i (map (link_act u v) es) os) ((run w es).link u v)
 beside w i [] u v os pair fine m = m

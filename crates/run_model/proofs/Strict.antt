@@ -1,4 +1,4 @@
--- A strict sweep is a sweep: on each link it hands over more items than were there.
+-- A strict sweep is a sweep: on each link it hands over more items than were there at its start.
 use Rattle.std.proofs.Common.{◌≡◌, ℕ, zero, suc, List, [], ◌∷◌, refl, sym, ◌∙◌, ap, subst, arith}
 use Rattle.std.proofs.lemmas.Bool.{or_parts}
 use Rattle.link_model.specs.topology.Network.{Network, IsAcceptedNetwork}
@@ -20,7 +20,7 @@ use Rattle.run_model.proofs.Steps.{step-network}
 use Rattle.run_model.proofs.Edges.{act-out, act-back, edge-steps, renewed-out}
 use Rattle.run_model.proofs.EdgeRanges.{edge-range}
 
--- what a stretch hands over on a link is what the edge's own events do
+-- a stretch hands over on a link what the edge's own events do
 handed-out : RangesStay → (w : World) (es : List Event) (u v : ℕ) → IsWorldInRange w → IsEdge w.net u v → IsUndamaged w es
     → handed_out w.net.capacity (edge_of w u v) (edge_events w es u v) ≡ handed_in w es u v
 handed-out stay w [] u v range pair fine = refl

@@ -1,4 +1,4 @@
--- What an event does: which node it lets tick, and what becomes of the items of a link.
+-- What an event does: which node ticks, and what becomes of the items of a link.
 use Rattle.std.specs.Prelude.{ℕ, if◌then◌else◌, is_none, List, [], ◌∷◌}
 use Rattle.link_model.specs.declared.item.Item.{Item}
 use Rattle.run_model.specs.World.{World}
@@ -13,7 +13,7 @@ abbrev pub taken_of : ℕ → ℕ → List Item → Happened
 taken_of u v [] = NothingTaken u v
 taken_of u v (item ∷ rest) = Taken u v
 
--- what an event does that is not refused; a tick is full if the node lends to nobody after it
+-- what an accepted event does; a tick is full if the node lends to nobody after it
 abbrev pub happened : World → Event → Happened
 happened w (Tick v) = if is_none ((step w (Tick v)).node v).desk.lent then FullTick v else LendingTick v
 happened w (Take u v) = taken_of u v (w.link u v)

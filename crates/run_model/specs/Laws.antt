@@ -27,16 +27,16 @@ use Rattle.run_model.specs.declared.event.Event.{Event}
 abbrev pub RefusedChangesNothing : Type 0
 RefusedChangesNothing = (w : World) (e : Event) → IsTrue (is_some (refusal w e)) → step w e ≡ w
 
--- a list without damage leaves the network as it is
+-- a list without damage leaves the network unchanged
 abbrev pub NetworkStays : Type 0
 NetworkStays = (w : World) (es : List Event) → IsUndamaged w es → (run w es).net ≡ w.net
 
--- every list leaves the network its nodes, root, capacity and lease
+-- every list leaves the nodes, root, capacity and lease unchanged
 abbrev pub FrameStays : Type 0
 FrameStays = (w : World) (es : List Event) → IsSameFrame w.net (run w es).net
 
--- the world in which nothing has happened yet is in range, for each accepted network and any number
--- of spare pairs
+-- the world in which nothing has happened is in range, for each accepted network and any number of
+-- spare pairs
 abbrev pub StartIsInRange : Type 0
 StartIsInRange = (net : Network) (pairs : ℕ) → IsAcceptedNetwork net → IsWorldInRange (world_with_spares net pairs)
 
@@ -44,24 +44,24 @@ StartIsInRange = (net : Network) (pairs : ℕ) → IsAcceptedNetwork net → IsW
 abbrev pub RangesStay : Type 0
 RangesStay = (w : World) (es : List Event) → IsWorldInRange w → IsWorldInRange (run w es)
 
--- the run of two lists is the run of the second from where the first led
+-- the run of two lists is the run of the second from where the first one led
 abbrev pub RunsJoin : Type 0
 RunsJoin = (w : World) (xs ys : List Event) → run w (xs ++ ys) ≡ run (run w xs) ys
 
--- two lists, one after the other, are without damage if the first is, and the second from where
--- the first led,
+-- two lists, one after the other, are without damage if the first is, and so is the second from
+-- where the first one led,
 abbrev pub UndamagedJoins : Type 0
 UndamagedJoins = (w : World) (xs ys : List Event) → IsUndamaged w xs → IsUndamaged (run w xs) ys → IsUndamaged w (xs ++ ys)
 
--- and only there
+-- and only then
 abbrev pub UndamagedSplits : Type 0
 UndamagedSplits = (w : World) (xs ys : List Event) → IsUndamaged w (xs ++ ys) → IsUndamaged w xs × IsUndamaged (run w xs) ys
 
--- an event that is none of v's own leaves v as it is
+-- an event that is not one of v's own leaves v unchanged
 abbrev pub OwnNodeAlone : Type 0
 OwnNodeAlone = (w : World) (e : Event) (v : ℕ) → is_node_touched e v ≡ false → (step w e).node v ≡ w.node v
 
--- and one that is none of a link's own leaves its items
+-- and one that is not a link's own leaves its items
 abbrev pub OwnLinkAlone : Type 0
 OwnLinkAlone = (w : World) (e : Event) (u v : ℕ) → is_link_touched e u v ≡ false → (step w e).link u v ≡ w.link u v
 
@@ -84,7 +84,7 @@ EdgeRuns =
     (w : World) (es : List Event) (u v : ℕ) → IsWorldInRange w → IsTrue (are_joined w.net.edges u v) → IsUndamaged w es
     → edge_of (run w es) u v ≡ edge_run w.net.capacity (edge_of w u v) (edge_events w es u v)
 
--- a stretch renews a link if the edge's own events do
+-- a stretch renews a link exactly if the edge's own events do
 abbrev pub EdgeIsRenewed : Type 0
 EdgeIsRenewed =
     (w : World) (es : List Event) (u v : ℕ) → IsWorldInRange w → IsTrue (are_joined w.net.edges u v)
@@ -105,14 +105,14 @@ SweepGrows =
     (w : World) (front es back : List Event) → IsWorldInRange w → IsUndamaged w (front ++ es ++ back) → IsSweep (run w front) es
     → IsSweep w (front ++ es ++ back)
 
--- a list that holds r + s sweeps is one that holds r, and then one that holds s
+-- a list that holds r + s sweeps is a list that holds r, and then one that holds s
 abbrev pub SweepsSplit : Type 0
 SweepsSplit =
     (w : World) (r s : ℕ) (es : List Event) → Sweeps w (r + s) es
     → (first rest : List Event) × (es ≡ first ++ rest) × Sweeps w r first × Sweeps (run w first) s rest
 
--- And the other way round. After its r sweeps the first list may go on; the next sweep then takes
--- those events in, so there must be no damage among them.
+-- And conversely. After its r sweeps the first list may have more events; the next sweep then
+-- includes them, so there must be no damage among them.
 abbrev pub SweepsJoin : Type 0
 SweepsJoin =
     (w : World) (r s : ℕ) (first rest : List Event) → IsWorldInRange w → IsUndamaged w first → Sweeps w r first → Sweeps (run w first) s rest
@@ -122,7 +122,7 @@ SweepsJoin =
 abbrev pub FewerSweeps : Type 0
 FewerSweeps = (w : World) (r s : ℕ) (es : List Event) → r ≤ s → Sweeps w s es → Sweeps w r es
 
--- events after a list that holds r sweeps change nothing of that
+-- a list that holds r sweeps still does with events after it
 abbrev pub SweepsGrow : Type 0
 SweepsGrow = (w : World) (r : ℕ) (es back : List Event) → Sweeps w r es → Sweeps w r (es ++ back)
 
@@ -132,11 +132,11 @@ StrictSweepsAreSweeps = (w : World) (r : ℕ) (es : List Event) → IsWorldInRan
 
 -- ---- a stretch event by event
 
--- a node has its full tick with the event, or had it before
+-- a node has its full tick in the event, or had it before
 abbrev pub TicksGoOn : Type 0
 TicksGoOn = (w : World) (es : List Event) (e : Event) (v : ℕ) → has_full_tick w (es ++ e ∷ []) v ≡ (has_full_tick w es v || is_full_tick (run w es) e v)
 
--- a link is renewed by the event, if this takes a new item, or was before
+-- a link is renewed by the event, if that takes a new item, or was renewed before
 abbrev pub RenewedGoesOn : Type 0
 RenewedGoesOn =
     (w : World) (es : List Event) (e : Event) (u v : ℕ) → IsWorldInRange w → IsTrue (are_joined w.net.edges u v) → IsUndamaged w es
@@ -151,7 +151,7 @@ OldItemsStart = (w : World) (u v : ℕ) → old_items w [] u v ≡ length (w.lin
 abbrev pub OldItemsGoOn : Type 0
 OldItemsGoOn = (w : World) (es : List Event) (e : Event) (u v : ℕ) → old_items w (es ++ e ∷ []) u v ≡ old_after (link_act u v e) (old_items w es u v)
 
--- and there are no more of them than items.
+-- and there are no more old items than items.
 abbrev pub OldItemsAreThere : Type 0
 OldItemsAreThere =
     (w : World) (es : List Event) (u v : ℕ) → IsWorldInRange w → IsTrue (are_joined w.net.edges u v) → IsUndamaged w es
@@ -159,8 +159,8 @@ OldItemsAreThere =
 
 -- ---- counting greedily
 
--- Ending a sweep at the first event at which it is one loses none: if the list holds one sweep more
--- than r, the rest after the earliest sweep holds r.
+-- Ending a sweep at the first event that completes it loses none: if the list holds r + 1 sweeps,
+-- the rest after the earliest sweep holds r.
 abbrev pub EarliestIsBest : Type 0
 EarliestIsBest =
     (w : World) (r : ℕ) (first rest : List Event) → IsWorldInRange w → IsUndamaged w (first ++ rest) → IsEarliest w first
@@ -172,11 +172,11 @@ GreedyCount =
     (w : World) (r : ℕ) (first rest : List Event) → IsWorldInRange w → IsUndamaged w (first ++ rest) → IsSweep w first → IsEarliest w first
     → IsGreatestCount (run w first) rest r → IsGreatestCount w (first ++ rest) (suc r)
 
--- and 0 if no beginning of the list is a sweep.
+-- and 0 if no prefix of the list is a sweep.
 abbrev pub NoSweepCount : Type 0
 NoSweepCount = (w : World) (es : List Event) → IsUnfinished w es → IsGreatestCount w es 0
 
--- So what is counted so far is the greatest count.
+-- So the count so far is the greatest count.
 abbrev pub CountedIsGreatest : Type 0
 CountedIsGreatest =
     (w : World) (r : ℕ) (done rest : List Event) → IsWorldInRange w → IsUndamaged w (done ++ rest) → IsCounted w done rest r
@@ -213,7 +213,7 @@ MomentLeads =
     × IsUndamaged (after_damage w es).world (after_damage w es).rest
     × (run (after_damage w es).world (after_damage w es).rest ≡ run w es)
 
--- if one more event is no damage, that moment stays, and the event is one more since then
+-- if one more event is no damage, that moment stays, and has one more event after it
 abbrev pub MomentStays : Type 0
 MomentStays =
     (w : World) (es : List Event) (e : Event) → is_damage (run w es) e ≡ false
@@ -225,8 +225,8 @@ MomentMoves =
     (w : World) (es : List Event) (e : Event) → is_damage (run w es) e ≡ true
     → after_damage w (es ++ e ∷ []) ≡ record { world = step (run w es) e; rest = [] }
 
--- what the privilege has visited after one more event: damage starts over, and any other event adds
--- who is privileged then
+-- what the privilege has visited after one more event: damage starts over, and any other event
+-- adds the nodes that are privileged then
 abbrev pub VisitsGoOn : Type 0
 VisitsGoOn =
     (w : World) (es : List Event) (e : Event) (v : ℕ)

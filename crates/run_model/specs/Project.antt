@@ -1,4 +1,4 @@
--- A world and the events of a run, as one edge has them.
+-- A world and the events of a run, as one edge sees them.
 use Rattle.std.specs.Prelude.{ℕ, if◌then◌else◌, List, [], ◌∷◌}
 use Rattle.link_model.specs.topology.declared.frame.Payload.{Payload}
 use Rattle.node_core.specs.data_link.Edge.{EdgeState, EdgeEvent, SendOut, SendBack, TakeOut, TakeBack, LoseOut, LoseBack, Elsewhere}
@@ -18,20 +18,20 @@ abbrev pub present : World → ℕ → ℕ → Payload
 present w v u = payload_for (site w v) (w.node v) u
 
 -- an event of the link from a to b, for the edge between u and v: `out` if that link goes from u
--- to v, `back` if it goes from v to u, and else elsewhere
+-- to v, `back` if it goes from v to u, else elsewhere
 abbrev pub either_way : (u v a b : ℕ) → EdgeEvent → EdgeEvent → EdgeEvent
 either_way u v a b out back = if is_link u v a b then out else if is_link v u a b then back else Elsewhere
 
--- What an event of the world is for the edge between u and v, as u sees it. Whoever takes an item hands
--- in what it says of itself. Every edge has an event for each event of the world, so a run projects to a
--- run of the same length, and no list is filtered.
+-- What an event of the world is for the edge between u and v, as u sees it. A node that takes an
+-- item hands in what it says of itself. Every edge has an event for each event of the world, so a
+-- run projects to a run of the same length, and no list is filtered.
 abbrev pub edge_event : World → Event → ℕ → ℕ → EdgeEvent
 edge_event w (Send a b) u v = either_way u v a b SendOut SendBack
 edge_event w (Take a b) u v = either_way u v a b (TakeOut (present w v u)) (TakeBack (present w u v))
 edge_event w (Lose a b i) u v = either_way u v a b (LoseOut i) (LoseBack i)
 edge_event w _ u v = Elsewhere
 
--- the events of a list as the edge between u and v has them, one for one
+-- the events of a list as the edge between u and v sees them, one for one
 abbrev pub edge_events : World → List Event → ℕ → ℕ → List EdgeEvent
 edge_events w [] u v = []
 edge_events w (e ∷ es) u v = edge_event w e u v ∷ edge_events (step w e) es u v

@@ -1,6 +1,6 @@
--- One edge joins or goes under a running service: what becomes of the world. A network whose edges
--- change is the dynamic system of Dolev, Israeli and Moran (1993), and each change a transient
--- fault, from which it recovers as from any other.
+-- What becomes of the world if one edge joins or goes while the service runs. A network whose
+-- edges change is the dynamic system of Dolev, Israeli and Moran (1993). Each change is a
+-- transient fault, and the system recovers from it as from any other.
 use Rattle.std.specs.Prelude.{ℕ, ◌+◌, ◌-◌, ◌&&◌, ◌==◌, Bool, not, nat_lt, [], length}
 use Rattle.link_model.specs.topology.At.{at}
 use Rattle.link_model.specs.topology.Network.{Network, are_joined, neighbours_of, joined_net, parted_net}
@@ -19,12 +19,12 @@ can_join net u v = not (u == v) && (not (are_joined net.edges u v) && nat_lt (le
 abbrev pub can_part : Network → ℕ → ℕ → Bool
 can_part net u v = is_connected (parted_net net u v)
 
--- the node v, once it has its neighbours in another network: what it keeps of a neighbour that
--- stays is kept, and what it keeps of a new one is as at the start
+-- the node v with its neighbours in another network: its data for a neighbour that stays is kept,
+-- and that for a new neighbour is as at the start
 abbrev pub node_in : World → Network → ℕ → LocalState
 node_in w net v = rewired (ranges_of w.net) (neighbours_of w.net v) (neighbours_of net v) (w.node v)
 
--- the world in a network with another edge, or without one, between u and v: both have their new
+-- the world in a network that gains or loses the edge between u and v: both have their new
 -- neighbours, nothing is under way between them, and `spares` pairs of links are spare
 abbrev pub world_in : World → Network → (u v spares : ℕ) → World
 world_in w net u v spares = record {
@@ -38,6 +38,6 @@ world_in w net u v spares = record {
 abbrev pub with_edge : World → ℕ → ℕ → World
 with_edge w u v = world_in w (joined_net w.net u v) u v (w.spares - 1)
 
--- the edge between u and v goes, and its links are a spare pair
+-- the edge between u and v goes, and its links become a spare pair
 abbrev pub without_edge : World → ℕ → ℕ → World
 without_edge w u v = world_in w (parted_net w.net u v) u v (w.spares + 1)

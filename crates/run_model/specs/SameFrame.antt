@@ -1,4 +1,4 @@
--- What no event changes of a network.
+-- What no event changes in a network.
 use Rattle.std.specs.Prelude.{◌≡◌}
 use Rattle.link_model.specs.topology.Network.{Network}
 

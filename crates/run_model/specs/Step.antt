@@ -45,8 +45,8 @@ link_fault w u v = first_fault (nodes_fault w u v) (unless (are_joined w.net.edg
 abbrev pub has_room : World → ℕ → ℕ → Bool
 has_room w u v = nat_lt (length (w.link u v)) w.net.capacity
 
--- a harm writes at a node, or at a port, value or link of two neighbours, which must be there; an
--- edge joins two nodes, and goes between two neighbours
+-- the node that a harm writes to, or the two neighbours whose port, value or link it writes to,
+-- must be there; a new edge joins two nodes, and one that goes joined two neighbours
 abbrev pub harm_place_fault : World → Harm → Option EventFault
 harm_place_fault w (harm.Own v d p) = node_fault w v
 harm_place_fault w (harm.Counters v u seq last) = link_fault w v u
@@ -59,8 +59,8 @@ harm_place_fault w (harm.Empty u v) = link_fault w u v
 harm_place_fault w (harm.Join u v) = nodes_fault w u v
 harm_place_fault w (harm.Part u v) = link_fault w u v
 
--- what a harm writes is in range; an item needs room on its link too, and an edge two nodes that it
--- may join
+-- what a harm writes is in range; an item also needs room on its link, and an edge two nodes that
+-- it may join
 abbrev pub harm_fits : World → Harm → Bool
 harm_fits w (harm.Own v d p) = nat_le d w.net.nodes && parent_fits w.net.nodes p
 harm_fits w (harm.Counters v u seq last) = counters_fit (ranges_of w.net) seq last
@@ -73,8 +73,8 @@ harm_fits w (harm.Empty u v) = true
 harm_fits w (harm.Join u v) = can_join w.net u v
 harm_fits w (harm.Part u v) = true
 
--- what a harm writes must be in range; one more edge needs a spare pair of links then, and an edge
--- that goes must leave the nodes together
+-- what a harm writes must be in range; a new edge also needs a spare pair of links, and an edge
+-- that goes must leave the network connected
 abbrev pub harm_fault : World → Harm → Option EventFault
 harm_fault w (harm.Join u v) = first_fault (unless (can_join w.net u v) OutOfRange) (unless (nat_lt 0 w.spares) NoSpare)
 harm_fault w (harm.Part u v) = unless (can_part w.net u v) Apart
@@ -86,11 +86,11 @@ desk_fault None = None
 desk_fault (Some ask.Full) = Some Full
 desk_fault (Some ask.Twice) = Some Twice
 
--- a ticket is a number below 65536; the type of tickets sees to that when an event is written
+-- a ticket is a number below 65536; in code its type ensures that
 abbrev pub ticket_fault : ℕ → Option EventFault
 ticket_fault t = unless (is_number t) OutOfRange
 
--- the first refusal of an event that holds, if any
+-- the first reason to refuse an event, if any
 abbrev pub refusal : World → Event → Option EventFault
 refusal w (Send u v) = link_fault w u v
 refusal w (Take u v) = link_fault w u v
@@ -108,7 +108,7 @@ with_port w v u p = with_node w v (record (w.node v) { port = at (w.node v).port
 abbrev pub with_desk : World → ℕ → DeskState → World
 with_desk w v d = with_node w v (record (w.node v) { desk = d })
 
--- the world with that one part written, or with that one edge more or less
+-- the world with this one part written, or with this one edge more or fewer
 abbrev pub harmed : World → Harm → World
 harmed w (harm.Own v d p) = with_node w v (record (w.node v) { distance = d; parent = p })
 harmed w (harm.Counters v u seq last) = with_port w v u (record ((w.node v).port u) { seq = seq; last = last })
@@ -121,16 +121,16 @@ harmed w (harm.Empty u v) = with_link w u v []
 harmed w (harm.Join u v) = with_edge w u v
 harmed w (harm.Part u v) = without_edge w u v
 
--- the frame of u's port to v goes last on the link; on a full link it is lost
+-- the frame of u's port to v becomes the last of the link; on a full link it is lost
 abbrev pub sent : World → ℕ → ℕ → World
 sent w u v = if has_room w u v then with_link w u v (w.link u v ++ Frame (frame_of ((w.node u).port v)) ∷ []) else w
 
--- the oldest of these items, those under way from u to v, is taken by v; of none, nothing
+-- v takes the oldest of these items, those under way from u to v; nothing if there is none
 abbrev pub handed_over : World → ℕ → ℕ → List Item → World
 handed_over w u v [] = w
 handed_over w u v (item ∷ rest) = with_link (with_node w v (taken (site w v) u item (w.node v))) u v rest
 
--- what an event changes if it is not refused
+-- what an accepted event changes
 abbrev pub changed : World → Event → World
 changed w (Send u v) = sent w u v
 changed w (Take u v) = handed_over w u v (w.link u v)

@@ -1,4 +1,4 @@
--- Strict sweeps count what a link hands over: more items than it can hold, so one at least that was
+-- Strict sweeps count what a link hands over: more items than it can hold, so at least one was
 -- sent inside the sweep.
 use Rattle.std.specs.Prelude.{◌≡◌, ℕ, ◌+◌, ◌<◌, IsTrue, zero, suc, List, [], ◌∷◌, ◌++◌}
 use Rattle.link_model.specs.topology.Network.{are_joined}
@@ -9,7 +9,7 @@ use Rattle.run_model.specs.Run.{run, IsUndamaged}
 use Rattle.run_model.specs.Sweep.{has_full_tick, link_act}
 use Rattle.run_model.specs.declared.event.Event.{Event}
 
--- how many items a stretch hands over from u to v, wherever they come from
+-- how many items a stretch hands over from u to v, old or new
 abbrev pub handed_in : World → List Event → ℕ → ℕ → ℕ
 handed_in w [] u v = 0
 handed_in w (e ∷ es) u v = takes_item (link_act u v e) (w.link u v) + handed_in (step w e) es u v

@@ -7,8 +7,8 @@ use Rattle.run_model.specs.Run.{is_damage}
 use Rattle.run_model.specs.declared.event.Event.{Event}
 use Rattle.run_model.specs.declared.event.Event.TheVariants.{Tick}
 
--- the node rests from one world to the next: its machines keep their values, and if it lends it
--- lent before
+-- the node rests from one world to the next: its machines keep their values, and it lends only if
+-- it lent before
 pub record IsResting (old new : World) (v : ℕ) : Type 0 where
   pub values : (new.node v).value ≡ (old.node v).value
   pub loan : IsTrue (is_some (new.node v).desk.lent) → IsTrue (is_some (old.node v).desk.lent)
@@ -21,6 +21,6 @@ IsTicking old new v = new.node v ≡ ticked (site old v) (old.node v)
 abbrev pub NodesMoveInTicks : Type 0
 NodesMoveInTicks = (w : World) (e : Event) (v : ℕ) → is_damage w e ≡ false → IsResting w (step w e) v ⊎ IsTicking w (step w e) v
 
--- a tick of a node of the network is not refused
+-- no tick of a node of the network is refused
 abbrev pub TicksAreAccepted : Type 0
 TicksAreAccepted = (w : World) (v : ℕ) → v < w.net.nodes → IsTicking w (step w (Tick v)) v

@@ -1,4 +1,4 @@
--- Which node and which link an event may change.
+-- The node and the link that an event may change.
 use Rattle.std.specs.Prelude.{ℕ, Bool, false, ◌==◌, ◌||◌}
 use Rattle.run_model.specs.Sweep.{is_link}
 use Rattle.run_model.specs.declared.event.Event.{Event}
@@ -19,7 +19,7 @@ is_node_harmed (harm.Empty a b) v = false
 is_node_harmed (harm.Join a b) v = a == v || b == v
 is_node_harmed (harm.Part a b) v = a == v || b == v
 
--- an event is one of v's own: its taking, ticking, asking and leaving, and harm to it
+-- an event is one of v's own: a take, tick, ask or leave at v, or harm to it
 abbrev pub is_node_touched : Event → (v : ℕ) → Bool
 is_node_touched (Send a b) v = false
 is_node_touched (Take a b) v = b == v
@@ -37,7 +37,7 @@ is_link_harmed (harm.Join a b) u v = is_link u v a b || is_link v u a b
 is_link_harmed (harm.Part a b) u v = is_link u v a b || is_link v u a b
 is_link_harmed _ u v = false
 
--- an event is one of the link from u to v: a send, a take and a loss there, and harm to it
+-- an event is one of the link from u to v: a send, take or loss there, or harm to it
 abbrev pub is_link_touched : Event → (u v : ℕ) → Bool
 is_link_touched (Send a b) u v = is_link u v a b
 is_link_touched (Take a b) u v = is_link u v a b

@@ -1,4 +1,4 @@
--- How far the tree of distances and parents is right (Dolev, Israeli, Moran 1993).
+-- How much of the tree of distances and parents is right (Dolev, Israeli, Moran 1993).
 use Rattle.std.specs.Prelude.{◌≡◌, ℕ, ◌<◌, IsTrue}
 use Rattle.link_model.specs.topology.Network.{are_joined}
 use Rattle.link_model.specs.topology.Tree.{distance_of, parent_of}
@@ -20,7 +20,7 @@ pub record IsTrueOf (w : World) (v : ℕ) (p : Payload) : Type 0 where
   pub parent : p.parent ≡ parent_of w.net v
 
 -- The tree is reached: every node, staged payload and copy shows the true distance and the true
--- parent of the node that it speaks of.
+-- parent of its node.
 pub record IsTreeReached (w : World) : Type 0 where
   pub distance : (v : ℕ) → v < w.net.nodes → (w.node v).distance ≡ distance_of w.net v
   pub parent : (v : ℕ) → v < w.net.nodes → (w.node v).parent ≡ parent_of w.net v

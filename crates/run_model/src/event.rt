@@ -3,8 +3,7 @@
 use link_model::{Item, Payload};
 use thiserror::Error;
 
-/// One atomic step of the network: what one thread does between two moments at which others may
-/// look.
+/// One atomic step of the network: what one thread does between two moments that others may see.
 #[derive(Clone, Copy, Debug, PartialEq, Eq)]
 pub enum Event {
     /// The node `from` puts the frame of its port to `to` on that link. On a full link the frame is
@@ -20,14 +19,14 @@ pub enum Event {
     Tick { node: u16 },
     /// A client of the node asks for the lock, with its ticket.
     Ask { node: u16, ticket: u16 },
-    /// A client of the node gives the lock back, or no longer waits for it.
+    /// A client of the node releases the lock, or no longer waits for it.
     Leave { node: u16, ticket: u16 },
     /// A transient fault writes one part of the world.
     Damage(Harm),
 }
 
-/// What one transient fault does: it writes any value within the ranges of one part, or changes the
-/// network by one edge.
+/// What one transient fault does: it writes any value in range to one part, or adds or removes one
+/// edge.
 #[derive(Clone, Copy, Debug, PartialEq, Eq)]
 pub enum Harm {
     /// A node's distance and parent.
@@ -80,25 +79,24 @@ pub enum Harm {
         from: u16,
         to: u16,
     },
-    /// One more edge, between two nodes: each keeps all its other ports, and the two links of the
-    /// edge, of a spare pair, are empty.
+    /// A new edge between two nodes: each keeps all its other ports. The edge gets the two links
+    /// of a spare pair, empty.
     Join {
         node: u16,
         neighbour: u16,
     },
-    /// The edge between two nodes goes, with its ports and with the items of its two links, which
-    /// are a spare pair then.
+    /// The edge between two nodes goes, with its ports and the items of its two links; these
+    /// become a spare pair.
     Part {
         node: u16,
         neighbour: u16,
     },
 }
 
-/// Why an event is refused, in the order in which the causes are looked for. A refused event
-/// changes nothing.
+/// Why an event is refused, in the order of the checks. A refused event changes nothing.
 #[derive(Clone, Copy, Debug, PartialEq, Eq, Drop, Error)]
 pub enum EventFault {
-    /// An id is no node's.
+    /// There is no node with this id.
     #[error("NoNode")]
     NoNode,
     /// The two nodes are no neighbours.
@@ -107,24 +105,23 @@ pub enum EventFault {
     /// The link has no such item.
     #[error("NoItem")]
     NoItem,
-    /// A field of a harm is out of its range, or the link that it puts an item on is full; or no
-    /// edge may join the two nodes, since they are one, or an edge joins them already, or there are
-    /// 256 edges.
+    /// A field of a harm is out of range, or the link for its item is full; or no edge may join
+    /// the two nodes, since they are the same, are already joined, or there are 256 edges.
     #[error("OutOfRange")]
     OutOfRange,
-    /// As many tickets wait at the desk as it holds.
+    /// The desk has no room for another ticket.
     #[error("Full")]
     Full,
-    /// The ticket waits already, or the lock is lent to it.
+    /// The ticket already waits, or has the lock.
     #[error("Twice")]
     Twice,
-    /// The ticket neither waits nor is lent to.
+    /// The ticket neither waits nor has the lock.
     #[error("Stranger")]
     Stranger,
-    /// No pair of links is left for one more edge.
+    /// No pair of links is left for a new edge.
     #[error("NoSpare")]
     NoSpare,
-    /// Without the edge the nodes would not hang together.
+    /// Without the edge the network would not be connected.
     #[error("Apart")]
     Apart,
 }

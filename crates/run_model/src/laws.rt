@@ -1,5 +1,5 @@
-//! What holds of runs and sweeps, for the crates above: each law is the contract of a function that
-//! does nothing.
+//! What holds for runs and sweeps, for the crates above: each law is the contract of a function
+//! that does nothing.
 ghost use Rattle.run_model.specs.Ticks.{NodesMoveInTicks, TicksAreAccepted};
 ghost use Rattle.run_model.specs.Laws.{RefusedChangesNothing, NetworkStays, FrameStays, RunsJoin};
 ghost use Rattle.run_model.specs.Laws.{UndamagedJoins, UndamagedSplits, StartIsInRange, RangesStay};
@@ -12,10 +12,10 @@ ghost use Rattle.run_model.specs.Laws.{CountedIsGreatest, CountStarts, CountStay
 ghost use Rattle.run_model.specs.Laws.{OneCount, OwnNodeAlone, OwnLinkAlone, MomentLeads};
 ghost use Rattle.run_model.specs.Laws.{MomentStays, MomentMoves, VisitsGoOn};
 
-/// A refused event changes nothing; a list without damage leaves the network as it is, and every
-/// list its nodes, root, capacity and lease; the run of two lists is the run of the second from
-/// where the first led, and is without damage if both are. Whoever speaks of a moment of a run
-/// needs these.
+/// A refused event changes nothing. A list without damage leaves the network unchanged, and every
+/// list its nodes, root, capacity and lease. The run of two lists is the run of the second from
+/// where the first one led, and is without damage if both are. Proofs about a moment of a run need
+/// these.
 pub fn runs()
     ensures refused { RefusedChangesNothing }
     ensures network { NetworkStays }
@@ -25,14 +25,14 @@ pub fn runs()
     ensures undamaged_splits { UndamagedSplits }
 {}
 
-/// The world in which every node is as it starts and nothing is under way is in range, as each
-/// possible start can be, however many pairs of links are spare.
+/// The world in which every node is as at its start and nothing is under way is in range, however
+/// many pairs of links are spare.
 pub fn start()
     ensures { StartIsInRange }
 {}
 
-/// Every world in range leads to worlds in range alone: whatever holds of each world in range holds
-/// at each moment of a run.
+/// A world in range leads only to worlds in range: what holds for every world in range holds at
+/// each moment of a run.
 pub fn in_range()
     ensures { RangesStay }
 {
@@ -43,16 +43,15 @@ pub fn in_range()
     node_core::lock_desk::laws::ranges_are_kept();
 }
 
-/// An event changes its own node and its own link alone. Whoever follows one node or one edge
-/// passes over all other events by this.
+/// An event changes only its own node and its own link. So proofs about one node or one edge skip
+/// all other events.
 pub fn own_changes()
     ensures node { OwnNodeAlone }
     ensures link { OwnLinkAlone }
 {}
 
 /// One edge of a world: an event that is no damage is one event of the edge, so a run is a run of
-/// the edge and a sweep is a sweep of it. By these the laws of one edge hold of every edge of a
-/// world.
+/// the edge and a sweep is a sweep of it. So the laws of one edge hold for every edge of a world.
 pub fn edges()
     ensures in_range { EdgesAreInRange }
     ensures steps { EdgeSteps }
@@ -65,9 +64,9 @@ pub fn edges()
     in_range();
 }
 
-/// Lists that hold sweeps: r + s sweeps are r and then s, and the other way round; a list that
-/// holds some holds fewer; events before or after take none away. Convergence goes in stages, each
-/// with sweeps of its own.
+/// Lists that hold sweeps: r + s sweeps are r and then s, and conversely; a list that holds some
+/// holds fewer; more events before or after remove none. Convergence goes in stages, each with its
+/// own sweeps.
 pub fn sweep_numbers()
     ensures grows { SweepGrows }
     ensures split { SweepsSplit }
@@ -88,9 +87,9 @@ pub fn strict_sweeps()
     in_range();
 }
 
-/// A stretch event by event: which nodes have had a full tick and which links are renewed follows
-/// from the event, and from how many of a link's items stood there before the stretch. Those are
-/// the oldest, so their number is all that must be kept of them.
+/// A stretch event by event: which nodes have had a full tick, and which links are renewed,
+/// follows from the event and from how many of a link's items were there before the stretch. Those
+/// are the oldest, so only their number must be kept.
 pub fn stretches()
     ensures ticks { TicksGoOn }
     ensures renewed { RenewedGoesOn }
@@ -101,8 +100,8 @@ pub fn stretches()
     link_model::topology::laws::joined();
 }
 
-/// The greatest number of sweeps is found greedily: end each sweep at the first event at which it
-/// is one. So whoever reads a run event by event keeps the count and the unfinished stretch alone.
+/// The greatest number of sweeps is found greedily: end each sweep at the first event that
+/// completes it. So a reader of a run keeps only the count and the unfinished stretch.
 pub fn sweep_counts()
     ensures earliest { EarliestIsBest }
     ensures greedy { GreedyCount }
@@ -117,8 +116,8 @@ pub fn sweep_counts()
     in_range();
 }
 
-/// The moment after the last damage, and whom the privilege has visited since, as events come.
-/// Sweeps and visits are counted from there.
+/// The moment after the last damage, and the nodes that the privilege has visited since, event by
+/// event. Sweeps and visits are counted from there.
 pub fn moments()
     ensures leads { MomentLeads }
     ensures stays { MomentStays }
@@ -128,8 +127,8 @@ pub fn moments()
     in_range();
 }
 
-/// Machines move, and loans begin, in a node's own ticks alone. Whoever speaks of one node along a
-/// run needs no other event.
+/// Machines move, and loans begin, only in a node's own ticks. So proofs about one node along a
+/// run need no other event.
 pub fn ticks()
     ensures moves { NodesMoveInTicks }
     ensures accepted { TicksAreAccepted }

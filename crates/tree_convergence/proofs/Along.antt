@@ -1,4 +1,4 @@
--- What holds of the payload for v while P holds, is always present along a run on which P is kept.
+-- What holds for the payload for v while P holds is always present along a run on which P is kept.
 use Rattle.std.proofs.Common.{◌≡◌, ℕ, Bool, true, List, [], ◌∷◌}
 use Rattle.topology.specs.declared.frame.Payload.{Payload}
 use Rattle.run_model.specs.World.{World, IsWorldInRange}

@@ -27,12 +27,12 @@ use Rattle.tree_convergence.specs.Laws.{LinksStayStable, LinksTurnStable, LinksT
 handed-in : (test : Payload → Bool) (w : World) (e : Event) (u v : ℕ) → test (present w u v) ≡ true → PresentPasses test (edge_event w e u v)
 handed-in test w e u v t = grind (arith, common_steps)
 
--- so throughout a run
+-- so it is throughout a run
 all-handed-in : (test : Payload → Bool) (w : World) (es : List Event) (u v : ℕ) → AlwaysPresent test w es u v → AllByRecursion (PresentPasses test) (edge_events w es u v)
 all-handed-in test w [] u v p = tt
 all-handed-in test w (e ∷ es) u v (p, ps) = (handed-in test w e u v p, all-handed-in test (step w e) es u v ps)
 
--- a payload that an event hands in as near's is the present one
+-- a payload that an event hands in for the near end is the present one
 present-handed : (w : World) (e : Event) (u v : ℕ) (p : Payload) → edge_event w e u v ≡ TakeBack p → p ≡ present w u v
 present-handed w e u v p h = grind (arith, common_steps)
 
@@ -44,7 +44,7 @@ stay-stable net-stays in-range edge-steps law w e r d s u v j =
     (subst (λ s. IsStable w.net.capacity s) (sym (edge-steps w e u v r joined d))
     (law w.net.capacity (edge_of w u v) (edge_event w e u v) (in-range w u v r joined) (s u v joined)))
 
--- what sweeps of an edge do to it, as many sweeps of the world do to each
+-- what sweeps do to one edge, as many sweeps of the world do to each edge
 module _ (net-stays : NetworkStays) (in-range : EdgesAreInRange) (edge-runs : EdgeRuns) (edge-sweeps : EdgeSweeps) where
   stable-after : (needed : ℕ → ℕ)
       → ((capacity : ℕ) (s : EdgeState) (es : List EdgeEvent) → IsEdgeInRange capacity s → edge.Sweeps capacity s (needed capacity) es → IsStable capacity (edge_run capacity s es))

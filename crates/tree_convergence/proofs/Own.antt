@@ -1,4 +1,4 @@
--- A node's own distance and parent change in its ticks alone.
+-- A node's own distance and parent change only in its ticks.
 use Rattle.std.proofs.Common.{◌≡◌, ℕ, ◌<◌, ◌⊎◌, true, false, Option, arith, ◌==◌}
 use Rattle.std.proofs.lemmas.Grind.{common_steps}
 use Rattle.topology.specs.Network.{neighbours_of}
@@ -10,7 +10,7 @@ use Rattle.run_model.specs.Run.{is_damage}
 use Rattle.run_model.specs.Sweep.{is_full_tick}
 use Rattle.run_model.specs.declared.event.Event.{Event}
 
--- what a tick of v computes in a world
+-- the distance that a tick of v computes in a world
 abbrev pub next_distance : World → ℕ → ℕ
 next_distance w v = new_distance (v == w.net.root) w.net.nodes (copied_distance (w.node v)) (neighbours_of w.net v)
 

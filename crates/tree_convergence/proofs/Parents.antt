@@ -1,4 +1,4 @@
--- Parents: from exact distances four sweeps reach the tree, and it stays reached.
+-- Parents: once distances are exact, four sweeps reach the tree, and it stays reached.
 use Rattle.std.proofs.Common.{◌≡◌, ℕ, ◌<◌, inl, inr, Bool, true, List, [], ◌∷◌, refl, sym, ◌∙◌, ap, subst, arith, IsTrue}
 use Rattle.std.proofs.lemmas.Grind.{common_steps}
 use Rattle.topology.specs.Network.{are_joined}
@@ -31,12 +31,12 @@ record IsExact (w : World) : Type 0 where
 abbrev HasParent : ℕ → World → Type 0
 HasParent v w = v < w.net.nodes → (w.node v).parent ≡ parent_of w.net v
 
--- besides, each node's own parent is the true one
+-- also, each node's own parent is the true one
 record HasParents (w : World) : Type 0 where
   exact : IsExact w
   own : (v : ℕ) → HasParent v w
 
--- what is exact is of every stage
+-- an exact distance is at every stage
 stage-exact : (k real d : ℕ) → d ≡ real → IsTrue (is_of_stage k real d)
 stage-exact k real d e = grind (arith, common_steps)
 

@@ -1,4 +1,4 @@
--- What is said and staged throughout a run on two nodes, and what is not.
+-- What is said and staged throughout a run on two nodes, with examples that fail.
 use Rattle.std.proofs.Common.{◌≡◌, ℕ, List, [], ◌∷◌, Bool, true, false, refl}
 use Rattle.std.proofs.lemmas.Bool.{false≢true}
 use Rattle.std.specs.Prelude.{◌==◌}
@@ -13,25 +13,26 @@ use Rattle.tree_convergence.specs.Present.{AlwaysPresent, AlwaysStaged, number_m
 abbrev start : World
 start = default_world two_nodes
 
--- the distance that is said is the greatest one
+-- the distance in the payload is the greatest
 abbrev is_two : Payload → Bool
 is_two p = p.distance == 2
 
--- node 0 says so until its first tick, which makes it the root
+-- node 0 says that until its first tick, which makes it the root
 said-at_first : AlwaysPresent is_two start (Tick 1 ∷ Send 0 1 ∷ []) 0 1
 said-at_first = (refl, (refl, refl))
 
 not-said_throughout : AlwaysPresent is_two start (Tick 0 ∷ []) 0 1 → ⊥
 not-said_throughout said = false≢true said.1
 
--- what it has staged is that still, until node 1 has acknowledged it
+-- it has that staged until node 1 has acknowledged it
 staged-throughout : AlwaysStaged is_two start (Tick 0 ∷ Send 0 1 ∷ Take 0 1 ∷ []) 0 1
 staged-throughout = (refl, (refl, (refl, refl)))
 
 not-staged_any_more : AlwaysStaged is_two start (Tick 0 ∷ Send 1 0 ∷ Take 1 0 ∷ []) 0 1 → ⊥
 not-staged_any_more staged = false≢true staged.1.1.1
 
--- the number moves with an acknowledgement: nodes start with numbers alike, so the first frame has one
+-- the number moves with an acknowledgement: nodes start with equal numbers, so the first frame has
+-- one
 one-move : number_moves start (Send 1 0 ∷ Take 1 0 ∷ []) 0 1 ≡ 1
 one-move = refl
 

@@ -24,7 +24,7 @@ record IsRising (k : ℕ) (w : World) : Type 0 where
   links : AreLinksStable w
   stage : IsTreeAtStage k w
 
--- v's own distance is of stage k
+-- v's own distance is at stage k
 abbrev IsOwnAt : ℕ → ℕ → World → Type 0
 IsOwnAt k v w = v < w.net.nodes → IsTrue (is_of_stage k (distance_of w.net v) (w.node v).distance)
 
@@ -34,13 +34,13 @@ record IsHalfRisen (k : ℕ) (w : World) : Type 0 where
   own : (v : ℕ) → IsOwnAt (k + 1) v w
 
 module _ (net-stays : runs.NetworkStays) (joined-back : topology.JoinedBack) (rises : bfs_tree.StageRises) (includes : bfs_tree.StageIncludes) where
-  -- what a tick computes from a world of stage k is of the next stage,
+  -- what a tick computes from a world at stage k is at the next stage,
   next-rises : (k : ℕ) (w : World) (v : ℕ) → IsWorldInRange w → v < w.net.nodes → IsTreeAtStage k w
       → IsTrue (is_of_stage (k + 1) (distance_of w.net v) (next_distance w v))
   next-rises k w v r b s =
       rises w.net k v (copied_distance (w.node v)) r.network b (λ u j. s.copied u v (subst IsTrue (joined-back w.net.edges v u) j))
 
-  -- and so of stage k too
+  -- and so at stage k too
   next-stays : (k : ℕ) (w : World) (v : ℕ) → IsWorldInRange w → v < w.net.nodes → IsTreeAtStage k w
       → IsTrue (is_of_stage k (distance_of w.net v) (next_distance w v))
   next-stays k w v r b s = includes k (distance_of w.net v) (next_distance w v) (next-rises k w v r b s)
@@ -84,7 +84,7 @@ module _ (net-stays : runs.NetworkStays) (joined-back : topology.JoinedBack) (ri
       rising-kept : (k : ℕ) → IsKept (in_range ranges) (IsRising k)
       rising-kept k w e (r, d) h = record { links = links-stay w e r d h.links; stage = stage-stays k w e r d h.links h.stage }
 
-      -- once v's own distance is of the next stage it stays so,
+      -- once v's own distance is at the next stage it stays there,
       own-kept : (k v : ℕ) (w : World) (e : Event) → IsUndamagedEvent w e → IsRising k w → IsOwnAt (k + 1) v w → IsOwnAt (k + 1) v (step w e)
       own-kept k v w e (r, d) h own b =
           let net : (step w e).net ≡ w.net = net-stays w (e ∷ []) (undamaged-one w e d) in
@@ -92,7 +92,7 @@ module _ (net-stays : runs.NetworkStays) (joined-back : topology.JoinedBack) (ri
           subst (λ n. IsTrue (is_of_stage (k + 1) (distance_of n v) ((step w e).node v).distance)) (sym net)
           (own-stays (k + 1) w e v d (next-rises k w v r b' h.stage) (own b'))
 
-      -- and a full tick makes it so
+      -- and a full tick takes it there
       own-ticked : (k v : ℕ) (w : World) (e : Event) → IsUndamagedEvent w e → IsRising k w → is_full_tick w e v ≡ true → IsOwnAt (k + 1) v (step w e)
       own-ticked k v w e (r, d) h tick b =
           let net : (step w e).net ≡ w.net = net-stays w (e ∷ []) (undamaged-one w e d) in
@@ -112,7 +112,7 @@ module _ (net-stays : runs.NetworkStays) (joined-back : topology.JoinedBack) (ri
       }
 
       module _ (turn-fresh : PayloadsTurnFresh) where
-        -- what v has staged for u, and what u has copied from v, after three sweeps from there
+        -- what v has staged for u, and what u has copied from v, three sweeps later
         half-fresh : (k : ℕ) (w : World) (es : List Event) (v u : ℕ) → IsWorldInRange w → IsUndamaged w es → IsHalfRisen k w → Sweeps w 3 es → IsTrue (are_joined w.net.edges v u)
             → IsTrue (is_of_stage (k + 1) (distance_of w.net v) (((run w es).node v).port u).staged.distance)
             × IsTrue (is_of_stage (k + 1) (distance_of w.net v) (((run w es).node u).port v).copy.distance)
@@ -125,7 +125,7 @@ module _ (net-stays : runs.NetworkStays) (joined-back : topology.JoinedBack) (ri
             (hx.1.own v (subst (λ n. v < n.nodes) (sym hx.0) (joined-nodes w.net v u r.network j).0)))
             w es (r, d) (refl, h))
 
-        -- three sweeps more for the staged and the copied ones
+        -- three more sweeps for the staged and the copied ones
         risen : (k : ℕ) (w : World) (es : List Event) → IsWorldInRange w → IsUndamaged w es → IsHalfRisen k w → Sweeps w 3 es → IsTreeAtStage (k + 1) (run w es)
         risen k w es r d h sweeps =
             let net : (run w es).net ≡ w.net = net-stays w es d in

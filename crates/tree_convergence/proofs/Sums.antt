@@ -18,7 +18,7 @@ use Rattle.run_model.proofs.Along.{kept, in_range}
 
 -- ---- the last stage
 
--- all stages above a distance say the same of it
+-- all stages above a distance say the same about it
 above-is_exact : (k n real d : ℕ) → real < k → real < n → is_of_stage k real d ≡ true → is_of_stage n real d ≡ true
 above-is_exact k n real d l m h = grind (arith, nat_tests)
 

@@ -23,7 +23,7 @@ LinksStayStable =
     (w : World) (e : Event) → IsWorldInRange w → is_damage w e ≡ false → AreLinksStable w
     → AreLinksStable (step w e)
 
--- and so does a list without damage
+-- and a list without damage does too
 abbrev pub LinksOutlastRuns : Type 0
 LinksOutlastRuns =
     (w : World) (es : List Event) → IsWorldInRange w → IsUndamaged w es → AreLinksStable w
@@ -50,7 +50,7 @@ NumbersMove =
 
 -- ---- payloads on a stable link
 
--- an event leaves what u has staged for v, or stages what u then says of itself to v
+-- an event leaves what u has staged for v, or stages what u says of itself to v then
 abbrev pub StagedIsPresent : Type 0
 StagedIsPresent =
     (w : World) (e : Event) (u v : ℕ) → IsWorldInRange w → is_damage w e ≡ false
@@ -58,7 +58,8 @@ StagedIsPresent =
     → (((step w e).node u).port v).staged ≡ ((w.node u).port v).staged
     ⊎ (((step w e).node u).port v).staged ≡ present w u v
 
--- on a stable link an event leaves what v has copied from u, or copies what u then has staged for v
+-- on a stable link an event leaves what v has copied from u, or copies what u has staged for v
+-- then
 abbrev pub CopyIsStaged : Type 0
 CopyIsStaged =
     (w : World) (e : Event) (u v : ℕ) → IsWorldInRange w → is_damage w e ≡ false
@@ -66,8 +67,8 @@ CopyIsStaged =
     → (((step w e).node v).port u).copy ≡ ((w.node v).port u).copy
     ⊎ (((step w e).node v).port u).copy ≡ ((w.node u).port v).staged
 
--- on a stable link, whatever holds of what u says of itself to v throughout three sweeps holds of
--- what is staged and copied at their end
+-- on a stable link, what holds for all that u says of itself to v throughout three sweeps holds
+-- for what is staged and copied at their end
 abbrev pub PayloadsTurnFresh : Type 0
 PayloadsTurnFresh =
     (test : Payload → Bool) (w : World) (es : List Event) (u v : ℕ) → IsWorldInRange w
@@ -76,7 +77,7 @@ PayloadsTurnFresh =
     → (test (((run w es).node u).port v).staged ≡ true)
     × (test (((run w es).node v).port u).copy ≡ true)
 
--- whatever holds of what u says of itself to v throughout two sweeps holds of what is staged at
+-- what holds for all that u says of itself to v throughout two sweeps holds for what is staged at
 -- their end
 abbrev pub StagedTurnsFresh : Type 0
 StagedTurnsFresh =
@@ -85,7 +86,7 @@ StagedTurnsFresh =
     → IsTrue (are_joined w.net.edges u v) → Sweeps w 2 es → AlwaysPresent test w es u v
     → test (((run w es).node u).port v).staged ≡ true
 
--- on a stable link, whatever holds of what u has staged for v throughout a sweep holds of what v
+-- on a stable link, what holds for all that u has staged for v throughout a sweep holds for what v
 -- has copied at its end
 abbrev pub CopyTurnsStaged : Type 0
 CopyTurnsStaged =

@@ -9,9 +9,9 @@ ghost use Rattle.tree_convergence.specs.Laws.{StageStays, StageRises, ParentsTur
 ghost use Rattle.tree_convergence.specs.Laws.{TreeIsReached};
 ghost use Rattle.tree_convergence.specs.Laws.{TreeIsReachedByDepth, TreeStays};
 
-/// Links: each is stable after 4(C + 1) sweeps, from any state, and after six whatever its
-/// capacity, and stays so; and any two sweeps move the number of each sender. All that is above a
-/// link rests on this.
+/// Links: from any state, each is stable after 4(C + 1) sweeps, and after six whatever its
+/// capacity, and stays so; and any two sweeps move the number of each sender. All layers above the
+/// links rest on this.
 pub fn links()
     ensures stay { LinksStayStable }
     ensures stay_in_runs { LinksOutlastRuns }
@@ -29,8 +29,8 @@ pub fn links()
 }
 
 /// Payloads: what is staged was present, what a stable link copies was staged, and three sweeps
-/// replace both: two what is staged, and one more the copy. The tree needs it of distances and
-/// parents, the token ring of ring values.
+/// replace both: two replace what is staged, and one more the copy. The tree needs this for
+/// distances and parents, the token ring for ring values.
 pub fn payloads()
     ensures staged { StagedIsPresent }
     ensures copied { CopyIsStaged }
@@ -46,7 +46,7 @@ pub fn payloads()
     topology::laws::joined();
 }
 
-/// The stages of the tree, on stable links: stage 0 holds of any world, each stage stays, and four
+/// The stages of the tree, on stable links: every world is at stage 0, each stage stays, and four
 /// sweeps raise it by one.
 pub fn stages()
     ensures zero { StageZero }
@@ -61,8 +61,8 @@ pub fn stages()
     topology::laws::joined();
 }
 
-/// Parents, on stable links: once every distance is exact, four sweeps make every parent true, at
-/// each node, staged and copied.
+/// Parents, on stable links: once every distance is exact, four sweeps make every parent true: the
+/// nodes' own, the staged and the copied ones.
 pub fn parents()
     ensures { ParentsTurnTrue }
 {
@@ -76,9 +76,9 @@ pub fn parents()
     topology::laws::joined();
 }
 
-/// The tree, on stable links: 4(n + 1) sweeps reach it from any state, four for each stage and four
-/// for the parents, and so do 4(e + 2) where e is the greatest distance from the root; and it stays
-/// reached. The token ring is laid on it.
+/// The tree, on stable links: 4(n + 1) sweeps reach it from any state, four for each stage and
+/// four for the parents; so do 4(e + 2), with e the greatest distance from the root; and it stays
+/// reached. It carries the token ring.
 pub fn tree()
     ensures reached { TreeIsReached }
     ensures reached_by_depth { TreeIsReachedByDepth }
