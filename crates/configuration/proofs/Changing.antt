@@ -1,4 +1,4 @@
--- An edge joins, or goes: what becomes of the links.
+-- What becomes of the links if an edge joins or goes.
 use Rattle.std.proofs.Common.{◌≡◌, ◌≢◌, ◌*◌, ◌/◌, take, ◌∙◌, sym, ap, subst, ℕ, ◌+◌, ◌-◌, ◌<◌, ◌≤◌, ◌⊎◌, inl, inr, ◌&&◌, not, Bool, true, false, arith, refl, IsTrue, IfErr, OnOk, Option, Some, None, Result, Ok, Err, List, [], ◌∷◌, ◌++◌, All, length, slice_index_or, slice_set}
 use Rattle.std.proofs.Math.Path.{fun_ext}
 use Rattle.std.proofs.lemmas.Grind.{common_steps}
@@ -21,12 +21,12 @@ use Rattle.configuration.proofs.LinkPlaces.{first-empty}
 use Rattle.configuration.proofs.JoinedPairs.{joined_but}
 use Rattle.configuration.proofs.Placing.{given-one, laid-one, placed-edge, two-less}
 
--- an answer that is no refusal keeps what it promises
+-- an answer that is no refusal keeps its promise
 pub must-ok : {T E P : Type 0} (r : Result T E) (fault : Option E) → fault ≡ None → IfErr r (λ x. fault ≡ Some x) → OnOk r P → P
 must-ok (Ok x) fault none err ok = ok
 must-ok (Err x) fault none err ok = absurd cc
 
--- where links stand is the same, whatever the edges are called
+-- the places of links do not depend on how the edges are listed
 pub placed-anew : (net : Network) (edges : List Edge) (is_joined : ℕ → ℕ → Bool) (places : PairTableView) (links : List LinkView) (spares : List ℕ)
     → ArePlaced net is_joined places links spares → ArePlaced (record net { edges = edges }) is_joined places links spares
 placed-anew net edges is_joined places links spares placed = record {
@@ -40,7 +40,7 @@ placed-anew net edges is_joined places links spares placed = record {
   distinct = placed.distinct;
 }
 
--- one pair has another link, which is empty
+-- one pair has another link, an empty one
 under-one : (l new : LinksView) (a b x i j : ℕ) → l.places.nodes ≡ l.net.nodes → new.net.nodes ≡ l.net.nodes → new.links ≡ l.links → a < l.net.nodes → b < l.net.nodes
     → ((u v : ℕ) → v < l.places.nodes → value_at new.places u v ≡ at_pair (value_at l.places) a b x u v)
     → (slice_index_or l.links x (link 0 [])).items ≡ [] → under_way new i j ≡ at_pair (under_way l) a b [] i j
@@ -176,7 +176,7 @@ module _ (l : LinksView) (u v : ℕ) (second third : PairTableView) (one two : L
 
 -- ---- an edge goes
 
--- what is written where it stands changes nothing
+-- writing what is there already changes nothing
 same-one : (f : ℕ → ℕ → List Item) (a b i j : ℕ) → f a b ≡ [] → at_pair f a b [] i j ≡ f i j
 same-one f a b i j empty = grind (arith, common_steps, empty)
 
@@ -252,7 +252,7 @@ module _ (l : LinksView) (u v : ℕ) (second third : PairTableView) (one two : L
 
 -- ---- both links of the edge are emptied first
 
--- the links after that: nothing is under way on these two, and all else is as it was
+-- the links after that: nothing is under way on these two, and nothing else has changed
 pub record AreEmptied (l : LinksView) (u v : ℕ) (now : LinksView) : Type 0 where
   pub links : IsLinks now
   pub under : under_way now ≡ at_pair (at_pair (under_way l) u v []) v u []

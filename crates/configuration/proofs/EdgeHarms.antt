@@ -1,4 +1,4 @@
--- Harms by which an edge joins or goes.
+-- Harms that add or remove an edge.
 use Rattle.std.proofs.Common.{◌≡◌, ◌≢◌, ◌∙◌, ◌+◌, inl, inr, is_err, OnOk, sym, ap, subst, Bool, true, false, ℕ, ◌<◌, [], arith, refl, IsTrue, List, None, Some, Result, Ok, Err, OnErr, ◌↔◌, IsOk}
 use Rattle.std.proofs.lemmas.Bool.{cases_Bool, false≢true}
 use Rattle.std.proofs.lemmas.Grind.{common_steps}
@@ -73,13 +73,13 @@ module _ (w : ConfigurationView) (u v k : ℕ) (edges : List Edge) (links : Link
         link = f;
       }) under
 
--- what is refused has changed nothing
+-- a refused harm has changed nothing
 pub unchanged-answers : (w : ConfigurationView) (h : Harm) (fault : EventFault) → refusal (world_of w) (Damage h) ≡ Some fault → Answers w (Damage h) w (Err fault)
 unchanged-answers w h fault some = refused w w (Damage h) fault some (sym (step-refused (world_of w) (Damage h) fault some))
 
 -- ---- what the links answered
 
--- the edge has gone, as it may
+-- the edge may go, and has gone
 pub record IsParted (w : ConfigurationView) (u v : ℕ) (links : LinksView) : Type 0 where
   pub can : can_part w.links.net u v ≡ true
   pub net : links.net ≡ parted_net w.links.net u v

@@ -31,7 +31,7 @@ module _ (w : World) (harm : Harm) (found : harm_place_fault w harm ≡ None) (w
   pub harm-some : ¬ IsTrue (harm_fits w harm) → refusal w (Damage harm) ≡ Some OutOfRange
   harm-some fails = refusal-is ∙ unless-fails (harm_fits w harm) OutOfRange fails
 
-  -- what a writer answers is what the event is answered
+  -- the event has the answer of the writer
   module _ {T : Type 0} where
     harm-ok : (r : Result T EventFault) → (IsOk r ↔ IsTrue (harm_fits w harm)) → OnOk r (refusal w (Damage harm) ≡ None)
     harm-ok (Ok x) iff = harm-none (iff.0 refl)
@@ -50,7 +50,7 @@ same-cases one two = (λ a. two.0 (one.0 a), λ c. one.1 (two.1 c))
 pub less-test : {A : Type 0} (x y : ℕ) → (A ↔ (x < y)) → A ↔ IsTrue (nat_lt x y)
 less-test x y iff = (λ a. let less = iff.0 a in grind (arith, common_steps, less), λ t. iff.1 (grind (arith, common_steps, t)))
 
--- a node that a harm has written, or that the writer left as it was
+-- a node that a harm has written, or that the writer left unchanged
 harm-world : {T E : Type 0} (w : ConfigurationView) (v p : ℕ) (old new : NodeView) (harm : Harm) (f : LocalState → LocalState) (r : Result T E) → IsNodeAt w.links.net w.nodes v p old
     → harm_place_fault (world_of w) harm ≡ None → harm_fault (world_of w) harm ≡ unless (harm_fits (world_of w) harm) OutOfRange → (IsOk r ↔ IsTrue (harm_fits (world_of w) harm))
     → harmed (world_of w) harm ≡ with_node (world_of w) v (f ((world_of w).node v)) → OnOk r (state_of new ≡ f (state_of old)) → OnErr r (new ≡ old)
@@ -60,7 +60,7 @@ harm-world w v p old new harm f (Ok x) h found writes iff makes ok err =
 harm-world w v p old new harm f (Err x) h found writes iff makes ok err =
     node-refused w v p old h (Damage harm) OutOfRange new (harm-some (world_of w) harm found writes (λ fits. let t = iff.1 fits in absurd cc)) err
 
--- what a writer answers, and with it what the damage is answered
+-- the answer of a writer, and so that of the damage
 pub harm-answers : {T E : Type 0} (w : ConfigurationView) (v p : ℕ) (old new : NodeView) (harm : Harm) (f : LocalState → LocalState) (r : Result T E)
     (answer : Result Happened EventFault) → IsNodeAt w.links.net w.nodes v p old
     → harm_place_fault (world_of w) harm ≡ None → harm_fault (world_of w) harm ≡ unless (harm_fits (world_of w) harm) OutOfRange → (IsOk r ↔ IsTrue (harm_fits (world_of w) harm))
@@ -74,7 +74,7 @@ harm-answers w v p old new harm f r answer h found writes iff makes ok err same 
   err = harm-err (world_of w) harm found writes answer (same-cases same iff) fault;
 }
 
--- one more item, if it fits and there is room, is one more on its link
+-- an item that fits, and finds room, is one more on its link
 item-there : (a b : Bool) → IsTrue (a && b) → IsTrue a × IsTrue b
 item-there true true both = (refl, refl)
 item-there true false both = absurd cc

@@ -5,7 +5,7 @@ use Rattle.std.proofs.lemmas.List.Folds.{list_any-append}
 use Rattle.topology.specs.Network.{Edge, are_joined, is_between}
 use Rattle.configuration.specs.Placed.{joined_too}
 
--- one pair less is joined
+-- one pair fewer is joined
 abbrev pub joined_but : (ℕ → ℕ → Bool) → ℕ → ℕ → ℕ → ℕ → Bool
 joined_but is_joined a b u v = is_joined u v && not ((u == a) && (v == b))
 

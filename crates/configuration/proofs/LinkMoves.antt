@@ -13,14 +13,14 @@ use Rattle.configuration.specs.LinksView.{LinksView, IsLinks, link_between, unde
 use Rattle.configuration.specs.PairTable.{value_at}
 use Rattle.configuration.proofs.LinkPlaces.{under_way-with_link, links-with_link}
 
--- what holds of each item of a list holds of those that are left when one is lost
+-- what holds for each item of a list holds for those that are left when one is lost
 all-remove : {X : Type 0} (P : X → Type 0) (xs : List X) (i : ℕ) → All P xs → All P (remove xs i)
 all-remove P xs i h = All-append P (take i xs) (drop (suc i) xs) (All-take P i xs h) (All-drop P (suc i) xs h)
 
 fewer-items : (items : List Item) (i : ℕ) → length (remove items i) ≤ length items
 fewer-items items i = grind (arith, common_steps)
 
--- the link from u to v stands at place p, and is `old`
+-- the link from u to v is at place p, and is `old`
 pub record IsAt (l : LinksView) (u v p : ℕ) (old : LinkView) : Type 0 where
   pub links : IsLinks l
   pub from_in : u < l.net.nodes
@@ -28,7 +28,7 @@ pub record IsAt (l : LinksView) (u v p : ℕ) (old : LinkView) : Type 0 where
   pub place : p ≡ value_at l.places u v
   pub value : old ≡ slice_index_or l.links p old
 
--- the link is there where it was found
+-- the link is where it was found
 pub found-at : {l seen : LinksView} {u v p : ℕ} {old : LinkView} → l ≡ seen → IsLinks l → u < seen.net.nodes → v < seen.net.nodes
     → p ≡ value_at seen.places u v → old ≡ slice_index_or l.links p old → IsAt l u v p old
 found-at {l} {seen} {u} {v} {p} {old} same links un vn place value = record {
@@ -63,7 +63,7 @@ module _ (l : LinksView) (u v p : ℕ) (old : LinkView) (h : IsAt l u v p old) w
   pub capacity-is : old.capacity ≡ (if are_joined l.net.edges u v then l.net.capacity else 0)
   capacity-is = ap (λ k. k.capacity) (sym between-is) ∙ h.links.placed.capacity u v h.from_in h.to_in
 
-  -- the links, and what is under way, where the link there is now `new`
+  -- the links, and what is under way, if the link at this place is now `new`
   pub now-links : (new : LinkView) → new.capacity ≡ old.capacity → length new.items ≤ new.capacity → All (λ item. IsTrue (item_fits (ranges_of l.net) item)) new.items
       → IsLinks (record l { links = slice_set l.links p new })
   now-links new same within fits =
@@ -76,14 +76,14 @@ module _ (l : LinksView) (u v p : ℕ) (old : LinkView) (h : IsAt l u v p old) w
       subst (λ k. under_way (record l { links = slice_set l.links k new }) ≡ at_pair (under_way l) u v new.items) (sym h.place)
       (under_way-with_link l u v new h.links h.from_in h.to_in (same ∙ ap (λ k. k.capacity) (sym between-is)) within)
 
-  -- what is under way, written where it stands, changes nothing
+  -- writing what is under way again changes nothing
   same-one : (i j : ℕ) → at_pair (under_way l) u v (under_way l u v) i j ≡ under_way l i j
   same-one i j = grind (arith, common_steps)
 
   pub same-under : at_pair (under_way l) u v old.items ≡ under_way l
   same-under = ap (λ xs. at_pair (under_way l) u v xs) (sym under-is) ∙ fun_ext (λ i. fun_ext (λ j. same-one i j))
 
-  -- the same link, written where it stands, changes nothing
+  -- writing the same link again changes nothing
   now-same : (new : LinkView) → new ≡ old → under_way (record l { links = slice_set l.links p new }) ≡ under_way l
   now-same new is =
       now-under new (ap (λ k. k.capacity) is) (rw is within-is) ∙ ap (λ k. at_pair (under_way l) u v k.items) is ∙ same-under
@@ -105,7 +105,7 @@ module _ (l : LinksView) (u v p : ℕ) (old : LinkView) (h : IsAt l u v p old) w
   full-capacity : IsTrue (are_joined l.net.edges u v) → old.capacity ≡ l.net.capacity
   full-capacity joined = let c = capacity-is in grind (arith, common_steps)
 
-  -- what is under way after an item was put if there is room, and if there is none
+  -- what is under way after an item was put, with room and without
   abbrev pub under-put : Item → ℕ → ℕ → List Item
   under-put item = if nat_lt (length (under_way l u v)) l.net.capacity then at_pair (under_way l) u v (under_way l u v ++ item ∷ []) else under_way l
 
@@ -137,7 +137,7 @@ module _ (l : LinksView) (u v p : ℕ) (old : LinkView) (h : IsAt l u v p old) w
   -- ---- an item is taken
 
   module _ (new : LinkView) where
-    -- the link is one item shorter at its front, or was and is empty
+    -- the link has lost its first item, or was and is empty
     abbrev pub IsTakenFrom : Option Item → Type 0
     IsTakenFrom (Some item) = old ≡ link new.capacity (item ∷ new.items)
     IsTakenFrom None = (old.items ≡ []) × (new ≡ old)

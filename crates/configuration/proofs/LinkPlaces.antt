@@ -39,7 +39,7 @@ module _ (l : LinksView) (u v : ℕ) (new : LinkView) (ok : IsLinks l) (un : u <
       ≡ (if p == value_at l.places u v then new else slice_index_or l.links p (link 0 []))
   read-one p = let t = there in grind (arith, common_steps, t)
 
-  -- the first link holds nothing, and so does another one in its place
+  -- the first link holds nothing, and neither does another one in its place
   nothing-first : (slice_index_or l.links 0 (link 0 [])).items ≡ []
   nothing-first = first-empty l.links (let t = there in omega (arith, t)) ok.placed.none ok.within
 
@@ -70,7 +70,7 @@ module _ (l : LinksView) (u v : ℕ) (new : LinkView) (ok : IsLinks l) (un : u <
   pub under_way-with_link : under_way (with_link l u v new) ≡ at_pair (under_way l) u v new.items
   under_way-with_link = fun_ext (λ i. fun_ext (λ j. under-one i j))
 
-  -- a link that fits, put at its place, leaves links that fit
+  -- with a fitting link at its place, the links still fit
   pub links-with_link : All (λ item. IsTrue (item_fits (ranges_of l.net) item)) new.items → IsLinks (with_link l u v new)
   links-with_link fits = record {
     network = ok.network;

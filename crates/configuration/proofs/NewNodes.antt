@@ -1,4 +1,4 @@
--- Nodes as they start.
+-- Nodes as at their start.
 use Rattle.std.proofs.Common.{◌≡◌, ◌∙◌, sym, ap, subst, ℕ, ◌+◌, ◌<◌, ◌≤◌, ◌⊎◌, inl, inr, arith, refl, List, [], ◌∷◌, ◌++◌, length}
 use Rattle.std.proofs.Math.Path.{fun_ext}
 use Rattle.std.proofs.lemmas.Grind.{common_steps}
@@ -11,7 +11,7 @@ use Rattle.run_model.specs.Start.{world_with_spares}
 use Rattle.configuration.specs.LinksView.{LinksView, spare_pairs, under_way}
 use Rattle.configuration.specs.ConfigurationView.{AreNodesOf, node_at, states_of, world_of}
 
--- the nodes below k, each at its site and as it starts
+-- the nodes below k, each at its site and as at its start
 pub record AreNew (net : Network) (nodes : List NodeView) (k : ℕ) : Type 0 where
   pub count : length nodes ≡ k
   pub sites : (v : ℕ) → v < k → site_in (node_at nodes v) ≡ site_of net v
@@ -26,7 +26,7 @@ earlier nodes new v less = grind (arith, common_steps)
 latest : (nodes : List NodeView) (new : NodeView) → node_at (nodes ++ new ∷ []) (length nodes) ≡ new
 latest nodes new = grind (arith, common_steps)
 
--- what holds of the earlier nodes and of the new one holds of all
+-- what holds for the earlier nodes and for the new one holds for all
 module _ (P : ℕ → NodeView → Type 0) (nodes : List NodeView) (k : ℕ) (count : length nodes ≡ k) (new : NodeView) where
   with-new : ((v : ℕ) → v < k → P v (node_at nodes v)) → P k new → (v : ℕ) → v < k + 1 → P v (node_at (nodes ++ new ∷ []) v)
   with-new each one v less =
@@ -59,7 +59,7 @@ new-state net nodes all v =
 pub new-states : (net : Network) (nodes : List NodeView) → AreNew net nodes net.nodes → states_of net nodes ≡ λ v. default_node (ranges_of net)
 new-states net nodes all = fun_ext (λ v. new-state net nodes all v)
 
--- new nodes, and links with nothing under way, are the world at its start
+-- new nodes and empty links are the world at its start
 pub new-world : (net : Network) (nodes : List NodeView) (links : LinksView) (pairs : ℕ) → links.net ≡ net → spare_pairs links ≡ pairs → under_way links ≡ (λ u v. [])
     → states_of net nodes ≡ (λ v. default_node (ranges_of net)) → world_of (record { nodes = nodes; links = links }) ≡ world_with_spares net pairs
 new-world net nodes links pairs same spare empty states =

@@ -8,7 +8,7 @@ same-map : (xs : List ℕ) → map (λ i. i) xs ≡ xs
 same-map [] = refl
 same-map (x ∷ xs) = ap (λ ys. x ∷ ys) (same-map xs)
 
--- one number more is counted if the test holds of it
+-- one more number counts if it passes the test
 count-more : (p : ℕ → Bool) (n : ℕ) → count_by p (range_with_len 0 (n + 1)) ≡ count_by p (range_with_len 0 n) + cond (p n) 1 0
 count-more p n =
     ap (count_by p) (sym (same-map (range_with_len 0 (n + 1))))

@@ -10,14 +10,14 @@ use Rattle.run_model.specs.node_core.View.{NodeView, site_in, state_of}
 use Rattle.run_model.specs.Step.{link_fault}
 use Rattle.configuration.specs.ConfigurationView.{AreNodesOf, ConfigurationView, no_node, node_at, states_of, world_of}
 
--- the node v stands at place p, and is `old`
+-- the node v is at place p, and is `old`
 pub record IsNodeAt (net : Network) (nodes : List NodeView) (v p : ℕ) (old : NodeView) : Type 0 where
   pub nodes_are : AreNodesOf net nodes
   pub in_net : v < net.nodes
   pub place : p ≡ v
   pub value : old ≡ slice_index_or nodes p old
 
--- the node is there where it was found
+-- the node is where it was found
 pub found-there : {w seen : ConfigurationView} {v p : ℕ} {old : NodeView} {T : Type 0} → w ≡ seen → AreNodesOf w.links.net w.nodes
     → (p ≡ v) × (v < (world_of seen).net.nodes) × T → old ≡ slice_index_or w.nodes p old → IsNodeAt w.links.net w.nodes v p old
 found-there {w} {seen} {v} {p} {old} same are found value =
@@ -69,13 +69,13 @@ module _ (net : Network) (nodes : List NodeView) (v p : ℕ) (old : NodeView) (h
     pub now-states : states_of net (slice_set nodes p new) ≡ at (states_of net nodes) v (state_of new)
     now-states = subst (λ k. states_of net (slice_set nodes k new) ≡ at (states_of net nodes) v (state_of new)) (sym h.place) (fun_ext state-one)
 
--- the node v, which stands at place p and is `old`, has a link to u, one of its neighbours
+-- the node v, which is at place p and is `old`, has a link to its neighbour u
 pub record IsPortAt (w : ConfigurationView) (v u p : ℕ) (old : NodeView) : Type 0 where
   pub here : IsNodeAt w.links.net w.nodes v p old
   pub near : Contains (site_in old).neighbours u
   pub found : link_fault (world_of w) v u ≡ None
 
--- the port is there where its link was found
+-- the port is where its link was found
 pub port-at : {w seen : ConfigurationView} {v u p : ℕ} {old : NodeView} {T : Type 0} → w ≡ seen → AreNodesOf w.links.net w.nodes
     → (v < (world_of seen).net.nodes) × (u < (world_of seen).net.nodes) × IsTrue (are_joined (world_of seen).net.edges v u) × (link_fault (world_of seen) v u ≡ None)
     → Contains (neighbours_of (world_of seen).net v) u × T → p ≡ v → old ≡ slice_index_or w.nodes p old → IsPortAt w v u p old

@@ -5,13 +5,13 @@ use Rattle.std.proofs.lemmas.Grind.{common_steps}
 use Rattle.run_model.specs.World.{at_pair}
 use Rattle.configuration.specs.PairTable.{PairTableView, place_of, value_at}
 
--- rows of n places each: a later row begins where the earlier one has ended
+-- rows of n places each: a later row begins at or after the end of an earlier one
 later-row : (n i u : ℕ) → i < u → i * n + n ≤ u * n
 later-row n i u less =
     let more : i + 1 ≤ u = omega arith in
     omega (arith, mul-le-mul_right {m = i + 1} {n = u} n more)
 
--- two pairs at one place are one
+-- two pairs with one place are the same pair
 pub one-place : (n i j u v : ℕ) → j < n → v < n → place_of n i j ≡ place_of n u v → (i ≡ u) × (j ≡ v)
 one-place n i j u v jn vn e =
     let order : (i ≡ u) ⊎ ((i < u) ⊎ (u < i)) = grind arith in
@@ -25,7 +25,7 @@ one-place n i j u v jn vn e =
 pub place-in : (n u v : ℕ) → u < n → v < n → place_of n u v < n * n
 place-in n u v un vn = omega (arith, later-row n u n un)
 
--- the number of one pair is written, and every other pair keeps its own
+-- after writing the number of one pair, every other pair keeps its own
 pub value-set : (t : PairTableView) (u v p x i j : ℕ) → v < t.nodes → j < t.nodes → p ≡ place_of t.nodes u v → p < length t.values
     → value_at (record t { values = slice_set t.values p x }) i j ≡ at_pair (value_at t) u v x i j
 value-set t u v p x i j vn jn place there =

@@ -1,4 +1,4 @@
--- Where links stand: a spare one is laid between two nodes, or is spare again.
+-- The places of links: a spare link is laid between two nodes, or becomes spare again.
 use Rattle.std.proofs.Common.{◌≡◌, ◌≢◌, ◌*◌, take, ◌∙◌, sym, ap, subst, ℕ, ◌+◌, ◌-◌, ◌<◌, ◌≤◌, ◌⊎◌, inl, inr, Bool, true, arith, refl, List, [], ◌∷◌, ◌++◌, length, slice_index_or, slice_set, if◌then◌else◌}
 use Rattle.std.proofs.Math.Path.{fun_ext}
 use Rattle.std.proofs.lemmas.Grind.{common_steps}
@@ -19,7 +19,7 @@ module _ (net : Network) (is_joined : ℕ → ℕ → Bool) (old new : PairTable
   value-is : (u v : ℕ) → v < net.nodes → value_at new u v ≡ at_pair (value_at old) a b x u v
   value-is u v vn = values u v (subst (λ n. v < n) (sym placed.table) vn)
 
-  -- a pair has the new number, or the one that it had
+  -- a pair has the new number, or its old one
   which : (u v : ℕ) → v < net.nodes → ((u ≡ a) × (v ≡ b) × (value_at new u v ≡ x)) ⊎ (value_at new u v ≡ value_at old u v)
   which u v vn = let is = value-is u v vn in grind (arith, common_steps, is)
 
@@ -113,7 +113,7 @@ module _ (net : Network) (is_joined : ℕ → ℕ → Bool) (old new : PairTable
     newest-is : slice_index_or more (length spares) 0 ≡ value_at old a b
     newest-is = get_or-append_seam spares (value_at old a b) [] 0
 
-    -- a place among them is an older one, or the newest
+    -- each of their places is an older one, or the newest
     place-of : (k : ℕ) → k < length more → ((k < length spares) × (slice_index_or more k 0 ≡ slice_index_or spares k 0)) ⊎ ((k ≡ length spares) × (slice_index_or more k 0 ≡ value_at old a b))
     place-of k kn =
         let g = grown in
@@ -126,7 +126,7 @@ module _ (net : Network) (is_joined : ℕ → ℕ → Bool) (old new : PairTable
     wide : (slice_index_or links (value_at old a b) (link 0 [])).capacity ≡ net.capacity
     wide = placed.capacity a b an bn ∙ ap (λ test. if test then net.capacity else 0) joined
 
-    -- a link with places is not the first one
+    -- the first link has no places
     not-first : (p : ℕ) → (slice_index_or links p (link 0 [])).capacity ≡ net.capacity → p ≢ 0
     not-first p is zero = let none = ap (λ q. (slice_index_or links q (link 0 [])).capacity) zero ∙ placed.none in absurd (omega (arith, some, is, none))
 
@@ -263,7 +263,7 @@ placed-edge net edges a b first second third links spares one two placed enough 
     rw two-is (laid-one net (joined_too (are_joined edges) a b) second third links one b a (slice_index_or one (length one - 1) 0) half also back some refl) in
     subst (λ j. ArePlaced net j third links two) (fun_ext (λ u. fun_ext (λ v. two-ways edges (a, b) u v))) whole
 
--- two spare links less
+-- two spare links fewer
 pub two-less : (spares one two : List ℕ) → 2 ≤ length spares → one ≡ take (length spares - 1) spares → two ≡ take (length one - 1) one → length two + 2 ≡ length spares
 two-less spares one two enough one-is two-is =
     let a : length one ≡ length spares - 1 = rw one-is (grind (arith, common_steps)) in
@@ -325,7 +325,7 @@ laying-next net es k d first second third start spares one two read laying less 
 
 -- ---- links are made
 
--- one more link is made, and its place is the newest of the spare ones
+-- one more link is made, and its place becomes the newest of the spare ones
 pub stocked-more : (capacity k : ℕ) (x : LinkView) (links more : List LinkView) (spares places : List ℕ) → AreStocked capacity k links spares → x ≡ link capacity []
     → more ≡ links ++ x ∷ [] → places ≡ spares ++ (k + 1) ∷ [] → AreStocked capacity (k + 1) more places
 stocked-more capacity k x links more spares places stocked is more-is places-is = record {

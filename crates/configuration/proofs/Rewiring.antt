@@ -1,4 +1,4 @@
--- Both ends of an edge that joins or goes take up their neighbours.
+-- Both ends of an edge that joins or goes take over their new neighbours.
 use Rattle.std.proofs.Common.{◌≡◌, ◌≢◌, ◌∙◌, sym, ap, ℕ, ◌<◌, ◌≤◌, ◌⊎◌, inl, inr, arith, List}
 use Rattle.std.proofs.Math.Path.{fun_ext}
 use Rattle.std.proofs.lemmas.Grind.{common_steps}
@@ -12,17 +12,18 @@ use Rattle.run_model.specs.node_core.View.{NodeView, site_in, state_of}
 use Rattle.configuration.specs.ConfigurationView.{AreNodesOf, node_at, states_of}
 use Rattle.configuration.specs.Rewired.{IsRewired}
 
--- a node that knows its site knows, but for its neighbours, its site in a network with other edges
+-- a node that knows its site knows its site in a network with other edges, except for its
+-- neighbours
 pub other-edges : (net : Network) (edges : List Edge) (nodes : List NodeView) (v : ℕ) → AreNodesOf net nodes → v < net.nodes
     → record (site_in (node_at nodes v)) { neighbours = neighbours_of (record net { edges = edges }) v } ≡ site_of (record net { edges = edges }) v
 other-edges net edges nodes v are vn = ap {A = Site} {B = Site} (λ s. record s { neighbours = neighbours_of (record net { edges = edges }) v }) (are.sites v vn)
 
--- what the node w is then, if it is an end of the edge
+-- the node w afterwards, if it is an end of the edge
 abbrev pub ended : Network → List Edge → List NodeView → ℕ → LocalState
 ended net edges nodes w = rewired (ranges_of net) (neighbours_of net w) (neighbours_of (record net { edges = edges }) w) (states_of net nodes w)
 
--- The ends u and v of an edge that has joined or gone have taken up their neighbours in the network
--- with these edges; no other node has changed.
+-- The ends u and v of an edge that has joined or gone have taken over their neighbours in the
+-- network with these edges; no other node has changed.
 pub record AreRewired (net : Network) (edges : List Edge) (u v : ℕ) (old new : List NodeView) : Type 0 where
   pub nodes : AreNodesOf (record net { edges = edges }) new
   pub states : states_of (record net { edges = edges }) new ≡ at (at (states_of net old) u (ended net edges old u)) v (ended net edges old v)
@@ -34,7 +35,7 @@ module _ (net : Network) (edges : List Edge) (u v : ℕ) (un : u < net.nodes) (v
   changed = record net { edges = edges }
 
   module _ (first : IsRewired changed nodes u one) where
-    -- the second end has not been touched yet
+    -- the second end has not changed yet
     pub second-site : record (site_in (node_at one v)) { neighbours = neighbours_of changed v } ≡ site_of changed v
     second-site = ap {A = NodeView} {B = Site} (λ n. record (site_in n) { neighbours = neighbours_of changed v }) (first.others v (λ same. no-loop (sym same))) ∙ other-edges net edges nodes v are vn
 

@@ -1,4 +1,4 @@
--- What a configuration shows, and what it may answer.
+-- What a configuration shows, and what it may answer: examples.
 use Rattle.std.proofs.Common.{◌≡◌, ℕ, List, [], ◌∷◌, Some, None, Ok, Err, refl, ap, arith}
 use Rattle.topology.specs.Ranges.{ranges_of}
 use Rattle.run_model.specs.node_core.Site.{Site}
@@ -24,14 +24,14 @@ shown = record {
 second-node : ((world_of shown).node 1).distance ≡ 5
 second-node = refl
 
--- what is no node is as a node starts
+-- an id without a node reads as a fresh node
 past-the_last : states_of two_nodes shown.nodes 2 ≡ default_node (ranges_of two_nodes)
 past-the_last = refl
 
 no-place : node_at shown.nodes 2 ≡ no_node
 no-place = refl
 
--- a refused event leaves the world, and is answered with its refusal
+-- a refused event leaves the world, and the answer is its refusal
 refused : Answers shown (Tick 2) shown (Err NoNode)
 refused = record { world = refl; ok = tt; did = tt; err = refl }
 

@@ -1,4 +1,4 @@
--- Links of two nodes and one spare pair: what stands in which place, and what does not fit.
+-- Links of two nodes and one spare pair: what is at which place, and what does not fit.
 use Rattle.std.proofs.Common.{◌≡◌, ℕ, ◌<◌, ◌+◌, slice_index_or, zero, suc, List, [], ◌∷◌, true, false, refl, ap, arith}
 use Rattle.topology.specs.Network.{Network}
 use Rattle.run_model.specs.link_model.Link.{LinkView, link}
@@ -9,11 +9,11 @@ use Rattle.configuration.specs.LinksView.{LinksView, link_between, under_way, sp
 use Rattle.configuration.specs.PairTable.{PairTableView, place_of, value_at}
 use Rattle.configuration.specs.Placed.{AreStocked, IsSpare, joined_too}
 
--- of three nodes, the pairs of node 1 come after the three of node 0
+-- for three nodes, the pairs of node 1 come after the three of node 0
 third-of_three : place_of 3 1 2 ≡ 5
 third-of_three = refl
 
--- the link from 0 to 1 stands in the place 1, the one back in 2; 3 and 4 are spare
+-- the link from 0 to 1 is at place 1, the one back at 2; 3 and 4 are spare
 abbrev table : PairTableView
 table = record { nodes = 2; values = 0 ∷ 1 ∷ 2 ∷ 0 ∷ [] }
 
@@ -23,7 +23,7 @@ links = record { net = two_nodes; places = table; links = link 0 [] ∷ link 1 (
 out-and_back : (value_at table 0 1 ≡ 1) × (value_at table 1 0 ≡ 2)
 out-and_back = (refl, refl)
 
--- no node is joined with itself, nor with what is no node
+-- no node is joined to itself, nor to an id without a node
 no-place : (value_at table 0 0 ≡ 0) × (value_at table 1 1 ≡ 0)
 no-place = (refl, refl)
 
@@ -33,7 +33,7 @@ one-under_way = refl
 nothing-back : under_way links 1 0 ≡ []
 nothing-back = refl
 
--- the place that 0 and 2 would have is that of 1 and 0, and yet nothing is under way to no node
+-- 0 and 2 would have the place of 1 and 0, but nothing is under way to an id without a node
 nothing-to_no_node : under_way links 0 2 ≡ []
 nothing-to_no_node = refl
 

@@ -1,4 +1,4 @@
--- Rows: whose own an event is.
+-- Rows: whose event it is.
 use Rattle.std.proofs.Common.{◌≡◌, ℕ, Option, Some, None, refl, arith}
 use Rattle.run_model.specs.declared.event.Event.TheVariants.{Send, Take}
 use Rattle.configuration.specs.Sight.{IsOwnNode}
@@ -6,7 +6,7 @@ use Rattle.configuration.specs.Sight.{IsOwnNode}
 apart : (◌≡◌ {A = Option ℕ} (Some 3) (Some 5)) → ⊥
 apart e = grind arith
 
--- a take is the taker's own,
+-- a take is the taker's,
 taker : IsOwnNode (Take 3 5) (Some 5)
 taker v own = grind arith
 

@@ -1,5 +1,5 @@
--- A world serves if its tree is shown, and if at most one node is counted as privileged and
--- at most one as lending.
+-- A world serves if its tree is shown, at most one node counts as privileged, and at most one as
+-- lending.
 use Rattle.std.proofs.Common.{◌≡◌, ◌∙◌, ap, sym, subst, ℕ, zero, suc, ◌+◌, ◌<◌, ◌≤◌, ◌≢◌, Bool, true, false, cond, Option, Some, None, IfSome, IsTrue, inl, inr, add-one, arith, count_by, refl, List, [], ◌∷◌, map}
 use Rattle.std.proofs.lemmas.List.FromFn.{sum_by-map-range_with_len_more}
 use Rattle.std.proofs.lemmas.Bool.Decides.{nat_tests}
@@ -14,7 +14,7 @@ use Rattle.run_model.specs.NodeCounts.{privileged_count, lending_count}
 use Rattle.run_model.specs.Headline.{IsServing}
 use Rattle.configuration.specs.TreeShown.{IsTreeShown}
 
--- ---- at most one is counted if any two are the same
+-- ---- the count is at most one if any two that count are the same
 
 -- how many numbers below n pass the test
 abbrev counted : (ℕ → Bool) → ℕ → ℕ
@@ -24,7 +24,7 @@ same-map : (xs : List ℕ) → map (λ i. i) xs ≡ xs
 same-map [] = refl
 same-map (x ∷ xs) = ap (λ ys. x ∷ ys) (same-map xs)
 
--- one number more is counted if the test holds of it
+-- one more number counts if it passes the test
 count-more : (p : ℕ → Bool) (n : ℕ) → counted p (n + 1) ≡ counted p n + cond (p n) 1 0
 count-more p n =
     ap (count_by p) (sym (same-map (range_with_len 0 (n + 1))))

@@ -1,4 +1,4 @@
--- A network serves by what there is to see of its nodes.
+-- Whether a network serves, by the sights of its nodes.
 use Rattle.std.proofs.Common.{◌≡◌, ◌∙◌, ap, sym, subst, ℕ, ◌<◌, ◌≤◌, ◌≢◌, Bool, true, false, Option, Some, IfSome, IsTrue, inl, inr, arith, refl, [], ◌∷◌}
 use Rattle.std.proofs.Math.Path.{fun_ext}
 use Rattle.std.proofs.lemmas.Grind.{common_steps}
@@ -22,7 +22,7 @@ use Rattle.configuration.specs.declared.sight.Sight.{Sight}
 
 -- ---- the network and the sights decide
 
--- the headline's conclusion, of a network and of what there is to see of each node
+-- the headline's conclusion, for a network and the sight of each node
 record IsServingBy (net : Network) (sight : ℕ → Sight) : Type 0 where
   distances : (v : ℕ) → v < net.nodes → IsDistance net v (sight v).distance
   no_parent : IsNone (sight net.root).parent
@@ -81,7 +81,7 @@ whether false = inr refl
 in-or-out : (v n : ℕ) → (v < n) ⊎ (n ≤ v)
 in-or-out v n = grind arith
 
--- an event at what is no node is refused
+-- an event at an id without a node is refused
 no-node : (w : World) (e : Event) (v : ℕ) → is_damage w e ≡ false → is_node_touched e v ≡ true → w.net.nodes ≤ v → step w e ≡ w
 no-node w e v harmless own out = grind (arith, common_steps, nat_tests)
 
@@ -115,7 +115,7 @@ module _ (alone : OwnNodeAlone) (network : NetworkStays) where
 
 -- ---- the sight of the touched node
 
--- of an event that is no harm
+-- for an event that is no harm
 touched-is : (w : World) (e : Event) (sight : Option Sight) → ((h : Harm) → e ≢ Damage h) → IsTouchedSight w e sight → (v : ℕ) → v < w.net.nodes
     → IsTrue (is_node_touched e v) → sight ≡ Some (sight_of w v)
 touched-is w (Send a b) sight plain t = t
@@ -136,7 +136,7 @@ no-harm w (Leave a k) plain = refl
 no-harm w (Damage h) plain = absurd (plain h refl)
 
 module _ (network : NetworkStays) (decide : SightsDecide) where
-  -- if the touched node looks as before, the network serves if it served
+  -- if the touched node looks as before, the network serves if it served before
   pub same-sight : (w : World) (e : Event) (sight : Option Sight) → ((h : Harm) → e ≢ Damage h) → IsTouchedSight w e sight
       → IsTouchedSight (step w e) e sight → IsServing (step w e) ↔ IsServing w
   same-sight w e sight plain before after =

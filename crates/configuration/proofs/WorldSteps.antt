@@ -26,17 +26,16 @@ use Rattle.run_model.specs.declared.happened.Happened.TheVariants.{FullTick, Len
 use Rattle.configuration.specs.Answers.{Answers}
 use Rattle.configuration.proofs.NodePlaces.{IsNodeAt, state-is, site-is, now-states}
 
--- an event that is not refused makes its change
+-- an accepted event makes its change
 pub step-is : (w : World) (e : Event) → refusal w e ≡ None → step w e ≡ changed w e
 step-is w e none = grind (arith, common_steps)
 
--- a node changed is a node changed in the world
+-- a changed node is a changed node of the world
 pub now-world : (w : ConfigurationView) (v p : ℕ) (old new : NodeView) → IsNodeAt w.links.net w.nodes v p old
     → world_of (record w { nodes = slice_set w.nodes p new }) ≡ with_node (world_of w) v (state_of new)
 now-world w v p old new h = ap (λ f. record { net = w.links.net; spares = spare_pairs w.links; node = f; link = under_way w.links }) (now-states w.links.net w.nodes v p old h new)
 
--- an event that is not refused is answered with what it did, and one that is refused with the
--- refusal
+-- the answer to an accepted event is what it did, and to a refused one its refusal
 pub accepted : (w new : ConfigurationView) (e : Event) (did : Happened) → refusal (world_of w) e ≡ None → world_of new ≡ step (world_of w) e
     → did ≡ happened (world_of w) e → Answers w e new (Ok did)
 accepted w new e did none leads is = record { world = leads; ok = none; did = is; err = tt }
@@ -67,18 +66,18 @@ tick-answers w v p old new h none is did did-is =
     accepted w (record w { nodes = slice_set w.nodes p new }) (Tick v) did none leads
     (did-is ∙ ap (λ s. if is_none s.desk.lent then FullTick v else LendingTick v) (sym there))
 
--- one test decides the links, or the whole world
+-- a test that chooses between links chooses between worlds
 either-links : (w : World) (test : Bool) (links : ℕ → ℕ → List Item)
     → record w { link = if test then links else w.link } ≡ (if test then record w { link = links } else w)
 either-links w true links = refl
 either-links w false links = refl
 
--- no edge has joined or gone: the network is the same, and so are the spare links
+-- no edge has joined or gone: the network and the spare links are the same
 pub record IsBeside (old new : LinksView) : Type 0 where
   pub net : new.net ≡ old.net
   pub spares : new.spares ≡ old.spares
 
--- other links of the same network are other links of the world
+-- changed links of the same network are changed links of the world
 pub links-world : (w : ConfigurationView) (links : LinksView) → IsBeside w.links links
     → world_of (record w { links = links }) ≡ record (world_of w) { link = under_way links }
 links-world w links beside =
@@ -96,7 +95,7 @@ send-world w links u v none net is =
     ∙ either-links (world_of w) (nat_lt (length (under_way w.links u v)) w.links.net.capacity) put
     ∙ sym (step-is (world_of w) (Send u v) none)
 
--- an event that is refused changes nothing
+-- a refused event changes nothing
 pub step-refused : (w : World) (e : Event) (fault : EventFault) → refusal w e ≡ Some fault → step w e ≡ w
 step-refused w e fault some = grind (arith, common_steps)
 
@@ -106,14 +105,14 @@ pub send-answers : (w : ConfigurationView) (links : LinksView) (u v : ℕ) → r
     → Answers w (Send u v) (record w { links = links }) (Ok Other)
 send-answers w links u v none net is = accepted w (record w { links = links }) (Send u v) Other none (send-world w links u v none net is) refl
 
--- a node written as it is changes nothing
+-- writing a node as it is changes nothing
 same-node : (w : World) (v i : ℕ) → at w.node v (w.node v) i ≡ w.node i
 same-node w v i = grind (arith, common_steps)
 
 pub unchanged : (w : World) (v : ℕ) → with_node w v (w.node v) ≡ w
 unchanged w v = ap (λ f. record w { node = f }) (fun_ext (λ i. same-node w v i))
 
--- the first of two refusals is none if it is none, and a test that holds refuses nothing
+-- of two refusals the first is none, and a test that holds refuses nothing
 pub first-none : (a b : Option EventFault) → a ≡ None → first_fault a b ≡ b
 first-none a b none = rw none refl
 
@@ -125,20 +124,20 @@ pub unless-fails : (test : Bool) (fault : EventFault) → ¬ IsTrue test → unl
 unless-fails true fault fails = absurd (fails refl)
 unless-fails false fault fails = refl
 
--- ---- an event at the node v, which stands at place p and was `old`
+-- ---- an event at the node v, which is at place p and was `old`
 
 module _ (w : ConfigurationView) (v p : ℕ) (old : NodeView) (h : IsNodeAt w.links.net w.nodes v p old) where
   state-there : (world_of w).node v ≡ state_of old
   state-there = state-is w.links.net w.nodes v p old h
 
-  -- it makes of the node what f says
+  -- it changes the node as f says
   pub node-done : (e : Event) (f : LocalState → LocalState) (new : NodeView) → refusal (world_of w) e ≡ None
       → changed (world_of w) e ≡ with_node (world_of w) v (f ((world_of w).node v)) → state_of new ≡ f (state_of old)
       → world_of (record w { nodes = slice_set w.nodes p new }) ≡ step (world_of w) e
   node-done e f new none makes is =
       now-world w v p old new h ∙ ap (with_node (world_of w) v) (is ∙ ap f (sym state-there)) ∙ sym makes ∙ sym (step-is (world_of w) e none)
 
-  -- it is refused and leaves the node as it is
+  -- it is refused and leaves the node unchanged
   pub node-refused : (e : Event) (fault : EventFault) (new : NodeView) → refusal (world_of w) e ≡ Some fault → new ≡ old
       → world_of (record w { nodes = slice_set w.nodes p new }) ≡ step (world_of w) e
   node-refused e fault new some same =
@@ -221,7 +220,7 @@ module _ (w : ConfigurationView) (u v : ℕ) (found : link_fault (world_of w) u 
       refused w (record w { links = links }) e fault some
       (links-world w links net ∙ ap (λ l. record (world_of w) { link = l }) is ∙ sym (step-refused (world_of w) e fault some))
 
-  -- the oldest item is handed over, if there is one
+  -- v takes the oldest item, if there is one
   handed-some : (world : World) (items : List Item) (taken-item : Item) → Some taken-item ≡ slice_get items 0
       → handed_over world u v items ≡ with_link (with_node world v (taken (site world v) u taken-item (world.node v))) u v (drop 1 items)
   handed-some world [] taken-item some = absurd cc

@@ -15,7 +15,7 @@ pub record ConfigurationView : Type 0 where
   pub nodes : List NodeView
   pub links : LinksView
 
--- what stands in no place
+-- the node at a place without one
 abbrev pub no_node : NodeView
 no_node = record {
   id = 0;
@@ -30,11 +30,11 @@ no_node = record {
 abbrev pub node_at : List NodeView → ℕ → NodeView
 node_at nodes v = slice_index_or nodes v no_node
 
--- the nodes' states as a function of their ids; past the last node stands what a node starts with
+-- the nodes' states as a function of their ids; past the last node it is the state of a fresh node
 abbrev pub states_of : Network → List NodeView → ℕ → LocalState
 states_of net nodes v = if nat_lt v net.nodes then state_of (node_at nodes v) else default_node (ranges_of net)
 
--- the world that is seen
+-- the world of a configuration
 abbrev pub world_of : ConfigurationView → World
 world_of w = record { net = w.links.net; spares = spare_pairs w.links; node = states_of w.links.net w.nodes; link = under_way w.links }
 

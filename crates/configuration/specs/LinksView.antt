@@ -1,5 +1,5 @@
--- What contracts see of the links of a network: for each two nodes that an edge joins a link from
--- the one to the other, and spare pairs of links.
+-- What contracts see of the links of a network: a link each way between every two joined nodes,
+-- and spare pairs of links.
 use Rattle.std.specs.Prelude.{◌≡◌, ℕ, ◌+◌, ◌*◌, ◌/◌, ◌≤◌, ◌&&◌, if◌then◌else◌, nat_lt, IsTrue, List, [], All, length, slice_index_or}
 use Rattle.topology.specs.Network.{Network, IsAcceptedNetwork, are_joined}
 use Rattle.topology.specs.Ranges.{ranges_of}
@@ -9,15 +9,15 @@ use Rattle.run_model.specs.World.{item_fits}
 use Rattle.configuration.specs.PairTable.{PairTableView, value_at}
 use Rattle.configuration.specs.Placed.{ArePlaced}
 
--- the network; the links, one after the other; for each two nodes the place of the link between
--- them; and the places of the spare links
+-- the network; the links, one after the other; the place of the link between every two nodes; and
+-- the places of the spare links
 pub record LinksView : Type 0 where
   pub net : Network
   pub places : PairTableView
   pub links : List LinkView
   pub spares : List ℕ
 
--- the link from u to v; the first link stands for all that are not there
+-- the link from u to v; the first link stands for all missing ones
 abbrev pub link_between : LinksView → ℕ → ℕ → LinkView
 link_between l u v = slice_index_or l.links (value_at l.places u v) (link 0 [])
 
@@ -30,7 +30,7 @@ abbrev pub spare_pairs : LinksView → ℕ
 spare_pairs l = length l.spares / 2
 
 -- Joined nodes have links of their own, and what is under way on them is in range. After the first
--- link there are two for each edge, and those that are spare.
+-- link come two for each edge, and the spare ones.
 pub record IsLinks (l : LinksView) : Type 0 where
   pub network : IsAcceptedNetwork l.net
   pub placed : ArePlaced l.net (are_joined l.net.edges) l.places l.links l.spares

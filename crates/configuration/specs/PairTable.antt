@@ -1,7 +1,7 @@
 -- What contracts see of a table of numbers by two nodes' ids.
 use Rattle.std.specs.Prelude.{ℕ, ◌+◌, ◌*◌, List, slice_index_or}
 
--- how many nodes there are, and n numbers for each: those of the pairs that it begins
+-- the number of nodes, and n numbers for each: those of the pairs that begin with it
 pub record PairTableView : Type 0 where
   pub nodes : ℕ
   pub values : List ℕ
@@ -10,6 +10,6 @@ pub record PairTableView : Type 0 where
 abbrev pub place_of : ℕ → ℕ → ℕ → ℕ
 place_of nodes u v = u * nodes + v
 
--- the number of u and v; there is none of what is no node
+-- the number of u and v; 0 if one is no node
 abbrev pub value_at : PairTableView → ℕ → ℕ → ℕ
 value_at t u v = slice_index_or t.values (place_of t.nodes u v) 0

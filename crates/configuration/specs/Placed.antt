@@ -1,22 +1,21 @@
--- Where the links of a network stand: two nodes that are joined have places of their own, and the
--- places that are left are spare.
+-- The places of the links of a network: joined nodes have places of their own, and the other
+-- places are spare.
 use Rattle.std.specs.Prelude.{◌≡◌, ◌≢◌, ℕ, ◌+◌, ◌<◌, ◌⊎◌, ◌==◌, ◌||◌, ◌&&◌, Bool, if◌then◌else◌, List, [], length, slice_index_or}
 use Rattle.topology.specs.Network.{Network}
 use Rattle.run_model.specs.link_model.Link.{LinkView, link}
 use Rattle.configuration.specs.PairTable.{PairTableView, value_at}
 
--- two nodes more are joined, in one direction: the links of an edge are laid one after the other
+-- one more pair is joined, in one direction: the links of an edge are laid one after the other
 abbrev pub joined_too : (ℕ → ℕ → Bool) → ℕ → ℕ → ℕ → ℕ → Bool
 joined_too is_joined a b u v = is_joined u v || ((u == a) && (v == b))
 
--- at the place there is an empty link with as many places as the capacity says
+-- the place has an empty link of the network's capacity
 pub record IsSpare (net : Network) (links : List LinkView) (place : ℕ) : Type 0 where
   pub there : place < length links
   pub empty : slice_index_or links place (link 0 []) ≡ link net.capacity []
 
--- Each pair that is joined has a link of its own with as many places as the capacity says; all
--- others have the first, which has none. A spare place is no pair's, and stands once among the
--- spare ones.
+-- Each joined pair has its own link of the network's capacity; all others have the first, which
+-- has no places. A spare place is no pair's, and is listed once.
 pub record ArePlaced (net : Network) (is_joined : ℕ → ℕ → Bool) (places : PairTableView) (links : List LinkView) (spares : List ℕ) : Type 0 where
   pub table : places.nodes ≡ net.nodes
   pub inside : (u v : ℕ) → u < net.nodes → v < net.nodes → value_at places u v < length links

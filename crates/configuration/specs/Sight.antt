@@ -1,4 +1,4 @@
--- What the headline speaks of at one node.
+-- What the headline says about one node.
 use Rattle.std.specs.Prelude.{◌≡◌, ◌↔◌, ℕ, ◌<◌, false, IsTrue, Option, Some}
 use Rattle.run_model.specs.World.{World}
 use Rattle.run_model.specs.Step.{step}
@@ -19,19 +19,19 @@ sight_of w v = record {
   lending = is_lending w v;
 }
 
--- the event is none of v's own, or v is the one that is named; harms are left out
+-- if the event is v's own, v is the named node; harms are left out
 abbrev pub IsOwnNode : Event → Option ℕ → Type 0
 IsOwnNode (Damage h) own = Unit {0}
 IsOwnNode e own = (v : ℕ) → IsTrue (is_node_touched e v) → own ≡ Some v
 
--- It is the sight of the node whose own the event is, if that is one of the network's. Of a
--- harm, which may touch two nodes or an edge, it says nothing.
+-- The sight of the node whose event it is, if that is one of the network. It says nothing about a
+-- harm, which may touch two nodes or an edge.
 abbrev pub IsTouchedSight : World → Event → Option Sight → Type 0
 IsTouchedSight w (Damage h) sight = Unit {0}
 IsTouchedSight w e sight = (v : ℕ) → v < w.net.nodes → IsTrue (is_node_touched e v) → sight ≡ Some (sight_of w v)
 
--- If an event is no damage, and leaves each node that it touches as it was to see, the network
--- serves after it exactly if it served before.
+-- If an event is no damage, and leaves the sight of each node that it touches, the network serves
+-- after it exactly if it served before.
 abbrev pub SightsDecide : Type 0
 SightsDecide =
     (w : World) (e : Event) → is_damage w e ≡ false

@@ -26,7 +26,7 @@ use std::alloc::{AllocError, Allocator, Global};
 use std::marker::Model;
 use topology::Net;
 
-/// The desk's refusal, as an event's.
+/// The event's refusal for a refusal of the desk.
 fn desk_fault(fault: AskFault) -> EventFault
     ensures { desk_fault (Some fault) ≡ Some result }
 {
@@ -36,7 +36,7 @@ fn desk_fault(fault: AskFault) -> EventFault
     }
 }
 
-/// What a tick did that was full, or was not.
+/// What a tick did, by whether it was full.
 fn tick_of(node: u16, full: bool) -> Happened
     ensures { result ≡ (if full then FullTick node else LendingTick node) }
 {
@@ -65,13 +65,13 @@ impl<A: Allocator + Copy> Model for Configuration<A> {
     ghost invariant = { λ w. AreNodesOf w.links.net w.nodes.items };
 }
 
-/// A node for each id, as it starts.
+/// A fresh node for each id.
 fn new_nodes<A: Allocator + Copy, N: Allocator + Copy>(
     alloc: A,
     net: &Net<N>,
 ) -> Result<Vec<Node<A>, A>, AllocError>
     ensures nodes { IfOk result (λ nodes. AreNodesOf net.now nodes.items) }
-    // Each is as a node starts.
+    // Each has the state of a fresh node.
     ensures states { IfOk result (λ nodes. states_of net.now nodes.items
         ≡ λ v. default_node (ranges_of net.now)) }
 {
@@ -83,16 +83,15 @@ fn new_nodes<A: Allocator + Copy, N: Allocator + Copy>(
 }
 
 impl<A: Allocator + Copy> Configuration<A> {
-    /// Every node as it starts, and nothing under way; no links are spare. It keeps a copy of the
-    /// network, and reserves all memory that any step needs.
+    /// Fresh nodes, nothing under way, and no spare links. It keeps a copy of the network, and
+    /// reserves all memory that any step needs.
     pub fn new<N: Allocator + Copy>(alloc: A, net: &Net<N>) -> Result<Configuration<A>, AllocError>
         ensures { IfOk result (λ configuration. world_of configuration ≡ default_world net.now) }
     {
         Configuration::with_spares(alloc, net, 0)
     }
 
-    /// The same, with `pairs` spare pairs of links, at most 256: each is for one edge more than
-    /// there are.
+    /// The same, with `pairs` spare pairs of links, at most 256: each for one more edge.
     pub fn with_spares<N: Allocator + Copy>(
         alloc: A,
         net: &Net<N>,
@@ -107,7 +106,7 @@ impl<A: Allocator + Copy> Configuration<A> {
         Ok(Configuration { nodes, links })
     }
 
-    /// The nodes by their ids, and the links, which keep the network. No memory is taken.
+    /// The nodes by their ids, and the links, which keep the network. Takes no memory.
     pub fn into_parts(self) -> (Vec<Node<A>, A>, Links<A>)
         ensures nodes { result.0.items ≡ self.nodes }
         ensures links { result.1 ≡ self.links }
@@ -117,8 +116,8 @@ impl<A: Allocator + Copy> Configuration<A> {
         (self.nodes, self.links)
     }
 
-    /// The configuration of these nodes and links. There must be a node for each id of the links'
-    /// network, at its place. No memory is taken.
+    /// The configuration of these nodes and links. Each id of the links' network must have its
+    /// node, at its place. Takes no memory.
     pub fn from_parts(nodes: Vec<Node<A>, A>, links: Links<A>) -> Configuration<A>
         requires { AreNodesOf links.net nodes.items }
         ensures { result ≡ record { nodes = nodes.items; links = links } }
@@ -144,7 +143,7 @@ impl<A: Allocator + Copy> Configuration<A> {
     }
 
     /// Every configuration is in range: each field of a node, and what is under way on each link.
-    /// It looks at each node once, and changes nothing.
+    /// Looks at each node once, and changes nothing.
     pub fn assure_ranges(&self)
         ensures { IsWorldInRange (world_of self.now) }
     {
@@ -192,7 +191,7 @@ impl<A: Allocator + Copy> Configuration<A> {
         count
     }
 
-    /// Refuses what is no node.
+    /// Refuses an id without a node.
     #[inline(always)]
     fn find_node(&self, v: u16) -> Result<usize, EventFault>
         ensures ok { IfOk result (λ place. (place ≡ v) × (v < (world_of self.now).net.nodes)
@@ -206,7 +205,7 @@ impl<A: Allocator + Copy> Configuration<A> {
         }
     }
 
-    /// Refuses what are no two nodes.
+    /// Refuses two ids unless both have nodes.
     #[inline(always)]
     fn find_nodes(&self, from: u16, to: u16) -> Result<(), EventFault>
         ensures ok { OnOk result ((from < (world_of self.now).net.nodes)
@@ -222,7 +221,7 @@ impl<A: Allocator + Copy> Configuration<A> {
         }
     }
 
-    /// Refuses what are no two neighbours.
+    /// Refuses two ids unless they are neighbours.
     #[inline(always)]
     fn find_link(&self, from: u16, to: u16) -> Result<(), EventFault>
         ensures ok { OnOk result ((from < (world_of self.now).net.nodes)
@@ -303,7 +302,7 @@ impl<A: Allocator + Copy> Configuration<A> {
         Ok(Happened::Other)
     }
 
-    /// A client gives the lock back to a node, or waits no longer.
+    /// A client releases the lock at a node, or waits no longer.
     #[inline(never)]
     fn leave(&mut self, node: u16, ticket: u16) -> Result<Happened, EventFault>
         ensures { Answers self.old (Leave node ticket) self.new result }
@@ -315,16 +314,16 @@ impl<A: Allocator + Copy> Configuration<A> {
         Ok(Happened::Other)
     }
 
-    /// One event happens, and what it did is answered. Refused for the first cause that holds, in
-    /// the order of `EventFault`; then nothing has changed.
+    /// Lets one event happen, and returns what it did. It is refused for the first cause that
+    /// holds, in the order of `EventFault`; then nothing has changed.
     ///
     /// No step takes memory, looks through the network, or copies a state.
     #[inline(always)]
     pub fn step(&mut self, event: &Event) -> Result<Happened, EventFault>
         ensures { Answers self.old event.now self.new result }
     {
-        // An answer that a call hands on whole is kept in memory for every event; taken apart and
-        // made again it is not.
+        // A result that is passed on whole goes through memory for every event; one taken apart
+        // and made again does not.
         match *event {
             Event::Send { from, to } => self.send(from, to),
             Event::Take { from, to } => self.take(from, to),

@@ -1,8 +1,8 @@
-//! What holds of networks that serve: each law is the contract of a function that does nothing.
+//! What holds for networks that serve: each law is the contract of a function that does nothing.
 ghost use Rattle.configuration.specs.Sight.{SightsDecide};
 
-/// An event that is no damage, and leaves what it touches as it was to see, leaves the network
-/// serving, or not serving. Whoever follows a run looks at one node an event by this, and at the
+/// An event that is no damage, and leaves the sight of what it touches, does not change whether
+/// the network serves. So along a run it is enough to look at one node for each event, and at the
 /// whole network only if that node's sight has changed.
 pub fn sights()
     ensures { SightsDecide }

@@ -9,19 +9,19 @@
 //! configuration.step(&Event::Tick { node: 0 })?;      // refused, as NoNode is, it changes nothing
 //! ```
 //!
-//! Its contracts speak of the run's model: read as functions of the nodes' ids, the nodes and links
-//! are a world, and a step of the one is a step of the other.
+//! Its contracts use the run's model: as functions of the nodes' ids, the nodes and links are a
+//! world, and a step here is a step there.
 //!
-//! Its [`Links`] are a link each way for each edge, and spare pairs of links, each for one edge
-//! more. [`Links::with_spares`] reserves all memory: items are put, taken and lost, and edges `join`
-//! and `part`, without any more. A [`PairTable`] has a number for each node and each other: where
-//! something of the two stands.
+//! Its [`Links`] are a link each way for each edge, and spare pairs of links, each for one more
+//! edge. [`Links::with_spares`] reserves all memory: putting, taking and losing items, and `join`
+//! and `part` of edges, need no more. A [`PairTable`] has a number for each pair of nodes: the
+//! place of something that belongs to the two.
 //!
-//! From whatever state, a network serves after as many sweeps as its bound says, and from then on.
-//! [`serves`] says of one moment whether it does, exactly as the headline says it. Whoever asks
-//! after each event of a run keeps the answer: [`serves_after`] looks at the one node that the event
-//! touched, by [`touched_sight`] before it and after it, and at the whole network only if that node
-//! looks different from before.
+//! From any state, a network serves after as many sweeps as its bound says, and from then on.
+//! [`serves`] says whether it does at one moment, exactly as the headline says it. To ask after
+//! each event of a run, keep the answer: [`serves_after`] looks only at the node that the event
+//! touched, by [`touched_sight`] before and after it, and at the whole network only if that node
+//! looks different.
 //!
 //! ```
 //! let before = touched_sight(&configuration, &event);
@@ -30,8 +30,7 @@
 //! ```
 //!
 //! The traps: a send on a full link is no refusal; the frame is lost, and the step is `Ok`. A
-//! network that serves now may do so by chance, and not at the next moment: only a legitimate one
-//! goes on serving.
+//! network may serve by chance, and not at the next moment: only a legitimate one keeps serving.
 #![tactic(auto)]
 
 mod configuration;

@@ -22,8 +22,8 @@ use std::marker::Model;
 use topology::{Net, NetFault};
 
 /// The links of a network: one each way for each edge, close together, after one without places
-/// that stands for every two nodes that no edge joins. Beside them there are spare pairs of links,
-/// each for one edge more.
+/// that stands for all pairs without an edge. There are also spare pairs of links, each for one
+/// more edge.
 #[derive(Drop)]
 pub struct Links<A: Allocator + Copy = Global> {
     net: Net<A>,
@@ -62,17 +62,17 @@ fn link_count<A: Allocator + Copy>(net: &Net<A>, pairs: u16) -> u16
     2 * (net.edges().len() as u16 + pairs)
 }
 
-/// Empty links, after one without places, and their places: each of them is spare. There is room
-/// for the places of all.
+/// Empty links, after one without places, and their places, all of them spare. There is room for
+/// the places of all.
 fn stock<A: Allocator + Copy>(
     alloc: A,
     capacity: usize,
     count: u16,
 ) -> Result<(Vec<Link<A>, A>, Vec<u16, A>), AllocError>
     requires few { count < 65535 }
-    // Every link is empty and spare, but for the one of the place 0.
+    // Every link is empty and spare, except the one at place 0.
     ensures stocked { IfOk result (λ made. AreStocked capacity count made.0.items made.1.items) }
-    // No place that is given back takes memory.
+    // Giving a place back takes no memory.
     ensures room { IfOk result (λ made. count + 1 ≤ vec_capacity made.1) }
 {
     let mut links = Vec::new(alloc);
@@ -103,7 +103,7 @@ fn lay<A: Allocator>(places: &mut PairTable<A>, spares: &mut Vec<u16, A>, from: 
     }
 }
 
-/// The link from one node to another is spare again.
+/// Makes the link from one node to another spare again.
 fn give_back<A: Allocator>(places: &mut PairTable<A>, spares: &mut Vec<u16, A>, from: u16, to: u16)
     requires from_in { from < places.old.nodes }
     requires to_in { to < places.old.nodes }
@@ -118,7 +118,7 @@ fn give_back<A: Allocator>(places: &mut PairTable<A>, spares: &mut Vec<u16, A>, 
     places.set(from, to, 0);
 }
 
-/// Where each link of a network stands, if there are spare ones enough.
+/// The place of each link of a network, if there are enough spare ones.
 fn lay_all<A: Allocator + Copy, N: Allocator + Copy>(
     alloc: A,
     net: &Net<N>,
@@ -126,7 +126,7 @@ fn lay_all<A: Allocator + Copy, N: Allocator + Copy>(
 ) -> Result<PairTable<A>, AllocError>
     requires enough { 2 * length net.now.edges ≤ length spares.old.items }
     ensures network { IsAcceptedNetwork net.now }
-    // Each link of an edge has a place of its own, whatever links are in stock.
+    // Each link of an edge has its own place, for any links in stock.
     ensures laid { IfOk result (λ places. (links : List LinkView)
         → AreStocked net.now.capacity (length spares.old.items) links spares.old.items
         → ArePlaced net.now (are_joined net.now.edges) places links spares.new.items) }
@@ -143,8 +143,8 @@ fn lay_all<A: Allocator + Copy, N: Allocator + Copy>(
 }
 
 impl<A: Allocator + Copy> Links<A> {
-    /// Empty links of a network, of which a copy is kept, and `pairs` spare pairs of links besides.
-    /// All places are reserved here.
+    /// Empty links of a network, which is copied, and `pairs` spare pairs of links. Reserves all
+    /// places.
     pub fn with_spares<N: Allocator + Copy>(
         alloc: A,
         net: &Net<N>,
@@ -171,7 +171,7 @@ impl<A: Allocator + Copy> Links<A> {
     /// The network.
     pub fn net(&self) -> &Net<A>
         ensures net { result.now ≡ self.now.net }
-        // All that holds of links: places of their own, capacities, items in range.
+        // All that holds for links: places of their own, capacities, items in range.
         ensures links { IsLinks self.now }
     {
         &self.net
@@ -184,7 +184,7 @@ impl<A: Allocator + Copy> Links<A> {
         self.spares.len() / 2
     }
 
-    /// Where the link from one node to another stands.
+    /// The place of the link from one node to another.
     fn place(&self, from: u16, to: u16) -> usize
         requires from_in { from < self.now.net.nodes }
         requires to_in { to < self.now.net.nodes }
@@ -204,7 +204,7 @@ impl<A: Allocator + Copy> Links<A> {
         self.links[place].capacity() != 0
     }
 
-    /// Puts an item last on a link; on a full link it is lost.
+    /// Puts an item at the end of a link; on a full link it is lost.
     pub fn put(&mut self, from: u16, to: u16, item: Item)
         requires from_in { from < self.old.net.nodes }
         requires to_in { to < self.old.net.nodes }
@@ -291,14 +291,14 @@ impl<A: Allocator + Copy> Links<A> {
         self.links[place].clear();
     }
 
-    /// An edge joins two nodes, with two empty links, those of a spare pair. No memory is taken.
+    /// Joins two nodes by an edge, with the two empty links of a spare pair. Takes no memory.
     pub fn join(&mut self, u: u16, v: u16)
-        // Two nodes that no edge joins, and fewer edges than a network has at most.
+        // No edge joins the two nodes, and there are fewer edges than a network may have.
         requires allowed { join_fault self.old.net u v ≡ None }
         requires spare { 0 < spare_pairs self.old }
         ensures net { self.new.net ≡ joined_net self.old.net u v }
         ensures spares { spare_pairs self.new ≡ spare_pairs self.old - 1 }
-        // Nothing is under way on the two links, and no other changes.
+        // Nothing is under way on the two links, and no other link changes.
         ensures empty { under_way self.new
             ≡ at_pair (at_pair (under_way self.old) u v []) v u [] }
     {
@@ -308,20 +308,20 @@ impl<A: Allocator + Copy> Links<A> {
         lay(&mut self.places, &mut self.spares, v, u);
     }
 
-    /// The edge between two nodes goes, with what is under way on its links, which are a spare pair
-    /// then. No memory is taken.
+    /// Removes the edge between two nodes, with what is under way on its links; these become a
+    /// spare pair. Takes no memory.
     ///
     /// # Errors
-    /// `Apart` if the other edges do not hold the nodes together, and then nothing has changed.
+    /// `Apart` if the other edges do not connect the nodes; then nothing has changed.
     pub fn part(&mut self, u: u16, v: u16) -> Result<(), NetFault>
         requires from_in { u < self.old.net.nodes }
         requires to_in { v < self.old.net.nodes }
         requires joined { IsTrue (are_joined self.old.net.edges u v) }
-        // The edge goes exactly if the others hold the nodes together.
+        // The edge goes exactly if the others connect the nodes.
         ensures allowed { IsOk result ↔ IsTrue (is_connected (parted_net self.old.net u v)) }
         ensures net { OnOk result (self.new.net ≡ parted_net self.old.net u v) }
         ensures spares { OnOk result (spare_pairs self.new ≡ spare_pairs self.old + 1) }
-        // What was under way on the two links is gone, and no other changes.
+        // What was under way on the two links is gone, and no other link changes.
         ensures empty { OnOk result (under_way self.new
             ≡ at_pair (at_pair (under_way self.old) u v []) v u []) }
         ensures apart { IfErr result (λ fault. fault ≡ Apart) }

@@ -6,8 +6,7 @@ ghost use Rattle.configuration.specs.PairTable.{place_of, value_at};
 use std::alloc::{AllocError, Allocator, Global};
 use std::marker::Model;
 
-/// A table with a number for each node and each other: where something of the two stands in a dense
-/// list.
+/// A table with a number for each pair of nodes: a place in a dense list.
 #[derive(Drop)]
 pub struct PairTable<A: Allocator = Global> {
     nodes: u16,
@@ -34,7 +33,7 @@ fn write_zeros<A: Allocator>(values: &mut Vec<u16, A>)
 }
 
 impl<A: Allocator + Copy> PairTable<A> {
-    /// A table for a number of nodes, with 0 for each two. All memory is reserved here.
+    /// A table for this many nodes, with 0 for each pair. Reserves all memory.
     pub fn new(alloc: A, nodes: u16) -> Result<PairTable<A>, AllocError>
         ensures nodes { IfOk result (λ table. table.nodes ≡ nodes) }
         ensures zeros { IfOk result (λ table. (u v : ℕ) → value_at table u v ≡ 0) }
@@ -55,7 +54,7 @@ impl<A: Allocator> PairTable<A> {
         self.nodes
     }
 
-    /// Where the number of two nodes stands.
+    /// The place of the number of two nodes.
     fn place(&self, first: u16, second: u16) -> usize
         requires first { first < self.now.nodes }
         requires second { second < self.now.nodes }
@@ -79,7 +78,7 @@ impl<A: Allocator> PairTable<A> {
         requires first { first < self.old.nodes }
         requires second { second < self.old.nodes }
         ensures nodes { self.new.nodes ≡ self.old.nodes }
-        // No other pair has another number.
+        // No other pair's number changes.
         ensures values { (u v : ℕ) → v < self.old.nodes
             → value_at self.new u v ≡ at_pair (value_at self.old) first second value u v }
     {
@@ -87,7 +86,7 @@ impl<A: Allocator> PairTable<A> {
         self.values[place] = value;
     }
 
-    /// Every two nodes have the number 0 again.
+    /// Sets all numbers to 0.
     pub fn clear(&mut self)
         ensures nodes { self.new.nodes ≡ self.old.nodes }
         ensures zeros { (u v : ℕ) → value_at self.new u v ≡ 0 }

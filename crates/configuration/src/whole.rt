@@ -9,13 +9,13 @@ use crate::configuration::Configuration;
 use std::alloc::Allocator;
 
 /// Whether each node has its distance and its true parent, at most one node is privileged, and at
-/// most one lends. It looks at the nodes alone, at no link, and takes no memory.
+/// most one lends. Looks only at nodes, at no link, and takes no memory.
 pub fn serves<A: Allocator + Copy>(configuration: &Configuration<A>) -> bool
     ensures { IsTrue result ↔ IsServing (world_of configuration.now) }
 {
     topology::laws::tree();
     configuration.assure_ranges();
-    // To count the nodes costs less than to look for their parents.
+    // Counting the nodes costs less than looking for their parents.
     has_few(configuration) && shows_tree(configuration)
 }
 

@@ -1,4 +1,4 @@
--- A stretch that begins: the tallies of one edge's links after the other's.
+-- How a stretch begins: the tallies of the links, edge by edge.
 use Rattle.std.proofs.Common.{◌≡◌, ◌∙◌, sym, ap, subst, ℕ, ◌+◌, ◌<◌, Bool, true, false, ◌==◌, ◌&&◌, ◌||◌, nat_lt, if◌then◌else◌, IsTrue, List, [], take, length, get_or, refl, arith}
 use Rattle.std.proofs.lemmas.Bool.{false≢true}
 use Rattle.std.proofs.lemmas.Grind.{common_steps}
@@ -10,7 +10,7 @@ use Rattle.judge.specs.Tallies.{has_place, tally_of, first_tally}
 use Rattle.judge.specs.Stretch.{StretchView, IsRoomFor, has_bit, IsKept}
 use Rattle.judge.specs.Below.{Below}
 
--- the links of these edges are begun, and what is no link lacks nothing
+-- the tallies of these edges are begun, and pairs without a link lack nothing
 pub record AreBegun (w : World) (edges : List Edge) (s : StretchView) : Type 0 where
   pub room : IsRoomFor w.net s
   pub lacking : (v : ℕ) → has_bit s.lacking v ≡ nat_lt v w.net.nodes
@@ -27,7 +27,7 @@ joins-back edges i there =
     let e = get_or edges i (0, 0) in
     list_any_at (is_between e.1 e.0) edges i (0, 0) there (grind (arith, common_steps))
 
--- if there is room for a network both links of each edge have a place
+-- if there is room for a network, both links of each edge have a place
 module _ (net : Network) (edges : List Edge) (same : edges ≡ net.edges) (i : ℕ) (there : i < length edges) (s : StretchView) (room : IsRoomFor net s) where
   pub placed-out : IsTrue (has_place s.tallies.table (get_or edges i (0, 0)).0 (get_or edges i (0, 0)).1)
   placed-out = room.placed _ _ (subst (λ es. IsTrue (are_joined es (get_or edges i (0, 0)).0 (get_or edges i (0, 0)).1)) same (joins-ends edges i there))
@@ -57,7 +57,7 @@ chosen true before first old is any = refl
 chosen false true first old is any = is refl
 chosen false false first old is any = absurd (false≢true any)
 
--- one edge more
+-- one more edge
 module _ (w : World) (edges : List Edge) (same : edges ≡ w.net.edges) (i : ℕ) (there : i < length edges) (s one new : StretchView) where
   abbrev e : Edge
   e = get_or edges i (0, 0)

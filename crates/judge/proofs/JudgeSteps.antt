@@ -1,4 +1,4 @@
--- A judge's step, on each of its ways.
+-- A judge's step, case by case.
 use Rattle.std.proofs.Common.{◌≡◌, ◌∙◌, sym, ap, subst, ℕ, ◌+◌, ◌-◌, ◌^◌, ◌<◌, ◌≤◌, min, Bool, true, false, ◌&&◌, not, nat_lt, if◌then◌else◌, is_none, length, Option, IsTrue, Some, None, List, [], ◌∷◌, ◌++◌, arith, refl}
 use Rattle.std.proofs.lemmas.Grind.{common_steps}
 use Rattle.topology.specs.Network.{Network, are_joined}
@@ -24,14 +24,14 @@ use Rattle.judge.specs.Below.{Below}
 use Rattle.judge.proofs.Kept.{IsNoted, noted, still-renewed}
 use Rattle.judge.proofs.Judging.{judging-refused, judging-goes_on, judging-sweeps, judging-damage, judging-counts, sweep-counted}
 
--- the stretch with its looks counted from 0 again
+-- the stretch with its count of looks at 0 again
 abbrev pub cleared : StretchView → StretchView
 cleared s = record s { tallies = record s.tallies { looked = 0 } }
 
 kept-cleared : (w : World) (es : List Event) (s : StretchView) → IsKept w es s → IsKept w es (cleared s)
 kept-cleared w es s kept = record { nodes = kept.nodes; lacking = kept.lacking; old = kept.old; renewed = kept.renewed; apart = kept.apart }
 
--- nor does any other count of looks change what was judged
+-- no count of looks changes what was judged
 judging-looked : (start : World) (es : List Event) (now : World) (s : StretchView) (looked sweeps refused : ℕ) → IsJudging start es now s sweeps refused
     → IsJudging start es now (with_looks s looked) sweeps refused
 judging-looked start es now s looked sweeps refused j = record {
@@ -83,7 +83,7 @@ room-noted net did s new room table tallies = record {
       ap (λ t. t.renewed) (tallies u v (subst (λ n. v < n) (sym room.nodes) vn)) ∙ still-renewed did u v (tally_of s.tallies u v) (room.apart u v un vn none);
 }
 
--- what an event does that is not refused names nodes
+-- what an accepted event does names only nodes
 tick-names : (b : Bool) (n v : ℕ) → IsTrue (nat_lt v n) → IsTrue (names_below n (if b then FullTick v else LendingTick v))
 tick-names true n v there = there
 tick-names false n v there = there
@@ -111,14 +111,14 @@ names w (Ask v t) fits = refl
 names w (Leave v t) fits = refl
 names w (Damage h) fits = refl
 
--- after it there are as many nodes
+-- after it there are as many nodes as before
 pub names-behind : Below → (now next : World) (e : Event) (did : Happened) → next ≡ step now e → did ≡ happened now e → refusal now e ≡ None
     → IsTrue (names_below next.net.nodes did)
 names-behind laws now next e did is_next is fits =
     let same : next.net.nodes ≡ now.net.nodes = ap (λ w. w.net.nodes) is_next ∙ (laws.frame now (e ∷ [])).nodes in
     subst (λ n. IsTrue (names_below n did)) (sym same) (subst (λ d. IsTrue (names_below now.net.nodes d)) (sym is) (names now e fits))
 
--- what an event takes or loses goes from a link that has a place
+-- an event takes or loses an item only from a link that has a place
 tick-placed : (b : Bool) (table : PairTableView) (v : ℕ) → IsTrue (names_place table (if b then FullTick v else LendingTick v))
 tick-placed true table v = refl
 tick-placed false table v = refl
@@ -144,7 +144,8 @@ placed w (Damage h) table all fits = refl
 pub undamaged-one : (w : World) (e : Event) → is_damage w e ≡ false → IsUndamaged w (e ∷ [])
 undamaged-one w e none = rw none refl
 
--- room for a network is room for it after an event without damage, whose take or loss was noted
+-- room for a network is still room for it after an event without damage whose take or loss was
+-- noted
 pub room-behind : Below → (now next : World) (e : Event) (did : Happened) (s before new : StretchView) → next ≡ step now e → is_damage now e ≡ false
     → before ≡ cleared s → IsRoomFor now.net s → new.tallies.table ≡ before.tallies.table
     → ((u v : ℕ) → v < before.tallies.table.nodes → tally_of new.tallies u v ≡ tally_behind u v did (tally_of before.tallies u v)) → IsRoomFor next.net new
@@ -152,7 +153,7 @@ room-behind laws now next e did s before new is_next calm is_before room table t
     let same : now.net ≡ next.net = sym (ap (λ w. w.net) is_next ∙ laws.network now (e ∷ []) (undamaged-one now e calm)) in
     subst (λ net. IsRoomFor net new) same (room-noted now.net did before new (room-cleared now.net s before is_before room) table tallies)
 
--- room that no tally takes is room for every network of as many nodes whose links have places
+-- unused room is room for every network of as many nodes whose links have places
 pub room-empty : (net : Network) (s : StretchView) → s.tallies.table.nodes ≡ net.nodes
     → ((u v : ℕ) → IsTrue (are_joined net.edges u v) → IsTrue (has_place s.tallies.table u v)) → ((u v : ℕ) → tally_of s.tallies u v ≡ no_tally) → IsRoomFor net s
 room-empty net s nodes placed empty = record { nodes = nodes; placed = placed; apart = λ u v un vn none. ap (λ t. t.renewed) (empty u v) }

@@ -1,5 +1,5 @@
--- What is to hold of a judge goes on with each event: one that is refused, damage, one that
--- completes a sweep, and any other.
+-- A judge's invariant survives each event: one that is refused, damage, one that completes a
+-- sweep, and any other.
 use Rattle.std.proofs.Common.{◌≡◌, ◌∙◌, sym, ap, subst, ℕ, ◌+◌, ◌-◌, ◌^◌, min, true, false, IsTrue, is_some, if◌then◌else◌, suc, List, [], ◌∷◌, ◌++◌, append_assoc, arith, refl}
 use Rattle.std.proofs.lemmas.Grind.{common_steps}
 use Rattle.std.proofs.lemmas.List.{append-nil}
@@ -51,7 +51,7 @@ module _ (laws : Below) (start : World) (es : List Event) (e : Event) (now : Wor
       ∙ (laws.leads start es j.in_range).2
       ∙ sym j.now_is
 
-  -- the two that are joined now were joined when the stretch began
+  -- two nodes that are joined now were joined when the stretch began
   pub joined-then : (u v : ℕ) → IsTrue (are_joined now.net.edges u v) → IsTrue (are_joined begun.net.edges u v)
   joined-then u v joined = subst (λ net. IsTrue (are_joined net.edges u v)) (sym (ap (λ w. w.net) led) ∙ laws.network begun j.stretch stretch-fine) joined
 
@@ -73,7 +73,7 @@ module _ (laws : Below) (start : World) (es : List Event) (e : Event) (now : Wor
       let before = j.refused_are in
       omega (arith, more, before)
 
-  -- what is to hold, from the moment after the last damage
+  -- the invariant, from the moment after the last damage
   from : (m : Moment) → after_damage start (es ++ e ∷ []) ≡ m → (count : ℕ) (done stretch : List Event) (new : StretchView) (sweeps' refused' : ℕ)
       → m.rest ≡ done ++ stretch → IsCounted m.world done stretch count → IsKept (run m.world done) stretch new → sweeps' ≡ counted_up_to count
       → refused' ≡ counted_up_to (refused_in start (es ++ e ∷ [])) → IsJudging start (es ++ e ∷ []) (step now e) new sweeps' refused'
@@ -115,7 +115,7 @@ module _ (laws : Below) (start : World) (es : List Event) (e : Event) (now : Wor
       (λ sweep. no-sweep (complete-sweep laws begun j.stretch s begun-in_range j.kept stretch-fine (sweep-complete laws begun (j.stretch ++ e ∷ []) s begun-in_range kept sweep)))
       (sym (refused-more 1 (rw refusing refl)))
 
-  -- what is noted of an event that is no damage
+  -- what is noted for an event that is no damage
   noted-kept : (new : StretchView) → IsNoted now e s new → IsKept begun (j.stretch ++ e ∷ []) new
   noted-kept new noted = kept-noted laws begun j.stretch e begun-in_range stretch-fine s j.kept new (subst (λ w. IsNoted w e s new) (sym led) noted)
 
@@ -136,7 +136,7 @@ module _ (laws : Below) (start : World) (es : List Event) (e : Event) (now : Wor
       (laws.rises moment.world j.count j.done j.stretch e in-range j.counted sweep)
       (subst (λ w. IsKept w [] fresh) (sym there) kept) (let b = j.sweeps_are in omega (arith, b)) (not-refused fits)
 
-  -- with the event the sweep count is one more
+  -- with the event the sweep count rises by one
   pub sweep-counted : (new : StretchView) → is_damage now e ≡ false → IsNoted now e s new → IsComplete new → IsSweepCount start (es ++ e ∷ []) (j.count + 1)
   sweep-counted new none noted complete =
       let sweep = complete-sweep laws begun (j.stretch ++ e ∷ []) new begun-in_range (noted-kept new noted) (stretch-fine_on none) complete in
@@ -172,7 +172,7 @@ judging-starts laws w s ok kept = record {
   refused_are = refl;
 }
 
--- what is counted is the sweep count
+-- the count is the sweep count
 pub judging-counts : Below → (start : World) (es : List Event) (now : World) (s : StretchView) (sweeps refused : ℕ) (j : IsJudging start es now s sweeps refused)
     → IsSweepCount start es j.count
 judging-counts laws start es now s sweeps refused j =

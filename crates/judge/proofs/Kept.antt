@@ -1,4 +1,4 @@
--- What is kept of a stretch says when it is a sweep, and goes on with each event.
+-- What is kept of a stretch shows when it is a sweep, and stays right with each event.
 use Rattle.std.proofs.Common.{◌≡◌, ◌∙◌, sym, ap, subst, ℕ, ◌<◌, ◌≤◌, ◌⊎◌, inl, inr, Bool, true, false, not, ◌&&◌, ◌||◌, nat_lt, ◌==◌, suc, if◌then◌else◌, is_none, IsTrue, is_some, List, [], ◌∷◌, ◌++◌, length, arith, refl}
 use Rattle.std.proofs.lemmas.Grind.{common_steps}
 use Rattle.topology.specs.Network.{are_joined}
@@ -54,7 +54,7 @@ module _ (laws : Below) (w : World) (es : List Event) (s : StretchView) (ok : Is
 
 -- ---- one more event
 
--- what one more event makes of what is kept, if it is not refused and no damage
+-- what is kept after one more event that is accepted and no damage
 pub record IsNoted (now : World) (e : Event) (s new : StretchView) : Type 0 where
   pub nodes : new.tallies.table.nodes ≡ s.tallies.table.nodes
   pub lacking : (v : ℕ) → has_bit new.lacking v ≡ (has_bit s.lacking v && not (is_full_tick now e v))
@@ -89,7 +89,7 @@ module _ (laws : Below) (w : World) (es : List Event) (e : Event) (ok : IsWorldI
       in-places : (u v : ℕ) → IsTrue (are_joined w.net.edges u v) → v < s.tallies.table.nodes
       in-places u v joined = let ends = laws.joined_nodes w.net u v ok.network joined in let same = kept.nodes in omega (arith, ends.1, same)
 
-  -- a refused event takes nothing from a link, loses nothing of it, and is no full tick of a node
+  -- a refused event takes and loses nothing, and is no full tick
   refused-old : (u v : ℕ) → IsTrue (is_some (refusal (run w es) e)) → IsTrue (are_joined w.net.edges u v)
       → (old_after (link_act u v e) (old_items w es u v) ≡ old_items w es u v)
       × (takes_new (link_act u v e) (old_items w es u v) (length ((run w es).link u v)) ≡ false)
@@ -162,7 +162,7 @@ tick-after : (b : Bool) (a u v n : ℕ) (t : Tally) → tally_behind u v (if b t
 tick-after true a u v n t = rests-after n t
 tick-after false a u v n t = rests-after n t
 
--- a take of an empty link leaves its tally, in which nothing is old
+-- a take from an empty link leaves its tally, in which nothing is old
 empty-after : (t : Tally) → t.old ≤ 0 → t ≡ tally_after Takes 0 t
 empty-after t few = grind (arith, common_steps)
 

@@ -19,7 +19,7 @@ module _ (nodes : ℕ) (is_joined : ℕ → ℕ → Bool) (old new : PairTableVi
   value-is : (u v : ℕ) → v < nodes → value_at new u v ≡ at_pair (value_at old) a b next u v
   value-is u v vn = values u v (subst (λ n. v < n) (sym laid.nodes_are) vn)
 
-  -- a pair has the new place, or the one that it had
+  -- a pair has the new place, or its old one
   which : (u v : ℕ) → v < nodes → ((u ≡ a) × (v ≡ b) × (value_at new u v ≡ next)) ⊎ (value_at new u v ≡ value_at old u v)
   which u v vn = let is = value-is u v vn in grind (arith, common_steps, is)
 
@@ -90,7 +90,7 @@ laid-none nodes table same zeros = record {
   placed = λ u v vn joined. absurd cc;
 }
 
--- there is a tally for each place, and none of them lacks anything
+-- there is a tally for each place, and none lacks anything
 pub laid-tallied : (nodes : ℕ) (is_joined : ℕ → ℕ → Bool) (table : PairTableView) (next count : ℕ) (places : List Tally) → IsLaid nodes is_joined table next → next ≤ count
     → count ≡ most_tallies → places ≡ replicate count no_tally → IsTallied table places 0
 laid-tallied nodes is_joined table next count places laid few most is =
@@ -103,6 +103,6 @@ laid-tallied nodes is_joined table next count places laid few most is =
       few = sym (ap unrenewed_in is ∙ none-unrenewed count);
     }
 
--- as many places as a network's edges need
+-- no more places than there are for a network's edges
 pub few-places : (net : Network) → IsAcceptedNetwork net → 2 * length net.edges + 1 ≤ most_tallies
 few-places net ok = let few = ok.limits.few_edges in omega (arith, few)

@@ -30,7 +30,7 @@ high-bit mask v fits l =
     let below : mask < 2 ^ v = elim order [ inl same ↦ subst (λ k. mask < 2 ^ k) same fits | inr more ↦ (let p : 2 ^ 64 < 2 ^ v = pow-lt more in omega (arith, fits, p)) ] in
     rw (div-eq_of_lt {n = mask} {m = 2 ^ v} below) refl
 
--- one bit is cleared
+-- clearing one bit
 pub without-bit : (mask node v : ℕ) → mask < 2 ^ 64 → node < 64
     → has_bit (bit_and mask (bit_not w64 (1 * 2 ^ node % 2 ^ 64))) v ≡ (has_bit mask v && not (v == node))
 without-bit mask node v fits within =
@@ -55,7 +55,7 @@ without-bit mask node v fits within =
     kept-bit : (n : ℕ) → bit_at n v ≡ bit_at mask v → (v == node) ≡ false → has_bit n v ≡ (has_bit mask v && not (v == node))
     kept-bit n same e = grind (arith, common_steps, same, e)
 
--- one bit is set
+-- setting one bit
 pub with-bit : (mask node v : ℕ) → node < 64 → has_bit (bit_or mask (1 * 2 ^ node % 2 ^ 64)) v ≡ (has_bit mask v || v == node)
 with-bit mask node v within =
     let cases : (v ≡ node) ⊎ (v ≢ node) = grind arith in

@@ -1,4 +1,4 @@
--- Which events of a list are counted as refused.
+-- Which events of a list count as refused.
 use Rattle.std.proofs.Common.{◌≡◌, ◌+◌, ◌-◌, ◌^◌, [], ◌∷◌, None, refl}
 use Rattle.configuration.specs.run_model.World.{World}
 use Rattle.configuration.specs.run_model.Start.{default_world}
@@ -12,25 +12,25 @@ start = default_world (record { nodes = 2; root = 0; capacity = 1; lease = 0; ed
 none-refused : refused_in start (Tick 0 ∷ Ask 0 5 ∷ Tick 0 ∷ Leave 0 5 ∷ []) ≡ 0
 none-refused = refl
 
--- no node, no item, and no ticket
+-- a missing node, a missing item, and a missing ticket
 three-refused : refused_in start (Tick 2 ∷ Tick 0 ∷ Lose 0 1 0 ∷ Send 0 1 ∷ Leave 0 5 ∷ []) ≡ 3
 three-refused = refl
 
--- an item may be lost once
+-- an item can be lost only once
 refused-then : refused_in start (Send 0 1 ∷ Lose 0 1 0 ∷ Lose 0 1 0 ∷ []) ≡ 1
 refused-then = refl
 
--- a send on a full link and a take of an empty one are refused by nobody
+-- a send on a full link and a take from an empty one are not refused
 neither-refused : refused_in start (Send 0 1 ∷ Send 0 1 ∷ Take 1 0 ∷ []) ≡ 0
 neither-refused = refl
 
--- a harm out of range is refused; and accepted damage begins no new count
+-- a harm out of range is refused; accepted damage does not restart this count
 across-damage : refused_in start (Tick 2 ∷ Damage (Own 0 3 None) ∷ Damage (Empty 0 1) ∷ Tick 2 ∷ []) ≡ 3
 across-damage = refl
 
 not_since_damage : ¬ (refused_in start (Tick 2 ∷ Damage (Empty 0 1) ∷ Tick 2 ∷ []) ≡ 1)
 not_since_damage one = absurd cc
 
--- the count stays at its greatest value
+-- the count stops at its greatest value
 greatest : counted_up_to (2 ^ 64 + 7) ≡ 2 ^ 64 - 1
 greatest = refl

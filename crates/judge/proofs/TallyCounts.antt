@@ -1,4 +1,4 @@
--- How many tallies are not renewed, as one is written.
+-- How many tallies are not renewed, when one is written.
 use Rattle.std.proofs.Common.{◌≡◌, ℕ, ◌+◌, ◌-◌, ◌<◌, ◌≤◌, ◌==◌, inl, inr, true, zero, suc, List, [], ◌∷◌, length, replicate, slice_set, slice_index_or, refl, ap, subst, arith}
 use Rattle.std.proofs.lemmas.List.{length-set}
 use Rattle.configuration.specs.PairTable.{value_at}
@@ -10,7 +10,7 @@ pub none-unrenewed : (n : ℕ) → unrenewed_in (replicate n no_tally) ≡ 0
 none-unrenewed zero = refl
 none-unrenewed (suc n) = omega (arith, none-unrenewed n)
 
--- a list of tallies that lack nothing lacks nothing at any place
+-- fresh tallies lack nothing at any place
 pub none-there : (n i : ℕ) → slice_index_or (replicate n no_tally) i no_tally ≡ no_tally
 none-there zero i = refl
 none-there (suc n) zero = refl
@@ -59,7 +59,7 @@ renewed-is_zero t n ok all = all-renewed t.places (λ i l. elim (ok.own i) [
 missing-few : (t : Tally) → missing t ≤ 1
 missing-few t = grind (arith, common_steps)
 
--- writing one: the number is in range, and stays right
+-- writing one keeps the number in range and right
 module _ (i n : ℕ) (ts : List Tally) (before : Tally) (few : n ≡ unrenewed_in ts) (within : i < length ts) (at_place : before ≡ slice_index_or ts i before) where
   pub before-counts : missing before ≤ n
   before-counts = let one : missing (slice_index_or ts i before) ≤ unrenewed_in ts = one-missing ts i before within in omega (arith, few, one, ap missing at_place)

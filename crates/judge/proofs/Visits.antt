@@ -1,4 +1,4 @@
--- The nodes that the privilege has visited, as events come.
+-- The nodes that the privilege has visited, event by event.
 use Rattle.std.proofs.Common.{◌≡◌, ◌∙◌, sym, ap, subst, ℕ, ◌+◌, Bool, true, false, ◌==◌, ◌&&◌, ◌||◌, nat_lt, if◌then◌else◌, IsTrue, is_none, is_some, None, List, [], ◌∷◌, ◌++◌, arith, refl}
 use Rattle.std.proofs.lemmas.Bool.{or_right}
 use Rattle.std.proofs.lemmas.Grind.{common_steps}
@@ -22,13 +22,14 @@ use Rattle.judge.specs.Visited.{AreVisited, ticked_or_took}
 use Rattle.judge.proofs.Judging.{damage-refused}
 use Rattle.judge.proofs.JudgeSteps.{names-behind, no-damage}
 
--- ---- whom an event may make privileged
+-- ---- which nodes an event may make privileged
 
--- what is written at one node is no other's
+-- a write to one node changes no other
 other-node : (w : World) (a v : ℕ) (s : LocalState) → (v == a) ≡ false → is_privileged (with_node w a s) v ≡ is_privileged w v
 other-node w a v s other = ap (λ b. is_node_privileged (site w v) (if b then s else w.node v)) other
 
--- nor do writes at its desk make a node privileged, or any that its machines do not see
+-- a write to its desk, or to anything that its machines do not see, does not make a node
+-- privileged
 unseen : (w : World) (a v : ℕ) (s : LocalState) → is_node_privileged (site w v) s ≡ is_node_privileged (site w v) (w.node a)
     → is_privileged (with_node w a s) v ≡ is_privileged w v
 unseen w a v s same = by-test (v == a) refl
@@ -62,7 +63,7 @@ changes-none w (Ask a t) v fine other = unseen w a v _ refl
 changes-none w (Leave a t) v fine other = unseen w a v _ refl
 changes-none w (Damage h) v fine other = absurd (fine refl)
 
--- Who has neither ticked nor taken is privileged as before.
+-- A node that has neither ticked nor taken is privileged exactly if it was before.
 unmoved : (w : World) (e : Event) (v : ℕ) → refusal w e ≡ None → ¬ (happened w e ≡ Damaged) → ticked_or_took v (happened w e) ≡ false
     → is_privileged (step w e) v ≡ is_privileged w v
 unmoved w e v fits fine other =
@@ -70,7 +71,7 @@ unmoved w e v fits fine other =
 
 -- ---- masks, bit by bit
 
--- one node more has been looked at, and is privileged, or is not
+-- one more node was looked at, and is privileged or not
 pub one-more : (here : ℕ → Bool) (mask new node : ℕ) → ((v : ℕ) → has_bit mask v ≡ (nat_lt v node && here v))
     → ((v : ℕ) → has_bit new v ≡ (has_bit mask v || v == node)) → here node ≡ true
     → (v : ℕ) → has_bit new v ≡ (nat_lt v (node + 1) && here v)
@@ -97,7 +98,7 @@ none-more here mask node before other v = by-test (v == node) refl
         grind (arith, common_steps, a, h)
     by-test false e = let a = before v in grind (arith, common_steps, a, e)
 
--- the bits of a mask are those of who was visited before and is still, or is now
+-- a mask has the bits of the nodes visited before or now
 old-bit : (bit inside old here next : Bool) → bit ≡ (inside && old) → (here ≡ true → old ≡ true) → next ≡ (old || here) → bit ≡ (inside && next)
 old-bit bit inside true here next a b c = rw c a
 old-bit bit inside false true next a b c = absurd (let wrong = b refl in cc)
@@ -107,7 +108,7 @@ new-bit : (bit mask inside moved old before here next : Bool) → bit ≡ (mask 
     → (moved ≡ true → inside ≡ true) → (moved ≡ false → here ≡ before) → (before ≡ true → old ≡ true) → bit ≡ (inside && next)
 new-bit bit mask inside moved old before here next a b c d e f = grind (arith, common_steps)
 
--- a node whose bit is there, or that is not privileged, adds none
+-- a node whose bit is set, or that is not privileged, adds none
 pub bit-there : (mask new node v : ℕ) (here : Bool) → ((v : ℕ) → has_bit new v ≡ (has_bit mask v || v == node)) → new ≡ mask
     → has_bit mask v ≡ (has_bit mask v || (v == node && here))
 bit-there mask new node v here with same = let a = with v in grind (arith, common_steps, a, same)
@@ -124,7 +125,7 @@ not-here here mask node v other = by-test (v == node) refl
 
 -- ---- one more event
 
--- who is privileged at the end of a run is so at some moment of it
+-- a node that is privileged at the end of a run is privileged at some moment of it
 once-end : (w : World) (es : List Event) (v : ℕ) → is_privileged (run w es) v ≡ true → is_privileged_once w es v ≡ true
 once-end w [] v here = here
 once-end w (e ∷ es) v here = or_right (is_privileged w v) (is_privileged_once (step w e) es v) (once-end (step w e) es v here)
@@ -144,7 +145,7 @@ module _ (laws : Below) (start : World) (es : List Event) (e : Event) (now next 
   as-many_next : (step now e).net.nodes ≡ start.net.nodes
   as-many_next = ap (λ w. (step w e).net.nodes) led ∙ ap (λ w. w.net.nodes) (sym (laws.joins start es (e ∷ []))) ∙ (laws.frame start (es ++ e ∷ [])).nodes
 
-  -- damage starts over with who is privileged right after it
+  -- damage starts over with the nodes that are privileged right after it
   pub visited-damage : (fresh : ℕ) → is_damage now e ≡ true
       → ((v : ℕ) → has_bit fresh v ≡ (nat_lt v next.net.nodes && is_privileged next v)) → AreVisited start (es ++ e ∷ []) fresh
   visited-damage fresh damage bits v =
@@ -164,7 +165,7 @@ module _ (laws : Below) (start : World) (es : List Event) (e : Event) (now next 
         (seen v) (visited-now v)
         (more (damage-refused now e refused) v ∙ ap (λ w. is_visited start es v || is_privileged w v) (laws.refused now e refused))
 
-    -- any other adds the node that ticked or took, if that is privileged
+    -- any other event adds the node that ticked or took, if it is privileged
     pub visited-goes_on : (new : ℕ) (did : Happened) → refusal now e ≡ None → did ≡ happened now e → ¬ (did ≡ Damaged)
         → ((v : ℕ) → has_bit new v ≡ (has_bit mask v || (ticked_or_took v did && is_privileged next v)))
         → AreVisited start (es ++ e ∷ []) new
@@ -185,6 +186,6 @@ module _ (laws : Below) (start : World) (es : List Event) (e : Event) (now next 
             subst (λ n. nat_lt v n ≡ true) (ap (λ w. w.net.nodes) is_next ∙ as-many_next)
             (named did next.net.nodes (names-behind laws now next e did is_next is fits) moved)
 
--- at the start those are visited that are privileged
+-- at the start the privileged nodes are visited
 pub visited-starts : (start : World) (mask : ℕ) → ((v : ℕ) → has_bit mask v ≡ (nat_lt v start.net.nodes && is_privileged start v)) → AreVisited start [] mask
 visited-starts start mask bits = bits

@@ -1,4 +1,4 @@
--- What the judge's crate knows of runs and networks: laws of the crates below.
+-- What this crate knows about runs and networks: laws of the crates below.
 use Rattle.topology.specs.Laws.{JoinedAreNodes, Limits}
 use Rattle.configuration.specs.run_model.Laws.{RefusedChangesNothing, NetworkStays, FrameStays, RunsJoin, UndamagedSplits, RangesStay, TicksGoOn, RenewedGoesOn, OldItemsStart, OldItemsGoOn, OldItemsAreThere, CountedIsGreatest, CountStarts, CountStays, CountRises, MomentLeads, MomentStays, MomentMoves, VisitsGoOn}
 

@@ -1,4 +1,4 @@
--- What a judge has counted of a run, and what is to hold of it.
+-- What a judge has counted along a run, and its invariant.
 use Rattle.std.specs.Prelude.{◌≡◌, ℕ, ◌+◌, ◌-◌, ◌^◌, min, if◌then◌else◌, is_some, List, [], ◌∷◌, ◌++◌}
 use Rattle.configuration.specs.run_model.World.{World, IsWorldInRange}
 use Rattle.configuration.specs.run_model.Step.{refusal, step}
@@ -13,13 +13,13 @@ abbrev pub refused_in : World → List Event → ℕ
 refused_in w [] = 0
 refused_in w (e ∷ es) = (if is_some (refusal w e) then 1 else 0) + refused_in (step w e) es
 
--- a count stays at the greatest value of a u64
+-- a count stops at the greatest value of a u64
 abbrev pub counted_up_to : ℕ → ℕ
 counted_up_to n = min n (2 ^ 64 - 1)
 
 -- The events of a list have led from the start to the world `now`. Since the last damage the judge
--- has seen `count` sweeps, each ended at the first event at which it was one, and after them a
--- stretch that is none yet, of which it keeps what there is to keep.
+-- has seen `count` sweeps, each ended at the first event that completed it, and then a stretch
+-- that is not yet a sweep, of which it keeps what it must.
 pub record IsJudging (start : World) (es : List Event) (now : World) (s : StretchView) (sweeps refused : ℕ) : Type 0 where
   pub in_range : IsWorldInRange start
   pub now_is : now ≡ run start es

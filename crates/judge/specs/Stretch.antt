@@ -1,4 +1,4 @@
--- What a judge keeps of the unfinished stretch of a run, and what is to hold of it.
+-- What a judge keeps of the unfinished stretch of a run, and its invariant.
 use Rattle.std.specs.Prelude.{◌≡◌, ℕ, ◌<◌, Bool, true, false, not, ◌==◌, ◌&&◌, nat_lt, IsTrue, List}
 use Rattle.std.specs.Int.{bit_at}
 use Rattle.topology.specs.Network.{Network, are_joined}
@@ -33,7 +33,7 @@ abbrev pub is_full_tick_of : ℕ → Happened → Bool
 is_full_tick_of v (FullTick u) = v == u
 is_full_tick_of v _ = false
 
--- the nodes that it ticked, or whose link it took from, are below n
+-- the nodes that ticked or took, or whose link was taken from, are below n
 abbrev pub names_below : ℕ → Happened → Bool
 names_below n (FullTick v) = nat_lt v n
 names_below n (LendingTick v) = nat_lt v n
@@ -41,26 +41,26 @@ names_below n (Taken u v) = nat_lt u n && nat_lt v n
 names_below n (Lost u v i) = nat_lt u n && nat_lt v n
 names_below n _ = true
 
--- the link from which an item has gone has a place of its own
+-- a link that lost an item has its own place
 abbrev pub names_place : PairTableView → Happened → Bool
 names_place table (Taken u v) = has_place table u v
 names_place table (Lost u v i) = has_place table u v
 names_place table _ = true
 
--- there is room for the stretches of any network of as many nodes
+-- there is room for the stretches of any network with as many nodes
 abbrev pub HasRoomFor : Network → StretchView → Type 0
 HasRoomFor net s = s.tallies.table.nodes ≡ net.nodes
 
--- the room is laid for a network: each link has a tally of its own, and what is no link lacks
+-- the room is laid out for a network: each link has its own tally, and pairs without a link lack
 -- nothing
 pub record IsRoomFor (net : Network) (s : StretchView) : Type 0 where
   pub nodes : s.tallies.table.nodes ≡ net.nodes
   pub placed : (u v : ℕ) → IsTrue (are_joined net.edges u v) → IsTrue (has_place s.tallies.table u v)
   pub apart : (u v : ℕ) → u < net.nodes → v < net.nodes → are_joined net.edges u v ≡ false → (tally_of s.tallies u v).renewed ≡ true
 
--- What is kept of a stretch from a world: the mask has the nodes that had no full tick in it, and a
--- tally says of its link how many of the items that stood there when the stretch began stand there
--- still, and whether it is renewed. What is no link lacks nothing.
+-- What is kept of a stretch from a world: the mask has the nodes without a full tick in it, and a
+-- tally says how many of the items that were on its link when the stretch began are still there,
+-- and whether the link is renewed. Pairs without a link lack nothing.
 pub record IsKept (w : World) (es : List Event) (s : StretchView) : Type 0 where
   pub nodes : s.tallies.table.nodes ≡ w.net.nodes
   pub lacking : (v : ℕ) → has_bit s.lacking v ≡ (nat_lt v w.net.nodes && not (has_full_tick w es v))

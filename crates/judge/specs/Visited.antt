@@ -8,13 +8,12 @@ use Rattle.configuration.specs.run_model.declared.happened.Happened.{Happened}
 use Rattle.configuration.specs.run_model.declared.happened.Happened.TheVariants.{FullTick, LendingTick, Taken}
 use Rattle.judge.specs.Stretch.{has_bit}
 
--- The mask has the bits of the nodes that were privileged at some moment since the last accepted
--- damage, the moment right after it among them, or since the start if there was none; and no
--- other bit.
+-- The mask has exactly the bits of the nodes that were privileged at some moment since the last
+-- accepted damage, including the moment right after it, or since the start if there was none.
 abbrev pub AreVisited : World → List Event → ℕ → Type 0
 AreVisited start es mask = (v : ℕ) → has_bit mask v ≡ (nat_lt v start.net.nodes && is_visited start es v)
 
--- each node of the network has its bit
+-- the mask has the bit of each node of the network
 abbrev pub AreAllVisited : Network → ℕ → Type 0
 AreAllVisited net mask = (v : ℕ) → v < net.nodes → IsTrue (has_bit mask v)
 

@@ -36,7 +36,7 @@ fn begin_link<A: Allocator + Copy>(
     requires placed { IsTrue (has_place stretch.old.tallies.table from to) }
     ensures table { stretch.new.tallies.table ≡ stretch.old.tallies.table }
     ensures lacking { stretch.new.lacking ≡ stretch.old.lacking }
-    // All that is under way on the link is old; every other tally is as before.
+    // All that is under way on the link is old; every other tally is unchanged.
     ensures tallies { (u v : ℕ) → v < stretch.old.tallies.table.nodes
         → tally_of stretch.new.tallies u v
         ≡ at_pair (tally_of stretch.old.tallies) from to
@@ -49,11 +49,11 @@ fn begin_link<A: Allocator + Copy>(
     stretch.begin_link(from, to, tally);
 }
 
-/// Begins a stretch at a configuration. It looks at the links of the edges alone.
+/// Begins a stretch at a configuration. Looks only at the links of edges.
 #[inline(never)]
 fn begin<A: Allocator + Copy>(configuration: &Configuration<A>, stretch: &mut Stretch<A>)
     requires { IsRoomFor (world_of configuration.now).net stretch.old }
-    // What is kept is that of an empty stretch, and the room is still the network's.
+    // It keeps an empty stretch, and the room is still the network's.
     ensures kept { IsKept (world_of configuration.now) [] stretch.new }
     ensures room { IsRoomFor (world_of configuration.now).net stretch.new }
 {
@@ -67,11 +67,11 @@ fn begin<A: Allocator + Copy>(configuration: &Configuration<A>, stretch: &mut St
     }
 }
 
-/// A configuration, how many sweeps and refused events have led to it, and which nodes the
-/// privilege has visited on the way.
+/// A configuration, the sweeps and refused events that led to it, and the nodes that the privilege
+/// has visited on the way.
 ///
-/// A sweep is counted at the first event at which it is one. Damage starts the count again, and the
-/// nodes visited.
+/// A sweep counts at the first event that completes it. Damage starts the count again, and the
+/// visits too.
 #[derive(Drop)]
 pub struct Judge<A: Allocator + Copy = Global> {
     configuration: Configuration<A>,
@@ -99,7 +99,7 @@ impl<A: Allocator + Copy> Model for Judge<A> {
 }
 
 impl<A: Allocator + Copy> Judge<A> {
-    /// A judge of what happens from a world on.
+    /// A judge of what happens from this world on.
     pub fn new(world: World<A>) -> Judge<A>
         ensures configuration { result.configuration ≡ world }
         // It has seen no event yet, and its stretch is empty.
@@ -125,9 +125,9 @@ impl<A: Allocator + Copy> Judge<A> {
         }
     }
 
-    /// One event happens, as in `World::step`; a refused one is counted. It looks at two tallies at
-    /// most, except if a sweep ends or damage is accepted.
-    // A call of its own would write the event to memory for each line of a text, and read it again.
+    /// Lets one event happen, as in `World::step`, and counts it if it is refused. Looks at no
+    /// more than two tallies, unless a sweep ends or damage is accepted.
+    // A separate call would write the event to memory for each line of a text, and read it again.
     #[inline(always)]
     pub fn step(&mut self, event: &Event) -> Result<(), EventFault>
         ensures world { world_of self.new.configuration
@@ -135,9 +135,9 @@ impl<A: Allocator + Copy> Judge<A> {
         ensures ok { OnOk result (refusal (world_of self.old.configuration) event.now ≡ None) }
         ensures err { IfErr result (λ fault. refusal (world_of self.old.configuration) event.now
             ≡ Some fault) }
-        // Whatever it had seen, it has now seen that and the event.
+        // Whatever it had seen, it has now seen the event too.
         ensures judging { HasSeenNext self.old event.now self.new }
-        // More than two tallies only for accepted damage, or if a sweep ends.
+        // It looks at more than two tallies only for accepted damage, or if a sweep ends.
         ensures looked { (self.new.stretch.tallies.looked ≤ 2)
             ⊎ IsTrue (is_damage (world_of self.old.configuration) event.now)
             ⊎ EndsSweep self.old event.now }
@@ -168,60 +168,60 @@ impl<A: Allocator + Copy> Judge<A> {
         Ok(())
     }
 
-    /// How many sweeps there have been since the last accepted damage; the count stays at its
+    /// How many sweeps there have been since the last accepted damage; the count stops at its
     /// greatest value.
     pub fn sweeps(&self) -> u64
         ensures count { result ≡ self.now.sweeps }
-        // Whatever it has seen, that many sweeps and no more stand after the last damage.
+        // Whatever it has seen, there are exactly this many sweeps after the last damage.
         ensures sweeps { AreSweepsSeen self.now result }
     {
         below();
         self.sweeps
     }
 
-    /// How many events were refused; the count stays at its greatest value.
+    /// How many events were refused; the count stops at its greatest value.
     pub fn refused(&self) -> u64
         ensures count { result ≡ self.now.refused }
-        // Whatever it has seen, that many of the events were refused.
+        // Whatever it has seen, this many of the events were refused.
         ensures refused { AreRefusalsSeen self.now result }
     {
         self.refused
     }
 
-    /// The nodes that were privileged at some moment since the last accepted damage, the moment
-    /// right after it among them, or since the start if there was none: bit v stands for node v.
+    /// The nodes that were privileged at some moment since the last accepted damage, including the
+    /// moment right after it, or since the start if there was none. Bit v stands for node v.
     pub fn visited(&self) -> u64
         ensures mask { result ≡ self.now.visited }
-        // Whatever it has seen, the privilege was at these nodes and no others.
+        // Whatever it has seen, exactly these nodes had the privilege.
         ensures visited { AreVisitedSeen self.now result }
     {
         self.visited
     }
 
-    /// The nodes that have made no full tick in the unfinished stretch, the one after the last
-    /// sweep: bit v stands for node v.
+    /// The nodes without a full tick in the unfinished stretch, the one after the last sweep. Bit
+    /// v stands for node v.
     pub fn lacking(&self) -> u64
         ensures mask { result ≡ self.now.stretch.lacking }
-        // Whatever it has seen, these nodes and no others lack a full tick.
+        // Whatever it has seen, exactly these nodes lack a full tick.
         ensures lacking { IsLackingSeen self.now result }
     {
         self.stretch.lacking()
     }
 
-    /// What has become of the link from one node to another in the unfinished stretch; `None` if no
-    /// edge joins the two. It looks through the edges, and the ids may be any. Like each look at a
-    /// tally, this one counts: [`looked`](Judge::looked) is then one more.
+    /// The tally of the link from one node to another in the unfinished stretch; `None` if no edge
+    /// joins the two. It searches the edges, so any ids are allowed. Like each look at a tally,
+    /// this one counts: [`looked`](Judge::looked) rises by one.
     pub fn tally(&mut self, from: u16, to: u16) -> Option<Tally>
         ensures link { IsSome result
             ↔ IsTrue (are_joined (world_of self.old.configuration).net.edges from to) }
         ensures value { IfSome result (λ tally. tally ≡ tally_of self.old.stretch.tallies from to) }
         // Whatever it has seen, the tally is that of the link in the unfinished stretch.
         ensures tally { IfSome result (IsTallySeen self.old from to) }
-        // Nothing but the count of looks changes.
+        // Only the count of looks changes.
         ensures looked { self.new ≡ record self.old {
           stretch = with_looks self.old.stretch self.new.stretch.tallies.looked;
         } }
-        // Whatever it had seen, it has seen that and no more.
+        // Whatever it had seen, it has seen no more.
         ensures same { HasSeenSame self.old self.new }
     {
         below();
@@ -234,8 +234,8 @@ impl<A: Allocator + Copy> Judge<A> {
         }
     }
 
-    /// How many tallies the last step looked at, and each call of [`tally`](Judge::tally) since
-    /// then; 0 if there was neither.
+    /// How many tallies the last step, and each call of [`tally`](Judge::tally) since then, looked
+    /// at; 0 if there was neither.
     pub fn looked(&self) -> u32
         ensures { result ≡ self.now.stretch.tallies.looked }
     {
@@ -249,7 +249,7 @@ impl<A: Allocator + Copy> Judge<A> {
         &self.configuration
     }
 
-    /// The world to which the events have led.
+    /// The world that the events have led to.
     pub fn into_world(self) -> World<A>
         ensures { result ≡ self.configuration }
     {

@@ -1,7 +1,7 @@
-//! What this crate knows of the crates below.
+//! What this crate knows about the crates below.
 ghost use Rattle.judge.specs.Below.{Below};
 
-/// The laws of networks and of runs that the judge stands on.
+/// The laws of networks and of runs that the judge uses.
 pub(crate) fn below()
     ensures { Below }
 {

@@ -1,11 +1,11 @@
-//! A network's run, judged: how many sweeps it has held since the last damage, which is what the
-//! guarantee of the network asks for.
+//! Judging a network's run: how many sweeps it has had since the last damage. The network's
+//! guarantee is stated in these.
 //!
-//! A [`World`] is a network at one moment with all the memory that a run of it and its judge need.
+//! A [`World`] is a network at one moment, with all memory that its run and its judge need.
 //! `World::new` reserves it; each `step` is one event, and takes none.
 //!
-//! A [`Judge`] lets events happen one by one, counts sweeps and refusals, and lends the
-//! configuration, nodes and links as they are now. Judging takes no memory: its room is the
+//! A [`Judge`] lets events happen one by one, counts sweeps and refusals, and shows the
+//! configuration, nodes and links as they are now. Judging takes no memory, since its room is the
 //! world's:
 //!
 //! ```
@@ -15,17 +15,16 @@
 //! let sweeps = judge.sweeps();
 //! ```
 //!
-//! What a number of sweeps leads to is said where the theorem is known: by the crate `world`.
+//! The crate `world`, which knows the theorem, says what a number of sweeps leads to.
 //!
-//! Whoever runs the nodes by other means, as on threads, takes a world apart, and puts it together
-//! again:
+//! To run the nodes by other means, on threads say, take a world apart and put it together again:
 //!
 //! ```
 //! let Parts { nodes, links, room } = world.into_parts();      // links.net() is the network
 //! let world = World::from_parts(Parts { nodes, links, room });
 //! ```
 //!
-//! The trap: the parts must be one world's, each node at the place of its id.
+//! The trap: the parts must belong to one world, each node at the place of its id.
 #![tactic(auto)]
 
 mod judge;

@@ -8,7 +8,7 @@ use configuration::node_core::Node;
 use configuration::{Configuration, Links};
 use std::alloc::{Allocator, Global};
 
-/// What a world is made of, for those who run its nodes by other means than events, as on threads.
+/// The parts of a world, for running its nodes by other means than events, on threads say.
 #[derive(Drop)]
 pub struct Parts<A: Allocator + Copy = Global> {
     /// The nodes by their ids.
@@ -20,11 +20,11 @@ pub struct Parts<A: Allocator + Copy = Global> {
 }
 
 impl<A: Allocator + Copy> World<A> {
-    /// The world's parts. No memory is taken.
+    /// The world's parts. Takes no memory.
     pub fn into_parts(self) -> Parts<A>
         ensures nodes { result.nodes.items ≡ self.nodes }
         ensures links { result.links ≡ self.links }
-        // What `from_parts` asks for holds of them.
+        // They meet what `from_parts` requires.
         ensures parts { AreOneWorlds result.nodes.items result.links result.room }
     {
         let World {
@@ -35,8 +35,8 @@ impl<A: Allocator + Copy> World<A> {
         Parts { nodes, links, room }
     }
 
-    /// The world that has these parts, which must be one world's: each node at the place of its
-    /// id. No memory is taken.
+    /// The world with these parts, which must belong to one world: each node at the place of its
+    /// id. Takes no memory.
     pub fn from_parts(parts: Parts<A>) -> World<A>
         requires { AreOneWorlds parts.nodes.items parts.links parts.room }
         ensures { result ≡ record { nodes = parts.nodes.items; links = parts.links } }

@@ -15,7 +15,7 @@ use std::alloc::{AllocError, Allocator, Global};
 use std::marker::Model;
 use topology::Net;
 
-/// A mask with the bits of the nodes below a number.
+/// The mask of all nodes below this number.
 fn all_nodes(nodes: u16) -> u64
     requires some { 0 < nodes }
     requires few { nodes ≤ 64 }
@@ -48,7 +48,7 @@ impl<A: Allocator> Model for Stretch<A> {
 }
 
 impl<A: Allocator + Copy> Stretch<A> {
-    /// Room for the stretches of a network. All memory is reserved here.
+    /// Room for the stretches of a network. Reserves all memory.
     pub(crate) fn new<N: Allocator + Copy>(alloc: A, net: &Net<N>) -> Result<Stretch<A>, AllocError>
         ensures nodes { IfOk result (λ s. s.tallies.table.nodes ≡ net.now.nodes) }
         ensures placed { IfOk result (λ s. (u v : ℕ) → IsTrue (are_joined net.now.edges u v)
@@ -98,7 +98,7 @@ impl<A: Allocator> Stretch<A> {
         self.tallies.set(from, to, tally.lost(item));
     }
 
-    /// Adds what an event did, if it is no damage.
+    /// Notes what an event did, if it is no damage.
     #[inline(always)]
     pub(crate) fn note(&mut self, happened: &Happened)
         requires few { self.old.tallies.table.nodes ≤ 64 }
@@ -111,7 +111,7 @@ impl<A: Allocator> Stretch<A> {
         ensures tallies { (u v : ℕ) → v < self.old.tallies.table.nodes
             → tally_of self.new.tallies u v
             ≡ tally_behind u v happened.now (tally_of self.old.tallies u v) }
-        // At most one tally is read and written.
+        // Reads and writes at most one tally.
         ensures looked { self.new.tallies.looked ≤ self.old.tallies.looked + 2 }
     {
         match *happened {
@@ -122,7 +122,8 @@ impl<A: Allocator> Stretch<A> {
         }
     }
 
-    /// Starts over: every node lacks a full tick. The tally of each link is then to be begun.
+    /// Starts over: every node lacks a full tick. The caller must then begin the tally of each
+    /// link.
     pub(crate) fn begin(&mut self)
         requires some { 0 < self.old.tallies.table.nodes }
         requires few { self.old.tallies.table.nodes ≤ 64 }
@@ -133,8 +134,8 @@ impl<A: Allocator> Stretch<A> {
         self.lacking = all_nodes(self.tallies.nodes());
     }
 
-    /// Room for the edges of a network as they are now, with no link to be renewed. The tally of
-    /// each link is then to be begun.
+    /// Room for the present edges of a network, with no link left to renew. The caller must then
+    /// begin the tally of each link.
     #[inline(never)]
     pub(crate) fn lay<N: Allocator + Copy>(&mut self, net: &Net<N>)
         requires { self.old.tallies.table.nodes ≡ net.now.nodes }
@@ -160,7 +161,7 @@ impl<A: Allocator> Stretch<A> {
         self.tallies.set(from, to, tally);
     }
 
-    /// The nodes that still lack a full tick: bit v stands for node v.
+    /// The nodes that still lack a full tick. Bit v stands for node v.
     pub(crate) fn lacking(&self) -> u64
         ensures { result ≡ self.now.lacking }
     {
@@ -172,7 +173,7 @@ impl<A: Allocator> Stretch<A> {
         requires from_in { from < self.old.tallies.table.nodes }
         requires to_in { to < self.old.tallies.table.nodes }
         ensures tally { result ≡ tally_of self.old.tallies from to }
-        // Nothing but the count of looks changes.
+        // Only the count of looks changes.
         ensures looked { self.new
             ≡ with_looks self.old (min (self.old.tallies.looked + 1) (2 ^ 32 - 1)) }
     {
@@ -193,7 +194,7 @@ impl<A: Allocator> Stretch<A> {
         self.tallies.count()
     }
 
-    /// Counts looks from 0 again.
+    /// Sets the count of looks to 0.
     pub(crate) fn clear_looked(&mut self)
         ensures { self.new ≡ record self.old { tallies = record self.old.tallies { looked = 0 } } }
     {

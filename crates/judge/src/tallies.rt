@@ -13,14 +13,14 @@ use std::alloc::{AllocError, Allocator, Global};
 use std::marker::Model;
 use topology::Net;
 
-/// What is known of one link in a stretch: how many of the items that stood there when the stretch
-/// began stand there still (they are the oldest ones), and whether an item that was sent inside the
-/// stretch has been taken.
+/// What is known about one link in a stretch: how many of the items that were there when the
+/// stretch began are still there (they are the oldest), and whether an item that was sent inside
+/// the stretch was taken.
 #[derive(Clone, Copy, Debug, PartialEq, Eq)]
 pub struct Tally {
-    /// The items that are old, 0 to 4096.
+    /// The number of old items, 0 to 4096.
     pub old: u16,
-    /// An item that was sent inside the stretch has been taken.
+    /// An item that was sent inside the stretch was taken.
     pub renewed: bool,
 }
 
@@ -32,7 +32,7 @@ impl Tally {
         if self.renewed { 0 } else { 1 }
     }
 
-    /// The tally after an item was taken from the link: an old one while there is any, and else one
+    /// The tally after a take from the link: the item is an old one while there is any, else one
     /// that was sent inside the stretch.
     pub(crate) fn taken(self) -> Tally
         ensures { result ≡ tally_after Takes 1 self }
@@ -50,7 +50,7 @@ impl Tally {
         }
     }
 
-    /// The tally after the item at an index of the link was lost, 0 being the oldest.
+    /// The tally after the loss of the item at this index of the link; 0 is the oldest.
     pub(crate) fn lost(self, index: u16) -> Tally
         ensures { result ≡ tally_after (Loses index) 0 self }
     {
@@ -65,7 +65,7 @@ impl Tally {
     }
 }
 
-/// Leaves no link to be renewed.
+/// Clears all tallies: no link is left to renew.
 fn forget<A: Allocator>(tallies: &mut Vec<Tally, A>)
     ensures { tallies.new.items ≡ replicate (length tallies.old.items) no_tally }
 {
@@ -76,12 +76,12 @@ fn forget<A: Allocator>(tallies: &mut Vec<Tally, A>)
     });
 }
 
-/// Gives the links of a network the places from 1 on, two for each edge, one edge after the other;
-/// every two nodes that no edge joins have the place 0.
+/// Gives the links of a network the places from 1 on, two for each edge, edge by edge. Pairs
+/// without an edge have the place 0.
 fn lay_all<A: Allocator, N: Allocator + Copy>(table: &mut PairTable<A>, net: &Net<N>)
     requires { table.old.nodes ≡ net.now.nodes }
     ensures network { IsAcceptedNetwork net.now }
-    // Each link has a place of its own, after the first.
+    // Each link has its own place, after the first.
     ensures laid { IsLaid net.now.nodes (are_joined net.now.edges) table.new
         (2 * length net.now.edges + 1) }
 {
@@ -96,12 +96,12 @@ fn lay_all<A: Allocator, N: Allocator + Copy>(table: &mut PairTable<A>, net: &Ne
     }
 }
 
-/// How many tallies there are: one each way for as many edges as a network may have, and the first.
+/// The number of tallies: one each way for the most edges of a network, and the first.
 const MOST_TALLIES: usize = 513;
 
 /// The tallies of all links of a network: one each way for each edge, close together, after one
-/// that stands for every two nodes that no edge joins. `get` and `set` are the only ways to one, and
-/// each of them counts.
+/// that stands for all pairs without an edge. Only `get` and `set` reach a tally, and each of them
+/// counts.
 #[derive(Drop)]
 pub struct Tallies<A: Allocator = Global> {
     table: PairTable<A>,
@@ -121,13 +121,13 @@ impl<A: Allocator> Model for Tallies<A> {
 }
 
 impl<A: Allocator + Copy> Tallies<A> {
-    /// Tallies for the links of a network, none of them to be renewed. All memory is reserved here.
+    /// Tallies for the links of a network, none left to renew. Reserves all memory.
     pub fn new<N: Allocator + Copy>(alloc: A, net: &Net<N>) -> Result<Tallies<A>, AllocError>
         ensures nodes { IfOk result (λ t. t.table.nodes ≡ net.now.nodes) }
-        // Each link has a tally of its own.
+        // Each link has its own tally.
         ensures placed { IfOk result (λ t. (u v : ℕ) → IsTrue (are_joined net.now.edges u v)
             → IsTrue (has_place t.table u v)) }
-        // Nothing has to be renewed, on a link or elsewhere.
+        // Nothing is left to renew, on a link or elsewhere.
         ensures empty { IfOk result (λ t. (u v : ℕ) → tally_of t u v ≡ no_tally) }
         ensures looked { IfOk result (λ t. t.looked ≡ 0) }
     {
@@ -155,7 +155,7 @@ impl<A: Allocator> Tallies<A> {
         self.table.nodes()
     }
 
-    /// Where the tally of the link from one node to another stands.
+    /// The place of the tally of the link from one node to another.
     fn place(&self, from: u16, to: u16) -> usize
         requires from_in { from < self.now.table.nodes }
         requires to_in { to < self.now.table.nodes }
@@ -171,7 +171,7 @@ impl<A: Allocator> Tallies<A> {
         requires from_in { from < self.old.table.nodes }
         requires to_in { to < self.old.table.nodes }
         ensures tally { result ≡ tally_of self.old from to }
-        // The look is counted, up to the greatest number of 32 bits.
+        // The look counts, up to the greatest number of 32 bits.
         ensures looked { self.new
             ≡ record self.old { looked = min (self.old.looked + 1) (2 ^ 32 - 1) } }
     {
@@ -187,10 +187,10 @@ impl<A: Allocator> Tallies<A> {
         requires to_in { to < self.old.table.nodes }
         requires placed { IsTrue (has_place self.old.table from to) }
         ensures table { self.new.table ≡ self.old.table }
-        // No other link has another tally.
+        // No other link's tally changes.
         ensures tallies { (u v : ℕ) → v < self.old.table.nodes
             → tally_of self.new u v ≡ at_pair (tally_of self.old) from to tally u v }
-        // The look is counted, up to the greatest number of 32 bits.
+        // The look counts, up to the greatest number of 32 bits.
         ensures looked { self.new.looked ≡ min (self.old.looked + 1) (2 ^ 32 - 1) }
     {
         self.looked = self.looked.saturating_add(1);
@@ -202,22 +202,22 @@ impl<A: Allocator> Tallies<A> {
 
     /// Whether every link is renewed.
     pub fn are_renewed(&self) -> bool
-        // Over all pairs of nodes: what is no link lacks nothing.
+        // For all pairs of nodes: pairs without a link lack nothing.
         ensures { IsTrue result ↔ ((u v : ℕ) → u < self.now.table.nodes → v < self.now.table.nodes
             → IsTrue (tally_of self.now u v).renewed) }
     {
         self.unrenewed == 0
     }
 
-    /// Lays the tallies again for the edges of a network, none of them to be renewed: one that has
-    /// joined has its own, and no tally of one that is gone is left. No memory is taken.
+    /// Lays the tallies out again for the edges of a network, none left to renew: new edges have
+    /// their own, and no tally of a removed edge is left. Takes no memory.
     pub fn lay<N: Allocator + Copy>(&mut self, net: &Net<N>)
         requires { self.old.table.nodes ≡ net.now.nodes }
         ensures nodes { self.new.table.nodes ≡ net.now.nodes }
-        // Each link of the network has a tally of its own.
+        // Each link of the network has its own tally.
         ensures placed { (u v : ℕ) → IsTrue (are_joined net.now.edges u v)
             → IsTrue (has_place self.new.table u v) }
-        // Nothing has to be renewed, on a link or elsewhere.
+        // Nothing is left to renew, on a link or elsewhere.
         ensures empty { (u v : ℕ) → tally_of self.new u v ≡ no_tally }
     {
         topology::laws::joined();
@@ -233,7 +233,7 @@ impl<A: Allocator> Tallies<A> {
         self.looked
     }
 
-    /// Counts from 0 again.
+    /// Sets the count to 0.
     pub fn clear_count(&mut self)
         ensures { self.new ≡ record self.old { looked = 0 } }
     {

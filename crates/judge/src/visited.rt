@@ -17,7 +17,7 @@ fn with(mask: u64, node: u16) -> u64
     mask | (1 << node)
 }
 
-/// The nodes that are privileged now. It looks at each.
+/// The nodes that are privileged now. Looks at each.
 #[inline(never)]
 pub fn privileged_nodes<A: Allocator + Copy>(configuration: &Configuration<A>) -> u64
     ensures { (v : ℕ) → has_bit result v ≡ (nat_lt v (world_of configuration.now).net.nodes
@@ -33,8 +33,7 @@ pub fn privileged_nodes<A: Allocator + Copy>(configuration: &Configuration<A>) -
     mask
 }
 
-/// The mask with the bit of a node, if that is privileged now. It looks at no node whose bit is
-/// there.
+/// The mask with the bit of a node, if that is privileged now. Looks at no node whose bit is set.
 #[inline(always)]
 fn visit<A: Allocator + Copy>(configuration: &Configuration<A>, mask: u64, node: u16) -> u64
     requires { node < (world_of configuration.now).net.nodes }
@@ -51,8 +50,8 @@ fn visit<A: Allocator + Copy>(configuration: &Configuration<A>, mask: u64, node:
     }
 }
 
-/// The nodes visited, after what happened, if that is no damage. It looks at the one node that
-/// ticked or took, if there is one, since the machines and copies of no other have changed.
+/// The visited nodes after what happened, if that is no damage. Looks only at the node that ticked
+/// or took, if any: no other node's machines or copies have changed.
 #[inline(always)]
 pub fn visited_behind<A: Allocator + Copy>(
     configuration: &Configuration<A>,

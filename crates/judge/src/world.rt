@@ -1,4 +1,4 @@
-//! A network at one moment, with all the memory that a run of it and its judge need.
+//! A network at one moment, with all memory that its run and its judge need.
 ghost use Rattle.std.specs.Prelude.{◌≡◌, ◌↔◌, ◌<◌, ◌≤◌, IfOk, IfErr, OnOk, None, Some, length};
 ghost use Rattle.std.specs.Prelude.{IsTrue};
 ghost use Rattle.configuration.specs.node_core.View.{state_of, site_in};
@@ -17,12 +17,12 @@ use std::alloc::{AllocError, Allocator, Global};
 use std::marker::Model;
 use topology::Net;
 
-/// A network at one moment. All memory that any step needs, and any judge, is reserved with it.
+/// A network at one moment. It reserves all memory that any step, and any judge, needs.
 #[derive(Drop)]
 pub struct World<A: Allocator + Copy = Global> {
     /// The nodes and links now.
     pub(crate) configuration: Configuration<A>,
-    /// What a judge is to keep of a run.
+    /// The room in which a judge keeps a run.
     pub(crate) room: Stretch<A>,
 }
 
@@ -38,17 +38,16 @@ impl<A: Allocator + Copy> Model for World<A> {
 }
 
 impl<A: Allocator + Copy> World<A> {
-    /// The world in which every node is as it starts and nothing is under way, without spare links:
-    /// an edge may join only once another has gone. It keeps a copy of the network, and reserves
-    /// all memory that any step needs, and any judge; `AllocError` comes only if that is
-    /// refused.
+    /// The world of fresh nodes and empty links, without spare links: an edge may join only once
+    /// another has gone. It keeps a copy of the network, and reserves all memory that any step,
+    /// and any judge, needs; `AllocError` comes only if that is refused.
     pub fn new<N: Allocator + Copy>(alloc: A, net: &Net<N>) -> Result<World<A>, AllocError>
         ensures { IfOk result (λ world. world_of world ≡ default_world net.now) }
     {
         World::with_spares(alloc, net, 0)
     }
 
-    /// The same with spare pairs of links, each for one edge more than there are; at most 256.
+    /// The same with spare pairs of links, at most 256, each for one more edge.
     ///
     /// # Errors
     /// If memory runs out.
@@ -73,7 +72,7 @@ impl<A: Allocator + Copy> World<A> {
         &self.configuration
     }
 
-    /// The network that stands.
+    /// The present network.
     pub fn net(&self) -> &Net<A>
         ensures { result.now ≡ (world_of self.now).net }
     {
@@ -90,8 +89,8 @@ impl<A: Allocator + Copy> World<A> {
         self.configuration.node(v)
     }
 
-    /// Every world is in range: each field of a node, and what is under way on each link. It looks
-    /// at each node once, and changes nothing.
+    /// Every world is in range: each field of a node, and what is under way on each link. Looks at
+    /// each node once, and changes nothing.
     pub fn assure_ranges(&self)
         ensures { IsWorldInRange (world_of self.now) }
     {
@@ -124,22 +123,22 @@ impl<A: Allocator + Copy> World<A> {
     }
 
     /// Whether it serves at this moment: each node has its distance and its true parent, at most
-    /// one node is privileged, and at most one lends. It looks at the nodes alone, at no link, and
-    /// takes no memory.
+    /// one node is privileged, and at most one lends. Looks only at nodes, at no link, and takes
+    /// no memory.
     pub fn serves(&self) -> bool
         ensures { IsTrue result ↔ IsServing (world_of self.now) }
     {
         configuration::serves(&self.configuration)
     }
 
-    /// One event happens. Refused for the first cause that holds, in the order of `EventFault`;
-    /// then nothing has changed.
+    /// Lets one event happen. It is refused for the first cause that holds, in the order of
+    /// `EventFault`; then nothing has changed.
     ///
     /// No step takes memory, looks through the network, or copies a state.
     pub fn step(&mut self, event: &Event) -> Result<(), EventFault>
-        // The world is that of the model's step; one that is refused changes nothing there.
+        // The world is that of the model's step, in which a refused event changes nothing.
         ensures world { world_of self.new ≡ step (world_of self.old) event.now }
-        // It is accepted if the model refuses nothing, and else the first refusal is reported.
+        // The event is accepted if the model refuses nothing; else the first refusal is returned.
         ensures ok { OnOk result (refusal (world_of self.old) event.now ≡ None) }
         ensures err { IfErr result (λ fault. refusal (world_of self.old) event.now ≡ Some fault) }
     {

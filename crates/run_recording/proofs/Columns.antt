@@ -15,7 +15,7 @@ sum_assoc a b c = grind (arith, common_steps)
 or_assoc : (a b c : Bool) → ((a || b) || c) ≡ (a || (b || c))
 or_assoc a b c = grind (arith, common_steps)
 
--- of three columns the worst, in either grouping
+-- the worst of three columns, in either grouping
 pub worse_column-assoc : (a b c : Column) → worse_column (worse_column a b) c ≡ worse_column a (worse_column b c)
 worse_column-assoc a b c =
     rw (
@@ -28,7 +28,7 @@ worse_column-assoc a b c =
       or_assoc a.bound b.bound c.bound,
     ) refl
 
--- the worst of moments and of more after them
+-- the worst of some moments and of later ones
 pub worst_both : (first : Column) (later : List Column) (next : Column) (more : List Column)
     → worst first (later ++ next ∷ more) ≡ worse_column (worst first later) (worst next more)
 worst_both first [] next more = refl
@@ -43,7 +43,7 @@ even_length (a ∷ b ∷ columns) =
     let two : length (a ∷ b ∷ columns) % 2 ≡ length columns % 2 = omega arith in
     ap (λ n. nat_eq n 0) two ∙ even_length columns
 
--- the last of some columns is written
+-- writing the last of some columns
 behind_written : (a : Column) (columns : List Column) (moment d : Column)
     → slice_set (a ∷ columns) (length columns) (worse_column (slice_index_or (a ∷ columns) (length columns) d) moment) ≡ with_last (a ∷ columns) moment
 behind_written a [] moment d = refl

@@ -4,7 +4,7 @@ use Rattle.std.proofs.lemmas.Grind.{common_steps}
 use Rattle.film_stills.specs.declared.look.Look.{Look}
 use Rattle.run_recording.specs.Seen.{mark_of_look}
 
--- the first items, where the one after them is written
+-- the first items, when the next one is written
 suc_written : {X : Type 0} (items : List X) (v : ℕ) (m : X) → v < length items → take (suc v) (slice_set items v m) ≡ take v items ++ m ∷ []
 suc_written [] v m room = grind (arith, common_steps)
 suc_written (a ∷ items) zero m room = refl
@@ -15,11 +15,11 @@ first_written items v m room =
     let next : v + 1 ≡ suc v = omega arith in
     rw next (suc_written items v m room)
 
--- they are still as many
+-- their number stays
 pub written-length : {X : Type 0} (items : List X) (v : ℕ) (m : X) → length (slice_set items v m) ≡ length items
 written-length items v m = grind (arith, common_steps)
 
--- where as many are taken as there are, all are
+-- taking as many as there are takes all
 pub all_taken : {X : Type 0} (items : List X) (n : ℕ) → length items ≡ n → take n items ≡ items
 all_taken [] n all = grind (arith, common_steps)
 all_taken (a ∷ items) zero all = grind (arith, common_steps)
@@ -27,7 +27,7 @@ all_taken (a ∷ items) (suc n) all = ap (λ xs. a ∷ xs) (all_taken items n (o
 
 -- ---- the marks of looks
 
--- one mark more is that of one look more
+-- one more mark is that of one more look
 suc_marked : (looks : List Look) (v : ℕ) (d : Look) → v < length looks
     → take (suc v) (map mark_of_look looks) ≡ take v (map mark_of_look looks) ++ mark_of_look (get_or looks v d) ∷ []
 suc_marked [] v d there = grind (arith, common_steps)
@@ -40,6 +40,6 @@ marked_more looks v d there =
     let next : v + 1 ≡ suc v = omega arith in
     rw next (suc_marked looks v d there)
 
--- they are as many
+-- there are as many marks as looks
 pub marked-length : (looks : List Look) → length (map mark_of_look looks) ≡ length looks
 marked-length looks = grind (arith, common_steps)

@@ -4,7 +4,7 @@ use Rattle.std.proofs.lemmas.Grind.{common_steps}
 use Rattle.run_recording.specs.declared.mark.Mark.{Mark}
 use Rattle.run_recording.specs.Marks.{worse, worse_marks}
 
--- one mark more is written over by the worse of two
+-- one more mark becomes the worse of the two
 pub next_mark : (marks later : List Mark) (v : ℕ) (d e : Mark) → v < length marks → v < length later
     → slice_set (worse_marks (take v marks) (take v later) ++ drop v marks) v (worse (slice_index_or marks v d) (slice_index_or later v e))
     ≡ worse_marks (take (suc v) marks) (take (suc v) later) ++ drop (suc v) marks
@@ -14,7 +14,7 @@ next_mark (a ∷ marks) (b ∷ later) zero d e in_marks in_later = refl
 next_mark (a ∷ marks) (b ∷ later) (suc v) d e in_marks in_later =
     ap (λ xs. worse a b ∷ xs) (next_mark marks later v d e (omega (arith, in_marks)) (omega (arith, in_later)))
 
--- of three marks the worst, in either grouping
+-- the worst of three marks, in either grouping
 worse_assoc : (a b c : Mark) → worse (worse a b) c ≡ worse a (worse b c)
 worse_assoc a b c = grind (arith, common_steps)
 

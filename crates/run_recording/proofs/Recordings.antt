@@ -1,4 +1,4 @@
--- A recording goes on with each event, each line and each piece.
+-- A recording, event by event, line by line and piece by piece.
 use Rattle.std.proofs.Common.{◌≡◌, ◌∙◌, ap, sym, refl, subst, ℕ, ◌+◌, ◌≤◌, ◌==◌, if◌then◌else◌, false, Bool, List, [], ◌∷◌, ◌++◌, length, append_assoc, Option, None, Some, Result, Ok, Err, OnOk, IfErr, is_ok, is_none, arith}
 use Rattle.std.proofs.lemmas.Grind.{common_steps, flat_map-append}
 use Rattle.std.proofs.lemmas.List.{append-nil}
@@ -24,7 +24,7 @@ use Rattle.run_recording.specs.Recordings.{moment_of, shown_if, ended_at, AreMom
 use Rattle.run_recording.specs.Recordings.AreMoments.{Start, Next}
 use Rattle.run_recording.specs.Recordings.IsFirstHeld.{AtStart, Behind}
 
--- an event is accepted where its step says so
+-- an event is accepted if its step says so
 pub accepted_is : (result : Result (Unit {0}) EventFault) (refusal : Option EventFault) → OnOk result (refusal ≡ None) → IfErr result (λ fault. refusal ≡ Some fault)
     → is_none refusal ≡ is_ok result
 accepted_is (Ok value) refusal ok err = grind (arith, common_steps)
@@ -32,7 +32,7 @@ accepted_is (Err fault) refusal ok err = grind (arith, common_steps)
 
 -- ---- what was before the first moment shown
 
--- one moment alone may be shown
+-- at most one moment is shown
 at_most_one : (window : Window) (ended : ℕ) (moment : Column) → length (shown_if window ended moment) ≤ 1
 at_most_one window ended moment = grind (arith, common_steps)
 
@@ -49,7 +49,7 @@ before_start window start (moment ∷ []) before events sweeps are few = record 
 }
 before_start window start (moment ∷ next ∷ moments) before events sweeps are few = let no : ⊥ = grind (arith, few) in elim no [ ]
 
--- where nothing was shown before an event, what is now before it; else what was
+-- if nothing was shown before an event, what is before it now; else what was
 before_more : (window : Window) (start : World) (es : List Event) (e : Event) (sweeps ended : ℕ) (moments shown : List Column) (was now : Before)
     → AreMoments window start es sweeps moments → AreMoments window start (es ++ e ∷ []) ended (moments ++ shown) → length shown ≤ 1
     → IsBeforeAny window start es moments was
@@ -81,7 +81,7 @@ before_more window start es e sweeps ended (moment ∷ moments) shown was now ar
 abbrev pub still_after : World → List Event → Event → ℕ → ℕ → Still
 still_after start es e events sweeps = still_of (run start (es ++ e ∷ [])) (take_of (Some e) events (is_damage (run start es) e) sweeps)
 
--- nothing has happened yet
+-- nothing has happened
 pub begun : (start : World) (r : RecordingView) (moment : Column) → HasSeen r.judge start [] → r.ended ≡ 0 → r.events ≡ 0
     → r.before.events ≡ 0 → r.before.sweeps ≡ 0 → moment ≡ moment_of start false 0 0 → Shows r.strip (shown_if r.window 0 moment)
     → IsReeled r.reel (filmed_if r.window 0 (still_of start (take_of None 0 false 0))) → IsRecorded start [] r
@@ -101,7 +101,7 @@ begun start r moment seen ended events led swept is shown reeled = record {
 abbrev pub IsCount : World → List Event → ℕ → Type 0
 IsCount start es sweeps = (count : ℕ) × IsSweepCount start es count × (sweeps ≡ counted_up_to count)
 
--- an event more has happened
+-- one more event has happened
 pub recorded_more : (start : World) (es : List Event) (e : Event) (old new : RecordingView) (before after : ℕ) (moment : Column) (empty : Bool)
     → (h : IsRecorded start es old) → HasSeen new.judge start (es ++ e ∷ []) → IsCount start es before → IsCount start (es ++ e ∷ []) after
     → moment ≡ moment_of (run start (es ++ e ∷ [])) (is_damage (run start es) e) before after
@@ -138,7 +138,7 @@ recorded_more start es e old new before after moment empty h seen (count, counte
           (at_most_one old.window (ended_at old.ended moment) moment) h.before_is first_is);
     }
 
--- no event more has happened, and the same is kept of those before
+-- no further event has happened, and the same is kept of those before
 pub recorded_same : (start : World) (es : List Event) (r : RecordingView) → IsRecorded start es r → IsRecorded start (es ++ []) r
 recorded_same start es r h = subst (λ xs. IsRecorded start xs r) (sym (append-nil es)) h
 
@@ -156,7 +156,7 @@ reader_moves start es r reader h = record {
   before_is = h.before_is;
 }
 
--- a line more is ended, and its event is recorded
+-- one more line has ended, and its event is recorded
 pub line_ends : (start : World) (bytes more : List ℕ) (line : TextLine) (old new : RecordingView) (reader : Kept)
     → IsReading start bytes old → StandsAfter 64 (bytes ++ more) reader → ended_lines (bytes ++ more) ≡ ended_lines bytes ++ line ∷ []
     → (IsRecorded start (told_events (ended_lines bytes)) (record old { reader = reader }) → IsRecorded start (told_events (ended_lines bytes) ++ told_events (line ∷ [])) new)
@@ -166,7 +166,7 @@ line_ends start bytes more line old new reader h stands ends records same = reco
   recorded = rw (ends, flat_map-append told_event (ended_lines bytes) (line ∷ [])) (records (reader_moves start (told_events (ended_lines bytes)) old reader h.recorded));
 }
 
--- no line more is ended, and more is kept of the one under way
+-- no line has ended, and more is kept of the one under way
 pub half_line_grows : (start : World) (bytes more : List ℕ) (old : RecordingView) (reader : Kept)
     → IsReading start bytes old → StandsAfter 64 (bytes ++ more) reader → ended_lines (bytes ++ more) ≡ ended_lines bytes
     → IsReading start (bytes ++ more) (record old { reader = reader })

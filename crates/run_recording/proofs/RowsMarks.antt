@@ -1,5 +1,4 @@
--- Small examples of what is seen of nodes, of columns, and of windows, and some that look like them
--- and are none.
+-- Small examples of what is seen of nodes, of columns and of windows, with some that fail.
 use Rattle.std.proofs.Common.{◌≡◌, ◌≢◌, ℕ, true, false, List, [], ◌∷◌, Some, refl, arith}
 use Rattle.world.specs.judge.node_core.lock_desk.Desk.{no_desk}
 use Rattle.world.specs.run_model.World.{World}
@@ -26,8 +25,8 @@ use Rattle.run_recording.specs.TreeEdges.{has_parent}
 abbrev start : World
 start = default_world two_nodes
 
--- nodes that know nothing are wrong; of two that know their places the root is privileged, and the
--- other is settled
+-- nodes that know nothing are wrong; if two nodes know their places, the root is privileged and
+-- the other is settled
 seen-wrong : mark_of start 1 ≡ Wrong
 seen-wrong = refl
 
@@ -40,11 +39,11 @@ seen-settled = refl
 seen_not-settled : is_settled start 1 ≡ false
 seen_not-settled = refl
 
--- one that lends shows that, though it is wrong too
+-- a node that lends shows that, though it is wrong too
 seen-lending : mark_of (with_desk start 1 (record no_desk { lent = Some 7 })) 1 ≡ Lending 7
 seen-lending = refl
 
--- what is no node is settled
+-- an id without a node is settled
 seen-no_node : mark_at start 2 ≡ Settled
 seen-no_node = refl
 
@@ -56,7 +55,7 @@ worse-lending = refl
 worse-wrong : worse Wrong Settled ≡ Wrong
 worse-wrong = refl
 
--- of two that lend the earlier is shown
+-- of two that lend, the earlier is shown
 worse-earlier : worse (Lending 7) (Lending 8) ≡ Lending 7
 worse-earlier = refl
 
@@ -99,7 +98,7 @@ folds = refl
 folds_not-even : is_even (column_of Wrong 2 1 ∷ column_of Privileged 1 1 ∷ column_of Settled 0 0 ∷ []) ≡ false
 folds_not-even = refl
 
--- the last of these shows one moment, and of an even number it shows more
+-- the last of these shows one moment; of an even number it shows more
 folds-last : last_folded false 4 1 ≡ 1
 folds-last = refl
 

@@ -1,5 +1,5 @@
--- Small examples of what is seen of a world and of what an event changes of it, and some that look
--- like them and are none.
+-- Small examples of what is seen of a world and of what an event changes in it, with some that
+-- fail.
 use Rattle.std.proofs.Common.{◌≡◌, ◌≢◌, true, false, [], ◌∷◌, None, Some, ap, refl, take, arith}
 use Rattle.std.proofs.lemmas.Grind.{common_steps}
 use Rattle.world.specs.judge.node_core.lock_desk.Desk.{no_desk}
@@ -39,7 +39,7 @@ look_not-settled = refl
 look-no_node : look_at calm 2 ≡ nothing
 look-no_node = refl
 
--- one that lends shows that, though it is privileged too
+-- a node that lends shows that, though it is privileged too
 mark-lending : mark_of_look (record { own = nowhere; settled = true; privileged = true; lent = Some 7 }) ≡ Lending 7
 mark-lending = refl
 
@@ -48,7 +48,7 @@ mark-lending = refl
 all-calm : IsSightOf calm (sight_of calm)
 all-calm = record { is = refl }
 
--- of two nodes that know their places one is privileged, not both
+-- of two nodes that know their places only one is privileged
 all_not-both : ¬ (IsSightOf calm (record (sight_of calm) { privileged = 2 }))
 all_not-both h = absurd (omega (arith, ap (λ s. s.privileged) h.is))
 
@@ -66,7 +66,7 @@ recounted_not-twice = grind arith
 abbrev one : Sight
 one = record { places = nowhere ∷ []; edges = []; looks = nothing ∷ []; marks = Settled ∷ []; privileged = 0; lending = 0 }
 
--- a node that was nothing becomes privileged: its mark and the count say so
+-- a node without a look becomes privileged: its mark and the count show it
 changed-one : with_look one 0 (record { own = nowhere; settled = true; privileged = true; lent = None })
     ≡ record { places = nowhere ∷ []; edges = []; looks = record { own = nowhere; settled = true; privileged = true; lent = None } ∷ []; marks = Privileged ∷ []; privileged = 1; lending = 0 }
 changed-one = refl
@@ -74,7 +74,7 @@ changed-one = refl
 abbrev lends : World
 lends = with_desk calm 1 (record no_desk { lent = Some 7 })
 
--- node 1 lends, and nothing else is changed
+-- node 1 lends, and nothing else has changed
 differs-child : DiffersAt 1 calm lends
 differs-child = record { net = refl; nodes = λ u other. grind (arith, common_steps, other); nowhere = λ beyond. absurd (omega (arith, beyond)) }
 

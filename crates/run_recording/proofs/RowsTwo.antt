@@ -1,4 +1,4 @@
--- The least network, two nodes and links of capacity 1, and a calm world on it.
+-- The smallest network, two nodes and links of capacity 1, and a calm world on it.
 use Rattle.std.proofs.Common.{ℕ, zero, suc, [], ◌∷◌, Some, None}
 use Rattle.topology.specs.Network.{Network}
 use Rattle.topology.specs.declared.frame.Payload.{Payload}

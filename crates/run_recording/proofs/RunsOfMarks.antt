@@ -9,12 +9,12 @@ use Rattle.run_recording.specs.declared.mark.Mark.{Mark}
 use Rattle.run_recording.specs.declared.runs.Run.{Run}
 use Rattle.run_recording.specs.Runs.{marks_along, StandFrom, AreApart, AreRuns, EndIn, longer, AreRunsNext}
 
--- once more
+-- one more copy
 once_more : (n : ℕ) (m : Mark) → replicate (suc n) m ≡ replicate n m ++ m ∷ []
 once_more zero m = refl
 once_more (suc n) m = ap (λ ms. m ∷ ms) (once_more n m)
 
--- how many marks runs have
+-- the number of marks of runs
 both_lengths : (run : Run) (runs : List Run) → length (flat_map marks_along (run ∷ runs)) ≡ run.count + length (flat_map marks_along runs)
 both_lengths run runs =
     length-append (marks_along run) (flat_map marks_along runs) ∙ ap (λ n. n + length (flat_map marks_along runs)) (length-replicate run.count run.mark)
@@ -85,7 +85,7 @@ begins runs place m other marks many runs_are =
 
 -- ---- along the columns
 
--- what is seen in a column
+-- the marks that are seen in columns
 mapped : (f : Column → Mark) (columns : List Column) (place : ℕ) (d : Column) → place < length columns
     → slice_index_or (map f columns) place (f d) ≡ f (slice_index_or columns place d)
 mapped f [] place d within = refl
@@ -104,7 +104,7 @@ marks_next f columns place d mark old new within is so_far next =
     ∙ ap (λ m. take place (map f columns) ++ m ∷ []) (mapped f columns place d within ∙ sym is) in
     subst (λ ms. AreRuns ms new) (sym marks) (next (take place (map f columns)) (length-take-le place (map f columns) (omega (arith, few))) so_far)
 
--- after the last column they are all
+-- after the last column they are all runs
 pub all_marks : (f : Column → Mark) (columns : List Column) (place : ℕ) (runs : List Run) → length columns ≡ place
     → AreRuns (take place (map f columns)) runs → AreRuns (map f columns) runs
 all_marks f columns place runs all so_far =
@@ -112,7 +112,7 @@ all_marks f columns place runs all so_far =
 
 -- ---- the last run
 
--- the last run is written
+-- writing the last run
 behind_written : (a : Run) (runs : List Run) (d : Run) (new : ℕ)
     → new ≡ min ((slice_index_or (a ∷ runs) (length runs) d).count + 1) (2 ^ 64 - 1)
     → slice_set (a ∷ runs) (length runs) (record (slice_index_or (a ∷ runs) (length runs) d) { count = new }) ≡ longer (a ∷ runs)
@@ -138,7 +138,7 @@ last_ends m (a ∷ runs) d some =
     let place : length (a ∷ runs) - 1 ≡ length runs = omega arith in
     rw place (behind_ends m a runs d)
 
--- what writing the last run through a slice leaves
+-- the runs after the last one was written through a slice
 longer_length : (runs : List Run) → length (longer runs) ≡ length runs
 longer_length [] = refl
 longer_length (run ∷ []) = refl
@@ -149,6 +149,6 @@ written_back n runs new all is =
     let long : n ≡ length new = all ∙ sym (longer_length runs) ∙ ap length (sym is) in
     ap (λ k. take k (new ++ drop (length new) runs)) long ∙ take-append_seam new (drop (length new) runs) ∙ is
 
--- what is true is not false
+-- nothing is both true and false
 pub false_true : {b : Bool} → IsTrue b → b ≡ false → ⊥
 false_true {b} is not = grind (arith, common_steps)

@@ -1,4 +1,4 @@
--- What is seen of a world, and what an event changes of it.
+-- What is seen of a world, and what an event changes in it.
 use Rattle.std.proofs.Common.{◌≡◌, ◌≢◌, ◌∙◌, ap, sym, refl, ℕ, zero, suc, ◌+◌, ◌<◌, ◌≤◌, cond, Bool, true, false, is_some, List, [], ◌∷◌, Option, map, slice_set, slice_index_or, arith}
 use Rattle.std.specs.List.{range_with_len, count_by}
 use Rattle.std.proofs.lemmas.Grind.{common_steps}
@@ -38,7 +38,7 @@ pub look_is : (w : World) (place : Place) (v distance : ℕ) (parent : Option �
     → record { own = record { distance = distance; parent = parent }; settled = settled; privileged = privileged; lent = lent } ≡ look_by w place v
 look_is w place v distance parent settled privileged lent d p s q l = rw (s, q, l, d, p) refl
 
--- the true place of a node, of those of all ids
+-- the true place of a node, among those of all ids
 pub place_there : (net : Network) (v : ℕ) (d : Place) → v < net.nodes → v < 64 → slice_index_or (places_of net) v d ≡ place_of net v
 place_there net v d there few =
     let at : slice_index_or (places_of net) v d ≡ place_at net v = get_or-map-range_with_len (place_at net) 0 64 v v d few (omega arith) in
@@ -51,7 +51,7 @@ look_there w v there = grind (arith, common_steps)
 
 -- ---- functions of ids that differ at one
 
--- in a range above the id they are the same
+-- in a range that does not have the id they are the same
 same_map : {X : Type 0} (f g : ℕ → X) (v : ℕ) → ((u : ℕ) → u ≢ v → g u ≡ f u) → (a n : ℕ) → v < a
     → map g (range_with_len a n) ≡ map f (range_with_len a n)
 same_map f g v same a zero above = refl
@@ -59,7 +59,7 @@ same_map f g v same a (suc n) above =
     ap (λ x. x ∷ map g (range_with_len (a + 1) n)) (same a (omega (arith, above)))
     ∙ ap (λ xs. f a ∷ xs) (same_map f g v same (a + 1) n (omega (arith, above)))
 
--- in a range that has it, the one list is the other with another item there
+-- in a range that has it, one list is the other with another item there
 changed_map : {X : Type 0} (f g : ℕ → X) (v : ℕ) → ((u : ℕ) → u ≢ v → g u ≡ f u) → (a k n : ℕ) → a + k ≡ v
     → map g (range_with_len a n) ≡ slice_set (map f (range_with_len a n)) k (g v)
 changed_map f g v same a k zero at = grind (arith, common_steps)
@@ -79,7 +79,7 @@ same_count f g v same a (suc n) above =
     let later = same_count f g v same (a + 1) n (omega (arith, above)) in
     grind (arith, common_steps, here, later)
 
--- as many are counted, but for the one
+-- the counts are equal, except for this one
 changed_count : (f g : ℕ → Bool) (v : ℕ) → ((u : ℕ) → u ≢ v → g u ≡ f u) → (a k n : ℕ) → a + k ≡ v → k < n
     → count_by g (range_with_len a n) + cond (f v) 1 0 ≡ count_by f (range_with_len a n) + cond (g v) 1 0
 changed_count f g v same a k zero at within = grind (arith, within)
@@ -111,11 +111,11 @@ recount_is f g v n same within few =
 pub sight_is : (a b : Sight) → a.places ≡ b.places → a.edges ≡ b.edges → a.looks ≡ b.looks → a.marks ≡ b.marks → a.privileged ≡ b.privileged → a.lending ≡ b.lending → a ≡ b
 sight_is a b places edges looks marks privileged lending = grind (arith, common_steps)
 
--- a world of which only the network and the nodes are seen
+-- a world with only the network and the nodes
 abbrev seen_world : Network → (ℕ → LocalState) → World
 seen_world net node = record { net = net; spares = 0; node = node; link = λ u v. [] }
 
--- the look at an id rests on the network and on the node there
+-- the look at an id depends on the network and on the node there
 look_same : (w new : World) (u : ℕ) → new.net ≡ w.net → new.node u ≡ w.node u → look_at new u ≡ look_at w u
 look_same w new u net node =
     ap (λ n. look_at (seen_world n (λ x. new.node u)) u) net
@@ -156,7 +156,7 @@ look_again_is w new v differs within few =
     ∙ recount_is (is_lending w) (is_lending new) v w.net.nodes (same_lending w new v differs) before (rw nodes at few)
     ∙ ap (λ n. count_by (is_lending new) (range_with_len 0 n)) (sym nodes))
 
--- ---- an event changes what is seen of one node at most
+-- ---- an event changes the look of one node at most
 
 same_sight : (w new : World) → new.net ≡ w.net → new.node ≡ w.node → sight_of w ≡ sight_of new
 same_sight w new net node =

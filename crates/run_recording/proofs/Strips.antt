@@ -1,4 +1,4 @@
--- Columns show one moment more, and the same moments where each two become one.
+-- Columns with one more moment, and with the same moments when each two become one.
 use Rattle.std.proofs.Common.{◌≡◌, ◌∙◌, ap, sym, refl, subst, ℕ, suc, ◌+◌, ◌≤◌, ◌<◌, ◌==◌, Bool, true, false, List, [], ◌∷◌, ◌++◌, length, take, drop, append_assoc, arith}
 use Rattle.std.proofs.lemmas.Grind.{common_steps}
 use Rattle.std.proofs.lemmas.List.{append-nil}
@@ -8,13 +8,13 @@ use Rattle.run_recording.specs.Strips.{AreShown}
 use Rattle.run_recording.specs.Strips.AreShown.{None, Last, Further}
 use Rattle.run_recording.proofs.Columns.{worst_both}
 
--- there are columns where there are moments
+-- there are columns exactly if there are moments
 pub as_empty : (width last : ℕ) (moments columns : List Column) → AreShown width last moments columns → (length columns == 0) ≡ (length moments == 0)
 as_empty width last moments columns None = refl
 as_empty width last moments columns (Last first later is few) = grind (arith, common_steps)
 as_empty width last moments columns (Further first later is rest) = grind (arith, common_steps)
 
--- one moment more, where all columns are full
+-- one more moment, if all columns are full
 pub shown_new : (width : ℕ) (last : ℕ) (moments columns : List Column) (moment : Column) → 0 < width → last ≡ width
     → AreShown width last moments columns → AreShown width 1 (moments ++ moment ∷ []) (columns ++ moment ∷ [])
 shown_new width last moments columns moment some full None = Last moment [] refl (omega (arith, some))
@@ -24,7 +24,7 @@ shown_new width last moments columns moment some full (Further first later {mome
     subst (λ ms. AreShown width 1 (first ∷ ms) (worst first later ∷ (behind ++ moment ∷ []))) (sym (append_assoc later others (moment ∷ [])))
     (Further first later is (shown_new width last others behind moment some full rest))
 
--- one moment more, where the last column has room for it
+-- one more moment, if the last column has room for it
 pub shown_last : (width : ℕ) (last : ℕ) (moments columns : List Column) (moment : Column) → last < width
     → AreShown width last moments columns → AreShown width (last + 1) (moments ++ moment ∷ []) (with_last columns moment)
 shown_last width last moments columns moment room None = grind (arith, common_steps)
@@ -44,7 +44,7 @@ shown_last width last moments columns moment room
     (Further first later is
     (shown_last width last (next ∷ (more ++ others)) (worst next more ∷ behind) moment room (Further next more long rest)))
 
--- the same moments, where each two columns become one
+-- the same moments, when each two columns become one
 pub shown_folded : (width : ℕ) (last : ℕ) (moments columns : List Column) → 0 < width
     → AreShown width last moments columns → AreShown (width + width) (last_folded (is_even columns) width last) moments (folded columns)
 shown_folded width last moments columns some None = None
@@ -77,13 +77,13 @@ last_few width last moments columns some
     let fewer = last_few width last (next ∷ (more ++ others)) (worst next more ∷ behind) (omega arith) (Further next more long rest) in
     grind (arith, common_steps)
 
--- the last column shows at most as many as the others
+-- the last column shows at most as many moments as the others
 pub last_within : (width : ℕ) (last : ℕ) (moments columns : List Column) → AreShown width last moments columns → last ≤ width
 last_within width last moments columns None = omega arith
 last_within width last moments columns (Last first later is few) = few
 last_within width last moments columns (Further first later {moments = others} {columns = behind} is rest) = last_within width last others behind rest
 
--- each two columns as one are fewer
+-- columns folded in pairs are fewer
 pub folded_few : (columns : List Column) → length (folded columns) ≤ length columns
 folded_few [] = omega arith
 folded_few (a ∷ []) = omega arith
@@ -94,30 +94,30 @@ folded_fewer [] some even = grind (arith, common_steps)
 folded_fewer (a ∷ []) some even = grind (arith, common_steps)
 folded_fewer (a ∷ b ∷ columns) some even = let fewer = folded_few columns in grind (arith, common_steps)
 
--- the last column is written, and they are as many
+-- writing the last column keeps their number
 pub with_last-length : (columns : List Column) (moment : Column) → length (with_last columns moment) ≡ length columns
 with_last-length [] moment = refl
 with_last-length (a ∷ []) moment = refl
 with_last-length (a ∷ b ∷ columns) moment = ap suc (with_last-length (b ∷ columns) moment)
 
--- what a slice of all columns has become stands in their place
+-- a slice of all columns, written, replaces them
 pub written_back : (columns now : List Column) (count : ℕ) (moment : Column) → count ≡ length columns → now ≡ with_last columns moment
     → take count (now ++ drop (length now) columns) ≡ with_last columns moment
 written_back columns now count moment all is =
     let same : length now ≡ length columns = ap length is ∙ with_last-length columns moment in
     grind (arith, common_steps)
 
--- each two columns as one are no more, and fewer where they fall into pairs
+-- columns folded in pairs are no more, and fewer if there are pairs
 pub folded_room : (columns : List Column) → 0 < length columns
     → (length (folded columns) ≤ length columns) × (is_even columns ≡ true → length (folded columns) < length columns)
 folded_room columns some = (folded_few columns, folded_fewer columns some)
 
--- the last column is full only where they fell into pairs
+-- the last column is full only if their number was even
 even_where_full : (even : Bool) (width last : ℕ) → 0 < width → last ≡ width → last_folded even width last ≡ width + width → even ≡ true
 even_where_full true width last some full is = refl
 even_where_full false width last some full is = grind (arith, common_steps)
 
--- where the last column is full, there is room for one more
+-- if the last column is full, there is room for one more
 pub full_room : (columns : List Column) (width last : ℕ) → 0 < width → last ≡ width → 0 < length columns
     → last_folded (is_even columns) width last ≡ width + width → length (folded columns) < length columns
 full_room columns width last some full there is = folded_fewer columns there (even_where_full (is_even columns) width last some full is)

@@ -1,4 +1,4 @@
--- The tour, stop by stop, and the nodes that it comes to first.
+-- The tour, stop by stop, and the order in which it first reaches the nodes.
 use Rattle.std.proofs.Common.{◌≡◌, ap, sym, subst, refl, ℕ, zero, suc, ◌<◌, inl, inr, IsTrue, List, [], ◌∷◌, Option, Some, Contains, IsSome, length, drop, map, fold, arith}
 use Rattle.std.proofs.lemmas.Grind.{common_steps}
 use Rattle.topology.specs.Network.{Network, neighbours_of, IsAcceptedNetwork}
@@ -8,13 +8,13 @@ use Rattle.euler_ring.specs.Tour.{Stop, tour}
 use Rattle.euler_ring.specs.Laws.{true_neighbours, stop_after, GoesTo, IsRound, IsTreeEdge, TrueNeighboursAre}
 use Rattle.run_recording.specs.Visits.{with_new, LeadsAlong}
 
--- a stretch of the tour is gone along from its first stop
+-- a part of the tour is followed from its first stop
 pub goes_along : (net : Network) (end stop : Stop) (stops : List Stop) → GoesTo net end (stop ∷ stops) → LeadsAlong net stop (stop ∷ stops)
 goes_along net end stop [] goes = (refl, tt)
 goes_along net end stop (next ∷ stops) goes =
     (refl, subst (λ s. LeadsAlong net s (next ∷ stops)) (sym goes.0) (goes_along net end next stops goes.1))
 
--- one stop more is passed, and its node is put after the others, if it is not among them
+-- after one more stop, its node is added at the end, unless it is already there
 pub passes : (net : Network) (order : List ℕ) (stop : Stop) (stops : List Stop) (i : ℕ) → i < length stops → LeadsAlong net stop (drop i stops)
     → (fold with_new order (map (λ s. s.1) (drop i stops)) ≡ fold with_new (with_new order stop.1) (map (λ s. s.1) (drop (suc i) stops)))
     × LeadsAlong net (stop_after net stop) (drop (suc i) stops)
@@ -34,21 +34,21 @@ pub on_lowest : (ts : List ℕ) (t : ℕ) → lowest ts ≡ Some t → IsTrue (i
 on_lowest [] t is = grind (arith, common_steps)
 on_lowest (u ∷ ts) t is = grind (arith, common_steps)
 
--- an edge of the tree joins both ways
+-- an edge of the tree joins its ends both ways
 turned : (net : Network) (v w : ℕ) → IsTreeEdge net v w → IsTreeEdge net w v
 turned net v w (inl p) = inr p
 turned net v w (inr p) = inl p
 
--- a tree neighbour of a node has this node as its own
+-- tree neighbours are so both ways
 pub back_on : TrueNeighboursAre → (net : Network) (v w : ℕ) → IsAcceptedNetwork net → IsTrue (is_on (true_neighbours net v) w)
     → IsTrue (is_on (true_neighbours net w) v)
 back_on are net v w accepted on = (are net w v accepted).1 (turned net v w ((are net v w accepted).0 on))
 
--- who is a neighbour is a node
+-- a neighbour is a node
 pub is-node : NeighboursAreJoined → (net : Network) (v : ℕ) (ws : List ℕ) (w : ℕ) → ws ≡ neighbours_of net v → Contains ws w → w < net.nodes
 is-node joined net v ws w same has = ((joined net v w).0 (subst (λ xs. Contains xs w) same has)).0
 
--- the special machine is there
+-- there is a special machine
 pub some_special : (found : Option ℕ) (child : ℕ) → found ≡ Some child → IsSome found
 some_special found child is = rw is refl
 
@@ -57,6 +57,6 @@ pub begins_along : (net : Network) (round : IsRound net) (first : Stop) → firs
 begins_along net round first is =
     rw (is, round.begins) (goes_along net (round.child, net.root) (round.child, net.root) round.rest (rw round.begins at round.round))
 
--- what was found is the child, and comes to the root
+-- the child that was found comes to the root
 pub unwrapped : (found : Option ℕ) (from child at root : ℕ) → found ≡ Some child → found ≡ Some from → at ≡ root → ◌≡◌ {A = Stop} (from, at) (child, root)
 unwrapped found from child at root is some same = grind (arith, common_steps)

@@ -1,11 +1,11 @@
--- What several moments show together, and each two columns as one.
+-- What several moments show together, and columns folded in pairs.
 use Rattle.std.specs.Prelude.{ℕ, ◌+◌, ◌||◌, if◌then◌else◌, Bool, true, false, max, List, [], ◌∷◌}
 use Rattle.world.specs.judge.Judging.{counted_up_to}
 use Rattle.run_recording.specs.declared.column.Column.{Column}
 use Rattle.run_recording.specs.Marks.{worse_marks}
 
--- the worst of what two columns show: the worse marks, the greater counts, all sweeps, and what was
--- at any moment
+-- the worst of what two columns show: the worse marks, the greater counts, all sweeps, and what
+-- happened at any moment
 abbrev pub worse_column : Column → Column → Column
 worse_column a b = record {
   marks = worse_marks a.marks b.marks;
@@ -22,13 +22,13 @@ abbrev pub worst : Column → List Column → Column
 worst first [] = first
 worst first (next ∷ later) = worse_column first (worst next later)
 
--- each two columns as one; an odd one at the end stays
+-- columns folded in pairs; an odd one at the end stays
 abbrev pub folded : List Column → List Column
 folded [] = []
 folded (a ∷ []) = a ∷ []
 folded (a ∷ b ∷ columns) = worse_column a b ∷ folded columns
 
--- whether a list falls into pairs
+-- whether a list has an even length
 abbrev pub is_even : List Column → Bool
 is_even [] = true
 is_even (a ∷ []) = false
@@ -40,7 +40,6 @@ with_last [] moment = []
 with_last (a ∷ []) moment = worse_column a moment ∷ []
 with_last (a ∷ b ∷ columns) moment = a ∷ with_last (b ∷ columns) moment
 
--- how many moments the last column shows, where it showed `last`, others `width`, and each two
--- columns become one
+-- how many moments the last column shows after a fold, if it showed `last` and the others `width`
 abbrev pub last_folded : Bool → ℕ → ℕ → ℕ
 last_folded even width last = if even then last + width else last

@@ -13,8 +13,8 @@ use Rattle.run_recording.specs.declared.window.Window.{Window}
 use Rattle.run_recording.specs.Held.{is_held}
 use Rattle.run_recording.specs.Seen.{edges_of, looks_of, places_of}
 
--- when a still is taken: the last event, how many there were, whether that one was accepted damage,
--- and the sweeps since the last damage
+-- when a still is taken: the last event, the number of events, whether the last one was accepted
+-- damage, and the sweeps since the last damage
 abbrev pub take_of : Option Event → ℕ → Bool → ℕ → Take
 take_of event events damaged sweeps = record { event = event; events = events; damaged = damaged; sweeps = sweeps }
 
@@ -32,17 +32,17 @@ still_of w take = record {
   lending = lending_count w;
 }
 
--- a moment is shown if as many sweeps have ended since the start as the window holds
+-- a moment is shown if the window holds the number of sweeps that have ended since the start
 abbrev pub filmed_if : Window → ℕ → Still → List Still
 filmed_if window ended still = if is_held window ended then still ∷ [] else []
 
--- how many sweeps have ended, if as many had, and the number since the last damage went from `before`
--- to `after`
+-- how many sweeps have ended after a moment at which the number since the last damage went from
+-- `before` to `after`
 abbrev pub ended_with : ℕ → ℕ → ℕ → ℕ
 ended_with ended before after = counted_up_to (ended + (if nat_lt before after then 1 else 0))
 
--- These are the moments of a run that a window holds, as a film shows them: the start, and what is
--- after each event; and as many sweeps have ended in it.
+-- These are the moments of a run that a window holds, as a film shows them: the start, and the
+-- moment after each event; and this many sweeps have ended in it.
 pub data AreFilmed (window : Window) (start : World) : List Event → ℕ → List Still → Type 0 where
   Start : AreFilmed window start [] 0 (filmed_if window 0 (still_of start (take_of None 0 false 0)))
   Next : {es : List Event} {ended : ℕ} {stills : List Still} (e : Event) (before after : ℕ)

@@ -1,4 +1,4 @@
--- What the steps of a recording say of it, whatever was recorded before.
+-- What the steps of a recording say about it, whatever was recorded before.
 use Rattle.std.specs.Prelude.{◌≡◌, ℕ, Bool, is_none, List, [], ◌++◌, Option, Some, Result, OnOk}
 use Rattle.topology.specs.Network.{Network}
 use Rattle.world.specs.run_model.World.{World}
@@ -16,7 +16,7 @@ use Rattle.run_recording.specs.Seen.{sight_of}
 use Rattle.run_recording.specs.Filmed.{filmed_if, still_of, IsReeled}
 use Rattle.run_recording.specs.Recordings.{RecordingView, IsRecorded, IsReading, moment_of}
 
--- an event is damage, if it is accepted or not
+-- whether an event is damage, by whether it is accepted
 abbrev pub IsDamageWhere : Event → Bool → Bool → Type 0
 IsDamageWhere e accepted damaged = (w : World) → is_none (refusal w e) ≡ accepted → damaged ≡ is_damage w e
 
@@ -24,7 +24,7 @@ IsDamageWhere e accepted damaged = (w : World) → is_none (refusal w e) ≡ acc
 abbrev pub ReadsNext : RecordingView → List ℕ → RecordingView → Type 0
 ReadsNext old piece new = (start : World) (bytes : List ℕ) → IsReading start bytes old → IsReading start (bytes ++ piece) new
 
--- where a source says that it has these bytes to give, all are read, unless there is a fault
+-- if a source shows that it has these bytes to give, all are read, unless there is a fault
 abbrev pub ReadsAll : {T E : Type 0} → RecordingView → Option (List ℕ) → Result T E → RecordingView → Type 0
 ReadsAll old rest result new =
     (start : World) (bytes : List ℕ) → rest ≡ Some bytes → IsReading start [] old → OnOk result (IsReading start bytes new)
@@ -33,16 +33,15 @@ ReadsAll old rest result new =
 abbrev pub EndsThere : RecordingView → RecordingView → Type 0
 EndsThere old new = (start : World) (bytes : List ℕ) → IsReading start bytes old → IsRecorded start (events_of bytes) new
 
--- the column of a moment, of whatever world this is seen
+-- the column of a moment, for every world with this sight
 abbrev pub IsMomentSeen : Sight → Network → Bool → ℕ → ℕ → Column → Type 0
 IsMomentSeen sight net damaged before after column = (w : World) → sight ≡ sight_of w → net ≡ w.net → column ≡ moment_of w damaged before after
 
--- the still of a moment, of whatever world this is seen
+-- the still of a moment, for every world with this sight
 abbrev pub IsStillSeen : Sight → Take → Still → Type 0
 IsStillSeen sight take still = (w : World) → sight ≡ sight_of w → still ≡ still_of w take
 
--- whatever stills a reel stood for, it stands for one more, of whatever world this is seen, if the
--- window holds the moment
+-- the reel gets one more still, for every world with this sight, if the window holds the moment
 abbrev pub KeepsStillSeen : Sight → Take → Window → ℕ → Option ReelView → Option ReelView → Type 0
 KeepsStillSeen sight take window ended old new =
     (w : World) (stills : List Still) → sight ≡ sight_of w → IsReeled old stills → IsReeled new (stills ++ filmed_if window ended (still_of w take))

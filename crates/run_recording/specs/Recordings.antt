@@ -22,9 +22,9 @@ use Rattle.run_recording.specs.Filmed.{AreFilmed, IsReeled}
 use Rattle.run_recording.specs.Seen.{marks_of}
 use Rattle.run_recording.specs.Strips.{StripView, Shows}
 
--- What is seen of a world at a moment, at which the sweeps since the last damage have become
--- `after`, from `before`: its nodes, whether there was damage, whether a sweep has ended, and
--- whether it is the one that a bound asks for.
+-- What is seen of a world at a moment at which the sweeps since the last damage went from `before`
+-- to `after`: its nodes, whether there was damage, whether a sweep has ended, and whether a bound
+-- is reached with it.
 abbrev pub moment_of : World → Bool → ℕ → ℕ → Column
 moment_of w damaged before after = record {
   marks = marks_of w;
@@ -39,12 +39,12 @@ moment_of w damaged before after = record {
 abbrev pub shown_if : Window → ℕ → Column → List Column
 shown_if window ended moment = if is_held window ended then moment ∷ [] else []
 
--- how many sweeps have ended, where as many had, and then a moment was
+-- how many sweeps have ended after one more moment
 abbrev pub ended_at : ℕ → Column → ℕ
 ended_at ended moment = counted_up_to (ended + moment.sweeps)
 
--- These are the moments of a run that a window holds: the start, and what is after each event; and
--- as many sweeps have ended in it.
+-- These are the moments of a run that a window holds: the start, and the moment after each event;
+-- and this many sweeps have ended in it.
 pub data AreMoments (window : Window) (start : World) : List Event → ℕ → List Column → Type 0 where
   Start : AreMoments window start [] 0 (shown_if window 0 (moment_of start false 0 0))
   Next : {es : List Event} {ended : ℕ} {moments : List Column} (e : Event) (before after : ℕ)
@@ -54,17 +54,17 @@ pub data AreMoments (window : Window) (start : World) : List Event → ℕ → L
       → moment ≡ moment_of (run start (es ++ e ∷ [])) (is_damage (run start es) e) (counted_up_to before) (counted_up_to after)
       → AreMoments window start (es ++ e ∷ []) (ended_at ended moment) (moments ++ shown_if window (ended_at ended moment) moment)
 
--- The first moment of a run that a window holds is the one after all these events, and as many
--- sweeps had ended before it: it is the start, or the moment after the last event, where none
--- before it is held.
+-- The first moment of a run that a window holds is the one after all these events, with this many
+-- sweeps ended before it: it is the start, or the moment after the last event, and none before it
+-- is held.
 pub data IsFirstHeld (window : Window) (start : World) : List Event → ℕ → Type 0 where
   AtStart : (moment : Column) → AreMoments window start [] 0 (moment ∷ []) → IsFirstHeld window start [] 0
   Behind : {es : List Event} {sweeps ended : ℕ} (e : Event) (moment : Column)
       → AreMoments window start es sweeps [] → AreMoments window start (es ++ e ∷ []) ended (moment ∷ [])
       → IsFirstHeld window start (es ++ e ∷ []) sweeps
 
--- That was before the first moment of a run that a window holds: the events of its front, and no
--- others, led to this moment, and as many sweeps had ended before it.
+-- What was before the first moment of a run that a window holds: exactly the events of its front
+-- led to this moment, and this many sweeps had ended before it.
 pub record IsBefore (window : Window) (start : World) (es : List Event) (before : Before) : Type 0 where
   pub front : List Event
   pub back : List Event
@@ -72,14 +72,14 @@ pub record IsBefore (window : Window) (start : World) (es : List Event) (before 
   pub first : IsFirstHeld window start front before.sweeps
   pub events_are : before.events ≡ length front
 
--- if any moments of a run are shown, that was before the first of them
+-- if any moments of a run are shown, this was before the first of them
 abbrev pub IsBeforeAny : Window → World → List Event → List Column → Before → Type 0
 IsBeforeAny window start es [] before = Unit {0}
 IsBeforeAny window start es (moment ∷ moments) before = IsBefore window start es before
 
--- what contracts see of what is kept of a run: its judge, what is kept of the line under way, the
--- columns, the stills of a film, if one is made, the window, the sweeps that have ended, how many
--- events there were, how many lines spelled none, and what was before the first moment shown
+-- what contracts see of a recording: its judge, what is kept of the line under way, the columns,
+-- the stills of a film, if one is made, the window, the sweeps that have ended, the number of
+-- events, the number of lines that spelled none, and what was before the first moment shown
 pub record RecordingView : Type 0 where
   pub judge : JudgeView
   pub reader : Kept
@@ -91,8 +91,8 @@ pub record RecordingView : Type 0 where
   pub unread : ℕ
   pub before : Before
 
--- these events are recorded: the columns show the moments that the window holds, and it is known
--- what was before the first of them
+-- these events are recorded: the columns show the moments that the window holds, and what was
+-- before the first of them is known
 pub record IsRecorded (start : World) (es : List Event) (r : RecordingView) : Type 0 where
   pub seen : HasSeen r.judge start es
   pub moments : List Column
@@ -104,12 +104,11 @@ pub record IsRecorded (start : World) (es : List Event) (r : RecordingView) : Ty
   pub events_are : r.events ≡ length es
   pub before_is : IsBeforeAny r.window start es moments r.before
 
--- whatever events were recorded, these are recorded after them
+-- after any recorded events, these are recorded
 abbrev pub RecordsNext : RecordingView → List Event → RecordingView → Type 0
 RecordsNext old more new = (start : World) (es : List Event) → IsRecorded start es old → IsRecorded start (es ++ more) new
 
--- the events of the lines that a newline ended in these bytes are recorded, and the line under way
--- is kept
+-- the events of the whole lines in these bytes are recorded, and the line under way is kept
 pub record IsReading (start : World) (bytes : List ℕ) (r : RecordingView) : Type 0 where
   pub stands : StandsAfter 64 bytes r.reader
   pub recorded : IsRecorded start (told_events (ended_lines bytes)) r

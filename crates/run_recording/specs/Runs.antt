@@ -14,19 +14,19 @@ mark_in v column = slice_index_or column.marks v Settled
 abbrev pub marks_along : Run → List Mark
 marks_along run = replicate run.count run.mark
 
--- the first run begins at a place, and each other one where the one before it ends; none is empty
+-- the first run begins at a place, and each other run where the one before it ends; none is empty
 abbrev pub StandFrom : ℕ → List Run → Type 0
 StandFrom place [] = Unit {0}
 StandFrom place (run ∷ runs) = (run.first ≡ place) × (0 < run.count) × StandFrom (place + run.count) runs
 
--- no two neighbouring runs have the same mark
+-- no two adjacent runs have the same mark
 abbrev pub AreApart : List Run → Type 0
 AreApart [] = Unit {0}
 AreApart (run ∷ []) = Unit {0}
 AreApart (run ∷ next ∷ runs) = (run.mark ≢ next.mark) × AreApart (next ∷ runs)
 
--- These are the runs of these marks: they stand one after the other from the first column on,
--- neighbours differ, and their marks, one run after the other, are these.
+-- These are the runs of these marks: they follow one another from the first column on, adjacent
+-- ones differ, and their marks, one run after the other, are these.
 pub record AreRuns (marks : List Mark) (runs : List Run) : Type 0 where
   pub are : flat_map marks_along runs ≡ marks
   pub stand : StandFrom 0 runs
@@ -40,12 +40,13 @@ EndIn mark [] = ⊥
 EndIn mark (run ∷ []) = run.mark ≡ mark
 EndIn mark (run ∷ next ∷ runs) = EndIn mark (next ∷ runs)
 
--- the last run, if there is one, is a column longer; its length stays at the greatest value of 64 bits
+-- the last run, if there is one, is a column longer; its length stops at the greatest value of 64
+-- bits
 abbrev pub longer : List Run → List Run
 longer [] = []
 longer (run ∷ []) = record run { count = min (run.count + 1) (2 ^ 64 - 1) } ∷ []
 longer (run ∷ next ∷ runs) = run ∷ longer (next ∷ runs)
 
--- whatever marks these were the runs of, with one mark more they are these
+-- with one more mark, the runs of any marks become these
 abbrev pub AreRunsNext : List Run → ℕ → Mark → List Run → Type 0
 AreRunsNext old place mark new = (marks : List Mark) → length marks ≡ place → AreRuns marks old → AreRuns (marks ++ mark ∷ []) new

@@ -12,7 +12,7 @@ use Rattle.film_stills.specs.declared.look.Look.{Look}
 use Rattle.film_stills.specs.declared.look.Place.{Place}
 use Rattle.run_recording.specs.declared.sight.Sight.{Sight}
 
--- both are nobody, or both are the same node
+-- both are none, or both are the same node
 abbrev pub is_same : Option ℕ → Option ℕ → Bool
 is_same None None = true
 is_same (Some v) (Some w) = v == w
@@ -26,7 +26,7 @@ is_at a b = (a.distance == b.distance) && is_same a.parent b.parent
 abbrev pub is_settled : World → ℕ → Bool
 is_settled w v = ((w.node v).distance == distance_of w.net v) && is_same (w.node v).parent (parent_of w.net v)
 
--- a node that lends shows that, whatever else it is
+-- a node that lends shows only that
 abbrev pub lending_or : Option ℕ → Mark → Mark
 lending_or (Some ticket) mark = Lending ticket
 lending_or None mark = mark
@@ -35,7 +35,7 @@ lending_or None mark = mark
 abbrev pub mark_of : World → ℕ → Mark
 mark_of w v = lending_or (w.node v).desk.lent (if is_privileged w v then Privileged else if is_settled w v then Settled else Wrong)
 
--- what is seen at the place of an id, which may be no node's
+-- what is seen at an id, which may have no node
 abbrev pub mark_at : World → ℕ → Mark
 mark_at w v = if nat_lt v w.net.nodes then mark_of w v else Settled
 
@@ -45,7 +45,7 @@ marks_of w = map (mark_at w) (range_with_len 0 64)
 
 -- ---- the nodes one by one
 
--- the true place of a node; of an id that is no node's, the distance 0 and no parent
+-- the true place of a node; for an id without a node, the distance 0 and no parent
 abbrev pub place_of : Network → ℕ → Place
 place_of net v = record { distance = distance_of net v; parent = parent_of net v }
 
@@ -59,11 +59,11 @@ place_at net v = if nat_lt v net.nodes then place_of net v else nowhere
 abbrev pub places_of : Network → List Place
 places_of net = map (place_at net) (range_with_len 0 64)
 
--- the edge at a place among the edges; (0, 0) if there are not so many, which joins no two nodes
+-- the edge at a place among the edges; past the last (0, 0), which joins no two nodes
 abbrev pub edge_at : Network → ℕ → Edge
 edge_at net k = slice_index_or net.edges k (0, 0)
 
--- the edges, at 256 places, as many as a network has at most
+-- the edges, at 256 places, the most of a network
 abbrev pub edges_of : Network → List Edge
 edges_of net = map (edge_at net) (range_with_len 0 256)
 
@@ -76,12 +76,12 @@ look_by w place v = record {
   lent = (w.node v).desk.lent;
 }
 
--- what is seen of a node: the distance and the parent that it has, whether they are the true ones,
--- whether it is privileged, and to whom it lends
+-- what is seen of a node: its distance and parent, whether they are the true ones, whether it is
+-- privileged, and to whom it lends
 abbrev pub look_of : World → ℕ → Look
 look_of w v = look_by w (place_of w.net v) v
 
--- what is seen where there is no node
+-- the look of an id without a node
 abbrev pub nothing : Look
 nothing = record { own = nowhere; settled = true; privileged = false; lent = None }
 
@@ -92,7 +92,7 @@ look_at w v = if nat_lt v w.net.nodes then look_of w v else nothing
 abbrev pub looks_of : World → List Look
 looks_of w = map (look_at w) (range_with_len 0 64)
 
--- the mark of what is seen
+-- the mark of a look
 abbrev pub mark_of_look : Look → Mark
 mark_of_look look = lending_or look.lent (if look.privileged then Privileged else if look.settled then Settled else Wrong)
 
@@ -107,6 +107,6 @@ sight_of w = record {
   lending = lending_count w;
 }
 
--- it is what is seen of this world
+-- this is the sight of the world
 pub record IsSightOf (w : World) (sight : Sight) : Type 0 where
   pub is : sight ≡ sight_of w

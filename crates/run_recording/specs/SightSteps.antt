@@ -1,26 +1,26 @@
--- What an event changes of what is seen.
+-- What an event changes in what is seen.
 use Rattle.std.specs.Prelude.{◌≡◌, ◌≢◌, ◌≤◌, ℕ, ◌+◌, ◌-◌, ◌^◌, min, Bool, true, false, is_some, slice_set, slice_index_or}
 use Rattle.world.specs.run_model.World.{World}
 use Rattle.film_stills.specs.declared.look.Look.{Look}
 use Rattle.run_recording.specs.declared.sight.Sight.{Sight}
 use Rattle.run_recording.specs.Seen.{mark_of_look, nothing}
 
--- the worlds have one network, and their nodes differ at most at one id; if that is no node's, they
+-- the worlds have one network, and their nodes differ at most at one id; if that has no node, they
 -- are the same
 pub record DiffersAt (v : ℕ) (old new : World) : Type 0 where
   pub net : new.net ≡ old.net
   pub nodes : (u : ℕ) → u ≢ v → new.node u ≡ old.node u
   pub nowhere : old.net.nodes ≤ v → new ≡ old
 
--- a count of nodes, after one of them was or was not counted, and now is or is not; it stays at the
--- greatest value of 64 bits
+-- a count of nodes when one of them may have started or stopped counting; it stops at the greatest
+-- value of 64 bits
 abbrev pub recounted : ℕ → Bool → Bool → ℕ
 recounted count false true = min (count + 1) (2 ^ 64 - 1)
 recounted count true false = count - 1
 recounted count true true = count
 recounted count false false = count
 
--- what is seen, after one node has another look
+-- the sight with another look of one node
 abbrev pub with_look : Sight → ℕ → Look → Sight
 with_look s v look = record {
   places = s.places;

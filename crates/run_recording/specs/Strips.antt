@@ -12,8 +12,8 @@ pub record StripView : Type 0 where
   pub limit : ℕ
   pub moments : ℕ
 
--- These columns show these moments, in their order: each column but the last is the worst of
--- `width` of them, the last is the worst of `last`. Where there is no moment there is no column.
+-- These columns show these moments, in order: each column except the last is the worst of `width`
+-- of them, the last is the worst of `last`. Without moments there are no columns.
 pub data AreShown (width : ℕ) : ℕ → List Column → List Column → Type 0 where
   None : AreShown width width [] []
   Last : {last : ℕ} (first : Column) (later : List Column)
@@ -26,6 +26,6 @@ pub data AreShown (width : ℕ) : ℕ → List Column → List Column → Type 0
 abbrev pub Shows : StripView → List Column → Type 0
 Shows s moments = AreShown s.width s.last moments s.columns × (length moments ≡ s.moments)
 
--- it shows whatever moments there were, and a column is not much wider than they are many
+-- it shows all moments that there were, and a column is at most twice as wide as needed
 abbrev pub IsStrip : StripView → Type 0
 IsStrip s = ((moments : List Column) × Shows s moments) × (0 < s.width) × (s.width ≤ 2 * s.moments + 1)

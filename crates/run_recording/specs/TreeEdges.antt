@@ -4,7 +4,7 @@ use Rattle.topology.specs.Network.{Network}
 use Rattle.topology.specs.Tree.{parent_of}
 use Rattle.euler_ring.specs.Cycle.{is_named}
 
--- one of the network's nodes has the other for its parent
+-- one of the network's nodes has the other as its parent
 abbrev pub has_parent : Network → ℕ → ℕ → Bool
 has_parent net v w = nat_lt v net.nodes && is_named (parent_of net v) w
 

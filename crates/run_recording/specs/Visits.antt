@@ -1,5 +1,5 @@
--- The order in which the Euler tour of the true tree comes to the nodes first: the preorder of the
--- tree from the root on, the children of each node in the order in which the tour takes them.
+-- The order in which the Euler tour of the true tree first reaches the nodes: the preorder of the
+-- tree from the root, with the children of each node in the order of the tour.
 use Rattle.std.specs.Prelude.{◌≡◌, ℕ, ◌<◌, IsTrue, List, [], ◌∷◌, ◌++◌, if◌then◌else◌, fold, map}
 use Rattle.topology.specs.Network.{Network}
 use Rattle.euler_ring.specs.Cycle.{is_on}
@@ -7,21 +7,21 @@ use Rattle.euler_ring.specs.Tour.{Stop, tour}
 use Rattle.euler_ring.specs.Laws.{true_neighbours, stop_after}
 use Rattle.run_recording.specs.declared.tour.Visit.{Visit}
 
--- a node is put after the others, if it is not among them
+-- a node is added at the end, unless it is already there
 abbrev pub with_new : List ℕ → ℕ → List ℕ
 with_new order v = if is_on order v then order else order ++ v ∷ []
 
--- each item of a list, where it stands first
+-- each item of a list at its first place
 abbrev pub first_of_each : List ℕ → List ℕ
 first_of_each items = fold with_new [] items
 
--- the nodes, each where the tour comes to it first
+-- the nodes, in the order in which the tour first reaches them
 abbrev pub first_visits : Network → List ℕ
 first_visits net = first_of_each (map (λ stop. stop.1) (tour net))
 
 -- ---- what the steps of the tour keep
 
--- a stop as the tour has it
+-- a stop of the tour
 abbrev pub visit_of : Visit → Stop
 visit_of visit = (visit.from, visit.at)
 

@@ -8,29 +8,28 @@ use crate::mark::Mark;
 /// The most nodes of a network.
 pub const MOST_NODES: usize = 64;
 
-/// What is seen of a network at a moment, or the worst of what is seen at several.
+/// What is seen of a network at a moment, or the worst of several moments.
 #[derive(Clone, Copy, Debug, PartialEq, Eq)]
 pub struct Column {
-    /// The mark of each node, by its id; [`Mark::Settled`] where there is no such node.
+    /// The mark of each node, by its id; [`Mark::Settled`] if there is no such node.
     pub marks: [Mark; 64],
     /// How many nodes are privileged: the most at any of the moments.
     pub privileged: usize,
     /// How many nodes lend: the most at any of the moments.
     pub lending: usize,
-    /// How many sweeps end at these moments; the count stays at its greatest value.
+    /// How many sweeps end at these moments; the count stops at its greatest value.
     pub sweeps: u64,
     /// Whether damage was accepted at any of the moments.
     pub damaged: bool,
-    /// Whether the sweeps since the last damage became as many as `Net::sharp_bound` at any of the
-    /// moments.
+    /// Whether the sweeps since the last damage reached `Net::sharp_bound` at any of the moments.
     pub sharp: bool,
-    /// Whether they became as many as `Net::bound`.
+    /// Whether they reached `Net::bound`.
     pub bound: bool,
 }
 
 impl Column {
-    /// The worst of what is seen at these moments and at later ones: of each node the worse mark,
-    /// the greater counts, all sweeps, and what was at any of the moments.
+    /// The worst of these moments and later ones: for each node the worse mark, the greater
+    /// counts, all sweeps, and what happened at any of the moments.
     pub fn worse(&self, later: &Column) -> Column
         ensures { result ≡ worse_column self.now later.now }
     {
@@ -46,7 +45,7 @@ impl Column {
     }
 }
 
-/// Of each node the worse of its two marks.
+/// For each node the worse of its two marks.
 fn worse_marks(marks: &[Mark; 64], later: &[Mark; 64]) -> [Mark; 64]
     ensures { result ≡ worse_marks marks.now later.now }
 {
@@ -57,7 +56,7 @@ fn worse_marks(marks: &[Mark; 64], later: &[Mark; 64]) -> [Mark; 64]
     worst
 }
 
-/// Whether columns fall into pairs.
+/// Whether there is an even number of columns.
 pub fn is_even(columns: &[Column]) -> bool
     ensures { result ≡ is_even columns.now }
 {

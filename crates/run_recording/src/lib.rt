@@ -1,20 +1,20 @@
-//! What can be seen of a run: which nodes were wrong, privileged or lending, and when.
+//! What is seen of a run: which nodes were wrong, privileged or lending, and when.
 //!
-//! [`record`] reads an events text, lets its events happen, and keeps of each moment which [`Mark`]
-//! each node has, and how many nodes are privileged and lend. It keeps at most as many [`Column`]s
-//! as it was read: if there are more moments, a column shows the worst of several. [`runs_of`]
-//! gives the marks of a node as [`Run`]s of one mark, and [`first_visits`] the order of the nodes:
+//! [`record`] reads an events text, lets its events happen, and keeps for each moment the [`Mark`]
+//! of each node, and how many nodes are privileged and lend. It keeps at most the given number of
+//! [`Column`]s: if there are more moments, a column shows the worst of several. [`runs_of`] gives
+//! the marks of a node as [`Run`]s of one mark, and [`first_visits`] the order of the nodes:
 //!
 //! ```
 //! let recording = record(alloc, &net, &mut source, 1200, Window::ALL)?;
 //! let runs = runs_of(alloc, recording.strip().columns(), 0)?;
 //! ```
 //!
-//! A moment is the start, or what stands after an event, be it refused or not; so there is one
-//! moment more than there are events. Nothing here knows of a page, colours or SVG.
+//! A moment is the start, or the time after an event, refused or not; so there is one more moment
+//! than events. Nothing here knows about pages, colours or SVG.
 //!
-//! The trap: whether a node's distance and parent are true is asked of the network as it stands,
-//! where edges join and go; [`first_visits`] and [`is_tree_edge`] ask the one that is given.
+//! The trap: a node's distance and parent are compared with the present network, whose edges may
+//! join and go; [`first_visits`] and [`is_tree_edge`] use the given network.
 #![tactic(auto)]
 
 mod column;

@@ -2,7 +2,7 @@
 ghost use Rattle.std.specs.Prelude.{◌≡◌};
 ghost use Rattle.run_recording.specs.Marks.{rank, worse};
 
-/// What is seen of a node, the least first. Of several moments the worst is shown.
+/// What is seen of a node, the best first. Of several moments the worst is shown.
 #[derive(Clone, Copy, Debug, PartialEq, Eq)]
 pub enum Mark {
     /// Its distance and its parent are the true ones; it is not privileged, and does not lend.
@@ -19,7 +19,7 @@ pub enum Mark {
 }
 
 impl Mark {
-    /// How bad it is, from 0 on.
+    /// How bad it is, from 0 up.
     pub fn rank(self) -> u8
         ensures { result ≡ rank self }
     {
@@ -31,7 +31,7 @@ impl Mark {
         }
     }
 
-    /// The worse of two: this one where the later one is as bad.
+    /// The worse of two marks: this one, if the later one is as bad.
     pub fn worse(self, later: Mark) -> Mark
         ensures { result ≡ worse self later }
     {

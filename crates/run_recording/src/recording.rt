@@ -29,7 +29,7 @@ use world::{Configuration, Event, Judge, World};
 /// The most bytes of one read.
 const PIECE: usize = 8192;
 
-/// How many pairs of links are spare as a run begins: as many edges more may join.
+/// How many pairs of links are spare at the start of a run: that many more edges may join.
 const SPARE_PAIRS: u16 = 8;
 
 /// What was before the first moment that is shown.
@@ -85,13 +85,13 @@ impl<A: Allocator + Copy> Model for Recording<A> {
         × IsSightOf (world_of r.judge.configuration) r.sight };
 }
 
-/// Reads an events text, lets its events happen on a network, from its default nodes, empty links
-/// and 8 spare pairs of links on, and keeps what is seen of the moments that the window holds, in
-/// at most as many columns as are given.
+/// Reads an events text, lets its events happen on a network, from fresh nodes, empty links and 8
+/// spare pairs of links, and keeps what is seen at the moments that the window holds, in at most
+/// the given number of columns.
 ///
 /// # Errors
-/// The first that is met: [`SimFault::Memory`], before anything is read; [`SimFault::Read`] where
-/// the source failed; [`SimFault::Long`] where it gave more bytes than [`LONGEST_TEXT`].
+/// The first that happens: [`SimFault::Memory`], before anything is read; [`SimFault::Read`] if
+/// the source failed; [`SimFault::Long`] if it gave more bytes than [`LONGEST_TEXT`].
 pub fn record<A: Allocator + Copy, N: Allocator + Copy, R: Source>(
     alloc: A,
     net: &Net<N>,
@@ -113,10 +113,11 @@ pub fn record<A: Allocator + Copy, N: Allocator + Copy, R: Source>(
     Ok(recording)
 }
 
-/// The same for a film: it keeps at most `stills` stills after the first moment that is shown, too.
+/// The same for a film: it also keeps at most `stills` stills after the first moment that is
+/// shown.
 ///
 /// # Errors
-/// As [`record`].
+/// Those of [`record`].
 pub fn record_film<A: Allocator + Copy, N: Allocator + Copy, R: Source>(
     alloc: A,
     net: &Net<N>,
@@ -152,7 +153,7 @@ pub struct Take {
     pub sweeps: u64,
 }
 
-/// What a film shows of what is seen.
+/// The still of a film, by what is seen.
 fn still_of(sight: &Sight, take: Take) -> Still
     ensures { IsStillSeen sight.now take result }
 {
@@ -187,8 +188,7 @@ fn keep_still<A: Allocator + Copy>(
     }
 }
 
-/// What a column shows of a moment that is seen, at which the sweeps since the last damage have
-/// become `after`, from `before`.
+/// The column of a moment at which the sweeps since the last damage went from `before` to `after`.
 fn moment_of<A: Allocator + Copy>(
     sight: &Sight,
     net: &Net<A>,
@@ -221,7 +221,7 @@ fn is_damage(event: &Event, accepted: bool) -> bool
 }
 
 impl<A: Allocator + Copy> Recording<A> {
-    /// What is kept as a run begins.
+    /// What is kept at the start of a run.
     fn new(
         world: World<A>,
         mut strip: Strip<A>,
@@ -325,7 +325,7 @@ impl<A: Allocator + Copy> Recording<A> {
         }
     }
 
-    /// The next line: its event happens.
+    /// The next line: lets its event happen.
     fn line(&mut self, line: TextLine)
         requires { self.old.events < 2 ^ 61 }
         ensures records { RecordsNext self.old (told_events (line ∷ [])) self.new }
@@ -342,7 +342,7 @@ impl<A: Allocator + Copy> Recording<A> {
         }
     }
 
-    /// An event happens, and the moment after it is kept.
+    /// Lets an event happen, and keeps the moment after it.
     fn happens(&mut self, event: &Event)
         requires { self.old.events < 2 ^ 61 }
         ensures records { RecordsNext self.old (event.now ∷ []) self.new }
@@ -381,7 +381,7 @@ impl<A: Allocator + Copy> Recording<A> {
         keep_still(&mut self.reel, self.window, self.ended, &self.sight, take);
     }
 
-    /// The columns that are shown, and how many moments each is.
+    /// The columns, and how many moments each shows.
     pub fn strip(&self) -> &Strip<A>
         ensures { result.now ≡ self.now.strip }
     {
@@ -405,13 +405,13 @@ impl<A: Allocator + Copy> Recording<A> {
     /// The sweeps since the last accepted damage, at the end.
     pub fn sweeps(&self) -> u64
         ensures count { result ≡ self.now.judge.sweeps }
-        // Whatever run was recorded, that many sweeps and no more stand after its last damage.
+        // Whatever run was recorded, there are exactly this many sweeps after its last damage.
         ensures seen { AreSweepsSeen self.now.judge result }
     {
         self.judge.sweeps()
     }
 
-    /// The events that were read, also those that were refused.
+    /// The events that were read, including refused ones.
     pub fn events(&self) -> u64
         ensures { result ≡ self.now.events }
     {
@@ -433,14 +433,14 @@ impl<A: Allocator + Copy> Recording<A> {
     }
 }
 
-/// What is now, where nothing is shown yet; else what was.
+/// What is now, if nothing is shown yet; else what was.
 fn now_where(is_first: bool, now: Before, was: Before) -> Before
     ensures { result ≡ (if is_first then now else was) }
 {
     if is_first { now } else { was }
 }
 
-/// Keeps a moment, where the window holds it.
+/// Keeps a moment, if the window holds it.
 fn keep<A: Allocator + Copy>(strip: &mut Strip<A>, window: Window, ended: u64, moment: &Column)
     requires { strip.old.moments < 2 ^ 62 }
     ensures shows { (moments : List Column) → Shows strip.old moments

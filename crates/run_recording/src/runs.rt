@@ -6,12 +6,12 @@ use crate::column::Column;
 use crate::mark::Mark;
 use std::alloc::{AllocError, Global};
 
-/// Columns next to each other in which a node has the same mark.
+/// Adjacent columns in which a node has the same mark.
 #[derive(Clone, Copy, Debug, PartialEq, Eq)]
 pub struct Run {
     /// The first column.
     pub first: usize,
-    /// How many they are.
+    /// The number of columns.
     pub count: usize,
     /// The mark.
     pub mark: Mark,
@@ -39,7 +39,7 @@ fn mark_in(column: &Column, v: u16) -> Mark
         .unwrap_or(Mark::Settled)
 }
 
-/// The runs go on, with the mark in the next column.
+/// Adds the mark in the next column to the runs.
 fn put_mark(runs: &mut Vec<Run>, place: usize, mark: Mark) -> Result<(), AllocError>
     requires { place < 2 ^ 63 }
     ensures { OnOk result (AreRunsNext runs.old.items place mark runs.new.items) }
@@ -66,7 +66,7 @@ fn end_in(runs: &[Run], mark: Mark) -> bool
     }
 }
 
-/// The last run, if there is one, is a column longer.
+/// Makes the last run, if there is one, a column longer.
 fn lengthen(runs: &mut [Run])
     ensures { runs.new ≡ longer runs.old }
 {

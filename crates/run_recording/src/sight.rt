@@ -16,13 +16,13 @@ use world::{Configuration, Event};
 
 /// What is seen of all nodes at one moment, by their ids.
 ///
-/// It is kept from event to event, since most events change the look of one node at most, and none
-/// but damage changes the true places.
+/// It is kept from event to event: most events change the look of at most one node, and only
+/// damage changes the true places.
 #[derive(Clone, Copy)]
 pub struct Sight {
     /// The true places.
     pub places: [Place; 64],
-    /// The edges, and [`NO_EDGE`] at the places that have none.
+    /// The edges, with [`NO_EDGE`] at places without one.
     pub edges: [(u16, u16); MOST_EDGES],
     /// What is seen of each node.
     pub looks: [Look; 64],
@@ -34,7 +34,7 @@ pub struct Sight {
     pub lending: usize,
 }
 
-/// Whether both are nobody, or both are the same node.
+/// Whether both are none, or both are the same node.
 fn is_same(parent: Option<u16>, other: Option<u16>) -> bool
     ensures { result ≡ is_same parent other }
 {
@@ -52,7 +52,7 @@ fn is_at(own: Place, place: Place) -> bool
     own.distance == place.distance && is_same(own.parent, place.parent)
 }
 
-/// What a node shows, whose true place is given.
+/// The look of a node with this true place.
 fn look_by<A: Allocator + Copy>(configuration: &Configuration<A>, place: Place, v: u16) -> Look
     requires { v < (world_of configuration.now).net.nodes }
     ensures { result ≡ look_by (world_of configuration.now) place v }
@@ -168,7 +168,7 @@ fn marks_of(looks: &[Look; 64]) -> [Mark; 64]
     marks
 }
 
-/// A count of nodes, after one of them was or was not counted, and now is or is not.
+/// A count of nodes when one of them may have started or stopped counting.
 fn recounted(count: usize, was: bool, is: bool) -> usize
     ensures { result ≡ recounted count was is }
 {
@@ -196,8 +196,8 @@ impl Sight {
         }
     }
 
-    /// What is seen after an event led to this configuration, if that before it was seen. It looks
-    /// at one node at most, but for damage.
+    /// Updates what is seen after an event led to this configuration. Looks at one node at most,
+    /// except after damage.
     pub fn follow<A: Allocator + Copy>(&mut self, configuration: &Configuration<A>, event: &Event)
         ensures { (w : World) → self.old ≡ sight_of w
             → world_of configuration.now ≡ step w event.now
@@ -214,7 +214,7 @@ impl Sight {
         }
     }
 
-    /// What is seen after only this node changed.
+    /// Updates what is seen if only this node changed.
     fn look_again<A: Allocator + Copy>(&mut self, configuration: &Configuration<A>, v: u16)
         ensures { (w : World) → self.old ≡ sight_of w → DiffersAt v w (world_of configuration.now)
             → self.new ≡ sight_of (world_of configuration.now) }
@@ -225,7 +225,7 @@ impl Sight {
         }
     }
 
-    /// A node has another look.
+    /// Replaces the look of a node.
     fn put(&mut self, v: usize, look: Look)
         requires { v < 64 }
         ensures { self.new ≡ with_look self.old v look }

@@ -10,17 +10,17 @@ use std::alloc::{AllocError, Allocator, Global};
 use std::marker::Model;
 use std::mem;
 
-/// Columns, each of which shows the worst of as many moments, but for the last one, which may yet
-/// show fewer. Where there is no room for one more column, each two become one.
+/// Columns that each show the worst of `width` moments; the last may still show fewer. If there is
+/// no room for one more column, each two become one.
 #[derive(Drop)]
 pub struct Strip<A: Allocator + Copy = Global> {
     columns: Vec<Column, A>,
-    /// Where two columns become one; empty between two calls.
+    /// Room for folding; empty between two calls.
     spare: Vec<Column, A>,
     limit: usize,
     /// How many moments a column shows.
     width: u64,
-    /// How many the last one shows; `width` where there is none.
+    /// How many the last one shows; `width` if there is none.
     last: u64,
     /// How many moments there were.
     moments: u64,
@@ -56,7 +56,7 @@ impl<A: Allocator + Copy> Model for Strip<A> {
 }
 
 impl<A: Allocator + Copy> Strip<A> {
-    /// A strip of no moments, of at most `limit` columns. Its memory is taken here.
+    /// A strip without moments, of at most `limit` columns. Takes all its memory.
     pub fn new(alloc: A, limit: usize) -> Result<Strip<A>, AllocError>
         requires { 0 < limit }
         ensures shows { IfOk result (λ strip. Shows strip []) }
@@ -79,14 +79,14 @@ impl<A: Allocator + Copy> Strip<A> {
         self.columns.as_slice()
     }
 
-    /// How many moments each column shows, but for the last one, which may show fewer.
+    /// How many moments each column shows; the last may show fewer.
     pub fn width(&self) -> u64
         ensures { result ≡ self.now.width }
     {
         self.width
     }
 
-    /// One more moment, of at most 2^62.
+    /// Adds one more moment, at most 2^62 in all.
     pub fn push(&mut self, moment: &Column)
         requires { self.old.moments < 2 ^ 62 }
         ensures shows { (moments : List Column)
@@ -100,7 +100,7 @@ impl<A: Allocator + Copy> Strip<A> {
         self.add(moment);
     }
 
-    /// One more moment, where there is room for it.
+    /// Adds one more moment, if there is room for it.
     fn add(&mut self, moment: &Column)
         requires few { self.old.moments < 2 ^ 62 }
         requires room { self.old.last ≡ self.old.width
@@ -120,7 +120,7 @@ impl<A: Allocator + Copy> Strip<A> {
         }
     }
 
-    /// Each two columns become one, so that there is room for a moment more.
+    /// Folds the columns in pairs, so that there is room for one more moment.
     fn fold(&mut self)
         requires full { self.old.last ≡ self.old.width }
         requires some { 0 < length self.old.columns }
@@ -139,7 +139,7 @@ impl<A: Allocator + Copy> Strip<A> {
     }
 }
 
-/// How many moments the last column shows, where each two columns become one.
+/// How many moments the last column shows after a fold.
 fn last_folded(even: bool, width: u64, last: u64) -> u64
     requires { last + width < 2 ^ 64 }
     ensures { result ≡ last_folded even width last }
@@ -147,7 +147,7 @@ fn last_folded(even: bool, width: u64, last: u64) -> u64
     if even { last + width } else { last }
 }
 
-/// Writes each two columns as one; an odd one at the end stays.
+/// Writes the columns folded in pairs; an odd one at the end stays.
 fn fold_into<A: Allocator>(columns: &[Column], spare: &mut Vec<Column, A>)
     requires empty { spare.old.items ≡ [] }
     requires room { length columns.now ≤ vec_capacity spare.old }

@@ -1,4 +1,4 @@
-//! The order in which the tour of the tree comes to the nodes first.
+//! The order in which the tour of the tree first reaches the nodes.
 ghost use Rattle.std.specs.Prelude.{◌≡◌, ◌<◌, ◌||◌, ℕ, IsTrue, Option, IfOk, OnOk};
 ghost use Rattle.euler_ring.specs.Cycle.{is_named, is_on};
 ghost use Rattle.euler_ring.specs.Laws.{true_neighbours, stop_after};
@@ -21,9 +21,9 @@ pub(crate) struct Visit {
     pub at: u16,
 }
 
-/// The nodes, each where the Euler tour of the tree comes to it first: the tree in preorder from
-/// the root on. The tour begins where it comes to the root from the root's smallest child, so that
-/// this child and what is below it come last.
+/// The nodes in the order in which the Euler tour of the tree first reaches them: the tree in
+/// preorder from the root. The tour begins when it comes to the root from the root's smallest
+/// child, so this child and all below it come last.
 pub fn first_visits(alloc: Global, net: &Net) -> Result<Vec<u16>, AllocError>
     ensures { IfOk result (λ order. order.items ≡ first_visits net.now) }
 {
@@ -38,7 +38,7 @@ pub fn first_visits(alloc: Global, net: &Net) -> Result<Vec<u16>, AllocError>
     Ok(order)
 }
 
-/// Puts a node after the others, if it is not among them.
+/// Adds a node at the end, unless it is already there.
 fn put_new(order: &mut Vec<u16>, v: u16) -> Result<(), AllocError>
     ensures { OnOk result (order.new.items ≡ with_new order.old.items v) }
 {
@@ -82,7 +82,7 @@ fn next_visit(net: &Net, visit: Visit) -> Visit
     }
 }
 
-/// The neighbours of a node to which an edge of the tree leads.
+/// The neighbours of a node on the tree.
 fn neighbours_on_tree(net: &Net, v: u16) -> TreeNeighbours
     requires { v < net.now.nodes }
     ensures tree { result ≡ true_neighbours net.now v }

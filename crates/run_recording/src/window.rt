@@ -2,8 +2,8 @@
 ghost use Rattle.std.specs.Prelude.{◌≡◌};
 ghost use Rattle.run_recording.specs.Held.{is_held};
 
-/// The moments that must be shown, by how many sweeps have ended since the start, at the moment
-/// itself among them; damage does not start this count again.
+/// The moments to show, by how many sweeps have ended since the start, including one that ends at
+/// the moment itself. Damage does not restart this count.
 #[derive(Clone, Copy, Debug, PartialEq, Eq)]
 pub struct Window {
     /// The least number.
@@ -19,7 +19,7 @@ impl Window {
         to: u64::MAX,
     };
 
-    /// Whether a moment is shown at which as many sweeps have ended.
+    /// Whether a moment is shown at which this many sweeps have ended.
     pub fn holds(self, ended: u64) -> bool
         ensures { result ≡ is_held self ended }
     {

@@ -1,4 +1,4 @@
--- What the counted sweeps of a run say of the world that it has led to.
+-- What the counted sweeps of a run say about the world that it led to.
 use Rattle.std.proofs.Common.{◌≡◌, ◌∙◌, sym, ap, subst, ℕ, ◌+◌, ◌*◌, ◌≤◌, IsTrue, List, Contains, arith}
 use Rattle.judge.specs.run_model.World.{World, IsWorldInRange}
 use Rattle.judge.specs.run_model.Run.{run, IsUndamaged}
@@ -18,13 +18,12 @@ use Rattle.judge.specs.Judging.{counted_up_to}
 use Rattle.judge.specs.JudgeView.{JudgeView, HasSeen}
 use Rattle.judge.specs.configuration.ConfigurationView.{ConfigurationView, world_of}
 
--- as many sweeps without damage as the network needs lead from each world in range to one of which
--- P holds
+-- as many sweeps without damage as the network needs lead from each world in range to one with P
 abbrev pub LeadsTo : (Network → ℕ) → (World → Type 0) → Type 0
 LeadsTo needed P = (w : World) (es : List Event) → IsWorldInRange w → IsUndamaged w es → Sweeps w (needed w.net) es → P (run w es)
 
--- The network at the moment after the last damage is the one that stands at the end, and what those
--- sweeps lead to the run has led to.
+-- The network at the moment after the last damage is the network at the end, and the run has
+-- reached what those sweeps lead to.
 module _ (network : NetworkStays) (leads : MomentLeads) (start : World) (es : List Event) (ok : IsWorldInRange start) where
   pub same-network : (after_damage start es).world.net ≡ (run start es).net
   same-network =
@@ -51,7 +50,7 @@ module _ (network : NetworkStays) (leads : MomentLeads) (start : World) (es : Li
       subst (λ w. Contains said ((w.node u).port v).staged × Contains said ((w.node v).port u).copy) now
       (law m.world first last u v l.0 (subst (IsUndamaged m.world) parted l.1) joined-then early-then late)
 
-  -- two sweeps of those since the last damage move each sender's number
+  -- two of the sweeps since the last damage move each sender's number
   pub numbers-move : UndamagedSplits → RangesStay → NumbersMove → DoNumbersMove start es (run start es)
   numbers-move splits ranges law first last u v parted joined sweeps =
       let m = after_damage start es in
@@ -60,7 +59,7 @@ module _ (network : NetworkStays) (leads : MomentLeads) (start : World) (es : Li
       let net : (run m.world first).net ≡ (run start es).net = network m.world first fine ∙ same-network in
       law (run m.world first) last u v (ranges m.world first l.0) (subst (λ n. IsTrue (are_joined n.edges u v)) (sym net) joined) sweeps
 
--- from a legitimate world, what is no damage leads through legitimate worlds alone
+-- from a legitimate world, events without damage lead only through legitimate worlds
 pub closed : UndamagedSplits → RangesStay → LegitimateStays → LegitimateServes → (start : World) (es : List Event) → IsWorldInRange start → IsLegitimate start
     → IsUndamaged start es → IsLegitimateThroughout start es
 closed splits ranges stays serves start es ok legitimate fine before rest parted =
@@ -68,7 +67,7 @@ closed splits ranges stays serves start es ok legitimate fine before rest parted
     let then = stays start before ok early.0 legitimate in
     (then, serves (run start before) (ranges start before ok) then)
 
--- A judge has seen the events of a list, and gives up the configuration `now`.
+-- A judge has seen the events of a list, and hands out the configuration `now`.
 module _ (network : NetworkStays) (leads : MomentLeads) (start : World) (es : List Event) (j : JudgeView) (seen : HasSeen j start es)
     (now : ConfigurationView) (now-is : now ≡ j.configuration) where
   pub led : run start es ≡ world_of now
@@ -80,7 +79,7 @@ module _ (network : NetworkStays) (leads : MomentLeads) (start : World) (es : Li
   pub moved : UndamagedSplits → RangesStay → NumbersMove → DoNumbersMove start es (world_of now)
   moved splits ranges law = subst (DoNumbersMove start es) led (numbers-move network leads start es seen.judging.in_range splits ranges law)
 
-  -- so its count says where the world stands
+  -- so its count says what the world has reached
   pub reached : FewerSweeps → (sweeps count : ℕ) → IsSweepCount start es count → sweeps ≡ counted_up_to count
       → (needed : Network → ℕ) (P : World → Type 0) → LeadsTo needed P → needed (world_of now).net ≤ sweeps → P (world_of now)
   reached fewer sweeps count counts same needed P law enough =

@@ -47,7 +47,7 @@ repeated (suc n) = least ++ repeated n
 abbrev after : ℕ → World
 after n = run start (repeated n)
 
--- if the least sweep is a sweep, one comes before the others
+-- the shortest sweep before a list of sweeps makes one more
 one-more : (w : World) (r : ℕ) (es : List Event) → w.net ≡ two_nodes → has_damage w least ≡ false → has_full_tick w least 0 ≡ true → has_full_tick w least 1 ≡ true
     → is_renewed w least 0 1 ≡ true → is_renewed w least 1 0 ≡ true → Sweeps (run w least) r es → Sweeps w (suc r) (least ++ es)
 one-more w r es net fine first second out back sweeps = (
@@ -85,8 +85,8 @@ says-one p c =
     let said = said_in (after 8) (repeated 3) 1 0 in
     All-contains (λ x. x.distance == 1 ≡ true) said p (AllPass-from_list_all (λ x. x.distance == 1) said refl) c
 
--- at the start it says 2, the greatest distance, and a world that still has this staged is not what
--- these sweeps lead to
+-- at the start it says 2, the greatest distance, and these sweeps do not lead to a world that
+-- still has this staged
 stale : ¬ ArePayloadsFresh start (repeated 11) start
 stale fresh = absurd (let h = says-one _ (fresh (repeated 8) (repeated 3) 1 0 refl refl eight-sweeps three-sweeps).0 in cc)
 

@@ -1,4 +1,4 @@
--- Small examples of simulated texts, and some that look like them and are none.
+-- Small examples of simulated texts, with some that fail.
 use Rattle.std.proofs.Common.{◌≡◌, ℕ, ◌++◌, List, [], ◌∷◌, Some, None, codes, decimal, refl, arith}
 use Rattle.std.proofs.lemmas.Fmt.{decimal_digit}
 use Rattle.topology.specs.Network.{Network}
@@ -35,25 +35,25 @@ five-is = decimal_digit 5 (omega arith)
 eight-is : decimal 8 ≡ codes "8"
 eight-is = decimal_digit 8 (omega arith)
 
--- a refused line has a line of its own, any other none
+-- a refused line has its own line, any other has none
 refused-line : refusal_line 8 (Some (codes "Unread")) ≡ codes "line 8: Unread\n"
 refused-line = rw eight-is
 
 refused-none : refusal_line 8 None ≡ []
 refused-none = refl
 
--- each refused line has its number, and a line that is passed over is numbered too
+-- each refused line has its number, and a skipped line is counted too
 numbered : refusals_of start (text_lines (codes "tick 2\n# tick 2\n\nsend 0 0\nTick 0")) ≡ codes "line 1: NoNode\nline 4: NoLink\nline 5: Unread\n"
 numbered = rw (one-is, four-is, five-is)
 
--- what one line does the next one meets: the second ask is refused, the first is not
+-- each line meets what the lines before it did: the second ask is refused, the first is not
 met : refusals_of start (Told (Ask 1 7) ∷ Told (Ask 1 7) ∷ []) ≡ codes "line 2: Twice\n"
 met = rw two-is
 
 met-counted : refused_lines start (Told (Ask 1 7) ∷ Unread ∷ Passed ∷ Told (Ask 1 7) ∷ []) ≡ 2
 met-counted = refl
 
--- only lines that spell an event have one
+-- only lines that spell an event give one
 told-two : told_events (text_lines (codes "tick 0\nTick 0\n# tick 0\ntick 1")) ≡ Tick 0 ∷ Tick 1 ∷ []
 told-two = refl
 
@@ -80,7 +80,7 @@ shown-empty = rw (zero-is, one-is, two-is)
 shown-refused : simulated_text start (codes "Tick 0") 0 ≡ codes "line 1: Unread\n" ++ nothing_happened
 shown-refused = rw (zero-is, one-is, two-is)
 
--- a simulation begins with 8 spare pairs of links, and as nodes start
+-- a simulation begins with fresh nodes and 8 spare pairs of links
 starts-with_spares : simulated_start two_nodes ≡ record start { spares = 8 }
 starts-with_spares = refl
 

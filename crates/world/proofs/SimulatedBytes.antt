@@ -1,4 +1,4 @@
--- A simulation goes on with each piece of its text.
+-- A simulation, piece by piece of its text.
 use Rattle.std.proofs.Common.{◌≡◌, ◌∙◌, ap, sym, ℕ, ◌+◌, ◌-◌, List, [], ◌∷◌, ◌++◌, Option, Result, Ok, Err, IsErr, length, map, take, drop, arith}
 use Rattle.std.proofs.lemmas.Grind.{common_steps}
 use Rattle.std.proofs.lemmas.List.{map-append, take_rest}
@@ -20,7 +20,7 @@ use Rattle.world.proofs.Writing.{beginning_of_more}
 pub piece_more : (piece : List ℕ) (at used : ℕ) → take (at + used) piece ≡ take at piece ++ take used (take (length piece - at) (drop at piece))
 piece_more piece at used = take-add at used piece ∙ ap (λ xs. take at piece ++ take used xs) (sym (take_rest piece at))
 
--- the refusal lines of the whole lines of bytes are the first ones of more bytes
+-- the refusal lines of the whole lines of some bytes come first for more bytes
 pub beginning_of_bytes : LinesAreCut → (start : World) (bytes more : List ℕ) (before after : Option (List ℕ))
     → TakesABeginning (refusals_of start (ended_lines bytes)) before after → TakesABeginning (refusals_of start (ended_lines (bytes ++ more))) before after
 beginning_of_bytes cut start bytes more before after b =
@@ -31,7 +31,7 @@ beginning_of_bytes cut start bytes more before after b =
     ap (refusals_of start) both ∙ refusals_both start 1 (ended_lines bytes) (map text_line rest) in
     rw parts (beginning_of_more (refusals_of start (ended_lines bytes)) behind before after b)
 
--- a line more is ended, and has been run
+-- one more line has ended, and was run
 pub line_ends : (start : World) (bytes more : List ℕ) (line : TextLine) (before between after : Option (List ℕ)) (s t : SimulationView) (reader : Kept)
     → IsUnderWay start bytes before between s → StandsAfter 64 (bytes ++ more) reader → ended_lines (bytes ++ more) ≡ ended_lines bytes ++ line ∷ []
     → (HasRun start (ended_lines bytes) before between (record s { reader = reader }) → HasRun start (ended_lines bytes ++ line ∷ []) before after t)
@@ -41,7 +41,7 @@ line_ends start bytes more line before between after s t reader u stands ends ru
   has_run = rw ends (runs (record { seen = u.has_run.seen; lines_are = u.has_run.lines_are; refused_are = u.has_run.refused_are; written = u.has_run.written }));
 }
 
--- no line more is ended, and more is kept of the one under way
+-- no line has ended, and more is kept of the one under way
 pub half_line_grows : (start : World) (bytes more : List ℕ) (before now : Option (List ℕ)) (s : SimulationView) (reader : Kept)
     → IsUnderWay start bytes before now s → StandsAfter 64 (bytes ++ more) reader → ended_lines (bytes ++ more) ≡ ended_lines bytes
     → IsUnderWay start (bytes ++ more) before now (record s { reader = reader })
@@ -50,7 +50,7 @@ half_line_grows start bytes more before now s reader u stands ends = record {
   has_run = rw ends (record { seen = u.has_run.seen; lines_are = u.has_run.lines_are; refused_are = u.has_run.refused_are; written = u.has_run.written });
 }
 
--- a line more is ended, and the sink failed
+-- one more line has ended, and the sink failed
 pub line_fails : LinesAreCut → (start : World) (bytes more behind : List ℕ) (line : TextLine) (before between after : Option (List ℕ)) (s : SimulationView) (reader : Kept)
     → IsUnderWay start bytes before between s → ended_lines (bytes ++ more) ≡ ended_lines bytes ++ line ∷ []
     → (HasRun start (ended_lines bytes) before between (record s { reader = reader }) → TakesABeginning (refusals_of start (ended_lines bytes ++ line ∷ [])) before after)

@@ -43,7 +43,7 @@ module _ (start : World) (bytes : List ℕ) (before between after : Option (List
     lending = is_lending ∙ ap lending_count h.seen.judging.now_is;
   }
 
-  -- only a beginning of it was written
+  -- only the beginning of it was written
   pub is_half_shown : TakesABeginning (state_text (world_of s.judge.configuration) sweeps) between after → IsHalfShown start bytes before after
   is_half_shown b = record {
     count = counted.0;
@@ -51,12 +51,12 @@ module _ (start : World) (bytes : List ℕ) (before between after : Option (List
     written = then_beginning (refusals_of start (text_lines bytes)) shown_text before between after h.written (rw same_text at b);
   }
 
--- an answer that is this fault
+-- the answer is this fault
 pub fault_is : {T : Type 0} (result : Result T SimFault) (fault : SimFault) → IsErrAnd result (λ e. e ≡ fault) → result ≡ Err fault
 fault_is (Ok value) fault failed = grind (arith, common_steps)
 fault_is (Err e) fault failed = ap (λ f. Err f) failed
 
--- what is said of a text that was not read to its end
+-- what is claimed for a text that was not read to its end
 pub not_read : (start : World) (bytes : List ℕ) (rest before now : Option (List ℕ)) (s : SimulationView) (fault : SimFault)
     → Reads (Err fault) start bytes rest before now s → IsSimulated start bytes rest before now (Err fault)
 not_read start bytes rest before now s Memory r = absurd r
@@ -64,7 +64,7 @@ not_read start bytes rest before now s Read r = r
 not_read start bytes rest before now s Long r = r
 not_read start bytes rest before now s Write r = inl r
 
--- what is said of a text that was
+-- what is claimed for a text that was
 pub all_was_read : (start : World) (bytes : List ℕ) (rest before now : Option (List ℕ)) (result : Result Summary SimFault)
     → rest ≡ Some [] → length bytes ≤ longest_text → IfErr result (λ fault. fault ≡ Write) → Finishes result start bytes before now
     → IsSimulated start bytes rest before now result
@@ -83,7 +83,7 @@ pub has_cause : (result : Result Summary SimFault) (source source_after sink bet
 has_cause (Ok summary) source source_after sink between sink_after write higher counts = grind (arith, common_steps)
 has_cause (Err fault) source source_after sink between sink_after write higher counts = rw write (rose_then sink between sink_after higher counts.1)
 
--- a count that did not fall in one call, nor in the next
+-- a count that did not fall in either of two calls
 pub higher_then : (result : Result Summary SimFault) (failures more most : ℕ) → failures ≤ more → CountsFailures result more most → failures ≤ most
 higher_then (Ok summary) failures more most first second = omega (arith, first, second)
 higher_then (Err fault) failures more most first second = omega (arith, first, second.0)

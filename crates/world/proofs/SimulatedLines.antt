@@ -35,7 +35,7 @@ refusals_both w n (Told e ∷ lines) more =
     (refusals_both next (n + 1) lines more ∙ ap (λ k. refusal_lines next (n + 1) lines ++ refusal_lines (run next (told_events lines)) k more) further)
     ∙ sym (append_assoc first (refusal_lines next (n + 1) lines) (refusal_lines (run next (told_events lines)) (n + length (Told e ∷ lines)) more))
 
--- how many of lines and then more lines are refused
+-- how many of some lines and then more lines are refused
 pub refused_both : (w : World) (lines more : List TextLine)
     → refused_lines w (lines ++ more) ≡ refused_lines w lines + refused_lines (run w (told_events lines)) more
 refused_both w [] more = grind (arith, common_steps)
@@ -43,7 +43,7 @@ refused_both w (Passed ∷ lines) more = let r = refused_both w lines more in gr
 refused_both w (Unread ∷ lines) more = let r = refused_both w lines more in grind (arith, common_steps)
 refused_both w (Told e ∷ lines) more = let r = refused_both (step w e) lines more in grind (arith, common_steps)
 
--- a count that has one more
+-- a count with one more
 abbrev pub one_more : ℕ → Option (List ℕ) → ℕ
 one_more refused None = refused
 one_more refused (Some name) = min (refused + 1) (2 ^ 64 - 1)
@@ -52,7 +52,7 @@ counts_on : (r : Option (List ℕ)) (n : ℕ) → one_more (counted_up_to n) r �
 counts_on None n = grind (arith, common_steps)
 counts_on (Some name) n = grind (arith, common_steps)
 
--- the refusal lines of lines and of one more
+-- the refusal lines of lines and one more
 pub refusals_more : (w : World) (lines : List TextLine) (line : TextLine) (number : ℕ) → number ≡ length lines + 1
     → refusals_of w (lines ++ line ∷ []) ≡ refusals_of w lines ++ refusal_line number (line_refusal (run w (told_events lines)) line)
 refusals_more w lines line number is =
@@ -61,14 +61,14 @@ refusals_more w lines line number is =
     ∙ ap (λ k. refusals_of w lines ++ refusal_lines (run w (told_events lines)) k (line ∷ [])) same
     ∙ ap (λ xs. refusals_of w lines ++ xs) (append-nil (refusal_line number (line_refusal (run w (told_events lines)) line)))
 
--- how many of lines and of one more are refused
+-- how many of some lines and one more are refused
 refused_more : (w : World) (lines : List TextLine) (line : TextLine)
     → refused_lines w (lines ++ line ∷ []) ≡ refused_lines w lines + (if is_some (line_refusal (run w (told_events lines)) line) then 1 else 0)
 refused_more w lines line =
     let one : (if is_some (line_refusal (run w (told_events lines)) line) then 1 else 0) + 0 ≡ (if is_some (line_refusal (run w (told_events lines)) line) then 1 else 0) = omega arith in
     refused_both w lines (line ∷ []) ∙ ap (λ n. refused_lines w lines + n) one
 
--- a line more has been run, and reported if it is refused
+-- one more line was run, and reported if it is refused
 pub has_run_more : (start : World) (lines : List TextLine) (line : TextLine) (before between after : Option (List ℕ)) (s t : SimulationView)
     → HasRun start lines before between s → HasSeen t.judge start (told_events lines ++ told_events (line ∷ [])) → t.lines ≡ s.lines + 1
     → t.refused ≡ one_more s.refused (line_refusal (run start (told_events lines)) line)
@@ -86,7 +86,7 @@ has_run_more start lines line before between after s t h seen number refused wri
       (takes_both (refusals_of start lines) (refusal_line (s.lines + 1) (line_refusal (run start (told_events lines)) line)) before between after h.written written);
 }
 
--- the sink failed at the refusal line of one more
+-- the sink failed at the refusal line of one more line
 pub fails_at_line : (start : World) (lines : List TextLine) (line : TextLine) (before between after : Option (List ℕ)) (s : SimulationView)
     → HasRun start lines before between s
     → TakesABeginning (refusal_line (s.lines + 1) (line_refusal (run start (told_events lines)) line)) between after
@@ -95,7 +95,7 @@ fails_at_line start lines line before between after s h b =
     rw (refusals_more start lines line (s.lines + 1) (ap (λ n. n + 1) h.lines_are))
     (then_beginning (refusals_of start lines) (refusal_line (s.lines + 1) (line_refusal (run start (told_events lines)) line)) before between after h.written b)
 
--- a line that is not refused has been run
+-- an accepted line was run
 pub line_passes : (start : World) (lines : List TextLine) (line : TextLine) (before now : Option (List ℕ)) (s t : SimulationView)
     → HasRun start lines before now s → None ≡ line_refusal (world_of s.judge.configuration) line → HasSeenLine s.judge line t.judge
     → t.lines ≡ s.lines + 1 → t.refused ≡ s.refused → HasRun start (lines ++ line ∷ []) before now t
@@ -105,7 +105,7 @@ line_passes start lines line before now s t h not_refused seen number same =
     has_run_more start lines line before now now s t h (seen start (told_events lines) h.seen) number
     (same ∙ ap (one_more s.refused) (sym none)) (rw none (takes_nothing now))
 
--- a line that is refused has been run, and reported, or the sink failed
+-- a refused line was run and reported, or the sink failed
 pub line_told : {E : Type 0} (result : Result (Unit {0}) E) (start : World) (lines : List TextLine) (line : TextLine) (before between after : Option (List ℕ)) (s t : SimulationView)
     (name : List ℕ) (failures more : ℕ) → HasRun start lines before between s → Some name ≡ line_refusal (world_of s.judge.configuration) line → HasSeenLine s.judge line t.judge
     → t.lines ≡ s.lines + 1 → t.refused ≡ min (s.refused + 1) (2 ^ 64 - 1)

@@ -12,7 +12,7 @@ use Rattle.world.proofs.SimulatedBytes.{beginning_of_bytes}
 use Rattle.world.proofs.SimulatedLines.{refusals_both}
 use Rattle.world.proofs.Writing.{beginning_of_more}
 
--- the refusal lines of the whole lines of bytes are the first ones of a text that begins with them
+-- the refusal lines of the whole lines of some bytes come first for a text that begins with these
 pub beginning_of_text : LinesAreCut → (start : World) (bytes : List ℕ) (n k : ℕ) (before after : Option (List ℕ)) → n ≤ k
     → TakesABeginning (refusals_of start (ended_lines (take n bytes))) before after → TakesABeginning (refusals_of start (text_lines (take k bytes))) before after
 beginning_of_text cut start bytes n k before after few b =

@@ -1,4 +1,4 @@
--- Once the sweeps are enough, the mask of the nodes visited has the bit of each node.
+-- After enough sweeps, the mask of visited nodes has the bit of each node.
 use Rattle.std.proofs.Common.{◌≡◌, ◌∙◌, sym, ap, subst, ℕ, ◌+◌, ◌-◌, ◌*◌, ◌<◌, ◌≤◌, Bool, ◌&&◌, nat_lt, if◌then◌else◌, IsTrue, List, [], ◌∷◌, arith, refl}
 use Rattle.std.proofs.lemmas.Grind.{common_steps}
 use Rattle.topology.specs.Network.{Network, IsAcceptedNetwork, bound_of}
@@ -18,7 +18,7 @@ use Rattle.judge.specs.Stretch.{has_bit}
 use Rattle.judge.specs.Visited.{AreVisited, AreAllVisited}
 use Rattle.world.proofs.Headline.{same-network}
 
--- if there is no damage, the moment after the last one is the start
+-- if there is no damage, the moment after the last damage is the start
 at-start : (w : World) (es : List Event) → IsUndamaged w es → after_damage w es ≡ record { world = w; rest = es }
 at-start w [] fine = refl
 at-start w (e ∷ es) fine = ap (λ b. if b then after_damage (step w e) es else record { world = w; rest = e ∷ es }) fine

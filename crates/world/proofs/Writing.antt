@@ -1,4 +1,4 @@
--- Texts that are written part by part, and the one of a sink that fails on the way.
+-- Texts that are written part by part, also to a sink that fails on the way.
 use Rattle.std.proofs.Common.{◌≡◌, ◌∙◌, ap, sym, ℕ, ◌+◌, ◌<◌, ◌≤◌, List, [], ◌∷◌, ◌++◌, Option, Some, None, Result, Ok, Err, IsErr, length, take, drop, get_or, append_assoc, arith}
 use Rattle.std.specs.List.{flat_map, range_with_len}
 use Rattle.std.proofs.lemmas.Grind.{common_steps, flat_map-append}
@@ -17,12 +17,12 @@ pub takes_both : (xs ys : List ℕ) (before between after : Option (List ℕ)) �
 takes_both xs ys None between after first second = grind (arith, common_steps)
 takes_both xs ys (Some taken) between after first second = grind (arith, common_steps)
 
--- a beginning of the bytes is one of more bytes
+-- a beginning of some bytes is a beginning of more bytes
 pub beginning_of_more : (xs ys : List ℕ) (before after : Option (List ℕ)) → TakesABeginning xs before after → TakesABeginning (xs ++ ys) before after
 beginning_of_more xs ys before after b =
     record { front = b.front; back = b.back ++ ys; parts = ap (λ zs. zs ++ ys) b.parts ∙ append_assoc b.front b.back ys; taken = b.taken }
 
--- all of these were taken, and then a beginning of those
+-- all of the first were taken, and then a beginning of the second
 pub then_beginning : (xs ys : List ℕ) (before between after : Option (List ℕ))
     → Takes xs before between → TakesABeginning ys between after → TakesABeginning (xs ++ ys) before after
 then_beginning xs ys before between after first b =
@@ -33,7 +33,7 @@ then_beginning xs ys before between after first b =
       taken = takes_both xs b.front before between after first b.taken;
     }
 
--- all of these were written, and then those were, or the sink failed
+-- all of the first were written, and then the second, or the sink failed
 pub writes_then : {E : Type 0} (result : Result (Unit {0}) E) (xs ys : List ℕ) (before between after : Option (List ℕ)) (failures more most : ℕ)
     → Takes xs before between → failures ≤ more → WritesAll result ys between after more most → WritesAll result (xs ++ ys) before after failures most
 writes_then (Ok value) xs ys before between after failures more most first higher second =
@@ -41,13 +41,13 @@ writes_then (Ok value) xs ys before between after failures more most first highe
 writes_then (Err e) xs ys before between after failures more most first higher second =
     (then_beginning xs ys before between after first second.0, grind (arith, common_steps), grind (arith, common_steps))
 
--- the sink failed after a beginning
+-- the sink failed after the beginning
 pub fails_on_the_way : {E : Type 0} (result : Result (Unit {0}) E) (bytes : List ℕ) (before after : Option (List ℕ)) (failures more : ℕ)
     → IsErr result → TakesABeginning bytes before after → failures ≤ more → Rose failures more → WritesAll result bytes before after failures more
 fails_on_the_way (Ok value) bytes before after failures more failed b higher rose = grind (arith, common_steps)
 fails_on_the_way (Err e) bytes before after failures more failed b higher rose = (b, higher, rose)
 
--- a list is what stands in front of an item, the item, and what stands after it
+-- a list is what is in front of an item, the item, and what is after it
 pub item_parts : (xs : List ℕ) (i : ℕ) → i < length xs → xs ≡ take i xs ++ (get_or xs i 0 ∷ drop (i + 1) xs)
 item_parts xs i there = grind (arith, common_steps)
 

@@ -1,4 +1,4 @@
--- What a run says of the numbers of its senders.
+-- What a run says about the numbers of its senders.
 use Rattle.std.specs.Prelude.{◌≡◌, ℕ, ◌<◌, IsTrue, List, ◌++◌}
 use Rattle.topology.specs.Network.{are_joined}
 use Rattle.judge.specs.run_model.World.{World}
@@ -8,8 +8,8 @@ use Rattle.judge.specs.run_model.Count.{after_damage}
 use Rattle.judge.specs.run_model.declared.event.Event.{Event}
 use Rattle.convergence.specs.tree_convergence.Present.{number_moves}
 
--- wherever the events since the last damage hold two sweeps after some first ones, the number that
--- u sends to v moves in them
+-- if the events since the last damage end with two sweeps after a first part, the number that u
+-- sends to v moves in these two
 abbrev pub DoNumbersMove : World → List Event → World → Type 0
 DoNumbersMove start es now =
     (first last : List Event) (u v : ℕ) → (after_damage start es).rest ≡ first ++ last → IsTrue (are_joined now.net.edges u v)

@@ -1,4 +1,4 @@
--- The text that a simulation writes: a line for each refused line of the events text, and then the
+-- The text that a simulation writes: a line for each refused line of the events text, then the
 -- text of the world that it leads to.
 use Rattle.std.specs.Prelude.{ℕ, ◌+◌, List, [], ◌∷◌, ◌++◌, is_some, if◌then◌else◌, Option, Some, None, option_map, codes, decimal, flat_map}
 use Rattle.topology.specs.Network.{Network}
@@ -27,7 +27,7 @@ fault_name Stranger = codes "Stranger"
 fault_name NoSpare = codes "NoSpare"
 fault_name Apart = codes "Apart"
 
--- where a simulation begins: nothing has happened yet, and 8 pairs of links are spare
+-- the start of a simulation: nothing has happened, and 8 pairs of links are spare
 abbrev pub simulated_start : Network → World
 simulated_start net = world_with_spares net 8
 
@@ -47,7 +47,7 @@ abbrev pub line_step : World → TextLine → World
 line_step w (Told event) = step w event
 line_step w _ = w
 
--- the refusal lines of a text's lines, of which the first has this number
+-- the refusal lines of a text's lines, numbered from this number on
 abbrev pub refusal_lines : World → ℕ → List TextLine → List ℕ
 refusal_lines w number [] = []
 refusal_lines w number (line ∷ lines) = refusal_line number (line_refusal w line) ++ refusal_lines (line_step w line) (number + 1) lines
@@ -70,11 +70,11 @@ told_events lines = flat_map told_event lines
 abbrev pub events_of : List ℕ → List Event
 events_of bytes = told_events (text_lines bytes)
 
--- the refusal lines of a text's lines, of which the first is line 1
+-- the refusal lines of a text's lines, numbered from 1 on
 abbrev pub refusals_of : World → List TextLine → List ℕ
 refusals_of start lines = refusal_lines start 1 lines
 
--- the simulated text of a text whose events hold that number of sweeps: its refusal lines, and
--- then the world to which it leads
+-- the simulated text of a text whose events hold this number of sweeps: its refusal lines, then
+-- the world that it leads to
 abbrev pub simulated_text : World → List ℕ → ℕ → List ℕ
 simulated_text start bytes sweeps = refusals_of start (text_lines bytes) ++ state_text (run start (events_of bytes)) (counted_up_to sweeps)

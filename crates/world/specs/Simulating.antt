@@ -1,4 +1,4 @@
--- What the answers of a simulation say of what was read and written.
+-- What the answers of a simulation say about what was read and written.
 use Rattle.std.specs.Prelude.{◌≡◌, ℕ, ◌<◌, ◌≤◌, List, [], Option, Some, Result, Ok, Err, take, length, ◌⊎◌}
 use Rattle.judge.specs.run_model.World.{World}
 use Rattle.judge.specs.run_model.Run.{run}
@@ -16,7 +16,7 @@ use Rattle.byte_streams.specs.Streams.{HasRead, Takes, TakesABeginning, Rose}
 abbrev pub longest_text : ℕ
 longest_text = 1073741824
 
--- The simulated text of these bytes was written, and nothing else; and the counts are the text's.
+-- Exactly the simulated text of these bytes was written, and the counts are the text's.
 pub record IsShown (start : World) (bytes : List ℕ) (before after : Option (List ℕ)) (summary : Summary) : Type 0 where
   pub count : ℕ
   pub counted : IsSweepCount start (events_of bytes) count
@@ -31,15 +31,15 @@ pub record IsHalfShown (start : World) (bytes : List ℕ) (before after : Option
   pub counted : IsSweepCount start (events_of bytes) count
   pub written : TakesABeginning (simulated_text start bytes count) before after
 
--- The first bytes were read, no more than a text may have, and the refusal lines of the whole lines
--- in them were written.
+-- The first bytes were read, no more than a text may have, and the refusal lines of their whole
+-- lines were written.
 pub record IsCutShort (start : World) (bytes : List ℕ) (rest before after : Option (List ℕ)) : Type 0 where
   pub count : ℕ
   pub read : HasRead count bytes rest
   pub short : count ≤ longest_text
   pub written : Takes (refusals_of start (ended_lines (take count bytes))) before after
 
--- More was read than a text may have, and the refusal lines of the whole lines in what it may have
+-- More was read than a text may have, and the refusal lines of the whole lines in the allowed part
 -- were written.
 pub record IsTooLong (start : World) (bytes : List ℕ) (rest before after : Option (List ℕ)) : Type 0 where
   pub count : ℕ
@@ -53,8 +53,8 @@ pub record IsStopped (start : World) (bytes : List ℕ) (rest before after : Opt
   pub read : HasRead count bytes rest
   pub written : TakesABeginning (refusals_of start (text_lines (take count bytes))) before after
 
--- What an answer says: of the bytes that the source had to give and what it has still to give, and
--- of what the sink had taken before and has taken after.
+-- What an answer says about the bytes that the source had to give, those that it still has, and
+-- what the sink had taken before and after.
 abbrev pub IsSimulated : World → List ℕ → Option (List ℕ) → Option (List ℕ) → Option (List ℕ) → Result Summary SimFault → Type 0
 IsSimulated start bytes rest before after (Ok summary) = (rest ≡ Some []) × (length bytes ≤ longest_text) × IsShown start bytes before after summary
 IsSimulated start bytes rest before after (Err Memory) = (rest ≡ Some bytes) × (after ≡ before)
@@ -63,8 +63,7 @@ IsSimulated start bytes rest before after (Err Long) = IsTooLong start bytes res
 IsSimulated start bytes rest before after (Err Write) =
     IsStopped start bytes rest before after ⊎ ((rest ≡ Some []) × (length bytes ≤ longest_text) × IsHalfShown start bytes before after)
 
--- The source's failure is answered only if its count rose, and the sink's only if its count
--- rose.
+-- The source's failure is returned only if its count rose, and the sink's only if its count rose.
 abbrev pub HasCause : {T : Type 0} → Result T SimFault → ℕ → ℕ → ℕ → ℕ → Type 0
 HasCause (Err Read) source source_after sink sink_after = Rose source source_after
 HasCause (Err Write) source source_after sink sink_after = Rose sink sink_after

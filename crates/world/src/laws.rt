@@ -1,8 +1,8 @@
 //! The laws of a run from any state.
 //!
-//! A law is a function that does nothing, with what is proved as its contract. Whoever proves
-//! something of a world calls it and cites its clauses, whose statements are
-//! `Rattle.convergence.specs.Laws` and `Rattle.judge.specs.run_model.Headline`:
+//! A law is a function that does nothing; its contract is what is proved. A proof about a world
+//! calls it and cites its clauses. Their statements are in `Rattle.convergence.specs.Laws` and
+//! `Rattle.judge.specs.run_model.Headline`:
 //!
 //! - `converge`, convergence: from every world in range, over every list of events without damage,
 //!   links are stable after 4(C + 1) sweeps, and from then on any three sweeps replace all that is
@@ -18,7 +18,7 @@
 //! - `closure`, closure: over every list of events without damage a legitimate world stays
 //!   legitimate, and every legitimate world serves.
 //!
-//! The trap: none claims that sweeps occur. A sweep needs a full tick of each node, so none ends
-//! while a client keeps the lock for ever.
+//! The trap: no law claims that sweeps occur. A sweep needs a full tick of each node, so none ends
+//! while a client holds the lock.
 
 pub use convergence::laws::{closure, converge, service, sharp};

@@ -1,7 +1,7 @@
-//! The world of a network, and the events text that says what happens in it.
+//! The world of a network, and the events text, which says what happens in it.
 //!
 //! [`events`] reads that text, in pieces of any size: a line is `send U V`, `take U V`, `tick V`
-//! and so on, or one that begins with `harm` and writes a part of the world, as a fault would.
+//! and so on, or begins with `harm` and writes a part of the world, as a fault would.
 //!
 //! A [`World`] is a network at one moment: its nodes, and what is under way on each link.
 //! `World::new` reserves all memory; each `step` is one event, and takes none:
@@ -16,22 +16,21 @@
 //!
 //! The trap: a send on a full link is no refusal; the frame is lost, and the step is `Ok`.
 //!
-//! [`laws`] has what is proved of every world and every list of events, for proofs about programs:
-//! convergence from any state, and closure.
+//! [`laws`] has what is proved for every world and every list of events, for proofs about
+//! programs: convergence from any state, and closure.
 //!
 //! [`report::judge`] lets a list of events happen, counts its sweeps and refusals, and says which
-//! nodes were privileged. If the sweeps since the last damage are as many as `Net::bound` says,
-//! the world that it reports serves, whatever state it began in:
+//! nodes were privileged. If there are as many sweeps since the last damage as `Net::bound` says,
+//! the world that it returns serves, whatever state it began in:
 //!
 //! ```
 //! let report = report::judge(world, &events);      // report.world, .sweeps, .refused, .visited
 //! ```
 //!
-//! A [`Judge`] does the same event by event, and lends the [`Configuration`], nodes and links as
-//! they are now. Judging takes no memory: its room is the world's.
+//! A [`Judge`] does the same event by event, and shows the [`Configuration`], nodes and links as
+//! they are now. Judging takes no memory, since its room is the world's.
 //!
-//! Whoever runs the nodes by other means, as on threads, takes a world apart, and puts it together
-//! again:
+//! To run the nodes by other means, on threads say, take a world apart and put it together again:
 //!
 //! ```
 //! let Parts { nodes, links, room } = world.into_parts();      // links.net() is the network
@@ -41,7 +40,7 @@
 //! The trap: the parts must be one world's, each node at the place of its id.
 //!
 //! [`simulation::simulate`] does the same from bytes to bytes: it reads an events text from a
-//! source, in pieces, and writes to a sink what becomes of it. `streams` has sources and sinks over
+//! source, in pieces, and writes the outcome to a sink. `streams` has sources and sinks over
 //! memory; a program implements the two traits with files:
 //!
 //! ```

@@ -1,4 +1,4 @@
-//! A whole run, judged: here the code meets the theorem.
+//! Judging a whole run: here the code meets the theorem.
 ghost use Rattle.std.specs.Prelude.{◌≡◌, ◌+◌, ◌-◌, ◌*◌, ◌≤◌, ℕ};
 ghost use Rattle.topology.specs.Network.{bound_of};
 ghost use Rattle.topology.specs.Eccentricity.{sharp_of};
@@ -20,38 +20,38 @@ use judge::run_model::Event;
 use judge::{Judge, World};
 use std::alloc::{Allocator, Global};
 
-/// What a judge has counted of a run, and where the run has led.
+/// What a judge has counted along a run, and where the run has led.
 #[derive(Drop)]
 pub struct Report<A: Allocator + Copy = Global> {
     /// The world now.
     pub world: World<A>,
-    /// The sweeps since the last accepted damage; the count stays at its greatest value.
+    /// The sweeps since the last accepted damage; the count stops at its greatest value.
     pub sweeps: u64,
-    /// The refused events; the count stays at its greatest value.
+    /// The refused events; the count stops at its greatest value.
     pub refused: u64,
-    /// The nodes that were privileged at some moment since the last accepted damage, the moment
-    /// right after it among them, or since the start if there was none: bit v stands for node v.
+    /// The nodes that were privileged at some moment since the last accepted damage, including the
+    /// moment right after it, or since the start if there was none. Bit v stands for node v.
     pub visited: u64,
 }
 
-/// Lets events happen one after the other, from a world on, and counts sweeps and refusals.
+/// Lets events happen one after the other, from this world on, and counts sweeps and refusals.
 ///
-/// From whatever state, any two sweeps move the number of each sender; the links are stable after
-/// 4(C + 1) sweeps, and from then on whatever is staged and copied was said within the last three;
-/// the tree is reached after 4(n + 1) more; and after as many as `Net::bound` says the world is
+/// From any state, any two sweeps move the number of each sender. The links are stable after 4(C +
+/// 1) sweeps, and from then on all that is staged and copied was said within the last three. The
+/// tree is reached after 4(n + 1) more, and after as many as `Net::bound` says the world is
 /// legitimate: each distance is the least length of a walk and each parent the true one, and at
 /// most one node is privileged and at most one lends. `Net::sharp_bound` is never more than that,
-/// and says the same. C, n and the bounds are those of the network that stands at the end. The
-/// sweeps are those since the last damage: how it came to its state does not matter. From a
-/// legitimate world, events without damage lead through legitimate worlds alone, and 16(n - 1)
-/// sweeps let each node be privileged; from any world, that many more than one of the bounds do.
+/// and is enough too. C, n and the bounds are those of the network at the end. The sweeps are
+/// those since the last damage: how the world came to its state does not matter. From a legitimate
+/// world, events without damage lead only through legitimate worlds, and in 16(n - 1) sweeps each
+/// node is privileged once; from any world, in that many more than one of the bounds.
 pub fn judge<A: Allocator + Copy>(start: World<A>, events: &[Event]) -> Report<A>
     ensures world { world_of result.world ≡ run (world_of start) events.now }
     // the counts are exact, up to the greatest value of their type
     ensures sweeps { (count : ℕ) × IsSweepCount (world_of start) events.now count
         × (result.sweeps ≡ counted_up_to count) }
     ensures refused { result.refused ≡ counted_up_to (refused_in (world_of start) events.now) }
-    // what the counted sweeps have brought about, stage by stage
+    // what the counted sweeps have achieved, stage by stage
     ensures links { 4 * ((world_of result.world).net.capacity + 1) ≤ result.sweeps
         → AreLinksStable (world_of result.world) }
     ensures payloads { ArePayloadsFresh (world_of start) events.now (world_of result.world) }
@@ -66,14 +66,15 @@ pub fn judge<A: Allocator + Copy>(start: World<A>, events: &[Event]) -> Report<A
         → IsLegitimate (world_of result.world) }
     ensures serving { bound_of (world_of result.world).net ≤ result.sweeps
         → IsServing (world_of result.world) }
-    // the same after far fewer sweeps, of which a greater capacity asks no more
+    // the same after far fewer sweeps, however great the capacity
     ensures sharp_legitimate { sharp_of (world_of result.world).net ≤ result.sweeps
         → IsLegitimate (world_of result.world) }
     ensures sharp_serving { sharp_of (world_of result.world).net ≤ result.sweeps
         → IsServing (world_of result.world) }
     // the mask is exact
     ensures visited { AreVisited (world_of start) events.now result.visited }
-    // service: from a legitimate world, and from any once it is legitimate, each node has its turn
+    // service: from a legitimate world, and from any other once it is legitimate, each node has
+    // its turn
     ensures visits { IsLegitimate (world_of start) → IsUndamaged (world_of start) events.now
         → 16 * ((world_of start).net.nodes - 1) ≤ result.sweeps
         → AreAllVisited (world_of start).net result.visited }
@@ -83,7 +84,7 @@ pub fn judge<A: Allocator + Copy>(start: World<A>, events: &[Event]) -> Report<A
     ensures sharp_visits { sharp_of (world_of result.world).net
         + 16 * ((world_of result.world).net.nodes - 1) ≤ result.sweeps
         → AreAllVisited (world_of result.world).net result.visited }
-    // and no way back
+    // and it stays so
     ensures closure { IsLegitimate (world_of start) → IsUndamaged (world_of start) events.now
         → IsLegitimateThroughout (world_of start) events.now }
 {

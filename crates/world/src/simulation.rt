@@ -1,4 +1,4 @@
-//! A run that is given as a text, and shown as one.
+//! A run that comes as a text, and is shown as one.
 //!
 //! ```
 //! let mut source = MemorySource::new(b"tick 0\nsend 0 1\ntake 0 1\n", 4096);
@@ -6,8 +6,8 @@
 //! let Summary { refused, sweeps, lending } = simulate(alloc, &net, &mut source, &mut sink)?;
 //! ```
 //!
-//! The events text may be as long as [`LONGEST_TEXT`] says; whatever its length, memory is taken
-//! for the network alone.
+//! The events text may be as long as [`LONGEST_TEXT`] says; memory is taken only for the network,
+//! whatever the length.
 ghost use Rattle.std.specs.Prelude.{◌≡◌, ◌≤◌, List, ℕ, Some, IfErr};
 ghost use Rattle.world.specs.Simulating.{IsSimulated, HasCause};
 ghost use Rattle.world.specs.SimulatedText.{simulated_start};
@@ -35,35 +35,35 @@ pub const LONGEST_TEXT: usize = 1_073_741_824;
 /// The most bytes of one read.
 const PIECE: usize = 8192;
 
-/// How many pairs of links are spare as a simulation begins: as many edges more may join.
+/// How many pairs of links are spare at the start of a simulation: that many more edges may join.
 const SPARE_PAIRS: u16 = 8;
 
 /// What a simulation has counted.
 #[derive(Clone, Copy, Debug, PartialEq, Eq)]
 pub struct Summary {
-    /// The refused lines, which are those that have a refusal line in the output; the count stays
-    /// at its greatest value.
+    /// The refused lines, which are those with a refusal line in the output; the count stops at
+    /// its greatest value.
     pub refused: u64,
-    /// The sweeps since the last accepted damage; the count stays at its greatest value.
+    /// The sweeps since the last accepted damage; the count stops at its greatest value.
     pub sweeps: u64,
     /// How many nodes lend the lock at the end.
     pub lending: usize,
 }
 
-/// Why a simulation ended without its work.
+/// Why a simulation failed.
 #[derive(Clone, Copy, Debug, PartialEq, Eq, Drop, Error)]
 pub enum SimFault {
     /// Memory was refused. Nothing was read or written.
     #[error("Memory")]
     Memory,
-    /// The source failed. The refusal lines of the whole lines that it gave were written.
+    /// The source failed. The refusal lines for the whole lines that it gave were written.
     #[error("Read")]
     Read,
-    /// The text has more bytes than `LONGEST_TEXT`. The refusal lines of the whole lines in the
+    /// The text has more bytes than `LONGEST_TEXT`. The refusal lines for the whole lines in the
     /// first `LONGEST_TEXT` bytes were written.
     #[error("Long")]
     Long,
-    /// The sink failed. A beginning of the simulated text was written.
+    /// The sink failed. Only a beginning of the simulated text was written.
     #[error("Write")]
     Write,
 }
@@ -80,9 +80,9 @@ impl From<AllocError> for SimFault {
 }
 
 /// Writes the text that shows a world: the status line of each node by ascending id; `link U V
-/// items I` for each directed link, by ascending source and then destination; `privileged P lending
-/// L`, the numbers of nodes that are privileged and that lend; and `sweeps A of R`, where A is what
-/// is given here and R is `Net::bound`. Each line ends with a newline.
+/// items I` for each directed link, by ascending source and then destination; `privileged P
+/// lending L`, the numbers of nodes that are privileged and that lend; and `sweeps A of R`, with
+/// the given A and with `Net::bound` as R. Each line ends with a newline.
 ///
 /// # Errors
 /// [`SimFault::Write`] if the sink failed; then a beginning of the text was written.
@@ -101,14 +101,13 @@ pub fn state_text<A: Allocator + Copy, W: Sink>(
     Ok(())
 }
 
-/// Runs the events of a text, from the network's default nodes, empty links and 8 spare pairs of
-/// links on, and writes what comes of them: for each refused line, as it is met, `line N: NAME`,
-/// where lines are numbered from 1 and NAME is the refusal of its event, or `Unread`; and at the
-/// end the text of the world, as [`state_text`] writes it with the count of sweeps since the last
-/// accepted damage.
+/// Runs the events of a text, from fresh nodes, empty links and 8 spare pairs of links, and writes
+/// the outcome: for each refused line, as it comes, `line N: NAME`, with lines numbered from 1 and
+/// NAME the refusal of its event, or `Unread`; and at the end the text of the world, as
+/// [`state_text`] writes it with the count of sweeps since the last accepted damage.
 ///
 /// # Errors
-/// The first that is met: [`SimFault::Memory`], before anything is read; [`SimFault::Read`] if
+/// The first that happens: [`SimFault::Memory`], before anything is read; [`SimFault::Read`] if
 /// the source failed; [`SimFault::Long`] if it gave more bytes than [`LONGEST_TEXT`];
 /// [`SimFault::Write`] if the sink failed.
 pub fn simulate<A: Allocator + Copy, N: Allocator + Copy, R: Source, W: Sink>(
@@ -117,14 +116,14 @@ pub fn simulate<A: Allocator + Copy, N: Allocator + Copy, R: Source, W: Sink>(
     source: &mut R,
     sink: &mut W,
 ) -> Result<Summary, SimFault>
-    // If the source says its bytes: what was read and written of them, case by case.
+    // If the source shows its bytes: what was read and written, case by case.
     ensures text { (bytes : List ℕ) → R.rest source.old ≡ Some bytes
         → IsSimulated (simulated_start net.now) bytes (R.rest source.new) (W.taken sink.old)
         (W.taken sink.new) result }
     // Failures are counted, and no count falls.
     ensures counts { (R.failures source.old ≤ R.failures source.new)
         × (W.failures sink.old ≤ W.failures sink.new) }
-    // A fault of the source or the sink is answered only if that one failed.
+    // A fault of the source or the sink comes only if that one failed.
     ensures cause { HasCause result (R.failures source.old) (R.failures source.new)
         (W.failures sink.old) (W.failures sink.new) }
 {

@@ -1,4 +1,4 @@
-//! Where a run reads its events from, and where it writes its text to: offered again for users of
-//! this crate alone.
+//! The source of a run's events and the sink of its text, exported again for users of just this
+//! crate.
 
 pub use byte_streams::{Failed, Fuse, Fused, MemorySink, MemorySource, Sink, Source, write_all};

@@ -23,8 +23,7 @@ use run_model::{EventFault, Happened, Harm};
 use std::alloc::Allocator;
 use topology::Net;
 
-/// What the writing of a value is answered as an event: damage, or that the value was out of its
-/// range.
+/// The event's answer to writing a value: damage, or that the value is out of range.
 fn damaged(written: Result<(), OutOfRange>) -> Result<Happened, EventFault>
     ensures ok { IsOk result ↔ IsOk written }
     ensures did { IfOk result (λ did. did ≡ Damaged) }
@@ -46,8 +45,7 @@ fn fits<A: Allocator + Copy>(net: &Net<A>, item: &Item) -> bool
     }
 }
 
-/// A node takes up the neighbours that it has in a network that differs from its own at most in the
-/// edges.
+/// Gives a node its neighbours in a network that differs from its own at most in the edges.
 fn rewire<A: Allocator + Copy>(nodes: &mut Vec<Node<A>, A>, net: &Net<A>, v: u16)
     requires there { v < length nodes.old.items }
     requires site { record
@@ -157,7 +155,7 @@ impl<A: Allocator + Copy> Configuration<A> {
         Ok(Happened::Damaged)
     }
 
-    /// Leaves no item on a link.
+    /// Empties a link.
     fn write_empty(&mut self, from: u16, to: u16) -> Result<Happened, EventFault>
         ensures { Answers self.old (Damage (harm.Empty from to)) self.new result }
     {
@@ -166,8 +164,8 @@ impl<A: Allocator + Copy> Configuration<A> {
         Ok(Happened::Damaged)
     }
 
-    /// Whether an edge may join two nodes: they are two, no edge joins them, and there are fewer
-    /// edges than a network has at most.
+    /// Whether an edge may join two nodes: they are different, no edge joins them, and there are
+    /// fewer edges than a network may have.
     fn may_join(&self, u: u16, v: u16) -> bool
         requires from_in { u < (world_of self.now).net.nodes }
         requires to_in { v < (world_of self.now).net.nodes }
@@ -176,7 +174,7 @@ impl<A: Allocator + Copy> Configuration<A> {
         u != v && !self.links.are_joined(u, v) && self.links.net().edges().len() < 256
     }
 
-    /// An edge joins two nodes, with the links of a spare pair.
+    /// Joins two nodes by an edge, with the links of a spare pair.
     fn join(&mut self, u: u16, v: u16) -> Result<Happened, EventFault>
         ensures { Answers self.old (Damage (harm.Join u v)) self.new result }
     {
@@ -194,7 +192,7 @@ impl<A: Allocator + Copy> Configuration<A> {
         Ok(Happened::Damaged)
     }
 
-    /// The edge between two nodes goes, and its links are a spare pair.
+    /// Removes the edge between two nodes; its links become a spare pair.
     fn part(&mut self, u: u16, v: u16) -> Result<Happened, EventFault>
         ensures { Answers self.old (Damage (harm.Part u v)) self.new result }
     {

@@ -7,7 +7,7 @@ use super::line::{Line, push_number};
 use byte_streams::{Failed, Sink, write_all};
 use judge::run_model::EventFault;
 
-/// What a line that spells no event is called.
+/// The name of a line that spells no event.
 pub const UNREAD: &str = "Unread";
 
 /// How a refusal is written.

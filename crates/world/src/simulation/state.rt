@@ -11,7 +11,7 @@ use byte_streams::{Failed, Sink, write_all};
 use judge::configuration::Configuration;
 use std::alloc::Allocator;
 
-/// Writes the text that shows a world, with a count of sweeps.
+/// Writes the text that shows a world with this count of sweeps.
 pub fn write_state<A: Allocator + Copy, W: Sink>(
     configuration: &Configuration<A>,
     sweeps: u64,

@@ -1,4 +1,4 @@
-//! A simulation that is under way.
+//! A simulation under way.
 ghost use Rattle.std.specs.Prelude.{◌≡◌, ◌+◌, ◌-◌, ◌^◌, ◌<◌, ◌≤◌, ℕ, List, [], Option, OnOk, IfErr};
 ghost use Rattle.std.specs.Prelude.{IfSome, option_map, length};
 ghost use Rattle.world.specs.Simulating.{longest_text, HasCause};
@@ -23,7 +23,7 @@ use std::marker::Model;
 pub struct Simulation<A: Allocator + Copy = Global> {
     judge: Judge<A>,
     reader: EventReader,
-    /// How many lines there have been.
+    /// How many lines there were.
     lines: u64,
     /// How many of them were refused.
     refused: u64,
@@ -43,7 +43,7 @@ impl<A: Allocator + Copy> Model for Simulation<A> {
 }
 
 impl<A: Allocator + Copy> Simulation<A> {
-    /// A simulation from a world on, to which no byte came.
+    /// A simulation from this world on, before its first byte.
     pub fn new(world: World<A>) -> Simulation<A>
         ensures lines { result.lines ≡ 0 }
         ensures under_way { (before : Option (List ℕ))
@@ -64,12 +64,12 @@ impl<A: Allocator + Copy> Simulation<A> {
         sink: &mut W,
     ) -> Result<(), SimFault>
         requires { self.old.lines ≡ 0 }
-        // No line is counted twice: there are at most as many as a text may have bytes.
+        // No line counts twice: there are at most as many as a text may have bytes.
         ensures lines { OnOk result (self.new.lines ≤ longest_text) }
-        // What its whole lines spell has happened, and what is refused of it is written.
+        // What its whole lines spell has happened, and their refusals are written.
         ensures text { ReadsAll self.old (R.rest source.old) (W.taken sink.old) result self.new
             (R.rest source.new) (W.taken sink.new) }
-        // That the source or the sink failed is answered only if it did.
+        // A failure of the source or the sink is returned only if it happened.
         ensures cause { HasCause result (R.failures source.old) (R.failures source.new)
             (W.failures sink.old) (W.failures sink.new) }
         // No failure is forgotten.
@@ -97,11 +97,11 @@ impl<A: Allocator + Copy> Simulation<A> {
         }
     }
 
-    /// The text has ended: its last line, if no newline ended it, and then the world to which it
-    /// has led.
+    /// Ends the text: runs its last line, if no newline ended it, and writes the world that it led
+    /// to.
     pub fn finish<W: Sink>(&mut self, sink: &mut W) -> Result<Summary, SimFault>
         requires { self.old.lines < 2 ^ 64 - 1 }
-        // The last line counts also if no newline ended it; then comes the state.
+        // The last line counts even if no newline ended it; then comes the state.
         ensures text { EndsThere self.old (W.taken sink.old) result (W.taken sink.new) }
         ensures failures { CountsFailures result (W.failures sink.old) (W.failures sink.new) }
         ensures err { IfErr result (λ fault. fault ≡ Write) }
@@ -132,7 +132,7 @@ impl<A: Allocator + Copy> Simulation<A> {
         self.rare_line(line, sink)
     }
 
-    /// Takes a piece of the text: its events happen, and its refused lines are reported.
+    /// Takes a piece of the text: lets its events happen, and reports its refused lines.
     fn take<W: Sink>(&mut self, piece: &[u8], sink: &mut W) -> Result<(), Failed>
         requires { self.old.lines + length piece.now < 2 ^ 64 }
         ensures lines { self.new.lines ≤ self.old.lines + length piece.now }
@@ -158,7 +158,7 @@ impl<A: Allocator + Copy> Simulation<A> {
         Ok(())
     }
 
-    /// The next line, as [`Simulation::line`] runs it: for lines that are few.
+    /// The next line, as [`Simulation::line`] runs it, for the rare kinds of lines.
     #[inline(never)]
     fn rare_line<W: Sink>(&mut self, line: TextLine, sink: &mut W) -> Result<(), Failed>
         requires { self.old.lines < 2 ^ 64 - 1 }
@@ -171,8 +171,8 @@ impl<A: Allocator + Copy> Simulation<A> {
         self.line(line, sink)
     }
 
-    /// The next line: its event happens, or it is reported as refused.
-    // A call of its own would write the event to memory for each line, and read it again.
+    /// The next line: lets its event happen, or reports it as refused.
+    // A separate call would write the event to memory for each line, and read it again.
     #[inline(always)]
     fn line<W: Sink>(&mut self, line: TextLine, sink: &mut W) -> Result<(), Failed>
         requires { self.old.lines < 2 ^ 64 - 1 }
@@ -191,7 +191,7 @@ impl<A: Allocator + Copy> Simulation<A> {
     }
 }
 
-/// Lets the event of a line happen. The answer is why the line is refused, if it is.
+/// Lets the event of a line happen. Returns why the line is refused, if it is.
 #[inline(always)]
 fn refusal<A: Allocator + Copy>(judge: &mut Judge<A>, line: TextLine) -> Option<&'static str>
     ensures name { option_map (λ name. name.now) result

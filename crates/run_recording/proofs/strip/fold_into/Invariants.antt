@@ -3,7 +3,7 @@ use Rattle.std.specs.Vec.{vec_capacity}
 use Rattle.run_recording.specs.Columns.{folded}
 use Rattle.run_recording.proofs.strip.fold_into.Given as goal
 
--- what is left to fold, after what is folded
+-- the folded columns, then those that are left
 abbrev pub invariant-loop-rest : goal.invariant-loop-rest
 invariant-loop-rest g l =
     (folded l.columns ≡ l.spare.items ++ folded l.rest)

@@ -3,8 +3,7 @@ use Rattle.euler_ring.specs.Tour.{tour}
 use Rattle.run_recording.specs.Visits.{visit_of, IsOnTree, LeadsAlong, with_new, first_visits}
 use Rattle.run_recording.proofs.tour.first_visits.Given as goal
 
--- the tour goes on along the stops that are left, and the nodes that they come to are still to be
--- put after the others
+-- the tour goes on along the stops that are left, and their nodes are still to be added
 abbrev pub invariant-loop : goal.invariant-loop
 invariant-loop l =
     IsOnTree l.net (visit_of l.visit)

@@ -44,8 +44,7 @@ rewire-requires-2-clause-site g c =
     (second-site net (net.edges ++ (c.args.u, c.args.v) ∷ []) c.args.u c.args.v ok.0 ok.1 (joins-two net c.args.u c.args.v can)
     (c.changes.ensures.others_at_join net c.args.u c.args.v) nodes c.rewire.new.nodes.items c.rewire.new.nodes.items c.self.invariant first)
 
--- the configuration before, the edges afterwards, and both ends, which have taken up their
--- neighbours
+-- the configuration before, the edges afterwards, and both ends with their new neighbours
 module _ (g : given.Over) (c : goal.After-rewire-2 g) where
   abbrev old : ConfigurationView
   old = record { nodes = c.self.inside.nodes.items; links = c.self.inside.links }

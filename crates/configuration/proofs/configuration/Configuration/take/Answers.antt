@@ -12,7 +12,7 @@ take-requires-in-Some g c =
     let near = rw (← c.self.view_is) at c.in_ok-find_link.ensures.near in
     subst (λ s. Contains s.neighbours c.args.from) (sym (site-is _ _ _ _ _ here)) near.1
 
--- the configuration before, and where the node is that takes the item
+-- the configuration before, and the place of the node that takes the item
 module _ (g : given.Over) (c : goal.After-self-1 g) where
   abbrev old : ConfigurationView
   old = record { nodes = c.self.inside.nodes.items; links = c.self.inside.links }

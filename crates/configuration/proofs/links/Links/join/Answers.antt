@@ -7,7 +7,7 @@ use Rattle.configuration.proofs.Changing.{joined-links, joined-under, must-ok}
 use Rattle.configuration.proofs.links.Links.join.Given as given
 use Rattle.configuration.proofs.links.Links.join.Goals as goal
 
--- the links before, and what holds of the edge
+-- the links before, and what holds for the edge
 module _ (g : given.Over) (c : goal.After-lay-2 g) where
   abbrev old : LinksView
   old = record { net = c.self.inside.net; places = c.self.inside.places; links = c.self.inside.links.items; spares = c.self.inside.spares.items }

@@ -9,7 +9,7 @@ use Rattle.configuration.proofs.LinkMoves.{IsAt}
 use Rattle.configuration.proofs.links.Links.part.Given as given
 use Rattle.configuration.proofs.links.Links.part.Goals as goal
 
--- the links before, the same with both links of the edge empty, and what holds of the edge
+-- the links before, the same with both links of the edge empty, and what holds for the edge
 module _ (g : given.Over) (c : goal.After-give_back-2 g) where
   abbrev old : LinksView
   old = record { net = c.self.inside.net; places = c.self.inside.places; links = c.self.inside.links.items; spares = c.self.inside.spares.items }

@@ -37,7 +37,7 @@ begin-requires g c =
     room-empty (world_of c.step.new.self).net c.lay.new.self (c.lay.ensures.nodes ∙ ap (λ n. n.nodes) net)
     (λ u v joined. c.lay.ensures.placed u v (subst (λ n. IsTrue (are_joined n.edges u v)) (sym net) joined)) c.lay.ensures.empty
 
--- an event leaves the number of nodes, whatever edges join or go
+-- an event leaves the number of nodes, even if edges join or go
 pub lay-requires : goal.lay-requires
 lay-requires g c =
     let now = world_of c.self.inside.configuration in

@@ -5,7 +5,7 @@ use Rattle.run_recording.specs.Filmed.{room_of}
 use Rattle.run_recording.specs.Recordings.{IsReading}
 use Rattle.run_recording.proofs.recording.Recording.read_all.Given as goal
 
--- some bytes of the text may still come, and the others have been taken
+-- some bytes of the text may still come, and the others were taken
 abbrev pub invariant-loop-count : goal.invariant-loop-count
 invariant-loop-count g l =
     (l.left ≤ longest_text)

@@ -4,7 +4,7 @@ use Rattle.run_recording.specs.Filmed.{room_of}
 use Rattle.run_recording.specs.Recordings.{IsReading}
 use Rattle.run_recording.proofs.recording.Recording.take.Given as goal
 
--- the first bytes of the piece have been taken
+-- the first bytes of the piece were taken
 abbrev pub invariant-loop-at : goal.invariant-loop-at
 invariant-loop-at g l =
     (l.at ≤ length l.piece)
