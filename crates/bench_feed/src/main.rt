@@ -32,7 +32,7 @@ fn main(rt: HostRuntime) -> Result<()> {
     measure(&rt, request_of(words.as_slice())?)
 }
 
-/// What the words of the command line ask for.
+/// The request of the command line.
 fn request_of(words: &[String]) -> Result<Request>
     ensures { IfOk result (λ request. 0 < request.piece) }
 {

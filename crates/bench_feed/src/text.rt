@@ -16,14 +16,14 @@ pub enum Kind {
     Noise,
     /// Bytes with no newline among them.
     Flat,
-    /// Newlines alone.
+    /// Only newlines.
     Empty,
     /// Lines of one byte.
     Short,
 }
 
 impl Kind {
-    /// The kind of that name.
+    /// The kind with this name.
     pub fn named(name: &str) -> Option<Kind> {
         match name {
             "good" => Some(Kind::Good),
@@ -36,7 +36,7 @@ impl Kind {
     }
 }
 
-/// A text of that many times 22 bytes.
+/// A text of `lines` times 22 bytes.
 pub fn make_text(alloc: Global, kind: Kind, lines: u32) -> Result<Vec<u8>, AllocError>
     ensures { IfOk result (λ text. length text.items ≡ 22 * lines) }
 {
@@ -48,7 +48,7 @@ pub fn make_text(alloc: Global, kind: Kind, lines: u32) -> Result<Vec<u8>, Alloc
     Ok(text)
 }
 
-/// As many bytes as a line has.
+/// The bytes of one line.
 fn any_bytes(kind: Kind, draws: &mut Pcg32) -> [u8; 22] {
     match kind {
         Kind::Good => encode(&any_frame(draws.next_word())),

@@ -3,11 +3,10 @@ use linked_list_allocator::LocalHeap;
 use std::alloc::Global;
 use std::test::Fail;
 
-/// Takes all that a heap has left, so that it refuses every growth until what is answered is
-/// dropped.
+/// Takes all that a heap has left, so that it refuses every growth until the result is dropped.
 ///
 /// # Errors
-/// If `alloc` refuses the list of what was taken.
+/// If `alloc` refuses memory for the list of what was taken.
 pub fn fill<'h>(alloc: Global, heap: &'h LocalHeap) -> Result<Vec<Vec<u8, &'h LocalHeap>>, Fail> {
     let mut taken = Vec::with_capacity(alloc, heap.size())?;
     for _ in 0..heap.size() {
@@ -19,11 +18,11 @@ pub fn fill<'h>(alloc: Global, heap: &'h LocalHeap) -> Result<Vec<Vec<u8, &'h Lo
     Ok(taken)
 }
 
-/// Does something while a heap has nothing left. What it answers, and how many bytes the heap had
-/// left.
+/// Does something while a heap has nothing left. Returns the result, and how many bytes the heap
+/// had left.
 ///
 /// # Errors
-/// If `alloc` refuses the list of what was taken.
+/// If `alloc` refuses memory for the list of what was taken.
 pub fn on_full<T, F: FnOnce() -> T>(
     alloc: Global,
     heap: &LocalHeap,

@@ -1,6 +1,6 @@
-//! What the crates of tests share: how a test ends by what it found, and heaps that refuse every
-//! growth.
-//! A test ends as `as_told(sweeps_of(rt.alloc(), 3), &3)`, and holds nothing itself.
+//! What the crates of tests share: how a test ends, by what it found, and heaps that refuse every
+//! growth. A test is one call, as `as_told(sweeps_of(rt.alloc(), 3), &3)`, and holds nothing
+//! itself.
 //!
 //! It is no part of the program.
 #![tactic(auto)]

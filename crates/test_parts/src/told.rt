@@ -1,10 +1,10 @@
-//! How a test ends by what it found.
+//! How a test ends, by what it found.
 ghost use Rattle.std.specs.Prelude.{◌≡◌, ◌↔◌, IsOk, IfOk, Bool, true};
 
 use std::fmt::Debug;
 use std::test::Fail;
 
-/// Ends a test well exactly if this is what was to be found.
+/// Passes a test exactly if it found what it should.
 ///
 /// # Errors
 /// Both values, if they differ.
@@ -18,7 +18,7 @@ pub fn is_told<T: PartialEq + Debug>(found: &T, want: &T) -> Result<(), Fail>
     }
 }
 
-/// Ends a test well exactly if this was found, and nothing failed on the way.
+/// Passes a test exactly if it found what it should, and nothing failed on the way.
 ///
 /// # Errors
 /// What failed on the way; both values, if they differ.

@@ -7,7 +7,7 @@ use subcommands::bound::{bound_text, shown_text, timed_text};
 use test_parts::as_told;
 use topology::Net;
 
-/// A network: its nodes, what its links hold, its edges; and what it is shown as.
+/// A network: its nodes, what its links hold, its edges; and its text.
 type Row<'a> = (i64, i64, &'a [(i64, i64)], &'a str);
 
 /// Networks, and their texts.
@@ -67,7 +67,7 @@ fn star_edges(alloc: Global) -> Result<Vec<(i64, i64)>, AllocError> {
     Ok(edges)
 }
 
-/// What the star is shown as, over links of 4096 items.
+/// The text of the star, with links of 4096 items.
 fn star_text(alloc: Global) -> Result<String, AllocError> {
     let mut text = String::new(alloc);
     text.push_str("nodes 64\nedges 63\ncapacity 4096\ncounter 8195\nring 379\ndistances 0")?;
@@ -105,7 +105,7 @@ static SHARP: [Row<'static>; 3] = [
     (4, 1, &[(0, 1), (0, 2), (1, 3), (2, 3)], "sharp 71\n"),
 ];
 
-/// Whether a network is shown as these lines and those after them.
+/// Whether the text of a network is these lines and the others.
 fn shows(
     alloc: Global,
     net: &Net,
@@ -117,19 +117,19 @@ fn shows(
     Ok(text.as_str().strip_prefix(front) == Some(back))
 }
 
-/// Whether a network is shown with its sharp bound as that line says, and without it.
+/// Whether the text of a network has this line of the sharp bound if asked for, and not otherwise.
 fn shows_both(alloc: Global, net: &Net, want: &str) -> Result<bool, AllocError> {
     let eight = bound_text(alloc, net)?;
     Ok(shows(alloc, net, true, &eight, want)? && shows(alloc, net, false, &eight, "")?)
 }
 
-/// Whether a row's network is shown with its sharp bound as the row says, and without it.
+/// The same for a row's network and line.
 fn shows_sharp(alloc: Global, row: &Row<'_>) -> Result<bool, Fail> {
     let net = net_of(alloc, row.0, row.1, row.2)?;
     Ok(shows_both(alloc, &net, row.3)?)
 }
 
-/// The place of the first row whose network is shown otherwise.
+/// The place of the first row whose network has another text.
 fn first_other_sharp(alloc: Global, rows: &[Row<'_>]) -> Result<Option<usize>, Fail> {
     for (at, row) in rows.iter().enumerate() {
         if !shows_sharp(alloc, row)? {
@@ -144,7 +144,7 @@ fn shows_the_sharp_bound_where_it_is_asked_for(rt: HostRuntime) -> Result<(), Fa
     as_told(first_other_sharp(rt.alloc(), &SHARP), &None)
 }
 
-/// Whether the star is shown with its sharp bound, and without it.
+/// Whether the star is shown right with its sharp bound, and without it.
 fn star_shows_sharp(alloc: Global) -> Result<bool, Fail> {
     let edges = star_edges(alloc)?;
     shows_sharp(alloc, &(64, 4096, edges.as_slice(), "sharp 1027\n"))
@@ -186,7 +186,7 @@ static TIMES: [Timed<'static>; 4] = [
     ),
 ];
 
-/// Whether a network is shown with these lines of times after its others.
+/// Whether the text of a network ends with these lines of times.
 fn has_times(alloc: Global, net: &Net, loan: u32, want: &str) -> Result<bool, AllocError> {
     let premises = Premises {
         loan,
@@ -197,13 +197,13 @@ fn has_times(alloc: Global, net: &Net, loan: u32, want: &str) -> Result<bool, Al
     Ok(text.as_str().strip_prefix(nine.as_str()) == Some(want))
 }
 
-/// Whether a row's network is shown with the times that the row says.
+/// Whether the text of a row's network has the row's times.
 fn is_timed(alloc: Global, row: &Timed<'_>) -> Result<bool, Fail> {
     let net = net_of(alloc, row.0, 1, row.2)?;
     Ok(has_times(alloc, &net, row.1, row.3)?)
 }
 
-/// The place of the first row whose network is shown with other times.
+/// The place of the first row whose network has other times.
 fn first_other_times(alloc: Global, rows: &[Timed<'_>]) -> Result<Option<usize>, Fail> {
     for (at, row) in rows.iter().enumerate() {
         if !is_timed(alloc, row)? {

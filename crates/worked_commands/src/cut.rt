@@ -1,4 +1,4 @@
-//! Files that are cut, and what is none that can be.
+//! Files that are cut, and things that cannot be cut.
 use command_parts::PathFault;
 use std::alloc::Global;
 use std::process::{Command, ExitCode};
@@ -7,7 +7,7 @@ use std::{fs, io};
 use subcommands::cut::run;
 use test_parts::is_told;
 
-/// To how many bytes a file of six is cut, each time after the one before, and what it holds then.
+/// The lengths to which a file of six bytes is cut, one after the other, and what it then holds.
 const CUTS: [(u32, &str); 8] = [
     (1_000_000, "abcdef"),
     (7, "abcdef"),
@@ -19,13 +19,13 @@ const CUTS: [(u32, &str); 8] = [
     (0, ""),
 ];
 
-/// Whether the file, cut to a length, is what is wanted.
+/// Whether the file, cut to a length, is as expected.
 fn leaves(rt: &HostRuntime, length: u32, want: &str) -> io::Result<bool> {
     let is_cut = run(rt, "cut.state", length) == Ok(ExitCode::SUCCESS);
     Ok(is_cut && fs::read(rt, "cut.state")?.as_slice() == want.as_bytes())
 }
 
-/// The place of the first row at which the file holds something else.
+/// The place of the first row after which the file holds something else.
 fn first_other_cut(rt: &HostRuntime, rows: &[(u32, &str)]) -> io::Result<Option<usize>> {
     for (at, (length, want)) in rows.iter().enumerate() {
         if !leaves(rt, *length, want)? {
@@ -35,7 +35,7 @@ fn first_other_cut(rt: &HostRuntime, rows: &[(u32, &str)]) -> io::Result<Option<
     Ok(None)
 }
 
-/// Cuts a file of six bytes by the rows, as long as it is there.
+/// Cuts a file of six bytes by the rows.
 fn cuts(rt: &HostRuntime) -> io::Result<Option<usize>> {
     fs::write(rt, "cut.state", "abcdef")?;
     let other = first_other_cut(rt, &CUTS)?;
@@ -58,7 +58,7 @@ const OTHER_THINGS: [&str; 6] = [
     "/dev/null",
 ];
 
-/// What makes a named pipe.
+/// The command that makes a named pipe.
 fn pipe_maker(alloc: Global, path: &str) -> io::Result<Command> {
     let mut command = Command::new(alloc, "mkfifo")?;
     command.arg(path)?;
@@ -85,8 +85,8 @@ fn first_cut(rt: &HostRuntime, paths: &[&str]) -> Option<usize> {
     None
 }
 
-/// Whether a pipe is made, the place of the first thing that is cut, and whether the absent file is
-/// there then.
+/// Whether a pipe is made, the place of the first thing that is cut, and whether the absent file
+/// exists then.
 fn tries_other_things(rt: &HostRuntime) -> io::Result<(bool, Option<usize>, bool)> {
     let is_made = make_pipe(rt, "pipe.cut")?;
     let cut = first_cut(rt, &OTHER_THINGS);
@@ -95,7 +95,7 @@ fn tries_other_things(rt: &HostRuntime) -> io::Result<(bool, Option<usize>, bool
     Ok((is_made, cut, is_there))
 }
 
-/// None of these is waited for, and an absent file is not made.
+/// The command waits for none of these, and makes no absent file.
 #[test]
 fn other_things_are_not_cut(rt: HostRuntime) -> Result<(), Fail> {
     is_told(&tries_other_things(&rt)?, &(true, None, false))

@@ -1,4 +1,5 @@
-//! Pictures of two nodes, from texts that are refused in part, cannot be read, or have no room.
+//! Pictures of two nodes: from texts with refused lines, from texts that cannot be read, and
+//! without room.
 use crate::nets::two_nodes;
 use crate::shelf::Shelf;
 use byte_streams::MemorySource;
@@ -23,16 +24,16 @@ impl std::io::Read for Broken {
     }
 }
 
-/// What is to be drawn: one column of the whole run.
+/// What to draw: one column of the whole run.
 const WANTED: Wanted = Wanted {
     columns: 1,
     window: Window::ALL,
 };
 
-/// How a drawing ended: how many lines were refused, or why nothing was drawn whole.
+/// How a drawing ended: the number of refused lines, or the fault.
 type Ended = Result<u64, Fault>;
 
-/// Draws what a source's events make on two nodes, on a shelf.
+/// Draws what a source's events do on two nodes, onto a shelf.
 fn draw_to<S: Source + Drop>(
     alloc: Global,
     mut source: S,
@@ -58,13 +59,13 @@ fn drawn<S: Source + Drop>(
     Ok((ended, taken))
 }
 
-/// The same of a text of events.
+/// The same for a text of events.
 fn drawn_text(alloc: Global, events: &[u8], room: usize) -> Result<(Ended, Vec<u8>), NetFault> {
     drawn(alloc, MemorySource::new(events, 5), room)
 }
 
-/// What the picture of two events says, of which one was refused, and of a line that spells none:
-/// three moments in a column.
+/// What the picture of two events, one of them refused, and a line that spells none says: three
+/// moments in a column.
 const PARTS: [&str; 2] = [
     "<desc>2 events, 2 lines refused; at the end privileged 0, lending 0, sweeps since the last damage 0 of 69</desc>",
     ">a column is 4 events, and shows the worst of them<",
@@ -92,7 +93,7 @@ fn draws_what_is_accepted_and_counts_what_is_refused(rt: HostRuntime) -> Result<
     as_told(drawn_in_part(rt.alloc()), &(Ok(2), None))
 }
 
-/// How the drawing of events ended that cannot be read, and how many bytes were drawn.
+/// How the drawing of unreadable events ended, and how many bytes were drawn.
 fn drawn_of_broken(alloc: Global) -> Result<(Ended, usize), NetFault> {
     let (ended, picture) = drawn(alloc, ReadSource::new(Broken), 100_000)?;
     Ok((ended, picture.len()))
@@ -106,13 +107,13 @@ fn draws_nothing_of_events_that_cannot_be_read(rt: HostRuntime) -> Result<(), Fa
     )
 }
 
-/// Rooms that a picture does not fit into.
+/// Rooms that are too small for a picture.
 const ROOMS: [usize; 4] = [0, 1, 300, 4000];
 
 /// The event that pictures without room report.
 const TICK: &[u8] = b"tick 0\n";
 
-/// Whether a picture without room is a fault, if its front fills that room.
+/// Whether a picture without room is a fault, and its front fills the room.
 fn is_cut_off(alloc: Global, whole: &[u8], room: usize) -> Result<bool, NetFault> {
     let (ended, picture) = drawn_text(alloc, TICK, room)?;
     Ok(

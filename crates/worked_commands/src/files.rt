@@ -1,4 +1,4 @@
-//! What files are refused for, which fault is met first, and how numbers are spelled.
+//! Why files are refused, which fault comes first, and how numbers are spelled.
 use crate::nets::{TWO_NODES, remove_files, write_files};
 use command_parts::{Fault, NetworkFault, decimal_number, network_of, read_network};
 use std::alloc::{AllocError, Global};
@@ -53,7 +53,7 @@ fn names_the_fault_of_a_file(rt: HostRuntime) -> Result<(), Fail> {
     is_told(&first_other_fault(rt.alloc(), &FAULTS)?, &None)
 }
 
-/// Whether as many blanks as a file may have, and one more, have the fault lines that they should.
+/// Whether the most blanks that a file may have, and one more, have the right fault lines.
 fn blanks_have_faults(alloc: Global) -> Result<bool, AllocError> {
     let long = vec![in alloc; 32u8; 1_048_577]?;
     Ok(
@@ -79,7 +79,7 @@ fn names_the_fault_of_memory(rt: HostRuntime) -> Result<(), Fail> {
     )
 }
 
-/// Paths, and the faults of what is read there.
+/// Paths, and the faults of reading there.
 const PATHS: [(&str, Option<NetworkFault>); 6] = [
     ("read.toml", None),
     ("long.toml", Some(NetworkFault::Unreadable)),
@@ -99,13 +99,13 @@ fn first_read_otherwise(rt: &HostRuntime, rows: &[(&str, Option<NetworkFault>)])
     None
 }
 
-/// Writes a file of blanks, one more than may be.
+/// Writes a file with one blank too many.
 fn write_blanks(rt: &HostRuntime, path: &str) -> io::Result<()> {
     let long = vec![in rt.alloc(); 32u8; 1_048_577]?;
     fs::write(rt, path, long.as_slice())
 }
 
-/// Reads at those paths, while two of the files are there.
+/// Reads at those paths while two of the files exist.
 fn reads(rt: &HostRuntime) -> io::Result<Option<usize>> {
     fs::write(rt, "read.toml", TWO_NODES)?;
     write_blanks(rt, "long.toml")?;
@@ -181,7 +181,7 @@ fn first_simulated_otherwise(
     None
 }
 
-/// Does those simulations, while the files are there.
+/// Runs those simulations while the files exist.
 fn simulates(rt: &HostRuntime) -> io::Result<Option<usize>> {
     write_files(rt, &FILES)?;
     let other = first_simulated_otherwise(rt, &SIMULATIONS);
@@ -194,7 +194,7 @@ fn looks_at_the_network_before_the_events(rt: HostRuntime) -> Result<(), Fail> {
     is_told(&simulates(&rt)?, &None)
 }
 
-/// A word, the greatest number that is taken, and the number that it spells.
+/// A word, the greatest allowed number, and the number that the word spells.
 const SPELLINGS: [(&str, u64, Option<u64>); 18] = [
     ("0", 0, Some(0)),
     ("1", 0, None),

@@ -32,8 +32,7 @@ fn write_to(
     Ok(write_junk(seed, lines, &mut sink))
 }
 
-/// Whether the lines of a seed are answered so, and this is their text, if there is room for
-/// `room` bytes.
+/// Whether writing the lines of a seed with room for `room` bytes has this answer and this text.
 fn is_written(
     alloc: Global,
     seed: u32,
@@ -51,7 +50,7 @@ fn is_written(
     Ok(answer == want && taken.as_slice() == text)
 }
 
-/// The place of the first row whose lines are not written so.
+/// The place of the first row whose lines are written otherwise.
 fn first_other_text(alloc: Global, rows: &[(u32, u32, &[u8])]) -> Result<Option<usize>, Error> {
     for (at, (seed, lines, want)) in rows.iter().enumerate() {
         if !is_written(alloc, *seed, *lines, 1000, Ok(()), want)? {
@@ -66,7 +65,7 @@ fn writes_the_lines_of_a_seed(rt: HostRuntime) -> Result<(), Fail> {
     is_told(&first_other_text(rt.alloc(), &TEXTS)?, &None)
 }
 
-/// What is answered if there is room for `room` bytes of the four lines.
+/// The answer if there is room for `room` bytes of the four lines.
 fn answer_with_room(room: usize) -> Result<(), Fault> {
     if room < LINES.len() {
         Err(Fault::Output)
@@ -75,7 +74,7 @@ fn answer_with_room(room: usize) -> Result<(), Fault> {
     }
 }
 
-/// The first room that is not filled with the front of the four lines, or is answered otherwise.
+/// The first room that the front of the four lines does not fill, or with another answer.
 fn first_other_room(alloc: Global) -> Result<Option<usize>, Error> {
     for room in 0..=LINES.len() {
         if !is_written(alloc, 7, 4, room, answer_with_room(room), &LINES[..room])? {

@@ -36,8 +36,8 @@ const SHORT: Recovery = Recovery {
 /// Runs, whether each of them is shown, their text, and whether each has served.
 type Row<'a> = (&'a [Recovery], bool, &'a str, bool);
 
-/// Of five runs the median is the third in ascending order, of four the second; a run that never
-/// served, or had too few sweeps, is shown in any case and sums up nothing.
+/// The median of five runs is the third in ascending order, of four the second. A run that never
+/// served, or had too few sweeps, is always shown and does not count in the summary.
 static TEXTS: [Row<'static>; 6] = [
     (
         &[run!(0, 9), run!(1, 2), run!(2, 23), run!(3, 4), run!(4, 5)],
@@ -112,10 +112,10 @@ fn shows_what_sums_runs_up(rt: HostRuntime) -> Result<(), Fail> {
     as_told(first_other_text(rt.alloc(), &TEXTS), &None)
 }
 
-/// What standard output answers, whether each run has served, and how that ends.
+/// The answer of standard output, whether each run has served, and how the command ends.
 type Ending = (Result<(), ()>, bool, Result<ExitCode, Fault>);
 
-/// What standard output answers decides the status, and after it whether each run has served.
+/// The answer of standard output decides the status, and then whether each run has served.
 const ENDINGS: [Ending; 4] = [
     (Ok(()), true, Ok(ExitCode::SUCCESS)),
     (Ok(()), false, Ok(ExitCode::FAILURE)),
@@ -138,7 +138,7 @@ fn ends_with_the_status() -> Result<(), Fail> {
     is_told(&first_other_ending(&ENDINGS), &None)
 }
 
-/// Plays as many rounds under a watch.
+/// Plays this many rounds under a watch.
 fn play(net: &Net, watch: &mut Watch, rounds: u64) {
     for _round in 0..rounds {
         let _given = give_round(net, watch);
@@ -150,15 +150,15 @@ fn watch_of(alloc: Global, net: &Net) -> Result<Watch, Fail> {
     Ok(Watch::new(World::new(alloc, net)?))
 }
 
-/// How many sweeps there were in as many rounds of a network as they start, and after how many of
-/// them it served.
+/// How many sweeps there were in this many rounds of a fresh network, and after how many of them
+/// it served.
 fn watched_in(alloc: Global, net: &Net, rounds: u64) -> Result<(u64, u64), Fail> {
     let mut watch = watch_of(alloc, net)?;
     play(net, &mut watch, rounds);
     Ok((watch.sweeps(), watch.served_behind()))
 }
 
-/// The same of two nodes.
+/// The same for two nodes.
 fn watched(alloc: Global, rounds: u64) -> Result<(u64, u64), Fail> {
     let net = two_nodes(alloc)?;
     watched_in(alloc, &net, rounds)
@@ -193,8 +193,8 @@ fn two_nodes_serve_behind_three_sweeps(rt: HostRuntime) -> Result<(), Fail> {
     as_told(first_other_watched(rt.alloc(), &WATCHED), &None)
 }
 
-/// Runs that are measured bear their seeds, have as many sweeps as the sharper bound says, and are
-/// the same each time.
+/// Measured runs have their seeds, as many sweeps as the sharper bound says, and are the same each
+/// time.
 const MEASURED: [(Scheduler, u64); 3] = [
     (Scheduler::Rounds, 0),
     (Scheduler::Rounds, 7),
@@ -207,12 +207,12 @@ fn measured(alloc: Global, scheduler: Scheduler, seed: u64) -> Result<Recovery, 
     Ok(measure_run(alloc, &net, scheduler, seed)?)
 }
 
-/// Whether a run bears its seed, and had 35 sweeps at least, after 35 of which at most it served.
+/// Whether a run has its seed and at least 35 sweeps, and served after at most 35.
 fn is_within(run: Recovery, seed: u64) -> bool {
     run.seed == seed && run.seen >= 35 && run.sweeps <= 35
 }
 
-/// The place of the first row whose run is otherwise, or is not the same when it is made again.
+/// The place of the first row whose run is wrong, or differs when it is made again.
 fn first_other_run(alloc: Global, rows: &[(Scheduler, u64)]) -> Result<Option<usize>, Fail> {
     for (at, (scheduler, seed)) in rows.iter().enumerate() {
         let run = measured(alloc, *scheduler, *seed)?;

@@ -6,8 +6,7 @@ use topology::{Net, NetFault};
 /// The file of two nodes whose links hold one item.
 pub const TWO_NODES: &str = "nodes = 2\nroot = 0\ncapacity = 1\nlease = 0\nedges = [[0, 1]]\n";
 
-/// A network whose root is node 0, and whose loans have no end. Rows need nothing of what the
-/// contract of this call says.
+/// A network with root 0 and loans without end. Rows need nothing of the contract of this call.
 pub fn net_of(
     alloc: Global,
     nodes: i64,

@@ -80,7 +80,7 @@ fn prints_the_file_of_a_kind(rt: HostRuntime) -> Result<(), Fail> {
     as_told(Ok(first_unlike(rt.alloc(), &ROWS)), &None)
 }
 
-/// Whether a network has a file that is read again.
+/// Whether a network's file can be read.
 fn is_read(alloc: Global, wanted: Wanted) -> bool {
     match named_text(alloc, wanted) {
         Ok(text) => Net::read(alloc, text.as_str()).is_ok(),
@@ -88,7 +88,7 @@ fn is_read(alloc: Global, wanted: Wanted) -> bool {
     }
 }
 
-/// The first number of nodes, of those that a kind has, for which there is no file.
+/// The first number of nodes of a kind for which there is no readable file.
 fn first_unread(alloc: Global, kind: Kind) -> Option<u16> {
     for nodes in least_nodes(kind)..=most_nodes(kind) {
         if !is_read(alloc, of(kind, nodes)) {
@@ -98,7 +98,7 @@ fn first_unread(alloc: Global, kind: Kind) -> Option<u16> {
     None
 }
 
-/// The kinds that have as many nodes as one likes.
+/// The kinds with any number of nodes.
 const KINDS: [Kind; 6] = [
     Kind::Line,
     Kind::Ring,
@@ -108,7 +108,7 @@ const KINDS: [Kind; 6] = [
     Kind::Random { edges: 63, seed: 9 },
 ];
 
-/// The first number of nodes, of those that a kind has, for which some kind has no file.
+/// The first number of nodes for which some kind has no readable file.
 fn first_unread_of_all(alloc: Global) -> Option<u16> {
     for kind in KINDS {
         if let Some(nodes) = first_unread(alloc, kind) {

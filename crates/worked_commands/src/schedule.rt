@@ -1,4 +1,4 @@
-//! Schedules as texts: by hand, and if the writer has too little room.
+//! Schedules as texts: by hand, and for a writer with too little room.
 use crate::nets::two_nodes;
 use crate::shelf::Shelf;
 use command_parts::{EventText, Fault};
@@ -25,7 +25,7 @@ send 1 0
 take 1 0
 ";
 
-/// Writes a schedule for a network, without the contract of that.
+/// Writes a schedule for a network, without showing the contract of that.
 fn write<W: Write + Drop>(
     alloc: Global,
     net: &Net,
@@ -63,7 +63,7 @@ fn written(alloc: Global, turns: Turns, room: usize) -> Result<(Result<(), Fault
     Ok((answer, taken))
 }
 
-/// Whether one round is answered so that is written into `room` bytes, and this is there.
+/// Whether writing one round into `room` bytes has this answer and this text.
 fn is_written(
     alloc: Global,
     room: usize,
@@ -74,7 +74,7 @@ fn is_written(
     Ok(answer == want && taken.as_slice() == text)
 }
 
-/// What is answered if there is room for `room` bytes of the round.
+/// The answer if there is room for `room` bytes of the round.
 fn answer_with_room(room: usize) -> Result<(), Fault> {
     if room < ROUND.len() {
         Err(Fault::Output)
@@ -83,7 +83,7 @@ fn answer_with_room(room: usize) -> Result<(), Fault> {
     }
 }
 
-/// The first room that is not filled with the front of the round, or is answered otherwise.
+/// The first room that the front of the round does not fill, or with another answer.
 fn first_other_room(alloc: Global) -> Result<Option<usize>, Fail> {
     for room in 0..=ROUND.len() {
         if !is_written(alloc, room, answer_with_room(room), &ROUND[..room])? {
@@ -110,7 +110,7 @@ fn kinds_of(text: &[u8]) -> Result<([bool; 4], usize), str::Utf8Error> {
     Ok((found, text.lines().count()))
 }
 
-/// How 400 random steps are written, and what kinds of lines there are.
+/// The answer to writing 400 random steps, and the kinds of their lines.
 fn kinds(
     alloc: Global,
     loss: u16,
@@ -146,7 +146,7 @@ fn first_other_kinds(
     Ok(None)
 }
 
-/// In a text of random steps that are all drawn, none but the asked for kinds stand.
+/// A text of random steps has only the kinds of lines that were asked for.
 #[test]
 fn losses_and_clients_only_where_asked_for(rt: HostRuntime) -> Result<(), Fail> {
     as_told(first_other_kinds(rt.alloc(), &KINDS), &None)

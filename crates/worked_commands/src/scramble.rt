@@ -11,12 +11,12 @@ use subcommands::scramble::{run, save_scrambled};
 use test_parts::{as_told, is_told};
 use topology::NetFault;
 
-/// Node 1 of two, of seed 7: distance 2, no parent; number 0, last heard 4; staged 0, parent 0,
+/// Node 1 of two, with seed 7: distance 2, no parent; number 0, last heard 4; staged 0, parent 0,
 /// ring value 3; copied 1, none, 1; value 2.
 const OF_SEVEN: &[u8] = b"TKT2\0\x02\0\x01\0\x01\0\x01\0\x02\xff\xff\
     \0\0\0\0\0\x04\0\0\0\0\0\x03\0\x01\xff\xff\0\x01\0\x02";
 
-/// The bytes of another file, which is longer.
+/// The bytes of another, longer file.
 const OTHER: &[u8] = &[7; 50];
 
 /// The network's file.
@@ -27,12 +27,12 @@ fn file_holds(rt: &HostRuntime, path: &str, bytes: &[u8]) -> io::Result<bool> {
     Ok(fs::read(rt, path)?.as_slice() == bytes)
 }
 
-/// Whether a scramble of node 1 is done.
+/// Whether a scramble of node 1 succeeds.
 fn is_done(rt: &HostRuntime) -> bool {
     run(rt, "two.toml", 1, "one.state", 7) == Ok(ExitCode::SUCCESS)
 }
 
-/// Whether a scramble over another file is done, and leaves the state of node 1 there.
+/// Whether a scramble over another file succeeds, and leaves the state of node 1 there.
 fn scrambles_over(rt: &HostRuntime) -> io::Result<bool> {
     fs::write(rt, "one.state", OTHER)?;
     let is_done = is_done(rt);
@@ -57,7 +57,7 @@ fn writes_the_scrambled_state(rt: HostRuntime) -> Result<(), Fail> {
 /// A network, a node, a file, and the fault of a scramble.
 type Row<'a> = (&'a str, u16, &'a str, PathFault<'a>);
 
-/// Scrambles of which each has a fault.
+/// Scrambles that each have a fault.
 static FAULTS: [Row<'static>; 8] = [
     (
         "absent.toml",
@@ -102,8 +102,8 @@ fn first_other_fault(rt: &HostRuntime, rows: &[Row<'_>]) -> Option<usize> {
     None
 }
 
-/// The place of the first scramble that has another fault, and whether the network's file is as it
-/// was.
+/// The place of the first scramble that has another fault, and whether the network's file is
+/// unchanged.
 fn tries_faults(rt: &HostRuntime) -> io::Result<(Option<usize>, bool)> {
     write_files(rt, &FILES)?;
     let other = first_other_fault(rt, &FAULTS);
@@ -125,7 +125,7 @@ fn holds(store: &MemoryStore, bytes: &[u8]) -> bool {
     }
 }
 
-/// A store whose first call fails, and in which four bytes are stored.
+/// A store of four bytes whose first call fails.
 fn failing_store(alloc: Global) -> Result<FusedStore<MemoryStore>, Fail> {
     let mut memory = MemoryStore::new(alloc, 36)?;
     memory.save(b"TKT2")?;
@@ -141,7 +141,7 @@ fn save(
     Ok(save_scrambled(alloc, &net, 1, 7, store))
 }
 
-/// Whether a save answers so, and the store holds these bytes then.
+/// Whether a save has this answer, and the store then holds these bytes.
 fn saves(
     alloc: Global,
     store: &mut FusedStore<MemoryStore>,
@@ -151,7 +151,7 @@ fn saves(
     Ok(save(alloc, store)? == Ok(want) && holds(store.inner(), bytes))
 }
 
-/// Whether the first of two saves fails, and leaves what was stored, and the second does not.
+/// Whether the first of two saves fails and leaves what was stored, and the second does not.
 fn saves_at_last(alloc: Global) -> Result<bool, Fail> {
     let mut store = failing_store(alloc)?;
     Ok(
@@ -165,13 +165,13 @@ fn a_failed_save_leaves_what_was_stored(rt: HostRuntime) -> Result<(), Fail> {
     as_told(saves_at_last(rt.alloc()), &true)
 }
 
-/// Faults, and what they are printed as.
+/// Faults, and how they are printed.
 static NAMES: [(PathFault<'static>, &str); 2] = [
     (PathFault::Unwritable("a/b"), "cannot write a/b"),
     (PathFault::Fault(Fault::NoNode), "id NoNode"),
 ];
 
-/// Whether a fault is printed so.
+/// Whether a fault is printed like this.
 fn is_named(alloc: Global, fault: PathFault<'_>, want: &str) -> Result<bool, AllocError> {
     Ok(format!(in alloc; "{fault}")?.as_str() == want)
 }

@@ -1,12 +1,12 @@
 //! A writer with little room, for tests of what is printed.
 use std::io::{Error, ErrorKind, Write};
 
-/// Keeps what is written to it, as far as it has room, and then fails.
+/// Keeps what is written to it while it has room, and then fails.
 #[derive(Drop)]
 pub struct Shelf<'a> {
     /// What was written.
     pub taken: &'a mut Vec<u8>,
-    /// How many bytes more it can keep.
+    /// How many more bytes it can keep.
     pub room: usize,
 }
 

@@ -9,7 +9,7 @@ use test_parts::as_told;
 use topology::Net;
 use world::simulation::Summary;
 
-/// Lines of which the first, the second and the last are refused.
+/// Lines; the first, the second and the last are refused.
 const EVENTS: &[u8] = b"tick 2\nsend 0 0\ntick 0\nTick 0";
 
 /// What they lead to on two nodes.
@@ -33,7 +33,7 @@ enum Answer<'a> {
     Broken,
 }
 
-/// Answers its reads one by one, and is then at its end.
+/// Answers its reads one by one, and then ends.
 #[derive(Drop)]
 struct Answers<'a> {
     answers: &'a [Answer<'a>],
@@ -59,7 +59,7 @@ impl Read for Answers<'_> {
     }
 }
 
-/// Simulates what a source gives, on a network, without the contract of that.
+/// Simulates what a source gives, on a network, without showing the contract of that.
 fn simulate<W: Write + Drop>(
     alloc: Global,
     net: &Net,
@@ -91,7 +91,7 @@ fn simulate_to(
     Ok(simulate_on(alloc, &net, answers, shelf)?)
 }
 
-/// Whether a simulation answers so, and this was written if there is room for `room` bytes.
+/// Whether a simulation with room for `room` bytes has this answer, and writes this.
 fn simulates(
     alloc: Global,
     answers: &[Answer<'_>],
@@ -108,7 +108,7 @@ fn simulates(
     Ok(answer == want && taken.as_slice() == text)
 }
 
-/// How three refused lines without a sweep are reported.
+/// The summary of three refused lines without a sweep.
 const THREE: Summary = Summary {
     refused: 3,
     sweeps: 0,
@@ -133,14 +133,14 @@ fn an_interrupted_read_is_tried_again(rt: HostRuntime) -> Result<(), Fail> {
     )
 }
 
-/// The events, with a failure amid the third line.
+/// The events, with a failure in the middle of the third line.
 static FAILED: [Answer<'static>; 3] = [
     Answer::Bytes(b"tick 2\nsend 0 0\ntick"),
     Answer::Broken,
     Answer::Bytes(b" 0\nTick 0"),
 ];
 
-/// What is said of the lines before the failure.
+/// The output for the lines before the failure.
 const TOLD: &[u8] = b"line 1: NoNode\nline 2: NoLink\n";
 
 #[test]
@@ -160,7 +160,7 @@ fn what_came_before_a_failed_read_is_told(rt: HostRuntime) -> Result<(), Fail> {
 /// The events, in one read.
 static WHOLE: [Answer<'static>; 1] = [Answer::Bytes(EVENTS)];
 
-/// What is answered if there is room for `room` bytes of the output.
+/// The answer if there is room for `room` bytes of the output.
 fn answer_with_room(room: usize) -> Result<Summary, Fault> {
     if room < OUTPUT.len() {
         Err(Fault::Output)
@@ -169,7 +169,7 @@ fn answer_with_room(room: usize) -> Result<Summary, Fault> {
     }
 }
 
-/// The first room that is not filled with the front of the output, or is answered otherwise.
+/// The first room that the front of the output does not fill, or with another answer.
 fn first_other_room(alloc: Global) -> Result<Option<usize>, Fail> {
     for room in 0..=OUTPUT.len() {
         if !simulates(alloc, &WHOLE, room, answer_with_room(room), &OUTPUT[..room])? {

@@ -1,5 +1,5 @@
-//! Networks, files and calls as rows give them. Rows need nothing of what the contracts of these
-//! calls say, and if they are called from here the prover need not carry that along.
+//! Networks, files and calls as rows give them. Rows need nothing of the contracts of these calls;
+//! called from here, they do not burden the prover.
 ghost use Rattle.std.specs.Prelude.{◌≡◌, ◌<◌};
 ghost use Rattle.node_core.specs.Site.{site_of};
 ghost use Rattle.node_core.specs.View.{site_in};
@@ -12,7 +12,7 @@ use rand_pcg::Lcg64Xsh32;
 use std::alloc::{AllocError, Allocator, Global};
 use topology::{Net, NetFault};
 
-/// What stands for no parent.
+/// The number that means no parent.
 pub const NONE: u16 = 65535;
 
 /// The default state of node 1 of two nodes, in the older layout.
@@ -23,7 +23,7 @@ pub const OLDER: &[u8; 34] =
 pub const NEWER: &[u8; 36] = b"TKT2\0\x02\0\x01\0\x01\0\x01\0\x02\xff\xff\
     \0\0\0\0\0\0\0\x02\xff\xff\0\0\0\x02\xff\xff\0\0\0\0";
 
-/// The bytes of a state file, in a place of its own that takes no memory.
+/// The bytes of a state file, in an array that takes no memory.
 pub type File = ArrayVec<u8, 1276>;
 
 /// A network whose links hold one item, with node 0 as its root.
@@ -72,7 +72,7 @@ pub fn written<A: Allocator>(node: &NodeState<A>, net: &Net, id: u16) -> File
     file
 }
 
-/// What bytes are read as for a node of the network: the file of that state, or the fault.
+/// What bytes are read as for a node of the network: the file of the state, or the fault.
 pub fn reread<A: Allocator + Copy>(
     alloc: A,
     bytes: &[u8],
@@ -86,7 +86,7 @@ pub fn reread<A: Allocator + Copy>(
     Ok(written(&node, net, id))
 }
 
-/// The file of the state that a node of the network starts with, and what stood in the way.
+/// The file of the state that a node of the network starts with, and the fault of the start.
 pub fn started<A: Allocator + Copy, S: Store>(
     alloc: A,
     store: &mut S,

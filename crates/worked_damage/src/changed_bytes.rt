@@ -1,4 +1,4 @@
-//! State files of which a byte has changed, files of any bytes, and files of scrambled states.
+//! State files with one byte changed, files of random bytes, and files of scrambled states.
 use crate::calls::{File, NEWER, OLDER, file_of, line, net_of, reread, scrambled, star, two};
 use node_state_file::FileFault;
 use rand_core::SeedableRng;
@@ -9,21 +9,21 @@ use std::test::Fail;
 use test_parts::{as_told, is_told};
 use topology::{Net, NetFault};
 
-/// How files are answered.
+/// How files are read.
 #[derive(Clone, Copy, Debug, Default, PartialEq, Eq)]
 struct Tally {
-    /// They are read, and the state's file ends with the very same 24 bytes: all but what the
-    /// network, the node and its neighbours are.
+    /// They are read, and the state's file ends with the same 24 bytes: all except the network,
+    /// the node and its neighbours.
     read: u32,
     magic: u32,
     shape: u32,
     range: u32,
-    /// They are answered in any other way.
+    /// They have any other answer.
     other: u32,
 }
 
 impl Tally {
-    /// Counts an answer: whether a file that is read ends as it should, or the fault.
+    /// Counts an answer: whether a readable file ends as it should, or the fault.
     fn count(&mut self, answer: Result<bool, FileFault>) {
         let count = match answer {
             Ok(true) => &mut self.read,
@@ -47,7 +47,7 @@ fn answer_to(alloc: Global, net: &Net, file: &[u8]) -> Result<bool, FileFault> {
     Ok(ends_so(&again, file))
 }
 
-/// That file with this change of the byte at that place.
+/// That file with this change of the byte at this place.
 fn with_change(good: &[u8], at: usize, change: u8) -> File {
     let mut file = file_of(good, &[]);
     if let Some(byte) = file.get_mut(at) {
@@ -56,7 +56,7 @@ fn with_change(good: &[u8], at: usize, change: u8) -> File {
     file
 }
 
-/// How all files are answered that differ in one byte from a file of node 1 of two.
+/// The answers to all files that differ in one byte from a file of node 1 of two.
 fn answers_of(alloc: Global, net: &Net, good: &[u8]) -> Tally {
     let mut tally = Tally::default();
     for at in 0..good.len() {
@@ -67,7 +67,7 @@ fn answers_of(alloc: Global, net: &Net, good: &[u8]) -> Tally {
     tally
 }
 
-/// The same of the layout that is written and of the older one.
+/// The same for the present layout and for the older one.
 fn answers_of_both(alloc: Global) -> Result<[Tally; 2], NetFault> {
     let net = two(alloc)?;
     Ok([
@@ -76,24 +76,24 @@ fn answers_of_both(alloc: Global) -> Result<[Tally; 2], NetFault> {
     ])
 }
 
-/// Of the 255 changes of a byte these are read: of the distances (now 2) two each, of the numbers
-/// (below 5) four each, of the three ring values (below 7) six each; no parent is one byte away
-/// from none.
+/// Of the 255 changes of a byte these can be read: of the distances (now 2) two each, of the
+/// numbers (below 5) four each, of the three ring values (below 7) six each; no parent differs in
+/// just one byte from none.
 const READ: u32 = 3 * 2 + 2 * 4 + 3 * 6;
 
-/// The answers to files in the layout that is written. The first word may become the other one:
-/// then the numbers stand elsewhere, and the neighbour or the degree is none that there is.
+/// The answers to files in the present layout. The first word may become the other one: then the
+/// numbers are at other places, and the neighbour or the degree is invalid.
 const TO_NEWER: Tally = Tally {
     read: READ,
     magic: 4 * 255 - 1,
     // Nodes, id, capacity, degree, neighbour.
     shape: 5 * 510 + 1,
-    // Of eleven fields of two bytes each whatever is not read is out of range.
+    // In eleven fields of two bytes each, what cannot be read is out of range.
     range: 11 * 510 - READ,
     other: 0,
 };
 
-/// Those to files in the older layout, which is the same without the capacity.
+/// The answers to files in the older layout, which lacks the capacity.
 const TO_OLDER: Tally = Tally {
     read: READ,
     magic: 4 * 255 - 1,
@@ -107,7 +107,7 @@ fn one_byte_has_changed(rt: HostRuntime) -> Result<(), Fail> {
     is_told(&answers_of_both(rt.alloc())?, &[TO_NEWER, TO_OLDER])
 }
 
-/// As many bytes as are wanted after these, in any order.
+/// These bytes, and this many random ones after them.
 fn any_bytes(
     alloc: Global,
     front: &[u8],
@@ -121,7 +121,7 @@ fn any_bytes(
     Ok(bytes)
 }
 
-/// The fault of any bytes after these as a file of node 0; none if they are read.
+/// The fault of random bytes after these, as a file of node 0; none if they can be read.
 fn fault_of(
     alloc: Global,
     net: &Net,
@@ -136,14 +136,14 @@ fn fault_of(
 /// The header of a file of node 0 of the star.
 const HEADER: &[u8; 16] = b"TKT2\0\x40\0\0\x10\0\0\x3f\0\x40\0\x3f";
 
-/// Files of any bytes: those in front, from how many bytes after them on none is missing, and the
-/// fault of a file that is long enough.
+/// Files of random bytes: the bytes in front, from how many bytes after them on none is missing,
+/// and the fault of a file that is long enough.
 const ANY_FILES: [(&[u8], usize, FileFault); 2] = [
     (b"", 4, FileFault::Magic),
     (HEADER, 20 * 63, FileFault::Shape),
 ];
 
-/// Whether any bytes, this number of them after those in front, have such faults.
+/// Whether this many random bytes after those in front have such faults.
 fn have_faults(
     alloc: Global,
     net: &Net,
@@ -174,14 +174,14 @@ fn first_unlike(alloc: Global) -> Result<Option<usize>, Fail> {
     Ok(None)
 }
 
-/// No such file has one of the two words, and none has 63 neighbours that ascend, unless by a
-/// chance that this generator does not take.
+/// No such file has one of the two words, and none has 63 ascending neighbours, except by a chance
+/// that does not come up with this generator.
 #[test]
 fn any_bytes_of_each_length(rt: HostRuntime) -> Result<(), Fail> {
     as_told(first_unlike(rt.alloc()), &None)
 }
 
-/// Whether a node's scrambled state is read again as the very same bytes.
+/// Whether a node's scrambled state is read back as the same bytes.
 fn is_read_again(
     alloc: Global,
     net: &Net,
@@ -192,8 +192,8 @@ fn is_read_again(
     Ok(!file.is_empty() && reread(alloc, &file, net, id) == Ok(file))
 }
 
-/// Scrambles each node of a network in turn, 2000 times in all, and says how many of the files were
-/// read again as the very same bytes.
+/// Scrambles the nodes of a network in turn, 2000 times in all. Returns how many of the files were
+/// read back as the same bytes.
 fn read_again(
     alloc: Global,
     made: Result<Net, NetFault>,
@@ -209,7 +209,7 @@ fn read_again(
     Ok(same)
 }
 
-/// The same of two nodes, a line, a triangle, a square and a star, one after the other.
+/// The same for two nodes, a line, a triangle, a square and a star, one after the other.
 fn read_again_of_five(alloc: Global) -> Result<[u16; 5], Fail> {
     let triangle = [(0, 1), (1, 2), (0, 2)];
     let square = [(0, 1), (0, 2), (1, 3), (2, 3)];

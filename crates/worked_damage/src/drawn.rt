@@ -1,5 +1,5 @@
-//! What is drawn from some seeds. The expected values are those of another program, written from
-//! the definitions of the draws and of the generator.
+//! What some seeds draw. The expected values come from another program, written from the
+//! definitions of the draws and of the generator.
 use crate::calls::{NONE, file_of, line, scrambled, two};
 use damage_tool::{cut, junk_line, scramble_world};
 use frame_codec::LineReader;
@@ -12,15 +12,15 @@ use test_parts::{as_told, is_told};
 use topology::{Frame, Net, NetFault, Payload};
 use world::World;
 
-/// What the seed 7 makes of the default state of node 1 of two nodes.
+/// The default state of node 1 of two nodes, scrambled with the seed 7.
 pub const OF_SEVEN: [u16; 16] = [2, 1, 1, 1, 2, NONE, 0, 0, 4, 0, 0, 3, 1, NONE, 1, 2];
 
-/// What the greatest seed makes of that of node 1 of three in a line.
+/// That of node 1 of three in a line, scrambled with the greatest seed.
 const OF_GREATEST: [u16; 26] = [
     3, 1, 1, 2, 0, 2, 0, 4, 3, 2, 1, 12, 1, 2, 7, 8, 2, 2, 2, 2, 2, 3, 0, NONE, 0, 0,
 ];
 
-/// Whether this is the file of the state that a seed makes of the default one of node 1.
+/// Whether this is the file of node 1's default state, scrambled with a seed.
 fn is_scrambled(
     alloc: Global,
     made: Result<Net, NetFault>,
@@ -33,7 +33,7 @@ fn is_scrambled(
     Ok(file == file_of(b"TKT2", want))
 }
 
-/// Whether these are so.
+/// Whether these two are right.
 fn are_scrambled(alloc: Global) -> Result<[bool; 2], Fail> {
     Ok([
         is_scrambled(alloc, two(alloc), 7, &OF_SEVEN)?,
@@ -72,7 +72,7 @@ const JUNK: [(u64, u32, &[u8]); 3] = [
     (4_294_967_295, 1, b"[3c/~drGd/3U%9A/vul,:CgWN;Un8CP+U#e\n"),
 ];
 
-/// The place of the first row whose lines are other ones.
+/// The place of the first row with other lines.
 fn first_other_junk(alloc: Global) -> Result<Option<usize>, AllocError> {
     for (at, (seed, lines, want)) in JUNK.iter().enumerate() {
         if junk(alloc, *seed, *lines)?.as_slice() != *want {
@@ -87,8 +87,8 @@ fn lines_of_junk(rt: HostRuntime) -> Result<(), Fail> {
     is_told(&first_other_junk(rt.alloc())?, &None)
 }
 
-/// A line of three nodes' first frame to one that says the distance 1, the parent 0 and the ring
-/// value 12.
+/// The line of a frame among three nodes that says the distance 1, the parent 0 and the ring value
+/// 12.
 pub const GOOD_LINE: &[u8] = b"F0000000000010000000c\n";
 
 /// What it spells.
@@ -109,14 +109,15 @@ fn frames(alloc: Global, net: &Net, text: &[u8]) -> Result<Vec<Frame>, AllocErro
     Ok(frames)
 }
 
-/// How many frames of a line of three nodes a text has, and the first of them.
+/// How many frames a text has for three nodes in a line, and the first of them.
 fn first_frame(alloc: Global, text: &[u8]) -> Result<(usize, Option<Frame>), Fail> {
     let net = line(alloc)?;
     let found = frames(alloc, &net, text)?;
     Ok((found.len(), found.first().copied()))
 }
 
-/// How long ten thousand lines of junk are, and what frames are read of them and the line after.
+/// How long ten thousand lines of junk are, and the frames that are read from them and the line
+/// after.
 fn behind_junk(alloc: Global) -> Result<(usize, (usize, Option<Frame>)), Fail> {
     let mut text = junk(alloc, 7, 10_000)?;
     let length = text.len();
@@ -124,13 +125,13 @@ fn behind_junk(alloc: Global) -> Result<(usize, (usize, Option<Frame>)), Fail> {
     Ok((length, first_frame(alloc, &text)?))
 }
 
-/// Of the lines of junk four are as long as a frame's and begin as one; none is one.
+/// Four of the lines of junk are as long as a frame's and begin like one; none is one.
 #[test]
 fn a_frame_behind_junk_is_read(rt: HostRuntime) -> Result<(), Fail> {
     as_told(behind_junk(rt.alloc()), &(211_725, (1, Some(GOOD))))
 }
 
-/// Lengths, and what bytes `abc` are when they are cut to them.
+/// Lengths, and the bytes `abc` cut to them.
 const CUTS: [(usize, &str); 5] = [
     (0, ""),
     (2, "ab"),
@@ -139,7 +140,7 @@ const CUTS: [(usize, &str); 5] = [
     (1_000_000, "abc"),
 ];
 
-/// The place of the first row that is not so.
+/// The place of the first row that is wrong.
 fn first_other_cut() -> Option<usize> {
     CUTS.iter()
         .position(|(length, want)| cut(b"abc", *length) != want.as_bytes())
@@ -158,12 +159,12 @@ pub fn harms(alloc: Global, net: &Net, seed: u64) -> Result<Vec<Event>, AllocErr
     Ok(events)
 }
 
-/// Whether an event happens to a world.
+/// Whether a world accepts an event.
 fn happens(world: &mut World, event: &Event) -> bool {
     world.step(event).is_ok()
 }
 
-/// How many of the events are accepted, one after the other.
+/// How many of the events a world accepts, one after the other.
 fn accepted(world: &mut World, events: &[Event]) -> usize {
     events.iter().filter(|event| happens(world, event)).count()
 }
@@ -174,7 +175,7 @@ fn accepted_of(alloc: Global, world: &mut World, seed: u64) -> Result<(usize, us
     Ok((events.len(), accepted(world, &events)))
 }
 
-/// The same of the seeds 1 to 5, of which the harms of one happen after those of the others.
+/// The same for the seeds 1 to 5, one after the other.
 fn accepted_of_five(alloc: Global, world: &mut World) -> Result<[(usize, usize); 5], AllocError> {
     let mut found = [(0, 0); 5];
     for (seed, place) in (1..=5).zip(&mut found) {

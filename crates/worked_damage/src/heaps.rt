@@ -1,22 +1,22 @@
-//! Heaps with room for ever more, on each of which a call is made.
+//! Calls on ever larger heaps.
 use linked_list_allocator::LocalHeap;
 use std::alloc::{AllocError, Global};
 
 /// How a call ended on a heap.
 #[derive(Clone, Copy, Debug, PartialEq, Eq)]
 pub enum End {
-    /// There was too little room for what the call is made with.
+    /// There was too little room for the arguments of the call.
     NoRoom,
-    /// Memory was refused; nothing of what the call had taken stayed allocated.
+    /// Memory was refused, and all that the call had taken was freed.
     Refused,
-    /// It did what it does with ample memory.
+    /// It did the same as with ample memory.
     Done,
     /// Anything else.
     Wrong,
 }
 
-/// Makes a call on heaps with room for ever more units of 16 bytes, always fewer than that, until
-/// one does not refuse it. How the call ended there, and how many heaps refused it before.
+/// Makes a call on heaps of ever more units of 16 bytes, up to this many, until one does not
+/// refuse it. Returns how the call ended there, and how many heaps refused it before.
 pub fn first_end<F: FnMut(&LocalHeap) -> End>(
     alloc: Global,
     most: usize,

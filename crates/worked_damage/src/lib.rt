@@ -1,11 +1,10 @@
-//! Worked rows of damage: state files as faults leave them, stores and pipes that fail, what is
-//! drawn on purpose, and schedules that are cut short, with every expected value computed by hand
-//! or by another program.
+//! Worked rows of damage: state files as faults leave them, stores and pipes that fail, deliberate
+//! damage, and schedules that are cut short. Every expected value was computed by hand or by
+//! another program.
 //!
-//! Nothing but tests stands here: of `node_state_file`, of `damage_tool`, of `socket_links`, and of
-//! `experiments`. They are not in the crates that they test because a crate's tests prove all of
-//! that crate once more. The rows of single layers stand in `worked_rows`, those of whole networks
-//! in `worked_runs`.
+//! It has only tests: of `node_state_file`, `damage_tool`, `socket_links` and `experiments`. They
+//! have a crate of their own, since the tests of a crate prove all of that crate once more. The
+//! rows of single layers are in `worked_rows`, those of whole networks in `worked_runs`.
 #![tactic(auto)]
 
 #[cfg(test)]

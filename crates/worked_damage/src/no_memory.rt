@@ -1,4 +1,4 @@
-//! A node's state is written and scrambled on a heap without a free byte.
+//! Writing and scrambling a node's state on a heap without a free byte.
 use crate::calls::{NEWER, file_of, two, written};
 use crate::drawn::OF_SEVEN;
 use damage_tool::scramble_node;
@@ -11,8 +11,8 @@ use std::test::Fail;
 use test_parts::{as_told, fill};
 use topology::Net;
 
-/// Node 1 of two nodes on a heap, of which nothing is free then: how much is free at the end, and
-/// whether its default state is written as it should be, and its scrambled one.
+/// Node 1 of two nodes on a heap that has nothing free. Returns how much is free at the end, and
+/// whether its default state and its scrambled one are written right.
 fn without_memory(alloc: Global, heap: &LocalHeap, net: &Net) -> Result<(usize, bool, bool), Fail> {
     if net.nodes() != 2 {
         return Err(Fail::new("two nodes are wanted"));

@@ -1,4 +1,4 @@
-//! The store over a real file, and over what may stand in a file's place.
+//! The store over a real file, and over what may be there instead of a file.
 use node_state_file::{FileStore, Store, StoreFault};
 use std::alloc::{AllocError, Global};
 use std::fs;
@@ -8,7 +8,7 @@ use std::rt::Files;
 use std::test::Fail;
 use test_parts::as_told;
 
-/// What a load answers: the bytes' number and the last of them.
+/// What a load answers: the number of bytes, and the last of them.
 fn loaded<F: Files>(files: &F, path: &str) -> Result<(usize, Option<u8>), StoreFault> {
     let mut buffer = [0; 1277];
     let count = FileStore::new(files, path).load(&mut buffer)?;
@@ -20,28 +20,30 @@ fn saved<F: Files>(files: &F, path: &str, bytes: &[u8]) -> Result<(), StoreFault
     FileStore::new(files, path).save(bytes)
 }
 
-/// Who may do what with a file: its owner, the group and others.
+/// The mode of a file.
 fn mode_of<R: Files + AllocGlobal>(rt: &R, path: &str) -> Result<u32, Fail> {
     let metadata = fs::metadata(rt, path)?;
     Ok(metadata.permissions().mode() & 0o777)
 }
 
-/// Whether a file holds just these bytes.
+/// Whether a file holds exactly these bytes.
 fn has<R: Files + AllocGlobal>(rt: &R, path: &str, bytes: &[u8]) -> Result<bool, Fail> {
     Ok(fs::read(rt, path)?.as_slice() == bytes)
 }
 
-/// Saves these bytes. Whether they are loaded again, and stand in the file under its other name.
+/// Saves these bytes. Returns whether they are loaded again, and are in the file under its other
+/// name.
 fn goes_in_place<R: Files + AllocGlobal>(rt: &R, path: &str, bytes: &[u8]) -> Result<bool, Fail> {
     let is_saved = saved(rt, path, bytes) == Ok(());
     let is_loaded = loaded(rt, path) == Ok((bytes.len(), bytes.last().copied()));
     Ok(is_saved && is_loaded && has(rt, "same.state", bytes)?)
 }
 
-/// What is saved one after the other: the longest state, shorter ones, and nothing.
+/// The states to save, one after the other: the longest, shorter ones, and an empty one.
 const STATES: [&[u8]; 4] = [&[1; 1276], &[2; 16], b"", &[3; 36]];
 
-/// Gives a file its other name. The place of the first of these that does not go in place.
+/// Gives a file its other name. Returns the place of the first of these states that is not saved
+/// in place.
 fn first_not_in_place<R: Files + AllocGlobal>(rt: &R, path: &str) -> Result<Option<usize>, Fail> {
     fs::hard_link(rt, path, "same.state")?;
     for (at, bytes) in STATES.iter().enumerate() {
@@ -52,8 +54,8 @@ fn first_not_in_place<R: Files + AllocGlobal>(rt: &R, path: &str) -> Result<Opti
     Ok(None)
 }
 
-/// Whether of a file with more bytes than a state has one byte more is loaded, and a state that is
-/// saved over it leaves nothing of it.
+/// Whether a load of a file that is longer than a state stops after one byte too many, and a state
+/// that is saved over it leaves nothing of it.
 fn is_cut_down<R: Files + AllocGlobal>(rt: &R, path: &str) -> Result<bool, Fail> {
     fs::write(rt, path, &[9; 5000])?;
     let is_long = loaded(rt, path) == Ok((1277, Some(9)));
@@ -61,7 +63,7 @@ fn is_cut_down<R: Files + AllocGlobal>(rt: &R, path: &str) -> Result<bool, Fail>
     Ok(is_long && is_saved && has(rt, path, &[5; 36])?)
 }
 
-/// What a load answers if there is no file, what a save, and who may do what with the file then.
+/// What a load answers if there is no file, what a save answers, and the mode of the file then.
 type Made = (
     Result<(usize, Option<u8>), StoreFault>,
     Result<(), StoreFault>,
@@ -82,8 +84,8 @@ fn remove<F: Files>(files: &F, paths: [&str; 2]) -> Result<(), Fail> {
     Ok(())
 }
 
-/// What is answered if a file is made, what does not go in place then, and whether it is cut
-/// down.
+/// The answers when a file is made, the first state that is not saved in place, and whether a long
+/// file is cut down.
 fn in_place<R: Files + AllocGlobal>(
     rt: &R,
     path: &str,
@@ -107,12 +109,12 @@ fn pipe_maker(alloc: Global, path: &str) -> Result<Command, AllocError> {
     Ok(command)
 }
 
-/// Makes a pipe, and says whether there is one then.
+/// Makes a pipe, and returns whether there is one.
 fn make_pipe<R: Processes + AllocGlobal>(rt: &R, path: &str) -> Result<bool, Fail> {
     Ok(pipe_maker(rt.alloc(), path)?.status(rt)?.success())
 }
 
-/// What may stand in a file's place.
+/// What may be there instead of a file.
 const OTHERS: [&str; 5] = [
     "folder.state",
     "loop.state",
@@ -121,14 +123,14 @@ const OTHERS: [&str; 5] = [
     "/dev/full",
 ];
 
-/// Whether a load from there and a save fail.
+/// Whether a load and a save there fail.
 fn is_failure<F: Files>(files: &F, path: &str) -> bool {
     loaded(files, path) == Err(StoreFault::Device)
         && saved(files, path, b"TKT2") == Err(StoreFault::Device)
 }
 
-/// Makes the three of them that must be made. Whether there is a pipe then, and the place of the
-/// first of all that is no failure.
+/// Makes the three of them that must be made. Returns whether there is a pipe, and the place of
+/// the first of all that does not fail.
 fn first_no_failure<R: Files + Processes + AllocGlobal>(
     rt: &R,
 ) -> Result<(bool, Option<usize>), Fail> {
@@ -141,19 +143,19 @@ fn first_no_failure<R: Files + Processes + AllocGlobal>(
     Ok((is_made, found))
 }
 
-/// Both calls fail, and none waits for anybody at the other end.
+/// Both calls fail, and neither waits for anybody at the other end.
 #[test]
 fn other_things_in_its_place_are_failures(rt: HostRuntime) -> Result<(), Fail> {
     as_told(first_no_failure(&rt), &(true, None))
 }
 
-/// What loads and saves answer at a link that leads nowhere, and in a folder that is not there.
+/// What loads and saves answer at a link that leads nowhere, and in a missing folder.
 type Nowhere = (
     [Result<(usize, Option<u8>), StoreFault>; 2],
     [Result<(), StoreFault>; 2],
 );
 
-/// What they answer, and whether what was saved at the link stands where the link leads.
+/// Their answers, and whether what was saved at the link is where the link leads.
 fn at_a_dead_link<R: Files + AllocGlobal>(rt: &R) -> Result<(Nowhere, bool), Fail> {
     rt.symlink("linked.state", "dead.state")?;
     let loads = [loaded(rt, "dead.state"), loaded(rt, "no/folder.state")];

@@ -1,4 +1,4 @@
-//! Schedules and measured runs if memory is refused, and schedules of which an event is not
+//! Schedules and measured runs when memory is refused, and schedules with an event that is not
 //! taken.
 ghost use Rattle.std.specs.Prelude.{⊤};
 
@@ -25,7 +25,7 @@ struct Keeper {
 }
 
 impl Keeper {
-    /// One that takes `calls` events and fails at the next one.
+    /// A keeper that takes `calls` events and fails at the next.
     fn new(alloc: Global, calls: u64) -> Keeper {
         Keeper {
             events: Vec::new(alloc),
@@ -56,15 +56,15 @@ impl EventSink for Keeper {
 /// A schedule for two nodes.
 #[derive(Clone, Copy)]
 enum Kind {
-    /// What the seed 7 scrambles, and three rounds.
+    /// A scramble with the seed 7, and three rounds.
     Rounds,
     /// The same, with loans of one tick.
     GivenBack,
-    /// Sixty steps that the seed 3 draws, with losses and clients.
+    /// Sixty random steps with the seed 3, with losses and clients.
     Random,
 }
 
-/// What is scrambled in front of a schedule, how long its loans last, and its steps.
+/// The scramble of a schedule, the length of its loans, and its steps.
 fn parts(kind: Kind) -> (Option<Lcg64Xsh32>, Option<u16>, Order) {
     match kind {
         Kind::Rounds => (
@@ -103,7 +103,7 @@ fn given<A: Allocator + Copy>(
     give_plan(alloc, net, scramble, loan, order, keeper)
 }
 
-/// The events of a schedule that is given to its end.
+/// The events of a whole schedule.
 fn whole(alloc: Global, net: &Net, kind: Kind) -> Result<Vec<Event>, PlanFault> {
     let mut keeper = Keeper::new(alloc, u64::MAX);
     given(alloc, net, kind, &mut keeper)?;
@@ -116,8 +116,8 @@ fn whole_of_two(alloc: Global, kind: Kind) -> Result<Vec<Event>, Fail> {
     Ok(whole(alloc, &net, kind)?)
 }
 
-/// Gives the schedule to a keeper that fails after `calls` events. Whether the answer is as it
-/// should be, and the keeper has just the events in front; none if there was no further event.
+/// Gives the schedule to a keeper that fails after `calls` events. Returns whether the answer is
+/// right, and the keeper has exactly the events before; none if there was no further event.
 fn is_cut_short(
     alloc: Global,
     net: &Net,
@@ -136,7 +136,8 @@ fn is_cut_short(
     )
 }
 
-/// The number of events after which the schedule is first not cut short, or at its end is.
+/// The first number of events after which the schedule is not cut short, or is cut short at its
+/// end.
 fn first_uncut(alloc: Global, kind: Kind, whole: &[Event]) -> Result<Option<usize>, NetFault> {
     let net = two(alloc)?;
     for calls in 0..=whole.len() {
@@ -148,7 +149,7 @@ fn first_uncut(alloc: Global, kind: Kind, whole: &[Event]) -> Result<Option<usiz
     Ok(None)
 }
 
-/// How many events a schedule has, and that number.
+/// How many events a schedule has, and this number.
 fn cut_behind_each(alloc: Global, kind: Kind) -> Result<(usize, Option<usize>), Fail> {
     let events = whole_of_two(alloc, kind)?;
     Ok((events.len(), first_uncut(alloc, kind, &events)?))
@@ -172,12 +173,12 @@ fn each_event_of_random_steps_is_once_not_taken(rt: HostRuntime) -> Result<(), F
     is_told(&(count >= 60, uncut), &(true, None))
 }
 
-/// Two nodes whose network, and whatever is done with it, is to have its memory from there.
+/// Two nodes; the network, and whatever is done with it, has its memory from this allocator.
 fn two_on<A: Allocator + Copy>(alloc: A) -> Result<Net<A>, NetFault> {
     Net::make(alloc, 2, 0, 1, 0, &[(0, 1)])
 }
 
-/// Gives a schedule to a keeper that has its own memory. How that ends.
+/// Gives a schedule to a keeper that has its own memory. Returns how that ends.
 fn given_whole<A: Allocator + Copy>(
     alloc: Global,
     on: A,
@@ -188,13 +189,13 @@ fn given_whole<A: Allocator + Copy>(
     let mut keeper = Keeper::new(alloc, u64::MAX);
     match given(on, net, kind, &mut keeper) {
         Ok(()) if keeper.events.as_slice() == whole => End::Done,
-        // What needs memory stands in front of the first event.
+        // All memory is taken before the first event.
         Err(PlanFault::Memory) if keeper.events.is_empty() => End::Refused,
         _ => End::Wrong,
     }
 }
 
-/// The same of two nodes on a heap.
+/// The same for two nodes on a heap.
 fn given_on(alloc: Global, heap: &LocalHeap, kind: Kind, whole: &[Event]) -> End {
     match two_on(heap) {
         Ok(net) => given_whole(alloc, heap, &net, kind, whole),
@@ -220,7 +221,7 @@ fn a_schedule_of_random_steps_meets_each_refusal(rt: HostRuntime) -> Result<(), 
     is_told(&(end, refused > 20), &(End::Done, true))
 }
 
-/// The run that the seed 7 scrambles.
+/// The run with the seed 7.
 fn measured<A: Allocator + Copy>(
     alloc: A,
     net: &Net<A>,
@@ -229,13 +230,13 @@ fn measured<A: Allocator + Copy>(
     measure_run(alloc, net, scheduler, 7)
 }
 
-/// The same of two nodes with ample memory.
+/// The same for two nodes with ample memory.
 fn measured_of_two(alloc: Global, scheduler: Scheduler) -> Result<Recovery, Fail> {
     let net = two(alloc)?;
     Ok(measured(alloc, &net, scheduler)?)
 }
 
-/// Measures a run that should be that one. How that ends.
+/// Measures a run that should be this one. Returns how that ends.
 fn measured_again<A: Allocator + Copy>(
     alloc: A,
     net: &Net<A>,
@@ -249,7 +250,7 @@ fn measured_again<A: Allocator + Copy>(
     }
 }
 
-/// The same of two nodes on a heap.
+/// The same for two nodes on a heap.
 fn measured_on(heap: &LocalHeap, scheduler: Scheduler, run: Recovery) -> End {
     match two_on(heap) {
         Ok(net) => measured_again(heap, &net, scheduler, run),
@@ -257,15 +258,14 @@ fn measured_on(heap: &LocalHeap, scheduler: Scheduler, run: Recovery) -> End {
     }
 }
 
-/// The seed of a run and how many sweeps it has with ample memory, and how it is measured on ever
-/// larger heaps.
+/// The seed of a run, its sweeps with ample memory, and how it is measured on ever larger heaps.
 fn measured_in_turn(alloc: Global, scheduler: Scheduler) -> Result<((u64, u64), (End, u32)), Fail> {
     let run = measured_of_two(alloc, scheduler)?;
     let found = first_end(alloc, 1000, |heap| measured_on(heap, scheduler, run))?;
     Ok(((run.seed, run.seen), found))
 }
 
-/// The seed of each run, and its sweeps: the sharper bound of two nodes over links of one place is
+/// The seed of each run, and its sweeps: the sharper bound for two nodes and links of one place is
 /// 35.
 const RUN: (u64, u64) = (7, 35);
 

@@ -1,4 +1,4 @@
-//! Each growth refused in turn.
+//! Refusing each growth in turn.
 use crate::calls::{NEWER, line, reread, started, two};
 use crate::drawn::harms;
 use crate::heaps::{End, first_end};
@@ -13,13 +13,13 @@ use std::test::Fail;
 use test_parts::is_told;
 use topology::Net;
 
-/// Whether a state was read, and is written as it was; it is not if memory was refused.
+/// Whether a state was read, and is written as before; false if memory was refused.
 fn is_read<A: Allocator + Copy>(alloc: A, net: &Net) -> Result<bool, FileFault> {
     let file = reread(alloc, NEWER, net, 1)?;
     Ok(file.as_slice() == NEWER.as_slice())
 }
 
-/// The same of a node that starts from a store.
+/// The same for a node that starts from a store.
 fn is_started<A: Allocator + Copy>(alloc: A, net: &Net) -> Result<bool, AllocError> {
     let mut store = MemoryStore::new(alloc, 36)?;
     if store.save(NEWER).is_err() {
@@ -71,12 +71,12 @@ fn start_meets_each_refusal(rt: HostRuntime) -> Result<(), Fail> {
     is_told(&(end, refused >= 11), &(End::Done, true))
 }
 
-/// Draws the harms of a world, and says whether there was memory.
+/// Draws the harms of a world, and returns whether there was memory.
 fn draw<A: Allocator>(net: &Net, generator: &mut Lcg64Xsh32, out: &mut Vec<Event, A>) -> bool {
     scramble_world(net, generator, out).is_ok()
 }
 
-/// How the harms of a world are drawn on a heap, which with ample memory are those.
+/// How the harms of a world, which are these with ample memory, are drawn on a heap.
 fn drawn_on(heap: &LocalHeap, net: &Net, generator: &mut Lcg64Xsh32, ample: &[Event]) -> End {
     let mut out = Vec::new(heap);
     match draw(net, generator, &mut out) {
@@ -86,21 +86,20 @@ fn drawn_on(heap: &LocalHeap, net: &Net, generator: &mut Lcg64Xsh32, ample: &[Ev
     }
 }
 
-/// How the harms of a world of that network are drawn on ever larger heaps.
+/// How the harms of a world of this network are drawn on ever larger heaps.
 fn drawn_in_turn(alloc: Global, net: &Net) -> Result<(End, u32), AllocError> {
     let ample = harms(alloc, net, 5)?;
     let mut again = Lcg64Xsh32::seed_from_u64(5);
     first_end(alloc, 1000, |heap| drawn_on(heap, net, &mut again, &ample))
 }
 
-/// The same of three nodes in a line.
+/// The same for three nodes in a line.
 fn drawn_of_three(alloc: Global) -> Result<(End, u32), Fail> {
     let net = line(alloc)?;
     Ok(drawn_in_turn(alloc, &net)?)
 }
 
-/// The harms of a world that were drawn if memory is refused at times: none, or those that are
-/// drawn with ample memory.
+/// If memory is refused, no harms are drawn, or the same as with ample memory.
 #[test]
 fn harms_meet_each_refusal(rt: HostRuntime) -> Result<(), Fail> {
     let (end, refused) = drawn_of_three(rt.alloc())?;

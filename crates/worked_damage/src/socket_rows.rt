@@ -8,13 +8,13 @@ use std::test::Fail;
 use test_parts::as_told;
 use topology::Net;
 
-/// The bytes that a pipe gives, at most how many in a read, and whether it stays open after them
-/// and says Later; it closes otherwise.
+/// The bytes that a pipe gives, the most in one read, and whether it stays open after them and
+/// says Later; otherwise it closes.
 type Given<'a> = (&'a [u8], usize, bool);
 
-/// Attaches such a pipe, and pulls until the link is loose or as many pulls were made. How many of
-/// the wanted answers have come, if this number had come before; none if another one came. Later
-/// is put aside.
+/// Attaches such a pipe, and pulls until the link is loose or this many pulls were made. Returns
+/// how many of the expected answers have come, counted from `done`; none if another one came.
+/// Ignores Later.
 fn pull_all<'a>(
     alloc: Global,
     link: &mut SocketLink<MemoryPipe<'a>>,
@@ -38,13 +38,13 @@ fn pull_all<'a>(
     Ok(Some(come))
 }
 
-/// A pipe that ends in the middle of a line, and one that begins with the other half of it.
+/// A pipe that ends in the middle of a line, and one that begins with its other half.
 const HALVES: [(&[u8], bool); 2] = [
     (b"F000000000", false),
     (b"0010000000c\nF0000000000010000000c\n", true),
 ];
 
-/// Whether a link over both, one after the other, gives just what it should.
+/// Whether a link over both, one after the other, gives exactly what it should.
 fn ends_with_its_pipe(alloc: Global, net: &Net, piece: usize) -> Result<bool, AllocError> {
     let wanted = [Pull::Broken, Pull::Frame(GOOD)];
     let mut link = SocketLink::new();
@@ -74,7 +74,7 @@ fn half_a_line_ends_with_its_pipe(rt: HostRuntime) -> Result<(), Fail> {
     as_told(end_with_their_pipes(rt.alloc()), &[true; 3])
 }
 
-/// The frames that the lines of a text spell, each line by itself.
+/// The frames of the lines of a text, each line by itself.
 fn good_lines(alloc: Global, net: &Net, text: &[u8]) -> Result<Vec<Pull>, AllocError> {
     let mut frames = Vec::new(alloc);
     for line in text.split(|byte| *byte == b'\n') {
@@ -85,16 +85,15 @@ fn good_lines(alloc: Global, net: &Net, text: &[u8]) -> Result<Vec<Pull>, AllocE
     Ok(frames)
 }
 
-/// Whether a link over a pipe that closes after a text gives just these answers, a hundred bytes a
-/// read.
+/// Whether a link over a pipe that closes after a text gives exactly these answers, with a hundred
+/// bytes a read.
 fn gives(alloc: Global, net: &Net, text: &[u8], wanted: &[Pull]) -> Result<bool, AllocError> {
     let mut link = SocketLink::new();
     let come = pull_all(alloc, &mut link, net, (text, 100, false), wanted, 0)?;
     Ok(come == Some(wanted.len()))
 }
 
-/// The last frame that the lines of a text spell, and whether a link gives all of them and is then
-/// broken.
+/// The last frame in the lines of a text, and whether a link gives all of them and then breaks.
 fn last_given(alloc: Global, net: &Net, text: &[u8]) -> Result<(Option<Pull>, bool), AllocError> {
     let mut wanted = good_lines(alloc, net, text)?;
     let last = wanted.last().copied();
@@ -102,14 +101,14 @@ fn last_given(alloc: Global, net: &Net, text: &[u8]) -> Result<(Option<Pull>, bo
     Ok((last, gives(alloc, net, text, &wanted)?))
 }
 
-/// Ten thousand lines of junk, and one that spells a frame.
+/// Ten thousand lines of junk, and the line of a frame.
 fn long_text(alloc: Global) -> Result<Vec<u8>, AllocError> {
     let mut text = junk(alloc, 7, 10_000)?;
     text.extend_from_slice(GOOD_LINE)?;
     Ok(text)
 }
 
-/// What three nodes' link gives of them.
+/// What a link among three nodes gives of them.
 fn behind_junk(alloc: Global) -> Result<(Option<Pull>, bool), Fail> {
     let net = line(alloc)?;
     let text = long_text(alloc)?;

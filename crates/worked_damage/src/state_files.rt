@@ -1,4 +1,4 @@
-//! State files in both layouts, and files that look like them and are refused.
+//! State files in both layouts, and similar files that are refused.
 use crate::calls::{File, NEWER, NONE, OLDER, file_of, line, net_of, reread, two};
 use node_state_file::FileFault;
 use std::alloc::Global;
@@ -6,14 +6,14 @@ use std::test::Fail;
 use test_parts::is_told;
 use topology::{Net, NetFault};
 
-/// The first word of the layout that is written.
+/// The first word of the present layout.
 const IS_NEWER: &[u8; 4] = b"TKT2";
 
 /// That of the older layout.
 const IS_OLDER: &[u8; 4] = b"TKT1";
 
 /// A node, a file's first word and its numbers, and the numbers of the file that its state is
-/// written as, or the fault.
+/// written to, or the fault.
 type Row = (
     u16,
     &'static [u8; 4],
@@ -31,7 +31,7 @@ fn is_so(alloc: Global, net: &Net, row: &Row) -> bool {
     }
 }
 
-/// The place of the first row whose file is not read so on that network.
+/// The place of the first row whose file is read otherwise on this network.
 fn first_unlike(
     alloc: Global,
     made: Result<Net, NetFault>,
@@ -53,7 +53,7 @@ const START_BEFORE: [u16; 15] = [2, 1, 1, 2, NONE, 0, 0, 0, 2, NONE, 0, 2, NONE,
 /// The other one in the older layout.
 const HEARD_BEFORE: [u16; 15] = [2, 1, 1, 2, 0, 0, 1, 0, 2, 0, 0, 2, NONE, 0, 0];
 
-/// The default state, in the older layout, with a ring value that is too great.
+/// The default state in the older layout, with too great a ring value.
 const GREAT_RING: [u16; 15] = [2, 1, 1, 2, NONE, 0, 0, 0, 2, NONE, 0, 2, NONE, 0, 7];
 
 const OF_TWO: [Row; 8] = [
@@ -73,8 +73,7 @@ fn the_state_of_a_node_of_two(rt: HostRuntime) -> Result<(), Fail> {
     is_told(&unlike, &None)
 }
 
-/// Whether the default state's numbers make the file that stands for it, and those in the older
-/// layout.
+/// Whether the default state's numbers make its file, in both layouts.
 fn are_its_numbers() -> [bool; 2] {
     [
         file_of(IS_NEWER, &START).as_slice() == NEWER.as_slice(),
@@ -87,7 +86,7 @@ fn the_default_state_in_both_layouts() -> Result<(), Fail> {
     is_told(&are_its_numbers(), &[true; 2])
 }
 
-/// Node 2 of three in a line, saved when it was joined to node 1 alone.
+/// Node 2 of three in a line, saved when it was joined only to node 1.
 const OF_LINE: [u16; 16] = [3, 2, 1, 1, 2, 1, 1, 3, 2, 2, 1, 5, 1, 0, 6, 5];
 
 /// The same once it is joined to node 0 as well.
@@ -99,7 +98,7 @@ const JOINED: [Row; 1] = [(2, IS_NEWER, &OF_LINE, Ok(&OF_TRIANGLE))];
 
 const OF_OTHER_CAPACITY: [Row; 1] = [(2, IS_NEWER, &OF_LINE, Err(FileFault::Shape))];
 
-/// The edges of three nodes that are all joined.
+/// The edges of a triangle.
 const TRIANGLE: [(i64, i64); 3] = [(0, 1), (1, 2), (0, 2)];
 
 #[test]
@@ -143,7 +142,7 @@ fn fault_of(alloc: Global, net: &Net, file: &[u8]) -> Option<FileFault> {
     reread(alloc, file, net, 0).err()
 }
 
-/// Numbers that are not as the network is, each at its place in the file.
+/// Numbers that do not fit the network, each at its place in the file.
 const SHAPES: [(usize, u16); 11] = [
     (0, 2),
     (1, 1),
@@ -158,7 +157,8 @@ const SHAPES: [(usize, u16); 11] = [
     (16, 3),
 ];
 
-/// Numbers that are too great: of the node, of the port that stays, and of the one that is dropped.
+/// Numbers that are too great: the node's, those of the port that stays, and those of the one that
+/// is dropped.
 const RANGES: [(usize, u16); 20] = [
     (4, 4),
     (5, 3),
@@ -182,7 +182,7 @@ const RANGES: [(usize, u16); 20] = [
     (25, 13),
 ];
 
-/// The first change that has not that fault.
+/// The first change that does not have that fault.
 fn first_without(
     alloc: Global,
     net: &Net,
@@ -197,7 +197,7 @@ fn first_without(
     None
 }
 
-/// The first change of each kind that has not the fault of its kind.
+/// The first change of each kind that does not have the fault of its kind.
 fn first_without_each(alloc: Global) -> Result<[Option<(usize, u16)>; 2], NetFault> {
     let net = line(alloc)?;
     Ok([
@@ -211,7 +211,7 @@ fn each_number_has_its_range(rt: HostRuntime) -> Result<(), Fail> {
     is_told(&first_without_each(rt.alloc())?, &[None; 2])
 }
 
-/// Files that are none, and their faults.
+/// Invalid files, and their faults.
 const TEXTS: [(&[u8], FileFault); 6] = [
     (b"", FileFault::Short),
     (b"TKT", FileFault::Short),
@@ -221,8 +221,7 @@ const TEXTS: [(&[u8], FileFault); 6] = [
     (b"TKT2\0\x09\0\x09\0\x09\0\0\0\0\0", FileFault::Short),
 ];
 
-/// Changes of one number of the file of 56 bytes, how many of its bytes stay, or that it has one
-/// more, and its fault.
+/// Changes of one number of the file of 56 bytes, how many bytes the file then has, and its fault.
 const RESIZED: [((usize, u16), usize, FileFault); 7] = [
     ((1, 1), 55, FileFault::Shape),
     ((6, 0), 55, FileFault::Short),
@@ -230,7 +229,7 @@ const RESIZED: [((usize, u16), usize, FileFault); 7] = [
     ((3, 1), 56, FileFault::Long),
     ((6, 0), 57, FileFault::Shape),
     ((25, 13), 57, FileFault::Range),
-    // The number that stands there.
+    // The number that is there already.
     ((0, 3), 57, FileFault::Long),
 ];
 

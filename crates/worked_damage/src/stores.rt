@@ -1,4 +1,4 @@
-//! A node that starts from a store, whatever stands there, and stores that fail.
+//! A node that starts from a store with any content, and stores that fail.
 use crate::calls::{File, NEWER, OLDER, started, two};
 use node_state_file::{FileFault, FusedStore, MemoryStore, StartFault, Store, StoreFault};
 use std::alloc::{AllocError, Global};
@@ -13,7 +13,7 @@ fn store_of(alloc: Global, bytes: &[u8]) -> Result<MemoryStore, Fail> {
     Ok(store)
 }
 
-/// The file of the state that node 1 starts with, and what stood in the way.
+/// The file of the state that node 1 starts with, and the fault of the start.
 fn started_from(
     alloc: Global,
     net: &Net,
@@ -23,7 +23,7 @@ fn started_from(
     Ok(started(alloc, &mut store, net, 1)?)
 }
 
-/// Whether node 1 starts with this file then, and this fault of what is stored.
+/// Whether node 1 then starts with this file and this fault.
 fn is_started_so(
     alloc: Global,
     net: &Net,
@@ -35,7 +35,8 @@ fn is_started_so(
     Ok(file.as_slice() == start && told == fault.map(StartFault::File))
 }
 
-/// The first length for which the front of the older file is not short, or the whole is not right.
+/// The first length at which the front of the older file does not count as short, or the whole
+/// file as right.
 fn first_not_short(alloc: Global) -> Result<Option<usize>, Fail> {
     let net = two(alloc)?;
     for length in 0..=OLDER.len() {
@@ -60,14 +61,14 @@ const OTHER: &[u8; 36] = b"TKT2\0\x02\0\x01\0\x01\0\x01\0\x01\0\0\
 const LONG: &[u8; 38] = b"TKT2\0\x02\0\x01\0\x01\0\x01\0\x01\0\0\
     \0\0\0\x04\0\x03\0\x01\0\0\0\x06\0\0\xff\xff\0\x05\0\x04\0\0";
 
-/// What is stored, the file of the state that node 1 starts with, and the fault of what is stored.
+/// What is stored, the file of the state that node 1 starts with, and the fault of the start.
 const STORED: [(&[u8], &[u8], Option<FileFault>); 3] = [
     (OTHER, OTHER, None),
     (LONG, NEWER, Some(FileFault::Long)),
     (&[b'T'; 1277], NEWER, Some(FileFault::Magic)),
 ];
 
-/// The place of the first row that is not so.
+/// The place of the first row that is wrong.
 fn first_other_start(alloc: Global) -> Result<Option<usize>, Fail> {
     let net = two(alloc)?;
     for (at, (bytes, file, fault)) in STORED.iter().enumerate() {
@@ -83,18 +84,18 @@ fn what_stands_in_the_way_is_told(rt: HostRuntime) -> Result<(), Fail> {
     as_told(first_other_start(rt.alloc()), &None)
 }
 
-/// Whether node 1 starts from a store without room with the default state, what stands in the way,
-/// and what the store answers to a save.
+/// Whether node 1 starts from a store without room with the default state, the fault of the start,
+/// and the store's answer to a save.
 type Empty = (bool, Option<StartFault>, Result<(), StoreFault>);
 
-/// What becomes of such a store.
+/// The same for a node of this network.
 fn without_room(alloc: Global, net: &Net) -> Result<Empty, AllocError> {
     let mut empty = MemoryStore::new(alloc, 0)?;
     let (file, told) = started(alloc, &mut empty, net, 1)?;
     Ok((file.as_slice() == NEWER.as_slice(), told, empty.save(OTHER)))
 }
 
-/// What becomes of it at a node of two.
+/// The same for a node of two.
 fn without_room_of_two(alloc: Global) -> Result<Empty, Fail> {
     let net = two(alloc)?;
     Ok(without_room(alloc, &net)?)
@@ -106,7 +107,8 @@ fn nothing_stands_in_a_store_without_room(rt: HostRuntime) -> Result<(), Fail> {
     as_told(without_room_of_two(rt.alloc()), &want)
 }
 
-/// What a node's store answers: at its start, and to two saves of the state that it started with.
+/// The answers of a node's store: at its start, and to two saves of the state that it started
+/// with.
 #[derive(Clone, Copy, Debug, PartialEq, Eq)]
 struct Answers {
     fault: Option<StartFault>,
@@ -120,8 +122,8 @@ fn answers_of<S: Store>(alloc: Global, store: &mut S, net: &Net) -> Result<Answe
     Ok(Answers { fault, saves })
 }
 
-/// The answers of a store in which a call fails after as many as that, whether it failed, and what
-/// it holds in the end.
+/// The answers of a store in which the call after this many fails, whether it failed, and what the
+/// store holds in the end.
 type Failing = (u64, Answers, bool, &'static [u8]);
 
 const FAILING: [Failing; 4] = [
@@ -163,7 +165,7 @@ const FAILING: [Failing; 4] = [
     ),
 ];
 
-/// Whether a store that holds the other state does so.
+/// Whether a store that holds the other state behaves like this row.
 fn fails_so(alloc: Global, net: &Net, row: &Failing) -> Result<bool, Fail> {
     let (calls, want, fails, held) = row;
     let mut store = FusedStore::new(store_of(alloc, OTHER)?, *calls);
@@ -171,7 +173,7 @@ fn fails_so(alloc: Global, net: &Net, row: &Failing) -> Result<bool, Fail> {
     Ok(answers == *want && store.has_failed() == *fails && store.inner().stored() == Some(*held))
 }
 
-/// The place of the first row that is not so.
+/// The place of the first row that is wrong.
 fn first_other_failure(alloc: Global) -> Result<Option<usize>, Fail> {
     let net = two(alloc)?;
     for (at, row) in FAILING.iter().enumerate() {

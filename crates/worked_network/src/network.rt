@@ -15,21 +15,20 @@ use test_parts::{as_told, is_told};
 const RING: &str =
     "nodes = 3\nroot = 0\ncapacity = 64\nlease = 0\nedges = [[0, 1], [1, 2], [0, 2]]\n";
 
-/// The same with loans of 100 ticks, some 200 milliseconds, and links that hold one frame less than
-/// is asked for.
+/// The same with loans of 100 ticks, some 200 milliseconds, and links that hold one frame too few.
 const LEASED: &str =
     "nodes = 3\nroot = 0\ncapacity = 63\nlease = 100\nedges = [[0, 1], [1, 2], [0, 2]]\n";
 
 /// How often a node is asked how it stands, at most.
 const ASKS: u32 = 100_000;
 
-/// A command that has the lock to itself if it makes a folder that is not there yet; it ends with
-/// status 9 if somebody else has made it.
+/// A command that has the lock to itself if it makes a new folder; it ends with status 9 if
+/// somebody else has made the folder.
 const WITNESS: &str =
     "mkdir \"$0/witness\" || exit 9; echo taken >>\"$0/log\"; sleep 0.01; rmdir \"$0/witness\"";
 
-/// What a copy of this program does that is started with words: what the program does with them, and
-/// it says the status.
+/// What a copy of this program does with words: what the program does with them; then it says the
+/// status.
 #[test]
 fn acts_as_the_program(rt: HostRuntime) -> Result<(), Fail> {
     fill_standard_streams(&rt);
@@ -46,11 +45,11 @@ fn acts_as_the_program(rt: HostRuntime) -> Result<(), Fail> {
     Ok(())
 }
 
-/// The test by which a copy of this program is the guard of a command.
+/// The test that makes a copy of this program the guard of a command.
 const GUARD: &str = "network::acts_as_a_guard";
 
-/// What a copy does that is started as a guard. Then it ends by a signal, which writes nothing: its
-/// standard output is the connection to a desk, which takes each line for a client's.
+/// What a copy that starts as a guard does. It ends by a signal, which writes nothing: its
+/// standard output is the connection to a desk, which reads each line as a client's.
 #[test]
 fn acts_as_a_guard(rt: HostRuntime) -> Result<(), Fail> {
     if env::var(&rt, "TOKENTREE_GUARD").is_ok() {
@@ -63,7 +62,7 @@ fn acts_as_a_guard(rt: HostRuntime) -> Result<(), Fail> {
     Ok(())
 }
 
-/// Tells a copy to do these words, one a line, as often as asked.
+/// Gives a copy these words, one a line, and how often to do them.
 fn tell_words(command: &mut Command, words: &str, times: &str) -> Result<(), AllocError> {
     command
         .arg("network::acts_as_the_program")?
@@ -72,7 +71,7 @@ fn tell_words(command: &mut Command, words: &str, times: &str) -> Result<(), All
     Ok(())
 }
 
-/// A copy of this program, which is told nothing yet.
+/// A copy of this program, without words yet.
 fn copy_of(rt: &HostRuntime) -> Result<Command, Fail> {
     let program = env::current_exe(rt)?;
     let mut command = Command::new(rt.alloc(), program.as_path())?;
@@ -83,14 +82,14 @@ fn copy_of(rt: &HostRuntime) -> Result<Command, Fail> {
     Ok(command)
 }
 
-/// Starts a copy that does these words, one a line, as often as asked.
+/// Starts a copy that does these words, one a line, this often.
 fn copy(rt: &HostRuntime, words: &str, times: &str) -> Result<Child, Fail> {
     let mut command = copy_of(rt)?;
     tell_words(&mut command, words, times)?;
     Ok(command.spawn(rt)?)
 }
 
-/// Starts `lock` at a node, as a user's own process does, on a script whose first word is the folder.
+/// Starts `lock` at a node, as a user would, with a script whose first word is the folder.
 fn locker(rt: &HostRuntime, dir: &str, id: u16, script: &str, times: &str) -> Result<Child, Fail> {
     let words = format!(in rt.alloc();
         "tokentree\nlock\n--guard-as\n{GUARD}\n{dir}\n{id}\n--\n/bin/sh\n-c\n{script}\n{dir}"
@@ -98,7 +97,7 @@ fn locker(rt: &HostRuntime, dir: &str, id: u16, script: &str, times: &str) -> Re
     copy(rt, words.as_str(), times)
 }
 
-/// How many lines of a text are this one.
+/// How often a text has this line.
 fn count_of(text: &[u8], line: &str) -> Result<usize, Fail> {
     Ok(
         str::from_utf8(text)?
@@ -108,15 +107,15 @@ fn count_of(text: &[u8], line: &str) -> Result<usize, Fail> {
     )
 }
 
-/// Waits until a copy has ended. Whether it reported this status once, and this is all that stands on
-/// standard error.
+/// Waits until a copy has ended. Returns whether it reported this status once, and its standard
+/// error is exactly this.
 fn ends(rt: &HostRuntime, child: Child, status: &str, told: &str) -> Result<bool, Fail> {
     let output = child.wait_with_output(rt.alloc())?;
     let count = count_of(output.stdout.as_slice(), status)?;
     Ok(count == 1 && str::from_utf8(output.stderr.as_slice())? == told)
 }
 
-/// Waits until a copy has ended. Whether it reported both lines, once each.
+/// Waits until a copy has ended. Returns whether it reported both lines, once each.
 fn tells(rt: &HostRuntime, child: Child, lines: [&str; 2]) -> Result<bool, Fail> {
     let output = child.wait_with_output(rt.alloc())?;
     let first = count_of(output.stdout.as_slice(), lines[0])?;
@@ -124,7 +123,7 @@ fn tells(rt: &HostRuntime, child: Child, lines: [&str; 2]) -> Result<bool, Fail>
     Ok(first == 1 && second == 1)
 }
 
-/// A folder that is not there yet, beside a network file.
+/// A new folder, next to a network file.
 fn fresh_folder(rt: &HostRuntime, name: &str, network: &str) -> Result<String, Fail> {
     let tmp = env::temp_dir(rt)?;
     let place = tmp.as_path().display();
@@ -157,7 +156,7 @@ fn node(rt: &HostRuntime, dir: &str, id: u16) -> Result<Child, Fail> {
     Ok(child)
 }
 
-/// Three nodes that run in a folder of their own.
+/// Three running nodes in their own folder.
 #[derive(Drop)]
 struct Nodes {
     folder: String,
@@ -180,14 +179,14 @@ fn start_nodes(rt: &HostRuntime, name: &str, network: &str) -> Result<Nodes, Fai
     })
 }
 
-/// Ends a node by its stop file. Whether this is all that it said on standard error.
+/// Ends a node by its stop file. Returns whether its standard error is exactly this.
 fn stops(rt: &HostRuntime, dir: &str, id: u16, child: Child, told: &str) -> Result<bool, Fail> {
     let path = format!(in rt.alloc(); "{dir}/stop-{id}")?;
     fs::write(rt, path.as_str(), "")?;
     ends(rt, child, "status 0", told)
 }
 
-/// Ends all three nodes, and removes their folder. Whether each said this alone.
+/// Ends all three nodes, and removes their folder. Returns whether each said just this.
 fn all_stop(rt: &HostRuntime, nodes: Nodes, told: &str) -> Result<bool, Fail> {
     let Nodes {
         folder,
@@ -229,8 +228,8 @@ fn ask(rt: &HostRuntime, client: &mut UnixStream, line: &str) -> Result<String, 
     read_line(rt.alloc(), client)
 }
 
-/// Asks a node how it stands, until it says that it is this far from the root, and then for the lock
-/// once, so that its network has come up.
+/// Asks a node how it stands until it says that it is this far from the root, and then asks for
+/// the lock once, so that its network is up.
 fn serves(rt: &HostRuntime, dir: &str, id: u16, distance: u16) -> Result<bool, Fail> {
     let mut client = client(rt, dir, id)?;
     let begin = format!(in rt.alloc(); "node {id} distance {distance} ")?;
@@ -248,7 +247,7 @@ fn all_serve(rt: &HostRuntime, dir: &str) -> Result<bool, Fail> {
     Ok(serves(rt, dir, 0, 0)? && serves(rt, dir, 1, 1)? && serves(rt, dir, 2, 1)?)
 }
 
-/// Waits for a file, for a minute at most.
+/// Waits for a file, at most a minute.
 fn appears(rt: &HostRuntime, path: &str) -> Result<bool, Fail> {
     for _ in 0..6_000u32 {
         if fs::exists(rt, path)? {
@@ -265,14 +264,14 @@ fn good_ends(rt: &HostRuntime, child: Child) -> Result<usize, Fail> {
     count_of(output.stdout.as_slice(), "status 0")
 }
 
-/// How often the witness has seen the lock taken.
+/// How often the witness saw the lock taken.
 fn taken(rt: &HostRuntime, dir: &str) -> Result<usize, Fail> {
     let log = format!(in rt.alloc(); "{dir}/log")?;
     let bytes = fs::read(rt, log.as_str())?;
     count_of(bytes.as_slice(), "taken")
 }
 
-/// Two nodes' lockers take the lock 20 times each: how often each ended well.
+/// Lockers at two nodes take the lock 20 times each. Returns how often each ended well.
 fn compete(rt: &HostRuntime, dir: &str) -> Result<(usize, usize), Fail> {
     let first = locker(rt, dir, 1, WITNESS, "20")?;
     let second = locker(rt, dir, 2, WITNESS, "20")?;
@@ -281,7 +280,7 @@ fn compete(rt: &HostRuntime, dir: &str) -> Result<(usize, usize), Fail> {
     Ok((one, two))
 }
 
-/// Without a command the lock is held until standard input ends, which is at once here.
+/// Without a command `lock` holds the lock until standard input ends, which is at once here.
 fn holds_until_its_input_ends(rt: &HostRuntime, dir: &str) -> Result<bool, Fail> {
     let words = format!(in rt.alloc(); "tokentree\nlock\n{dir}\n1")?;
     let child = copy(rt, words.as_str(), "1")?;
@@ -293,9 +292,9 @@ fn ends_as_its_command(rt: &HostRuntime, dir: &str) -> Result<bool, Fail> {
     ends(rt, locker(rt, dir, 0, "exit 7", "1")?, "status 7", "")
 }
 
-/// What is held of lockers at nodes that run: that the nodes serve, how often each of two lockers
-/// ended well, how often the lock was taken then, and whether `lock` ends as its command does, and
-/// without a command as its input does.
+/// What is known of lockers at running nodes: whether the nodes serve, how often each of two
+/// lockers ended well, how often the lock was taken then, and whether `lock` ends as its command
+/// does, and without a command as its input does.
 type Locked = (bool, (usize, usize), usize, [bool; 2]);
 
 /// Has lockers take the lock.
@@ -319,7 +318,7 @@ fn two_lockers_never_hold_it_at_once(rt: HostRuntime) -> Result<(), Fail> {
     is_told(&held, &(true, (20, 20), 40, [true; 2]))
 }
 
-/// No second process is node 0 there.
+/// No second process can be node 0 there.
 fn is_there_once(rt: &HostRuntime, dir: &str) -> Result<bool, Fail> {
     let words = format!(in rt.alloc(); "tokentree\nnode\n{dir}.toml\n0\n{dir}")?;
     let told = format!(in rt.alloc();
@@ -333,7 +332,7 @@ fn is_there_once(rt: &HostRuntime, dir: &str) -> Result<bool, Fail> {
     )
 }
 
-/// While a client holds it at node 0, nobody is lent it at node 2.
+/// While a client holds the lock at node 0, nobody gets it at node 2.
 fn is_waited_for_in_vain(rt: &HostRuntime, dir: &str) -> Result<bool, Fail> {
     let mut holder = client(rt, dir, 0)?;
     let is_held = ask(rt, &mut holder, "lock\n")?.as_str() == "granted";
@@ -351,7 +350,7 @@ fn kill(child: &mut Child) -> Result<(), Fail> {
     Ok(())
 }
 
-/// Node 1 is killed while a command runs that has the lock from it.
+/// Node 1 is killed while a command with its lock runs.
 fn is_lost_with_its_node(rt: &HostRuntime, dir: &str, one: &mut Child) -> Result<bool, Fail> {
     let held = locker(rt, dir, 1, ">\"$0/held\"; exec sleep 50", "1")?;
     let path = format!(in rt.alloc(); "{dir}/held")?;
@@ -361,7 +360,7 @@ fn is_lost_with_its_node(rt: &HostRuntime, dir: &str, one: &mut Child) -> Result
     Ok(ends(rt, held, "status 122", told)? && is_held)
 }
 
-/// Whoever asks for node 1 misses it.
+/// `status` misses node 1.
 fn is_missed(rt: &HostRuntime, dir: &str) -> Result<bool, Fail> {
     let words = format!(in rt.alloc(); "tokentree\nstatus\n{dir}")?;
     let child = copy(rt, words.as_str(), "1")?;
@@ -381,7 +380,7 @@ fn is_not_there(rt: &HostRuntime, dir: &str) -> Result<bool, Fail> {
     )
 }
 
-/// What is held while node 1 is there, as it is killed, and once it is gone.
+/// What is known while node 1 is there, when it is killed, and once it is gone.
 fn lost(rt: &HostRuntime, dir: &str, one: &mut Child) -> Result<[bool; 6], Fail> {
     Ok([
         all_serve(rt, dir)?,
@@ -444,14 +443,14 @@ fn deaf_node(rt: &HostRuntime, dir: &str) -> Result<Child, Fail> {
     Ok(command.spawn(rt)?)
 }
 
-/// Makes the stop file of node 0. Whether it goes away.
+/// Makes the stop file of node 0. Returns whether the file goes away.
 fn is_stopped(rt: &HostRuntime, dir: &str) -> Result<bool, Fail> {
     let stop = file_of(rt.alloc(), dir, "stop-0")?;
     fs::write(rt, stop.as_str(), "")?;
     disappears(rt, stop.as_str())
 }
 
-/// Waits until a file is gone, for a minute at most.
+/// Waits until a file is gone, at most a minute.
 fn disappears(rt: &HostRuntime, path: &str) -> Result<bool, Fail> {
     for _ in 0..6_000u32 {
         if !fs::exists(rt, path)? {
@@ -481,7 +480,7 @@ fn takes_no_file_for_a_stream(rt: &HostRuntime) -> Result<bool, Fail> {
     Ok(held)
 }
 
-/// A node ends with status 1 whose folder is another's.
+/// A node whose folder is another's ends with status 1.
 fn ends_elsewhere(rt: &HostRuntime) -> Result<bool, Fail> {
     let dir = fresh_folder(rt, "moved", RING)?;
     let child = node(rt, dir.as_str(), 0)?;
@@ -497,7 +496,7 @@ fn ends_elsewhere(rt: &HostRuntime) -> Result<bool, Fail> {
     Ok(held)
 }
 
-/// A node ends with status 1 whose stop file is a folder.
+/// A node whose stop file is a folder ends with status 1.
 fn ends_by_what_stays(rt: &HostRuntime) -> Result<bool, Fail> {
     let dir = fresh_folder(rt, "stays", RING)?;
     let stop = file_of(rt.alloc(), dir.as_str(), "stop-0")?;
@@ -520,7 +519,7 @@ fn next_error(rt: &HostRuntime, child: &mut Child) -> Result<String, Fail> {
 }
 
 /// Puts a folder in the place of the socket for clients until a second after the node has said so.
-/// Whether it says this.
+/// Returns whether it says this.
 fn says_that_it_is_blocked(
     rt: &HostRuntime,
     desk: &str,
@@ -535,7 +534,8 @@ fn says_that_it_is_blocked(
     Ok(said.as_str() == told)
 }
 
-/// A node runs on whose socket for clients cannot be made again, says so once, and takes it back.
+/// A node whose socket for clients cannot be made again runs on, says so once, and takes the name
+/// back.
 fn takes_its_name_back(rt: &HostRuntime) -> Result<bool, Fail> {
     let dir = fresh_folder(rt, "blocked", RING)?;
     let mut child = node(rt, dir.as_str(), 0)?;

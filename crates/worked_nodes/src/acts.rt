@@ -1,30 +1,30 @@
-//! What happens between a node and those at the other ends of its connections, as rows give it.
+//! What happens between a node and the other ends of its connections, as rows.
 use crate::stage::{Run, attend_once, turn_once};
 use crate::wires::{Pair, Queue};
 use node_core::Node;
 
-/// What the other end of a connection does, or what can be seen there.
+/// What the other end of a connection does, or what it sees.
 #[derive(Clone, Copy)]
 pub enum Deed<'a> {
     /// It writes this.
     Writes(&'a [u8]),
     /// It closes its sending half.
     Closes,
-    /// From now on each write to it fails.
+    /// From now on every write to it fails.
     Cuts,
-    /// Nothing is done: just this was written to it.
+    /// No act: exactly this was written to it.
     Hears(&'a [u8]),
-    /// Nothing is done: whether the node has closed what it writes there.
+    /// No act: whether the node has closed its direction.
     IsClosed(bool),
-    /// Nothing is done: of a connection that the node made, just this was written by the node.
+    /// No act: over a connection that the node made, it wrote exactly this.
     IsSent(&'a [u8]),
     /// It closes a connection that the node made.
     Shuts,
-    /// Nothing is done: the node has left a connection that it made.
+    /// No act: the node has left a connection that it made.
     IsLeft,
 }
 
-/// What happens to a node, or what can be seen of it.
+/// What happens to a node, or what is seen of it.
 #[derive(Clone, Copy)]
 pub enum Act<'a> {
     /// The next connection comes.
@@ -33,17 +33,17 @@ pub enum Act<'a> {
     Turns,
     /// What the node does between two turns.
     Attends,
-    /// Nothing is done: this is the number of tickets that wait, and this one has the loan.
+    /// No act: this many tickets wait, and this one has the loan.
     Has(usize, Option<u16>),
-    /// Nothing is done: these tickets wait.
+    /// No act: these tickets wait.
     Queues(&'a [u16]),
-    /// Nothing is done: this is the number of its port to node 1.
+    /// No act: its port to node 1 has this number.
     IsNumbered(u16),
     /// At the connection with this place.
     At(usize, Deed<'a>),
 }
 
-/// Does it at a connection, and says whether it is as expected.
+/// Does this at a connection, and returns whether it is as expected.
 fn is_done_at(pair: &Pair, deed: Deed<'_>) -> bool {
     match deed {
         Deed::Writes(bytes) => pair.up.write(bytes) == bytes.len(),
@@ -66,7 +66,7 @@ fn is_done_at(pair: &Pair, deed: Deed<'_>) -> bool {
     }
 }
 
-/// Does it at one of these connections, and says whether it is as expected.
+/// Does this at one of these connections, and returns whether it is as expected.
 fn is_done_among(pairs: &[Pair], place: usize, deed: Deed<'_>) -> bool {
     match pairs.get(place) {
         Some(pair) => is_done_at(pair, deed),
@@ -74,7 +74,7 @@ fn is_done_among(pairs: &[Pair], place: usize, deed: Deed<'_>) -> bool {
     }
 }
 
-/// Whether what can be seen of a node is as expected.
+/// Whether what is seen of a node is as expected.
 fn is_seen(node: &Node, act: Act<'_>) -> bool {
     match act {
         Act::Has(waiting, lent) => node.waiting() == waiting && node.lent() == lent,
@@ -84,19 +84,19 @@ fn is_seen(node: &Node, act: Act<'_>) -> bool {
     }
 }
 
-/// Makes a turn, which is as expected.
+/// Makes a turn, which is always as expected.
 fn is_turned(run: &mut Run<'_>) -> bool {
     turn_once(run);
     true
 }
 
-/// Lets the node attend to what came, which is as expected.
+/// Lets the node attend to what came, which is always as expected.
 fn is_attended(run: &mut Run<'_>) -> bool {
     attend_once(run);
     true
 }
 
-/// Does it, and says whether it is as expected.
+/// Does this, and returns whether it is as expected.
 fn is_done(run: &mut Run<'_>, door: &Queue<'_>, pairs: &[Pair], act: Act<'_>) -> bool {
     match act {
         Act::Comes => door.knock().is_some(),

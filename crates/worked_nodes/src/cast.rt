@@ -1,4 +1,4 @@
-//! A node, and those who come to it over new connections.
+//! A node, and what comes to it over new connections.
 use crate::acts::{Act, first_wrong};
 use crate::stage::{Run, connections, doors, doors_to, in_a_row, run_of, with_lease, with_token};
 use crate::wires::{MemoryDoors, Pair, Queue, Trip};
@@ -7,16 +7,16 @@ use std::alloc::{AllocError, Global};
 use std::test::Fail;
 use topology::Net;
 
-/// A node as it begins, and who comes to it.
+/// A node as it begins, and what comes to it.
 #[derive(Clone, Copy)]
 pub enum Cast {
     /// The root of two nodes, which has the token, and clients.
     Token,
     /// The same if a loan's lease is one tick.
     Leased,
-    /// The root of two nodes, as it is at the start, and clients.
+    /// The root of two nodes, fresh, and clients.
     New,
-    /// The root of two nodes, at whose desk tickets wait that no client has, and clients.
+    /// The root of two nodes, with waiting tickets that no client has, and clients.
     Strangers,
     /// The node with this id of three in a row, and higher neighbours.
     Row(u16),
@@ -24,7 +24,7 @@ pub enum Cast {
     Last,
 }
 
-/// The root of two nodes, at whose desk three tickets wait and a fourth is lent to.
+/// The root of two nodes; at its desk three tickets wait and a fourth has the loan.
 fn with_strangers<'a>(alloc: Global, doors: MemoryDoors<'a>) -> Result<Run<'a>, Fail> {
     let net = Net::make(alloc, 2, 0, 1, 0, &[(0, 1)])?;
     if net.nodes() == 0 {
@@ -39,7 +39,7 @@ fn with_strangers<'a>(alloc: Global, doors: MemoryDoors<'a>) -> Result<Run<'a>, 
     run_of(alloc, net, node, doors)
 }
 
-/// This node, with those who come at one door, and nobody at the other.
+/// This node, with arrivals at one door, and none at the other.
 fn begun<'a>(
     alloc: Global,
     cast: Cast,
@@ -57,8 +57,8 @@ fn begun<'a>(
     }
 }
 
-/// Does something with a node, those who come to it over this number of new connections, and these.
-/// What came of it. No call fails.
+/// Does something with a node, its arrivals over this many new connections, and the connections.
+/// Returns the result. No call fails.
 pub fn on_stage<T, F: FnOnce(&mut Run<'_>, &Queue<'_>, &[Pair]) -> Result<T, Fail>>(
     alloc: Global,
     cast: Cast,

@@ -1,4 +1,4 @@
-//! What clients write, and what becomes of them.
+//! What clients write, and what becomes of it.
 use crate::acts::Act;
 use crate::acts::Act::{At, Attends, Comes, Has, Queues, Turns};
 use crate::acts::Deed::{Closes, Cuts, Hears, IsClosed, Writes};
@@ -9,7 +9,7 @@ use std::alloc::Global;
 use std::test::Fail;
 use test_parts::as_told;
 
-/// The status of a root that had the token, was asked for the lock, and has passed the token on.
+/// The status of a root that had the token, was asked for the lock, and passed the token on.
 const PASSED_ON: &[u8] = b"node 0 distance 0 parent none token no lent none waiting 0\n";
 
 /// A client has the lock and closes.
@@ -32,8 +32,8 @@ fn a_client_that_closes_gives_the_lock_back(rt: HostRuntime) -> Result<(), Fail>
     as_told(wrong_act(rt.alloc(), Cast::Token, &CLOSING), &None)
 }
 
-/// A client keeps the lock beyond its lease, which is one tick: it begins in the first turn, one
-/// tick of it is left until the second, and it ends in the third. Between turns it goes on.
+/// A client keeps the lock beyond its lease of one tick: the loan begins in the first turn, has
+/// one tick left until the second, and ends in the third. Between turns it lasts.
 const LATE: [Act<'static>; 13] = [
     Comes,
     At(0, Writes(b"lock\n")),
@@ -76,7 +76,8 @@ fn a_client_that_cannot_be_told_has_left(rt: HostRuntime) -> Result<(), Fail> {
     as_told(wrong_act(rt.alloc(), Cast::Token, &CUT_OFF), &None)
 }
 
-/// The place of the first act that is not as expected if a client writes this and must hear that.
+/// The place of the first act that is not as expected if a client writes this line and should hear
+/// that answer.
 fn wrong_in_line<'a>(alloc: Global, line: &'a [u8], want: &'a [u8]) -> Result<Option<usize>, Fail> {
     let acts = [
         Comes,
@@ -98,7 +99,7 @@ fn wrong_line<'a>(alloc: Global, lines: &[(&'a [u8], &'a [u8])]) -> Result<Optio
     Ok(None)
 }
 
-/// Lines, and what they are answered.
+/// Lines, and their answers.
 const LINES: [(&[u8], &[u8]); 11] = [
     (b"lock\n", b"granted\n"),
     (b"lock\nlock\n", b"twice\ngranted\n"),
@@ -159,8 +160,8 @@ fn a_client_without_room_for_its_answers_has_left(rt: HostRuntime) -> Result<(),
     as_told(wrong_act(rt.alloc(), Cast::New, &TOO_MUCH), &None)
 }
 
-/// The first of these clients that is not answered as it should be: 64 wait, 64 find no room, and
-/// the connection of the last one is closed.
+/// The first of these clients with a wrong answer: 64 wait, 64 find no room, and the connection of
+/// the last one is closed.
 fn first_wrong_answer(pairs: &[Pair]) -> Option<usize> {
     for (place, pair) in pairs.iter().enumerate() {
         let want = if (64..128).contains(&place) {
@@ -175,8 +176,8 @@ fn first_wrong_answer(pairs: &[Pair]) -> Option<usize> {
     None
 }
 
-/// All of these clients come and ask for the lock. How many tickets wait then, and the first client
-/// that is not answered as it should be.
+/// All of these clients come and ask for the lock. Returns how many tickets wait then, and the
+/// first client with a wrong answer.
 fn crowd(run: &mut Run<'_>, clients: &Queue<'_>, pairs: &[Pair]) -> (usize, Option<usize>) {
     for pair in pairs {
         clients.knock();
@@ -200,7 +201,7 @@ fn the_hundred_and_twenty_ninth_client_is_closed(rt: HostRuntime) -> Result<(), 
     as_told(crowded(rt.alloc(), 129), &(64, None))
 }
 
-/// A client comes to a node with the tickets of strangers: ticket 0 alone waits then, and nobody
+/// A client comes to a node with the tickets of strangers: then only ticket 0 waits, and nobody
 /// borrows.
 const STRANGERS: [Act<'static>; 4] = [Comes, Attends, Has(1, None), Queues(&[0])];
 

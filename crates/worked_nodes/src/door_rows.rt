@@ -7,12 +7,12 @@ use std::test::Fail;
 use test_parts::as_told;
 use topology::Payload;
 
-/// A turn: how many of its calls come before the one that fails, if one does; whether the node's port
-/// to the other one has a connection after it; and how many it had so far.
+/// A turn: how many of its calls come before the one that fails, if any; whether the node's port
+/// to the other has a connection afterwards; and how many it has had so far.
 type Turn = (Option<u64>, bool, u64);
 
-/// All that the state of a node of two has: its distance and parent; of its port, both numbers, what
-/// is staged and copied, and its machine; and who has the loan, and how many wait.
+/// The whole state of one of two nodes: its distance and parent; its port's numbers, staged and
+/// copied payloads, and machine; who has the loan, and how many wait.
 type Held = (
     (u16, Option<u16>),
     (u16, u16),
@@ -20,7 +20,7 @@ type Held = (
     (Option<u16>, usize),
 );
 
-/// What a node holds, if this is the id of the other one.
+/// What a node holds; `other` is the id of the other node.
 fn held(node: &Node, other: u16) -> Option<Held> {
     if other >= node.ranges().nodes {
         return None;
@@ -45,14 +45,14 @@ fn is_left(run: &Run<'_>, other: u16, turn: Turn) -> bool {
     }
 }
 
-/// Makes a turn in which that call fails.
+/// Makes a turn in which this call fails.
 fn fail_once(run: &mut Run<'_>, trip: &Trip, calls: Option<u64>) {
     trip.begin(calls);
     turn_once(run);
 }
 
-/// Makes a turn, and then these. The first of these after which the port is not as expected, or the
-/// node holds anything else than it did before them.
+/// Makes a turn, and then these. Returns the first of these after which the port is not as
+/// expected, or the node holds something else than before them.
 fn first_wrong_turn(run: &mut Run<'_>, other: u16, trip: &Trip, turns: &[Turn]) -> Option<usize> {
     turn_once(run);
     let first = held(run.node(), other);
@@ -65,17 +65,17 @@ fn first_wrong_turn(run: &mut Run<'_>, other: u16, trip: &Trip, turns: &[Turn]) 
     None
 }
 
-/// Node 1 of two comes to node 0. In each turn it asks the neighbours' door, the clients' door, and
-/// then connects if its port is loose, or else reads.
+/// Node 1 of two comes to node 0. In each turn it asks the neighbours' door and the clients' door,
+/// and then connects if its port is loose, else reads.
 const COMES: [Turn; 9] = [
     // It cannot connect.
     (Some(2), false, 0),
     (Some(2), false, 0),
-    // The neighbours' door fails, and then the clients': neither is asked for this connection.
+    // The neighbours' door fails, then the clients': neither matters for this connection.
     (Some(0), true, 1),
     (Some(0), true, 1),
     (Some(1), true, 1),
-    // The connection fails, and then it cannot connect again.
+    // The connection fails, then it cannot connect again.
     (Some(2), false, 1),
     (Some(2), false, 1),
     (None, true, 2),
@@ -98,12 +98,12 @@ fn a_port_is_loose_until_connecting_succeeds(rt: HostRuntime) -> Result<(), Fail
     )
 }
 
-/// Node 1 has come to node 0 and said who it is. In each turn node 0 asks the neighbours' door until
-/// nobody comes, then the clients', then listens to who has come, and reads.
+/// Node 1 has come to node 0 and said who it is. In each turn node 0 asks the neighbours' door
+/// until nobody comes, then the clients' door, then listens to the newcomers, and reads.
 const LETS_IN: [Turn; 5] = [
     // The neighbours' door fails.
     (Some(0), false, 0),
-    // It lets the neighbour in, and then fails.
+    // It lets the neighbour in, then fails.
     (Some(1), true, 1),
     // Whichever door fails, the connection stands.
     (Some(0), true, 1),

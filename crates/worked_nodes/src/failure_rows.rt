@@ -16,7 +16,7 @@ fn is_settled(node: &Node) -> bool {
     node.distance() == node.id() && node.waiting() == 0 && node.lent().is_none()
 }
 
-/// A client comes, asks for the lock and gives it back.
+/// A client comes, asks for the lock and releases it.
 fn ask(clients: &Queue<'_>) {
     if let Some(client) = clients.knock() {
         client.up.write(b"lock\nunlock\n");
@@ -31,9 +31,9 @@ fn turn_both(near: &mut Run<'_>, far: &mut Run<'_>) {
     }
 }
 
-/// Runs two nodes over these connections, of which the first two are the clients', and lets the
-/// call after that number of others fail. Whether both settle, node 1 below node 0, and whether
-/// that call was made.
+/// Runs two nodes over these connections, the first two of them for clients, and makes the call
+/// after this many others fail. Returns whether both settle, node 1 below node 0, and whether that
+/// call was made.
 fn settle(alloc: Global, calls: u64, pairs: &[Pair]) -> Result<(bool, bool), Fail> {
     let (near_clients, far_clients) = (Queue::new(pairs, 0, 1), Queue::new(pairs, 1, 2));
     let (links, trip) = (Queue::new(pairs, 2, 5), Trip::after(calls));
@@ -45,7 +45,7 @@ fn settle(alloc: Global, calls: u64, pairs: &[Pair]) -> Result<(bool, bool), Fai
     Ok((are_settled, trip.is_over()))
 }
 
-/// Makes the near one of two nodes, and then the far one beside it. Whether both settle.
+/// Makes the near one of two nodes, then the far one beside it. Returns whether both settle.
 fn settle_at(
     alloc: Global,
     near_doors: MemoryDoors<'_>,
@@ -56,7 +56,7 @@ fn settle_at(
     with_made(near, |near| settle_with(alloc, near, far_doors))?
 }
 
-/// Makes the far one of two nodes, and runs it beside the near one. Whether both settle.
+/// Makes the far one of two nodes, and runs it beside the near one. Returns whether both settle.
 fn settle_with<'a>(
     alloc: Global,
     near: &mut Run<'_>,
@@ -68,14 +68,14 @@ fn settle_with<'a>(
     with_made(far, |far| are_settled(near, far))
 }
 
-/// Runs two nodes side by side. Whether both settle, the far one below the other.
+/// Runs two nodes side by side. Returns whether both settle, the far one below the other.
 fn are_settled(near: &mut Run<'_>, far: &mut Run<'_>) -> bool {
     turn_both(near, far);
     is_settled(near.node()) && is_settled(far.node()) && far.node().parent() == Some(0)
 }
 
-/// Fails each call in turn, in a run over connections of its own. The first failure after which
-/// the two do not settle, and whether there are more than 100 calls.
+/// Makes each call fail in turn, each time over new connections. Returns the first failure after
+/// which the two do not settle, and whether there are more than 100 calls.
 fn first_unsettled(alloc: Global) -> Result<(Option<u64>, bool), Fail> {
     for calls in 0..10_000 {
         let (are_settled, has_failed) = over_new(alloc, 5, |pairs| settle(alloc, calls, pairs))?;
@@ -97,12 +97,12 @@ fn two_nodes_settle_whichever_call_fails(rt: HostRuntime) -> Result<(), Fail> {
 /// A node whose store fails once.
 type Fused<'a> = NodeRun<MemoryDoors<'a>, FusedStore<MemoryStore>>;
 
-/// A store of which the first save fails.
+/// A store whose first save fails.
 fn fused(alloc: Global) -> Result<FusedStore<MemoryStore>, Fail> {
     Ok(FusedStore::new(MemoryStore::new(alloc, 1276)?, 0))
 }
 
-/// Node 1 of two, of whose saves the first one fails.
+/// Node 1 of two; its first save fails.
 fn with_fused_store<'a>(alloc: Global, doors: MemoryDoors<'a>) -> Result<Fused<'a>, Fail> {
     let store = fused(alloc)?;
     let net = Net::make(alloc, 2, 0, 1, 0, &[(0, 1)])?;
@@ -113,8 +113,9 @@ fn with_fused_store<'a>(alloc: Global, doors: MemoryDoors<'a>) -> Result<Fused<'
     run_with(alloc, net, node, doors, store)
 }
 
-/// Turns a node 512 times, and lets it attend before each of them. The first turn that did not save,
-/// or saved, as it should: the 256th fails to, the 512th does. After both its files are looked at.
+/// Turns a node 512 times, and lets it attend before each turn. Returns the first turn that
+/// wrongly saved or did not save: the 256th fails to save, and the 512th saves. After both the
+/// node looks at its files.
 fn first_wrong_turn(run: &mut Fused<'_>) -> Option<u32> {
     for turn in 1..=512 {
         let want = match turn {
@@ -140,7 +141,7 @@ fn has_stored(run: &Fused<'_>) -> bool {
     run.store().inner().stored() == Some(TICKED.as_slice())
 }
 
-/// The first wrong turn of node 1 alone, and whether it has stored that at last.
+/// The first wrong turn of node 1 alone, and whether it has stored that in the end.
 fn saved(alloc: Global) -> Result<(Option<u32>, bool), Fail> {
     let (links, clients, trip) = (Queue::new(&[], 0, 0), Queue::new(&[], 0, 0), Trip::never());
     let made = with_fused_store(alloc, doors(&links, &clients, &trip));

@@ -10,10 +10,10 @@ use std::test::Fail;
 use test_parts::as_told;
 use topology::Net;
 
-/// What a new node of three says first.
+/// The first frame of a new node of three.
 const FIRST_FRAME: &[u8] = b"F000000000003ffff0000\n";
 
-/// The place of the first act that is not as expected if this is said as a hello to node 1.
+/// The place of the first act that is not as expected with this hello to node 1.
 fn wrong_in_hello(alloc: Global, hello: &[u8], is_welcome: bool) -> Result<Option<usize>, Fail> {
     let acts = [
         Comes,
@@ -25,7 +25,7 @@ fn wrong_in_hello(alloc: Global, hello: &[u8], is_welcome: bool) -> Result<Optio
     wrong_act(alloc, Cast::Row(1), &acts)
 }
 
-/// The place of the first of these that is not as welcome as expected.
+/// The place of the first of these hellos that is not as welcome as expected.
 fn wrong_hello(alloc: Global, rows: &[(&[u8], bool)]) -> Result<Option<usize>, Fail> {
     for (place, (hello, is_welcome)) in rows.iter().enumerate() {
         if wrong_in_hello(alloc, hello, *is_welcome)?.is_some() {
@@ -35,7 +35,7 @@ fn wrong_hello(alloc: Global, rows: &[(&[u8], bool)]) -> Result<Option<usize>, F
     Ok(None)
 }
 
-/// What may be said as a hello to node 1, and whether it is welcome.
+/// Hellos to node 1, and whether they are welcome.
 const HELLOS: [(&[u8], bool); 8] = [
     (b"H0002\n", true),
     (b"H0000\n", false),
@@ -88,8 +88,8 @@ fn a_newer_hello_replaces_the_older_connection(rt: HostRuntime) -> Result<(), Fa
     as_told(wrong_act(rt.alloc(), Cast::Row(0), &TWICE), &None)
 }
 
-/// Lets a node attend 256 times. The first time before which another connection than the 65th was
-/// closed by it, or that one was not closed after the second time, and that connection.
+/// Lets a node attend 256 times. Returns the first time before which it closed a connection other
+/// than the 65th, or left that one open after the second time; and that connection.
 fn first_wrong_turn(run: &mut Run<'_>, pairs: &[Pair]) -> Option<(u32, usize)> {
     for turn in 1..=256 {
         for (place, pair) in pairs.iter().enumerate() {
@@ -107,7 +107,7 @@ fn closed(pairs: &[Pair]) -> usize {
     pairs.iter().filter(|pair| pair.down.is_closed()).count()
 }
 
-/// The next neighbour comes and says that it is node 1. Whether it is welcome.
+/// The next neighbour comes and says that it is node 1. Returns whether it is welcome.
 fn is_welcome(run: &mut Run<'_>, links: &Queue<'_>) -> bool {
     let Some(last) = links.knock() else {
         return false;
@@ -117,11 +117,11 @@ fn is_welcome(run: &mut Run<'_>, links: &Queue<'_>) -> bool {
     last.says(FIRST_FRAME)
 }
 
-/// What was wrong while all but the last of some connections said nothing 256 times, how many
-/// were closed then, and whether the last one was welcome.
+/// What was wrong while all except the last of some connections said nothing for 256 times, how
+/// many were closed then, and whether the last one was welcome.
 type Silence = (Option<(u32, usize)>, usize, bool);
 
-/// All of these but the last come and say nothing.
+/// All of these except the last come and say nothing.
 fn all_silent(run: &mut Run<'_>, links: &Queue<'_>, pairs: &[Pair]) -> Silence {
     for _ in 1..pairs.len() {
         links.knock();
@@ -142,7 +142,7 @@ fn silent_connections_are_few_and_go(rt: HostRuntime) -> Result<(), Fail> {
     as_told(silent(rt.alloc(), 66), &(None, 65, true))
 }
 
-/// A node comes to its lower neighbour, and once more as that one closes.
+/// A node comes to its lower neighbour, and again when that one closes.
 const BELOW: [Act<'static>; 8] = [
     Attends,
     At(0, IsSent(b"H0002\nF000000000003ffff0000\n")),
@@ -159,16 +159,16 @@ fn a_node_connects_to_a_lower_neighbour_and_says_who_it_is(rt: HostRuntime) -> R
     as_told(wrong_act(rt.alloc(), Cast::Last, &BELOW), &None)
 }
 
-/// What came of a network that was handed to a node: whether it was taken up, whether node 2 was
-/// sent a frame then, and whether its connection was closed.
+/// What a node did with a network: whether it took it over, whether it then sent a frame to node
+/// 2, and whether it closed that connection.
 type Rewired = Option<(bool, bool, bool)>;
 
-/// Takes up a network, without the contract of that. Whether it did.
+/// Takes over a network, without showing the contract of that. Returns whether it did.
 fn is_taken_up(run: &mut Run<'_>, net: &Net) -> bool {
     run.rewire(net)
 }
 
-/// Takes up a network and turns; node 2 knocks before that.
+/// Takes over a network and turns; before that node 2 knocks.
 fn rewired(run: &mut Run<'_>, net: &Net, links: &Queue<'_>) -> Rewired {
     let pair = links.knock()?;
     pair.up.write(b"H0002\n");
@@ -177,8 +177,8 @@ fn rewired(run: &mut Run<'_>, net: &Net, links: &Queue<'_>) -> Rewired {
     Some((is_taken, pair.says(FIRST_FRAME), pair.down.is_closed()))
 }
 
-/// A network of three nodes that a node is handed: how many frames its links hold, its edges, and
-/// what is to come of it.
+/// A network of three nodes for a node: how many frames its links hold, its edges, and what the
+/// node does with it.
 type Handed<'a> = (i64, &'a [(i64, i64)], Rewired);
 
 /// A row.
@@ -187,7 +187,7 @@ const ROW: &[(i64, i64)] = &[(0, 1), (1, 2)];
 /// A ring.
 const RING: &[(i64, i64)] = &[(0, 1), (1, 2), (0, 2)];
 
-/// What the root of a row is handed: that row, a ring with other links, and the ring.
+/// The networks for the root of a row: that row, a ring with other links, and the ring.
 const HANDED: [Handed<'static>; 3] = [
     (1, ROW, Some((true, false, true))),
     (2, RING, Some((false, false, true))),
@@ -199,7 +199,7 @@ fn three(alloc: Global, capacity: i64, edges: &[(i64, i64)]) -> Result<Net, Fail
     Ok(Net::make(alloc, 3, 0, capacity, 0, edges)?)
 }
 
-/// Whether of this network comes what is to come of it.
+/// Whether the node does with this network what it should.
 fn is_as_told(
     alloc: Global,
     run: &mut Run<'_>,
@@ -210,8 +210,8 @@ fn is_as_told(
     Ok(rewired(run, &net, links) == want)
 }
 
-/// The place of the first of these networks of which something else comes, each handed after the
-/// one before it.
+/// The place of the first of these networks, one after the other, with which the node does
+/// something else.
 fn first_unlike(
     alloc: Global,
     run: &mut Run<'_>,
@@ -226,8 +226,8 @@ fn first_unlike(
     Ok(None)
 }
 
-/// Hands a node the row again, without a knock. Whether it is taken up, and whether the last
-/// connection is closed then.
+/// Hands a node the row again, without a knock. Returns whether it takes it over, and then closes
+/// the last connection.
 fn goes_back(alloc: Global, run: &mut Run<'_>, pairs: &[Pair]) -> Result<(bool, bool), Fail> {
     let row = three(alloc, 1, ROW)?;
     let is_taken = is_taken_up(run, &row);
@@ -238,7 +238,7 @@ fn goes_back(alloc: Global, run: &mut Run<'_>, pairs: &[Pair]) -> Result<(bool, 
     Ok((is_taken, has_gone))
 }
 
-/// The first of those networks that is unlike, and what comes of the row then.
+/// The first of those networks that goes wrong, and what the node then does with the row.
 type Told = (Option<usize>, (bool, bool));
 
 /// Hands a node all of these.
@@ -252,7 +252,7 @@ fn rewired_often(
     Ok((unlike, goes_back(alloc, run, pairs)?))
 }
 
-/// What the root of a row said of them.
+/// What the root of a row did with them.
 fn rewired_anew(alloc: Global) -> Result<Told, Fail> {
     on_stage(alloc, Cast::Row(0), 3, |run, links, pairs| {
         rewired_often(alloc, run, links, pairs)

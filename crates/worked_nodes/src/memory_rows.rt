@@ -1,4 +1,4 @@
-//! A node's loop takes all memory at its start, and none in its turns.
+//! A node's loop takes all its memory at the start, and none in its turns.
 ghost use Rattle.std.specs.Prelude.{◌≡◌};
 ghost use Rattle.node_core.specs.Site.{site_of};
 ghost use Rattle.node_core.specs.View.{site_in};
@@ -24,11 +24,11 @@ const ROW: [(i64, i64); 2] = [(0, 1), (1, 2)];
 /// What came of a node on a heap.
 #[derive(Drop)]
 enum Begun<'a, 'h> {
-    /// The heap has no room for the node itself.
+    /// The heap has no room for the node.
     NoNode,
-    /// The loop was refused: whether node and network came back, and nothing else stayed taken.
+    /// The loop was refused: whether node and network came back, and nothing else kept memory.
     Refused(bool),
-    /// It may run.
+    /// It can run.
     Whole(RunOn<'a, 'h>),
 }
 
@@ -41,7 +41,7 @@ enum Outcome {
     Ran(bool),
 }
 
-/// Whether what was handed in came back, and nothing else of the heap stayed taken.
+/// Whether what was handed in came back, and nothing else kept memory of the heap.
 fn came_back(
     unmade: &Unmade<MemoryDoors<'_>, MemoryStore, &LocalHeap>,
     heap: &LocalHeap,
@@ -118,7 +118,7 @@ fn turn_often(run: &mut RunOn<'_, '_>, turns: u64) {
     }
 }
 
-/// Turns a node on a heap that has nothing left. Whether it takes nothing.
+/// Turns a node on a heap that has nothing left. Returns whether it takes nothing.
 fn takes_nothing(alloc: Global, heap: &LocalHeap, run: &mut RunOn<'_, '_>) -> Result<bool, Fail> {
     let _full = fill(alloc, heap)?;
     let used = heap.used();
@@ -126,7 +126,7 @@ fn takes_nothing(alloc: Global, heap: &LocalHeap, run: &mut RunOn<'_, '_>) -> Re
     Ok(heap.used() == used)
 }
 
-/// What comes of a node on a heap, once a neighbour and a client come.
+/// What a node on a heap does once a neighbour and a client come.
 fn outcome_of(
     alloc: Global,
     heap: &LocalHeap,
@@ -156,16 +156,16 @@ fn tried_on(alloc: Global, heap: &LocalHeap, pairs: &[Pair]) -> Result<Outcome, 
     )?
 }
 
-/// What the root of two nodes does on a heap of that size.
+/// What the root of two nodes does on a heap of this size.
 fn tried(alloc: Global, size: usize, pairs: &[Pair]) -> Result<Outcome, Fail> {
     let heap = LocalHeap::new(alloc, size)?;
     tried_on(alloc, &heap, pairs)
 }
 
-/// What a client that gives the lock back before it is granted hears.
+/// What a client that leaves before it is granted the lock hears.
 const ANSWERS: &[u8] = b"released\nnode 0 distance 2 parent none token no lent none waiting 0\n";
 
-/// The same, and whether its client has all answers then.
+/// The same, and whether its client then has all answers.
 fn tried_over(alloc: Global, size: usize, pairs: &[Pair]) -> Result<(Outcome, bool), Fail> {
     let outcome = tried(alloc, size, pairs)?;
     let has_answers = match pairs.get(1) {
@@ -175,8 +175,8 @@ fn tried_over(alloc: Global, size: usize, pairs: &[Pair]) -> Result<(Outcome, bo
     Ok((outcome, has_answers))
 }
 
-/// Tries heaps that grow. Whether more than 100 refused the loop, what came of the first one that
-/// did not refuse as it should, and whether its client had all answers.
+/// Tries ever larger heaps. Returns whether more than 100 refused the loop, what happened on the
+/// first that did not refuse properly, and whether its client had all answers.
 fn first_to_run(alloc: Global) -> Result<(bool, Outcome, bool), Fail> {
     let mut refused = 0u32;
     for units in 1..4000usize {
@@ -188,7 +188,7 @@ fn first_to_run(alloc: Global) -> Result<(bool, Outcome, bool), Fail> {
             _ => return Ok((refused > 100, outcome, has_answers)),
         }
     }
-    // A larger heap is wanted.
+    // A larger heap is needed.
     Ok((refused > 100, Outcome::NoNode, false))
 }
 
@@ -202,16 +202,16 @@ fn three(alloc: Global, capacity: i64, edges: &[(i64, i64)]) -> Result<Net, Fail
     Ok(Net::make(alloc, 3, 0, capacity, 0, edges)?)
 }
 
-/// What came of a network that was handed to a node: whether it was taken up, whether node 2 was
-/// welcome then, and how much memory was free.
+/// What a node did with a network: whether it took it over, whether node 2 was then welcome, and
+/// how much memory was free.
 type Rewired = Option<(bool, bool, usize)>;
 
-/// Takes up a network, without the contract of that. Whether it did.
+/// Takes over a network, without showing the contract of that. Returns whether it did.
 fn is_taken_up(run: &mut RunOn<'_, '_>, net: &Net) -> bool {
     run.rewire(net)
 }
 
-/// Takes up a network and turns; node 2 knocks before that.
+/// Takes over a network and turns; before that node 2 knocks.
 fn rewired(run: &mut RunOn<'_, '_>, net: &Net, links: &Queue<'_>, heap: &LocalHeap) -> Rewired {
     let pair = links.knock()?;
     pair.up.write(b"H0002\n");
@@ -220,14 +220,14 @@ fn rewired(run: &mut RunOn<'_, '_>, net: &Net, links: &Queue<'_>, heap: &LocalHe
     Some((is_taken, !pair.down.is_closed(), heap.free()))
 }
 
-/// A network that a node is handed: how many frames its links hold, its edges, and what is to come
-/// of it.
+/// A network for a node: how many frames its links hold, its edges, and what the node does with
+/// it.
 type Handed<'a> = (i64, &'a [(i64, i64)], Rewired);
 
 /// The edges of a ring of three nodes.
 const RING: [(i64, i64); 3] = [(0, 1), (1, 2), (0, 2)];
 
-/// What the root of a row is handed: the row, a ring with other links, the ring, and the row.
+/// The networks for the root of a row: the row, a ring with other links, the ring, and the row.
 const HANDED: [Handed<'static>; 4] = [
     (1, &ROW, Some((true, false, 0))),
     (2, &RING, Some((false, false, 0))),
@@ -235,7 +235,7 @@ const HANDED: [Handed<'static>; 4] = [
     (1, &ROW, Some((true, false, 0))),
 ];
 
-/// Whether of this network comes what is to come of it.
+/// Whether the node does with this network what it should.
 fn is_as_told(
     alloc: Global,
     run: &mut RunOn<'_, '_>,
@@ -247,8 +247,8 @@ fn is_as_told(
     Ok(rewired(run, &net, links, heap) == want)
 }
 
-/// The place of the first of these networks of which something else comes, each handed after the
-/// one before it.
+/// The place of the first of these networks, one after the other, with which the node does
+/// something else.
 fn first_unlike(
     alloc: Global,
     run: &mut RunOn<'_, '_>,
@@ -264,10 +264,10 @@ fn first_unlike(
     Ok(None)
 }
 
-/// What was unlike, and whether the third connection was closed then.
+/// What went wrong, and whether the third connection was then closed.
 type Told = (Option<usize>, bool);
 
-/// The same of those networks on a heap that has nothing left.
+/// The same for those networks on a heap that has nothing left.
 fn rewired_on_a_full_heap(
     alloc: Global,
     run: &mut RunOn<'_, '_>,
@@ -284,7 +284,7 @@ fn rewired_on_a_full_heap(
     Ok((unlike, has_gone))
 }
 
-/// What a node that has begun says of that.
+/// What a node that has begun does with them.
 fn rewired_from(
     alloc: Global,
     begun: &mut Begun<'_, '_>,
@@ -298,7 +298,7 @@ fn rewired_from(
     }
 }
 
-/// What the root of a row says of that, on this heap.
+/// What the root of a row does with them, on this heap.
 fn rewired_on(alloc: Global, heap: &LocalHeap, pairs: &[Pair]) -> Result<Told, Fail> {
     let (links, clients) = (Queue::new(pairs, 0, 4), Queue::new(pairs, 4, 4));
     let trip = Trip::never();
@@ -309,7 +309,7 @@ fn rewired_on(alloc: Global, heap: &LocalHeap, pairs: &[Pair]) -> Result<Told, F
     )?
 }
 
-/// The same on a heap of its own.
+/// The same on its own heap.
 fn rewired_over(alloc: Global, pairs: &[Pair]) -> Result<Told, Fail> {
     let heap = LocalHeap::new(alloc, 524_288)?;
     rewired_on(alloc, &heap, pairs)

@@ -10,7 +10,7 @@ use topology::{Frame, Payload};
 /// The turns of a node in one stretch; they are 100 microseconds apart.
 const TURNS: u64 = 500;
 
-/// Numbers without an order: those of a linear congruential generator with Knuth's factor.
+/// Random numbers, from a linear congruential generator with Knuth's factor.
 #[derive(Drop)]
 struct Draws(u64);
 
@@ -100,7 +100,7 @@ fn turn(run: &mut Run<'_>, draws: &mut Draws, now: u64) {
     turn_at(run, now);
 }
 
-/// Whether this client was granted the lock now; it gives it back then, and asks again.
+/// Whether this client was granted the lock now. If so, it releases the lock and asks again.
 fn is_granted(client: &Pair) -> bool {
     let mut bytes = [0; 64];
     let count = client.down.read(&mut bytes);
@@ -111,7 +111,7 @@ fn is_granted(client: &Pair) -> bool {
     is_granted
 }
 
-/// How often each client is granted the lock in one stretch of turns, which begins then.
+/// How often each client is granted the lock in one stretch of turns from this time on.
 fn grants_of(
     near: &mut Run<'_>,
     far: &mut Run<'_>,
@@ -155,13 +155,13 @@ fn ask<'a>(clients: &Queue<'a>) -> Option<&'a Pair> {
     Some(client)
 }
 
-/// The clients of both nodes, of which each has asked for the lock.
+/// The clients of both nodes, after each has asked for the lock.
 fn both_ask<'a>(near: &Queue<'a>, far: &Queue<'a>) -> Option<(&'a Pair, &'a Pair)> {
     Some((ask(near)?, ask(far)?))
 }
 
 /// Runs the far one of two nodes beside the near one, each with a client that asks for the lock
-/// again and again. Whether no client starves.
+/// again and again. Returns whether no client starves.
 fn none_starves<'a>(
     alloc: Global,
     near: &mut Run<'_>,
@@ -172,7 +172,7 @@ fn none_starves<'a>(
     with_made(far, |far| first_starved(near, far, clients).is_none())
 }
 
-/// Runs two nodes at these doors, each with a client. Whether no client starves.
+/// Runs two nodes at these doors, each with a client. Returns whether no client starves.
 fn none_starves_at(
     alloc: Global,
     near_doors: MemoryDoors<'_>,
@@ -188,7 +188,7 @@ fn none_starves_at(
     )?
 }
 
-/// Runs two nodes over these connections, of which the first two are the clients'. Whether no
+/// Runs two nodes over these connections, the first two of them for clients. Returns whether no
 /// client starves.
 fn none_starves_over(alloc: Global, pairs: &[Pair]) -> Result<bool, Fail> {
     let (near_clients, far_clients) = (Queue::new(pairs, 0, 1), Queue::new(pairs, 1, 2));

@@ -22,7 +22,7 @@ fn frame(seq: u16) -> Frame {
     }
 }
 
-/// How many frames are kept at most: a link is pulled twice after each offer.
+/// The most frames that are kept: each link is pulled twice after each offer.
 const KEPT: usize = 6;
 
 /// Frames in their order.
@@ -52,21 +52,21 @@ impl Frames {
     }
 }
 
-/// What became of frames that one link was offered and the other one gave.
+/// What became of frames offered to one link and pulled from the other.
 #[derive(Clone, Copy)]
 struct Told {
     taken: Frames,
     pulled: Frames,
-    /// How often the first link and the second one were broken.
+    /// How often the first and the second link broke.
     breaks: [u32; 2],
 }
 
-/// Two links between which two pairs stand, one after the other.
+/// Two links with one pair between them, and later a second pair.
 #[derive(Drop)]
 struct Ends<'a> {
     near: SocketLink<End<'a>>,
     far: SocketLink<End<'a>>,
-    /// The pair that both have once one of them was broken.
+    /// The pair that both get once one of them broke.
     second: &'a Pair,
     /// Which call of the first link's pipes fails.
     near_trip: &'a Trip,
@@ -91,7 +91,7 @@ impl<'a> Ends<'a> {
         }
     }
 
-    /// Both have the ends of this pair from now on.
+    /// Gives both links the ends of this pair.
     fn attach(&mut self, pair: &'a Pair) {
         let near = End::new(&pair.down, &pair.up, self.near_trip);
         let far = End::new(&pair.up, &pair.down, self.far_trip);
@@ -99,7 +99,7 @@ impl<'a> Ends<'a> {
         let _older = self.far.attach(far);
     }
 
-    /// One of the two was broken: both have a new pair.
+    /// One of the two broke: gives both the new pair.
     fn mend(&mut self, side: usize) {
         if side < 2 {
             self.told.breaks[side] = self.told.breaks[side].saturating_add(1);
@@ -140,7 +140,7 @@ fn offer_all(ends: &mut Ends<'_>, net: &Net) {
     }
 }
 
-/// The same between two links over these pairs, the first of which stands at first. What is reported.
+/// The same between two links over these pairs, beginning with the first. Returns the report.
 fn exchange<'a>(
     net: &Net,
     (first, second): (&'a Pair, &'a Pair),
@@ -152,7 +152,7 @@ fn exchange<'a>(
     ends.told
 }
 
-/// Whether frames are some of these, in their order.
+/// Whether these frames are some of the others, in order.
 fn is_part(part: &[Frame], whole: &[Frame]) -> bool {
     let mut found = 0;
     for frame in whole {
@@ -163,9 +163,9 @@ fn is_part(part: &[Frame], whole: &[Frame]) -> bool {
     found == part.len()
 }
 
-/// Whether the frames are reported as they should be if one call on this side failed, or none did:
-/// all are taken, the link on this side was broken once, or none was, and those pulled are some of
-/// those taken, in their order. With a connection that fails goes one frame at most.
+/// Whether the report is right if one call on this side failed, or none did: all frames were
+/// taken, the link on this side broke once, or none did, and those pulled are some of those taken,
+/// in order. A failing connection loses at most one frame.
 fn is_right(told: &Told, side: usize, has_failed: bool) -> bool {
     let lost = if has_failed { 1 } else { 0 };
     let want = if side == 0 { [lost, 0] } else { [0, lost] };
@@ -176,8 +176,8 @@ fn is_right(told: &Told, side: usize, has_failed: bool) -> bool {
         && is_part(told.pulled.all(), told.taken.all())
 }
 
-/// Fails the call after `calls` others of the first link's pipes, or of the second one's. Whether
-/// that call was made, and whether the frames are reported as they should be.
+/// Makes the call after `calls` others fail, on the first link's pipes or on the second's. Returns
+/// whether that call was made, and whether the report is right.
 fn with_a_failure(net: &Net, side: usize, calls: u64) -> (bool, bool) {
     let (first, second) = (Pair::new(), Pair::new());
     let (near_trip, far_trip) = if side == 0 {
@@ -190,8 +190,8 @@ fn with_a_failure(net: &Net, side: usize, calls: u64) -> (bool, bool) {
     (has_failed, is_right(&told, side, has_failed))
 }
 
-/// Fails each call of one side in turn. How many calls there are, and whether each failure was reported
-/// as it should be; the number of the first that was not.
+/// Makes each call of one side fail in turn. Returns how many calls there are, and the number of
+/// the first failure with a wrong report.
 fn calls_of(alloc: Global, side: usize) -> Result<(u64, bool), Fail> {
     let net = Net::make(alloc, 3, 0, 1, 0, &[(0, 1), (1, 2)])?;
     for calls in 0..100 {
@@ -203,8 +203,7 @@ fn calls_of(alloc: Global, side: usize) -> Result<(u64, bool), Fail> {
     Err(Fail::from(AllocError))
 }
 
-/// The first side of which a failure is not reported as it should be, or which has too few calls, and
-/// the number of that call.
+/// The first side with a wrong report or with too few calls, and the number of that call.
 fn first_wrong(alloc: Global) -> Result<Option<(usize, u64)>, Fail> {
     for side in 0..2 {
         let (calls, are_right) = calls_of(alloc, side)?;

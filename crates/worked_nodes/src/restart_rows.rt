@@ -1,4 +1,4 @@
-//! A node that starts again from a state that means nothing, among nodes that run.
+//! A node that starts again from a meaningless state, among running nodes.
 use crate::stage::{Run, doors, doors_between, doors_to, over_new, run_with, turn_once, with_made};
 use crate::wires::{MemoryDoors, Pair, Queue, Trip};
 use node_state_file::{FileFault, MemoryStore, StartFault, Store, start};
@@ -12,17 +12,17 @@ use topology::Net;
 const SCRAMBLED: [u8; 36] = *b"TKT2\x00\x03\x00\x02\x00\x40\x00\x01\x00\x00\x00\x01\
 \x00\x01\x00\x07\x00\x09\x00\x00\xff\xff\x00\x05\x00\x03\x00\x02\x00\x0c\x00\x0b";
 
-/// How the status of each node begins if it stands as it should.
+/// How the right status of each node begins.
 const PLACES: [&[u8]; 3] = [
     b"node 0 distance 0 parent none ",
     b"node 1 distance 1 parent 0 ",
     b"node 2 distance 2 parent 1 ",
 ];
 
-/// What stood in a node's way as it started, and what it missed then.
+/// The fault of a node's start, and what it missed afterwards.
 type Life = (Option<StartFault>, Option<Missed>);
 
-/// The most turns in which distances are waited for.
+/// The most turns in which distances may settle.
 const TURNS: u32 = 1_000;
 
 /// Three nodes in a row, whose links hold 64 frames.
@@ -39,8 +39,8 @@ fn stored(alloc: Global, bytes: Option<&[u8]>) -> Result<MemoryStore, Fail> {
     Ok(store)
 }
 
-/// Node `id` of three in a row, from what a store with these bytes loads, and what stood in the
-/// way.
+/// Node `id` of three in a row, from what a store with these bytes loads, and the fault of its
+/// start.
 fn started<'a>(
     alloc: Global,
     id: u16,
@@ -66,7 +66,8 @@ fn turn_all(first: &mut Run<'_>, second: &mut Run<'_>, third: &mut Run<'_>) {
     turn_once(third);
 }
 
-/// Asks a node by this client how it stands, again and again. Whether the answer begins so at last.
+/// Asks a node through this client how it stands, again and again. Returns whether at last the
+/// answer begins like this.
 fn comes_to(
     first: &mut Run<'_>,
     second: &mut Run<'_>,
@@ -86,19 +87,19 @@ fn comes_to(
     false
 }
 
-/// What a started node did not do, if it did not do all.
+/// What a started node failed to do, if anything.
 #[derive(Clone, Copy, PartialEq, Eq, Debug)]
 enum Missed {
     /// This node of the row does not come to its distance and parent.
     Place(u16),
-    /// A line that is none is not answered as one.
+    /// An unknown line does not get its answer.
     Answer,
     /// A client that left keeps its connection.
     Closing,
 }
 
-/// The clients in one life of node 2: one of node 0, one of node 1, and two of node 2, of which the
-/// first leaves for the second.
+/// The clients in one life of node 2: one of node 0, one of node 1, and two of node 2; the first
+/// of these leaves for the second.
 #[derive(Clone, Copy)]
 struct Clients<'a> {
     of_first: &'a Pair,
@@ -107,8 +108,8 @@ struct Clients<'a> {
     next: &'a Pair,
 }
 
-/// Lets node 2 run beside two nodes until all stand where they should, and its first client leave
-/// for a second one. The first thing missed.
+/// Runs node 2 beside two nodes until all are in their places, and lets its first client leave for
+/// a second one. Returns the first thing missed.
 fn first_missed(
     first: &mut Run<'_>,
     second: &mut Run<'_>,
@@ -140,7 +141,7 @@ fn first_missed(
     }
 }
 
-/// The ways between three nodes in a row, and to the clients of nodes 1 and 2; no call fails there.
+/// The ways between three nodes in a row, and to the clients of nodes 1 and 2. No call fails.
 #[derive(Clone, Copy)]
 struct Ways<'a> {
     lower: &'a Queue<'a>,
@@ -150,8 +151,8 @@ struct Ways<'a> {
     trip: &'a Trip,
 }
 
-/// Starts node 2 beside two nodes that run, with these bytes in its store, and ends it. What stood
-/// in its way, and what it missed.
+/// Starts node 2 beside two running nodes, with these bytes in its store, and ends it. Returns the
+/// fault of its start, and what it missed.
 fn life(
     alloc: Global,
     first: &mut Run<'_>,
@@ -172,7 +173,7 @@ fn life(
     })
 }
 
-/// The clients in a life of node 2 whose own two begin at this place of the connections.
+/// The clients in a life of node 2; its own two begin at this place of the connections.
 fn clients_from(pairs: &[Pair], place: usize) -> Option<Clients<'_>> {
     Some(Clients {
         of_first: pairs.get(3)?,
@@ -182,8 +183,8 @@ fn clients_from(pairs: &[Pair], place: usize) -> Option<Clients<'_>> {
     })
 }
 
-/// Starts node 2 beside two nodes that run, ends it, and starts it again with these bytes in its
-/// store. What both starts came to.
+/// Starts node 2 beside two running nodes, ends it, and starts it again with these bytes in its
+/// store. Returns the results of both starts.
 fn both_lives(
     alloc: Global,
     first: &mut Run<'_>,
@@ -233,8 +234,8 @@ fn all_started(
     })?
 }
 
-/// Runs three nodes in a row, ends node 2, and starts it again with these bytes in its store. What
-/// both starts came to. Of the nine connections three are between nodes.
+/// Runs three nodes in a row, ends node 2, and starts it again with these bytes in its store.
+/// Returns the results of both starts. Three of the nine connections are between nodes.
 fn starts_again(alloc: Global, pairs: &[Pair], bytes: &[u8]) -> Result<[Life; 2], Fail> {
     let (lower, upper) = (Queue::new(pairs, 0, 1), Queue::new(pairs, 1, 3));
     let (of_first, of_second) = (Queue::new(pairs, 3, 4), Queue::new(pairs, 4, 5));
@@ -249,8 +250,8 @@ fn starts_again(alloc: Global, pairs: &[Pair], bytes: &[u8]) -> Result<[Life; 2]
     all_started(alloc, &of_first, ways, pairs, bytes)
 }
 
-/// Whether that stands in the way of the second start, if the store has this many bytes of the
-/// state, and nothing is missed.
+/// Whether the second start has this fault if the store has this many bytes of the state, and
+/// nothing is missed.
 fn is_as_told(alloc: Global, kept: usize, want: Option<StartFault>) -> Result<bool, Fail> {
     let bytes = &SCRAMBLED[..kept.min(SCRAMBLED.len())];
     let told = over_new(alloc, 9, |pairs| starts_again(alloc, pairs, bytes))?;
@@ -270,7 +271,7 @@ fn first_unlike(
     Ok(None)
 }
 
-/// How many bytes of the state a file holds, and what stands in the way then.
+/// How many bytes of the state a file holds, and the fault of the start from it.
 const FILES: [(usize, Option<StartFault>); 2] = [
     (36, None),
     (33, Some(StartFault::File(FileFault::Short))),

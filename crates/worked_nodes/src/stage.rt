@@ -19,15 +19,15 @@ pub type Run<'a> = NodeRun<MemoryDoors<'a>, MemoryStore>;
 const WITH_TOKEN: [u8; 34] = *b"TKT1\x00\x02\x00\x00\x00\x01\x00\x00\xff\xff\
 \x00\x01\x00\x00\x00\x00\x00\x02\xff\xff\x00\x00\x00\x01\x00\x00\x00\x00\x00\x00";
 
-/// The manner of a node that offers a frame on each port, whatever the time is.
+/// The manner of a node that offers a frame on each port at any time.
 pub fn eager() -> Manner {
     Manner { hold: 0, repeat: 0 }
 }
 
-/// Does something with what was made, a node that runs say, and drops it then. What came of it.
+/// Does something with what was made (a running node, say), drops it, and returns the result.
 ///
-/// Whoever holds a node, and may give up while it does, is dear to prove; here it is held once for
-/// all.
+/// A function that holds a node and may return early is expensive to prove; here that is done once
+/// for all.
 pub fn with_made<R: Drop, T, F: FnOnce(&mut R) -> T>(
     made: Result<R, Fail>,
     deed: F,
@@ -47,7 +47,7 @@ pub fn connections(alloc: Global, count: usize) -> Result<Vec<Pair>, Fail> {
     Ok(pairs)
 }
 
-/// Does something over this number of new connections, and drops them then. What came of it.
+/// Does something over this number of new connections, drops them, and returns the result.
 pub fn over_new<T, F: FnOnce(&[Pair]) -> Result<T, Fail>>(
     alloc: Global,
     count: usize,
@@ -59,7 +59,7 @@ pub fn over_new<T, F: FnOnce(&[Pair]) -> Result<T, Fail>>(
     deed(pairs.as_slice())
 }
 
-/// One turn, without the contract of a turn, which would else stand in each test.
+/// One turn, without showing its contract, which would otherwise be part of each test.
 pub fn turn_once(run: &mut Run<'_>) {
     run.turn(0);
 }
@@ -69,7 +69,7 @@ pub fn attend_once(run: &mut Run<'_>) {
     run.attend(0);
 }
 
-/// Doors at which higher neighbours and clients come, of a node that has no lower neighbour.
+/// Doors for higher neighbours and clients of a node without a lower neighbour.
 pub fn doors<'a>(links: &'a Queue<'a>, clients: &'a Queue<'a>, trip: &'a Trip) -> MemoryDoors<'a> {
     MemoryDoors {
         links: Some(links),
@@ -80,7 +80,7 @@ pub fn doors<'a>(links: &'a Queue<'a>, clients: &'a Queue<'a>, trip: &'a Trip) -
     }
 }
 
-/// Doors at which clients come, of a node that comes to a lower neighbour there.
+/// Doors for clients of a node that has a lower neighbour there.
 pub fn doors_to<'a>(
     lower: &'a Queue<'a>,
     clients: &'a Queue<'a>,
@@ -95,7 +95,7 @@ pub fn doors_to<'a>(
     }
 }
 
-/// Doors at which higher neighbours and clients come, of a node that comes to a lower neighbour.
+/// Doors for higher neighbours and clients of a node that also has a lower neighbour.
 pub fn doors_between<'a>(
     links: &'a Queue<'a>,
     lower: &'a Queue<'a>,
@@ -111,7 +111,7 @@ pub fn doors_between<'a>(
     }
 }
 
-/// Node `id` of two or three nodes in a row, the root first, as it is at the start.
+/// A fresh node `id` of two or three nodes in a row, the root first.
 pub fn in_a_row<'a>(
     alloc: Global,
     nodes: i64,
@@ -133,7 +133,7 @@ pub fn with_token<'a>(alloc: Global, doors: MemoryDoors<'a>) -> Result<Run<'a>, 
     with_lease(alloc, 0, doors)
 }
 
-/// The root of two nodes, which has the token, if loans have this lease in ticks.
+/// The root of two nodes, which has the token; loans have this lease in ticks.
 pub fn with_lease<'a>(alloc: Global, lease: i64, doors: MemoryDoors<'a>) -> Result<Run<'a>, Fail> {
     let net = Net::make(alloc, 2, 0, 1, lease, &[(0, 1)])?;
     if net.nodes() == 0 {

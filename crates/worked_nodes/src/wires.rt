@@ -1,4 +1,4 @@
-//! Connections over memory that two ends share, and doors over them.
+//! Connections in memory that two ends share, and doors over them.
 ghost use Rattle.std.specs.Prelude.{◌≡◌, ◌≤◌, length};
 
 use node_loop::{Door, Doors};
@@ -35,7 +35,7 @@ impl Wire {
         }
     }
 
-    /// Puts as many of these bytes on the wire as there is room for.
+    /// Puts as many of these bytes on the wire as it has room for.
     pub fn write(&self, bytes: &[u8]) -> usize
         ensures { result ≤ length bytes.now }
     {
@@ -74,20 +74,20 @@ impl Wire {
         self.is_closed.get()
     }
 
-    /// From now on each write to it fails.
+    /// From now on every write to it fails.
     pub fn cut(&self) {
         self.is_broken.set(true);
     }
 }
 
-/// Which call of many fails, of all that share it.
+/// Says which call fails, among all calls that share it.
 #[derive(Drop)]
 pub struct Trip {
     left: Cell<Option<u64>>,
 }
 
 impl Trip {
-    /// The call after that number of others fails.
+    /// The call after this many others fails.
     pub fn after(calls: u64) -> Trip {
         Trip {
             left: Cell::new(Some(calls)),
@@ -101,7 +101,7 @@ impl Trip {
         }
     }
 
-    /// From now on the call after that number of others fails, or none.
+    /// From now on the call after this many others fails, or none.
     pub fn begin(&self, calls: Option<u64>) {
         self.left.set(calls);
     }
@@ -127,7 +127,7 @@ impl Trip {
     }
 }
 
-/// A connection: `up` to the one who listens, `down` to the one who came.
+/// A connection: `up` to the listener, `down` to the newcomer.
 #[derive(Drop)]
 pub struct Pair {
     pub up: Wire,
@@ -157,7 +157,7 @@ impl Pair {
     }
 }
 
-/// One end of a connection. What drops it closes both directions.
+/// One end of a connection. Dropping it closes both directions.
 pub struct End<'a> {
     reads: &'a Wire,
     writes: &'a Wire,

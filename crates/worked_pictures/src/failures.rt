@@ -1,4 +1,4 @@
-//! Recordings whose source fails, and recordings for which memory is refused.
+//! Recordings whose source fails, and recordings without enough memory.
 use crate::rows::{FORGED, two};
 use byte_streams::{Fused, MemorySource, Source};
 use linked_list_allocator::LocalHeap;
@@ -21,12 +21,11 @@ fn recorded<A: Allocator + Copy, R: Source>(alloc: A, net: &Net, source: &mut R)
     Ok((recording.events(), columns.len(), last))
 }
 
-/// What is recorded of the forged tokens: nine moments, in columns of four, of four and of one.
+/// The recording of the forged tokens: nine moments, in columns of four, four and one.
 const RECORDED: (u64, usize, Option<usize>) = (8, 3, Some(2));
 
-/// Records the forged tokens on a heap; a read fails after `calls` reads of at most `piece`
-/// bytes. Whether it failed; none if the answer is not as it should be, or memory stays
-/// allocated.
+/// Records the forged tokens on a heap; a read fails after `calls` reads of at most `piece` bytes.
+/// Returns whether it failed; none if the answer is wrong, or memory stays allocated.
 fn read_failed(heap: &LocalHeap, net: &Net, piece: usize, calls: u64) -> Option<bool> {
     let mut source = Fused::new(MemorySource::new(FORGED.as_bytes(), piece), calls);
     let answer = recorded(heap, net, &mut source);
@@ -39,11 +38,11 @@ fn read_failed(heap: &LocalHeap, net: &Net, piece: usize, calls: u64) -> Option<
     (answer == want && heap.used() == 0).then_some(failed)
 }
 
-/// Of how many bytes a read is at most.
+/// The most bytes of a read.
 const PIECES: [usize; 3] = [1, 7, 4096];
 
-/// The first size of pieces, and after how many reads of them, at which a read does not fail where
-/// it should, or fails where it should not.
+/// The first size of pieces, and number of reads before, at which a read wrongly fails or does not
+/// fail.
 fn first_unlike_read(heap: &LocalHeap, net: &Net) -> Option<(usize, u64)> {
     for piece in PIECES {
         // As many reads as there are pieces, and one that finds the end.
@@ -57,13 +56,13 @@ fn first_unlike_read(heap: &LocalHeap, net: &Net) -> Option<(usize, u64)> {
     None
 }
 
-/// The same on a heap of its own.
+/// The same on its own heap.
 fn unlike_read_of(alloc: Global, net: &Net) -> Result<Option<(usize, u64)>, Fail> {
     let heap = LocalHeap::new(alloc, 65536)?;
     Ok(first_unlike_read(&heap, net))
 }
 
-/// The same of two nodes.
+/// The same for two nodes.
 fn unlike_read(alloc: Global) -> Result<Option<(usize, u64)>, Fail> {
     unlike_read_of(alloc, &two(alloc)?)
 }
@@ -85,9 +84,9 @@ fn recorded_within<R: Source>(
     Ok((answer, heap.used()))
 }
 
-/// What is recorded of the forged tokens on the smallest heap that has enough memory, and whether
-/// that has more than 40 units of 16 bytes; none if memory stays allocated, or heaps of less than
-/// 2000 units do not do. Each heap records from the same source.
+/// The recording of the forged tokens on the smallest heap with enough memory, and whether that
+/// has more than 40 units of 16 bytes; none if memory stays allocated, or no heap below 2000 units
+/// is enough. All heaps use the same source.
 fn recorded_at_last(alloc: Global, net: &Net) -> Result<Option<(Recorded, bool)>, Fail> {
     let mut source = MemorySource::new(FORGED.as_bytes(), 7);
     for units in 1..2000usize {
@@ -102,7 +101,7 @@ fn recorded_at_last(alloc: Global, net: &Net) -> Result<Option<(Recorded, bool)>
     Ok(None)
 }
 
-/// The same of two nodes.
+/// The same for two nodes.
 fn recorded_of_two(alloc: Global) -> Result<Option<(Recorded, bool)>, Fail> {
     recorded_at_last(alloc, &two(alloc)?)
 }

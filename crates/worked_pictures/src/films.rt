@@ -1,4 +1,4 @@
-//! What a film of the forged tokens shows, by hand.
+//! What a film of the forged tokens shows: rows by hand.
 ghost use Rattle.std.specs.Prelude.{◌≤◌};
 
 use crate::rows::{FORGED, two};
@@ -11,7 +11,7 @@ use std::test::Fail;
 use test_parts::{as_told, is_told};
 use topology::Net;
 
-/// A recording of the forged tokens with so many stills after the first moment.
+/// A recording of the forged tokens with this many stills after the first moment.
 fn filmed(alloc: Global, stills: usize) -> Result<Recording, Fail>
     requires { 2 ≤ stills }
 {
@@ -20,7 +20,7 @@ fn filmed(alloc: Global, stills: usize) -> Result<Recording, Fail>
     Ok(record_film(alloc, &net, &mut source, stills, Window::ALL)?)
 }
 
-/// What is checked of a still: how many events led to it, whether there was damage, how many nodes
+/// What is checked in a still: how many events led to it, whether there was damage, how many nodes
 /// are privileged and lend, and the looks of both nodes.
 type Seen = (u64, bool, usize, usize, (Look, Look));
 
@@ -35,7 +35,7 @@ fn seen(still: &Still) -> Seen {
     )
 }
 
-/// The last still of a film with so many, and whether it is crowded.
+/// The last still of a film with this many, and whether it is crowded.
 fn last_of(alloc: Global, stills: usize) -> Result<Option<(Seen, bool)>, Fail>
     requires { 2 ≤ stills }
 {
@@ -49,7 +49,7 @@ fn last_of(alloc: Global, stills: usize) -> Result<Option<(Seen, bool)>, Fail>
     )
 }
 
-/// A node that is where it belongs, with a token that it lends to a ticket.
+/// A node in its true place, with a token that it lends to a ticket.
 fn lending(distance: u16, parent: Option<u16>, ticket: u16) -> Look {
     Look {
         own: Place { distance, parent },
@@ -59,7 +59,7 @@ fn lending(distance: u16, parent: Option<u16>, ticket: u16) -> Look {
     }
 }
 
-/// The end: after 8 harms both nodes are where they belong, privileged, and lend.
+/// The end: after 8 harms both nodes are in their true places, privileged, and lend.
 fn end() -> Seen {
     (8, true, 2, 2, (lending(0, None, 5), lending(1, Some(0), 6)))
 }
@@ -93,8 +93,8 @@ fn a_film_begins_with_the_start(rt: HostRuntime) -> Result<(), Fail> {
 /// One event that writes a distance and a parent.
 const WRITTEN: &str = "harm own 1 1 0\n";
 
-/// A film of two seconds: it has 20 beats, of which 10 hold the first still, and 30 more that hold the
-/// last for 3 seconds. Each of the two stills has 5 of the others.
+/// A film of two seconds. It has 20 beats; 10 of them hold the first still, and each of the two
+/// stills has 5 of the others. Then 30 more beats hold the last still for 3 seconds.
 const SHORT: Wanted = Wanted {
     seconds: 2,
     window: Window::ALL,
@@ -108,7 +108,7 @@ fn short_film(alloc: Global) -> Result<Vec<u8>, SimFault> {
     Ok(film_text(alloc, &net, &mut source, SHORT)?.text)
 }
 
-/// The values of what is shown for 15 beats, and then for 35.
+/// The values of something that is shown for 15 beats, and then for 35.
 fn values(alloc: Global, first: &str, last: &str) -> Result<String, AllocError> {
     let mut text = format!(in alloc; "values=\"{first}")?;
     for beat in 1..50 {
@@ -131,7 +131,8 @@ fn holds(text: &[u8], part: &[u8]) -> bool {
     text.windows(part.len().max(1)).any(|window| window == part)
 }
 
-/// At the start node 1 has the distance 2, as many as there are nodes, and no parent; then 1 and the root.
+/// At the start node 1 has the distance 2, the number of nodes, and no parent; then 1 and the
+/// root.
 #[test]
 fn distances_are_those_of_the_beats(rt: HostRuntime) -> Result<(), Fail> {
     as_told(has_values(rt.alloc(), "#d2", "#d1"), &true)

@@ -1,7 +1,7 @@
-//! Worked pictures: what a recording shows of small networks, and what is drawn of it, with every
-//! expected value computed by hand.
+//! Worked pictures: what a recording shows of small networks, and how it is drawn. Every expected
+//! value was computed by hand.
 //!
-//! Nothing but tests stands here, since a crate's tests prove all of that crate once more.
+//! It has only tests, since the tests of a crate prove all of that crate once more.
 #![tactic(auto)]
 
 #[cfg(test)]

@@ -10,7 +10,7 @@ use std::test::Fail;
 use test_parts::{as_told, is_told};
 use topology::Net;
 
-/// What a fault may leave of two nodes: a token at each, and each lends it.
+/// What a fault may make of two nodes: each has a token, and lends it.
 pub const FORGED: &str = "\
 # a token at each
 harm own 0 0 none
@@ -37,10 +37,10 @@ fn forged(alloc: Global, columns: usize, window: Window) -> Result<Recording, Fa
     Ok(record(alloc, &net, &mut source, columns, window)?)
 }
 
-/// What the two nodes are seen to be in a column, and which column it is.
+/// A column, and the marks of the two nodes in it.
 type MarksRow = (usize, (Mark, Mark));
 
-/// The place of the first row whose column does not show the two nodes so.
+/// The place of the first row whose column shows other marks.
 fn first_unlike_marks(columns: &[Column], rows: &[MarksRow]) -> Option<usize> {
     for (place, (column, want)) in rows.iter().enumerate() {
         let seen = columns
@@ -53,7 +53,7 @@ fn first_unlike_marks(columns: &[Column], rows: &[MarksRow]) -> Option<usize> {
     None
 }
 
-/// The place of the first row that a recording of the forged tokens does not show so.
+/// The place of the first row that a recording of the forged tokens shows otherwise.
 fn unlike_marks(alloc: Global, columns: usize, rows: &[MarksRow]) -> Result<Option<usize>, Fail>
     requires { 0 < columns }
 {
@@ -61,11 +61,10 @@ fn unlike_marks(alloc: Global, columns: usize, rows: &[MarksRow]) -> Result<Opti
     Ok(first_unlike_marks(recording.strip().columns(), rows))
 }
 
-/// How many nodes are privileged and how many lend in a column, and whether damage came with it,
-/// and which column it is.
+/// A column, how many nodes are privileged and lend in it, and whether it has damage.
 type CountsRow = (usize, (usize, usize, bool));
 
-/// The place of the first row whose column does not count so.
+/// The place of the first row whose column counts otherwise.
 fn first_unlike_counts(columns: &[Column], rows: &[CountsRow]) -> Option<usize> {
     for (place, (column, want)) in rows.iter().enumerate() {
         let counts = columns.get(*column).map(|column| (
@@ -80,15 +79,15 @@ fn first_unlike_counts(columns: &[Column], rows: &[CountsRow]) -> Option<usize> 
     None
 }
 
-/// The place of the first row that a recording of the forged tokens, of nine columns, does not
-/// count so.
+/// The place of the first row that a recording of the forged tokens in nine columns counts
+/// otherwise.
 fn unlike_counts(alloc: Global, rows: &[CountsRow]) -> Result<Option<usize>, Fail> {
     let recording = forged(alloc, 9, Window::ALL)?;
     Ok(first_unlike_counts(recording.strip().columns(), rows))
 }
 
-/// How many columns a recording of the forged tokens has, of how many moments each, and how many
-/// events and refused lines there were.
+/// The number of columns of a recording of the forged tokens, the moments of each, and the numbers
+/// of events and refused lines.
 fn size(alloc: Global, columns: usize, window: Window) -> Result<(usize, u64, u64, u64), Fail>
     requires { 0 < columns }
 {
@@ -102,9 +101,9 @@ fn size(alloc: Global, columns: usize, window: Window) -> Result<(usize, u64, u6
     ))
 }
 
-/// What a column shows that is a moment.
+/// What a column of one moment shows.
 const MOMENTS: [MarksRow; 6] = [
-    // At the start each distance is 2; then the root is as it should be, and then its child.
+    // At the start each distance is 2; then the root is right, and then its child.
     (0, (Mark::Wrong, Mark::Wrong)),
     (1, (Mark::Settled, Mark::Wrong)),
     (2, (Mark::Settled, Mark::Settled)),
@@ -122,7 +121,7 @@ fn a_column_is_a_moment(rt: HostRuntime) -> Result<(), Fail> {
     as_told(unlike_marks(rt.alloc(), 9, &MOMENTS), &None)
 }
 
-/// What a column counts that is a moment.
+/// What a column of one moment counts.
 const COUNTS: [CountsRow; 3] = [(0, (0, 0, false)), (7, (2, 1, true)), (8, (2, 2, true))];
 
 #[test]
@@ -130,7 +129,7 @@ fn a_column_counts_tokens_and_loans(rt: HostRuntime) -> Result<(), Fail> {
     as_told(unlike_counts(rt.alloc(), &COUNTS), &None)
 }
 
-/// What a column shows that is four moments.
+/// What a column of four moments shows.
 const WORST: [MarksRow; 2] = [
     (0, (Mark::Wrong, Mark::Wrong)),
     (1, (Mark::Lending { ticket: 5 }, Mark::Privileged)),
@@ -152,7 +151,7 @@ fn nothing_is_shown_of_a_run_that_has_no_sweep(rt: HostRuntime) -> Result<(), Fa
 /// A sweep of two nodes: both tick, and each link hands over what was sent inside.
 const SWEEP: &str = "tick 0\ntick 1\nsend 0 1\ntake 0 1\nsend 1 0\ntake 1 0\n";
 
-/// The recording of two sweeps of two nodes, and of a tick after them.
+/// The recording of two sweeps of two nodes and a tick after them.
 fn swept(alloc: Global, window: Window) -> Result<Recording, Fail> {
     let net = two(alloc)?;
     let text = format!(in alloc; "{SWEEP}{SWEEP}tick 0\n")?;
@@ -166,8 +165,8 @@ fn before(alloc: Global, window: Window) -> Result<(Before, usize), Fail> {
     Ok((recording.before(), recording.strip().columns().len()))
 }
 
-/// The first sweep and the last that are shown of a run of two, how many events and sweeps were
-/// before the first moment shown, and how many moments are shown.
+/// The first and the last sweep shown of a run of two, how many events and sweeps were before the
+/// first moment shown, and how many moments are shown.
 ///
 /// Sweeps end after the events 6 and 12, and the run has 13.
 const BEFORE: [(u64, u64, u64, u64, usize); 4] = [
@@ -177,7 +176,7 @@ const BEFORE: [(u64, u64, u64, u64, usize); 4] = [
     (2, 9, 12, 1, 2),
 ];
 
-/// The place of the first of these rows that is not so.
+/// The place of the first of these rows that is wrong.
 fn first_unlike_before(alloc: Global) -> Result<Option<usize>, Fail> {
     for (place, (from, to, events, sweeps, moments)) in BEFORE.into_iter().enumerate() {
         if before(alloc, Window { from, to })? != (Before { events, sweeps }, moments) {
@@ -203,7 +202,7 @@ fn the_tour_comes_to_the_smallest_child_last(rt: HostRuntime) -> Result<(), Fail
     as_told(is_tour_of_square(rt.alloc(), &[0, 2, 1, 3]), &true)
 }
 
-/// A text with each byte that is escaped, in an attribute and in an element.
+/// A text with every escaped byte, in an attribute and in an element.
 fn unescaped(alloc: Global) -> Result<Element, Fail> {
     Ok(
         Element::new(alloc, "text")
@@ -212,7 +211,7 @@ fn unescaped(alloc: Global) -> Result<Element, Fail> {
     )
 }
 
-/// A drawing of this element alone.
+/// A drawing of just this element.
 fn drawing_of(alloc: Global, element: Element) -> Result<Drawing, Fail> {
     Ok(Drawing {
         attributes: Vec::new(alloc),
@@ -220,13 +219,13 @@ fn drawing_of(alloc: Global, element: Element) -> Result<Drawing, Fail> {
     })
 }
 
-/// Whether that text is spelled so.
+/// Whether that text is spelled like this.
 fn is_escaped_as(alloc: Global, want: &[u8]) -> Result<bool, Fail> {
     let drawing = drawing_of(alloc, unescaped(alloc)?)?;
     Ok(bytes_of(alloc, &drawing)?.as_slice() == want)
 }
 
-/// That text as it is spelled.
+/// The spelling of that text.
 const ESCAPED: &[u8] =
     b"<svg>\n<text id=\"&quot;1&quot;\">1 &lt; 2 &amp; 3 &gt; 2</text>\n</svg>\n";
 
@@ -256,7 +255,7 @@ fn drawn(alloc: Global) -> Result<String, Fail> {
 /// Parts of the picture of the forged tokens.
 ///
 /// Columns are 24 wide from 142 on, and lanes 32 high from 176 on: node 0 lends from event 7 on,
-/// node 1 from event 8 on. The curves have their 0 at 328, and a node is 24 high: node 0 is
+/// node 1 from event 8 on. The curves have their zero at 328, and a node counts 24: node 0 is
 /// privileged from event 4 on, node 1 from event 6 on.
 const DRAWN: [&str; 9] = [
     "M310 192h48\"",

@@ -16,19 +16,18 @@ use std::time::{Clock, Duration};
 use std::{env, fs, thread};
 use test_parts::as_told;
 
-/// What a desk of the tests does, one step after the other. After the last one it closes the
-/// connection.
+/// A step of a desk in the tests. After the last step it closes the connection.
 #[derive(Clone, Copy)]
 enum Step {
-    /// It reads these very bytes.
+    /// It reads exactly these bytes.
     Hears(&'static [u8]),
     /// It writes these.
     Says(&'static [u8]),
-    /// It reads until the client is gone, which writes nothing more.
+    /// It reads until the client is gone, and expects nothing more.
     SeesOff,
 }
 
-/// What a client of the tests is asked to do; an empty text stands for none.
+/// What a client in the tests must do; an empty text means none.
 #[derive(Clone, Copy)]
 struct Asked {
     seconds: &'static str,
@@ -38,7 +37,8 @@ struct Asked {
     script: &'static str,
 }
 
-/// A row: what is asked, what the desk does, and the client's status and line on standard error.
+/// A row: what the client must do, what the desk does, and the client's status and line on
+/// standard error.
 #[derive(Clone, Copy)]
 struct Row {
     asked: Asked,
@@ -47,7 +47,7 @@ struct Row {
     told: &'static str,
 }
 
-/// A copy that is started with lines takes the lock as they say, and prints its status.
+/// A copy that starts with lines takes the lock as they say, and prints its status.
 #[test]
 fn acts_as_a_client(rt: HostRuntime) -> Result<(), Fail> {
     match env::var(&rt, "LOCK_LINES") {
@@ -67,11 +67,11 @@ fn take_lock<
     }
 }
 
-/// The test by which a copy of this program is the guard of a command.
+/// The test that makes a copy of this program the guard of a command.
 const GUARD: [&str; 1] = ["clients::acts_as_a_guard"];
 
-/// A copy that is started as a guard acts as one, for a command that runs on if its client was asked
-/// for that. It ends without a word then: its standard output is the connection to a desk.
+/// A copy that starts as a guard acts as one; the command may run on if its client was asked for
+/// that. Then it ends silently: its standard output is the connection to a desk.
 #[test]
 fn acts_as_a_guard(rt: HostRuntime) -> Result<(), Fail> {
     if env::var(&rt, GUARDED).is_ok() {
@@ -87,7 +87,7 @@ fn acts_as_a_guard(rt: HostRuntime) -> Result<(), Fail> {
     Ok(())
 }
 
-/// Ends this process without a word on standard output, to which the runner of tests writes at any
+/// Ends this process with nothing on standard output, where the runner of tests writes at any
 /// other end.
 fn vanish(rt: &HostRuntime) -> Result<(), Fail> {
     let mut command = Command::new(rt.alloc(), "/bin/sh")?;
@@ -97,7 +97,8 @@ fn vanish(rt: &HostRuntime) -> Result<(), Fail> {
     Ok(())
 }
 
-/// What lines ask for: the folder, the seconds, whether the command runs on, and up to three words.
+/// The request in these lines: the folder, the seconds, whether the command runs on, and up to
+/// three words.
 fn request_of<'a>(words: &'a [&'a str]) -> Option<Request<'a>> {
     let [folder, seconds, keeps, command @ ..] = words else {
         return None;
@@ -115,7 +116,7 @@ fn request_of<'a>(words: &'a [&'a str]) -> Option<Request<'a>> {
     })
 }
 
-/// So many seconds; none of a word that spells no number.
+/// This many seconds; none if the word spells no number.
 fn limit_of(word: &str) -> Option<Seconds> {
     match word.parse::<u16>() {
         Ok(seconds) => Some(Seconds {
@@ -131,13 +132,13 @@ fn until_empty<'a>(words: &'a [&'a str]) -> &'a [&'a str] {
     &words[..count.min(words.len())]
 }
 
-/// Prints the status with which a command would end.
+/// Prints the exit status of a command.
 fn print_status<R: Print>(rt: &R, status: u8) -> Result<(), Fail> {
     println!(rt; "status {status}")?;
     Ok(())
 }
 
-/// A copy that is started with a folder of nodes prints how they stand, and its status.
+/// A copy that starts with a folder of nodes prints how they stand, and its status.
 #[test]
 fn acts_as_an_onlooker(rt: HostRuntime) -> Result<(), Fail> {
     match env::var(&rt, "STATUS_FOLDER") {
@@ -146,7 +147,7 @@ fn acts_as_an_onlooker(rt: HostRuntime) -> Result<(), Fail> {
     }
 }
 
-/// The lines that say what a client is asked to do.
+/// The lines that say what a client must do.
 fn lines_of(alloc: Global, folder: &str, asked: Asked) -> Result<String, AllocError> {
     let Asked {
         seconds,
@@ -158,7 +159,7 @@ fn lines_of(alloc: Global, folder: &str, asked: Asked) -> Result<String, AllocEr
     format!(in alloc; "{folder}\n{seconds}\n{keeps}\n{program}\n{flag}\n{script}")
 }
 
-/// Starts a copy as a client that is sent these lines.
+/// Starts a copy as a client, and sends it these lines.
 fn client_of(rt: &HostRuntime, lines: &str, input: Stdio) -> Result<Child, Fail> {
     let test = "clients::acts_as_a_client";
     started(rt, copy(rt, test, &[("LOCK_LINES", lines)])?, input)
@@ -182,7 +183,7 @@ fn serve(stream: &mut UnixStream, steps: &[Step]) -> Result<(), Fail> {
     Ok(())
 }
 
-/// Reads these very bytes, of which there are fewer than 16.
+/// Reads exactly these bytes, fewer than 16.
 fn hears(stream: &mut UnixStream, want: &[u8]) -> Result<(), Fail> {
     let mut room = [0u8; 16];
     let count = want.len().min(room.len());
@@ -190,7 +191,7 @@ fn hears(stream: &mut UnixStream, want: &[u8]) -> Result<(), Fail> {
     hold(&room[..count] == want, "a client writes something else")
 }
 
-/// Does something with a desk at this socket, and drops it then. What came of it.
+/// Does something with a desk at this socket, drops the desk, and returns the result.
 fn at_desk<T, F: FnOnce(&UnixListener) -> Result<T, Fail>>(
     rt: &HostRuntime,
     path: &str,
@@ -214,14 +215,14 @@ fn serve_one(desk: &UnixListener, steps: &[Step]) -> Result<(), Fail> {
     serve(&mut stream, steps)
 }
 
-/// Does what a row says. Whether the client ends and says what it should.
+/// Plays a row. Returns whether the client ends and says what it should.
 fn goes_so(rt: &HostRuntime, folder: &str, desk: &UnixListener, row: &Row) -> Result<bool, Fail> {
     let client = client(rt, folder, row.asked, Stdio::null())?;
     serve_one(desk, row.steps)?;
     prints_and_tells(rt, client, row.status, row.told)
 }
 
-/// The place of the first row that does not go as is wanted.
+/// The place of the first row that goes otherwise.
 fn first_unlike(
     rt: &HostRuntime,
     folder: &str,
@@ -236,8 +237,7 @@ fn first_unlike(
     Ok(None)
 }
 
-/// The same at the desk of node 0 in a folder, which is made for it and stays. The socket is at
-/// `path`.
+/// The same at the desk of node 0 in a folder, which it makes and leaves. The socket is at `path`.
 fn unlike_in(
     rt: &HostRuntime,
     folder: &str,
@@ -258,10 +258,10 @@ const RELEASED: Step = Step::Says(b"released\n");
 
 const LOST: Step = Step::Says(b"lost\n");
 
-/// A lock that is taken and given back.
+/// A lock that is taken and released.
 const WHOLE: [Step; 5] = [LOCK, GRANTED, UNLOCK, RELEASED, Step::SeesOff];
 
-/// No program, which is waited for without an end, and ended if the lock is lost.
+/// No program, no limit, and the command is ended if the lock is lost.
 const PLAIN: Asked = Asked {
     seconds: "",
     keeps: "",
@@ -269,7 +269,7 @@ const PLAIN: Asked = Asked {
     script: "",
 };
 
-/// The same of the shell.
+/// The same with the shell.
 const SHELL: Asked = Asked {
     program: "/bin/sh",
     ..PLAIN
@@ -348,7 +348,7 @@ fn ends_as_its_command_does(rt: HostRuntime) -> Result<(), Fail> {
     Ok(())
 }
 
-/// Clients that do not hold the lock, or not to the end.
+/// Clients that do not hold the lock, or lose it.
 const NOT_HELD: [Row; 8] = [
     Row {
         asked: Asked {
@@ -379,7 +379,7 @@ const NOT_HELD: [Row; 8] = [
         status: "status 122\n",
         told: "tokentree: the lock is lost, since node 0 went away: the command is ended\n",
     },
-    // The loan ended before it was given back, and the command was none the wiser.
+    // The loan ended before the release, and the command did not know.
     Row {
         asked: Asked {
             script: "exit 0",
@@ -408,7 +408,7 @@ const NOT_HELD: [Row; 8] = [
         told: "tokentree: the second process of this lock is gone, which guards the command: \
                    the command is ended\n",
     },
-    // The client is killed, by its command: its guard ends the command, and says so.
+    // The command kills its client: the guard ends the command, and says so.
     Row {
         asked: Asked {
             script: "kill -KILL $PPID; exec sleep 30",
@@ -419,7 +419,7 @@ const NOT_HELD: [Row; 8] = [
         told: "tokentree: the first process of this lock is gone, which ran the command: \
                    the command is ended\n",
     },
-    // The same of a command that may run on: it ends by itself, and nobody asked it to.
+    // The same for a command that may run on: it ends by itself, and nobody asks it to.
     Row {
         asked: Asked {
             keeps: "yes",
@@ -450,7 +450,7 @@ fn tells_why_the_lock_is_not_held(rt: HostRuntime) -> Result<(), Fail> {
     serves_nobody(&rt, "lock-not-held")
 }
 
-/// The file of the socket is still there, and nobody listens; then it goes too; then the folder.
+/// First the socket's file is there and nobody listens; then the file is gone; then the folder.
 fn serves_nobody(rt: &HostRuntime, folder: &str) -> Result<(), Fail> {
     let nobody =
         "tokentree: nobody listens at lock-not-held/desk-0.sock: start node 0, if the network has it\n";
@@ -461,7 +461,7 @@ fn serves_nobody(rt: &HostRuntime, folder: &str) -> Result<(), Fail> {
     no_service(rt, folder, "tokentree: there is no folder lock-not-held\n")
 }
 
-/// A client of a folder in which nobody serves ends with status 125, and says this.
+/// A client of a folder where nobody serves ends with status 125, and says this.
 fn no_service(rt: &HostRuntime, folder: &str, told: &str) -> Result<(), Fail> {
     let asked = Asked {
         script: "exit 0",
@@ -503,12 +503,12 @@ fn lend(desk: &UnixListener, client: &mut Child) -> Result<(), Fail> {
 fn lend_over(stream: &mut UnixStream, client: &mut Child) -> Result<(), Fail> {
     serve(stream, &[LOCK, GRANTED])?;
     hold(printed(client)? == Some(*b"granted\n"), "no `granted`")?;
-    // What stands in its input is passed over, and it holds the lock on.
+    // It ignores what its input says, and keeps holding the lock.
     end_input(client)?;
     serve(stream, &[UNLOCK, RELEASED, Step::SeesOff])
 }
 
-/// Whether a client of a desk holds the lock until its input ends, and ends with status 0 then.
+/// Whether a client of a desk holds the lock until its input ends, and then ends with status 0.
 fn ends_with_its_input(rt: &HostRuntime, desk: &UnixListener) -> Result<bool, Fail> {
     let mut client = client(rt, "lock-input", PLAIN, Stdio::piped())?;
     lend(desk, &mut client)?;
@@ -530,13 +530,15 @@ fn holds_the_lock_until_its_input_ends(rt: HostRuntime) -> Result<(), Fail> {
     Ok(())
 }
 
-/// Has a client no room at first: its connection is closed. At the next one it is lent the lock.
+/// A desk without room at first: it closes the first connection, and lends the lock over the next
+/// one.
 fn lend_at_second(desk: &UnixListener) -> Result<(), Fail> {
     serve_one(desk, &[LOCK])?;
     serve_one(desk, &WHOLE)
 }
 
-/// Whether a client that was closed before it was lent the lock asks again, and ends as its command.
+/// Whether a client whose connection was closed before it had the lock asks again, and ends as its
+/// command.
 fn asks_again(rt: &HostRuntime, desk: &UnixListener) -> Result<bool, Fail> {
     let asked = Asked {
         script: "exit 5",
@@ -585,7 +587,7 @@ fn misses_a_node_that_went_away(rt: HostRuntime) -> Result<(), Fail> {
     Ok(())
 }
 
-/// Writes how a node stands to who asks it.
+/// Writes how a node stands to whoever asks it.
 fn tell(stream: &mut UnixStream, pieces: &[&[u8]]) -> Result<(), Fail> {
     hears(stream, b"status\n")?;
     for piece in pieces {
@@ -628,7 +630,7 @@ fn onlooker(rt: &HostRuntime) -> Result<Child, Fail> {
     started(rt, command, Stdio::null())
 }
 
-/// Whether an onlooker prints what it is to see, once it has asked the third of three desks.
+/// Whether an onlooker prints what it should see, once it has asked the third of three desks.
 fn sees_behind_third(
     rt: &HostRuntime,
     desks: [&UnixListener; 3],
@@ -655,7 +657,7 @@ fn sees_all(rt: &HostRuntime, desks: [&UnixListener; 3]) -> Result<bool, Fail> {
     sees_behind_second(rt, desks, onlooker)
 }
 
-/// The same with three desks of its own.
+/// The same with its own three desks.
 fn sees_three(rt: &HostRuntime) -> Result<bool, Fail> {
     at_desk(rt, "lock-status/desk-0.sock", |first| {
         at_desk(rt, "lock-status/desk-2.sock", |second| {

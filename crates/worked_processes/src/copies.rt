@@ -6,18 +6,19 @@ use std::path::AsPath;
 use std::process::{Child, Command, Stdio};
 use std::test::Fail;
 
-/// A command, without the contract of its making, which would else stand in each caller.
+/// Makes a command without showing the contract of that, which would otherwise be part of each
+/// caller.
 fn command_of(alloc: Global, program: &str) -> Result<Command, AllocError> {
     Command::new(alloc, program)
 }
 
-/// Gives a command a word more.
+/// Adds a word to a command.
 fn add_word(command: &mut Command, word: &str) -> Result<(), AllocError> {
     command.arg(word)?;
     Ok(())
 }
 
-/// Gives a command words more.
+/// Adds words to a command.
 fn add_words(command: &mut Command, words: &[&str]) -> Result<(), AllocError> {
     for word in words {
         add_word(command, *word)?;
@@ -39,7 +40,7 @@ fn set_all(command: &mut Command, variables: &[(&str, &str)]) -> Result<(), Allo
     Ok(())
 }
 
-/// A copy of a program of tests that does one of them, with these variables in its environment.
+/// A copy of a test program that runs one of its tests, with these environment variables.
 pub fn copy_at(
     alloc: Global,
     program: &str,
@@ -58,7 +59,7 @@ pub fn copy(rt: &HostRuntime, test: &str, variables: &[(&str, &str)]) -> Result<
     Ok(copy_at(rt.alloc(), program.path_text(), test, variables)?)
 }
 
-/// A shell that does what a script says, which finds a word as `$0`.
+/// A shell that runs a script, with a word as its `$0`.
 pub fn shell(
     alloc: Global,
     script: &str,
@@ -71,7 +72,7 @@ pub fn shell(
     })
 }
 
-/// Starts a command, whose output and errors are read by who starts it.
+/// Starts a command; the caller reads its output and errors.
 pub fn started(rt: &HostRuntime, mut command: Command, input: Stdio) -> Result<Child, Fail> {
     command
         .stdin(input)
@@ -80,14 +81,14 @@ pub fn started(rt: &HostRuntime, mut command: Command, input: Stdio) -> Result<C
     Ok(command.spawn(rt)?)
 }
 
-/// Waits for the end of a process. Whether its output begins so.
+/// Waits for the end of a process. Returns whether its output begins like this.
 pub fn prints(rt: &HostRuntime, child: Child, begin: &[u8]) -> Result<bool, Fail> {
     let output = child.wait_with_output(rt.alloc())?;
     Ok(output.stdout.as_slice().starts_with(begin))
 }
 
-/// Waits for the end of a process. Whether its output begins so, and just this stands on standard
-/// error.
+/// Waits for the end of a process. Returns whether its output begins like this, and its standard
+/// error is exactly this.
 pub fn prints_and_tells(
     rt: &HostRuntime,
     child: Child,

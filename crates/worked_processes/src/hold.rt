@@ -1,10 +1,11 @@
-//! What is held in a function that a test calls.
+//! Values that are held in a function that a test calls.
 use std::alloc::AllocError;
 use std::test::Fail;
 
-/// What was made, a command say, after a change that may fail.
+/// What was made (a command, say), after a change that may fail.
 ///
-/// Whoever holds such a value and may give up is dear to prove; here it is held once for all.
+/// A function that holds such a value and may return early is expensive to prove; here that is
+/// done once for all.
 pub fn changed<T: Drop, F: FnOnce(&mut T) -> Result<(), AllocError>>(
     made: Result<T, AllocError>,
     change: F,

@@ -1,6 +1,6 @@
 //! Nodes and clients as processes: copies of the test program, which talk over sockets.
 //!
-//! Nothing but tests stands here, since a crate's tests prove all of that crate once more.
+//! It has only tests, since the tests of a crate prove all of that crate once more.
 #![tactic(auto)]
 
 #[cfg(test)]

@@ -1,4 +1,4 @@
-//! Whoever looks at a node that runs.
+//! Looking at a running node.
 use crate::copies::shell;
 use crate::nodes::{ABSENT, LINE, comes_to, in_folder, rest, start, stops, succeeds};
 use node_texts::desk_file::look_path;
@@ -7,10 +7,10 @@ use std::process::Child;
 use std::test::Fail;
 use test_parts::{as_told, is_told};
 
-/// How the line of node 0 begins, which is the root.
+/// How the line of node 0, the root, begins.
 const BEGIN: &[u8] = b"{\"node\":0,\"distance\":0,\"parent\":null,\"token\":";
 
-/// How the line of a node ends whose process is known.
+/// How the line of a node with a known process ends.
 const END: &[u8] = b"}\n";
 
 /// Sends a signal to a process.
@@ -19,7 +19,7 @@ fn signal(rt: &HostRuntime, child: &Child, script: &str) -> Result<bool, Fail> {
     succeeds(rt, shell(rt.alloc(), script, process.as_str(), &[])?)
 }
 
-/// Connects so many lookers to node 0.
+/// Connects this many lookers to node 0.
 fn lookers(rt: &HostRuntime, dir: &str, count: u32) -> Result<Vec<UnixStream>, Fail> {
     let path = look_path(rt.alloc(), dir, 0)?;
     let mut lookers = Vec::new(rt.alloc());
@@ -43,7 +43,7 @@ fn sight(rt: &HostRuntime, looker: &mut UnixStream) -> Result<u8, Fail> {
     })
 }
 
-/// How many lookers are shown the node's line, nothing, and something else.
+/// How many lookers see the node's line, nothing, or something else.
 fn sights(rt: &HostRuntime, lookers: &mut Vec<UnixStream>) -> Result<[u32; 3], Fail> {
     let mut counts = [0u32; 3];
     for looker in lookers.iter_mut() {
@@ -53,8 +53,9 @@ fn sights(rt: &HostRuntime, lookers: &mut Vec<UnixStream>) -> Result<[u32; 3], F
     Ok(counts)
 }
 
-/// Connects 65 lookers while the node's process is stopped, so that all come within one turn. What they are
-/// shown once it goes on and has answered a client, though nobody of them reads meanwhile.
+/// Connects 65 lookers while the node's process is stopped, so that all come within one turn.
+/// Returns what they are shown once it goes on and has answered a client; none of them reads
+/// before that.
 fn seen_at_once(rt: &HostRuntime, dir: &str, node: &Child) -> Result<[u32; 3], Fail> {
     let is_stopped = signal(rt, node, "kill -STOP \"$0\"")?;
     let mut all = lookers(rt, dir, 65)?;

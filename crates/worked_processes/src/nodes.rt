@@ -18,13 +18,13 @@ use std::{env, fs, io, process, thread};
 use subcommands::scramble;
 use test_parts::{as_told, is_told};
 
-/// Three nodes in a line. Fewer frames than the capacity are under way.
+/// Three nodes in a line, with fewer frames under way than the capacity.
 pub const LINE: &str = "nodes = 3\nroot = 0\ncapacity = 64\nlease = 0\nedges = [[0, 1], [1, 2]]\n";
 
-/// The same with links that hold one frame less than is asked for.
+/// The same with links that hold one frame too few.
 const NARROW: &str = "nodes = 3\nroot = 0\ncapacity = 63\nlease = 0\nedges = [[0, 1], [1, 2]]\n";
 
-/// The first with an edge more, which makes it a ring.
+/// The first with one more edge, which makes it a ring.
 const RING: &str =
     "nodes = 3\nroot = 0\ncapacity = 64\nlease = 0\nedges = [[0, 1], [1, 2], [0, 2]]\n";
 
@@ -36,7 +36,7 @@ fn network_file(alloc: Global, dir: &str) -> Result<String, AllocError> {
     format!(in alloc; "{dir}.toml")
 }
 
-/// Which node the environment says that this copy is.
+/// Which node this copy is, by its environment.
 fn told_id(rt: &HostRuntime) -> Result<Option<u16>, Fail> {
     match env::var(rt, "TOKENTREE_ID") {
         Ok(id) => Ok(Some(id.parse::<u16>()?)),
@@ -44,7 +44,7 @@ fn told_id(rt: &HostRuntime) -> Result<Option<u16>, Fail> {
     }
 }
 
-/// Runs node `id` in a folder. What becomes of it.
+/// Runs node `id` in a folder. Returns how it ended.
 fn run_node(
     rt: &HostRuntime,
     dir: &str,
@@ -66,8 +66,8 @@ fn run_node(
     Ok(node::run(rt, &words))
 }
 
-/// Runs node `id` in the folder that the environment says. A node that another copy keeps running
-/// says first which process it is.
+/// Runs node `id` in the folder that the environment names. If another copy keeps it running, it
+/// first says which process it is.
 fn run_told(rt: &HostRuntime, id: u16) -> Result<Result<(), NodeFault>, Fail> {
     let dir = env::var(rt, "TOKENTREE_DIR")?;
     let is_child = env::var(rt, "TOKENTREE_CHILD").is_ok();
@@ -77,7 +77,7 @@ fn run_told(rt: &HostRuntime, id: u16) -> Result<Result<(), NodeFault>, Fail> {
     run_node(rt, dir.as_str(), id, is_child)
 }
 
-/// What a copy of this program does, if the environment says which node it is.
+/// What a copy of this program does if the environment says which node it is.
 #[test]
 fn acts_as_a_node(rt: HostRuntime) -> Result<(), Fail> {
     if let Some(id) = told_id(&rt)? {
@@ -99,7 +99,7 @@ fn write_process(rt: &HostRuntime, path: &str) -> Result<(), Fail> {
     Ok(fs::write(rt, path, told.as_str())?)
 }
 
-/// Where a node that another copy keeps running says which process it is.
+/// The file in which a node that another copy keeps running says which process it is.
 fn pid_file(alloc: Global, dir: &str, id: u16) -> Result<String, AllocError> {
     format!(in alloc; "{dir}/pid-{id}")
 }
@@ -110,7 +110,7 @@ pub const ABSENT: [&str; 2] = ["start default Absent", "ready"];
 /// What it prints first if its state was loaded.
 const LOADED: [&str; 2] = ["start loaded", "ready"];
 
-/// Starts a node's process, which is told its number.
+/// Starts a node's process, with its number.
 fn spawn_as(rt: &HostRuntime, dir: &str, number: &str) -> Result<Child, Fail> {
     let test = "nodes::acts_as_a_node";
     let variables = [("TOKENTREE_ID", number), ("TOKENTREE_DIR", dir)];
@@ -123,7 +123,7 @@ fn spawn(rt: &HostRuntime, dir: &str, id: u16) -> Result<Child, Fail> {
     spawn_as(rt, dir, number.as_str())
 }
 
-/// Whether these are the next lines that a process prints.
+/// Whether a process prints these lines next.
 fn prints(rt: &HostRuntime, child: &mut Child, lines: [&str; 2]) -> Result<bool, Fail> {
     let Some(output) = &mut child.stdout else {
         return Ok(false);
@@ -132,7 +132,7 @@ fn prints(rt: &HostRuntime, child: &mut Child, lines: [&str; 2]) -> Result<bool,
     Ok(read_line(rt.alloc(), output)?.as_str() == lines[1] && is_first)
 }
 
-/// Fails unless these are the next lines that a process prints.
+/// Fails unless a process prints these lines next.
 fn begins(rt: &HostRuntime, child: &mut Child, lines: [&str; 2]) -> Result<(), Fail> {
     hold(
         prints(rt, child, lines)?,
@@ -190,7 +190,7 @@ pub fn rest<R: Read>(alloc: Global, reader: &mut R) -> Result<Vec<u8>, Fail> {
     Ok(bytes)
 }
 
-/// Whether a process says just this on standard error, until it ends.
+/// Whether a process says exactly this on standard error, until it ends.
 fn tells(rt: &HostRuntime, child: &mut Child, told: &str) -> Result<bool, Fail> {
     let Some(errors) = &mut child.stderr else {
         return Ok(false);
@@ -203,8 +203,8 @@ fn ends_well(child: &mut Child) -> Result<bool, Fail> {
     Ok(child.wait()?.code() == Some(0))
 }
 
-/// Makes a node's stop file. Whether its process ends with status 0, and removes that file and its
-/// sockets, and has said just this on standard error.
+/// Makes a node's stop file. Returns whether its process ends with status 0, removes that file and
+/// its sockets, and has said exactly this on standard error.
 fn stops_with(
     rt: &HostRuntime,
     dir: &str,
@@ -233,12 +233,12 @@ fn ask(rt: &HostRuntime, client: &mut UnixStream, line: &str) -> Result<String, 
     read_line(rt.alloc(), client)
 }
 
-/// Whether a node says how it stands in a line that begins so.
+/// Whether a node says how it stands in a line that begins like this.
 fn stands(rt: &HostRuntime, client: &mut UnixStream, begin: &str) -> Result<bool, Fail> {
     Ok(ask(rt, client, "status\n")?.as_str().starts_with(begin))
 }
 
-/// Asks a node how it stands. Whether it says so at last in a line that begins so.
+/// Asks a node how it stands. Returns whether at last its line begins like this.
 fn stands_at_last(rt: &HostRuntime, client: &mut UnixStream, begin: &str) -> Result<bool, Fail> {
     for _ in 0..ASKS {
         if stands(rt, client, begin)? {
@@ -248,13 +248,13 @@ fn stands_at_last(rt: &HostRuntime, client: &mut UnixStream, begin: &str) -> Res
     Ok(false)
 }
 
-/// Asks node `id` how it stands. Whether its line begins so at last.
+/// Asks node `id` how it stands. Returns whether at last its line begins like this.
 fn comes_to_say(rt: &HostRuntime, dir: &str, id: u16, begin: &str) -> Result<bool, Fail> {
     let mut client = client(rt, dir, id)?;
     stands_at_last(rt, &mut client, begin)
 }
 
-/// Asks a node how it stands. Whether it says at last that it is this far from the root.
+/// Asks a node how it stands. Returns whether it says at last that it is this far from the root.
 pub fn comes_to(rt: &HostRuntime, dir: &str, id: u16, distance: u16) -> Result<bool, Fail> {
     let begin = format!(in rt.alloc(); "node {id} distance {distance} ")?;
     comes_to_say(rt, dir, id, begin.as_str())
@@ -275,8 +275,8 @@ fn freshen(rt: &HostRuntime, dir: &str, network: &str) -> Result<(), Fail> {
     write_network(rt, dir, network)
 }
 
-/// Does something in a folder of this test's own that is not there yet, beside its network file,
-/// and removes what was made.
+/// Does something in a new folder of this test, next to its network file, and removes what was
+/// made.
 pub fn in_folder<F: FnOnce(&str) -> Result<(), Fail>>(
     rt: &HostRuntime,
     name: &str,
@@ -336,7 +336,7 @@ fn scramble_state(rt: &HostRuntime, dir: &str, id: u16) -> Result<bool, Fail> {
     scramble_at(rt, dir, id, path.as_str())
 }
 
-/// Cuts the state file at `path` to 33 bytes, one less than its shortest has.
+/// Cuts the state file at `path` to 33 bytes, one fewer than the shortest state has.
 fn cut(rt: &HostRuntime, path: &str) -> Result<(), Fail> {
     let file = fs::OpenOptions::new().write(true).open(rt, path)?;
     Ok(file.set_len(33)?)
@@ -348,7 +348,7 @@ fn cut_state(rt: &HostRuntime, dir: &str, id: u16) -> Result<(), Fail> {
     cut(rt, path.as_str())
 }
 
-/// Whether a client is answered so.
+/// Whether a client gets this answer.
 fn is_answered(
     rt: &HostRuntime,
     client: &mut UnixStream,
@@ -358,13 +358,13 @@ fn is_answered(
     Ok(ask(rt, client, line)?.as_str() == want)
 }
 
-/// Whether node 2 tells a client that its line is none.
+/// Whether node 2 says to a client that it knows no such line.
 fn knows_its_lines(rt: &HostRuntime, dir: &str) -> Result<bool, Fail> {
     let mut asking = client(rt, dir, 2)?;
     is_answered(rt, &mut asking, "loc\n", "unknown")
 }
 
-/// Whether a client takes the lock, and gives it back.
+/// Whether a client takes the lock, and releases it.
 fn is_lent(rt: &HostRuntime, asking: &mut UnixStream) -> Result<bool, Fail> {
     let is_lent = is_answered(rt, asking, "lock\n", "granted")?;
     Ok(is_answered(rt, asking, "unlock\n", "released")? && is_lent)
@@ -431,20 +431,21 @@ fn serve_and_stop(
     )
 }
 
-/// What a node says that takes up the edge which makes the line a ring.
+/// What a node says when it takes over the edge that makes the line a ring.
 fn rewired(alloc: Global, dir: &str, id: u16) -> Result<String, AllocError> {
     format!(in alloc;
         "tokentree: node {id} takes up {dir}.toml: edges that came: [0, 2]; that went: none\n"
     )
 }
 
-/// Makes the stop file of a node. Whether it ends well, and has said just that it took up an edge.
+/// Makes the stop file of a node. Returns whether it ends well, and has said only that it took
+/// over an edge.
 fn stops_rewired(rt: &HostRuntime, dir: &str, id: u16, child: &mut Child) -> Result<bool, Fail> {
     let told = rewired(rt.alloc(), dir, id)?;
     stops_with(rt, dir, id, child, told.as_str())
 }
 
-/// The same of a node that may be stopped before it reads the file again: then it says nothing.
+/// The same for a node that may stop before it reads the file again: then it says nothing.
 fn stops_late(rt: &HostRuntime, dir: &str, id: u16, child: &mut Child) -> Result<bool, Fail> {
     stop(rt, dir, id)?;
     let Some(errors) = &mut child.stderr else {
@@ -456,7 +457,7 @@ fn stops_late(rt: &HostRuntime, dir: &str, id: u16, child: &mut Child) -> Result
     Ok(is_told && ends_well(child)?)
 }
 
-/// Runs node 2 beside two nodes that run: it starts again from any state.
+/// Runs node 2 beside two running nodes: it starts again from any state.
 fn run_third(
     rt: &HostRuntime,
     dir: &str,
@@ -474,7 +475,7 @@ fn run_second(rt: &HostRuntime, dir: &str, first: &mut Child) -> Result<(), Fail
     run_third(rt, dir, first, &mut second)
 }
 
-/// Runs three nodes, of which node 2 starts again from any state, while the others run.
+/// Runs three nodes; node 2 starts again from any state, while the others run.
 fn run_three(rt: &HostRuntime, dir: &str) -> Result<(), Fail> {
     let mut first = start(rt, dir, 0, ABSENT)?;
     run_second(rt, dir, &mut first)
@@ -492,7 +493,7 @@ fn start_and_stop(rt: &HostRuntime, dir: &str, lines: [&str; 2]) -> Result<(), F
 /// Runs three nodes, and starts node 2 again twice.
 fn run_again(rt: &HostRuntime, dir: &str) -> Result<(), Fail> {
     run_three(rt, dir)?;
-    // Its state is as it was saved, and then it is cut.
+    // Its state is first as it was saved, and then cut.
     start_and_stop(rt, dir, LOADED)?;
     cut_state(rt, dir, 2)?;
     start_and_stop(rt, dir, ["start default Short", "ready"])
@@ -512,7 +513,7 @@ fn has_sockets(rt: &HostRuntime, paths: &NodePaths) -> Result<bool, Fail> {
     )
 }
 
-/// Removes the files of all sockets. Whether all come again.
+/// Removes the files of all sockets. Returns whether all come again.
 fn come_again(rt: &HostRuntime, paths: &NodePaths) -> Result<bool, Fail> {
     fs::remove_file(rt, paths.links.as_str())?;
     fs::remove_file(rt, paths.clients.as_str())?;
@@ -526,13 +527,13 @@ fn come_again(rt: &HostRuntime, paths: &NodePaths) -> Result<bool, Fail> {
     Ok(false)
 }
 
-/// Removes the files of a node's sockets. Whether all come again, while it runs.
+/// Removes the files of a running node's sockets. Returns whether all come again.
 fn makes_sockets_anew(rt: &HostRuntime, dir: &str, id: u16) -> Result<bool, Fail> {
     let paths = NodePaths::new(rt.alloc(), dir, id)?;
     come_again(rt, &paths)
 }
 
-/// A connection to where the neighbours of node 0 come.
+/// A connection to the socket for neighbours of node 0.
 fn neighbour(rt: &HostRuntime, dir: &str) -> Result<UnixStream, Fail> {
     let path = links_name(rt.alloc(), dir, 0)?;
     Ok(UnixStream::connect(rt, path.as_str())?)
@@ -546,13 +547,13 @@ fn silent_neighbour(rt: &HostRuntime, dir: &str) -> Result<UnixStream, Fail> {
     Ok(stream)
 }
 
-/// How many frames have gathered in a socket whose other end is gone.
+/// How many frames are in a socket whose other end is gone.
 fn gathered(rt: &HostRuntime, stream: &mut UnixStream) -> Result<usize, Fail> {
     Ok(rest(rt.alloc(), stream)?.len() / 22)
 }
 
-/// The folder that a node has made is its owner's alone, and its sockets come again. What answers
-/// is a neighbour that reads nothing.
+/// The folder that a node made is only its owner's, and its sockets come again. Returns a
+/// neighbour that reads nothing.
 fn keeps_its_sockets(rt: &HostRuntime, dir: &str) -> Result<UnixStream, Fail> {
     let mode = fs::metadata(rt, dir)?.permissions().mode();
     hold(mode & 0o7777 == 0o700, "others may use the folder")?;
@@ -561,11 +562,11 @@ fn keeps_its_sockets(rt: &HostRuntime, dir: &str) -> Result<UnixStream, Fail> {
     silent_neighbour(rt, dir)
 }
 
-/// What a node says whose links hold 63 frames.
+/// What a node with links of 63 frames says.
 const SMALL: &str = "tokentree: capacity 63 is less than 64: 36 frames may be under way on a link; \
     give the network capacity 64 or more\n";
 
-/// A node says as it stops what its links hold, and few frames are under way to a neighbour that
+/// A stopping node says what its links hold, and few frames are under way to a neighbour that
 /// reads nothing.
 fn stop_beside(
     rt: &HostRuntime,
@@ -583,13 +584,13 @@ fn stop_beside(
     )
 }
 
-/// A node that runs keeps its folder and its sockets, and stops.
+/// A running node keeps its folder and its sockets, and stops.
 fn keep_and_stop(rt: &HostRuntime, dir: &str, node: &mut Child) -> Result<(), Fail> {
     let mut neighbour = keeps_its_sockets(rt, dir)?;
     stop_beside(rt, dir, node, &mut neighbour)
 }
 
-/// The same of node 0, which starts if the folder is not there.
+/// The same for node 0, which starts without the folder.
 fn keep_from_start(rt: &HostRuntime, dir: &str) -> Result<(), Fail> {
     let mut node = start(rt, dir, 0, ABSENT)?;
     keep_and_stop(rt, dir, &mut node)
@@ -607,7 +608,7 @@ struct TestProgram<'a> {
     dir: &'a str,
 }
 
-/// The copy of the test program at `program` that is the node of this number, and is kept running.
+/// The copy of the test program at `program` that is this node, and is kept running.
 fn kept_at<'a>(
     alloc: Global,
     program: &str,
@@ -633,7 +634,7 @@ impl NodeProgram for TestProgram<'_> {
     }
 }
 
-/// Keeps the nodes of this network file running in a folder. What becomes of it.
+/// Keeps the nodes of this network file running in a folder. Returns how that ended.
 fn run_up_of(rt: &HostRuntime, file: &str, dir: &str) -> Result<Result<(), NodeFault>, Fail> {
     let program = env::current_exe(rt)?;
     let nodes = TestProgram {
@@ -643,13 +644,13 @@ fn run_up_of(rt: &HostRuntime, file: &str, dir: &str) -> Result<Result<(), NodeF
     Ok(up::run(rt, &nodes, file, dir))
 }
 
-/// Keeps the nodes of a folder running. What becomes of it.
+/// Keeps the nodes of a folder running. Returns how that ended.
 fn run_up(rt: &HostRuntime, dir: &str) -> Result<Result<(), NodeFault>, Fail> {
     let file = network_file(rt.alloc(), dir)?;
     run_up_of(rt, file.as_str(), dir)
 }
 
-/// The same in the folder that the environment says, if it says one.
+/// The same in the folder that the environment names, if any.
 fn run_told_up(rt: &HostRuntime) -> Result<Result<(), NodeFault>, Fail> {
     match env::var(rt, "TOKENTREE_UP") {
         Ok(dir) => run_up(rt, dir.as_str()),
@@ -657,7 +658,7 @@ fn run_told_up(rt: &HostRuntime) -> Result<Result<(), NodeFault>, Fail> {
     }
 }
 
-/// What a copy of this program does, if the environment says in which folder.
+/// What a copy of this program does if the environment names a folder.
 #[test]
 fn acts_as_up(rt: HostRuntime) -> Result<(), Fail> {
     as_told(run_told_up(&rt), &Ok(()))
@@ -668,7 +669,7 @@ fn is_next<R: Read>(alloc: Global, reader: &mut R, want: &str) -> Result<bool, F
     Ok(read_line(alloc, reader)?.as_str() == want)
 }
 
-/// Reads lines, at most 100. Whether this one comes.
+/// Reads lines, at most 100. Returns whether this one comes.
 fn says(rt: &HostRuntime, child: &mut Child, want: &str) -> Result<bool, Fail> {
     if let Some(output) = &mut child.stdout {
         for _ in 0..100u32 {
@@ -687,7 +688,7 @@ fn keeper(rt: &HostRuntime, dir: &str) -> Result<Child, Fail> {
     Ok(command.spawn(rt)?)
 }
 
-/// Runs a command to its end. Whether it ends with status 0.
+/// Runs a command to its end. Returns whether it ends with status 0.
 pub fn succeeds(rt: &HostRuntime, mut command: Command) -> Result<bool, Fail> {
     Ok(command.status(rt)?.success())
 }
@@ -715,7 +716,7 @@ fn listens(rt: &HostRuntime, dir: &str, id: u16) -> Result<bool, Fail> {
     Ok(UnixStream::connect(rt, path.as_str()).is_ok())
 }
 
-/// Whether nobody listens for clients of node `id` in the end.
+/// Whether in the end nobody listens for clients of node `id`.
 fn falls_silent(rt: &HostRuntime, dir: &str, id: u16) -> Result<bool, Fail> {
     for _ in 0..5_000u32 {
         if !listens(rt, dir, id)? {
@@ -736,7 +737,7 @@ fn all_come(rt: &HostRuntime, child: &mut Child, lines: &[&str]) -> Result<bool,
     Ok(true)
 }
 
-/// Ends node 1 by its stop file, and by a signal. It is started again each time, by one `up` alone.
+/// Ends node 1 by its stop file, and by a signal. Each time just one `up` starts it again.
 fn starts_again(rt: &HostRuntime, dir: &str, up: &mut Child) -> Result<(), Fail> {
     let first = ["node 1 start default Absent", "node 1 ready"];
     hold(
@@ -774,7 +775,7 @@ fn ends(rt: &HostRuntime, child: Child) -> Result<bool, Fail> {
     Ok(output.status.code() == Some(0))
 }
 
-/// The first of three nodes for whose clients somebody listens.
+/// The first of three nodes that still listens for clients.
 fn first_listening(rt: &HostRuntime, dir: &str) -> Result<Option<u16>, Fail> {
     for id in 0..3u16 {
         if listens(rt, dir, id)? {
@@ -784,7 +785,7 @@ fn first_listening(rt: &HostRuntime, dir: &str) -> Result<Option<u16>, Fail> {
     Ok(None)
 }
 
-/// A copy starts again what ends, and leaves nothing as its input ends.
+/// A copy restarts what ends, and leaves nothing when its input ends.
 fn keep_running(rt: &HostRuntime, dir: &str) -> Result<(), Fail> {
     let mut up = keeper(rt, dir)?;
     starts_again(rt, dir, &mut up)?;
@@ -797,10 +798,11 @@ fn up_starts_again_what_ends_and_leaves_nothing(rt: HostRuntime) -> Result<(), F
     in_folder(&rt, "up", LINE, |dir| keep_running(&rt, dir))
 }
 
-/// What starts a copy of a program of tests that keeps nodes running, from which signals are held back.
+/// The script that starts a copy of a test program with signals held back; the copy keeps nodes
+/// running.
 const HELD: &str = "exec env --block-signal=HUP,INT,TERM \"$0\" nodes::acts_as_up";
 
-/// Starts a copy that keeps the nodes running, from which signals are held back, and whose input has no end.
+/// Starts a copy that keeps the nodes running, with signals held back and an input without end.
 fn held_keeper(rt: &HostRuntime, dir: &str) -> Result<Child, Fail> {
     let program = env::current_exe(rt)?;
     let variables = [("TOKENTREE_UP", dir)];
@@ -811,7 +813,7 @@ fn held_keeper(rt: &HostRuntime, dir: &str) -> Result<Child, Fail> {
     )
 }
 
-/// Sends a signal to a process by a script, which finds its id as `$0`.
+/// Sends a signal to a process by a script, whose `$0` is its id.
 fn send(rt: &HostRuntime, process: &str, script: &str) -> Result<bool, Fail> {
     succeeds(rt, shell(rt.alloc(), script, process, &[])?)
 }
@@ -822,12 +824,12 @@ fn send_to(rt: &HostRuntime, child: &Child, script: &str) -> Result<bool, Fail> 
     send(rt, process.as_str(), script)
 }
 
-/// Whether a process that is to end says so of node 1 in this line, and ends with status 0.
+/// Whether a process that was asked to end reports node 1 in this line, and ends with status 0.
 fn takes_leave(rt: &HostRuntime, up: &mut Child, line: &str) -> Result<bool, Fail> {
     Ok(says(rt, up, line)? && ends_well(up)?)
 }
 
-/// A copy whose input is nothing runs until a SIGTERM comes, and names a node that has ended.
+/// A copy without input runs until a SIGTERM comes, and names a node that has ended.
 fn end_by_signal(rt: &HostRuntime, dir: &str) -> Result<(), Fail> {
     let mut up = held_keeper(rt, dir)?;
     hold(says_all_are_ready(rt, &mut up)?, "not all nodes are ready")?;
@@ -844,7 +846,7 @@ fn up_ends_its_nodes_by_a_signal(rt: HostRuntime) -> Result<(), Fail> {
     in_folder(&rt, "asked", LINE, |dir| end_by_signal(&rt, dir))
 }
 
-/// A copy that has one signal, and then another, waits no longer for a node that stands still.
+/// A copy that gets a second signal no longer waits for a stopped node.
 fn end_by_two_signals(rt: &HostRuntime, dir: &str) -> Result<(), Fail> {
     let mut up = held_keeper(rt, dir)?;
     hold(says_all_are_ready(rt, &mut up)?, "not all nodes are ready")?;
@@ -863,7 +865,7 @@ fn up_kills_as_it_is_asked_again(rt: HostRuntime) -> Result<(), Fail> {
     in_folder(&rt, "urged", LINE, |dir| end_by_two_signals(&rt, dir))
 }
 
-/// A program that ends with status 1 at once, whichever node it is to be.
+/// A program that ends at once with status 1 as every node.
 #[derive(Drop)]
 struct NoNode;
 
@@ -877,13 +879,13 @@ impl NodeProgram for NoNode {
     }
 }
 
-/// Keeps nodes running in a folder that end at once. What becomes of it.
+/// Keeps nodes that end at once running in a folder. Returns how that ended.
 fn run_up_in_vain(rt: &HostRuntime, dir: &str) -> Result<Result<(), NodeFault>, Fail> {
     let file = network_file(rt.alloc(), dir)?;
     Ok(up::run(rt, &NoNode, file.as_str(), dir))
 }
 
-/// The same in the folder that the environment says, if it says one.
+/// The same in the folder that the environment names, if any.
 fn run_told_up_in_vain(rt: &HostRuntime) -> Result<Result<(), NodeFault>, Fail> {
     match env::var(rt, "TOKENTREE_VAIN") {
         Ok(dir) => run_up_in_vain(rt, dir.as_str()),
@@ -891,13 +893,13 @@ fn run_told_up_in_vain(rt: &HostRuntime) -> Result<Result<(), NodeFault>, Fail> 
     }
 }
 
-/// What a copy of this program does, if the environment says in which folder.
+/// What a copy of this program does if the environment names a folder.
 #[test]
 fn acts_as_up_in_vain(rt: HostRuntime) -> Result<(), Fail> {
     as_told(run_told_up_in_vain(&rt), &Err(NodeFault::NoneStays))
 }
 
-/// What `up` says of a node that fails at its start, and of the third time.
+/// What `up` says of a node that fails at its start, and after the third time.
 const IN_VAIN: [&str; 3] = [
     "node 2 ended with status 1, and is started again",
     "node 2 ended with status 1, and is started again",
@@ -905,7 +907,7 @@ const IN_VAIN: [&str; 3] = [
     and start up again",
 ];
 
-/// A copy starts what ends at once three times, says so, and ends, though its input does not.
+/// A copy starts nodes that end at once three times, says so, and ends, though its input does not.
 fn give_up(rt: &HostRuntime, dir: &str) -> Result<(), Fail> {
     let mut command = copy(rt, "nodes::acts_as_up_in_vain", &[("TOKENTREE_VAIN", dir)])?;
     command.stdin(Stdio::piped()).stdout(Stdio::piped());
@@ -922,12 +924,12 @@ fn up_gives_up_what_ends_at_once(rt: HostRuntime) -> Result<(), Fail> {
     in_folder(&rt, "vain", LINE, |dir| give_up(&rt, dir))
 }
 
-/// Whether the next line is that a node is ready.
+/// Whether the next line says that a node is ready.
 fn is_ready_next<R: Read>(alloc: Global, reader: &mut R) -> Result<bool, Fail> {
     Ok(read_line(alloc, reader)?.as_str().ends_with(" ready"))
 }
 
-/// Reads lines, at most 100. Whether all three nodes are ready.
+/// Reads lines, at most 100. Returns whether all three nodes are ready.
 fn says_all_are_ready(rt: &HostRuntime, child: &mut Child) -> Result<bool, Fail> {
     let mut ready = 0u32;
     if let Some(output) = &mut child.stdout {
@@ -951,7 +953,7 @@ fn kill_when_ready(rt: &HostRuntime, up: &mut Child) -> Result<(), Fail> {
     Ok(())
 }
 
-/// The first of three nodes that does not fall silent.
+/// The first of three nodes that does not stop listening.
 fn first_loud(rt: &HostRuntime, dir: &str) -> Result<Option<u16>, Fail> {
     for id in 0..3u16 {
         if !falls_silent(rt, dir, id)? {
@@ -973,7 +975,7 @@ fn nodes_end_where_up_is_killed(rt: HostRuntime) -> Result<(), Fail> {
     in_folder(&rt, "killed", LINE, |dir| end_by_kill(&rt, dir))
 }
 
-/// Whether why a node does not run is reported so.
+/// Whether this fault of a node has this line.
 fn is_fault_line(alloc: Global, fault: NodeFault, want: &str) -> Result<bool, AllocError> {
     let refusal = Refusal {
         file: "a.toml",
@@ -984,7 +986,7 @@ fn is_fault_line(alloc: Global, fault: NodeFault, want: &str) -> Result<bool, Al
     Ok(format!(in alloc; "{refusal}")?.as_str() == want)
 }
 
-/// Why a node does not run, and how that is reported.
+/// Faults of nodes, and their lines.
 const FAULTS: [(NodeFault, &str); 9] = [
     (
         NodeFault::Displaced,
@@ -1024,7 +1026,7 @@ const FAULTS: [(NodeFault, &str); 9] = [
     ),
 ];
 
-/// The place of the first of these that is not reported so.
+/// The place of the first of these with another line.
 fn first_untold(alloc: Global) -> Result<Option<usize>, AllocError> {
     for (place, (fault, want)) in FAULTS.iter().enumerate() {
         if !is_fault_line(alloc, *fault, *want)? {
@@ -1039,17 +1041,17 @@ fn faults_are_told_as_written(rt: HostRuntime) -> Result<(), Fail> {
     is_told(&first_untold(rt.alloc())?, &None)
 }
 
-/// Whether a line is spelled so.
+/// Whether a line is spelled like this.
 fn is_spelled<D: Display + Drop>(alloc: Global, line: D, want: &str) -> Result<bool, AllocError> {
     Ok(format!(in alloc; "{line}")?.as_str() == want)
 }
 
-/// What is reported if links hold one frame.
+/// The report if links hold one frame.
 const ONE: &str =
     "tokentree: capacity 1 is less than 64: 36 frames may be under way on a link; give the \
     network capacity 64 or more";
 
-/// What is said of a node that was killed.
+/// The line for a node that was killed.
 const KILLED: &str = "node 2 was ended by signal 9, and is started again";
 
 #[test]

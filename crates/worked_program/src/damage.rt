@@ -1,4 +1,4 @@
-//! Command lines that do damage, and the statuses that they end with.
+//! Command lines that damage files, and their statuses.
 use crate::words::{TWO_NODES, first_other_beside};
 use command_line::Runtime;
 use std::fs;
@@ -41,8 +41,8 @@ const ROWS: [(&str, u8); 29] = [
 /// The file that the command lines name.
 const FILES: [(&str, &str); 1] = [("net.toml", TWO_NODES)];
 
-/// The place of the first command line that ends with another status, and how many bytes the state
-/// file has after them all.
+/// The place of the first command line with another status, and how many bytes the state file has
+/// after them all.
 fn does_damage<R: Runtime>(rt: &R) -> Result<(Option<usize>, u64), Fail> {
     let other = first_other_beside(rt, &FILES, &ROWS)?;
     let length = fs::metadata(rt, "one.state")?.len();

@@ -1,4 +1,4 @@
-//! Command lines of `draw`, and the statuses that they end with.
+//! Command lines of `draw`, and their statuses.
 use crate::words::{TWO_NODES, first_other_beside};
 use std::test::Fail;
 use test_parts::as_told;

@@ -1,4 +1,4 @@
-//! Command lines of `tokentree`: the statuses that they end with, and what they print.
+//! Command lines of `tokentree`: their statuses, and what they print.
 //!
 //! Nothing but tests stands here, since a crate's tests prove all of that crate once more.
 #![tactic(auto)]

@@ -6,11 +6,11 @@ use std::alloc::AllocError;
 use std::test::Fail;
 use test_parts::is_told;
 
-/// What stands in front of a number and after it; the most that the number may be, and one more;
-/// and the status of the line with the most.
+/// The words in front of a number and after it; the greatest allowed number, and one more; and the
+/// status of the line with the greatest.
 type Row = (&'static str, &'static str, &'static str, &'static str, u8);
 
-/// No file of these lines is there: so if the number is taken the status is 1, or 0 if the
+/// The files of these lines do not exist: so the status of an accepted number is 1, or 0 if the
 /// line prints no junk.
 const NUMBERS: [Row; 19] = [
     ("draw absent.toml - --columns ", "", "1200", "1201", 1),
@@ -94,7 +94,7 @@ const NUMBERS: [Row; 19] = [
     ("threads absent.toml ", "", "1000000", "1000001", 1),
 ];
 
-/// Spellings that are no number's.
+/// Spellings that are no numbers.
 const SPELLINGS: [&str; 4] = ["+1", "01", "-1", "1.0"];
 
 /// Whether a row's command line with this number ends with this status.
@@ -103,7 +103,7 @@ fn number_ends<R: Runtime>(rt: &R, row: &Row, number: &str, want: u8) -> Result<
     ends_with(rt, line.as_str(), want)
 }
 
-/// The first of those spellings that a row's command line does not refuse.
+/// The first of those spellings that a row's command line accepts.
 fn first_taken<R: Runtime>(rt: &R, row: &Row) -> Result<Option<&'static str>, AllocError> {
     for spelling in SPELLINGS {
         if !number_ends(rt, row, spelling, 2)? {
@@ -113,7 +113,7 @@ fn first_taken<R: Runtime>(rt: &R, row: &Row) -> Result<Option<&'static str>, Al
     Ok(None)
 }
 
-/// The first number with which a row's command line ends otherwise than it should.
+/// The first number with which a row's command line has a wrong status.
 fn first_other_number<R: Runtime>(rt: &R, row: &Row) -> Result<Option<&'static str>, AllocError> {
     let (_, _, most, above, status) = *row;
     let taken = first_taken(rt, row)?;
@@ -129,8 +129,7 @@ fn first_other_number<R: Runtime>(rt: &R, row: &Row) -> Result<Option<&'static s
     Ok(None)
 }
 
-/// The place of the first row with a number with which its command line ends otherwise, and that
-/// number.
+/// The place of the first row whose command line has a wrong status, and the number.
 fn first_other_row<R: Runtime>(
     rt: &R,
     rows: &[Row],
@@ -148,8 +147,8 @@ fn a_number_has_one_spelling_and_a_range(rt: HostRuntime) -> Result<(), Fail> {
     is_told(&first_other_row(&rt, &NUMBERS)?, &None)
 }
 
-/// Command lines whose number is refused: those of numbers that are not taken without a file, and
-/// those of a least number, or of a second one.
+/// Command lines with an invalid number: those whose numbers are read only with a file, and those
+/// with a least number, or a second one.
 const REFUSED: [(&str, u8); 14] = [
     ("tokentree lock absent +1", 2),
     ("tokentree lock absent 01", 2),

@@ -1,4 +1,4 @@
-//! A pipe that is named as a network file.
+//! A pipe in place of a network file.
 use command_line::{Runtime, run_words};
 use std::alloc::{AllocError, Global};
 use std::process::{Command, ExitCode};
@@ -13,7 +13,7 @@ fn pipe_maker(alloc: Global, path: &str) -> Result<Command, AllocError> {
     Ok(command)
 }
 
-/// Makes a pipe. Whether a node is refused whose network file it is, and makes no folder.
+/// Makes a pipe. Returns whether a node with this network file fails, and makes no folder.
 fn is_no_file<R: Runtime>(rt: &R, pipe: &str) -> Result<[bool; 3], Fail> {
     let is_made = pipe_maker(rt.alloc(), pipe)?.status(rt)?.success();
     let words = ["tokentree", "node", pipe, "0", "tokentree-pipe-nodes"];
@@ -30,7 +30,7 @@ fn pipe_is_no_file<R: Runtime>(rt: &R) -> Result<[bool; 3], Fail> {
     is_no_file(rt, pipe.as_str())
 }
 
-/// If a pipe were waited for, nobody would ever write to it.
+/// If a command waited for the pipe, it would wait for ever.
 #[test]
 fn a_pipe_is_no_network_file(rt: HostRuntime) -> Result<(), Fail> {
     as_told(pipe_is_no_file(&rt), &[true; 3])

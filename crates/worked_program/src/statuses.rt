@@ -1,4 +1,4 @@
-//! Command lines, and the statuses that they end with.
+//! Command lines, and their statuses.
 use crate::words::{TWO_NODES, ends_with, first_other_beside};
 use command_line::Runtime;
 use program_ends::FaultLine;
@@ -117,7 +117,7 @@ fn ends_with_the_status(rt: HostRuntime) -> Result<(), Fail> {
     as_told(first_other_beside(&rt, &FILES, &ROWS), &None)
 }
 
-/// A network file that is refused, and its fault line.
+/// An invalid network file, and its fault line.
 const REFUSED: [(&str, &str); 12] = [
     ("nodes =", "tokentree: network NotToml"),
     ("nodes = 2", "tokentree: network Missing"),
@@ -163,7 +163,7 @@ const REFUSED: [(&str, &str); 12] = [
     ),
 ];
 
-/// The fault line of `bound` on a file; nothing if there is none.
+/// The fault line of `bound` on a file; empty if there is none.
 fn fault_line<R: Files + Print + AllocGlobal>(rt: &R, path: &str) -> Result<String, AllocError> {
     match bound::run(rt, path, false, None) {
         Ok(_) => Ok(String::new(rt.alloc())),
@@ -180,14 +180,14 @@ fn is_refused_so<R: Files + Print + AllocGlobal>(
     Ok(fault_line(rt, path)?.as_str() == want)
 }
 
-/// Whether a network file of this text ends the command with status 1, and has that fault line.
+/// Whether a network file of this text ends the command with status 1 and this fault line.
 fn is_refused<R: Runtime>(rt: &R, text: &str, want: &str) -> Result<bool, Fail> {
     fs::write(rt, "refused.toml", text)?;
     let has_status = ends_with(rt, "tokentree bound refused.toml", 1)?;
     Ok(has_status && is_refused_so(rt, "refused.toml", want)?)
 }
 
-/// The place of the first row whose file is not refused so.
+/// The place of the first row whose file has another fault line.
 fn first_other_refusal<R: Runtime>(rt: &R, rows: &[(&str, &str)]) -> Result<Option<usize>, Fail> {
     for (at, (text, want)) in rows.iter().enumerate() {
         if !is_refused(rt, text, want)? {
@@ -197,15 +197,15 @@ fn first_other_refusal<R: Runtime>(rt: &R, rows: &[(&str, &str)]) -> Result<Opti
     Ok(None)
 }
 
-/// Tries those files, one after the other in the same place.
+/// Tries those files, one after the other at the same path.
 fn tries_refusals<R: Runtime>(rt: &R) -> Result<Option<usize>, Fail> {
     let other = first_other_refusal(rt, &REFUSED)?;
     fs::remove_file(rt, "refused.toml")?;
     Ok(other)
 }
 
-/// No file makes `read` want more memory than there is, so `network Memory` is no row; its text is
-/// under a contract.
+/// No file makes `read` need more memory than there is, so `network Memory` is no row; a contract
+/// covers its text.
 #[test]
 fn tells_each_refusal_of_a_network_by_its_name(rt: HostRuntime) -> Result<(), Fail> {
     as_told(tries_refusals(&rt), &None)

@@ -1,4 +1,4 @@
-//! Command lines as rows give them.
+//! Command lines as rows.
 use command_line::{Runtime, run_words};
 use std::alloc::AllocError;
 use std::process::ExitCode;
@@ -9,7 +9,7 @@ use std::{fs, io};
 /// The file of two nodes whose links hold one item.
 pub const TWO_NODES: &str = "nodes = 2\nroot = 0\ncapacity = 1\nlease = 0\nedges = [[0, 1]]\n";
 
-/// Does what a command line says, whose words stand between single spaces, and answers the status.
+/// Does what a command line says, with single spaces between its words, and returns the status.
 pub fn status_of<R: Runtime>(rt: &R, line: &str) -> Result<ExitCode, AllocError> {
     let words: Vec<&str> = line.split(' ').collect(rt.alloc())?;
     Ok(run_words(rt, words.as_slice(), false))
@@ -20,7 +20,7 @@ pub fn ends_with<R: Runtime>(rt: &R, line: &str, want: u8) -> Result<bool, Alloc
     Ok(status_of(rt, line)? == ExitCode::from(want))
 }
 
-/// The place of the first command line that ends with another status.
+/// The place of the first command line with another status.
 pub fn first_other_status<R: Runtime>(
     rt: &R,
     rows: &[(&str, u8)],
@@ -49,7 +49,7 @@ fn remove_files<R: Files>(rt: &R, files: &[(&str, &str)]) -> io::Result<()> {
     Ok(())
 }
 
-/// The place of the first command line that ends with another status while these files are there.
+/// The place of the first command line with another status while these files are there.
 pub fn first_other_beside<R: Runtime>(
     rt: &R,
     files: &[(&str, &str)],

@@ -12,7 +12,7 @@ const ALONE: Payload = Payload {
     ring: 0,
 };
 
-/// What one with the parent 0 says.
+/// What a node with the parent 0 says.
 const CHILD: Payload = Payload {
     distance: 1,
     parent: Some(0),
@@ -96,7 +96,7 @@ fn written(alloc: Global) -> Result<Vec<u8>, Fail> {
     Ok(bytes)
 }
 
-/// The place of the first entry whose bytes are not those.
+/// The place of the first entry with other bytes.
 fn first_unlike(alloc: Global) -> Result<Option<usize>, Fail> {
     let bytes = written(alloc)?;
     let mut rest = bytes.as_slice();
@@ -114,8 +114,8 @@ fn entries_as_bytes(rt: HostRuntime) -> Result<(), Fail> {
     as_told(first_unlike(rt.alloc()), &None)
 }
 
-/// How many entries of the record are read, one after the other and each like its own, from some
-/// bytes; how many bytes are left; and why no more was read.
+/// How many entries of the record are read right, one after the other, from some bytes; how many
+/// bytes are left; and why no more was read.
 fn read(bytes: &[u8]) -> (usize, usize, Option<Unread>) {
     let mut reader = EntryReader::new();
     let mut rest = bytes;
@@ -134,7 +134,7 @@ fn read(bytes: &[u8]) -> (usize, usize, Option<Unread>) {
 /// Where the bytes of each entry end.
 const ENDS: [usize; 7] = [8, 22, 32, 36, 40, 46, 50];
 
-/// What is read of the record where it is cut at a place.
+/// What is read of the record if it is cut at a place.
 fn wanted(cut: usize) -> (usize, usize, Option<Unread>) {
     let whole = ENDS.iter().filter(|end| **end <= cut).count();
     let last_end = ENDS.iter().copied().filter(|end| *end <= cut).max();
@@ -142,7 +142,7 @@ fn wanted(cut: usize) -> (usize, usize, Option<Unread>) {
     (whole, left, Some(Unread::Short))
 }
 
-/// The first place where the record is cut and something else is read.
+/// The first cut after which something else is read.
 fn first_other_cut(alloc: Global) -> Result<Option<usize>, Fail> {
     let bytes = written(alloc)?;
     for cut in 0..51 {
@@ -158,10 +158,10 @@ fn cut_at_every_place(rt: HostRuntime) -> Result<(), Fail> {
     as_told(first_other_cut(rt.alloc()), &None)
 }
 
-/// Bytes that no entry begins with, and why.
+/// Bytes that begin no entry, and why.
 const UNREAD: [(&[u8], Unread); 10] = [
     (&[], Unread::Short),
-    // zeros, as of a file whose end was never written; no kind
+    // zeros, as in a file whose end was never written: no kind
     (&[0, 0, 0, 0], Unread::Invalid),
     (&[18, 0, 0, 237], Unread::Invalid),
     // another check
@@ -172,7 +172,7 @@ const UNREAD: [(&[u8], Unread); 10] = [
     (&[11, 0, 129, 0, 115], Unread::Invalid),
     // a ticket of 65536, which is 4 * 128 * 128
     (&[12, 0, 128, 128, 4, 239], Unread::Invalid),
-    // a loan that was served twice over
+    // a loan whose mark of service is not 0 or 1
     (&[5, 0, 0, 0, 2, 248], Unread::Invalid),
     // the check is missing
     (&[7, 208, 15], Unread::Short),

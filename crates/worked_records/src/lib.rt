@@ -1,8 +1,8 @@
-//! Worked rows of records: entries as bytes, cut at every place, and with bytes changed, and the order
-//! of the steps of many, with every expected value computed by hand.
+//! Worked rows of records: entries as bytes, cut at every place, and with bytes changed; and the
+//! order of the steps of many nodes. Every expected value was computed by hand.
 //!
-//! Nothing but tests stands here, of `flight_records` and of `record_order`. They are not in those
-//! crates because a crate's tests prove all of that crate once more.
+//! It has only tests, of `flight_records` and of `record_order`. They have a crate of their own,
+//! since the tests of a crate prove all of that crate once more.
 #![tactic(auto)]
 
 #[cfg(test)]

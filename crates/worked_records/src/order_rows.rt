@@ -3,7 +3,7 @@ use record_order::{Need, Step, next_ready};
 use std::test::Fail;
 use test_parts::as_told;
 
-/// A step: its instant, and of which node how many steps come first, if any need to.
+/// A step: its instant, and which node must have done how many steps before it, if any.
 type Row = (u64, Option<(usize, usize)>);
 
 /// The next step of a record.
@@ -15,8 +15,8 @@ fn head(record: &[Row], read: usize) -> Option<Step> {
     })
 }
 
-/// The place of the first node in `wanted` that is not the one that is chosen; their number, if one
-/// more is chosen after them.
+/// The place of the first node in `wanted` that is not chosen; their number, if one more is chosen
+/// after them.
 fn first_unlike(records: &[&[Row]; 3], wanted: &[usize]) -> Option<usize> {
     let mut read = [0usize; 3];
     for (at, node) in wanted.iter().enumerate() {
@@ -30,7 +30,7 @@ fn first_unlike(records: &[&[Row]; 3], wanted: &[usize]) -> Option<usize> {
     chosen(records, &read).map(|_| wanted.len())
 }
 
-/// The node that is chosen where so many steps of each record were read.
+/// The node that is chosen after this many steps of each record.
 fn chosen(records: &[&[Row]; 3], read: &[usize; 3]) -> Option<usize> {
     let [first, second, third] = *records;
     let heads = [
@@ -41,7 +41,7 @@ fn chosen(records: &[&[Row]; 3], read: &[usize; 3]) -> Option<usize> {
     next_ready(&heads, read)
 }
 
-/// Node 0 sends at 9 and ticks at 20. Node 1, whose clock is late, takes that frame at 5, and sends
+/// Node 0 sends at 9 and ticks at 20. Node 1, whose clock is slow, takes that frame at 5 and sends
 /// at 6; node 2 takes that at 1.
 const LATE: [&[Row]; 3] = [
     &[(9, None), (20, None)],
@@ -54,8 +54,7 @@ fn takes_come_after_their_sends(_rt: HostRuntime) -> Result<(), Fail> {
     as_told(Ok(first_unlike(&LATE, &[0, 1, 1, 2, 0])), &None)
 }
 
-/// Where all are ready, the order is that of the instants, and of those of one instant that of the
-/// nodes.
+/// If all are ready, the order is by instants, and at one instant by nodes.
 const FREE: [&[Row]; 3] = [
     &[(3, None), (7, None)],
     &[(2, None), (7, None)],
@@ -67,7 +66,7 @@ fn else_by_instants(_rt: HostRuntime) -> Result<(), Fail> {
     as_told(Ok(first_unlike(&FREE, &[1, 0, 0, 1, 2])), &None)
 }
 
-/// Each of two nodes takes what the other sends after its take: no order.
+/// Two nodes that each take what the other sends after its own take: there is no order.
 const KNOT: [&[Row]; 3] = [
     &[(1, Some((1, 2))), (2, None)],
     &[(1, Some((0, 2))), (2, None)],

@@ -3,8 +3,7 @@ use bfs_tree::recompute;
 use std::test::Fail;
 use test_parts::is_told;
 
-/// Whether a node is the root, what it has as copies of its neighbours 1 and 2, and what its step
-/// gives.
+/// Whether a node is the root, its copies from its neighbours 1 and 2, and the result of its step.
 const STEPS: [(bool, [u16; 2], (u16, Option<u16>)); 4] = [
     (false, [1, 1], (2, Some(1))),
     (false, [4, 4], (4, Some(1))),
@@ -12,7 +11,7 @@ const STEPS: [(bool, [u16; 2], (u16, Option<u16>)); 4] = [
     (true, [1, 1], (0, None)),
 ];
 
-/// The step of one of four nodes, whose neighbours are 1 and 2, from these copies.
+/// The step of one of four nodes with neighbours 1 and 2, from these copies.
 fn step(is_root: bool, copies: [u16; 2]) -> (u16, Option<u16>) {
     recompute(
         is_root,
@@ -22,7 +21,7 @@ fn step(is_root: bool, copies: [u16; 2]) -> (u16, Option<u16>) {
     )
 }
 
-/// The place of the first step that does not give what is expected.
+/// The place of the first step with another result.
 fn first_unlike(steps: &[(bool, [u16; 2], (u16, Option<u16>))]) -> Option<usize> {
     for (at, (is_root, copies, want)) in steps.iter().enumerate() {
         if step(*is_root, *copies) != *want {

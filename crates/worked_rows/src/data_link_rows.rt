@@ -21,7 +21,7 @@ fn take(link: &mut Link, to: &mut Port, present: Payload) {
     }
 }
 
-/// What a root says that has its true distance.
+/// What a root with its true distance says.
 const ROOT: Payload = Payload {
     distance: 0,
     parent: None,
@@ -41,7 +41,7 @@ fn new_port(alloc: Global) -> Result<Port, NetFault> {
     Ok(Port::new(&net))
 }
 
-/// In each round the root sends twice over `out`, and then the child over `back`; each frame is
+/// In each round the root sends twice over `out`, then the child twice over `back`; each frame is
 /// taken at once.
 fn go_round(near: &mut Port, far: &mut Port, out: &mut Link, back: &mut Link, rounds: u32) {
     for _ in 0..rounds {
@@ -56,7 +56,7 @@ fn go_round(near: &mut Port, far: &mut Port, out: &mut Link, back: &mut Link, ro
     }
 }
 
-/// A port's own number, the last one that it took, and its copy.
+/// A port's own number, the last number that it took, and its copy.
 type Numbers = (u16, u16, Payload);
 
 fn numbers(port: &Port) -> Numbers {
@@ -77,7 +77,7 @@ fn have_behind_rounds(
     Ok([first, (numbers(near), numbers(far))])
 }
 
-/// What two new ports have then.
+/// The same for two new ports.
 fn behind_rounds(alloc: Global) -> Result<[(Numbers, Numbers); 2], Fail> {
     let mut near = new_port(alloc)?;
     let mut far = new_port(alloc)?;
@@ -85,7 +85,7 @@ fn behind_rounds(alloc: Global) -> Result<[(Numbers, Numbers); 2], Fail> {
     Ok(have_behind_rounds(alloc, &mut near, &mut far, &mut out)?)
 }
 
-/// What they are to have.
+/// What they should have.
 const BEHIND_ROUNDS: [(Numbers, Numbers); 2] = [
     ((4, 4, CHILD), (4, 3, ROOT)),
     ((2, 2, CHILD), (2, 1, ROOT)),
@@ -110,7 +110,7 @@ fn write(port: &mut Port, payload: Payload) -> Result<(), OutOfRange> {
     port.set_copy(port.staged())
 }
 
-/// Whether each write is refused that has one field just out of range.
+/// Whether each write with one field just out of range is refused.
 fn refuses_what_does_not_fit(port: &mut Port, payload: Payload) -> bool {
     let ring = Payload { ring: 7, ..payload };
     let distance = Payload {
@@ -128,14 +128,14 @@ fn refuses_what_does_not_fit(port: &mut Port, payload: Payload) -> bool {
         && port.set_copy(parent) == Err(OutOfRange)
 }
 
-/// Whether a port is as new after a reset.
+/// Whether a port is like new after a reset.
 fn is_reset(port: &mut Port, new: &Frame) -> bool {
     port.reset();
     port.frame() == *new
 }
 
-/// What a new port answers to a write that fits, whether it refuses those that do not, what it
-/// sends and has as its copy then, and whether it is as new after a reset.
+/// What a new port answers to a write that fits, whether it refuses those that do not, its frame
+/// and copy then, and whether it is like new after a reset.
 type Written = (Result<(), OutOfRange>, bool, (Frame, Payload), bool);
 
 fn written(alloc: Global) -> Result<Written, NetFault> {

@@ -3,7 +3,7 @@ use euler_ring::{TreeNeighbours, tree_neighbours};
 use std::test::Fail;
 use test_parts::is_told;
 
-/// Whether the tree neighbour at a place is this one, with these after it and before it.
+/// Whether the tree neighbour at a place is this one, with these next and previous ones.
 fn stands_between(tree: &TreeNeighbours, at: usize, id: u16, next: u16, source: u16) -> bool {
     at < tree.len()
         && tree.get(at) == id
@@ -12,8 +12,8 @@ fn stands_between(tree: &TreeNeighbours, at: usize, id: u16, next: u16, source: 
         && tree.source_for(id) == source
 }
 
-/// The place of the first tree neighbour that is not as expected: a row has its number, the one after
-/// it and the one before it.
+/// The place of the first tree neighbour that is not as expected: a row has its number, the next
+/// one and the previous one.
 fn first_unlike(tree: &TreeNeighbours, rows: &[(u16, u16, u16)]) -> Option<usize> {
     for (at, (id, next, source)) in rows.iter().enumerate() {
         if !stands_between(tree, at, *id, *next, *source) {
@@ -23,8 +23,8 @@ fn first_unlike(tree: &TreeNeighbours, rows: &[(u16, u16, u16)]) -> Option<usize
     None
 }
 
-/// How many there are, whether there is none, and from which the special machine comes in, at the
-/// root and at another node.
+/// How many there are, whether there is none, and where the special machine comes in, at the root
+/// and at another node.
 fn ends(tree: &TreeNeighbours) -> (usize, bool, Option<u16>, Option<u16>) {
     (
         tree.len(),
@@ -34,8 +34,8 @@ fn ends(tree: &TreeNeighbours) -> (usize, bool, Option<u16>, Option<u16>) {
     )
 }
 
-/// The tree neighbours of node 6 with the parent 4: nodes 1 and 9 name it as theirs, and 2 names
-/// nobody.
+/// The tree neighbours of node 6 with the parent 4: nodes 1 and 9 name it as their parent, and 2
+/// names none.
 fn of_six() -> TreeNeighbours {
     tree_neighbours(
         Some(4),
@@ -45,7 +45,7 @@ fn of_six() -> TreeNeighbours {
     )
 }
 
-/// They, in their order.
+/// The same in order.
 const ROUND_SIX: [(u16, u16, u16); 3] = [(1, 4, 9), (4, 9, 1), (9, 1, 4)];
 
 #[test]
@@ -58,12 +58,12 @@ fn goes_round_three() -> Result<(), Fail> {
     is_told(&first_unlike(&tree, &ROUND_SIX), &None)
 }
 
-/// The tree neighbours of node 5 with the parent 0, which node 63 names as its own.
+/// The tree neighbours of node 5 with the parent 0; node 63 names it as its parent.
 fn of_five() -> TreeNeighbours {
     tree_neighbours(Some(0), 5, &[0, 63], |_| Some(5))
 }
 
-/// They, in their order.
+/// The same in order.
 const ROUND_FIVE: [(u16, u16, u16); 2] = [(0, 63, 63), (63, 0, 0)];
 
 #[test]
@@ -71,7 +71,7 @@ fn least_and_greatest_id_follow_each_other() -> Result<(), Fail> {
     is_told(&first_unlike(&of_five(), &ROUND_FIVE), &None)
 }
 
-/// The tree neighbours of a node whose parent is no neighbour, and which none names.
+/// The tree neighbours of a node whose parent is no neighbour, and that nobody names.
 fn of_a_stranger() -> TreeNeighbours {
     tree_neighbours(Some(9), 5, &[0, 63], |_| None)
 }
@@ -90,7 +90,7 @@ fn parent_in_square(node: u16) -> Option<u16> {
     }
 }
 
-/// The tree neighbours of a node of that square; none of a node that is none of it.
+/// The tree neighbours of a node of that square; none for any other node.
 fn in_square(node: u16) -> Option<TreeNeighbours> {
     let neighbours = match node {
         0 | 3 => [1, 2],
@@ -100,7 +100,7 @@ fn in_square(node: u16) -> Option<TreeNeighbours> {
     Some(tree_neighbours(parent_in_square(node), node, &neighbours, parent_in_square))
 }
 
-/// Where the tour goes on that came to a node from this one; none if no tour does.
+/// Where a tour that came from one node to another goes on; none if no tour does.
 fn onward(from: u16, here: u16) -> Option<u16> {
     let tree = in_square(here)?;
     if tree.contains(from) {
@@ -110,8 +110,8 @@ fn onward(from: u16, here: u16) -> Option<u16> {
     }
 }
 
-/// Where the tour has come from and where it is, stop by stop, when it begins at node 0 as if from
-/// node 1.
+/// The stops of the tour, each with the node that it comes from, when it begins at node 0 as if
+/// from node 1.
 const TOUR: [(u16, u16); 6] = [(0, 2), (2, 0), (0, 1), (1, 3), (3, 1), (1, 0)];
 
 /// The place of the first stop that the tour does not come to.

@@ -1,4 +1,4 @@
-//! Frame lines and hellos, at the ends of their ranges, cut at every place, and with memory
+//! Frame lines and hellos: at the ends of their ranges, cut at every place, and with memory
 //! refused.
 use frame_codec::{LineReader, decode, decode_hello, encode, encode_hello};
 use linked_list_allocator::LocalHeap;
@@ -51,7 +51,8 @@ fn is_line_of(frame: &Frame, line: &[u8]) -> bool {
     }
 }
 
-/// Whether a line is read as this frame and the frame written as this line, or it is read as none.
+/// Whether a line is read as this frame and the frame is written as this line, or the line is read
+/// as none.
 fn is_read_as(net: &Net, line: &[u8], want: Option<Frame>) -> bool {
     match want {
         Some(frame) => decode(line, net) == want && is_line_of(&frame, line),
@@ -59,7 +60,7 @@ fn is_read_as(net: &Net, line: &[u8], want: Option<Frame>) -> bool {
     }
 }
 
-/// The place of the first line for which that is not so.
+/// The place of the first line for which that is wrong.
 fn first_unlike(
     net: Result<Net, Fail>,
     rows: &[(&[u8], Option<Frame>)],
@@ -84,7 +85,7 @@ fn lines_of_three_nodes(rt: HostRuntime) -> Result<(), Fail> {
     as_told(first_unlike(line_of_three(rt.alloc()), &LINES), &None)
 }
 
-/// Lines that are none of three nodes.
+/// Invalid lines for three nodes.
 const NOISE: [(&[u8], Option<Frame>); 10] = [
     (b"F0000000000010000000d", None),
     (b"F0000000000010000000C", None),
@@ -114,7 +115,7 @@ const GREATEST: Frame = Frame {
     },
 };
 
-/// Its line, and one with a greater number.
+/// Its line, and a line with a greater number.
 const GREATEST_LINES: [(&[u8], Option<Frame>); 2] = [
     (b"F200220020040003f017a", Some(GREATEST)),
     (b"F200320020040003f017a", None),
@@ -133,8 +134,8 @@ fn is_hello_of(id: u16, line: &[u8]) -> bool {
     }
 }
 
-/// Whether a line is read as the hello of this node and its hello written as this line, or it is
-/// read as none.
+/// Whether a line is read as the hello of this node and its hello is written as this line, or the
+/// line is read as none.
 fn is_hello_as(net: &Net, line: &[u8], want: Option<u16>) -> bool {
     match want {
         Some(id) => decode_hello(line, net) == want && is_hello_of(id, line),
@@ -142,7 +143,7 @@ fn is_hello_as(net: &Net, line: &[u8], want: Option<u16>) -> bool {
     }
 }
 
-/// Lines, and whose hello each of them is.
+/// Lines, and the nodes whose hellos they are.
 const HELLOS: [(&[u8], Option<u16>); 5] = [
     (b"H0002", Some(2)),
     (b"H0003", None),
@@ -151,7 +152,7 @@ const HELLOS: [(&[u8], Option<u16>); 5] = [
     (b"", None),
 ];
 
-/// The place of the first line for which that is not so among three nodes.
+/// The place of the first line for which that is wrong among three nodes.
 fn first_unlike_hello(alloc: Global, rows: &[(&[u8], Option<u16>)]) -> Result<Option<usize>, Fail> {
     let net = line_of_three(alloc)?;
     for (at, (line, want)) in rows.iter().enumerate() {
@@ -167,11 +168,11 @@ fn hellos(rt: HostRuntime) -> Result<(), Fail> {
     as_told(first_unlike_hello(rt.alloc(), &HELLOS), &None)
 }
 
-/// A line of junk that a good line joins, and then a good line.
+/// A line of junk that runs into a good line, and then a good line.
 const STREAM: &[u8] = b"xyzF0000000000010000000c\nF0000000000010000000c\n";
 
-/// Feeds a reader. Rows need nothing of what its contract says, and if it is called from here
-/// the prover need not carry that along.
+/// Feeds a reader. Rows need nothing of the contract of this call; called from here, it does not
+/// burden the prover.
 fn feed<A: Allocator>(
     reader: &mut LineReader,
     piece: &[u8],
@@ -181,12 +182,12 @@ fn feed<A: Allocator>(
     reader.feed(piece, net, frames)
 }
 
-/// Whether these are one frame, the first.
+/// Whether these are just the first frame.
 fn is_first_alone(frames: &[Frame]) -> bool {
     frames == [FIRST].as_slice()
 }
 
-/// Feeds a new reader two pieces; the half line that the first one leaves may be dropped.
+/// Feeds two pieces to a new reader; the half line that the first piece leaves may be dropped.
 fn read_pieces(
     net: &Net,
     front: &[u8],
@@ -202,7 +203,7 @@ fn read_pieces(
     feed(&mut reader, back, net, frames)
 }
 
-/// Whether that gives the first frame alone.
+/// Whether that gives just the first frame.
 fn gives_the_first(
     alloc: Global,
     net: &Net,
@@ -221,7 +222,7 @@ fn is_read_cut(alloc: Global, net: &Net, cut: usize) -> Result<bool, AllocError>
     gives_the_first(alloc, net, front, back, false)
 }
 
-/// The first cut of the stream after which it is not read as one frame.
+/// The first cut of the stream after which it does not give one frame.
 fn first_wrong_cut(alloc: Global) -> Result<Option<usize>, Fail> {
     let net = line_of_three(alloc)?;
     for cut in 0..=STREAM.len() {
@@ -237,8 +238,8 @@ fn every_cut_gives_the_same_frame(rt: HostRuntime) -> Result<(), Fail> {
     as_told(first_wrong_cut(rt.alloc()), &None)
 }
 
-/// The first byte of the stream that ends a frame and is not its last one, or its last one if
-/// that ends none.
+/// The first byte of the stream that ends a frame and is not the last byte, or the last byte if it
+/// ends none.
 fn first_wrong_byte(alloc: Global) -> Result<Option<usize>, Fail> {
     let net = line_of_three(alloc)?;
     let mut reader = LineReader::new();
@@ -275,36 +276,36 @@ fn a_dropped_half_line_spoils_nothing(rt: HostRuntime) -> Result<(), Fail> {
 /// A line and a half.
 const LINE_AND_HALF: &[u8] = b"F0000000000010000000c\nF00000000";
 
-/// What ends the half line, and four lines more: more frames than there is room for after one.
+/// The end of the half line, and four more lines: more frames than there is room for after one.
 const REST: &[u8] = b"00010000000c\nF000400030000ffff0000\nF000400030000ffff0000\n\
     F000400030000ffff0000\nF000400030000ffff0000\n";
 
 /// The frames of both.
 const ALL_FRAMES: &[Frame] = &[FIRST, FIRST, SECOND, SECOND, SECOND, SECOND];
 
-/// What a reader did whose frames go to a heap.
+/// What a reader with frames on a heap did.
 #[derive(Clone, Copy)]
 enum Outcome {
-    /// The first piece was refused, and whether nothing was read of it.
+    /// The first piece was refused; whether nothing was read of it.
     FirstRefused(bool),
-    /// The second piece was refused, and whether nothing was read of it: the half line before it is
+    /// The second piece was refused; whether nothing was read of it: the half line before it is
     /// still there.
     SecondRefused(bool),
-    /// Both were read, and whether as what they are.
+    /// Both were read; whether right.
     Read(bool),
 }
 
 /// What ends the half line.
 const END: &[u8] = b"00010000000c\n";
 
-/// Whether a half line that a reader holds is still there: with this end it is the first frame.
+/// Whether a half line that a reader holds is still there: its end completes the first frame.
 fn goes_on(alloc: Global, reader: &mut LineReader, net: &Net) -> Result<bool, AllocError> {
     let mut ample = Vec::new(alloc);
     feed(reader, END, net, &mut ample)?;
     Ok(is_first_alone(&ample))
 }
 
-/// Feeds a new reader a line and a half, and then `REST`.
+/// Feeds a line and a half to a new reader, and then `REST`.
 fn read_into<A: Allocator>(
     alloc: Global,
     net: &Net,
@@ -333,8 +334,8 @@ fn read_within(alloc: Global, bytes: usize, net: &Net) -> Result<Outcome, AllocE
     read_over(alloc, &heap, net)
 }
 
-/// How many heaps, each 16 bytes larger than the one before it, refuse the second piece until one
-/// has room for both; none if one of them reads what it should not, or all refuse.
+/// How many heaps, each 16 bytes larger than the one before, refuse the second piece until one has
+/// room for both; none if one of them reads wrongly, or all refuse.
 fn refusals(alloc: Global) -> Result<Option<u32>, Fail> {
     let net = line_of_three(alloc)?;
     let mut refused = 0u32;

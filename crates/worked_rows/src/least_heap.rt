@@ -1,9 +1,9 @@
-//! Heaps of each size.
+//! Heaps of every size.
 use linked_list_allocator::LocalHeap;
 use std::alloc::Global;
 use std::test::Fail;
 
-/// What a deed answers on a heap of this size in bytes, and how much of it stays taken.
+/// The answer of a deed on a heap of this size in bytes, and how much stays taken.
 fn on_heap<F: Fn(&LocalHeap) -> Result<Option<bool>, Fail>>(
     alloc: Global,
     bytes: usize,
@@ -16,8 +16,8 @@ fn on_heap<F: Fn(&LocalHeap) -> Result<Option<bool>, Fail>>(
     Ok((found, heap.used()))
 }
 
-/// In units of 16 bytes, the size of the least heap that does not refuse a deed, and whether it was
-/// done as expected there and each heap so far was given back whole; 0 if each below 200 refuses it.
+/// The size, in units of 16 bytes, of the smallest heap that does not refuse a deed, and whether
+/// the deed was right there and every heap so far was freed; 0 if all below 200 refuse it.
 pub fn least_heap<F: Fn(&LocalHeap) -> Result<Option<bool>, Fail>>(
     alloc: Global,
     deed: F,

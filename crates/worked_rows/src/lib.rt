@@ -1,10 +1,10 @@
-//! Worked rows: what each layer below a whole network does, as a caller sees it, with every
-//! expected value computed by hand.
+//! Worked rows: what each layer below a whole network does, as its caller sees it. Every expected
+//! value was computed by hand.
 //!
-//! Nothing but tests stands here, a module a layer, named for its crate: `bfs_tree_rows` for
-//! `bfs_tree`. They are not in the crates that they test because a crate's tests prove all of that
-//! crate once more. The rows of whole networks stand in `worked_runs`, and those of the program in
-//! `subcommands` and `tokentree`.
+//! It has only tests, a module for each layer, named for its crate: `bfs_tree_rows` for
+//! `bfs_tree`. They have a crate of their own, since the tests of a crate prove all of that crate
+//! once more. The rows of whole networks are in `worked_runs`, those of commands in
+//! `worked_commands` and `worked_program`.
 #![tactic(auto)]
 
 #[cfg(test)]

@@ -1,4 +1,4 @@
-//! A link that fills, loses and empties, and its memory refused.
+//! A link that fills, loses and empties; and with memory refused.
 use crate::least_heap::least_heap;
 use link_model::{Frame, Full, Item, Link, NoItem, Payload};
 use linked_list_allocator::LocalHeap;
@@ -9,7 +9,7 @@ use test_parts::{as_told, is_told, on_full};
 /// What goes over a link.
 #[derive(Clone, Copy)]
 enum Sent {
-    /// A frame that is told apart by its number.
+    /// A frame with this number.
     Numbered(u16),
     Noise,
 }
@@ -39,15 +39,15 @@ enum Deed {
     Takes(Option<Sent>),
     Loses(usize, Result<(), NoItem>),
     Clears,
-    /// Nothing is done: this is the number of items on it.
+    /// No act: this is the number of items on it.
     Holds(usize),
-    /// Nothing is done: whether it is full.
+    /// No act: whether it is full.
     IsFull(bool),
 }
 
 use Deed::{Clears, Holds, IsFull, Loses, Puts, Takes};
 
-/// Does it, and says whether the link answers so.
+/// Does this, and returns whether the link answers like this.
 fn answers_so<A: Allocator>(link: &mut Link<A>, deed: &Deed) -> bool {
     match *deed {
         Puts(sent, want) => link.put(item(sent)) == want,
@@ -62,7 +62,7 @@ fn answers_so<A: Allocator>(link: &mut Link<A>, deed: &Deed) -> bool {
     }
 }
 
-/// The place of the first deed that the link does not answer so.
+/// The place of the first deed that the link answers otherwise.
 fn first_wrong<A: Allocator>(link: &mut Link<A>, deeds: &[Deed]) -> Option<usize> {
     for (at, deed) in deeds.iter().enumerate() {
         if !answers_so(link, deed) {
@@ -72,7 +72,7 @@ fn first_wrong<A: Allocator>(link: &mut Link<A>, deeds: &[Deed]) -> Option<usize
     None
 }
 
-/// The place of the first deed that a new link of so many places does not answer so.
+/// The place of the first deed that a new link of this many places answers otherwise.
 fn first_wrong_of(alloc: Global, capacity: usize, deeds: &[Deed]) -> Result<Option<usize>, Fail> {
     let mut link = Link::new(alloc, capacity)?;
     Ok(first_wrong(&mut link, deeds))
@@ -101,7 +101,7 @@ fn items_keep_their_order(rt: HostRuntime) -> Result<(), Fail> {
     as_told(first_wrong_of(rt.alloc(), 3, &ORDER), &None)
 }
 
-/// An item comes to a link of no place.
+/// An item comes to a link without places.
 const NO_PLACE: [Deed; 3] = [Holds(0), IsFull(true), Puts(Noise, Err(Full))];
 
 #[test]
@@ -109,7 +109,7 @@ fn a_link_of_no_place_is_full(rt: HostRuntime) -> Result<(), Fail> {
     as_told(first_wrong_of(rt.alloc(), 0, &NO_PLACE), &None)
 }
 
-/// Items go over a link of four places, which is cleared then.
+/// Items go over a link of four places, which is then cleared.
 const WITHOUT_MEMORY: [Deed; 10] = [
     Puts(Numbered(0), Ok(())),
     Puts(Numbered(1), Ok(())),
@@ -123,7 +123,7 @@ const WITHOUT_MEMORY: [Deed; 10] = [
     Holds(0),
 ];
 
-/// Whether a link of four places answers each of these deeds so on a heap of which nothing else is
+/// Whether a link of four places answers each of these deeds right on a heap that then has nothing
 /// free. None if the heap has no room for it.
 fn is_right_on_full(alloc: Global, heap: &LocalHeap) -> Result<Option<bool>, Fail> {
     let Ok(mut link) = Link::new(heap, 4) else {

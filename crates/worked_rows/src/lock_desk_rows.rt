@@ -1,4 +1,5 @@
-//! A desk from its first ticket to its last, its memory refused, and client lines in any cutting.
+//! A desk from its first ticket to its last; with memory refused; and client lines in pieces of
+//! any size.
 use crate::least_heap::least_heap;
 use linked_list_allocator::LocalHeap;
 use lock_desk::{AskFault, ClientLine, ClientReader, Desk, DeskAct, OutOfRange, Stranger};
@@ -10,24 +11,23 @@ use test_parts::{as_told, is_told, on_full};
 #[derive(Clone, Copy)]
 enum Deed<'a> {
     Asks(u16, Result<(), AskFault>),
-    /// Each ticket below 64 asks, and is taken.
+    /// Each ticket below 64 asks, and is accepted.
     AllAsk,
     Leaves(u16, Result<(), Stranger>),
-    /// A tick, with the privilege or without it.
+    /// A tick, with or without the privilege.
     Ticks(bool, DeskAct),
     /// A hundred ticks with the privilege, all of them quiet.
     StaysQuiet,
-    /// A loan is written: its ticket, the ticks that are left of it, and whether the desk has
-    /// served.
+    /// A loan is written: its ticket, its ticks left, and whether the desk has served.
     LoanIsSet((Option<u16>, u16, bool), Result<(), OutOfRange>),
     QueueIsSet(&'a [u16], Result<(), OutOfRange>),
-    /// Nothing is done: this is the loan.
+    /// No act: this is the loan.
     HasLoan((Option<u16>, u16, bool)),
-    /// Nothing is done: these tickets wait.
+    /// No act: these tickets wait.
     HasQueue(&'a [u16]),
-    /// Nothing is done: so many tickets wait.
+    /// No act: this many tickets wait.
     Waits(usize),
-    /// Nothing is done: this is the lease.
+    /// No act: this is the lease.
     HasLease(u16),
 }
 
@@ -36,7 +36,7 @@ use Deed::{
     Waits,
 };
 
-/// Whether each ticket below 64 is taken.
+/// Whether each ticket below 64 is accepted.
 fn all_are_taken<A: Allocator + Copy>(desk: &mut Desk<A>) -> bool {
     for ticket in 0..64 {
         if desk.ask(ticket).is_err() {
@@ -46,7 +46,7 @@ fn all_are_taken<A: Allocator + Copy>(desk: &mut Desk<A>) -> bool {
     true
 }
 
-/// Whether nothing comes of a hundred ticks with the privilege.
+/// Whether a hundred ticks with the privilege do nothing.
 fn stays_quiet<A: Allocator + Copy>(desk: &mut Desk<A>) -> bool {
     for _ in 0..100 {
         if desk.tick(true) != DeskAct::Quiet {
@@ -56,7 +56,7 @@ fn stays_quiet<A: Allocator + Copy>(desk: &mut Desk<A>) -> bool {
     true
 }
 
-/// Does it, and says whether the desk answers so.
+/// Does this, and returns whether the desk answers like this.
 fn answers_so<A: Allocator + Copy>(desk: &mut Desk<A>, deed: &Deed<'_>) -> bool {
     match *deed {
         Asks(ticket, want) => desk.ask(ticket) == want,
@@ -73,7 +73,7 @@ fn answers_so<A: Allocator + Copy>(desk: &mut Desk<A>, deed: &Deed<'_>) -> bool 
     }
 }
 
-/// The place of the first deed that the desk does not answer so.
+/// The place of the first deed that the desk answers otherwise.
 fn first_wrong<A: Allocator + Copy>(desk: &mut Desk<A>, deeds: &[Deed<'_>]) -> Option<usize> {
     for (at, deed) in deeds.iter().enumerate() {
         if !answers_so(desk, deed) {
@@ -83,7 +83,7 @@ fn first_wrong<A: Allocator + Copy>(desk: &mut Desk<A>, deeds: &[Deed<'_>]) -> O
     None
 }
 
-/// The place of the first deed that a new desk with this lease does not answer so.
+/// The place of the first deed that a new desk with this lease answers otherwise.
 fn first_wrong_of(alloc: Global, lease: u16, deeds: &[Deed<'_>]) -> Result<Option<usize>, Fail> {
     let mut desk = Desk::new(alloc, lease)?;
     Ok(first_wrong(&mut desk, deeds))
@@ -142,7 +142,7 @@ fn a_loan_without_lease_ends_with_the_privilege(rt: HostRuntime) -> Result<(), F
     as_told(first_wrong_of(rt.alloc(), 0, &NO_LEASE), &None)
 }
 
-/// Two loans, with a tick between them at which the desk is quiet.
+/// Two loans, with a quiet tick between them.
 const TWO_LOANS: [Deed<'static>; 11] = [
     Asks(1, Ok(())),
     Asks(2, Ok(())),
@@ -201,8 +201,8 @@ fn a_queue_is_written_where_it_fits(rt: HostRuntime) -> Result<(), Fail> {
 /// A desk is full and lends.
 const USE: [Deed<'static>; 3] = [AllAsk, Ticks(true, DeskAct::Granted(0)), Leaves(1, Ok(()))];
 
-/// Whether a desk answers each of these deeds so, and takes nothing more of its heap for them. None
-/// if the heap has no room for it.
+/// Whether a desk answers each of these deeds right, and takes nothing more of its heap for them.
+/// None if the heap has no room for it.
 fn is_used(heap: &LocalHeap) -> Option<bool> {
     let Ok(mut desk) = Desk::new(heap, 2) else {
         return None;
@@ -234,8 +234,8 @@ const WITHOUT_MEMORY: [Deed<'static>; 12] = [
     HasQueue(&[3, 1, 2]),
 ];
 
-/// The place of the first deed that a desk does not answer so on a heap of which nothing is left,
-/// and how much was left.
+/// The place of the first deed that a desk answers otherwise on a heap with nothing left, and how
+/// much was left.
 fn first_wrong_on_full(
     alloc: Global,
     heap: &LocalHeap,
@@ -245,7 +245,7 @@ fn first_wrong_on_full(
     on_full(alloc, heap, || first_wrong(&mut desk, deeds))
 }
 
-/// The same, on a heap of this size that nothing else is on.
+/// The same, on a heap of this size with nothing else on it.
 fn first_wrong_without_memory(
     alloc: Global,
     deeds: &[Deed<'_>],
@@ -262,7 +262,7 @@ fn a_desk_takes_no_memory(rt: HostRuntime) -> Result<(), Fail> {
     )
 }
 
-/// Bytes, and what a new reader answers to them.
+/// Bytes, and the answers of a new reader.
 const CLIENT_LINES: [(&[u8], &[ClientLine]); 11] = [
     (b"lock\n", &[ClientLine::Lock]),
     (b"unlock\n", &[ClientLine::Unlock]),
@@ -283,7 +283,7 @@ const CLIENT_LINES: [(&[u8], &[ClientLine]); 11] = [
     (b"lock", &[]),
 ];
 
-/// Whether a new reader answers just these lines to these bytes.
+/// Whether a new reader answers exactly these lines to these bytes.
 fn is_read_as(bytes: &[u8], want: &[ClientLine]) -> bool {
     let mut reader = ClientReader::new();
     let mut rest = want;
@@ -298,7 +298,7 @@ fn is_read_as(bytes: &[u8], want: &[ClientLine]) -> bool {
     rest.is_empty()
 }
 
-/// The place of the first row whose bytes are not read so.
+/// The place of the first row whose bytes are read otherwise.
 fn first_misread(rows: &[(&[u8], &[ClientLine])]) -> Option<usize> {
     for (at, (bytes, want)) in rows.iter().enumerate() {
         if !is_read_as(bytes, want) {

@@ -12,28 +12,28 @@ fn net_of_two(alloc: Global, lease: i64) -> Result<Net, NetFault> {
     Net::make(alloc, 2, 0, 1, lease, &[(0, 1)])
 }
 
-/// What is done to two nodes, of which the near one is the root, and what they answer.
+/// What is done to two nodes, the near one the root, and what they answer.
 #[derive(Clone, Copy)]
 enum Deed<'a> {
     /// Both tick, and then each frame goes over twice.
     Round,
-    /// The near one ticks, and this becomes of its loan; the tick may be a full one.
+    /// The near one ticks, with this act on its loan; the tick may be full.
     NearTicks(DeskAct, bool),
     NearIsAsked(u16, Result<(), AskFault>),
-    /// The near one is asked by 64 tickets, from this one on, and takes them.
+    /// 64 tickets, from this one on, ask the near one, and it accepts them.
     NearIsFilled(u8),
     NearIsLeft(u16, Result<(), Stranger>),
     /// Both hold a forged token, and lend it, to the tickets 5 and 6.
     Forgery,
-    /// Nothing is done: this is the near one's status line.
+    /// No act: this is the near one's status line.
     NearShows(&'a str),
-    /// Nothing is done: this is the far one's status line.
+    /// No act: this is the far one's status line.
     FarShows(&'a str),
 }
 
 use Deed::{FarShows, Forgery, NearIsAsked, NearIsFilled, NearIsLeft, NearShows, NearTicks, Round};
 
-/// Does it, and says whether the nodes answer so.
+/// Does this, and returns whether the nodes answer like this.
 fn answer_so<A: Allocator + Copy>(near: &mut Node<A>, far: &mut Node<A>, deed: &Deed<'_>) -> bool {
     match *deed {
         Round => {
@@ -50,7 +50,7 @@ fn answer_so<A: Allocator + Copy>(near: &mut Node<A>, far: &mut Node<A>, deed: &
     }
 }
 
-/// Two nodes, of which the near one is the root.
+/// Two nodes, the near one the root.
 #[derive(Drop)]
 struct Two<A: Allocator + Copy> {
     near: Node<A>,
@@ -65,7 +65,7 @@ fn both<A: Allocator + Copy>(alloc: Global, lease: i64, on: A) -> Result<Two<A>,
     Ok(Two { near, far })
 }
 
-/// The place of the first deed that they do not answer so.
+/// The place of the first deed that they answer otherwise.
 fn first_wrong<A: Allocator + Copy>(nodes: &mut Two<A>, deeds: &[Deed<'_>]) -> Option<usize> {
     for (at, deed) in deeds.iter().enumerate() {
         if !answer_so(&mut nodes.near, &mut nodes.far, deed) {
@@ -75,7 +75,7 @@ fn first_wrong<A: Allocator + Copy>(nodes: &mut Two<A>, deeds: &[Deed<'_>]) -> O
     None
 }
 
-/// The place of the first deed that two new nodes with this lease do not answer so.
+/// The place of the first deed that two new nodes with this lease answer otherwise.
 fn first_wrong_of(alloc: Global, lease: i64, deeds: &[Deed<'_>]) -> Result<Option<usize>, Fail> {
     let mut nodes = both(alloc, lease, alloc)?;
     Ok(first_wrong(&mut nodes, deeds))
@@ -236,7 +236,7 @@ fn a_forged_token_goes_and_its_loan_ends(rt: HostRuntime) -> Result<(), Fail> {
     as_told(first_wrong_of(rt.alloc(), 0, &FORGED_TOKEN), &None)
 }
 
-/// Writes the counters and the values of port 0: of the first three writes the third alone fits.
+/// Writes the counters and the values of port 0: of the first three writes only the third fits.
 fn write_port(node: &mut Node) -> Option<(u16, u16, u16)> {
     if !node.is_neighbour(0)
         || node.set_counters(0, 5, 0).is_ok()
@@ -248,18 +248,18 @@ fn write_port(node: &mut Node) -> Option<(u16, u16, u16)> {
     Some((node.seq(0), node.last(0), node.value(0)))
 }
 
-/// Whether each write that does not fit is refused.
+/// Whether every write that does not fit is refused.
 fn refuses_what_does_not_fit(node: &mut Node) -> bool {
     node.set_own(3, None) == Err(OutOfRange)
         && node.set_own(2, Some(2)) == Err(OutOfRange)
         && node.set_desk(None, 1, false) == Err(OutOfRange)
 }
 
-/// The status line of node 1 as it is at first.
+/// The status line of a fresh node 1.
 const NEW_LINE: &str = "node 1 distance 2 parent none token no lent none waiting 0\n";
 
-/// What noise and writes out of range leave of a node: whether each write was refused, what was
-/// written if it fits, and whether the status line is that of a new node.
+/// A node after noise and writes out of range: whether each of these was refused, what a write
+/// that fits has written, and whether the status line is that of a new node.
 fn left_by(node: &mut Node) -> (bool, Option<(u16, u16, u16)>, bool) {
     take(node, 0, Item::Noise);
     let is_refused = refuses_what_does_not_fit(node);
@@ -267,7 +267,7 @@ fn left_by(node: &mut Node) -> (bool, Option<(u16, u16, u16)>, bool) {
     (is_refused, written, shows(node, NEW_LINE))
 }
 
-/// What they leave of the far one of two nodes.
+/// The same for the far one of two nodes.
 fn left_of_far(alloc: Global) -> Result<(bool, Option<(u16, u16, u16)>, bool), Fail> {
     let mut nodes = both(alloc, 0, alloc)?;
     Ok(left_by(&mut nodes.far))
@@ -278,7 +278,7 @@ fn noise_and_writes_out_of_range_change_nothing(rt: HostRuntime) -> Result<(), F
     as_told(left_of_far(rt.alloc()), &(true, Some((0, 0, 6)), true))
 }
 
-/// Whether a node takes 64 tickets, from this one on.
+/// Whether a node accepts 64 tickets, from this one on.
 fn takes_sixty_four<A: Allocator + Copy>(node: &mut Node<A>, first: u8) -> bool {
     for further in 0..64 {
         if node.ask(u16::from(first) + further).is_err() {
@@ -288,14 +288,14 @@ fn takes_sixty_four<A: Allocator + Copy>(node: &mut Node<A>, first: u8) -> bool 
     true
 }
 
-/// Whether a node takes 64 tickets, ticks, and takes no more.
+/// Whether a node accepts 64 tickets, ticks, and accepts no more.
 fn is_filled<A: Allocator + Copy>(node: &mut Node<A>) -> bool {
     let takes = takes_sixty_four(node, 0);
     node.tick();
     takes && node.ask(64) == Err(AskFault::Full) && node.waiting() == 64
 }
 
-/// Whether a new node does so: no call but `new` may ask for memory. None if that is refused it.
+/// The same for a new node: only `new` may ask for memory. None if that is refused.
 fn used<A: Allocator + Copy>(alloc: A, net: &Net) -> Option<bool> {
     match Node::new(alloc, net, net.root()) {
         Ok(mut node) => Some(is_filled(&mut node)),
@@ -303,8 +303,8 @@ fn used<A: Allocator + Copy>(alloc: A, net: &Net) -> Option<bool> {
     }
 }
 
-/// The size of the least heap, in units of 16 bytes, that has room for a node; and whether it does
-/// so there, and with enough memory.
+/// The size of the smallest heap, in units of 16 bytes, with room for a node; and whether the node
+/// does so there, and with enough memory.
 fn least_used(alloc: Global) -> Result<(usize, bool), Fail> {
     let net = net_of_two(alloc, 0)?;
     let (units, is_so) = least_heap(alloc, |heap| Ok(used(heap, &net)))?;
@@ -317,8 +317,8 @@ fn each_growth_of_new_may_be_refused(rt: HostRuntime) -> Result<(), Fail> {
     is_told(&(is_so && units > 8), &true)
 }
 
-/// The place of the first deed that two nodes do not answer so on a heap of which nothing is left,
-/// and how much was left.
+/// The place of the first deed that two nodes answer otherwise on a heap with nothing left, and
+/// how much was left.
 fn first_wrong_on_full(
     alloc: Global,
     heap: &LocalHeap,
@@ -328,7 +328,7 @@ fn first_wrong_on_full(
     on_full(alloc, heap, || first_wrong(&mut nodes, deeds))
 }
 
-/// The same, on a heap of its own.
+/// The same, on its own heap.
 fn first_wrong_without_memory(
     alloc: Global,
     deeds: &[Deed<'_>],

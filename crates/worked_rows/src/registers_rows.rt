@@ -1,4 +1,4 @@
-//! All ports of a node in one table, and its memory refused.
+//! All ports of a node in one table; and with memory refused.
 use crate::least_heap::least_heap;
 use linked_list_allocator::LocalHeap;
 use registers::{Heard, OutOfRange, Registers};
@@ -7,7 +7,7 @@ use std::test::Fail;
 use test_parts::{as_told, is_told, on_full};
 use topology::{Frame, Net, NetFault, Payload};
 
-/// Writes both numbers of a neighbour; a node that is none is refused.
+/// Writes both numbers of a neighbour; any other node is refused.
 fn write<A: Allocator>(
     registers: &mut Registers<A>,
     port: u16,
@@ -19,7 +19,7 @@ fn write<A: Allocator>(
     registers.set_counters(port, numbers.0, numbers.1)
 }
 
-/// Writes the value of a neighbour's machine; a node that is none is refused.
+/// Writes the value of a neighbour's machine; any other node is refused.
 fn write_value<A: Allocator>(
     registers: &mut Registers<A>,
     port: u16,
@@ -31,7 +31,7 @@ fn write_value<A: Allocator>(
     registers.set_value(port, value)
 }
 
-/// Takes a frame that brings its own payload as the present one, if all is in range.
+/// Takes a frame, with the frame's own payload as the present one, if all is in range.
 fn hear<A: Allocator>(registers: &mut Registers<A>, port: u16, frame: &Frame) -> Option<Heard> {
     let ranges = registers.ranges();
     if registers.is_neighbour(port) && ranges.fits(frame) && ranges.fits_payload(&frame.payload) {
@@ -57,8 +57,7 @@ const NEWS: Heard = Heard {
     accepted: true,
 };
 
-/// Writes all that can be written, and says whether the neighbours 1 and 2 and no other node could
-/// be.
+/// Writes all that can be written, and returns whether exactly the neighbours 1 and 2 could be.
 fn are_written<A: Allocator>(registers: &mut Registers<A>) -> bool {
     let mut written = 0u16;
     for id in 0..registers.ranges().nodes {
@@ -72,7 +71,7 @@ fn are_written<A: Allocator>(registers: &mut Registers<A>) -> bool {
     written == 3
 }
 
-/// The numbers of a port and the value of its machine; none of a node that is none of the network.
+/// The numbers of a port and the value of its machine; none for a node outside the network.
 fn numbers(registers: &Registers, id: u16) -> Option<(u16, u16, u16)> {
     if id >= registers.ranges().nodes {
         return None;
@@ -80,7 +79,7 @@ fn numbers(registers: &Registers, id: u16) -> Option<(u16, u16, u16)> {
     Some((registers.seq(id), registers.last(id), registers.value(id)))
 }
 
-/// A square, of whose root the neighbours are 1 and 2.
+/// A square; the neighbours of its root are 1 and 2.
 fn square(alloc: Global) -> Result<Net, NetFault> {
     Net::make(alloc, 4, 0, 1, 0, &[(0, 1), (0, 2), (1, 3), (2, 3)])
 }
@@ -97,15 +96,15 @@ enum Deed<'a> {
     /// Both numbers of a port are written.
     Writes(u16, (u16, u16), Result<(), OutOfRange>),
     WritesValue(u16, u16, Result<(), OutOfRange>),
-    /// Nothing is done: these are the neighbours.
+    /// No act: these are the neighbours.
     HasNeighbours(&'a [u16]),
-    /// Nothing is done: these are the numbers of a port and its machine's value.
+    /// No act: these are the numbers of a port and its machine's value.
     Has(u16, Option<(u16, u16, u16)>),
 }
 
 use Deed::{Has, HasNeighbours, Writes, WritesValue};
 
-/// Does it, and says whether the registers answer so.
+/// Does this, and returns whether the registers answer like this.
 fn answer_so(registers: &mut Registers, deed: &Deed<'_>) -> bool {
     match *deed {
         Writes(port, both, want) => write(registers, port, both) == want,
@@ -115,7 +114,7 @@ fn answer_so(registers: &mut Registers, deed: &Deed<'_>) -> bool {
     }
 }
 
-/// The place of the first deed that the registers of a square's root do not answer so.
+/// The place of the first deed that the registers of a square's root answer otherwise.
 fn first_wrong(alloc: Global, deeds: &[Deed<'_>]) -> Result<Option<usize>, Fail> {
     let mut registers = of_a_square(alloc, alloc)?;
     for (at, deed) in deeds.iter().enumerate() {
@@ -144,8 +143,8 @@ fn one_port_alone_is_written(rt: HostRuntime) -> Result<(), Fail> {
     as_told(first_wrong(rt.alloc(), &WRITES), &None)
 }
 
-/// Uses the registers of the root, and says whether its two neighbours and no other node could be
-/// written; none if their memory is refused.
+/// Uses the registers of the root, and returns whether exactly its two neighbours could be
+/// written; none if memory is refused.
 fn used<A: Allocator + Copy>(alloc: A, net: &Net) -> Option<bool> {
     match Registers::new(alloc, net, net.root()) {
         Ok(mut registers) => Some(are_written(&mut registers)),
@@ -153,7 +152,7 @@ fn used<A: Allocator + Copy>(alloc: A, net: &Net) -> Option<bool> {
     }
 }
 
-/// The size of the least heap, in units of 16 bytes, that has room for them; and whether they are
+/// The size of the smallest heap, in units of 16 bytes, with room for them; and whether they are
 /// written there, and with enough memory.
 fn least_used(alloc: Global) -> Result<(usize, bool), Fail> {
     let net = square(alloc)?;
@@ -167,7 +166,7 @@ fn each_growth_of_new_may_be_refused(rt: HostRuntime) -> Result<(), Fail> {
     is_told(&(is_so && units > 3), &true)
 }
 
-/// Whether they are written on a heap of which nothing is left, and how much was left.
+/// Whether they are written on a heap with nothing left, and how much was left.
 fn written_on_full(alloc: Global, heap: &LocalHeap) -> Result<(bool, usize), Fail> {
     let mut registers = of_a_square(alloc, heap)?;
     on_full(alloc, heap, || are_written(&mut registers))

@@ -1,11 +1,11 @@
-//! An events text in pieces of several sizes, and lines that no clause has a word for.
+//! An events text in pieces of several sizes, and lines that no contract covers.
 use run_model::{Event, Harm};
 use std::alloc::{AllocFailed, Global};
 use std::test::Fail;
 use test_parts::is_told;
 use world::events::{EventReader, TextLine, parse_line};
 
-/// Hands a piece to a reader, and says which line it ended, and what is left of the piece.
+/// Hands a piece to a reader, and returns the line that it ended, and what is left of the piece.
 fn take<'p>(reader: &mut EventReader, piece: &'p [u8]) -> (Option<TextLine>, &'p [u8]) {
     let taken = reader.take(piece);
     (taken.line, &piece[taken.used..])
@@ -45,7 +45,7 @@ fn are_lines(
 /// The most bytes of a piece.
 const SIZES: [usize; 5] = [1, 7, 64, 65, 4096];
 
-/// The first size of pieces in which a text does not have these lines, if there is one.
+/// The first size of pieces in which a text has other lines, if any.
 fn first_unlike_size(
     alloc: Global,
     text: &[u8],
@@ -59,8 +59,7 @@ fn first_unlike_size(
     Ok(None)
 }
 
-/// The place of the first text that does not have its lines, and the size of pieces, if there is
-/// one.
+/// The place of the first text with other lines, and the size of pieces, if any.
 fn first_unlike(
     alloc: Global,
     rows: &[(&[u8], &[TextLine])],
@@ -130,7 +129,7 @@ const NUMBERS: [(&[u8], Option<Event>); 9] = [
     (b"tick", None),
 ];
 
-/// The place of the first line that does not spell that, if there is one.
+/// The place of the first line that spells something else, if any.
 fn first_misread(rows: &[(&[u8], Option<Event>)]) -> Option<usize> {
     for (at, (line, want)) in rows.iter().enumerate() {
         if parse_line(line) != *want {

@@ -1,4 +1,4 @@
-//! Runs of events, judged: what they lead to was worked out by hand. A row gives its events as a
+//! Judged runs of events: what they lead to was worked out by hand. A row gives its events as a
 //! text, a line each.
 use crate::texts::{FORGED, ROUND, round_of};
 use crate::worlds::{event_of, first_unlike, net_of, start};
@@ -15,7 +15,7 @@ mod parts;
 mod replay;
 mod three_rounds;
 
-/// Distance, parent, and whether it is privileged, of the far one of two nodes.
+/// The distance and parent of the far one of two nodes, and whether it is privileged.
 fn far<A: Allocator + Copy>(world: &World<A>) -> Option<(u16, Option<u16>, bool)> {
     if world.net().nodes() < 2 {
         return None;
@@ -24,8 +24,8 @@ fn far<A: Allocator + Copy>(world: &World<A>) -> Option<(u16, Option<u16>, bool)
     Some((node.distance(), node.parent(), node.privileged()))
 }
 
-/// Lets the event of a line happen to a judge's world, and says at how many tallies the judge has
-/// looked; none if it is refused, or the line spells none.
+/// Lets the event of a line happen to a judge's world, and returns how many tallies the judge
+/// looked at; none if the event is refused, or the line spells none.
 fn looked<A: Allocator + Copy>(judge: &mut Judge<A>, line: &str) -> Option<u32> {
     judge.step(&event_of(line)?).ok()?;
     Some(judge.looked())
@@ -42,7 +42,7 @@ fn judged<A: Allocator + Copy>(world: World<A>, events: &[Event]) -> Report<A> {
     judge(world, events)
 }
 
-/// Adds the events of a text; a line that spells none is left out.
+/// Adds the events of a text; skips a line that spells none.
 fn push_events(events: &mut Vec<Event>, text: &str) -> Result<(), AllocFailed<Event>> {
     for line in text.lines() {
         if let Some(event) = event_of(line) {
@@ -59,7 +59,7 @@ fn events_of(alloc: Global, text: &str) -> Result<Vec<Event>, Fail> {
     Ok(events)
 }
 
-/// The events of `rounds` rounds of two nodes over links of one place, and of a text after them.
+/// The events of `rounds` rounds of two nodes over links of one place, then of a text.
 fn events_behind(alloc: Global, rounds: usize, text: &str) -> Result<Vec<Event>, Fail> {
     let mut events = Vec::new(alloc);
     for _ in 0..rounds {
@@ -69,23 +69,22 @@ fn events_behind(alloc: Global, rounds: usize, text: &str) -> Result<Vec<Event>,
     Ok(events)
 }
 
-/// The numbers of events, of sweeps and of refusals, and the nodes visited.
+/// The numbers of events, of sweeps and of refusals, and the visited nodes.
 type Counts = (usize, u64, u64, u64);
 
-/// What is counted of events of two nodes.
+/// The counts of events of two nodes.
 fn counts_of(alloc: Global, events: &[Event]) -> Result<Counts, Fail> {
     let report = judged(world_of_two(alloc, alloc)?, events);
     Ok((events.len(), report.sweeps, report.refused, report.visited))
 }
 
-/// What is counted of rounds and of a text after them.
+/// The counts of rounds and a text after them.
 fn counts(alloc: Global, rounds: usize, text: &str) -> Result<Counts, Fail> {
     let events = events_behind(alloc, rounds, text)?;
     counts_of(alloc, &events)
 }
 
-/// The place of the first row, of a number of rounds and a text after them, of which not this is
-/// counted, if there is one.
+/// The place of the first row of rounds and a text with other counts, if any.
 fn first_miscounted(alloc: Global, rows: &[(usize, &str, Counts)]) -> Result<Option<usize>, Fail> {
     for (at, (rounds, text, want)) in rows.iter().enumerate() {
         if counts(alloc, *rounds, text)? != *want {
@@ -95,7 +94,7 @@ fn first_miscounted(alloc: Global, rows: &[(usize, &str, Counts)]) -> Result<Opt
     Ok(None)
 }
 
-/// Rounds alone, of ten events each.
+/// Only rounds, of ten events each.
 const ROUNDS: [(usize, &str, Counts); 8] = [
     (0, "", (0, 0, 0, 0)),
     (1, "", (10, 1, 0, 1)),
@@ -118,9 +117,9 @@ const DAMAGED: [(usize, &str, Counts); 4] = [
     (3, "harm empty 0 1", (31, 0, 0, 2)),
     // a refused harm is no damage
     (3, "harm empty 0 2", (31, 3, 1, 3)),
-    // the machine of node 1 is written what it sees, and the token is gone
+    // the machine of node 1 gets the value that it sees, and the token is gone
     (3, "harm value 1 0 1", (31, 0, 0, 0)),
-    // the root had the token right after the damage, and its tick sends it on
+    // the root had the token right after the damage, and its tick passes it on
     (1, "harm empty 0 1\ntick 0", (12, 0, 0, 1)),
 ];
 
@@ -129,15 +128,15 @@ fn damage_leaves_those_visited_that_are_privileged(rt: HostRuntime) -> Result<()
     as_told(first_miscounted(rt.alloc(), &DAMAGED), &None)
 }
 
-/// Short runs, of which some are a sweep.
+/// Short runs; some are sweeps.
 const SERVING: [(usize, &str, Counts); 5] = [
-    // a round without its last line is one
+    // a round without its last line is a sweep
     (
         0,
         "tick 0\ntick 1\nsend 0 1\ntake 0 1\nsend 0 1\ntake 0 1\nsend 1 0\ntake 1 0\nsend 1 0",
         (9, 1, 0, 1),
     ),
-    // items from before renew nothing
+    // items from before the stretch renew nothing
     (
         0,
         "harm junk 0 1\nharm junk 1 0\ntick 0\ntick 1\ntake 0 1\ntake 1 0",
@@ -148,13 +147,13 @@ const SERVING: [(usize, &str, Counts); 5] = [
         "harm junk 0 1\nharm junk 1 0\ntick 0\ntick 1\ntake 0 1\ntake 1 0\nsend 0 1\ntake 0 1\nsend 1 0\ntake 1 0",
         (10, 1, 0, 1),
     ),
-    // one that is lost makes room for a new one
+    // an item that is lost makes room for a new one
     (
         0,
         "harm junk 0 1\ntick 0\ntick 1\nlose 0 1 0\nsend 0 1\ntake 0 1\nsend 1 0\ntake 1 0",
         (8, 1, 0, 1),
     ),
-    // takes on empty links renew nothing, and there is no node 2
+    // takes from empty links renew nothing, and there is no node 2
     (
         0,
         "tick 0\ntick 1\ntake 0 1\ntake 1 0\ntick 2",
@@ -173,7 +172,7 @@ fn world_of_three(alloc: Global) -> Result<World, Fail> {
     Ok(start(alloc, &net)?)
 }
 
-/// What happens to three nodes in a line, and what is answered.
+/// What happens to three nodes in a line, and their answers.
 const REFUSED: [(&str, Result<(), EventFault>); 15] = [
     ("tick 3", Err(EventFault::NoNode)),
     ("send 0 2", Err(EventFault::NoLink)),
@@ -192,7 +191,7 @@ const REFUSED: [(&str, Result<(), EventFault>); 15] = [
     ("leave 0 5", Ok(())),
 ];
 
-/// The place of the first line that three nodes in a line do not answer so, if there is one.
+/// The place of the first line that three nodes in a line answer otherwise, if any.
 fn first_unlike_of_three(alloc: Global) -> Result<Option<usize>, Fail> {
     let mut world = world_of_three(alloc)?;
     Ok(first_unlike(&mut world, &REFUSED))
@@ -203,7 +202,7 @@ fn each_refusal_has_its_name(rt: HostRuntime) -> Result<(), Fail> {
     as_told(first_unlike_of_three(rt.alloc()), &None)
 }
 
-/// A round and a harm after it, each event with the number of tallies at which a judge looks.
+/// A round and a harm after it, each event with the number of tallies that a judge looks at.
 const LOOKS: [(&str, u32); 11] = [
     ("tick 0", 0),
     ("tick 1", 0),
@@ -218,7 +217,7 @@ const LOOKS: [(&str, u32); 11] = [
     ("harm junk 0 1", 2),
 ];
 
-/// The place of the first event at which a judge does not look at as many tallies, if there is one.
+/// The place of the first event at which a judge looks at another number of tallies, if any.
 fn first_other_look(judge: &mut Judge) -> Option<usize> {
     for (at, (line, looks)) in LOOKS.iter().enumerate() {
         if looked(judge, line) != Some(*looks) {
@@ -228,8 +227,8 @@ fn first_other_look(judge: &mut Judge) -> Option<usize> {
     None
 }
 
-/// At how many tallies a judge of two nodes has looked at first, and the place of the first event
-/// at which it looks at another number.
+/// How many tallies a judge of two nodes looks at first, and the place of the first event at which
+/// it looks at another number.
 fn looks(alloc: Global) -> Result<(u32, Option<usize>), Fail> {
     let mut judge = Judge::new(world_of_two(alloc, alloc)?);
     Ok((judge.looked(), first_other_look(&mut judge)))

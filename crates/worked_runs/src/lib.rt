@@ -1,10 +1,10 @@
-//! Worked runs: what whole networks do, event by event, judged, and reported, with every expected value
-//! computed by hand.
+//! Worked runs: what whole networks do, event by event, judged and reported. Every expected value
+//! was computed by hand.
 //!
-//! Tests stand here: of the events text, of worlds and their judge, and of woven lists; and what
-//! they share with those of simulations, in `worked_simulations`. They are not in the crates that
-//! they test because a crate's tests prove all of that crate once more. The rows of single layers
-//! stand in `worked_rows`.
+//! It has tests of the events text, of worlds and their judge, and of woven lists; and what these
+//! share with the tests of simulations, in `worked_simulations`. They have a crate of their own,
+//! since the tests of a crate prove all of that crate once more. The rows of single layers are in
+//! `worked_rows`.
 #![tactic(auto)]
 
 #[cfg(test)]

@@ -1,5 +1,5 @@
-//! What takes no memory: edges that join and go, and the text of a world, on a heap without a free
-//! byte.
+//! Edges that join and go, and the text of a world, on a heap without a free byte: they take no
+//! memory.
 use crate::worlds::{event_of, first_unlike, net_of};
 use linked_list_allocator::LocalHeap;
 use run_model::EventFault;
@@ -11,13 +11,13 @@ use world::simulation::{SimFault, state_text};
 use world::streams::MemorySink;
 use world::{Judge, World};
 
-/// A square: node 3 lies opposite the root.
+/// A square: node 3 is opposite the root.
 fn square(alloc: Global) -> Result<Net, NetFault> {
     net_of(alloc, 4, 0, &[(0, 1), (0, 2), (1, 3), (2, 3)])
 }
 
-/// What happens on the square if one pair of links is spare, and what is answered: edges join
-/// and go, and items are sent over them.
+/// What happens on the square with one spare pair of links, and the answers: edges join and go,
+/// and items are sent over them.
 const CHANGES: [(&str, Result<(), EventFault>); 14] = [
     ("harm join 1 1", Err(EventFault::OutOfRange)),
     ("harm join 0 4", Err(EventFault::NoNode)),
@@ -59,13 +59,13 @@ fn with_a_spare<A: Allocator + Copy>(alloc: Global, of: A) -> Result<World<A>, F
     Ok(World::with_spares(of, &net, 1)?)
 }
 
-/// What a judge answers to the event of a line; none if the line spells none.
+/// A judge's answer to the event of a line; none if the line spells none.
 fn judged<A: Allocator + Copy>(judge: &mut Judge<A>, line: &str) -> Option<Result<(), EventFault>> {
     let event = event_of(line)?;
     Some(judge.step(&event))
 }
 
-/// Whether a judge answers each change as it is said, and counts those that are refused.
+/// Whether a judge answers each change right, and counts those that are refused.
 fn all_judged_by<A: Allocator + Copy>(judge: &mut Judge<A>) -> bool {
     let mut well = true;
     for (line, answer) in CHANGES {
@@ -74,7 +74,7 @@ fn all_judged_by<A: Allocator + Copy>(judge: &mut Judge<A>) -> bool {
     well && judge.refused() == 7 && judge.sweeps() == 0
 }
 
-/// Whether a judge of a world does so.
+/// The same for a judge of a world.
 fn all_judged<A: Allocator + Copy>(world: World<A>) -> bool {
     let mut judge = Judge::new(world);
     all_judged_by(&mut judge)
@@ -85,7 +85,7 @@ fn show<A: Allocator + Copy>(world: &World<A>, sink: &mut MemorySink<A>) -> Resu
     state_text(world, 5, sink)
 }
 
-/// Whether a world answers each change as it is said, and is shown as it is then.
+/// Whether a world answers each change right, and is then shown right.
 fn is_shown_behind_changes<A: Allocator + Copy>(
     world: &mut World<A>,
     sink: &mut MemorySink<A>,
@@ -95,7 +95,7 @@ fn is_shown_behind_changes<A: Allocator + Copy>(
         && sink.taken() == SHOWN.as_bytes()
 }
 
-/// Whether a world on a heap is shown so, and how much the heap had left.
+/// The same for a world on a heap, and how much the heap had left.
 fn shown_on_full(alloc: Global, heap: &LocalHeap) -> Result<(bool, usize), Fail> {
     let mut world = with_a_spare(alloc, heap)?;
     let mut sink = MemorySink::new(heap, SHOWN.len())?;
@@ -106,7 +106,7 @@ fn shown_on_full(alloc: Global, heap: &LocalHeap) -> Result<(bool, usize), Fail>
     )
 }
 
-/// The same of a heap of its own.
+/// The same for its own heap.
 fn shown_without_memory(alloc: Global) -> Result<(bool, usize), Fail> {
     let heap = LocalHeap::new(alloc, 65536)?;
     shown_on_full(alloc, &heap)
@@ -117,13 +117,13 @@ fn a_world_changes_its_edges_and_is_shown_without_memory(rt: HostRuntime) -> Res
     as_told(shown_without_memory(rt.alloc()), &(true, 0))
 }
 
-/// Whether a judge of a world on a heap answers so, and how much the heap had left.
+/// The same for a judge of a world on a heap, and how much the heap had left.
 fn judged_on_full(alloc: Global, heap: &LocalHeap) -> Result<(bool, usize), Fail> {
     let world = with_a_spare(alloc, heap)?;
     on_full(alloc, heap, || all_judged(world))
 }
 
-/// The same of a heap of its own, and how much of it stays taken.
+/// The same for its own heap, and how much of it stays taken.
 fn judged_without_memory(alloc: Global) -> Result<((bool, usize), usize), Fail> {
     let heap = LocalHeap::new(alloc, 65536)?;
     let found = judged_on_full(alloc, &heap)?;

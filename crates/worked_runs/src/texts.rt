@@ -7,7 +7,7 @@ use topology::Net;
 pub const ROUND: &str =
     "tick 0\ntick 1\nsend 0 1\ntake 0 1\nsend 0 1\ntake 0 1\nsend 1 0\ntake 1 0\nsend 1 0\ntake 1 0\n";
 
-/// What makes two nodes hold a forged token each, and lend it.
+/// Harms that give each of two nodes a forged token, which it lends.
 pub const FORGED: &str = "\
 harm own 0 0 none
 harm own 1 1 0
@@ -20,7 +20,7 @@ harm desk 1 6 0 no
 ";
 
 /// One round of a network: each node ticks, and then each sends to each neighbour, which takes, so
-/// often that one item more than the link holds goes over.
+/// often that one more item goes over than the link holds.
 pub fn round_of(alloc: Global, net: &Net) -> Result<String, AllocError> {
     let mut text = String::new(alloc);
     for v in 0..net.nodes() {

@@ -1,5 +1,5 @@
-//! Networks, worlds and events as rows give them. Rows need nothing of what the contracts of these
-//! calls say, and if they are called from here the prover need not carry that along.
+//! Networks, worlds and events as rows give them. Rows need nothing of the contracts of these
+//! calls; called from here, they do not burden the prover.
 use run_model::{Event, EventFault};
 use std::alloc::{AllocError, Allocator, Global};
 use topology::{Net, NetFault};
@@ -36,7 +36,7 @@ pub fn step<A: Allocator + Copy>(world: &mut World<A>, event: &Event) -> Result<
     world.step(event)
 }
 
-/// What a world answers to the event of a line; none if the line spells none.
+/// A world's answer to the event of a line; none if the line spells none.
 pub fn told<A: Allocator + Copy>(
     world: &mut World<A>,
     line: &str,
@@ -54,7 +54,7 @@ pub fn happen<A: Allocator + Copy>(world: &mut World<A>, text: &str) -> bool {
     accepted
 }
 
-/// The place of the first line that a world does not answer so, if there is one.
+/// The place of the first line that a world answers otherwise, if any.
 pub fn first_unlike<A: Allocator + Copy>(
     world: &mut World<A>,
     rows: &[(&str, Result<(), EventFault>)],

@@ -1,4 +1,4 @@
-//! Journals that are woven into room that their caller has made.
+//! Journals that are woven into the caller's room.
 ghost use Rattle.std.specs.Prelude.{◌≡◌, ◌≤◌, ℕ, [], IfOk, vec_capacity};
 ghost use Rattle.weaving.specs.Journals.{entries_in, entry_count, journal_of};
 ghost use Rattle.weaving.specs.Woven.{AreRising};
@@ -39,7 +39,7 @@ fn journals<A: Allocator + Copy>(alloc: A) -> Result<[Journal<A>; 2], AllocError
     ])
 }
 
-/// What is woven of them.
+/// The list that is woven from them.
 const WOVEN: [Event; 6] = [
     Event::Tick { node: 0 },
     Event::Tick { node: 1 },
@@ -49,7 +49,7 @@ const WOVEN: [Event; 6] = [
     Event::Tick { node: 0 },
 ];
 
-/// Whether that is woven of journals into the room that is there.
+/// Whether that list is woven from journals into this room.
 fn is_woven<A: Allocator + Copy>(both: &[Journal<A>; 2], events: &mut Vec<Event, A>) -> bool
     requires rising { (v : ℕ) → AreRising (journal_of (entries_in both.now) v) }
     requires empty { events.old.items ≡ [] }
@@ -59,7 +59,7 @@ fn is_woven<A: Allocator + Copy>(both: &[Journal<A>; 2], events: &mut Vec<Event,
     events.as_slice() == WOVEN.as_slice()
 }
 
-/// Whether that is so while a heap has nothing left, and how much the heap had left.
+/// The same while a heap has nothing left, and how much it had left.
 fn woven_without_memory<'h>(
     alloc: Global,
     heap: &'h LocalHeap,
@@ -74,14 +74,14 @@ fn woven_without_memory<'h>(
     Ok((is_woven(both, events), heap.free()))
 }
 
-/// Whether that is so of the journals and the room on a heap, and how much the heap had left.
+/// The same with the journals and the room on a heap, and how much the heap had left.
 fn woven_on_full(alloc: Global, heap: &LocalHeap) -> Result<(bool, usize), Fail> {
     let both = journals(heap)?;
     let mut events = Vec::with_capacity(heap, 6)?;
     woven_without_memory(alloc, heap, &both, &mut events)
 }
 
-/// The same of a heap of its own.
+/// The same for its own heap.
 fn woven_on_a_heap(alloc: Global) -> Result<(bool, usize), Fail> {
     let heap = LocalHeap::new(alloc, 4096)?;
     woven_on_full(alloc, &heap)

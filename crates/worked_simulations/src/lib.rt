@@ -1,9 +1,9 @@
-//! Worked simulations: texts of events, what is reported of them and the states they lead to, with
-//! every expected text written out by hand.
+//! Worked simulations: texts of events, their reports, and the states that they lead to. Every
+//! expected text was written by hand.
 //!
-//! Nothing but tests stands here. They are not in the crate that they test because a crate's tests
-//! prove all of that crate once more. Runs that are judged event by event stand in `worked_runs`,
-//! from which these tests have their networks and some of their texts.
+//! It has only tests. They have a crate of their own, since the tests of a crate prove all of that
+//! crate once more. Runs that are judged event by event are in `worked_runs`; these tests use its
+//! networks and some of its texts.
 #![tactic(auto)]
 
 #[cfg(test)]

@@ -1,5 +1,5 @@
-//! Texts and what they lead to, worked out by hand. Each comes in pieces of one byte, of seven, and
-//! whole.
+//! Texts and what they lead to, worked out by hand. Each comes in pieces of one byte, of seven
+//! bytes, and whole.
 use std::alloc::{AllocError, Allocator, Global};
 use std::fmt::Write;
 use std::test::Fail;
@@ -37,11 +37,11 @@ sweeps 0 of 69
 /// A text for two nodes over links of one place, and what it leads to.
 #[derive(Clone, Copy)]
 struct Row<'a> {
-    /// For how many ticks the lock is lent at most; 0: no limit.
+    /// The most ticks of a loan; 0 is no limit.
     lease: i64,
     /// Pieces of the text, each with how often it comes.
     text: &'a [(&'a str, usize)],
-    /// The lines that say what is refused.
+    /// The refusal lines.
     refusals: &'a str,
     /// The state after them.
     state: &'a str,
@@ -64,8 +64,8 @@ fn joined(alloc: Global, pieces: &[(&str, usize)]) -> Result<String, AllocError>
     Ok(whole)
 }
 
-/// Simulates. Rows need nothing of what its contract says, and if it is called so the prover
-/// need not carry that along.
+/// Simulates. Rows need nothing of the contract of this call; called from here, it does not burden
+/// the prover.
 fn run<A: Allocator + Copy, R: Source, W: Sink>(
     alloc: A,
     net: &Net,
@@ -91,8 +91,7 @@ fn run_text(
     )
 }
 
-/// What the text, in pieces of at most `piece` bytes, is reported as, and what `deed` says of its
-/// output.
+/// The report of the text, in pieces of at most `piece` bytes, and what `deed` says of its output.
 fn simulated<F: FnOnce(&str) -> bool>(
     alloc: Global,
     net: &Net,
@@ -123,8 +122,8 @@ fn lending_in(state: &str) -> usize {
     }
 }
 
-/// What a row is reported as: with as many refused lines as are reported, and as many nodes that lend as
-/// its state says.
+/// The report of a row: its number of refused lines, and the number of nodes that lend in its
+/// state.
 fn summary_of(row: &Row<'_>) -> Summary {
     Summary {
         refused: row.refusals.lines().count() as u64,
@@ -133,7 +132,7 @@ fn summary_of(row: &Row<'_>) -> Summary {
     }
 }
 
-/// The first size of pieces in which a text does not lead to the output of a row, if there is one.
+/// The first size of pieces in which a text does not lead to a row's output, if any.
 fn first_wrong_piece(
     alloc: Global,
     net: &Net,
@@ -149,21 +148,21 @@ fn first_wrong_piece(
     Ok(None)
 }
 
-/// The first size of pieces in which the text of a row does not lead to its output on a network, if
-/// there is one.
+/// The first size of pieces in which a row's text does not lead to its output on a network, if
+/// any.
 fn row_fails_on(alloc: Global, net: &Net, row: &Row<'_>) -> Result<Option<usize>, Fail> {
     let text = joined(alloc, row.text)?;
     first_wrong_piece(alloc, net, &text, row)
 }
 
-/// The same of two nodes.
+/// The same for two nodes.
 fn row_fails(alloc: Global, row: &Row<'_>) -> Result<Option<usize>, Fail> {
     let net = two_nodes(alloc, row.lease)?;
     row_fails_on(alloc, &net, row)
 }
 
-/// The place of the first row whose text does not lead to its output, and the size of pieces in
-/// which it does not, if there is one.
+/// The place of the first row whose text does not lead to its output, and the size of pieces, if
+/// any.
 fn first_wrong(alloc: Global, rows: &[Row<'_>]) -> Result<Option<(usize, usize)>, Fail> {
     for (at, row) in rows.iter().enumerate() {
         if let Some(piece) = row_fails(alloc, row)? {

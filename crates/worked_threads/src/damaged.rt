@@ -23,7 +23,7 @@ fn three(alloc: Global) -> Result<World, Fail> {
     Ok(start(alloc, &net)?)
 }
 
-/// Harms that write every part of a world of a network, drawn from a seed.
+/// Harms for every part of a network's world, drawn from a seed.
 fn scrambled(alloc: Global, net: &Net, seed: u64) -> Result<Vec<Event>, AllocError> {
     let mut generator = Lcg64Xsh32::seed_from_u64(seed);
     let mut harms = Vec::new(alloc);
@@ -31,8 +31,8 @@ fn scrambled(alloc: Global, net: &Net, seed: u64) -> Result<Vec<Event>, AllocErr
     Ok(harms)
 }
 
-/// Damages a world; the harms go to the end of the history. Whether they are as many as they should
-/// be, 2 to a node, 4 to a port, and 1 or 2 to a link, and each is accepted.
+/// Damages a world, and adds the harms to the history. Returns whether there are as many as there
+/// should be (2 for a node, 4 for a port, and 1 or 2 for a link), and each is accepted.
 fn damage(
     alloc: Global,
     seed: u64,
@@ -54,7 +54,7 @@ fn is_right(world: &World) -> [bool; 3] {
     ]
 }
 
-/// Runs 4,000 turns in step. What came of them, and whether the gate held.
+/// Runs 4,000 turns in step. Returns what the nodes did, and whether the gate held.
 fn in_step<R: Threads + Wait + Sync>(
     rt: &R,
     alloc: Global,
@@ -65,14 +65,14 @@ fn in_step<R: Threads + Wait + Sync>(
     Ok((woven, !gate.gave_up()))
 }
 
-/// What is held of a run: of its damage, that the gate held, what a judge says of the history with
-/// it, from the default world, and of the world that came.
+/// The findings of a run: on its damage, whether the gate held, what a judge says of the history
+/// including the run, from the default world, and of the final world.
 type Held = ([bool; 2], bool, [bool; 3], [bool; 3]);
 
-/// What is held if all is right.
+/// The findings if all is right.
 const RIGHT: Held = ([true; 2], true, [true; 3], [true; 3]);
 
-/// Puts what nodes did to the end of the history. What a judge says of it, and what of the world.
+/// Adds what the nodes did to the history. Returns what a judge says of it, and of the world.
 fn held_of(
     alloc: Global,
     woven: &Woven,
@@ -83,7 +83,7 @@ fn held_of(
     Ok((judged, is_right(&woven.world)))
 }
 
-/// Damages a world, and runs it then. The world that came, and what is held.
+/// Damages a world, and then runs it. Returns the final world, and the findings.
 fn run_damaged<R: Threads + Wait + Sync>(
     rt: &R,
     alloc: Global,
@@ -97,7 +97,7 @@ fn run_damaged<R: Threads + Wait + Sync>(
     Ok((woven.world, (damaged, paced, judged, right)))
 }
 
-/// What is held of five runs, each of the world that came of the one before, with the seeds 1 to 5.
+/// The findings of five runs, each from the final world of the one before, with the seeds 1 to 5.
 fn five_runs<R: Threads + Wait + Sync>(
     rt: &R,
     alloc: Global,
@@ -113,7 +113,7 @@ fn five_runs<R: Threads + Wait + Sync>(
     Ok(all)
 }
 
-/// The same with a history of their own.
+/// The same with their own history.
 fn five_runs_alone<R: Threads + Wait + Sync>(
     rt: &R,
     alloc: Global,

@@ -1,4 +1,4 @@
-//! A run for which there is no memory left once its threads are started.
+//! A run without any memory once its threads are started.
 use crate::ran::{lend, net_of, ran, start};
 use crate::refused::{COPY, copy_says, ticks};
 use std::alloc::Global;
@@ -18,7 +18,7 @@ const TURNS: u32 = 50;
 /// The most blocks of one size that are taken.
 const BLOCKS: u32 = 10_000_000;
 
-/// Takes what memory there is in blocks of that many bytes, and keeps it.
+/// Takes all memory in blocks of this many bytes, and keeps it.
 fn take_blocks(alloc: Global, size: usize) {
     for _ in 0..BLOCKS {
         let Ok(block) = Vec::<u8>::with_capacity(alloc, size) else {
@@ -28,19 +28,19 @@ fn take_blocks(alloc: Global, size: usize) {
     }
 }
 
-/// Whether a block of that many bytes is refused.
+/// Whether a block of this many bytes is refused.
 fn is_refused(alloc: Global, size: usize) -> bool {
     Vec::<u8>::with_capacity(alloc, size).is_err()
 }
 
-/// Takes all memory that there is, in ever smaller blocks, and keeps it.
+/// Takes all memory, in ever smaller blocks, and keeps it.
 fn take_all(alloc: Global) {
     for bits in 0..25u32 {
         take_blocks(alloc, (1usize << 28) >> bits);
     }
 }
 
-/// Takes so many small blocks of each size that none is left that was given back before.
+/// Takes so many small blocks of each size that no freed one is left.
 fn take_small(alloc: Global) {
     for size in 1..80usize {
         for _ in 0..32 {
@@ -51,8 +51,8 @@ fn take_small(alloc: Global) {
     }
 }
 
-/// A gate at which all nodes meet before their first turn. Node 0 takes all memory then, and the
-/// others wait until it has. After its last turn node 0 looks whether there is still none.
+/// A gate at which all nodes meet before their first turn. Then node 0 takes all memory, and the
+/// others wait for that. After its last turn node 0 checks that there is still none.
 #[derive(Drop)]
 struct Full {
     alloc: Global,
@@ -96,7 +96,7 @@ impl Gate for Full {
     }
 }
 
-/// What became of a run, in words: it needed no memory only if there was none to be had meanwhile.
+/// The result of a run, in words: it counts only if there was no memory meanwhile.
 fn in_words(ended: &Result<Woven, RunFault>, was_full: bool) -> &'static str {
     match ended {
         Ok(woven) if ticks(woven) == (50, 50) && was_full => "all ran without memory",
@@ -105,7 +105,7 @@ fn in_words(ended: &Result<Woven, RunFault>, was_full: bool) -> &'static str {
     }
 }
 
-/// What becomes of two nodes that run when all memory is taken once their threads are started.
+/// The result of two nodes that run after all memory was taken, once their threads are started.
 fn on_full_heap<R: Threads + Wait + Sync>(rt: &R, alloc: Global) -> Result<&'static str, Fail> {
     let net = net_of(alloc, 2, &[(0, 1)])?;
     let world = start(alloc, &net)?;
@@ -117,7 +117,7 @@ fn on_full_heap<R: Threads + Wait + Sync>(rt: &R, alloc: Global) -> Result<&'sta
     ))
 }
 
-/// In a copy of this program, whose memory is limited, what becomes of them is printed.
+/// In a copy of this program with limited memory, prints the result.
 #[test]
 fn in_a_copy(rt: HostRuntime) -> Result<(), Fail> {
     if env::var(&rt, COPY).is_err() {
@@ -128,7 +128,7 @@ fn in_a_copy(rt: HostRuntime) -> Result<(), Fail> {
     Ok(())
 }
 
-/// Whether such a copy says that all ran.
+/// Whether such a copy says that all nodes ran.
 fn runs_on_full_heap<R: Files + Processes + AllocGlobal>(rt: &R) -> Result<bool, Fail> {
     let program = env::current_exe(rt)?;
     copy_says(

@@ -1,7 +1,7 @@
-//! Worked runs on threads: what nodes of small networks do, whatever the scheduler does, with every
-//! expected value computed by hand.
+//! Worked runs on threads: what nodes of small networks do under any scheduler. Every expected
+//! value was computed by hand.
 //!
-//! Nothing but tests stands here, since a crate's tests prove all of that crate once more.
+//! It has only tests, since the tests of a crate prove all of that crate once more.
 #![tactic(auto)]
 
 #[cfg(test)]

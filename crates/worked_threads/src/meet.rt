@@ -15,7 +15,7 @@ fn ticked(ended: &Result<Woven, RunFault>) -> Option<[usize; 3]> {
     }
 }
 
-/// The same of a run of ten turns, and whether the gate gave up.
+/// The same for a run of ten turns, and whether the gate gave up.
 fn ten_turns<R: Threads + Wait + Sync>(
     rt: &R,
     alloc: Global,
@@ -26,7 +26,7 @@ fn ten_turns<R: Threads + Wait + Sync>(
     Ok((found, gate.gave_up()))
 }
 
-/// All nodes stand at the gate at one time, so each has a thread of its own.
+/// All nodes are at the gate at one time, so each has its own thread.
 #[test]
 fn nodes_meet_before_their_first_turn(rt: HostRuntime) -> Result<(), Fail> {
     as_told(ten_turns(&rt, rt.alloc()), &(Some([10; 3]), false))

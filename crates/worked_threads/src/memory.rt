@@ -9,12 +9,12 @@ use topology::Net;
 use world::simulation::SimFault;
 use world::{Event, World};
 
-/// How far a run comes on a heap.
+/// How far a run gets on a heap.
 #[derive(Clone, Copy, Debug, PartialEq, Eq)]
 enum Reached {
     /// There is no room for the world.
     Nothing,
-    /// The world comes back as it was.
+    /// The world comes back unchanged.
     SameWorld,
     /// All that the run needs is made.
     Run,
@@ -22,14 +22,14 @@ enum Reached {
     Wrong,
 }
 
-/// A client asks, and over each link a frame is under way.
+/// A client asks, and each link has a frame under way.
 const EVENTS: [Event; 3] = [
     Event::Tick { node: 0 },
     Event::Send { from: 0, to: 1 },
     Event::Send { from: 1, to: 0 },
 ];
 
-/// How far it came if this world was sent back, if one was, which was shown by that text.
+/// How far it got, by the world that was sent back, if any, and the text that showed it before.
 fn reach_of<A: Allocator + Copy>(
     alloc: Global,
     back: Option<&World<A>>,
@@ -42,7 +42,7 @@ fn reach_of<A: Allocator + Copy>(
     }
 }
 
-/// How far a run of a world on a heap comes there.
+/// How far a run of a world on a heap gets there.
 fn prepared<A: Allocator + Copy>(
     alloc: Global,
     on: A,
@@ -55,7 +55,7 @@ fn prepared<A: Allocator + Copy>(
     )
 }
 
-/// How far a run of two nodes comes on a heap.
+/// How far a run of two nodes gets on a heap.
 fn tried(alloc: Global, heap: &LocalHeap, net: &Net) -> Result<Reached, SimFault> {
     let Ok(mut world) = start(heap, net) else {
         return Ok(Reached::Nothing);
@@ -66,7 +66,7 @@ fn tried(alloc: Global, heap: &LocalHeap, net: &Net) -> Result<Reached, SimFault
     prepared(alloc, heap, world)
 }
 
-/// How far it comes on a heap with room for that many units of 16 bytes, on which nothing is kept.
+/// How far it gets on a heap of this many units of 16 bytes; it must keep nothing there.
 fn tried_within(alloc: Global, units: usize, net: &Net) -> Result<Reached, Fail> {
     let heap = LocalHeap::new(alloc, units.saturating_mul(16))?;
     let reached = tried(alloc, &heap, net)?;
@@ -77,8 +77,8 @@ fn tried_within(alloc: Global, units: usize, net: &Net) -> Result<Reached, Fail>
     })
 }
 
-/// How far it comes on the first of ever larger heaps that neither has too little room for a world
-/// nor sends it back as it was, and how many sent it back before.
+/// How far it gets on the first of ever larger heaps that has room for a world and does not send
+/// it back unchanged, and how many sent it back before.
 fn tried_in_turn(alloc: Global) -> Result<(Reached, u32), Fail> {
     let net = net_of(alloc, 2, &[(0, 1)])?;
     let mut came_back = 0u32;
@@ -92,8 +92,8 @@ fn tried_in_turn(alloc: Global) -> Result<(Reached, u32), Fail> {
     Ok((Reached::Nothing, came_back))
 }
 
-/// Heaps with room for ever more units refuse each growth in turn, until one has room for all. Each
-/// time the world comes back as it was, and in the end nothing is kept.
+/// Ever larger heaps refuse each growth in turn, until one has room for all. Each time the world
+/// comes back unchanged, and in the end nothing is kept.
 #[test]
 fn each_growth_before_a_run_is_refused_in_turn(rt: HostRuntime) -> Result<(), Fail> {
     let (reached, came_back) = tried_in_turn(rt.alloc())?;

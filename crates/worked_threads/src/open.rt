@@ -14,7 +14,7 @@ fn two(alloc: Global) -> Result<World, Fail> {
     Ok(start(alloc, &net)?)
 }
 
-/// How often each of two nodes ticked in a run, and sent; none if the run was refused.
+/// How often each of two nodes ticked and sent in a run; none if the run was refused.
 fn counted(ended: &Result<Woven, RunFault>) -> Option<[usize; 4]> {
     let Ok(woven) = ended else {
         return None;
@@ -28,13 +28,13 @@ fn counted(ended: &Result<Woven, RunFault>) -> Option<[usize; 4]> {
     ])
 }
 
-/// The same of a run of one turn.
+/// The same for a run of one turn.
 fn one_turn<R: Threads + Wait + Sync>(rt: &R, alloc: Global) -> Result<Option<[usize; 4]>, Fail> {
     let world = two(alloc)?;
     Ok(lend(ran(rt, alloc, world, 1, &Open), |ended| counted(ended)))
 }
 
-/// In its one turn each node ticks, and sends over the one link from it, which is empty.
+/// In its one turn each node ticks, and sends over its one outgoing link, which is empty.
 #[test]
 fn one_turn_of_two_nodes(rt: HostRuntime) -> Result<(), Fail> {
     as_told(one_turn(&rt, rt.alloc()), &Some([1; 4]))

@@ -9,8 +9,8 @@ use test_parts::as_told;
 use thread_net::{Pace, Woven};
 use world::{Event, World};
 
-/// Whether each of these events is accepted by a default line, and the last leads to the world that
-/// came, in every field of every node and every item under way.
+/// Whether a default line accepts each of these events, and the last leads to the final world, in
+/// every field of every node and every item under way.
 fn replayed_right(alloc: Global, events: &[Event], came: World) -> Result<[bool; 2], Fail> {
     let mut replayed = line(alloc)?;
     let accepted = happen(&mut replayed, events);
@@ -22,7 +22,7 @@ fn replayed_right(alloc: Global, events: &[Event], came: World) -> Result<[bool;
 /// and by single steps.
 type Told = ([usize; 3], Option<Tree>, [bool; 3], [bool; 2]);
 
-/// How a run is reported.
+/// The report of a run.
 fn told_of(alloc: Global, woven: Woven) -> Result<Told, Fail> {
     let Woven { world, events } = woven;
     let tree = tree(&world);
@@ -31,7 +31,7 @@ fn told_of(alloc: Global, woven: Woven) -> Result<Told, Fail> {
     Ok((ticks(&events), tree, judged, replayed))
 }
 
-/// How 4,000 turns in step are reported, and whether the gate gave up.
+/// The report of 4,000 turns in step, and whether the gate gave up.
 fn in_step<R: Threads + Wait + Sync>(rt: &R, alloc: Global) -> Result<(Told, bool), Fail> {
     let world = line(alloc)?;
     let gate = Pace::new(3);

@@ -1,5 +1,5 @@
-//! Networks, worlds and runs as tests use them. Tests need nothing of what the contracts of these
-//! calls say, and if they are called from here the prover need not carry that along.
+//! Networks, worlds and runs as tests use them. Tests need nothing of the contracts of these
+//! calls; called from here, they do not burden the prover.
 use std::alloc::{AllocError, Allocator, Global};
 use std::sync::Wait;
 use std::test::Fail;
@@ -16,10 +16,10 @@ pub fn net_of(alloc: Global, nodes: i64, edges: &[(i64, i64)]) -> Result<Net, Ne
     Net::make(alloc, nodes, 0, 1, 0, edges)
 }
 
-/// The tree of a line of three nodes: of each its distance from the root, and its parent.
+/// The tree of a line of three nodes: each node's distance from the root, and its parent.
 pub type Tree = [(u16, Option<u16>); 3];
 
-/// The tree to which that line converges.
+/// The tree that this line converges to.
 pub const LINE: Tree = [(0, None), (1, Some(0)), (2, Some(1))];
 
 /// A network's default world.
@@ -33,9 +33,9 @@ pub fn line(alloc: Global) -> Result<World, Fail> {
     Ok(start(alloc, &net)?)
 }
 
-/// Lends something to a deed, and drops it then. What the deed answers.
+/// Lends something to a deed, drops it, and returns the deed's answer.
 ///
-/// A function that knows what it drops, a world say, is dear to prove for each way out of it; this
+/// A function that knows what it drops (a world, say) is expensive to prove at each return; this
 /// one does not know.
 pub fn lend<H: Drop, T, F: FnOnce(&H) -> T>(held: H, deed: F) -> T
     requires { F.IsAlwaysCallable deed }
@@ -43,7 +43,7 @@ pub fn lend<H: Drop, T, F: FnOnce(&H) -> T>(held: H, deed: F) -> T
     deed(&held)
 }
 
-/// What was made; what stands in the way of it is dropped, whatever it is.
+/// What was made; any error is dropped.
 pub fn made<M: Drop, E: Drop>(made: Result<M, E>) -> Result<M, Fail> {
     match made {
         Ok(made) => Ok(made),
@@ -51,7 +51,7 @@ pub fn made<M: Drop, E: Drop>(made: Result<M, E>) -> Result<M, Fail> {
     }
 }
 
-/// Runs each node of a world on a thread of its own.
+/// Runs each node of a world on its own thread.
 pub fn ran<R: Threads + Wait + Sync, G: Gate>(
     rt: &R,
     alloc: Global,
@@ -109,8 +109,8 @@ pub fn is_same(alloc: Global, world: &World, other: &World) -> Result<bool, SimF
     is_shown_as(alloc, other, sink.taken())
 }
 
-/// Whether a judge accepts each of these events, sees at least 217 sweeps, which are as many as a
-/// line of three nodes needs from any state, and comes to the world that came.
+/// Whether a judge accepts each of these events, sees at least the 217 sweeps that a line of three
+/// nodes needs from any state, and reaches the final world.
 pub fn judged_right(
     alloc: Global,
     from: World,
@@ -135,7 +135,7 @@ pub fn tree(world: &World) -> Option<Tree> {
     ])
 }
 
-/// How often an event stands in a list.
+/// How often a list has an event.
 pub fn count(event: Event, events: &[Event]) -> usize {
     let mut found = 0usize;
     for other in events {

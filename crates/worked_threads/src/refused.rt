@@ -12,7 +12,7 @@ use test_parts::as_told;
 use thread_net::{Open, RunFault, Woven};
 use world::Event;
 
-/// The variable that asks a copy of this program to run nodes.
+/// The variable that makes a copy of this program run nodes.
 pub const COPY: &str = "TOKENTREE_TEST_COPY";
 
 /// How often each of two nodes ticked.
@@ -24,7 +24,7 @@ pub fn ticks(woven: &Woven) -> (usize, usize) {
     )
 }
 
-/// What became of a run of two nodes: whether a thread was refused, and how often each ticked; none
+/// The result of a run of two nodes: whether a thread was refused, and how often each ticked; none
 /// if memory was refused.
 fn told(ended: &Result<Woven, RunFault>) -> Option<(bool, (usize, usize))> {
     match ended {
@@ -34,7 +34,7 @@ fn told(ended: &Result<Woven, RunFault>) -> Option<(bool, (usize, usize))> {
     }
 }
 
-/// What becomes of fifty turns of two nodes.
+/// The result of fifty turns of two nodes.
 fn fifty_turns<R: Threads + Wait + Sync>(
     rt: &R,
     alloc: Global,
@@ -54,9 +54,9 @@ fn in_words(told: Option<(bool, (usize, usize))>) -> &'static str {
     }
 }
 
-/// In a copy of this program, two nodes run 50 turns, and what became of it is printed. If a
-/// start is refused, a node that was started before it does all its turns, or none if it sees
-/// the refusal first.
+/// In a copy of this program, runs 50 turns of two nodes, and prints the result. If a start is
+/// refused, a node that started before it does all its turns, or none if it sees the refusal
+/// first.
 #[test]
 fn in_a_copy(rt: HostRuntime) -> Result<(), Fail> {
     if env::var(&rt, COPY).is_err() {
@@ -67,11 +67,11 @@ fn in_a_copy(rt: HostRuntime) -> Result<(), Fail> {
     Ok(())
 }
 
-/// The line by which a shell becomes its first word, with the third as its argument and as many
-/// kilobytes of addresses as the second says, 8,192 of them a thread's stack.
+/// A script with which a shell becomes its first word, with the third as argument, and as many
+/// kilobytes of addresses as the second says; a thread's stack takes 8,192 of them.
 const LIMITED: &str = "ulimit -S -s 8192; ulimit -v $1; exec \"$0\" $2";
 
-/// The words for that shell, and the variable that asks the copy to run nodes.
+/// The words for that shell, and the variable that makes the copy run nodes.
 fn add_words(
     command: &mut Command,
     program: Path,
@@ -83,14 +83,14 @@ fn add_words(
     Ok(())
 }
 
-/// A shell that becomes a copy of this program with as many kilobytes, for one test.
+/// A shell that becomes a copy of this program with this many kilobytes, for one test.
 fn limited(alloc: Global, program: Path, kilobytes: &str, test: &str) -> Result<Command, Fail> {
     let mut command = Command::new(alloc, "sh")?;
     add_words(&mut command, program, kilobytes, test)?;
     Ok(command)
 }
 
-/// Whether a copy of this program that has as many kilobytes, for one test, writes this first.
+/// Whether a copy of this program with this many kilobytes, for one test, writes this first.
 pub fn copy_says<R: Processes + AllocGlobal>(
     rt: &R,
     program: Path,
@@ -102,14 +102,14 @@ pub fn copy_says<R: Processes + AllocGlobal>(
     Ok(output.stdout.as_slice().starts_with(text.as_bytes()))
 }
 
-/// Kilobytes with room for no stack, for one, and for both, and what a copy says.
+/// Kilobytes with room for no stack, for one, and for both; and what a copy says.
 const ROWS: [(&str, &str); 3] = [
     ("6000", "refused\n"),
     ("12000", "refused\n"),
     ("200000", "both ran\n"),
 ];
 
-/// The place of the first row that is not so.
+/// The place of the first row that is wrong.
 fn first_unlike<R: Files + Processes + AllocGlobal>(rt: &R) -> Result<Option<usize>, Fail> {
     let program = env::current_exe(rt)?;
     for (at, (kilobytes, text)) in ROWS.iter().enumerate() {

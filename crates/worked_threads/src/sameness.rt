@@ -1,8 +1,8 @@
 //! Whether two worlds are the same: in every field of every node, and in every item under way.
 use world::{Links, Node, Parts};
 
-/// Whether a port is the same: its two numbers and what is staged, as its frame says; what was
-/// copied; and its machine.
+/// Whether a port is the same: its two numbers and the staged payload, as in its frame; the copy;
+/// and its machine.
 fn is_same_port(one: &Node, other: &Node, port: u16) -> bool {
     port < one.ranges().nodes
         && port < other.ranges().nodes
@@ -11,7 +11,7 @@ fn is_same_port(one: &Node, other: &Node, port: u16) -> bool {
         && one.value(port) == other.value(port)
 }
 
-/// Whether the desk is the same: its loan, and the tickets that wait, in their order.
+/// Whether the desk is the same: its loan, and the waiting tickets, in order.
 fn is_same_desk(one: &Node, other: &Node) -> bool {
     one.lent() == other.lent()
         && one.left() == other.left()
@@ -32,7 +32,7 @@ fn is_same_node(one: &Node, other: &Node) -> bool {
             .all(|port| is_same_port(one, other, *port))
 }
 
-/// Whether the same items are under way on a link of both, in the same order.
+/// Whether both have the same items under way on a link, in the same order.
 fn is_same_link(one: &Links, other: &Links, from: u16, to: u16) -> bool {
     let nodes = one.net().nodes().min(other.net().nodes());
     if from >= nodes || to >= nodes || one.len(from, to) != other.len(from, to) {
@@ -46,7 +46,7 @@ fn is_same_link(one: &Links, other: &Links, from: u16, to: u16) -> bool {
     true
 }
 
-/// Whether they are under way on all links of a network.
+/// The same for all links of a network.
 fn are_same_links(one: &Links, other: &Links) -> bool {
     let nodes = one.net().nodes();
     if nodes != other.net().nodes() {

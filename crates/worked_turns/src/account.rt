@@ -4,7 +4,7 @@ use std::cell::Cell;
 /// The bytes of a frame's line, with its newline.
 pub const LINE: usize = 22;
 
-/// How many deeds of a turn are kept. Five nodes have far fewer.
+/// The room for the deeds of a turn. Five nodes have far fewer.
 const ROOM: usize = 64;
 
 /// A frame's line on a connection.
@@ -12,24 +12,24 @@ const ROOM: usize = 64;
 pub struct Line {
     pub from: u16,
     pub to: u16,
-    /// The place of the connection; a later one has a greater place.
+    /// The place of the connection; a later connection has a greater place.
     pub connection: usize,
     pub bytes: [u8; LINE],
 }
 
 impl Line {
-    /// Whether both stand on the link from one node to another.
+    /// Whether both are on the link from one node to another.
     pub fn shares_link(&self, other: &Line) -> bool {
         self.from == other.from && self.to == other.to
     }
 
-    /// Whether it stands on the same link, on an earlier connection.
+    /// Whether it is on the same link, on an earlier connection.
     pub fn is_older(&self, other: &Line) -> bool {
         self.shares_link(other) && self.connection < other.connection
     }
 }
 
-/// A deed of a node, but for its ticks, which no connection sees.
+/// A deed of a node, except its ticks, which no connection sees.
 #[derive(Clone, Copy, Debug, PartialEq, Eq)]
 pub enum Deed {
     /// The line came whole: its frame is taken.
@@ -38,16 +38,16 @@ pub enum Deed {
     Sends(Line),
     /// The client with the ticket asks for the lock.
     Asks { node: u16, ticket: u16 },
-    /// The client with the ticket gives the lock back, waits no longer, or is gone.
+    /// The client with the ticket releases the lock, waits no longer, or is gone.
     Leaves { node: u16, ticket: u16 },
 }
 
-/// The deeds of one turn, in their order.
+/// The deeds of one turn, in order.
 #[derive(Drop)]
 pub struct Account {
     deeds: Cell<[Option<Deed>; ROOM]>,
     count: Cell<usize>,
-    /// How many of them stand before the tick.
+    /// How many of them come before the tick.
     heard: Cell<usize>,
 }
 
@@ -66,13 +66,13 @@ impl Account {
         self.heard.set(0);
     }
 
-    /// Adds a deed that was done while the node listened, so before its tick.
+    /// Adds a deed that was done while the node listened, before its tick.
     pub fn hear(&self, deed: Deed) {
         self.add(deed);
         self.heard.set(self.count.get());
     }
 
-    /// Adds a deed that was done while the node spoke, so after its tick.
+    /// Adds a deed that was done while the node spoke, after its tick.
     pub fn add(&self, deed: Deed) {
         let count = self.count.get();
         let mut deeds = self.deeds.get();
@@ -91,7 +91,7 @@ impl Account {
         self.deeds.get()[place]
     }
 
-    /// How many deeds stand before the tick.
+    /// How many deeds come before the tick.
     pub fn heard(&self) -> usize {
         self.heard.get()
     }

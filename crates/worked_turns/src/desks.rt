@@ -18,7 +18,7 @@ pub enum Word {
     Closes,
     /// It is gone: a read fails.
     Vanishes,
-    /// It asks how the node stands, and takes no answer: a write fails.
+    /// It asks how the node stands, and takes no answer: the write fails.
     Deafens,
 }
 
@@ -26,12 +26,12 @@ pub enum Word {
 #[derive(Clone, Copy)]
 struct Client {
     word: Option<Word>,
-    /// The node has left it, or is about to.
+    /// Whether the node has left it, or is about to.
     is_left: bool,
 }
 
-/// The tickets that no client has; the last one is given next. A node gives a freed ticket again
-/// before any other, and else the lowest that it never gave.
+/// The tickets that no client has; the last one is given next. A node gives freed tickets first,
+/// the latest before the others, and then the lowest that it never gave.
 #[derive(Clone, Copy)]
 struct Free {
     tickets: [u16; CLIENTS],
@@ -65,7 +65,7 @@ impl Desk {
         self.has_comer.set(true);
     }
 
-    /// The client with a ticket says this next, if there is one and it has nothing to say yet.
+    /// Has the client with a ticket say this next, if there is one and it has nothing to say yet.
     pub fn says(&self, ticket: u16, word: Word) {
         if let Some(client) = self.get(ticket) {
             let word = client.word.or(Some(word));
@@ -85,7 +85,7 @@ impl Desk {
         self.clients.set(clients);
     }
 
-    /// Lets in the client at the door, if there is one and a ticket is free: its ticket.
+    /// Lets in the client at the door, if there is one and a ticket is free. Returns its ticket.
     pub fn admit(&self) -> Option<u16> {
         let free = self.free.get();
         if !self.has_comer.get() || free.count == 0 {
@@ -103,7 +103,7 @@ impl Desk {
         Some(ticket)
     }
 
-    /// The node is about to leave the client with a ticket: once, that is a deed.
+    /// The node is about to leave the client with a ticket. The first time, that is a deed.
     fn leave(&self, ticket: u16, account: &Account, is_heard: bool) {
         let Some(client) = self.get(ticket) else {
             return;
@@ -122,7 +122,7 @@ impl Desk {
         }
     }
 
-    /// Whether a call fails or, of a read, finds the client closed: then the node leaves it.
+    /// Whether a call fails, or a read finds the client closed: then the node leaves it.
     pub fn is_gone(&self, ticket: u16, word: Word, account: &Account, is_read: bool) -> bool {
         let is_gone = match self.get(ticket) {
             Some(client) => client.word == Some(word),
@@ -134,7 +134,7 @@ impl Desk {
         is_gone
     }
 
-    /// The connection to a client was dropped: its ticket is free.
+    /// The connection to a client was dropped, so its ticket is free.
     pub fn close(&self, ticket: u16, account: &Account) {
         self.leave(ticket, account, false);
         self.put(ticket, None);
@@ -159,7 +159,7 @@ impl Desk {
         line_of(client.word)
     }
 
-    /// Adds the deed that this word of a client is, if it is one.
+    /// Adds the deed of this word of a client, if it is one.
     fn note(&self, ticket: u16, word: Option<Word>, account: &Account, trip: &Trip) {
         let node = self.node;
         match word {
@@ -183,7 +183,7 @@ impl Desk {
     }
 }
 
-/// The line that a client writes for this word; none for one by which it goes.
+/// The line that a client writes for this word; empty for a word with which it goes.
 fn line_of(word: Option<Word>) -> &'static str {
     match word {
         Some(Word::Lock) => "lock\n",

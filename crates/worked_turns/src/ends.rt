@@ -7,14 +7,14 @@ use crate::wires::{Connection, Side};
 use node_loop::{Door, Doors};
 use socket_links::{Pipe, ReadAnswer, WriteAnswer};
 
-/// Who is at the other end.
+/// What is at the other end.
 #[derive(Clone, Copy)]
 enum Other<'a> {
     Neighbour(&'a Connection, Side),
     Client(&'a Desk, u16),
 }
 
-/// The end of a connection that a node holds. What drops it breaks the connection.
+/// The end of a connection that a node holds. Dropping it breaks the connection.
 pub struct End<'a> {
     other: Other<'a>,
     stage: &'a Stage,

@@ -1,11 +1,11 @@
-//! What nodes did in their turns, replayed: three and five nodes run over connections in memory, in
-//! any order, with clients that ask, leave and vanish, and connections that break at any call. Their
-//! accounts make events; these lead a world to the same nodes, turn for turn.
+//! Replays of what nodes did in their turns: three and five nodes run over connections in memory,
+//! in any order, with clients that ask, leave and vanish, and connections that break at any call.
+//! Their accounts make events, which lead a world to the same nodes, turn for turn.
 //!
 //! A seed says who turns when, what clients do, and which calls break. Connections that go wrong on
 //! purpose show that the replay can fail.
 //!
-//! Nothing but tests stands here, since a crate's tests prove all of that crate once more.
+//! It has only tests, since the tests of a crate prove all of that crate once more.
 #![tactic(auto)]
 
 #[cfg(test)]

@@ -1,4 +1,4 @@
-//! The events that the accounts of turns make, and the world to which they lead.
+//! The events that the accounts of turns make, and the world that they lead to.
 use crate::account::{Account, Deed, Line};
 use crate::sameness::is_same_node;
 use damage_tool::scramble_world;
@@ -15,16 +15,16 @@ use topology::Net;
 /// What a replay finds wrong.
 #[derive(Clone, Copy, Debug, PartialEq, Eq)]
 pub enum Wrong {
-    /// A line was sent that is not of the frame at that port of the world's node.
+    /// A line was sent that is not the frame at that port of the world's node.
     SentOther,
-    /// A line was sent on a link that holds as much as it can.
+    /// A line was sent on a full link.
     SentOnFull,
     /// A line was taken that is not the oldest under way on its link.
     TookOther,
-    /// The world refused an event that is no ask or leave which its desk refuses, or the judge
-    /// answered otherwise than the world.
+    /// The world refused an event, other than an ask or leave that its desk may refuse; or the
+    /// judge's answer differed from the world's.
     Refused,
-    /// The world's node is another one than that which ran.
+    /// The world's node differs from the one that ran.
     OtherNode,
     /// There is no such node.
     NoNode,
@@ -38,9 +38,9 @@ pub struct Counts {
     pub events: u64,
     /// The events that were losses.
     pub losses: u64,
-    /// The sends after which the link held as much as it can.
+    /// The sends that filled the link.
     pub full: u64,
-    /// How often a node attended in place of a turn.
+    /// How often a node attended instead of taking a turn.
     pub attended: u64,
     pub sweeps: u64,
 }
@@ -68,17 +68,17 @@ impl Counts {
     }
 }
 
-/// A world and a judge to which the events of all turns so far happened.
+/// A world and a judge after the events of all turns so far.
 #[derive(Drop)]
 pub struct Replay {
     world: World,
     judge: Judge,
-    /// The lines that were sent and neither taken nor lost.
+    /// The lines that were sent, and neither taken nor lost yet.
     under_way: Vec<Line>,
     counts: Counts,
 }
 
-/// Whether a desk may refuse this so.
+/// Whether a desk may refuse this event with this fault.
 fn is_excused(event: &Event, fault: EventFault) -> bool {
     match event {
         Event::Ask { .. } => fault == EventFault::Full || fault == EventFault::Twice,
@@ -88,7 +88,7 @@ fn is_excused(event: &Event, fault: EventFault) -> bool {
 }
 
 impl Replay {
-    /// A replay in which nothing happened yet.
+    /// A replay in which nothing has happened.
     pub fn new(alloc: Global, net: &Net) -> Result<Replay, AllocError> {
         Ok(Replay {
             world: World::new(alloc, net)?,
@@ -112,8 +112,8 @@ impl Replay {
         }
     }
 
-    /// The harms happen that a seed draws for all nodes; they do not count. Desks stay empty, and so
-    /// do links.
+    /// Lets the harms that a seed draws for all nodes happen; they do not count. Desks and links
+    /// stay empty.
     pub fn scramble(&mut self, alloc: Global, seed: u64) -> Result<(), Wrong> {
         let mut generator = Lcg64Xsh32::seed_from_u64(seed);
         let mut events = Vec::new(alloc);
@@ -139,7 +139,7 @@ impl Replay {
         (bytes, count)
     }
 
-    /// What was under way on earlier connections of a line's link is lost.
+    /// Loses what was under way on earlier connections of a line's link.
     fn lose_older(&mut self, line: &Line) -> Result<(), Wrong> {
         let older = self
             .under_way
@@ -155,8 +155,8 @@ impl Replay {
         Ok(())
     }
 
-    /// Whether the link is full once this line is sent. It is wrong if the line is not of the frame
-    /// that the world's node has for that port, or the link is full already.
+    /// Whether the link is full once this line is sent. It is an error if the line is not the
+    /// frame that the world's node has for that port, or the link is already full.
     fn fills(&self, line: &Line) -> Result<bool, Wrong> {
         let nodes = self.world.net().nodes();
         if line.from >= nodes || line.to >= nodes {
@@ -217,7 +217,7 @@ impl Replay {
         }
     }
 
-    /// The deeds of an account from one place up to another were done.
+    /// The deeds of an account between two places were done.
     fn follow_part(&mut self, account: &Account, first: usize, end: usize) -> Result<(), Wrong> {
         for place in first..end {
             if let Some(deed) = account.get(place) {
@@ -227,7 +227,7 @@ impl Replay {
         Ok(())
     }
 
-    /// A node's turn was made; whether it ticked.
+    /// A node made a turn; `ticked` says whether it ticked.
     pub fn turn(&mut self, node: u16, account: &Account, ticked: bool) -> Result<(), Wrong> {
         let heard = account.heard();
         self.follow_part(account, 0, heard)?;

@@ -1,4 +1,4 @@
-//! Runs of some seeds, and connections that go wrong on purpose.
+//! Runs with some seeds, and connections with deliberate mistakes.
 use crate::replay::{Counts, Wrong};
 use crate::runs::{Ending, Shape, run_seed};
 use crate::wires::Mistake;
@@ -13,10 +13,10 @@ const RING: Shape = (3, 2, 0, &[(0, 1), (1, 2), (0, 2)]);
 /// A ring of five nodes with a chord over links of three frames. A loan's lease is four ticks.
 const CHORD: Shape = (5, 3, 4, &[(0, 1), (1, 2), (2, 3), (3, 4), (0, 4), (1, 3)]);
 
-/// What some runs came to.
+/// The result of some runs.
 #[derive(Clone, Copy, Debug, PartialEq, Eq)]
 struct Sum {
-    /// The seed of the first run in which something is wrong, in which turn, and what.
+    /// The seed of the first run with an error, the turn, and the error.
     wrong: Option<(u64, u32, Wrong)>,
     /// The seed of the first run in which the count of sweeps did not rise.
     still: Option<u64>,
@@ -47,7 +47,7 @@ fn run_seeds(alloc: Global, shape: Shape, seeds: u64) -> Result<Sum, Fail> {
     Ok(sum)
 }
 
-/// How many seeds are run: what `TOKENTREE_SEEDS` says, and else 4.
+/// How many seeds to run: what `TOKENTREE_SEEDS` says, else 4.
 fn seeds(rt: &HostRuntime) -> u64 {
     match env::var(rt, "TOKENTREE_SEEDS") {
         Ok(text) => text.as_str().parse::<u64>().unwrap_or(4),
@@ -55,12 +55,12 @@ fn seeds(rt: &HostRuntime) -> u64 {
     }
 }
 
-/// The seed of the first run in which something is wrong, in which turn, and what; the seed of the
-/// first in which the count of sweeps did not rise; and whether frames were lost, links were full,
-/// and nodes attended in place of a turn.
+/// The seed of the first run with an error, the turn and the error; the seed of the first in which
+/// the count of sweeps did not rise; and whether frames were lost, links were full, and nodes
+/// attended instead of taking turns.
 type Told = (Option<(u64, u32, Wrong)>, Option<u64>, [bool; 3]);
 
-/// Runs the seeds, and prints what they came to.
+/// Runs the seeds, and prints the results.
 fn told(rt: &HostRuntime, shape: Shape) -> Result<Told, Fail> {
     let seeds = seeds(rt);
     let Sum {
@@ -90,15 +90,15 @@ fn turns_of_five_nodes_are_a_run(rt: HostRuntime) -> Result<(), Fail> {
 /// How many of the first seeds are run with each mistake.
 const MISTAKEN: u64 = 6;
 
-/// Whether this may be found if a frame stays under way for good: the next take meets it, or the
-/// link is full before that.
+/// Whether a frame that stays under way for ever may show like this: the next take meets it, or
+/// the link is full before that.
 fn stays_under_way(wrong: Wrong) -> bool {
     wrong == Wrong::TookOther || wrong == Wrong::SentOnFull
 }
 
-/// Whether this may be found of a mistake. A frame that comes again is not the oldest under way; one
-/// that was dropped, or taken in secret, stays under way. What was taken or asked in secret makes the
-/// node another one, and a frame that it sends then is of another node.
+/// Whether a mistake may show like this. A frame that comes twice is not the oldest under way; one
+/// that was dropped, or taken in secret, stays under way. A secret take or ask changes the node,
+/// and a frame that it sends then differs too.
 fn may_be_found(mistake: Mistake, wrong: Wrong) -> bool {
     match mistake {
         Mistake::Twice => wrong == Wrong::TookOther,
@@ -110,7 +110,7 @@ fn may_be_found(mistake: Mistake, wrong: Wrong) -> bool {
     }
 }
 
-/// The first seed of a run with a mistake in which it is not found as it may be.
+/// The first seed of a run with a mistake that does not show like this.
 fn unfound(rt: &HostRuntime, mistake: Mistake) -> Result<Option<u64>, Fail> {
     for seed in 1..=MISTAKEN {
         let ending = run_seed(rt.alloc(), RING, Some(mistake), seed)?;

@@ -23,18 +23,18 @@ const TURNS: u32 = 600;
 /// A network: its nodes, what its links hold, its lease in ticks, and its edges.
 pub type Shape = (u16, u16, i64, &'static [(i64, i64)]);
 
-/// What a run came to.
+/// The result of a run.
 #[derive(Clone, Copy, Debug, PartialEq, Eq)]
 pub struct Ending {
-    /// What was first found wrong, and in which turn.
+    /// The first error, and its turn.
     pub wrong: Option<(u32, Wrong)>,
     /// The sweeps after half of the turns.
     pub half: u64,
-    /// What was counted after all.
+    /// The counts at the end.
     pub counts: Counts,
 }
 
-/// The manner of the nodes: with odd seeds they offer frames in each turn, else at their pace.
+/// The manner of the nodes: with odd seeds they offer frames in each turn, else at their own pace.
 fn manner(seed: u64) -> Manner {
     if seed % 2 == 1 {
         Manner { hold: 0, repeat: 0 }
@@ -43,7 +43,7 @@ fn manner(seed: u64) -> Manner {
     }
 }
 
-/// A node of a network in the state that this file is of.
+/// A node of a network in the state of this file.
 fn run_of<'a>(
     alloc: Global,
     net: &Net,
@@ -91,7 +91,7 @@ fn draw_word(draws: &mut Draws) -> Word {
     }
 }
 
-/// Some client of a node comes, or says something.
+/// Lets some client of a node come, or say something.
 fn stir_client(stage: &Stage, node: u16, draws: &mut Draws) {
     let Some(desk) = stage.desk(node) else {
         return;
@@ -103,7 +103,7 @@ fn stir_client(stage: &Stage, node: u16, draws: &mut Draws) {
     }
 }
 
-/// A turn if one is due, and else what a node does between two turns; whether it was a turn.
+/// A turn if one is due, else what a node does between two turns. Returns whether it was a turn.
 fn turn_once(run: &mut Run<'_>, now: u64) -> bool {
     if run.is_turn_due(now) {
         run.turn(now);
@@ -114,7 +114,7 @@ fn turn_once(run: &mut Run<'_>, now: u64) -> bool {
     }
 }
 
-/// One node runs, and its account is replayed.
+/// Runs one node, and replays its account.
 fn turn_and_replay(
     run: &mut Run<'_>,
     stage: &Stage,
@@ -127,7 +127,7 @@ fn turn_and_replay(
     replay.compare(run.node())
 }
 
-/// Some node runs: all nodes are those of the world then.
+/// Runs some node, and compares all nodes with the world's.
 fn turn_any(
     runs: &mut [Run<'_>],
     stage: &Stage,
@@ -145,7 +145,7 @@ fn turn_any(
     Ok(())
 }
 
-/// Some client may do something, some time passes, and some node takes a turn.
+/// Lets a client do something, some time pass, and a node take a turn.
 fn make_turn(
     runs: &mut [Run<'_>],
     stage: &Stage,
@@ -160,7 +160,7 @@ fn make_turn(
     turn_any(runs, stage, replay, node, *now)
 }
 
-/// Makes all turns, or those up to the first in which something is wrong.
+/// Makes all turns, or those up to the first error.
 fn make_turns(
     runs: &mut [Run<'_>],
     stage: &Stage,
@@ -185,7 +185,7 @@ fn make_turns(
     }
 }
 
-/// Runs a network by a seed, with connections that make a mistake or none.
+/// Runs a network with a seed, and connections that make this mistake, if any.
 pub fn run_seed(
     alloc: Global,
     shape: Shape,
@@ -195,7 +195,7 @@ pub fn run_seed(
     let (nodes, capacity, lease, edges) = shape;
     let net = Net::make(alloc, nodes as i64, 0, capacity as i64, lease, edges)?;
     let mut draws = Draws::new(seed);
-    // Of the frames under way on a link one may be kept by its sender, whole or in part.
+    // The sender may still hold one of the frames under way on a link, whole or in part.
     let room = (capacity as usize).saturating_sub(1) * 22;
     let stage = Stage::new(alloc, nodes, room, mistake, &mut draws)?;
     let mut replay = Replay::new(alloc, &net)?;

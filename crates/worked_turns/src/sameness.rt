@@ -1,7 +1,7 @@
 //! Whether two nodes are the same, field by field.
 use node_core::Node;
 
-/// Whether a port is the same: its two numbers, what is staged, what was copied, and its machine.
+/// Whether a port is the same: its two numbers, the staged payload, the copy, and its machine.
 fn is_same_port(one: &Node, other: &Node, port: u16) -> bool {
     port < one.ranges().nodes
         && port < other.ranges().nodes
@@ -12,7 +12,7 @@ fn is_same_port(one: &Node, other: &Node, port: u16) -> bool {
         && one.value(port) == other.value(port)
 }
 
-/// Whether the desk is the same: its loan, and the tickets that wait, in their order.
+/// Whether the desk is the same: its loan, and the waiting tickets, in order.
 fn is_same_desk(one: &Node, other: &Node) -> bool {
     one.lent() == other.lent()
         && one.left() == other.left()

@@ -1,5 +1,5 @@
-//! All that nodes in memory share: the connections between them, their clients, and the account of
-//! the turn that runs.
+//! What nodes in memory share: the connections between them, their clients, and the account of the
+//! current turn.
 use crate::account::Account;
 use crate::desks::Desk;
 use crate::draws::Draws;
@@ -7,10 +7,10 @@ use crate::wires::{Connection, Mistake, Trip};
 use std::alloc::{AllocError, Global};
 use std::cell::Cell;
 
-/// How many connections there ever are.
+/// The number of connections in a run.
 const CONNECTIONS: usize = 400;
 
-/// How many calls a connection lasts: these, and up to as many more as `SPREAD`.
+/// How many calls a connection lasts: this many, and up to `SPREAD` more.
 const CALLS: u32 = 40;
 
 const SPREAD: u32 = 400;
@@ -26,7 +26,7 @@ pub struct Stage {
 }
 
 impl Stage {
-    /// A stage for this number of nodes; a wire holds so many bytes.
+    /// A stage for this number of nodes, with wires of `room` bytes.
     pub fn new(
         alloc: Global,
         nodes: u16,

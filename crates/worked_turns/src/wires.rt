@@ -1,4 +1,5 @@
-//! Connections between two neighbours. A read gives at most one line; a call of many breaks it.
+//! Connections between two neighbours. A read gives at most one line, and after many calls a
+//! connection breaks.
 ghost use Rattle.std.specs.Prelude.{◌≡◌, ◌≤◌, length};
 
 use crate::account::{Account, Deed, LINE, Line};
@@ -7,12 +8,12 @@ use std::cell::Cell;
 /// The most bytes that a wire can hold.
 const ROOM: usize = 128;
 
-/// What goes wrong on purpose.
+/// Deliberate mistakes.
 #[derive(Clone, Copy, Debug, PartialEq, Eq)]
 pub enum Mistake {
     /// A frame is passed on twice.
     Twice,
-    /// A frame is dropped from a connection that stands.
+    /// A frame is dropped from a working connection.
     Dropped,
     /// A frame is passed on, and its take is left out of the account.
     Untaken,
@@ -20,7 +21,7 @@ pub enum Mistake {
     Unasked,
 }
 
-/// How often a mistake happens: with each so many frames, or asks.
+/// How often a mistake happens: once every this many frames, or asks.
 const EACH: u32 = 20;
 
 /// When a mistake happens, if one does.
@@ -38,7 +39,7 @@ impl Trip {
         }
     }
 
-    /// Counts a frame or an ask with which this mistake may happen, and says whether it does.
+    /// Counts a frame or an ask for this mistake, and returns whether the mistake happens.
     pub fn happens(&self, mistake: Mistake) -> bool {
         if self.mistake != Some(mistake) {
             return false;
@@ -64,7 +65,7 @@ impl Held {
         }
     }
 
-    /// Adds as many of these bytes as there is room for, of `room` in all. How many.
+    /// Adds as many of these bytes as there is room for, of `room` in all. Returns how many.
     fn push(&mut self, bytes: &[u8], room: usize) -> usize
         ensures { result ≤ length bytes.now }
     {
@@ -93,7 +94,7 @@ impl Held {
         count
     }
 
-    /// The line that these bytes are, if they are a frame's.
+    /// The line of these bytes, if they are a frame's.
     fn line(&self) -> Option<[u8; LINE]> {
         let mut line = [0; LINE];
         line.copy_from_slice(&self.bytes[..LINE]);
@@ -115,7 +116,7 @@ pub struct Wire {
     held: Cell<Held>,
     /// How many bytes of the accepted line are not yet on the wire.
     unsent: Cell<usize>,
-    /// What was given of the line that is given now.
+    /// What was given so far of the current line.
     given: Cell<Held>,
 }
 
@@ -144,7 +145,7 @@ impl Wire {
         }
     }
 
-    /// The first call with a line is the moment at which the link has accepted it.
+    /// The link accepts a line at the first call with it.
     fn accept(&self, connection: usize, bytes: &[u8], account: &Account) {
         if self.unsent.get() > 0 {
             return;
@@ -172,8 +173,8 @@ impl Wire {
         count
     }
 
-    /// Takes the oldest bytes off the wire, of one line at most. A frame is taken with the end of
-    /// its line.
+    /// Takes the oldest bytes off the wire, at most one line. A frame counts as taken with the end
+    /// of its line.
     fn read(&self, connection: usize, buffer: &mut [u8], account: &Account, trip: &Trip) -> usize
         ensures count { result ≤ length buffer.new }
         ensures length { length buffer.new ≡ length buffer.old }
@@ -208,16 +209,16 @@ impl Wire {
     }
 }
 
-/// At which end of a connection someone stands.
+/// The two ends of a connection.
 #[derive(Clone, Copy, Debug, PartialEq, Eq)]
 pub enum Side {
     /// The higher node, which made the connection.
     Higher,
-    /// The lower node, to which it came.
+    /// The lower node, which it came to.
     Lower,
 }
 
-/// A connection. Once it is broken, at both ends, all that was on its wires is lost.
+/// A connection. Once it breaks, at both ends, all that was on its wires is lost.
 #[derive(Drop)]
 pub struct Connection {
     place: usize,
@@ -249,7 +250,7 @@ impl Connection {
         self.down.joins(lower, higher);
     }
 
-    /// Lets it in at this node if it came there and is not yet let in; whether that was so.
+    /// Lets it in at this node, if it came there and is not yet in. Returns whether it did.
     pub fn lets_in(&self, lower: u16) -> bool {
         let is_new = self.up.to.get() == lower && !self.is_let_in.get();
         if is_new {
@@ -270,7 +271,7 @@ impl Connection {
         left == 0
     }
 
-    /// A line is written, or gone on with.
+    /// A line is begun, or continued.
     pub fn accept(&self, side: Side, bytes: &[u8], account: &Account) {
         match side {
             Side::Higher => self.up.accept(self.place, bytes, account),

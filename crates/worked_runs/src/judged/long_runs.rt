@@ -1,10 +1,10 @@
-//! Runs of as many sweeps as a network's lock needs to work from any state.
+//! Runs of as many sweeps as a network needs from any state.
 use super::*;
 use std::test::Fail;
 use test_parts::as_told;
 use topology::Net;
 
-/// Rounds of a network, and what they lead to.
+/// Rounds of a network, and where they lead.
 #[derive(Clone, Copy)]
 struct LongRun<'a> {
     nodes: i64,
@@ -14,7 +14,7 @@ struct LongRun<'a> {
     start: &'a str,
     /// How many are privileged and how many lend after the start.
     at_start: (usize, usize),
-    /// As many as the network needs sweeps.
+    /// As many rounds as the network needs sweeps.
     rounds: u32,
     /// How many events there are.
     events: usize,
@@ -32,7 +32,7 @@ fn is_settled(world: &World, tree: &[(u16, Option<u16>)]) -> bool {
     settled
 }
 
-/// How many are privileged and how many lend after events.
+/// How many nodes are privileged and how many lend after events.
 fn counted_behind(world: World, events: &[Event]) -> (usize, usize) {
     let forged = judged(world, events).world;
     (forged.privileged(), forged.lending())
@@ -44,7 +44,7 @@ fn counted_at_start(alloc: Global, net: &Net, text: &str) -> Result<(usize, usiz
     Ok(counted_behind(start(alloc, net)?, &events))
 }
 
-/// The events of a start and of as many rounds.
+/// The events of a start and of this many rounds.
 fn events_with_rounds(
     alloc: Global,
     text: &str,
@@ -58,29 +58,29 @@ fn events_with_rounds(
     Ok(events)
 }
 
-/// The events of a run, its rounds with them.
+/// The events of a run, including its rounds.
 fn all_events(alloc: Global, net: &Net, run: &LongRun<'_>) -> Result<Vec<Event>, Fail> {
     let round = round_of(alloc, net)?;
     events_with_rounds(alloc, run.start, &round, run.rounds)
 }
 
-/// How many events, sweeps and refusals there are, and whether the nodes are settled then.
+/// How many events, sweeps and refusals there are, and whether the nodes are then settled.
 type Ends = (usize, u64, u64, bool);
 
-/// What a world comes to.
+/// The end of a run of a world.
 fn ends_of(world: World, events: &[Event], tree: &[(u16, Option<u16>)]) -> Ends {
     let report = judged(world, events);
     let is_settled = is_settled(&report.world, tree);
     (events.len(), report.sweeps, report.refused, is_settled)
 }
 
-/// What a run comes to.
+/// The end of a run.
 fn ends(alloc: Global, net: &Net, run: &LongRun<'_>) -> Result<Ends, Fail> {
     let events = all_events(alloc, net, run)?;
     Ok(ends_of(start(alloc, net)?, &events, run.tree))
 }
 
-/// How many are privileged and how many lend after the start, and what a run comes to.
+/// How many nodes are privileged and how many lend after the start, and the end of the run.
 fn told_of(alloc: Global, run: &LongRun<'_>) -> Result<((usize, usize), Ends), Fail> {
     let net = net_of(alloc, run.nodes, run.lease, run.edges)?;
     Ok((
@@ -89,7 +89,7 @@ fn told_of(alloc: Global, run: &LongRun<'_>) -> Result<((usize, usize), Ends), F
     ))
 }
 
-/// What a run is to be reported as.
+/// The right report of a run.
 fn wanted_of(run: &LongRun<'_>) -> ((usize, usize), Ends) {
     (run.at_start, (run.events, u64::from(run.rounds), 0, true))
 }

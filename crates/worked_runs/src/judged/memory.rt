@@ -1,4 +1,4 @@
-//! What memory a judge takes: none.
+//! A judge takes no memory.
 use super::*;
 use crate::worlds::happen;
 use linked_list_allocator::LocalHeap;
@@ -6,7 +6,7 @@ use std::test::Fail;
 use test_parts::{as_told, on_full};
 use topology::Net;
 
-/// An event of each kind that does not stand in a round.
+/// An event of each kind that is not in a round.
 const OTHERS: &str = "\
 ask 1 7
 ask 1 8
@@ -20,8 +20,8 @@ harm frame 0 1 4 3 0 none 6
 harm empty 0 1
 ";
 
-/// Whether forged tokens lend at both nodes of a world, also after a round, and each other kind of
-/// event happens then.
+/// Whether both nodes of a world lend with forged tokens, also after a round, and each other kind
+/// of event then happens.
 fn takes_each_kind<A: Allocator + Copy>(world: &mut World<A>) -> bool {
     happen(world, FORGED)
         && happen(world, ROUND)
@@ -29,13 +29,13 @@ fn takes_each_kind<A: Allocator + Copy>(world: &mut World<A>) -> bool {
         && happen(world, OTHERS)
 }
 
-/// Whether that is so of a world on a heap, and how much the heap had left.
+/// The same for a world on a heap, and how much the heap had left.
 fn takes_each_kind_on_full(alloc: Global, heap: &LocalHeap) -> Result<(bool, usize), Fail> {
     let mut world = world_of_two(alloc, heap)?;
     on_full(alloc, heap, || takes_each_kind(&mut world))
 }
 
-/// The same of a heap of its own.
+/// The same for its own heap.
 fn takes_each_kind_without_memory(alloc: Global) -> Result<(bool, usize), Fail> {
     let heap = LocalHeap::new(alloc, 16384)?;
     takes_each_kind_on_full(alloc, &heap)
@@ -46,7 +46,7 @@ fn a_world_takes_no_memory(rt: HostRuntime) -> Result<(), Fail> {
     as_told(takes_each_kind_without_memory(rt.alloc()), &(true, 0))
 }
 
-/// What happens after a round, of which the last is followed by one loan.
+/// What happens after a round; the last event leads to one loan.
 const LENDING: [&str; 3] = ["ask 0 5", "tick 0", "harm junk 0 1"];
 
 /// Whether a judge accepts each of these events.
@@ -58,21 +58,21 @@ fn all_happen<A: Allocator + Copy>(judge: &mut Judge<A>) -> bool {
     accepted
 }
 
-/// Whether they happen to a world, and are followed by one loan.
+/// Whether they happen to a world, and lead to one loan.
 fn lends_one<A: Allocator + Copy>(world: World<A>) -> bool {
     let mut judge = Judge::new(world);
     all_happen(&mut judge) && judge.into_world().lending() == 1
 }
 
-/// Whether a round of a world is judged to be one sweep, nothing of it is refused, and then these
-/// events happen, of which the last is followed by one loan.
+/// Whether a round of a world counts as one sweep, with nothing refused, and then these events
+/// happen and lead to one loan.
 fn is_judged_right<A: Allocator + Copy>(world: World<A>, round: &[Event]) -> bool {
     let report = judged(world, round);
     (report.sweeps, report.refused) == (1, 0) && lends_one(report.world)
 }
 
-/// Whether that is so of a world on a heap, and how much the heap had left; none if the heap
-/// refuses the world.
+/// The same for a world on a heap, and how much the heap had left; none if the heap refuses the
+/// world.
 fn judged_on_full(
     alloc: Global,
     heap: &LocalHeap,
@@ -86,7 +86,7 @@ fn judged_on_full(
     Ok(Some(found))
 }
 
-/// What is found on a heap of this size in bytes, and how much of it stays taken.
+/// The same on a heap of this size in bytes, and how much of it stays taken.
 fn judged_within(
     alloc: Global,
     bytes: usize,
@@ -98,12 +98,12 @@ fn judged_within(
     Ok((found, heap.used()))
 }
 
-/// Whether the least heap that does not refuse a world has more than 40 units of 16 bytes, what is
-/// found there, and how much of it stays taken.
+/// Whether the smallest heap that does not refuse a world has more than 40 units of 16 bytes, what
+/// is found there, and how much of it stays taken.
 type LeastHeap = (bool, (bool, usize), usize);
 
-/// What is found on the least heap that does not refuse a world; none if each heap refuses it,
-/// or one that does keeps something.
+/// What is found on the smallest heap that does not refuse a world; none if all refuse it, or one
+/// that does keeps something.
 fn least_heap(alloc: Global, net: &Net, round: &[Event]) -> Result<Option<LeastHeap>, Fail> {
     for units in 1..400usize {
         match judged_within(alloc, units * 16, net, round)? {
@@ -115,13 +115,13 @@ fn least_heap(alloc: Global, net: &Net, round: &[Event]) -> Result<Option<LeastH
     Ok(None)
 }
 
-/// The same of two nodes.
+/// The same for two nodes.
 fn least_heap_of_two(alloc: Global, round: &[Event]) -> Result<Option<LeastHeap>, Fail> {
     let net = net_of(alloc, 2, 0, &[(0, 1)])?;
     least_heap(alloc, &net, round)
 }
 
-/// The same of their round.
+/// The same for their round.
 fn least_heap_of_round(alloc: Global) -> Result<Option<LeastHeap>, Fail> {
     let round = events_of(alloc, ROUND)?;
     least_heap_of_two(alloc, &round)

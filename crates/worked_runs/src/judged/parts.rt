@@ -1,11 +1,11 @@
-//! A world that is taken apart and put together goes on as it would have.
+//! A world that was taken apart and put together goes on as if it had not been.
 use super::*;
 use crate::worlds::told;
 use linked_list_allocator::LocalHeap;
 use std::test::Fail;
 use test_parts::{as_told, on_full};
 
-/// Takes a world apart and puts it together again, and says how many nodes and edges its parts had.
+/// Takes a world apart and puts it together again. Returns how many nodes and edges its parts had.
 fn taken_apart<A: Allocator + Copy>(world: World<A>) -> (World<A>, usize, usize) {
     let parts = world.into_parts();
     let nodes = parts.nodes.len();
@@ -13,7 +13,7 @@ fn taken_apart<A: Allocator + Copy>(world: World<A>) -> (World<A>, usize, usize)
     (World::from_parts(parts), nodes, edges)
 }
 
-/// Lets the event of a line happen and takes the world apart; says whether it happened and the
+/// Lets the event of a line happen and takes the world apart. Returns whether it happened and the
 /// parts were those of two nodes.
 fn stepped<A: Allocator + Copy>(mut world: World<A>, line: &str) -> (World<A>, bool) {
     let has_happened = told(&mut world, line) == Some(Ok(()));
@@ -21,8 +21,8 @@ fn stepped<A: Allocator + Copy>(mut world: World<A>, line: &str) -> (World<A>, b
     (whole, has_happened && nodes == 2 && edges == 1)
 }
 
-/// Does three rounds and takes the world apart after each event; says whether each event happened
-/// and the parts were always those of two nodes.
+/// Does three rounds and takes the world apart after each event. Returns whether each event
+/// happened and the parts were always those of two nodes.
 fn three_rounds<A: Allocator + Copy>(mut world: World<A>) -> (World<A>, bool) {
     let mut well = true;
     for _ in 0..3 {
@@ -35,14 +35,13 @@ fn three_rounds<A: Allocator + Copy>(mut world: World<A>) -> (World<A>, bool) {
     (world, well)
 }
 
-/// Does three rounds of a world that is taken apart after each event; says whether each happened,
-/// the parts were those of two nodes, and the token is at the far one then.
+/// The same, and whether the token is at the far node then.
 fn goes_over<A: Allocator + Copy>(world: World<A>) -> bool {
     let (world, well) = three_rounds(world);
     well && far(&world) == Some((1, Some(0), true))
 }
 
-/// Whether that is so of two nodes.
+/// The same for two nodes.
 fn goes_over_at_two(alloc: Global) -> Result<bool, Fail> {
     Ok(goes_over(world_of_two(alloc, alloc)?))
 }
@@ -54,13 +53,13 @@ fn the_token_goes_over_in_three_rounds_of_a_world_taken_apart_after_each_event(
     as_told(goes_over_at_two(rt.alloc()), &true)
 }
 
-/// Whether that is so of a world on a heap, and how much the heap had left.
+/// The same for a world on a heap, and how much the heap had left.
 fn goes_over_on_full(alloc: Global, heap: &LocalHeap) -> Result<(bool, usize), Fail> {
     let world = world_of_two(alloc, heap)?;
     on_full(alloc, heap, || goes_over(world))
 }
 
-/// The same of a heap of its own, and how much of it stays taken.
+/// The same for its own heap, and how much of it stays taken.
 fn goes_over_without_memory(alloc: Global) -> Result<((bool, usize), usize), Fail> {
     let heap = LocalHeap::new(alloc, 16384)?;
     let found = goes_over_on_full(alloc, &heap)?;

@@ -1,4 +1,4 @@
-//! A long run that is judged twice: by a judge, and plainly, as the definition of a sweep says. After
+//! A long run that is judged twice: by a judge, and directly by the definition of a sweep. After
 //! each event the sweeps, the nodes without a full tick and the tallies of all links are the same.
 use super::*;
 use std::test::Fail;
@@ -9,7 +9,7 @@ use world::Tally;
 /// The nodes of the square.
 const NODES: usize = 4;
 
-/// A link as the plain count sees it. It holds one item at most.
+/// A link in the direct count. It holds one item at most.
 #[derive(Clone, Copy)]
 struct PlainLink {
     is_link: bool,
@@ -17,11 +17,11 @@ struct PlainLink {
     holds_item: bool,
     /// Whether that item was there when the stretch began.
     is_old: bool,
-    /// Whether an item that was sent within the stretch was taken.
+    /// Whether an item that was sent in the stretch was taken.
     renewed: bool,
 }
 
-/// What is no link.
+/// A pair without a link.
 const NO_LINK: PlainLink = PlainLink {
     is_link: false,
     holds_item: false,
@@ -30,7 +30,7 @@ const NO_LINK: PlainLink = PlainLink {
 };
 
 impl PlainLink {
-    /// Its tally; none of what is no link.
+    /// Its tally; none without a link.
     fn tally(&self) -> Option<Tally> {
         if !self.is_link {
             return None;
@@ -42,18 +42,18 @@ impl PlainLink {
     }
 }
 
-/// A stretch of a run of the square: which nodes have made a full tick, and what has become of each
-/// link; and how many sweeps there were before it.
+/// A stretch of a run of the square: which nodes have made a full tick, the state of each link,
+/// and how many sweeps were before it.
 #[derive(Clone, Copy)]
 struct Plain {
     ticked: [bool; NODES],
-    /// The link from `u` to `v` stands at `4u + v`.
+    /// The link from `u` to `v` is at `4u + v`.
     links: [PlainLink; NODES * NODES],
     sweeps: u64,
 }
 
 impl Plain {
-    /// The beginning of a run with these edges and nothing under way.
+    /// The start of a run with these edges and nothing under way.
     fn new(edges: &[(u16, u16)]) -> Plain {
         let mut plain = Plain {
             ticked: [false; NODES],
@@ -67,7 +67,7 @@ impl Plain {
         plain
     }
 
-    /// There is a link from one node to another.
+    /// Adds a link from one node to another.
     fn connect(&mut self, from: usize, to: usize) {
         if let Some(link) = self.link(from, to) {
             link.is_link = true;
@@ -79,7 +79,7 @@ impl Plain {
             .get_mut(from.saturating_mul(NODES).saturating_add(to))
     }
 
-    /// Nobody asks for the lock, so that each tick is a full one; and each event is accepted.
+    /// Nobody asks for the lock, so each tick is full; and each event is accepted.
     fn step(&mut self, event: &Event) {
         match *event {
             Event::Tick { node } => {
@@ -136,7 +136,7 @@ impl Plain {
         self.links.get(place)?.tally()
     }
 
-    /// A stretch begins: what is under way is old from now on.
+    /// Begins a stretch: what is under way is old from now on.
     fn begin(&mut self) {
         self.ticked = [false; NODES];
         for link in &mut self.links {
@@ -146,7 +146,7 @@ impl Plain {
     }
 }
 
-/// Rounds of a network of which every third take is left out: the first `count` events.
+/// The first `count` events of rounds of a network without every third take.
 fn rounds_with_gaps(alloc: Global, round: &str, count: usize) -> Result<Vec<Event>, Fail> {
     let mut events = Vec::with_capacity(alloc, count)?;
     let mut takes = 0u32;
@@ -170,7 +170,7 @@ fn rounds_with_gaps(alloc: Global, round: &str, count: usize) -> Result<Vec<Even
     Ok(events)
 }
 
-/// Whether a judge keeps of its stretch what the plain count does, for each node and each link.
+/// Whether a judge keeps the same of its stretch as the direct count, for each node and each link.
 fn agree(judge: &mut Judge, plain: &Plain) -> bool {
     for from in 0..4 {
         for to in 0..4 {
@@ -182,8 +182,8 @@ fn agree(judge: &mut Judge, plain: &Plain) -> bool {
     judge.sweeps() == plain.sweeps && judge.lacking() == plain.lacking()
 }
 
-/// The first event that is refused, or after which the judge and the plain count differ, if there is
-/// one; and how many sweeps there were.
+/// The first event that is refused, or after which the judge and the direct count differ, if any;
+/// and how many sweeps there were.
 fn first_difference(
     judge: &mut Judge,
     plain: &mut Plain,
@@ -198,14 +198,14 @@ fn first_difference(
     (None, plain.sweeps)
 }
 
-/// The first `count` events of the rounds of a network, of which every third take is left out.
+/// The first `count` events of the rounds of a network without every third take.
 fn events_with_gaps(alloc: Global, net: &Net, count: usize) -> Result<Vec<Event>, Fail> {
     let round = round_of(alloc, net)?;
     rounds_with_gaps(alloc, &round, count)
 }
 
-/// What the judge and the plain count of a world come to: the number of events, the first one
-/// after which they differ, and the sweeps.
+/// The comparison of the judge and the direct count on a world: the number of events, the first
+/// one after which they differ, and the sweeps.
 fn compared(world: World, events: &[Event]) -> (usize, Option<usize>, u64) {
     let mut plain = Plain::new(world.net().edges());
     let mut judge = Judge::new(world);
@@ -213,7 +213,7 @@ fn compared(world: World, events: &[Event]) -> (usize, Option<usize>, u64) {
     (events.len(), difference, sweeps)
 }
 
-/// The same of a network, after `count` events of its rounds.
+/// The same for a network, after `count` events of its rounds.
 fn compared_on(
     alloc: Global,
     net: &Net,
@@ -223,7 +223,7 @@ fn compared_on(
     Ok(compared(start(alloc, net)?, &events))
 }
 
-/// The same of the square, with whether there are at least so many sweeps.
+/// The same for the square, with whether there are at least this many sweeps.
 fn compared_on_square(
     alloc: Global,
     count: usize,
@@ -234,9 +234,9 @@ fn compared_on_square(
     Ok((events, difference, sweeps >= least))
 }
 
-/// Each link takes at least once a round, right after a send, and at most one of its items is old:
-/// so of two whole rounds each renews it. A stretch has at most one round more, in parts, and no
-/// round has more than 36 events.
+/// Each link has at least one take a round, right after a send, and at most one of its items is
+/// old: so two whole rounds renew it. A stretch has at most one more round, in parts, and no round
+/// has more than 36 events.
 const LEAST_SWEEPS: u64 = 10_000 / (3 * 36);
 
 #[test]

@@ -1,4 +1,4 @@
-//! A world that is moved event by event, without a judge.
+//! A world, event by event, without a judge.
 use super::*;
 use crate::worlds::happen;
 use std::test::Fail;
@@ -9,22 +9,22 @@ fn counted(world: &World) -> (usize, usize) {
     (world.privileged(), world.lending())
 }
 
-/// How many are privileged and how many lend; then distance, parent, and whether it is privileged,
-/// of the far node.
+/// How many nodes are privileged and how many lend; then the distance and parent of the far node,
+/// and whether it is privileged.
 type Outcome = ((usize, usize), Option<(u16, Option<u16>, bool)>);
 
-/// Events, and what they lead to.
+/// Events, and where they lead.
 #[derive(Clone, Copy)]
 struct Stage<'a> {
     events: &'a str,
-    /// How many are privileged and how many lend.
+    /// How many nodes are privileged and how many lend.
     counted: (usize, usize),
     /// Distance, parent, and whether it is privileged, of the far node.
     far: (u16, Option<u16>, bool),
 }
 
-/// What a stage's events lead to: how many are privileged and how many lend, and the far node; none
-/// if one of them is refused.
+/// Where a stage's events lead: how many nodes are privileged and how many lend, and the far node;
+/// none if an event is refused.
 fn led_to(world: &mut World, events: &str) -> Option<Outcome> {
     if happen(world, events) {
         Some((counted(world), far(world)))
@@ -33,7 +33,7 @@ fn led_to(world: &mut World, events: &str) -> Option<Outcome> {
     }
 }
 
-/// The place of the first stage through which a world does not come so, if there is one.
+/// The place of the first stage that leads a world elsewhere, if any.
 fn first_unlike_stage(world: &mut World, stages: &[Stage<'_>]) -> Option<usize> {
     for (at, stage) in stages.iter().enumerate() {
         if led_to(world, stage.events) != Some((stage.counted, Some(stage.far))) {
@@ -72,7 +72,7 @@ const STAGES: [Stage<'_>; 5] = [
     },
 ];
 
-/// The place of the first stage through which two nodes do not come so, if there is one.
+/// The place of the first stage that leads two nodes elsewhere, if any.
 fn first_unlike_of_two(alloc: Global) -> Result<Option<usize>, Fail> {
     let mut world = world_of_two(alloc, alloc)?;
     Ok(first_unlike_stage(&mut world, &STAGES))

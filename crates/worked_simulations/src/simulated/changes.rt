@@ -1,4 +1,4 @@
-//! Texts by which edges join and go, and what they lead to.
+//! Texts in which edges join and go, and what they lead to.
 use super::long_runs::lines_begin;
 use super::*;
 use run_model::EventFault;
@@ -12,8 +12,8 @@ fn square(alloc: Global) -> Result<Net, Fail> {
     Ok(net_of(alloc, 4, 0, &[(0, 1), (0, 2), (1, 3), (2, 3)])?)
 }
 
-/// The edge between 1 and 3 goes; then neither it goes again, nor the last edge of node 3, nor does
-/// an edge join a node to itself, or where one stands, or with no node.
+/// The edge between 1 and 3 goes. Then it cannot go again, nor can the last edge of node 3; and no
+/// edge can join a node to itself, to a node that is joined already, or to a missing node.
 const REFUSED: &str = "\
 harm part 1 3
 harm part 1 3
@@ -23,7 +23,7 @@ harm join 0 1
 harm join 0 4
 ";
 
-/// What stands on the square after that.
+/// The state of the square after that.
 const PARTED: &str = "\
 node 0 distance 4 parent none token no lent none waiting 0
 node 1 distance 4 parent none token no lent none waiting 0
@@ -39,7 +39,7 @@ privileged 0 lending 0
 sweeps 0 of 461
 ";
 
-/// What stands on the square if an item goes with its edge, and the edge comes back.
+/// The state of the square if an item goes with its edge, and the edge comes back.
 const BACK: &str = "\
 node 0 distance 4 parent none token no lent none waiting 0
 node 1 distance 4 parent none token no lent none waiting 0
@@ -57,7 +57,7 @@ privileged 0 lending 0
 sweeps 0 of 461
 ";
 
-/// Texts for the square, where edges go and one comes back.
+/// Texts for the square: edges go and one comes back.
 const ON_THE_SQUARE: [Row<'_>; 2] = [
     Row {
         lease: 0,
@@ -81,8 +81,8 @@ line 6: NoNode
     },
 ];
 
-/// The place of the first row whose text does not lead to its output on the square, and the size of
-/// pieces, if there is one.
+/// The place of the first row whose text does not lead to its output on the square, and the size
+/// of pieces, if any.
 fn first_wrong_on_square(alloc: Global, rows: &[Row<'_>]) -> Result<Option<(usize, usize)>, Fail> {
     let net = square(alloc)?;
     for (at, row) in rows.iter().enumerate() {
@@ -104,13 +104,14 @@ fn round_of_three_edges(alloc: Global) -> Result<String, Fail> {
     Ok(round_of(alloc, &left)?)
 }
 
-/// A text by which an edge of the square goes, and then as many rounds as are sweeps of the bound.
+/// A text in which an edge of the square goes, with as many rounds after it as the bound has
+/// sweeps.
 fn parted_for_long(alloc: Global) -> Result<String, Fail> {
     let round = round_of_three_edges(alloc)?;
     Ok(joined(alloc, &[("harm part 1 3\n", 1), (&round, 461)])?)
 }
 
-/// How the lines begin of what that text leads to.
+/// How the lines of what that text leads to begin.
 const OTHER_PARENT: [&str; 4] = [
     "node 0 distance 0 parent none ",
     "node 1 distance 1 parent 0 ",
@@ -123,13 +124,13 @@ fn is_parted_for_long(output: &str) -> bool {
     lines_begin(output, &OTHER_PARENT) && output.ends_with("\nsweeps 461 of 461\n")
 }
 
-/// What a text is reported as on the square, and whether its output is so.
+/// The report of a text on the square, and whether its output is right.
 fn on_the_square(alloc: Global, text: &str) -> Result<(Summary, bool), Fail> {
     let net = square(alloc)?;
     simulated(alloc, &net, text, 4096, is_parted_for_long)
 }
 
-/// The same of the text by which an edge goes.
+/// The same for the text in which an edge goes.
 fn simulated_for_long(alloc: Global) -> Result<(Summary, bool), Fail> {
     let text = parted_for_long(alloc)?;
     on_the_square(alloc, &text)
@@ -154,8 +155,8 @@ fn star(alloc: Global) -> Result<Net, Fail> {
     Ok(net_of(alloc, 64, 0, &edges)?)
 }
 
-/// What happens on the star, and what is answered: eight edges join it, which are as many as there
-/// are spare pairs of links, and after each that goes another may join.
+/// What happens on the star, and the answers: eight edges join it, one for each spare pair of
+/// links, and after each that goes another may join.
 const ON_THE_STAR: [(&str, Result<(), EventFault>); 14] = [
     ("harm join 1 2", Ok(())),
     ("harm join 1 3", Ok(())),
@@ -173,14 +174,14 @@ const ON_THE_STAR: [(&str, Result<(), EventFault>); 14] = [
     ("harm join 1 10", Err(EventFault::OutOfRange)),
 ];
 
-/// The star as a simulation begins it.
+/// The star at the start of a simulation.
 fn star_world(alloc: Global) -> Result<World, Fail> {
     let net = star(alloc)?;
     Ok(simulated_start(alloc, &net)?)
 }
 
-/// The place of the first line that the star does not answer so, if there is one, and how many
-/// edges it has then.
+/// The place of the first line that the star answers otherwise, if any, and how many edges it has
+/// then.
 fn on_the_star(alloc: Global) -> Result<(Option<usize>, usize), Fail> {
     let mut world = star_world(alloc)?;
     let unlike = worlds::first_unlike(&mut world, &ON_THE_STAR);
@@ -202,7 +203,7 @@ fn star_text(alloc: Global) -> Result<String, AllocError> {
     Ok(text)
 }
 
-/// What is written of its refused lines.
+/// Its refusal lines.
 const STAR_REFUSALS: &str = "\
 line 9: NoSpare
 line 10: Apart
@@ -234,7 +235,7 @@ fn is_star_shown(output: &str) -> bool {
         && !output.contains("\nlink 0 2 items 0\n")
 }
 
-/// What that text is reported as on the star, and whether its output is so.
+/// The report of that text on the star, and whether its output is right.
 fn simulated_on_the_star(alloc: Global) -> Result<(Summary, bool), Fail> {
     let net = star(alloc)?;
     let text = star_text(alloc)?;

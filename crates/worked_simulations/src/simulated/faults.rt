@@ -5,11 +5,11 @@ use std::test::Fail;
 use test_parts::{as_told, fill};
 use world::streams::{Failed, Fused};
 
-/// Lines of which all but one are refused.
+/// Lines; all except one are refused.
 const LINES: &str =
     "tick 2\nsend 0 0\nlose 0 1 0\nharm own 0 3 none\nask 1 7\nask 1 7\nleave 0 4\nTick 0\n";
 
-/// The refusal lines, each with the number of bytes after which its line has ended.
+/// The refusal lines, each with the number of bytes at the end of its line.
 const REFUSALS: [(usize, &str); 7] = [
     (7, "line 1: NoNode\n"),
     (16, "line 2: NoLink\n"),
@@ -48,25 +48,25 @@ fn refusals_within(alloc: Global, bytes: usize) -> Result<String, AllocError> {
     Ok(text)
 }
 
-/// What all lines are reported as.
+/// The report of all lines.
 const ALL: Summary = Summary {
     refused: 7,
     sweeps: 0,
     lending: 0,
 };
 
-/// What came of a simulation, a call of which may fail.
+/// The result of a simulation in which a call may fail.
 #[derive(Clone, Copy)]
 struct Outcome {
     /// Whether that call was made.
     has_failed: bool,
     answer: Result<Summary, SimFault>,
-    /// Whether what was written then is what must be.
+    /// Whether what was written is right.
     is_written: bool,
 }
 
 impl Outcome {
-    /// Whether it is as it must be, if a call that fails is reported as `fault`.
+    /// Whether it is right, if the failing call is reported as `fault`.
     fn is_right(&self, fault: SimFault) -> bool {
         let want = if self.has_failed { Err(fault) } else { Ok(ALL) };
         self.is_written && self.answer == want
@@ -78,8 +78,8 @@ fn are_refusals(alloc: Global, taken: &[u8], bytes: usize) -> Result<bool, Alloc
     Ok(taken == refusals_within(alloc, bytes)?.as_bytes())
 }
 
-/// Simulates with a read that fails after `calls` others: then the refusals of whole lines stand
-/// there, and else all.
+/// Simulates with a read that fails after `calls` others: then the output is the refusals of whole
+/// lines, else the whole output.
 fn with_a_failing_read(
     alloc: Global,
     net: &Net,
@@ -102,8 +102,8 @@ fn with_a_failing_read(
     })
 }
 
-/// Simulates with a write that fails after `calls` others: then a beginning of the output stands
-/// there, and else all.
+/// Simulates with a write that fails after `calls` others: then the output is cut short, else
+/// whole.
 fn with_a_failing_write(
     alloc: Global,
     net: &Net,
@@ -123,8 +123,8 @@ fn with_a_failing_write(
     })
 }
 
-/// After how many calls a simulation with a failing read does not come out right, or does not fail
-/// just as long as there are reads, if there is such a number.
+/// The first number of calls before the failing read for which a simulation is wrong, or fails
+/// though there is no further read, if any.
 fn first_wrong_read(alloc: Global, net: &Net, piece: usize) -> Result<Option<u64>, AllocError> {
     // As many reads as there are pieces, and one that finds the end.
     let reads = LINES.len().div_ceil(piece.max(1)) as u64 + 1;
@@ -137,8 +137,7 @@ fn first_wrong_read(alloc: Global, net: &Net, piece: usize) -> Result<Option<u64
     Ok(None)
 }
 
-/// The same of a failing write, of which there is at least one, and after as many calls as there
-/// are writes none.
+/// The same for a failing write: there is at least one write, and after all writes no call fails.
 fn first_wrong_write(alloc: Global, net: &Net, piece: usize) -> Result<Option<u64>, AllocError> {
     for calls in 0..1000u64 {
         let outcome = with_a_failing_write(alloc, net, piece, calls)?;
@@ -152,8 +151,7 @@ fn first_wrong_write(alloc: Global, net: &Net, piece: usize) -> Result<Option<u6
     Ok(Some(1000))
 }
 
-/// The first size of pieces for which there is such a number of calls before a failing read, and
-/// that number.
+/// The first size of pieces with such a number for a failing read, and the number.
 fn first_wrong_read_of_all(alloc: Global) -> Result<Option<(usize, u64)>, Fail> {
     let net = two_nodes(alloc, 0)?;
     for piece in PIECES {
@@ -164,7 +162,7 @@ fn first_wrong_read_of_all(alloc: Global) -> Result<Option<(usize, u64)>, Fail> 
     Ok(None)
 }
 
-/// The same of a failing write.
+/// The same for a failing write.
 fn first_wrong_write_of_all(alloc: Global) -> Result<Option<(usize, u64)>, Fail> {
     let net = two_nodes(alloc, 0)?;
     for piece in PIECES {
@@ -185,7 +183,8 @@ fn a_write_that_fails_leaves_a_beginning(rt: HostRuntime) -> Result<(), Fail> {
     as_told(first_wrong_write_of_all(rt.alloc()), &None)
 }
 
-/// Simulates into a sink with `room` bytes. What is answered, and whether all of them are filled.
+/// Simulates into a sink with `room` bytes. Returns the answer, and whether all of them are
+/// filled.
 fn with_room(
     alloc: Global,
     net: &Net,
@@ -198,7 +197,7 @@ fn with_room(
     Ok((answer, is_filled))
 }
 
-/// What is to come of it.
+/// The right result.
 fn wanted_with_room(room: usize) -> (Result<Summary, SimFault>, bool) {
     let answer = if room < OUTPUT.len() {
         Err(SimFault::Write)
@@ -208,7 +207,7 @@ fn wanted_with_room(room: usize) -> (Result<Summary, SimFault>, bool) {
     (answer, true)
 }
 
-/// The first number of bytes of a sink for which that does not come of it, if there is one.
+/// The first number of bytes of a sink with another result, if any.
 fn first_wrong_room(alloc: Global) -> Result<Option<usize>, Fail> {
     let net = two_nodes(alloc, 0)?;
     for room in 0..=OUTPUT.len() {
@@ -224,7 +223,7 @@ fn a_sink_with_too_little_room_is_filled(rt: HostRuntime) -> Result<(), Fail> {
     as_told(first_wrong_room(rt.alloc()), &None)
 }
 
-/// Simulates on a heap of this size in `bytes`. What is answered, and how much of it stays taken.
+/// Simulates on a heap of `bytes` bytes. Returns the answer, and how much of the heap stays taken.
 fn on_a_heap(
     alloc: Global,
     net: &Net,
@@ -237,9 +236,8 @@ fn on_a_heap(
     Ok((answer, heap.used()))
 }
 
-/// In units of 16 bytes, the size of the first heap that does not refuse a simulation, or keeps
-/// something, or on which something is written while it does; what is answered there, and how much
-/// of it stays taken.
+/// The size, in units of 16 bytes, of the first heap that does not refuse a simulation, or keeps
+/// something, or writes something although it refuses; the answer there, and how much stays taken.
 fn first_heap(
     alloc: Global,
     net: &Net,
@@ -255,11 +253,11 @@ fn first_heap(
     Ok(None)
 }
 
-/// Whether the first heap that does not refuse a simulation has more than ten units; what is
-/// answered there, how much of it stays taken, and whether the output is written.
+/// Whether the first heap that does not refuse a simulation has more than ten units; the answer
+/// there, how much stays taken, and whether the output is written.
 type LeastHeap = (bool, Result<Summary, SimFault>, usize, bool);
 
-/// What is found there; none if each heap refuses.
+/// What is found there; none if all heaps refuse.
 fn least_heap(alloc: Global, net: &Net) -> Result<Option<LeastHeap>, AllocError> {
     let mut source = MemorySource::new(LINES.as_bytes(), 7);
     let mut sink = MemorySink::new(alloc, ROOM)?;
@@ -270,7 +268,7 @@ fn least_heap(alloc: Global, net: &Net) -> Result<Option<LeastHeap>, AllocError>
     Ok(Some((units > 10, answer, used, is_written)))
 }
 
-/// The same of two nodes.
+/// The same for two nodes.
 fn least_heap_of_two(alloc: Global) -> Result<Option<LeastHeap>, Fail> {
     let net = two_nodes(alloc, 0)?;
     Ok(least_heap(alloc, &net)?)
@@ -278,16 +276,16 @@ fn least_heap_of_two(alloc: Global) -> Result<Option<LeastHeap>, Fail> {
 
 #[test]
 fn refused_memory_leaves_all_unread_and_unwritten(rt: HostRuntime) -> Result<(), Fail> {
-    // The same as with all memory there is; the source still had all its bytes, and the sink all
-    // its room.
+    // The same as with ample memory; the source still had all its bytes, and the sink all its
+    // room.
     let want = Some((true, Ok(ALL), 0, true));
     as_told(least_heap_of_two(rt.alloc()), &want)
 }
 
-/// A line that is refused, and then a comment up to that length.
+/// A refused line, and then a comment up to that length.
 #[derive(Drop)]
 struct LongText {
-    /// How many bytes it has still to give.
+    /// How many bytes it still has to give.
     left: usize,
     has_begun: bool,
 }
@@ -311,8 +309,8 @@ impl Source for LongText {
     }
 }
 
-/// Simulates a text of `bytes` bytes with a line that is refused. What is answered, and whether
-/// `want` is written.
+/// Simulates a text of `bytes` bytes with a refused line. Returns the answer, and whether `want`
+/// is written.
 fn with_long_text(
     alloc: Global,
     net: &Net,
@@ -328,7 +326,7 @@ fn with_long_text(
     Ok((answer, sink.taken() == want.as_bytes()))
 }
 
-/// By how many bytes a text is longer than a gibibyte, what is answered, and what is written.
+/// By how many bytes a text is longer than a gibibyte, the answer, and the output.
 const LENGTHS: [(usize, Result<Summary, SimFault>, &str); 2] = [
     (
         0,
@@ -350,7 +348,7 @@ sweeps 0 of 69
     (1, Err(SimFault::Long), "line 1: Unread\n"),
 ];
 
-/// The place of the first length for which that is not so, if there is one.
+/// The place of the first length for which that is wrong, if any.
 fn first_wrong_length(alloc: Global) -> Result<Option<usize>, Fail> {
     let net = two_nodes(alloc, 0)?;
     for (at, (more, want, output)) in LENGTHS.iter().enumerate() {

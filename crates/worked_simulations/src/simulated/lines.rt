@@ -1,9 +1,9 @@
-//! Which lines are passed over, which are refused, and how they are numbered.
+//! Which lines are skipped, which are refused, and how they are numbered.
 use super::*;
 use std::test::Fail;
 use test_parts::as_told;
 
-/// Pieces of a text, each with how often it comes, and the lines that say what is refused of it.
+/// Pieces of a text, each with how often it comes, and the refusal lines.
 type Refused<'a> = (&'a [(&'a str, usize)], &'a str);
 
 /// The row of such a text, after which nothing has happened.
@@ -17,8 +17,8 @@ fn row_of<'a>(text: &'a [(&'a str, usize)], refusals: &'a str) -> Row<'a> {
     }
 }
 
-/// The place of the first text of which not just these lines are refused, or after which something
-/// has happened, and the size of pieces, if there is one.
+/// The place of the first text with other refusals, or after which something has happened, and the
+/// size of pieces, if any.
 fn first_not_refused(alloc: Global, rows: &[Refused<'_>]) -> Result<Option<(usize, usize)>, Fail> {
     for (at, (text, refusals)) in rows.iter().enumerate() {
         if let Some(piece) = row_fails(alloc, &row_of(text, refusals))? {
@@ -28,7 +28,7 @@ fn first_not_refused(alloc: Global, rows: &[Refused<'_>]) -> Result<Option<(usiz
     Ok(None)
 }
 
-/// Lines of which each but one is refused for a reason of its own.
+/// Lines; each except one is refused for its own reason.
 const ORDER: [Row<'_>; 1] = [Row {
     lease: 0,
     text: &[(
@@ -60,7 +60,7 @@ fn refusals_are_named_in_their_order(rt: HostRuntime) -> Result<(), Fail> {
     as_told(first_wrong(rt.alloc(), &ORDER), &None)
 }
 
-/// Texts with lines that are passed over.
+/// Texts with lines that are skipped.
 const COUNTED: [Refused<'_>; 10] = [
     (&[("\n", 1)], ""),
     (&[("#", 1)], ""),
@@ -91,8 +91,8 @@ fn lines_are_counted_and_a_last_one_needs_no_newline(rt: HostRuntime) -> Result<
 
 /// Texts with lines that are longer than any event.
 const LONG: [Refused<'_>; 3] = [
-    // No event has 64 bytes: the longest line that is looked at is refused as the shortest that is
-    // not.
+    // No event has 64 bytes: the longest line that is read is refused, and so is the shortest that
+    // is too long.
     (
         &[
             ("tick 200", 8),
@@ -102,7 +102,7 @@ const LONG: [Refused<'_>; 3] = [
         ],
         "line 1: Unread\nline 2: Unread\nline 3: NoNode\n",
     ),
-    // After 64 bytes stands a line of its own.
+    // After 64 bytes comes another line.
     (
         &[
             ("tick 200", 8),
@@ -146,7 +146,7 @@ const ALMOST: [&str; 13] = [
     "harm desk 0 5 0 maybe",
 ];
 
-/// The place of the first line that is read, and the size of pieces, if there is one.
+/// The place of the first line that is read as an event, and the size of pieces, if any.
 fn first_read(alloc: Global, lines: &[&str]) -> Result<Option<(usize, usize)>, Fail> {
     for (at, line) in lines.iter().enumerate() {
         let text = [(*line, 1), ("\n", 1)];
@@ -199,8 +199,8 @@ const BEHIND_BUSY: [(&str, &str); 12] = [
     ("Leave 1 7\n", "line 77: Unread\n"),
 ];
 
-/// The place of the first line that is not refused so after a text, or changes what that leads to,
-/// and the size of pieces, if there is one.
+/// The place of the first line after a text that is refused otherwise, or changes the state, and
+/// the size of pieces, if any.
 fn first_changing(
     alloc: Global,
     text: &str,
@@ -222,7 +222,7 @@ fn first_changing(
     Ok(None)
 }
 
-/// The same of the text after which node 0 has no room for another ticket.
+/// The same for the text after which node 0 has no room for another ticket.
 fn first_changing_busy(alloc: Global) -> Result<Option<(usize, usize)>, Fail> {
     let text = busy(alloc)?;
     first_changing(alloc, &text, &BEHIND_BUSY)

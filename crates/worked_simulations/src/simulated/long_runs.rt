@@ -17,12 +17,12 @@ struct LongRun<'a> {
     lines: usize,
     /// How the nodes' lines begin.
     beginnings: &'a [&'a str],
-    /// How the text ends after the number of the privileged nodes: none lends, after as many
-    /// sweeps as there are rounds.
+    /// How the text ends after the number of privileged nodes: none lends, and there are as many
+    /// sweeps as rounds.
     end: &'a str,
 }
 
-/// Whether the lines of the text, from its first on, begin so.
+/// Whether the lines of the text, from its first on, begin like this.
 pub fn lines_begin(text: &str, beginnings: &[&str]) -> bool {
     let mut lines = text.lines();
     for beginning in beginnings {
@@ -34,7 +34,7 @@ pub fn lines_begin(text: &str, beginnings: &[&str]) -> bool {
     true
 }
 
-/// Whether a text ends so after a number of privileged nodes, which are one at most.
+/// Whether a text ends like this after a number of privileged nodes, at most one.
 fn ends_so(output: &str, end: &str) -> bool {
     match output.strip_suffix(end) {
         Some(front) => front.ends_with("privileged 0") || front.ends_with("privileged 1"),
@@ -42,12 +42,12 @@ fn ends_so(output: &str, end: &str) -> bool {
     }
 }
 
-/// Whether an output begins and ends as that of a run does.
+/// Whether an output begins and ends as a run's should.
 fn is_settled(output: &str, run: &LongRun<'_>) -> bool {
     ends_so(output, run.end) && lines_begin(output, run.beginnings)
 }
 
-/// The first size of pieces in which the text of a run does not end so, if there is one.
+/// The first size of pieces in which the text of a run ends otherwise, if any.
 fn first_unsettled(
     alloc: Global,
     net: &Net,
@@ -73,7 +73,7 @@ fn text_of(alloc: Global, net: &Net, run: &LongRun<'_>) -> Result<String, AllocE
     joined(alloc, &[(run.start, 1), (&round, run.rounds)])
 }
 
-/// How many lines the text of a run has, and the first size of pieces in which it does not end so.
+/// How many lines the text of a run has, and the first size of pieces in which it ends otherwise.
 fn told_on(alloc: Global, net: &Net, run: &LongRun<'_>) -> Result<(usize, Option<usize>), Fail> {
     let text = text_of(alloc, net, run)?;
     let first = first_unsettled(alloc, net, &text, run)?;

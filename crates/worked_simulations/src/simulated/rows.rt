@@ -1,4 +1,4 @@
-//! Two nodes, from their start or from what a fault left.
+//! Two nodes, from their start or after a fault.
 use super::*;
 use std::test::Fail;
 use test_parts::as_told;
@@ -126,7 +126,7 @@ sweeps 1 of 69
 ",
         sweeps: 1,
     },
-    // Given back, the token goes on.
+    // After the release the token goes on.
     Row {
         lease: 0,
         text: &[(ROUND, 1), (LENT, 1), ("leave 0 1\ntick 0\n", 1)],
@@ -141,7 +141,7 @@ sweeps 1 of 69
 ",
         sweeps: 1,
     },
-    // It comes back, and is lent to the second.
+    // The token comes back, and is lent to the second ticket.
     Row {
         lease: 0,
         text: &[
@@ -169,7 +169,7 @@ fn a_loan_without_a_lease_ends_when_it_is_given_back(rt: HostRuntime) -> Result<
     as_told(first_wrong(rt.alloc(), &WITHOUT_A_LEASE), &None)
 }
 
-/// A loan for one tick, and one tick and two after it.
+/// A loan for one tick, then one tick and two ticks after it.
 const LEASE_OF_ONE: [Row<'_>; 2] = [
     Row {
         lease: 1,
@@ -206,7 +206,7 @@ fn a_lease_of_one_tick_ends_at_the_second(rt: HostRuntime) -> Result<(), Fail> {
     as_told(first_wrong(rt.alloc(), &LEASE_OF_ONE), &None)
 }
 
-/// As many rounds as the lock needs, and some more.
+/// As many rounds as needed, and some more.
 const ROUND_AND_ROUND: [Row<'_>; 4] = [
     Row {
         lease: 0,
@@ -250,7 +250,7 @@ sweeps 72 of 69
 ",
         sweeps: 72,
     },
-    // Of two tickets at node 1 the first is lent the lock for one tick, and then the second.
+    // Of two tickets at node 1 the first gets the lock for one tick, and then the second.
     Row {
         lease: 1,
         text: &[(ROUND, 69), ("ask 1 1\nask 1 2\n", 1), (ROUND, 6)],
@@ -282,7 +282,7 @@ privileged 2 lending 2
 sweeps 0 of 69
 ";
 
-/// What the forged tokens come to.
+/// What becomes of the forged tokens.
 const TWO_FORGED: [Row<'_>; 4] = [
     Row {
         lease: 0,
@@ -312,7 +312,7 @@ sweeps 0 of 69
 ",
         sweeps: 0,
     },
-    // Given back too, which makes the tick a full one, and the sweep.
+    // This loan ends too, which makes the tick full, and completes the sweep.
     Row {
         lease: 0,
         text: &[(FORGED, 1), (ROUND, 3), ("leave 0 5\ntick 0\n", 1)],
@@ -334,8 +334,8 @@ fn of_two_forged_tokens_one_is_left(rt: HostRuntime) -> Result<(), Fail> {
     as_told(first_wrong(rt.alloc(), &TWO_FORGED), &None)
 }
 
-/// Of noise on a link of one place the second is refused, and of two frames there the one whose
-/// number is out of range.
+/// On a link of one place the second noise is refused; of two frames, the one whose number is out
+/// of range.
 const ITEMS: &str = "\
 harm junk 0 1
 harm junk 0 1
@@ -344,7 +344,7 @@ harm frame 0 1 5 0 0 none 0
 harm frame 0 1 4 3 0 none 0
 ";
 
-/// What those harms come to, and the item that is left when it is taken.
+/// The result of those harms, and of taking the item that is left.
 const PUT_ON_LINKS: [Row<'_>; 2] = [
     Row {
         lease: 0,
@@ -381,7 +381,7 @@ fn harms_put_items_on_links(rt: HostRuntime) -> Result<(), Fail> {
     as_told(first_wrong(rt.alloc(), &PUT_ON_LINKS), &None)
 }
 
-/// The root is at its distance, and has copied that node 1 is its tree neighbour.
+/// The root has its true distance, and has copied that node 1 is its tree neighbour.
 const HELD: &str = "harm own 0 0 none\nharm copy 0 1 1 0 0\n";
 
 /// The root has the token.

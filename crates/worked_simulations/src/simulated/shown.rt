@@ -29,8 +29,7 @@ fn show(world: &World, sweeps: u64, sink: &mut MemorySink) -> Result<(), SimFaul
     state_text(world, sweeps, sink)
 }
 
-/// What is answered if a world is shown into `room` bytes, and whether the front of its text
-/// fills them.
+/// The answer if a world is shown into `room` bytes, and whether the front of its text fills them.
 fn shown_into(
     alloc: Global,
     world: &World,
@@ -42,7 +41,7 @@ fn shown_into(
     Ok((answer, is_filled))
 }
 
-/// The first number of bytes into which a world is not shown as far as there is room.
+/// The first number of bytes that the front of the text does not fill.
 fn first_wrong_room(alloc: Global, world: &World) -> Result<Option<usize>, AllocError> {
     for room in 0..=SHOWN.len() {
         let want = if room < SHOWN.len() {
@@ -69,7 +68,7 @@ fn world_of_two(alloc: Global) -> Result<World, Fail> {
 }
 
 /// Whether a frame of two nodes gets under way and a ticket waits, and the first number of bytes
-/// into which they are not shown then as far as there is room.
+/// that the front of the text does not fill then.
 fn shown_as_far(alloc: Global) -> Result<(bool, Option<usize>), Fail> {
     let mut world = world_of_two(alloc)?;
     let are_accepted = all_happen(&mut world, &["send 0 1", "ask 1 9"]);
@@ -81,7 +80,7 @@ fn a_world_is_shown_as_far_as_there_is_room(rt: HostRuntime) -> Result<(), Fail>
     as_told(shown_as_far(rt.alloc()), &(true, None))
 }
 
-/// Whether a world is shown so after the event of each line, none of which is refused.
+/// Whether a world accepts the events of these lines, and is then shown like this.
 fn is_shown_behind(
     alloc: Global,
     world: &mut World,
@@ -116,7 +115,7 @@ fn world_of_three(alloc: Global) -> Result<World, Fail> {
     world_of(alloc, Net::make(alloc, 3, 2, 4, 0, &[(2, 1), (0, 2)]))
 }
 
-/// Whether they are shown so after those lines.
+/// Whether they are shown like this after those lines.
 fn are_links_shown(alloc: Global) -> Result<bool, Fail> {
     let mut world = world_of_three(alloc)?;
     Ok(is_shown_behind(alloc, &mut world, &SENDS, SENT)?)

@@ -25,7 +25,7 @@ sweeps 1 of 69
 
 /// Short runs, of which some are a sweep.
 const SHORT_RUNS: [Row<'_>; 5] = [
-    // A round without its last take is one.
+    // A round without its last take is a sweep.
     Row {
         lease: 0,
         text: &[(
@@ -67,7 +67,7 @@ sweeps 1 of 69
         state: HEARD,
         sweeps: 1,
     },
-    // One that is lost is in no way.
+    // A lost item does not stand in the way.
     Row {
         lease: 0,
         text: &[(
