@@ -1,11 +1,12 @@
 #!/usr/bin/env bash
-# Tries the clients of examples/clients against a ring of three nodes: all at once under one lock that guards a number; a
-# limit; a lease that ends a hold; a node that is killed; a node with 64 that wait; a node that is not there. Prints a row
-# each; status 1 if any is wrong, or if none could be tried. A language that is not on this machine is named and left out.
+# Tries the clients of examples/clients against a ring of three nodes: all at once under one lock that guards a number;
+# a limit; a lease that ends a hold; a node that is killed; a node with 64 that wait; a node that is not there. Prints a
+# row each; status 1 if any is wrong, or if none could be tried. A language that this machine does not have is named and
+# left out.
 #
 #   bench/clients.sh [TIMES]     how often each client takes the lock to add one (20)
 #
-# The program is ./tokentree, or what TOKENTREE names. Needs python3; cc, rustc, go, and socat for the others. If there is no
+# The program is ./tokentree, or what TOKENTREE names. Needs python3; cc, rustc, go, and socat for the others. Without
 # socat, the shell's client runs over a stand-in of eight lines.
 set -euo pipefail
 cd "$(dirname "$0")/.."
@@ -40,7 +41,7 @@ def report(row, faults):
 
 
 def built():
-    """The words that run each client, by its language."""
+    """The command that runs each client, by its language."""
     made = {"python": ["python3", f"{SOURCES}/tokentree_lock.py"], "shell": ["sh", f"{SOURCES}/tokentree_lock.sh"]}
     if not shutil.which("socat"):
         print("no socat here: the shell's client runs over a stand-in")
@@ -62,7 +63,7 @@ def built():
 
 
 class Nodes:
-    """A ring of three nodes as processes, in a folder of their own."""
+    """A ring of three nodes as processes, in their own folder."""
 
     def __init__(self, name, lease):
         self.run, self.file = f"{folder}/{name}", f"{folder}/{name}.toml"
@@ -76,7 +77,7 @@ class Nodes:
         return subprocess.Popen([program, "node", self.file, str(node), self.run], stdout=subprocess.DEVNULL, stderr=subprocess.DEVNULL)
 
     def settle(self):
-        """Until the lock was lent at each node once."""
+        """Waits until each node has lent the lock once."""
         for node in range(3):
             subprocess.run([program, "lock", "--timeout", "30", self.run, str(node), "--", "true"], check=False, stderr=subprocess.DEVNULL)
 
@@ -93,7 +94,7 @@ class Nodes:
 
 
 class Client:
-    """A client that runs. It holds the lock until its input is closed."""
+    """A running client. It holds the lock until its input is closed."""
 
     def __init__(self, words, desk, limit):
         self.process = subprocess.Popen([*words, desk, str(limit)], stdin=subprocess.PIPE, stdout=subprocess.PIPE,
@@ -103,13 +104,13 @@ class Client:
         return self.process.stdout.readline().strip()
 
     def end(self):
-        """Closes its input; its last line and its status."""
+        """Closes its input. Returns its last line and its status."""
         self.process.stdin.close()
         return self.line(), self.process.wait(timeout=15)
 
 
 def add(words, desk, counter, faults):
-    """Takes the lock and adds one to the number that nothing else guards, so many times."""
+    """Takes the lock and adds one to the number that nothing else guards, this many times."""
     for _ in range(times):
         client = Client(words, desk, 60)
         if (said := client.line()) != "granted":
@@ -132,8 +133,8 @@ def all_at_once(clients):
                    for place, words in enumerate(clients.values())]
         [worker.start() for worker in workers]
         [worker.join() for worker in workers]
-        want, number = times * len(clients), int(open(counter).read())
-        report(f"{len(clients)} clients at once add {number} of {want}", faults + ["two held it at once"] * (number != want))
+        wanted, number = times * len(clients), int(open(counter).read())
+        report(f"{len(clients)} clients at once add {number} of {wanted}", faults + ["two held it at once"] * (number != wanted))
 
 
 def one_by_one(language, words):

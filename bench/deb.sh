@@ -1,12 +1,11 @@
 #!/bin/sh
-# Makes the Debian package twice, which gives the same bytes; has lintian look at it, if that is there; and installs, runs,
-# removes and purges it in a throw-away system: this machine's own, seen through an overlay whose changes stay in memory and
-# are gone at the end. Status 1 if something is not as it should be; if no such system can be made it says so, and the status
-# is 77.
+# Makes the Debian package twice, and compares the bytes; checks it by lintian, if there is one; and installs, runs,
+# removes and purges it in a throw-away system: this machine's own, seen through an overlay whose changes stay in
+# memory. Status 1 if something is wrong; 77, with a line that says so, if no such system can be made.
 #
 #   bench/deb.sh
 #
-# The program is the one that packaging/deb.sh takes. Wants root, unshare, and dpkg.
+# The program is the one that packaging/deb.sh takes. Needs root, unshare, and dpkg.
 set -eu
 cd "$(dirname "$0")/.."
 
@@ -16,7 +15,7 @@ if [ "${1:-}" != --inside ]; then
     packaging/deb.sh "$made" >/dev/null
     mkdir "$made/again"
     sleep 1
-    # Another time, zone, mask and locale.
+    # With another time, zone, mask and locale.
     (umask 077; TZ=Asia/Tokyo LC_ALL=C.UTF-8 packaging/deb.sh "$made/again" >/dev/null)
     cmp "$made"/*.deb "$made"/again/*.deb || { echo "deb: two packages of the same files differ" >&2; exit 1; }
     rm -r "$made/again"
@@ -31,7 +30,7 @@ if [ "${1:-}" != --inside ]; then
     exit $status
 fi
 
-# From here on in a space of mounts of its own, which ends with this script.
+# From here on in its own mount namespace, which ends with this script.
 system=$2/system
 package=$(echo "$2"/*.deb)
 cannot() { echo "deb: no throw-away system can be made here" >&2; exit 77; }
@@ -62,7 +61,7 @@ inside dpkg --listfiles tokentree >"$system/files"
 for name in copyright changelog.gz README.md docs/OPERATING.md docs/scrambled-square.svg examples/round.txt; do
     [ -s "$system/root/usr/share/doc/tokentree/$name" ] || fault "the package lacks $name"
 done
-# Whatever the documents of the package link to is in it, under the same name.
+# All that the documents of the package link to is in it, under the same name.
 for document in README.md docs/*.md; do
     grep -oh '](\([^)#:]*\))' "$document" | sed 's/^](//; s/)$//' | while read -r name; do
         echo "$(dirname "$document")/$name"
@@ -76,7 +75,7 @@ done <"$system/named"
 inside dpkg --status tokentree | grep -q '^Depends: libc6 (>= 2' || fault "the package names no version of libc6"
 wc -l <"$system/files" | sed 's/$/ files and folders/'
 
-# What a node or a link leaves in its folder goes with a purge, not with a removal.
+# A purge, not a removal, deletes what a node or a link leaves in its folder.
 mkdir -p "$system/root/var/lib/tokentree" "$system/root/run/tokentree-link"
 : >"$system/root/var/lib/tokentree/state-0.tkt"
 : >"$system/root/etc/tokentree/network.toml"

@@ -1,7 +1,7 @@
 #!/bin/sh
-# Starts a network of three node processes and, at each node, clients that take the lock again and again by
-# `tokentree lock`. Under the lock each makes a folder, which fails if another one holds the lock too, and removes it.
-# Prints how often the lock was taken, and how often two held it at once; status 1 if they ever did.
+# Starts a network of three node processes and, at each node, clients that take the lock again and again by `tokentree
+# lock`. Under the lock each makes a folder, which fails if another client holds the lock too, and removes it. Prints
+# how often the lock was taken, and how often two clients held it at once; status 1 if they ever did.
 #
 #   bench/exclusion.sh [TIMES] [CLIENTS]     how often each client takes it (50), and how many there are at a node (2)
 #
@@ -41,7 +41,7 @@ fi
 END
 chmod +x "$folder/held"
 
-# Until the tree stands: each node shows its distance, and the token is somewhere now and then.
+# Wait until the tree is built: each node shows its distance, and the token shows up now and then.
 tries=0
 until "$program" status "$folder/nodes" 2>/dev/null | grep -q 'node 2 distance 1 parent 0'; do
     tries=$((tries + 1))

@@ -1,6 +1,6 @@
-// A library that is loaded in front of the C library and lets one call of a kind fail: the call number FAIL_AT (from 0) of those
-// that FAIL_CALLS names, with the error FAIL_ERROR. All other calls are the C library's own. Where it has let one fail, it makes
-// the file FAIL_MARK. It does so in processes of the program FAIL_PROGRAM alone. bench/failures.sh builds and uses it:
+// A library that is loaded in front of the C library and makes one call of a kind fail: call number FAIL_AT (from 0) of
+// the kind FAIL_CALLS, with the error FAIL_ERROR. All other calls are the C library's own. After the failure it makes
+// the file FAIL_MARK. It does so only in processes of the program FAIL_PROGRAM. bench/failures.sh builds and uses it:
 //
 //   cc -shared -fPIC -O1 -o failing-calls.so failing-calls.c
 //   LD_PRELOAD=./failing-calls.so FAIL_PROGRAM=tokentree FAIL_CALLS=write FAIL_AT=2 FAIL_ERROR=28 FAIL_MARK=/tmp/mark tokentree ..
@@ -59,7 +59,7 @@ static int fails(const char *of) {
 #define WRAP(of, type, name, parameters, arguments) \
     type name parameters { return fails(of) ? (type)-1 : NEXT(name) arguments; }
 
-// Memory: the C library's own allocator stays there under its other names.
+// Memory: the C library's own allocator is still there under its other names.
 extern void *__libc_malloc(size_t), *__libc_calloc(size_t, size_t), *__libc_realloc(void *, size_t), *__libc_memalign(size_t, size_t);
 void *malloc(size_t size) { return fails("memory") ? NULL : __libc_malloc(size); }
 void *calloc(size_t count, size_t size) { return fails("memory") ? NULL : __libc_calloc(count, size); }

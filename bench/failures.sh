@@ -1,17 +1,16 @@
 #!/usr/bin/env bash
-# Lets everything that can fail fail once, in the built program. Each kind of call that a command makes of the system
+# Makes everything that can fail fail once, in the built program. Each kind of system call of a command
 # (bench/failing-calls.c names the kinds; growths of memory are one) fails at its first use, in another run at its
-# second, and so on until a run meets no failure. Each run must then end with a status that its command has, and with
-# one line on standard error if that status is 1, or as it would have without the failure; what stood before must
-# stand: a network goes on serving, and a node starts from whatever file is left. Then the machine itself refuses: no
-# descriptors, no room on the disk, a folder without the right to write.
+# second, and so on until a run meets no failure. Each run must end with a status of its command, and with one line on
+# standard error if that status is 1, or as it would have without the failure. Nothing else may suffer: a network goes
+# on serving, and a node starts from whatever file is left. Then the machine itself refuses: no descriptors, no room on
+# the disk, a folder without the right to write.
 #
-#   bench/failures.sh [MOST]     the most runs for each kind of call of one command; 400 if nothing is said
+#   bench/failures.sh [MOST]     the most runs for each kind of call of one command (400)
 #
-# Prints a line for each command and kind: how many runs met a failure, and how many of them ended with which status.
-# A line that begins with `WRONG` says what is wrong; with one of them the status is 1. It wants `cc`; a small
-# disk and running as nobody want root, and are passed over without it. The program is ./tokentree, or what TOKENTREE
-# names.
+# Prints a line for each command and kind: how many runs met a failure, and how many of them ended with which status. A
+# line that begins with `WRONG` says what is wrong; then the status is 1. It needs `cc`; the small disk and running as
+# nobody need root, and are left out without it. The program is ./tokentree, or what TOKENTREE names.
 set -uo pipefail
 cd "$(dirname "$0")/.." || exit 1
 most=${1:-400}
@@ -54,7 +53,7 @@ error_of() {
     esac
 }
 
-# Runs the program with the call number $2 of kind $1 failing; what it prints goes to files, its status to `status`.
+# Runs the program with call number $2 of kind $1 failing; its output goes to files, its status to `status`.
 run_failing() {
     local kind=$1 at=$2
     shift 2
@@ -64,13 +63,13 @@ run_failing() {
     status=$?
 }
 
-# Whether standard error has what a failure says: one line of the program's own.
-tells_one_line() {
+# Whether standard error has one line of the program's own, as after a failure.
+says_one_line() {
     [ "$(wc -l <"$folder/err")" -eq 1 ] && grep -q '^tokentree: ' "$folder/err"
 }
 
-# Holds a run with a failure against the usual one: NAME STATUSES USUAL KIND; STATUSES are those that a failure may
-# end with beside the usual one. Where `loose` is set, the output differs from run to run.
+# Compares a run with a failure with the usual one: NAME STATUSES USUAL KIND; STATUSES are those that a failure may end
+# with, besides the usual one. If `loose` is set, the output differs from run to run.
 judge() {
     local name=$1 statuses=$2 usual=$3 kind=$4
     if [ "$status" -eq "$usual" ]; then
@@ -78,15 +77,17 @@ judge() {
     elif [[ " $statuses " != *" $status "* ]]; then
         wrong "$name: status $status: $(head -c 200 "$folder/err")"
     else
-        # Where it is the very line that cannot be written, there is none; of a node that gave no answer, it is on standard output.
-        tells_one_line || { [ "$kind" = write ] && [ ! -s "$folder/err" ]; } || grep -q ' no answer$' "$folder/out" ||
-            wrong "$name: status $status tells $(head -c 200 "$folder/err")"
+        # If that line itself cannot be written, there is none; for a node that gave no answer, it is on standard
+        # output.
+        says_one_line || { [ "$kind" = write ] && [ ! -s "$folder/err" ]; } || grep -q ' no answer$' "$folder/out" ||
+            wrong "$name: status $status says $(head -c 200 "$folder/err")"
         [ -n "$loose" ] || cmp -s -n "$(wc -c <"$folder/out")" "$folder/out" "$folder/usual" ||
             wrong "$name: no beginning of the usual output"
     fi
 }
 
-# Each call of each kind fails once: NAME STATUSES CHECK WORDS.. CHECK is called with `before` and `after` around each run.
+# Makes each call of each kind fail once: NAME STATUSES CHECK WORDS.. CHECK is called with `before` and `after` around
+# each run.
 try() {
     local name=$1 statuses=$2 check=$3 kind at usual
     shift 3
@@ -114,7 +115,7 @@ try() {
 
 nothing() { :; }
 
-# A file stands where one is to be written or cut.
+# There is a file where the command will write or cut one.
 file_stands() {
     [ "$1" = after ] || head -c 50 /dev/zero >"$folder/one.state"
 }
@@ -125,7 +126,7 @@ still_serves() {
         wrong "the lock is not to be had: $(cat "$folder/lock-err")"
 }
 
-# A node is told to stop, which it does at its 256th turn; afterwards another one starts there.
+# Asks a node to stop, which it does at its 256th turn; afterwards another one starts there.
 node_starts() {
     mkdir -p "$folder/alone"
     : >"$folder/alone/stop-0"
@@ -145,7 +146,7 @@ try scramble "1" file_stands scramble "$folder/two.toml" 1 "$folder/one.state" 7
 try cut "1" file_stands cut "$folder/one.state" 33
 try junk "1" nothing junk 7 20
 loose=yes
-try threads "1" nothing threads "$folder/two.toml" 20 --events "$folder/told"
+try threads "1" nothing threads "$folder/two.toml" 20 --events "$folder/wrote"
 most=$((most < 60 ? most : 60))
 try node "1" node_starts node "$folder/two.toml" 0 "$folder/alone"
 most=$((most < 30 ? most : 30))
@@ -162,15 +163,16 @@ still_serves after
 try status "1" still_serves status "$folder/nodes"
 try lock "122 125 126 127" still_serves lock --timeout 5 "$folder/nodes" 0 -- "$folder/seven"
 
-# Holds a run against what the machine refuses, and says how it ended: NAME STATUSES [USUAL]; the run left its
-# `status` and `err`. It ends as usual, or with one of the statuses and a line.
+# Judges a run in which the machine refuses something, and says how it ended: NAME STATUSES [USUAL]; the run left its
+# `status` and `err`. It must end as usual, or with one of the statuses and a line.
 refused() {
-    [ "$status" = "${3:-}" ] || { [[ " $2 " == *" $status "* ]] && tells_one_line; } ||
+    [ "$status" = "${3:-}" ] || { [[ " $2 " == *" $status "* ]] && says_one_line; } ||
         wrong "$1: status $status: $(head -c 200 "$folder/err")"
     echo "$1: status $status $(head -n 1 "$folder/err")"
 }
 
-# Fewer and fewer descriptors; the loader of the program itself wants one for the C library. A line: the usual status, and the words.
+# Fewer and fewer descriptors; the program's loader itself needs one for the C library. A line: the usual status, and
+# the words.
 for limit in 12 10 8 7 6 5 4; do
     while read -r usual words; do
         : >"$folder/alone/stop-0"
@@ -189,7 +191,7 @@ END
 done
 still_serves after
 
-# No room: a file of more than no bytes cannot be written (the signal that says so is ignored).
+# No room: no file of any bytes can be written (the signal for that is ignored).
 file_stands before
 (trap '' XFSZ && ulimit -f 0 && exec "$program" scramble "$folder/two.toml" 1 "$folder/one.state" 7) >"$folder/out" 2>/dev/null
 status=$?
@@ -238,11 +240,11 @@ scramble two.toml 1 locked/one.state 7
 cut two.toml 3
 status nodes
 lock nodes 0 -- true
-threads two.toml 3 --events locked/told
+threads two.toml 3 --events locked/wrote
 END
     [ -z "$(ls -A "$folder/locked")" ] || wrong "something was made in a folder of somebody else"
 else
-    echo "running as nobody wants root: a folder without the right to write was not tried"
+    echo "running as nobody needs root: a folder without the right to write was not tried"
 fi
 still_serves after
 echo "wrong: $wrongs"

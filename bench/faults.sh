@@ -1,9 +1,10 @@
 #!/usr/bin/env bash
-# Shows what faults do to nodes that run as processes. Two clients a node take the lock again and again, and under it add
-# one to a number in a file that nothing else guards (bench/faulty_network.py). Nodes are stopped, killed and started
-# again, their states scrambled or cut, junk and forged frames sent into a link. Prints a table: after each fault, how long
-# it took until every node had lent the lock again, the adds that went wrong and when the last one was, and whether every
-# add was right from a second after the recovery on. Status 1 if one was not, or a node did not lend within 30 seconds.
+# Shows what faults do to nodes that run as processes. At each node two clients take the lock again and again, and under
+# it add one to a number in a file that nothing else guards (bench/faulty_network.py). Nodes are stopped, killed and
+# started again, their states are scrambled or cut, and junk and forged frames are sent into a link. Prints a table: for
+# each fault, how long it took until every node had lent the lock again, the adds that went wrong and when the last one
+# was, and whether every add was right from a second after the recovery on. Status 1 if one was not, or a node did not
+# lend within 30 seconds.
 #
 #   bench/faults.sh               rings of 3, 4 and 8 nodes, each fault 3 times: some five minutes
 #   bench/faults.sh short         a ring of 3, each fault once: half a minute
@@ -46,7 +47,7 @@ def millis(nanoseconds):
 
 
 def row(net, name, fault, rng):
-    """Tries a fault, prints its row of the table, and says whether all was right."""
+    """Tries a fault, prints its row of the table, and returns whether all was right."""
     tries = [try_fault(net, fault, rng) for _ in range(times)]
     took = [try_[0] for try_ in tries if try_[0] is not None]
     wrong = [at for try_ in tries for at in try_[1]]

@@ -15,7 +15,7 @@ import time
 
 SECOND = 1_000_000_000
 
-# What `lock` runs: the number goes up by one, in one write that cuts nothing off. The log says when, and to what.
+# What `lock` runs: it raises the number by one, in one write that cuts nothing off. The log says when, and to what.
 ADD = """
 start=$(date +%s%N)
 read -r number < "$0"
@@ -45,12 +45,12 @@ def connect(path):
 
 
 def lend_and_add(desk, counter, log, rng):
-    """One loan of a node's desk, in which the number goes up by one."""
+    """One loan of a node's desk, which raises the number by one."""
     desk.sendall(b"lock\n")
     assert desk.recv(64) == b"granted\n"
     start = time.time_ns()
     number = int(os.pread(counter, 20, 0)) + 1
-    # Long enough for another add to come between, if two clients hold the lock.
+    # Time enough for another add in between, if two clients hold the lock.
     time.sleep(rng.random() / 1000)
     os.pwrite(counter, b"%020d\n" % number, 0)
     os.write(log, b"%d %d %d\n" % (start, time.time_ns(), number))
@@ -81,7 +81,7 @@ def by_command(program, run, node, ended):
 
 
 class Network:
-    """Nodes as processes, in a folder of their own."""
+    """Nodes as processes, in their own folder."""
 
     def __init__(self, program, folder, name, edges):
         self.program, self.nodes = program, 1 + max(max(edge) for edge in edges)
@@ -126,7 +126,7 @@ class Network:
         subprocess.run(words, check=True)
 
     def send(self, edge, data):
-        """Writes bytes to the lower node of an edge as its neighbour, whose own connection closes then."""
+        """Writes bytes to the lower node of an edge as its neighbour; the neighbour's own connection then closes."""
         low, high = edge
         try:
             with connect(f"{self.run}/node-{low}.sock") as link:
@@ -147,7 +147,7 @@ class Network:
         return b"".join(frame() for _ in range(100))
 
     def look(self, node):
-        """What a node says to whoever looks, as soon as it does; its instant is when it was read."""
+        """What a node says to lookers, as soon as it does; its instant is when it was read."""
         until = time.time() + 10
         while True:
             try:
@@ -159,7 +159,7 @@ class Network:
                 time.sleep(0.002)
 
     def looks(self):
-        """The same of all nodes."""
+        """The same for all nodes."""
         return [self.look(node) for node in range(self.nodes)]
 
     def adds(self):
@@ -249,7 +249,7 @@ FAULTS = [
 
 
 def settles(net, since):
-    """All adds since then until each node has lent the lock since, and after how many nanoseconds that was; none in 30 s."""
+    """All adds until each node has lent the lock since then, and after how many nanoseconds; none after 30 s."""
     adds, served = [], {}
     while len(served) < net.nodes:
         if time.time_ns() > since + 30 * SECOND:
@@ -280,7 +280,7 @@ class Clients:
             client.start()
 
     def end(self):
-        """Ends the clients and then the nodes. How often `lock` ended with each status, and the statuses of the nodes."""
+        """Ends the clients and then the nodes. Returns how often `lock` ended with each status, and the nodes' statuses."""
         for client in self.running:
             client.kill()
             client.join()
@@ -288,6 +288,6 @@ class Clients:
         while not self.ended.empty():
             status = self.ended.get()
             statuses[status] = statuses.get(status, 0) + 1
-        # Whoever holds the lock as the clients are killed releases it before a node can be stopped.
+        # A client that holds the lock when the clients are killed releases it before a node can stop.
         time.sleep(0.5)
         return dict(sorted(statuses.items())), self.net.stop(range(self.net.nodes))

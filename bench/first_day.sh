@@ -1,9 +1,9 @@
 #!/bin/sh
-# Does what a new user and an operator do on their first day, slips included, and says what is not as it should be: which
-# line on standard error names a mistake, how the program ends when its reader goes or the disk is full, that examples
-# recover, that a large picture is quick, that `lock` waits as it is asked to, that nodes end by `stop` and `up` by signals
-# and by the end of its input, what a node says of its file and of its clients, who may do what with `--group-locks`, what
-# the completions of bash and fish offer, and that documents explain the words. Status 1 if anything is wrong.
+# Does what a new user and an operator do on their first day, slips included, and reports what is wrong: which line on
+# standard error names a mistake, how the program ends when its reader goes or the disk is full, that examples recover,
+# that a large picture is quick, that `lock` waits as asked, that nodes end by `stop` and `up` by signals and by the end
+# of its input, what a node says of its file and of its clients, who may do what with `--group-locks`, what the
+# completions of bash and fish offer, and that documents explain the words. Status 1 if anything is wrong.
 #
 #   bench/first_day.sh
 #
@@ -109,7 +109,7 @@ for words in 'junk 1 1000000' 'schedule ring.toml --rounds 100000' 'simulate rin
     }
 done
 
-# The examples of the help, as they stand there; of a user's own file, an example.
+# The examples of the help, word for word; for a user's own file, an example.
 ln -s "$examples" examples
 cp examples/forged-tokens.txt events.txt
 "$program" --help | sed -n '/^Examples:/,/^$/s/^  tokentree //p' >words
@@ -131,7 +131,7 @@ for seed in 1 2 3 4 5 6 7; do
 done
 
 
-# Without a lease they do if the lock is given back; else a line says what holds up the sweeps, and only then.
+# Without a lease they do if the lock is released; else, and only then, a line says what holds up the sweeps.
 held='tokentree: a node lends the lock without a lease: no sweep ends until its ticket leaves'
 seen=0
 for seed in 1 2 3 4 5 6 7; do
@@ -170,7 +170,7 @@ seconds() { bash -c 'TIMEFORMAT="%U"; time "$@" >output 2>said' bash "$@" 2>&1; 
 "$program" schedule large.toml --scramble 1 --random 174000 --seed 1 >large.txt
 drawn=$(seconds "$program" draw large.toml large.txt)
 awk -v d="$drawn" 'BEGIN { exit !(d <= 1) }' || wrong "174,000 events of a ring of 64 are drawn in $drawn s"
-# A drawing of more than two seconds shows on a terminal how far it is, and takes the line away.
+# A drawing of more than two seconds shows its progress on a terminal, and then removes the line.
 if command -v python3 >/dev/null; then
     python3 - "$program" <<'PYTHON' || wrong "a long drawing shows nothing on a terminal: $(cat said)"
 import os, subprocess, sys, time
@@ -200,7 +200,7 @@ for words in --help $("$program" --help | awk '/^Commands:/ { on = 1; next } on 
     [ "$(awk 'length > 80' output | wc -l)" -eq 0 ] || wrong "$words has lines over 80 columns: $(awk 'length > 80' output)"
 done
 
-# Waits until each node of a ring of three has said that it is ready, in these files or in one of `up`.
+# Waits until each node of a ring of three has said that it is ready, in these files or in that of `up`.
 ready() {
     for _ in $(seq 100); do [ "$(cat "$@" 2>/dev/null | grep -c 'ready$')" -eq 3 ] && break; sleep 0.1; done
 }
@@ -211,7 +211,7 @@ hold() {
     holder=$!
     for _ in $(seq 100); do grep -qs held holding && break; sleep 0.1; done
 }
-# The command ends with this status; standard error has these lines of another status of its own, or none.
+# The command ends with this status; if that is the program's own, standard error has these lines, else none.
 locks() {
     wanted=$1
     shift
@@ -220,7 +220,7 @@ locks() {
     [ "$status" -eq "$wanted" ] || wrong "lock $*: status $status, and not $wanted: $(cat said)"
 }
 
-# What `lock` says of mistakes, how it waits, and what its options do; how `status` shows links.
+# What `lock` says about mistakes, how it waits, and what its options do; how `status` shows links.
 setsid env --block-signal=HUP,INT,TERM,TTIN "$program" up ring.toml waits >up.out 2>&1 </dev/null &
 running=$!
 ready up.out
@@ -251,7 +251,7 @@ for words in '-n' '--no-wait' '--timeout 0.2'; do
 done
 rm held
 wait $holder || wrong "who held the lock has $?: $(cat said-held)"
-# A lock that is lost has the status that is asked for: node 2 is killed while a command holds its lock.
+# A lost lock has the status that was asked for: node 2 is killed while a command holds its lock.
 hold -E 75 waits 2
 kill -KILL "$(pgrep -g $running -f ' 2 waits$')"
 wait $holder
@@ -262,7 +262,7 @@ kill -TERM $running
 wait $running || wrong "up does not end well after the locks: $(cat up.out)"
 running=
 
-# Nodes are ended by `stop`, and not twice.
+# `stop` ends nodes, and only once.
 for node in 0 1 2; do
     "$program" node ring.toml $node run >"node-$node" 2>&1 </dev/null &
     running="$running $!"
@@ -276,7 +276,7 @@ ends 0 '' stop run
 wait
 running=
 
-# A node says which edges came and went, and why it does not take a file up. `scramble` and `cut` say that it runs.
+# A node says which edges came and went, and why it does not use a file. `scramble` and `cut` say that it runs.
 network 'lease = 0' >live.toml
 "$program" node live.toml 0 live >node-0 2>said </dev/null &
 running=$!
@@ -296,7 +296,7 @@ ends 0 '' cut live/state-0.tkt 33
 wait
 running=
 
-# `up` runs on with nothing as its input, ends its nodes at a signal, and kills them at the second.
+# `up` without an input runs on, ends its nodes at a signal, and kills them at the second.
 for round in once twice; do
     setsid env --default-signal=INT --block-signal=HUP,INT,TERM,TTIN "$program" up ring.toml "up-$round" >up.out 2>&1 </dev/null &
     running=$!
@@ -319,7 +319,7 @@ for round in once twice; do
     running=
 done
 
-# It ends well too at SIGHUP, and at the end of a pipe.
+# It also ends well at SIGHUP, and at the end of a pipe.
 goodbye='node 0 has ended node 1 has ended node 2 has ended '
 says_goodbye() {
     [ "$(grep 'has ended' up.out | sort | tr '\n' ' ')" = "$goodbye" ] || wrong "$1: up says $(cat up.out)"
@@ -342,7 +342,7 @@ wait $running || wrong "up does not end well at the end of its input"
 running=
 says_goodbye 'the end of a pipe'
 
-# A node says so if links hold fewer frames than may be under way, and a new user is told the same number by the help.
+# A node warns if links hold fewer frames than may be under way, and the help gives a new user the same number.
 sed 's/capacity = 64/capacity = 1/' ring.toml >small.toml
 "$program" node small.toml 0 small >node-0 2>said </dev/null &
 running=$!
@@ -352,7 +352,7 @@ wait
 running=
 { grep -q 36 said && "$program" help node | grep -q ' 36 frames'; } || wrong "of a small capacity a node says $(cat said)"
 
-# A member of the group takes the lock, and can do nothing else.
+# A member of the group can take the lock, and nothing else.
 if [ "$(id -u)" -eq 0 ] && command -v setpriv >/dev/null; then
     chmod 755 . && install -d -o 54321 -g 54321 grouped && cp "$program" tokentree && chmod 755 tokentree
     as() { setpriv --reuid="$1" --regid=54321 --clear-groups sh -c "umask 022; exec $2"; }
@@ -384,7 +384,7 @@ if [ "$(id -u)" -eq 0 ] && command -v setpriv >/dev/null; then
     running=
 fi
 
-# A node's log, at two levels, one of them for a journal; nothing without the option.
+# A node's log at two levels, one of them for a journal; nothing without the option.
 printf 'nodes = 2\nroot = 0\ncapacity = 64\nlease = 0\nedges = [[0, 1]]\n' >two.toml
 "$program" node --log 6 two.toml 0 logged >node-0 2>said </dev/null &
 running=$!
@@ -403,7 +403,8 @@ tokentree: node 0: ticket N has given the lock back
 tokentree: node 0: ends" ] || wrong "the log of a node is $(cat said)"
 [ "$(cat said-1)" = "<4>tokentree: node 1: the link to node 0 is down" ] || wrong "the log of a node for a journal is $(cat said-1)"
 
-# It says who has lost the lock, whose lease was over, and once that clients are refused: 64 wait, and one more asks.
+# It says which client lost the lock at the end of its lease, and, once, that clients are refused: 64 wait, and one more
+# asks.
 if command -v python3 >/dev/null; then
     printf 'nodes = 2\nroot = 0\ncapacity = 64\nlease = 100\nedges = [[0, 1]]\n' >leased.toml
     "$program" node --log 5 leased.toml 0 refuses >node-0 2>said </dev/null &
@@ -449,10 +450,10 @@ name, program = sys.argv[1:]
 manager = socket.socket(socket.AF_UNIX, socket.SOCK_DGRAM)
 manager.bind("\0" + name[1:] if name[0] == "@" else name)
 manager.settimeout(20)
-node = subprocess.Popen([program, "node", "ring.toml", "0", "told"], env={**os.environ, "NOTIFY_SOCKET": name},
+node = subprocess.Popen([program, "node", "ring.toml", "0", "notified"], env={**os.environ, "NOTIFY_SOCKET": name},
                         stdout=subprocess.DEVNULL)
 heard = manager.recv(100)
-subprocess.run([program, "stop", "told"], check=True, stdout=subprocess.DEVNULL)
+subprocess.run([program, "stop", "notified"], check=True, stdout=subprocess.DEVNULL)
 sys.exit(heard != b"READY=1" or node.wait() != 0)
 PYTHON
     done
@@ -481,7 +482,7 @@ command -v bash >/dev/null && bash --norc --noprofile -c '
     exit $wrong' bash "$completions/tokentree.bash"
 [ $? -eq 0 ] || found=1
 
-# What fish offers: after `--` what the command takes, and no flag of lock; before it those of lock.
+# What fish offers: after `--` the command's words, and no flag of lock; before it those of lock.
 if command -v fish >/dev/null; then
     HOME=$made fish --no-config -c '
         source $argv[1]

@@ -1,9 +1,9 @@
 #!/usr/bin/env bash
-# Kills each process of a `lock` at each step, by each signal, and tries what a user of flock, timeout or systemd-run would
-# try. The command writes to a file that it runs, each 20 milliseconds; the next client, at another node, writes when it
-# has the lock. A row is right if the status is the one that docs/OPERATING.md has, no command ran on for more than 4
-# seconds without the lock, and whoever came next had it alone. Prints a row each, and what is wrong with it; status 1 if
-# any is.
+# Kills each process of a `lock` at each step, by each signal, and tries what a user of flock, timeout or systemd-run
+# would try. Every 20 milliseconds the command writes to a file that it runs; the next client, at another node, writes
+# when it has the lock. A row is right if the status is that of docs/OPERATING.md, no command ran for more than 4
+# seconds without the lock, and the next client had it alone. Prints each row, and what is wrong with it; status 1 if
+# any is wrong.
 #
 #   bench/kills.sh               all rows, and 250 locks that are killed 0 to 20 ms after their start: some eight minutes
 #   bench/kills.sh short         the same with 25 such locks
@@ -26,16 +26,16 @@ NETWORK, RUN = os.path.abspath("examples/ring-of-three.toml"), f"{folder}/run"
 KILL, TERM, INT, STOP, CONT = signal.SIGKILL, signal.SIGTERM, signal.SIGINT, signal.SIGSTOP, signal.SIGCONT
 GONE = 4.0
 
-# What runs under the lock: it says so each 20 ms, for as long as it is asked to.
+# What runs under the lock: it says so every 20 ms, as long as asked.
 BEAT = 'end=$(($(date +%s%N) + $1)); while now=$(date +%s%N); [ $now -lt $end ]; do echo $now >>"$0"; sleep 0.02; done'
-# The same, which cleans up for a while when it is asked to end.
+# The same, but it cleans up for a while when asked to end.
 CLEAN = """trap stop=1 TERM INT
 stop=; end=$(($(date +%s%N) + $1))
 while now=$(date +%s%N); [ $now -lt $end ] && [ -z "$stop" ]; do echo $now >>"$0"; sleep 0.02; done
 end=$(($(date +%s%N) + $2))
 while now=$(date +%s%N); [ $now -lt $end ]; do echo $now >>"$0"; sleep 0.02; done"""
 
-# A script's background job has both ignored, and its children would too.
+# A script's background job ignores both, and so would its children.
 signal.signal(signal.SIGINT, signal.default_int_handler)
 signal.signal(signal.SIGQUIT, signal.SIG_DFL)
 
@@ -68,7 +68,7 @@ def lock(words, command, **more):
 
 
 def beating(path, seconds, words=(), script=BEAT, node="1", clean=0.0, **more):
-    """A lock whose command beats for so many seconds."""
+    """A lock whose command beats for this many seconds."""
     nanos = [str(int(s * 1e9)) for s in (seconds, clean)]
     return lock([*words, RUN, node], ["sh", "-c", script, path, *nanos], **more)
 
@@ -108,14 +108,14 @@ def command_of(first):
 
 
 def next_one():
-    """When the next client has the lock, at another node; none if it has not within 30 seconds."""
+    """When the next client, at another node, has the lock; none if not within 30 seconds."""
     path = fresh()
     status = lock(["--timeout", "30", RUN, "2"], ["sh", "-c", 'date +%s%N >"$0"', path]).wait()
     return beats(path)[0] if status == 0 else None
 
 
 def judged(row, first, path, hit, status, ends_within=GONE):
-    """What is wrong after a process of a lock was hit: its status, how long its command ran on, and who had the lock."""
+    """What is wrong after a process of a lock was hit: the status, how long the command ran on, and who had the lock."""
     faults = []
     came = next_one()
     try:
@@ -147,7 +147,7 @@ def hit_with(process, signals):
 
 
 def held(row, who, signals, status, seconds=1.5, words=(), ends_within=GONE, **more):
-    """Hits a process of a lock whose command runs."""
+    """Hits a process of a lock while its command runs."""
     path = fresh()
     first = beating(path, seconds, words, **more)
     if not until(lambda: beats(path)) or not until(lambda: guard_of(first)):
@@ -159,7 +159,7 @@ def held(row, who, signals, status, seconds=1.5, words=(), ends_within=GONE, **m
 
 
 def waited(row, signals, status, words=()):
-    """Hits a lock that waits while another one holds the lock."""
+    """Hits a lock that waits while another client holds the lock."""
     holder = beating(fresh(), 2.0, node="0")
     until(lambda: guard_of(holder))
     path = fresh()
@@ -173,7 +173,7 @@ def waited(row, signals, status, words=()):
 
 
 def waited_guard(row, signals, gone):
-    """Hits the guard of a lock that waits while another one holds the lock: the command runs, under a guard that lives."""
+    """Hits the guard of a lock that waits while another client holds the lock: the command runs, under a guard that lives."""
     holder = beating(fresh(), 2.0, node="0")
     until(lambda: guard_of(holder))
     path = fresh()
@@ -189,7 +189,7 @@ def waited_guard(row, signals, gone):
 
 
 def giving_back(row, signals, status):
-    """Hits a lock whose command has ended, while the node's word is awaited, at a desk that follows a script."""
+    """Hits a lock whose command has ended, while it waits for the node's word, at a desk that follows a script."""
     place = f"{folder}/slow-{random.random()}"
     os.mkdir(place)
     desk = socket.socket(socket.AF_UNIX)
@@ -240,7 +240,7 @@ def at_start(times):
 
 
 def group(row, number, status, words=(), script=CLEAN, clean=1.5):
-    """A signal to the whole group, as Ctrl-C on a terminal: the command cleans up, and has the lock until it is done."""
+    """A signal to the whole group, like Ctrl-C on a terminal: the command cleans up, and has the lock until it is done."""
     path = fresh()
     first = beating(path, 20.0, words, script, clean=clean, start_new_session=True)
     until(lambda: beats(path) and guard_of(first))
@@ -264,7 +264,7 @@ def timed_out(row):
     judged(row, first, path, time.time(), 124, 3.0)
 
 
-def shows(row, words, status, output=None, told=None, within=None, **more):
+def shows(row, words, status, output=None, said=None, within=None, **more):
     """What a command under the lock shows its user."""
     start = time.time()
     done = subprocess.run([program, "lock", *words], capture_output=True, timeout=30, **more)
@@ -273,8 +273,8 @@ def shows(row, words, status, output=None, told=None, within=None, **more):
         faults.append(f"status {done.returncode}, not {status}: {done.stderr}")
     if output is not None and done.stdout != output:
         faults.append(f"printed {done.stdout}, not {output}")
-    if told is not None and done.stderr != told:
-        faults.append(f"told {done.stderr}, not {told}")
+    if said is not None and done.stderr != said:
+        faults.append(f"said {done.stderr}, not {said}")
     took = time.time() - start
     if within is not None and not within[0] <= took <= within[1]:
         faults.append(f"took {took:.2f} s, not {within[0]} to {within[1]}")
@@ -282,7 +282,7 @@ def shows(row, words, status, output=None, told=None, within=None, **more):
 
 
 def at_once():
-    """Ten commands at once at one node: a number that each of them adds one to ten times."""
+    """Ten commands at once at one node; each adds one to a number ten times."""
     number = fresh()
     with open(number, "w") as file:
         file.write("0\n")
@@ -298,7 +298,7 @@ def at_once():
 
 
 def crowd():
-    """A node with 128 clients closes one more, which asks again until there is room."""
+    """A node with 128 clients closes one more; that one asks again until there is room."""
     full = []
     for _ in range(128):
         made = socket.socket(socket.AF_UNIX)
@@ -324,7 +324,7 @@ def network():
     while ready < 3:
         ready += made.stdout.readline().endswith(b"ready\n")
     threading.Thread(target=made.stdout.read, daemon=True).start()
-    # In their first sweeps nodes that start may still end a loan.
+    # Nodes may still end a loan in their first sweeps after a start.
     time.sleep(1)
     return made
 
@@ -334,7 +334,7 @@ def node_process(up, node):
 
 
 def runs(process):
-    """Whether a process runs: one that has ended and was not waited for does not."""
+    """Whether a process runs. One that has ended, but was not waited for, does not."""
     try:
         with open(f"/proc/{process}/stat") as file:
             return file.read().rsplit(")", 1)[1].split()[0] not in "ZX"
@@ -371,7 +371,7 @@ try:
         signals = [STOP, CONT] if number == STOP else [number]
         usual = number == STOP
         name = names[number]
-        # A process that a signal ended has a negative number here, and 128 and the number in a shell.
+        # A process that a signal ended has a negative number here, and 128 plus the number in a shell.
         waited(f"first process, waiting, {name}", signals, 0 if usual else -number)
         waited(f"first process, waiting, --timeout 10, {name}", signals, 0 if usual else -number, ["--timeout", "10"])
         waited_guard(f"guard, waiting, {name}", signals, number == KILL)
@@ -393,7 +393,7 @@ try:
     absent = f"tokentree: nobody listens at {RUN}/desk-7.sock: start node 7, if the network has it\n".encode()
     shows("an absent node", [RUN, "7", "--", "true"], 125, b"", absent)
     shows("DIR by a relative path", ["run", "1", "--", "sh", "-c", "cd / && pwd"], 0, b"/\n", b"", cwd=folder)
-    # Shells differ in the status of a failed write: it must be the command's own.
+    # Shells differ in the status of a failed write; it must be the command's own.
     full_disk = ["sh", "-c", "echo x >/dev/full"]
     own_status = subprocess.run(full_disk, stderr=subprocess.DEVNULL).returncode
     shows("a full disk", [RUN, "1", "--", *full_disk], own_status)

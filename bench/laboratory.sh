@@ -1,5 +1,5 @@
 #!/usr/bin/env bash
-# Runs the commands of docs/LABORATORY.md, in a folder of its own, and shows what they print. With --pictures it also
+# Runs the commands of docs/LABORATORY.md in a folder of its own, and shows what they print. With --pictures it also
 # writes the pictures of that document again. The program is ./tokentree, or what TOKENTREE names.
 set -euo pipefail
 cd "$(dirname "$0")/.."
@@ -11,7 +11,7 @@ cd "$folder"
 
 title() { printf '\n== %s\n' "$1"; }
 
-# The line of a measurement that has the least, the median and the greatest number of sweeps, with the sharper bound.
+# The line of a measurement with the least, the median and the greatest number of sweeps, and the sharper bound.
 measured() { "$tokentree" measure "$1" --runs "${2:-200}" | awk '$1 == "sweeps" { line = $0 } $1 == "sharp" { print line, "of", $2 }'; }
 
 title "1. Damage, and recovery"

@@ -1,9 +1,9 @@
 #!/usr/bin/env bash
-# Measures nodes that run as processes, on rings of three and of eight (or of the numbers of nodes that are given): the
-# load of an idle node, how long a client that asks now and then waits for the lock at the root and far from it, how many
-# grants a second there are if a client at each node asks for the lock all the time, and a node's memory and descriptors.
-# Beside it what a command costs under the lock and under flock(1), and a loop that locks one file, so that the price is
-# seen. Wants python3 and flock; takes half a minute for each ring. The program is ./tokentree, or what TOKENTREE names.
+# Measures nodes that run as processes, on rings of three and of eight (or of the given numbers of nodes): the load of
+# an idle node, how long a client that asks now and then waits for the lock at the root and far from it, how many grants
+# a second there are if a client at each node asks for the lock all the time, and a node's memory and descriptors. For
+# comparison, also what a command costs under the lock and under flock(1), and a loop that locks one file. Needs python3
+# and flock; takes half a minute for each ring. The program is ./tokentree, or what TOKENTREE names.
 set -euo pipefail
 [ $# -gt 0 ] || set -- 3 8
 cd "$(dirname "$0")/.."
@@ -34,10 +34,10 @@ class Client:
         line, self.rest = self.rest.split(b"\n", 1)
         return line
 
-    def ask(self, words, want=None):
+    def ask(self, words, answer=None):
         self.socket.sendall(words + b"\n")
         line = self.line()
-        assert want is None or line == want, line
+        assert answer is None or line == answer, line
         return line
 
     def cycle(self):
@@ -49,7 +49,7 @@ class Client:
 
 
 def used(process):
-    """The seconds of a processor that a process has used."""
+    """The processor seconds that a process has used."""
     words = open(f"/proc/{process.pid}/stat").read().rsplit(")", 1)[1].split()
     return (int(words[11]) + int(words[12])) / TICKS
 
@@ -64,7 +64,7 @@ def descriptors(process):
 
 
 def grants(run, node, seconds, out):
-    """How often a client that always wants the lock gets it."""
+    """How often a client that asks all the time gets the lock."""
     client, count, end = Client(run, node), 0, time.perf_counter() + seconds
     while time.perf_counter() < end:
         client.cycle()
@@ -73,7 +73,7 @@ def grants(run, node, seconds, out):
 
 
 def spread(run, node, times):
-    """The milliseconds of which half of all waits have no more, and those of which all but one in a hundred have no more."""
+    """The median of all waits and their 99th percentile, in milliseconds."""
     client, waits = Client(run, node), []
     for _ in range(times):
         time.sleep(0.005)
@@ -122,7 +122,7 @@ def ring(nodes):
 
 
 def locked_file(seconds):
-    """How often a second one process locks and unlocks a file that nobody else wants."""
+    """How often a second one process locks and unlocks a file that nobody else uses."""
     count, end = 0, time.perf_counter() + seconds
     with open(f"{folder}/locked", "w") as file:
         while time.perf_counter() < end:
@@ -133,7 +133,7 @@ def locked_file(seconds):
 
 
 def command_time(words, times):
-    """The milliseconds that one command takes, of `times` that run one after the other."""
+    """The milliseconds of one command, by `times` that run one after the other."""
     start = time.perf_counter()
     for _ in range(times):
         subprocess.run(words, check=True, stdin=subprocess.DEVNULL)
@@ -148,7 +148,7 @@ def commands(times):
     ready = 0
     while ready < 3:
         ready += up.stdout.readline().endswith(b"ready\n")
-    # In their first sweeps nodes that start may still end a loan.
+    # Nodes may still end a loan in their first sweeps after a start.
     time.sleep(1)
     by_lock = command_time([program, "lock", run, "1", "--", "true"], times)
     up.stdin.close()

@@ -8,7 +8,7 @@
 #            beside those without, and the descriptors of a node before and after
 #   crowd    of 200 lookers that come while a node's process is stopped, how many are shown its line once it goes on (64)
 #
-# Status 1 if a note takes 100 ns or more, a descriptor stays, or not 64 are shown the line.
+# Status 1 if a note takes 100 ns or more, a descriptor stays, or not exactly 64 are shown the line.
 #
 #   bench/looks.sh [SECONDS]      each part for SECONDS, 20 by default
 #
@@ -75,7 +75,7 @@ def cpu(net):
 
 
 def idle(net, looks):
-    """Percent of a core a node, over some seconds, in each of which each node is looked at so often."""
+    """Percent of a core for a node, over some seconds, with this many looks at each node in each second."""
     before, began = cpu(net), time.time()
     for _ in range(seconds):
         for _ in range(looks):
@@ -85,7 +85,7 @@ def idle(net, looks):
 
 
 def grants(net, until):
-    """How many loans node 1 gave a client that asks again and again, a second."""
+    """How many loans a second node 1 gave a client that asks again and again."""
     count, began = 0, time.time()
     with connect(f"{net.run}/desk-1.sock") as desk:
         while time.time() < until:
@@ -117,7 +117,7 @@ def stuck(net):
 
 
 def crowd(net):
-    """Of 200 lookers that come while node 0 is stopped, how many are shown its line."""
+    """How many of 200 lookers that come while node 0 is stopped are shown its line."""
     os.kill(net.processes[0].pid, signal.SIGSTOP)
     lookers = [connect(f"{net.run}/look-0.sock") for _ in range(200)]
     os.kill(net.processes[0].pid, signal.SIGCONT)

@@ -1,20 +1,21 @@
 #!/usr/bin/env bash
-# Shows the lock over three machines in small: three network namespaces, joined two by two by virtual Ethernet, each with a
-# node and with the commands of its links' units (packaging/tokentree-link@.service) in a folder of its own. Prints three
-# tables: how quick the lock is with delays on the lines; what faults of lines and machines do while two clients at each
-# node add to a number that nothing else guards; and what strangers at the open port reach. Frames under way are counted
-# throughout, and in each stop of a reader.
+# Shows the lock over a model of three machines: three network namespaces, joined in pairs by virtual Ethernet, each
+# with a node and with the commands of its links' units (packaging/tokentree-link@.service) in its own folder. Prints
+# three tables: how quick the lock is with delays on the lines; what faults of lines and machines do while two clients
+# at each node add to a number that nothing else guards; and what strangers at the open port reach. Frames under way are
+# counted all the time, and at each stop of a reader.
 #
 #   bench/machines.sh              delays of 0, 1, 10 and 50 ms, each fault 20 times, lines cut for 60 s: an hour
 #   bench/machines.sh short        delays of 0 and 10 ms, each fault twice, lines cut for 5 s: some six minutes
 #   bench/machines.sh [short] PART one part alone: speed, faults or strangers
 #   bench/machines.sh faults N     each fault N times
 #
-# Status 1 if a sum was wrong after a recovery, or ever after a fault that damages nothing; if a node did not grant the
-# lock again within 30 seconds; if more frames were under way than the capacity allows; or if a stranger reached a node.
+# Status 1 if a sum was wrong after a recovery, or at any time after a fault that damages nothing; if a node did not
+# grant the lock again within 30 seconds; if more frames were under way than the capacity allows; or if a stranger
+# reached a node.
 #
-# A line's delay is made by a relay of this bench, which holds packets back. The program is ./tokentree, or what TOKENTREE
-# names. All of it runs in namespaces of its own, and ends with it, also if it is killed. Needs root, unshare, setpriv,
+# A relay of this bench makes a line's delay: it holds packets back. The program is ./tokentree, or what TOKENTREE
+# names. All of it runs in namespaces of its own, and ends with it, even if it is killed. Needs root, unshare, setpriv,
 # ip, ss, python3, socat, openssl.
 set -euo pipefail
 cd "$(dirname "$0")/.."
@@ -25,14 +26,14 @@ if [ "${1:-}" != --inside ]; then
     folder=$(mktemp -d)
     trap 'rm -rf "$folder"' EXIT
     trap 'kill -KILL $!; wait; exit 130' HUP INT TERM
-    # What is killed here takes all that it started along.
+    # A process that is killed here takes its children along.
     setpriv --pdeathsig KILL unshare --mount --net --pid --fork --kill-child --mount-proc \
         "$0" --inside "$program" "$folder" "$@" &
     status=0
     wait $! || status=$?
     exit $status
 fi
-# From here on in namespaces of its own: names, sockets and processes are gone with this script.
+# From here on in namespaces of its own: names, sockets and processes end with this script.
 mount -t tmpfs tmpfs /run
 folder=$3
 cat > "$folder/machines.py" << 'PYTHON'
@@ -44,7 +45,8 @@ PACKAGING = f"{os.getcwd()}/packaging"
 NAMES = "abc"
 EDGES = [(0, 1), (1, 2), (0, 2)]
 CAPACITY = 256
-# What a node itself may hold: lines that it read and has not taken, one that waits, those of an older connection.
+# Frames that a node itself may hold: lines that it has read and not taken, one that waits, and those of an older
+# connection.
 IN_NODE = 30
 # The bytes of a frame's line, and of a TLS record with one.
 LINE, RECORD = 22, 44
@@ -68,8 +70,8 @@ def end_of_line(name):
 
 
 def relay(one, other, delay):
-    """Hands each packet of one end to the other one, after a delay in seconds."""
-    # A line waits for no processor.
+    """Hands each packet of one end to the other, after a delay in seconds."""
+    # A line should not wait for a processor.
     os.nice(-10)
     ends = end_of_line(one), end_of_line(other)
     others = {ends[0]: ends[1], ends[1]: ends[0]}
@@ -90,7 +92,7 @@ def relay(one, other, delay):
 
 
 def whole_packets(name):
-    """Has the system compute checksums itself, since no hardware does (ETHTOOL_STXCSUM)."""
+    """Makes the system compute checksums, since no hardware does (ETHTOOL_STXCSUM)."""
     value = array.array("I", [0x17, 0])
     with socket.socket(socket.AF_INET, socket.SOCK_DGRAM) as any_socket:
         fcntl.ioctl(any_socket, 0x8946, struct.pack("16sP16x", name.encode(), value.buffer_info()[0]))
@@ -98,7 +100,7 @@ def whole_packets(name):
 
 # --- Clients ---------------------------------------------------------------------------------------------------------
 
-# What `lock` runs: the number goes up by one, in one write that cuts nothing off, and the log says when and to what.
+# What `lock` runs: it raises the number by one, in one write that cuts nothing off, and the log says when and to what.
 ADD = """
 start=$(date +%s%N)
 read -r number < "$0"
@@ -130,7 +132,7 @@ class Client:
 
 
 def add_by_socket(nodes, node):
-    """A client that always wants the lock, and connects again if its node is gone."""
+    """A client that asks for the lock all the time, and connects again if its node is gone."""
     counter = os.open(f"{FOLDER}/counter", os.O_RDWR)
     log = os.open(f"{FOLDER}/log-socket-{node}", os.O_WRONLY | os.O_CREAT | os.O_APPEND)
     while True:
@@ -140,7 +142,7 @@ def add_by_socket(nodes, node):
                 client.lock()
                 start = time.time_ns()
                 number = int(os.pread(counter, 20, 0)) + 1
-                # Long enough for another one to come between, if anybody may.
+                # Time enough for another add in between, if that is possible.
                 time.sleep(random.random() / 1000)
                 os.pwrite(counter, b"%020d\n" % number, 0)
                 os.write(log, b"%d %d %d\n" % (start, time.time_ns(), number))
@@ -167,7 +169,7 @@ class Adds:
         """The adds since the last call: when the loan began, when the number was written, which, and at which node.
 
         The logs are read one after the other while adds go on, so those of the last fifth of a second wait for the
-        next call: else one could be told whose forerunner, in a log that was read before, is not.
+        next call: else an add could be listed without the add before it, which is in a log that was read earlier.
         """
         until = time.time_ns() - SECOND // 5
         for path in glob.glob(f"{FOLDER}/log-*"):
@@ -191,7 +193,7 @@ def wrong_adds(adds):
 
 
 class Line:
-    """Virtual Ethernet between two machines; its ends meet in the namespace `wires`, in a bridge or in a relay."""
+    """Virtual Ethernet between two machines. Its ends meet in the namespace `wires`, in a bridge or in a relay."""
 
     def __init__(self, number, edge, delay):
         self.ends = [f"w{number}{NAMES[node]}" for node in edge]
@@ -254,7 +256,7 @@ class Unit:
             self.process = self.machine.start(words, environment, stderr=subprocess.DEVNULL)
             self.starts += 1
             self.process.wait()
-            # systemd ends what the command has left over.
+            # systemd ends what the command has left.
             self.signal(signal.SIGKILL)
             time.sleep(self.REST)
 
@@ -271,7 +273,7 @@ class Unit:
 
 
 class Machine:
-    """A network namespace with a node and its links, in a folder of its own."""
+    """A network namespace with a node and its links, in its own folder."""
 
     def __init__(self, node):
         self.node, self.name = node, NAMES[node]
@@ -291,7 +293,7 @@ class Machine:
                 os.symlink(f"{self.folder}/links/node-{peer}.sock", f"{self.nodes}/node-{peer}.sock")
 
     def start(self, words, environment=None, **more):
-        """A process on this machine, in a process group of its own."""
+        """A process on this machine, in its own process group."""
         within = ["ip", "netns", "exec", self.name, "sh", "-c", 'mount --bind "$0" /etc/hosts && exec "$@"']
         return subprocess.Popen(
             [*within, f"{self.folder}/hosts", *words],
@@ -412,7 +414,7 @@ def unix_queues(machine, path):
 
 
 def tcp_queues(machine, port):
-    """The bytes that a machine has received and not read of a link's connections, and those that are not acknowledged."""
+    """The bytes of a link's connections that a machine has received and not read, and those not acknowledged."""
     rows = [row for row in sockets(machine, "-t") if any(word.endswith(f":{port}") for word in row[3:5])]
     return sum(int(row[1]) for row in rows), sum(int(row[2]) for row in rows)
 
@@ -429,7 +431,7 @@ def under_way(network, edge):
     high_given, high_unread = unix_queues(high, f"{high.folder}/links/node-{low.node}.sock")
     low_came, low_sent = tcp_queues(low, port)
     high_came, high_sent = tcp_queues(high, port)
-    # The other higher neighbour's frames to this node count in, since its connections are at the same path.
+    # The frames from the other higher neighbour count too, since its connections are at the same path.
     to_low = lines_in(high_given + low_unread, LINE) + lines_in(high_sent + low_came, RECORD)
     to_high = lines_in(low_given + high_unread, LINE) + lines_in(low_sent + high_came, RECORD)
     return to_low + 2, to_high + 2
@@ -473,7 +475,7 @@ def cpu_seconds(pids):
 
 
 def idle(network, seconds):
-    """The shares of a core, in percent, that an idle node and the links of a machine take."""
+    """The percentages of a core that an idle node and the links of a machine use."""
     nodes = [machine.process.pid for machine in network.machines]
     links = [int(p) for m in network.machines for p in run("ip", "netns", "pids", m.name).split() if int(p) not in nodes]
     before = cpu_seconds(nodes), cpu_seconds(links)
@@ -482,7 +484,7 @@ def idle(network, seconds):
 
 
 def waits(machine, times):
-    """The milliseconds of which half of all waits for the lock have no more, and 99 in 100."""
+    """The median of all waits for the lock and their 99th percentile, in milliseconds."""
     client, spread = Client(f"{machine.nodes}/desk-{machine.node}.sock"), []
     for _ in range(times):
         time.sleep(0.005 + random.random() * 0.02)
@@ -495,7 +497,7 @@ def waits(machine, times):
 
 
 def circuit(machine, times):
-    """The milliseconds of half of the token's circuits: a client asks again at once, and the token passes all others first."""
+    """The median of the token's circuits, in milliseconds: a client asks again at once, and the token passes all others first."""
     client, spread = Client(f"{machine.nodes}/desk-{machine.node}.sock"), []
     client.lock()
     for _ in range(times):
@@ -573,7 +575,7 @@ def speed(delays):
 
 
 class Faults:
-    """What is done to lines and machines; each ends as all is in order again. `seconds` is how long the long cut lasts."""
+    """The faults of lines and machines; each leaves all in order. `seconds` is the length of the long cut."""
 
     def __init__(self, network, watch, seconds, rng):
         self.network, self.watch, self.seconds, self.rng = network, watch, seconds, rng
@@ -624,7 +626,7 @@ class Faults:
         machine.start_units()
 
 
-# Those that damage nothing: a sum that is wrong after one of them is a fault of the lock's.
+# The faults that damage nothing: a wrong sum after one of them is the lock's fault.
 HARMLESS = [
     (Faults.a_line_is_cut_for_1_s, "a line cut for 1 s"),
     (Faults.a_line_is_cut_for_long, "a line cut for {seconds} s"),
@@ -638,7 +640,7 @@ HARMFUL = [(Faults.a_machine_restarts_with_its_state_scrambled, "a machine resta
 
 
 def settles(adds, since):
-    """All adds since then, once each node has granted the lock since, and in nanoseconds how long that took; none in 30 s."""
+    """All adds until each node has granted the lock since then, and after how many nanoseconds; none after 30 s."""
     found, served = [], {}
     while len(served) < 3:
         if time.time_ns() > since + 30 * SECOND:
@@ -652,7 +654,7 @@ def settles(adds, since):
 
 
 class Try:
-    """What a fault did: how long until each node granted the lock after it, and which adds went wrong."""
+    """What a fault did: the time until each node granted the lock after it, and the wrong adds."""
 
     def __init__(self, adds, faults, fault):
         during = adds.new()[-1:]
@@ -739,7 +741,7 @@ def shaken_hands(keys, address="a"):
 
 
 def speaks(made, words):
-    """Sends this, and says whether the connection stands then."""
+    """Sends this, and returns whether the connection is still there."""
     try:
         made.sendall(words)
         return made.recv(512) != b""
@@ -760,7 +762,7 @@ def stranger(kind, keys):
         for _ in range(200):
             socket.create_connection(("a", PORT), timeout=20).close()
     elif kind == "silent":
-        # More than the link serves at once: each is closed by it, after some seconds.
+        # More than the link serves at once: it closes each, after some seconds.
         made = [socket.create_connection(("a", PORT), timeout=5) for _ in range(10)]
         for one in made:
             one.settimeout(40)
@@ -777,14 +779,14 @@ def stranger(kind, keys):
 
 
 def wrong_certificates():
-    """Certificates that the link between `a` and `b` must refuse: of another authority, expired, of another machine."""
+    """Certificates that the link between `a` and `b` must refuse: from another authority, expired, of another machine."""
     for name in "ab":
         certificate(f"{FOLDER}/strange/{name}", name, f"{FOLDER}/other_authority")
         certificate(f"{FOLDER}/expired/{name}", name, f"{FOLDER}/authority", "-days", "-1")
         certificate(f"{FOLDER}/named/{name}", "c", f"{FOLDER}/authority")
 
 
-# Each with the word for `stranger`, its certificates, and how many connections reach the node.
+# Each with its word for `stranger`, its certificates, and how many connections reach the node.
 STRANGERS = [
     ("no certificate", "tls", "", 0),
     ("a certificate of another authority", "tls", "strange/b", 0),
@@ -804,7 +806,7 @@ def visits(network, kind, keys):
 
 
 def at_the_port(network):
-    """Each stranger at the port, with a listener in the node's place that counts who comes."""
+    """Each stranger at the port, with a listener in the node's place that counts connections."""
     machine = network.machines[0]
     path = f"{machine.nodes}/node-0.sock"
     listener = socket.socket(socket.AF_UNIX)
@@ -831,7 +833,7 @@ def at_the_port(network):
 
 
 def impostor(keys, out):
-    """In the place of machine `a`'s link: how many bytes the other side trusts it with, in some seconds."""
+    """In place of machine `a`'s link: how many bytes the other side sends it, in some seconds."""
     context = ssl.SSLContext(ssl.PROTOCOL_TLS_SERVER)
     context.load_cert_chain(f"{keys}/own.pem", f"{keys}/own.key")
     count, until = 0, time.monotonic() + 4
@@ -849,7 +851,7 @@ def impostor(keys, out):
 
 
 def at_an_impostor(network):
-    """The connecting side, with a node that has much to say, at what is no machine `a`."""
+    """The connecting side, with a node that has much to say, at something that is not machine `a`."""
     low, high = network.machines[:2]
     right = True
     for name, keys, is_trusted in [
@@ -887,7 +889,7 @@ def size_of(machine):
 
 
 def beside_clients(network, rounds):
-    """All strangers again and again at a network that runs; a node stays as large as it was, and each sum is right."""
+    """All strangers again and again at a running network; the nodes must not grow, and each sum must be right."""
     network.start()
     network.stands()
     clients, adds = start_clients(network), Adds()
@@ -897,7 +899,7 @@ def beside_clients(network, rounds):
     for _ in range(rounds):
         for _, kind, keys, _ in STRANGERS[:-1]:
             visits(network, kind, keys)
-        # Whoever has the right certificate can send what it likes: noise, and a connection that is closed.
+        # A stranger with the right certificate can send anything: noise, and a connection that it closes.
         visits(network, "junk", "b/tls")
     found += settles(adds, time.time_ns())[0]
     time.sleep(1)

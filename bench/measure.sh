@@ -1,6 +1,7 @@
 #!/usr/bin/env bash
-# Measures after how many sweeps scrambled networks serve: a table of lines, rings, stars and random networks of 8, 16 and 32 nodes, and of the square, with
-# links of 1 and of 16 items, by rounds (or by $2, as --random) and $1 runs each (100 if nothing is said). Beside the measured numbers stand both bounds.
+# Measures after how many sweeps scrambled networks serve: a table of lines, rings, stars and random networks of 8, 16
+# and 32 nodes, and of the square, with links of 1 and of 16 items, by rounds (or by $2, say --random), with $1 runs
+# each (100 by default). Both bounds are next to the measured numbers.
 set -euo pipefail
 runs=${1:-100}
 order=${2:---rounds}
@@ -9,8 +10,9 @@ rt run -- --help > /dev/null 2>&1
 folder=$(mktemp -d)
 trap 'rm -rf "$folder"' EXIT
 
-# A network file: the shape, the nodes, the capacity. A random network is a tree in which each node has an earlier one as its neighbour, with half as many
-# edges more as there are nodes; the numbers are those of a linear congruential generator, so they are the same on any machine.
+# A network file: the shape, the nodes, the capacity. A random network is a tree in which each node has an earlier one
+# as its neighbour, with half as many more edges as there are nodes. The numbers come from a linear congruential
+# generator, so they are the same on any machine.
 network() {
     awk -v shape="$1" -v n="$2" -v capacity="$3" '
         function below(k) { seed = (seed * 1103515245 + 12345) % 2147483648; return int(seed / 65536) % k }

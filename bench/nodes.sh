@@ -1,7 +1,8 @@
 #!/usr/bin/env bash
-# Does to nodes that run as processes what their users may do by mistake: standard streams are closed, DIR is removed or made
-# again under them, the name of a socket or the stop file is a folder, DIR may not be changed, the processes of `up` end at once.
-# Prints a row for each: what was done, and what was seen, which must be what the row says. Status 1 if a row is wrong.
+# Does to nodes that run as processes what their users may do by mistake: standard streams are closed, DIR is removed or
+# made again while they run, the name of a socket or the stop file is a folder, DIR is read-only, the processes of `up`
+# end at once. Prints a row for each: what was done, and what was seen, which must be what the row says. Status 1 if a
+# row is wrong.
 #
 #   bench/nodes.sh
 #
@@ -23,7 +24,7 @@ wrong = 0
 
 
 def fresh(name):
-    """A network file, and a folder beside it that is not there yet."""
+    """A network file, and the name of a new folder beside it."""
     file, where = os.path.join(top, name + ".toml"), os.path.join(top, name)
     open(file, "w").write(NETWORK)
     shutil.rmtree(where, ignore_errors=True)
@@ -31,7 +32,7 @@ def fresh(name):
 
 
 def start(words, shell_end=""):
-    """A process of the program; a shell may close streams of it first."""
+    """A process of the program; a shell may first close some of its streams."""
     if shell_end:
         line = 'exec "$0" "$@" ' + shell_end
         words = ["sh", "-c", line, program, *words]
@@ -41,7 +42,7 @@ def start(words, shell_end=""):
 
 
 def status_of(where, node):
-    """The status line of a node, or nothing."""
+    """The status line of a node, or none."""
     try:
         desk = socket.socket(socket.AF_UNIX)
         desk.settimeout(1)
@@ -53,7 +54,7 @@ def status_of(where, node):
 
 
 def until(holds):
-    """Whether it holds within the time that one waits for it."""
+    """Whether this becomes true in time."""
     end = time.time() + PATIENCE
     while time.time() < end:
         if holds():
@@ -78,7 +79,7 @@ def ended(process):
 
 
 def children_of(process):
-    """The processes that a process has started, and that run."""
+    """The running processes that a process has started."""
     return [int(child) for child in open("/proc/%d/task/%d/children" % (process.pid, process.pid)).read().split()]
 
 
@@ -89,7 +90,7 @@ def row(what, seen, wanted):
     print("%-78s %s" % (what, "as it should" if good else "WRONG: %r, and not %r" % (seen, wanted)), flush=True)
 
 
-# Closed streams: no file and no socket of a node becomes one.
+# Closed streams: no file or socket of a node takes their place.
 for streams in [">&-", "2>&-", ">&- 2>&-", "<&- >&- 2>&-"]:
     file, where = fresh("closed")
     node = start(["node", file, "0", where], streams)
@@ -102,7 +103,7 @@ for words in [["bound"], ["simulate", "-"]]:
     shown = start([words[0], file, *words[1:]], ">&-")
     row("%s with >&- says that its output was refused" % words[0], ended(shown)[::2], (1, "tokentree: output Refused\n"))
 
-# DIR is gone, or is another one.
+# DIR is gone, or is another folder.
 for what, do in [("removed", lambda where: shutil.rmtree(where)),
                  ("renamed", lambda where: os.rename(where, where + "-old")),
                  ("made again", lambda where: (os.rename(where, where + "-old"), os.mkdir(where)))]:

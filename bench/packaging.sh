@@ -1,8 +1,7 @@
 #!/bin/sh
-# Holds the files for packagers against the command line's own list of commands and flags, so that they stay
-# alike: the man page, the completions and OPERATING.md. Then has each shell that is there complete each command and
-# flag but for its last letter. Status 1 if a file lacks a command or a flag, or has one that is not there, or if
-# a shell does not complete one.
+# Compares the files for packagers (the man page, the completions and OPERATING.md) with the command line's own list of
+# commands and flags. Then has each shell that is there complete each command and flag without its last letter. Status 1
+# if a file lacks a command or a flag, or has one that does not exist, or if a shell does not complete one.
 #
 #   bench/packaging.sh             compares, and tries the shells
 #   bench/packaging.sh --write     writes the completions again first; the other files are written by hand
@@ -44,7 +43,7 @@ flags() {
     '
 }
 
-# The words that a command takes in their places, in this order: FILE, DIR and so on, on one line.
+# The arguments of a command, in order: FILE, DIR and so on, on one line.
 places() {
     "$program" help "$1" | awk '
         /^Arguments:/ { on = 1; next }
@@ -67,7 +66,7 @@ bash_file() {
     echo "# bash completion for tokentree, made by bench/packaging.sh --write"
     cat <<'END'
 
-# The node ids that a folder has sockets of, or that a network file names.
+# The ids of the nodes that have sockets in a folder, or that a network file names.
 _tokentree_ids() {
     local path=${1/#\~/$HOME} name last
     if [ -d "$path" ]; then
@@ -81,7 +80,7 @@ _tokentree_ids() {
     fi
 }
 
-# What may stand in a place of this kind, once each.
+# What an argument of this kind may be, once each.
 _tokentree_words() {
     case $1 in
     FILE) compgen -d -- "$current"; compgen -f -X '!*.toml' -- "$current" ;;
@@ -120,12 +119,12 @@ END
         if [ $is_past = no ] && [ "$word" = -- ]; then
             is_past=yes
         elif [ $is_past = no ] && [[ $word == -* ]]; then
-            # A value is the word after its flag, and may be the one that is typed.
+            # A value is the word after its flag, perhaps the one being typed.
             if [[ " $valued " == *" $word "* ]] && ((++at == COMP_CWORD)); then return; fi
         else
             given+=("$word")
         fi
-        # What follows the first word of a command is the command's.
+        # What follows the first word of a command belongs to the command.
         [ "${kinds[${#given[@]}]}" != COMMAND ] || [ "${#given[@]}" -lt "${#kinds[@]}" ] || is_past=yes
     done
     at=${#given[@]}
@@ -146,7 +145,7 @@ complete -o filenames -F _tokentree tokentree
 END
 }
 
-# A text within single quotes, and one within brackets within these.
+# A text within single quotes, and one within brackets within single quotes.
 quoted() { printf '%s' "$1" | sed "s/'/'\\\\''/g"; }
 bracketed() { quoted "$1" | sed 's/[]:[]/\\&/g'; }
 
@@ -159,7 +158,7 @@ zsh_file() {
     echo "    'help:Shows the help of a command'"
     echo ")"
     cat <<'END'
-# The node ids that a folder has sockets of.
+# The ids of the nodes that have sockets in a folder.
 _tokentree_ids() {
     local -a ids
     ids=( ${~words[2]}/desk-<0-65535>.sock(N:t) )
@@ -212,7 +211,7 @@ fish_file() {
     echo "complete -c tokentree -n __fish_use_subcommand -f -a help -d 'Shows the help of a command'"
     echo "complete -c tokentree -n '__fish_seen_subcommand_from help' -f -a '$names'"
     cat <<'END'
-# What completes the command after `--`, whose flags are its own.
+# Completes the command after `--`, whose flags are its own.
 function __tokentree_command
     set -l tokens (commandline -opc)
     set -l at (contains -i -- -- $tokens); or return
@@ -230,7 +229,7 @@ END
     done <"$made/commands"
 }
 
-# A file of completions is as it is made from the list.
+# Checks that a file of completions is what the list makes.
 compare() {
     if [ "$write" = yes ]; then
         cp "$made/$2" "$1"
@@ -271,17 +270,17 @@ awk '/^\.SS / { print $2 }' docs/tokentree.1 | while read -r name; do
 done >"$made/gone"
 while read -r name; do fault "docs/tokentree.1 has a section on $name, which is no command"; done <"$made/gone"
 
-# What is typed, without the last letter of its last word, a tab, and that word.
-wants() { printf '%s\t%s\n' "${1%?}" "${1##* }"; }
+# A line without the last letter of its last word, a tab, and that word.
+typed() { printf '%s\t%s\n' "${1%?}" "${1##* }"; }
 {
-    for word in $names help --help --version; do wants "tokentree $word"; done
+    for word in $names help --help --version; do typed "tokentree $word"; done
     for name in $names; do
-        wants "tokentree help $name"
-        cut -f1 "$made/flags-$name" | while read -r flag; do wants "tokentree $name $flag"; done
+        typed "tokentree help $name"
+        cut -f1 "$made/flags-$name" | while read -r flag; do typed "tokentree $name $flag"; done
     done
 } >"$made/wanted"
 
-# Each prints, of the lines of its input, what is typed where the shell does not complete it.
+# Each reads such lines, and prints those that the shell does not complete.
 try_bash() {
     # shellcheck disable=SC2016,SC2317
     bash --norc --noprofile -c '
@@ -303,7 +302,7 @@ try_fish() {
         end'
 }
 
-# A zsh on a terminal of its own, in which a key completes the line and writes it into a file.
+# A zsh on its own terminal, in which a key completes the line and writes it into a file.
 try_zsh() {
     # shellcheck disable=SC2016,SC2317
     zsh -f -c '

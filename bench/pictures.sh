@@ -1,10 +1,10 @@
 #!/usr/bin/env bash
 # Draws the pictures of docs/ again: the forged tokens, a scrambled square whose edge 1-3 goes and joins again, and what
 # three nodes did on threads, which differs from run to run; and the films of the square, without that edge's part and
-# with it. It makes films of a star of 64 over 170,000 events too, alone and in a page, and prints their sizes and times.
-# If Chromium is there (CHROMIUM, or chromium in PATH), it shows each picture without a screen, as NAME.png in the folder
-# $1 (or in a new folder), and each film at 0, 25, 50 and 100 % of its time, as NAME-PERCENT.png. The program is
-# ./tokentree, or what TOKENTREE names.
+# with it. It also makes films of a star of 64 over 170,000 events, alone and in a page, and prints their sizes and
+# times. If there is a Chromium (CHROMIUM, or chromium in PATH), it renders each picture without a screen, as NAME.png
+# in the folder $1 (or in a new folder), and each film at 0, 25, 50 and 100 % of its time, as NAME-PERCENT.png. The
+# program is ./tokentree, or what TOKENTREE names.
 set -euo pipefail
 cd "$(dirname "$0")/.."
 program=$(realpath "${TOKENTREE:-./tokentree}")
@@ -13,7 +13,7 @@ mkdir -p "$shown"
 folder=$(mktemp -d)
 trap 'rm -rf "$folder"' EXIT
 
-# As many rounds of the square as $1 says, over the links $2: each node ticks, and then each frame goes twice over each link.
+# $1 rounds of the square, over the links $2: each node ticks, and then each frame goes twice over each link.
 square_rounds() {
     awk -v rounds="$1" -v links="$2" 'BEGIN {
         count = split(links, link, ",")
@@ -24,7 +24,7 @@ square_rounds() {
     }'
 }
 
-# Two nodes: the tokens are forged; 3 rounds, ticket 5 gives the lock back, 72 rounds, of which each is a sweep.
+# Two nodes: the tokens are forged; 3 rounds, ticket 5 releases the lock, then 72 rounds, each a sweep.
 {
     cat examples/forged-tokens.txt
     for _ in 1 2 3; do cat examples/round.txt; done
@@ -52,7 +52,7 @@ all="0 1,0 2,1 0,1 3,2 0,2 3,3 1,3 2"
     echo "harm join 1 3"
     square_rounds 80 "$all"
 } > "$folder/scrambled-square"
-# Clients of this run give the lock back themselves.
+# Clients of this run release the lock themselves.
 sed 's/^lease = .*/lease = 0/' examples/square.toml > "$folder/square.toml"
 "$program" draw "$folder/square.toml" "$folder/scrambled-square" > docs/scrambled-square.svg
 

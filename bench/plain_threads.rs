@@ -1,5 +1,5 @@
-//! The threads of `tokentree threads` in plain Rust, without contracts, to be measured beside it: the same nodes, turns,
-//! stamps, clocks, rings and journals, with std alone. `threads.sh` builds and runs it:
+//! The threads of `tokentree threads` in plain Rust, without contracts, for comparison: the same nodes, turns, stamps,
+//! clocks, rings and journals, with only std. `threads.sh` builds and runs it:
 //!
 //!     plain_threads line|square|ring TURNS        prints how many events the nodes did
 use std::cell::UnsafeCell;
@@ -12,7 +12,7 @@ const CAPACITY: usize = 16;
 const LAST_STAMP: u64 = 1 << 62;
 const LAST_PLACE: u64 = 1 << 61;
 
-// ---- rings: bounded, with one producer and one consumer, each of which remembers where the other was
+// ---- rings: bounded, with one producer and one consumer; each remembers where the other was
 
 #[repr(align(128))]
 struct Apart(AtomicUsize);
@@ -128,7 +128,7 @@ struct Stamped {
     item: Item,
 }
 
-/// The kinds that no node does give an entry the size that it has in `tokentree`.
+/// The kinds that no node uses give an entry the size that it has in `tokentree`.
 #[derive(Clone, Copy)]
 #[allow(dead_code)]
 enum Event {

@@ -3,9 +3,9 @@
 # after an `rt check` of that crate from nothing (without its out/incremental).
 #
 # The prover writes a file for each part of each function once it is proved. So the time from one file to the next is
-# about what the later one cost, as long as few others were proved beside it. The longest LINES times, 20 if no number
-# is given, in seconds: `FUNCTION.Proof` is the proof of a function's clauses, `FUNCTION.Lts` its steps, among them what is
-# dropped if it returns early.
+# about the cost of the later one, if few others were proved at the same time. Prints the longest LINES times (20), in
+# seconds: `FUNCTION.Proof` is the proof of a function's clauses, `FUNCTION.Lts` its steps, including what is dropped if
+# it returns early.
 set -eu
 
 [ $# -ge 1 ] || { echo "usage: sh bench/proof_times.sh CRATE [LINES]" >&2; exit 2; }

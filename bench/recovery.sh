@@ -1,16 +1,17 @@
 #!/usr/bin/env bash
-# Measures how long networks of node processes take to recover, beside the time that is proved for the premises which the
-# nodes themselves saw. Two clients a node take the lock again and again (bench/faulty_network.py). Each of nine faults
-# strikes rings of 3 and 8 nodes, a line of 8 and a star of 16.
+# Measures how long networks of node processes take to recover, and compares that with the time that is proved for the
+# premises that the nodes themselves saw. At each node two clients take the lock again and again
+# (bench/faulty_network.py). Each of nine faults strikes rings of 3 and 8 nodes, a line of 8 and a star of 16.
 #
-# A try is over as every node has lent. It begins when the fault has ended, all nodes run and all links are up, by what nodes
-# say to whoever looks (DIR/look-ID.sock). It gives the time to the last wrong grant and to the first loan of every node. The
-# proved time is what `bound --time` prints for that run: --turn is twice the longest time between the ends of two turns (a
-# turn itself is no longer than that), --loan the longest loan as its node saw it; --repeat is 8 ms, and a frame is there at
-# once. A node keeps its longest loan since its start, and its turns of the last minute, so both are no shorter than in the run.
+# A try begins when the fault has ended, all nodes run and all links are up, by what nodes say to lookers
+# (DIR/look-ID.sock). It is over when every node has lent. It gives the time to the last wrong grant and to the first
+# loan of every node. The proved time is what `bound --time` prints for that run: --turn is twice the longest time
+# between the ends of two turns (a turn itself is no longer than that), --loan the longest loan as its node saw it;
+# --repeat is 8 ms, and a frame arrives at once. A node keeps its longest loan since its start, and its turns of the
+# last minute, so both are no shorter than in the run.
 #
-# Prints a row for each fault: median and most of both times, the longest loan and gap, the turns that were late, and the
-# least of the proved times. Status 1 if a try passed its proved time, a link broke in it, or a node did not lend within 30 s.
+# Prints a row for each fault: median and most of both times, the longest loan and gap, the late turns, and the least of
+# the proved times. Status 1 if a try exceeded its proved time, a link broke in it, or a node did not lend within 30 s.
 #
 #   bench/recovery.sh             each fault 20 times: some 50 minutes
 #   bench/recovery.sh short       a ring of 3, each fault 3 times: some two minutes
@@ -53,7 +54,7 @@ def starts(looks):
 
 
 def late_since(before, looks):
-    """How many turns were late since then, by what nodes said then and now; all of a process that is new."""
+    """How many turns were late since then, by what nodes said then and now; all late turns of a new process."""
     then, was = {look["node"]: look["turns"]["late"] for look in before}, starts(before)
     return sum(
         look["turns"]["late"] - (then[look["node"]] if was[look["node"]] == look["process"] else 0) for look in looks
@@ -61,13 +62,13 @@ def late_since(before, looks):
 
 
 def up_since(look):
-    """When the youngest link of a node came up, or an instant before that: a link is noted in one of so many turns."""
+    """When the youngest link of a node came up, or a little before that: each turn notes only one link."""
     ages = [link["for_us"] if link["up"] else 0 for link in look["links"]]
     return look["at"] - min(ages) * 1000
 
 
 def begin(net, since):
-    """When the fault was over, all nodes ran and all links were up. A link is noted one turn for each node too late at most."""
+    """When the fault was over, all nodes ran and all links were up. A link is noted at most one turn for each node too late."""
     counts = [look["turns"]["count"] + net.nodes for look in net.looks()]
     while True:
         looks = net.looks()
@@ -88,7 +89,7 @@ def breaks(looks):
 
 
 def try_fault(net, fault, rng):
-    """When the last wrong grant was and when every node had lent, in milliseconds; the premises; the proved times."""
+    """When the last wrong grant was, and when every node had lent, in milliseconds; the premises; the proved times."""
     net.adds()
     before = net.looks()
     fault(net, rng)
@@ -113,7 +114,7 @@ def try_fault(net, fault, rng):
 
 
 def passes(tried):
-    """Whether a try passed its proved time. Two clients wait at a node at most, and rest 100 ms at most in between."""
+    """Whether a try exceeded its proved time. At most two clients wait at a node, and they rest at most 100 ms in between."""
     return tried["wrong"] > tried["recovers"] or tried["lent"] > tried["recovers"] + tried["lends"] * 3 / 2 + 100
 
 
@@ -131,7 +132,7 @@ def verdict(tries, lent):
 
 
 def row(name, net, fault_name, fault, rng):
-    """Tries a fault, prints its row of the table, and says whether each try was within its proved time."""
+    """Tries a fault, prints its row of the table, and returns whether each try was within its proved time."""
     tries = [try_fault(net, fault, rng) for _ in range(times)]
     lent = [tried["lent"] for tried in tries if tried["lent"] is not None]
     most = {key: max(tried[key] for tried in tries) for key in ("gap", "loan")}

@@ -1,10 +1,10 @@
 #!/usr/bin/env bash
 # Measures `tokentree simulate` on four networks: a square, a path of 64 nodes, a star of 64 with room for 4096 items on
-# each link, and 23 nodes with 250 edges. Of each it prints the best of five runs, in million lines a second of a processor, the
-# instructions that a line costs, if valgrind is there, and the most memory of a run. Given an older build of the
-# program, `bench/simulate.sh OLD`, it measures that one beside today's, turn by turn. TOKENTREE names today's program
-# if it is not to be built. Needs python3.
-# In a round each node ticks, and then each frame goes twice over each link; the rounds of a text have some 2,000,000 lines.
+# each link, and 23 nodes with 250 edges. For each it prints the best of five runs, in million lines a second of a
+# processor, the instructions of a line, if there is a valgrind, and the most memory of a run. `bench/simulate.sh OLD`
+# also measures an older build of the program, in turns with today's. TOKENTREE names today's program, if it need not be
+# built. Needs python3. In a round each node ticks, and then each frame goes twice over each link; the rounds of a text
+# have some 2,000,000 lines.
 set -euo pipefail
 older=${1:+$(realpath "$1")}
 cd "$(dirname "$0")/../crates/tokentree"
@@ -37,7 +37,7 @@ network() {
     echo "edges = [$(edges "$1" | sed 's/ /, /; s/.*/[&]/' | paste -sd, -)]"
 }
 
-# Prints the events of as many whole rounds as come next to a number of lines.
+# Prints the events of whole rounds, as close as possible to a number of lines.
 events() {
     edges "$1" | awk -v nodes="$2" -v lines="$3" '
         { link[count++] = $1 " " $2; link[count++] = $2 " " $1 }
@@ -50,7 +50,7 @@ events() {
         }'
 }
 
-# Runs a program on a text, and prints the microseconds of a processor that it took.
+# Runs a program on a text, and prints the microseconds of processor time that it took.
 measure() {
     python3 -c 'import resource, subprocess, sys
 subprocess.run(sys.argv[1:], check=True, stdout=subprocess.DEVNULL)
@@ -58,7 +58,7 @@ used = resource.getrusage(resource.RUSAGE_CHILDREN)
 print(int(1000000 * (used.ru_utime + used.ru_stime)))' "$1" simulate "$folder/network.toml" "$folder/events"
 }
 
-# Runs a program on a text that comes in by a pipe, and prints the most memory that it has had before the end, in kilobytes.
+# Runs a program on a text from a pipe, and prints the most memory that it had, in kilobytes.
 memory() {
     python3 -c 'import subprocess, sys, time
 child = subprocess.Popen(sys.argv[1:4] + ["-"], stdin=subprocess.PIPE, stdout=subprocess.DEVNULL)
@@ -76,7 +76,7 @@ instructions() {
         awk '/Collected/ { print $NF }'
 }
 
-# The instructions of a line: what a text of twice as many rounds costs more.
+# The instructions of a line: the extra cost of a text of twice as many rounds.
 per_line() {
     command -v valgrind > /dev/null || { echo "-"; return; }
     local few more

@@ -1,9 +1,10 @@
 #!/usr/bin/env bash
-# Measures the threads of `tokentree threads` on the line of three, the square and a ring of 16, beside the same threads in
-# plain Rust (plain_threads.rs): for each the best of three runs of 200,000 turns (or of $1), in million events a second from
-# the first thread's start to the last one's end, as the system reports it, and the most memory of each program. How many
-# events there are differs from run to run. If there is no `rustc`, it says so, and measures `simulate` on the events of
-# the last run instead, reading and printing included. Needs python3. The program is ./tokentree, or what TOKENTREE names.
+# Measures the threads of `tokentree threads` on the line of three, the square and a ring of 16, and the same threads in
+# plain Rust (plain_threads.rs): for each the best of three runs of 200,000 turns (or of $1), in million events a second
+# from the first thread's start to the last one's end, as the system reports it, and the most memory of each program.
+# The number of events differs from run to run. Without `rustc`, it says so, and instead measures `simulate` on the
+# events of the last run, reading and printing included. Needs python3. The program is ./tokentree, or what TOKENTREE
+# names.
 set -euo pipefail
 turns=${1:-200000}
 cd "$(dirname "$0")/.."
@@ -38,7 +39,7 @@ RUNS = 3
 
 
 class Measure:
-    """One run of a program: the seconds in which it had threads, its seconds in all, its most kilobytes, its output."""
+    """One run of a program: the seconds with threads, all its seconds, its most kilobytes, and its output."""
 
     def __init__(self, words):
         self.memory = 0
@@ -52,7 +53,7 @@ class Measure:
             self.output = output.read()
 
     def watch(self, process):
-        """Looks every half millisecond how many threads there are, until the process has ended."""
+        """Checks every half millisecond how many threads there are, until the process has ended."""
         first = last = None
         while True:
             with open(f"/proc/{process}/status") as lines:
@@ -67,7 +68,7 @@ class Measure:
 
 
 def best(name, what, run):
-    """The best of some runs, each a number of events and the seconds that they took."""
+    """The best of some runs; each is a number of events and the seconds that they took."""
     rows = [run() for _ in range(RUNS)]
     rows = [(events / seconds / 1e6, memory) for events, seconds, memory in rows if seconds]
     if not rows:

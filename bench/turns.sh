@@ -1,10 +1,10 @@
 #!/usr/bin/env bash
-# Runs three and five nodes over connections in memory, by 1,000 seeds (or by the first $1), and replays what they did as
-# events of a world: the tests of `worked_turns`, whose run in the gate takes 4 seeds. Connections break at any call, clients
-# ask, leave and vanish, and links hold as much as their capacity. For each network a line says the first seed and turn in
-# which something was wrong, the first seed in which the count of sweeps did not rise (None if there is no such seed), the
-# events, how many of them were losses, the sends that filled a link, the turns that were not due, and the sweeps.
-# Status 1 if something was wrong.
+# Runs three and five nodes over connections in memory, with 1,000 seeds (or the first $1), and replays what they did as
+# events of a world: the tests of `worked_turns`, which the gate runs with 4 seeds. Connections break at any call,
+# clients ask, leave and vanish, and links hold as much as their capacity. For each network a line gives the first seed
+# and turn with an error, the first seed in which the count of sweeps did not rise (None if there is none), the events,
+# how many of them were losses, the sends that filled a link, the turns that were not due, and the sweeps. Status 1 if
+# something was wrong.
 set -euo pipefail
 seeds=${1:-1000}
 cd "$(dirname "$0")/../crates/worked_turns"

@@ -1,14 +1,14 @@
 #!/usr/bin/env bash
-# Follows "Several machines" of docs/OPERATING.md by its text alone, as a newcomer with two machines does: two systems of this
-# machine's own files, each booted by systemd in a container with an address of its own, get the Debian package, and then the
-# commands of the text, copied from it. Then the text's firewall, a line that is down, what a member of the locks' group and the
-# user of the links may do, a longer repetition, and what a purge leaves. Prints a line for each; status 1 if one is not as it
-# should be, 77 if no such system can be booted here.
+# Follows "Several machines" of docs/OPERATING.md just by its text, as a newcomer with two machines does: two systems of
+# this machine's own files, each booted by systemd in a container with its own address, get the Debian package, and then
+# the commands of the text, copied from it. Then it tries the text's firewall, a line that is down, what a member of the
+# locks' group and the user of the links may do, a longer repetition, and what a purge leaves. Prints a line for each;
+# status 1 if one is wrong, 77 if no such system can be booted here.
 #
 #   bench/two_machines.sh
 #
-# What the two systems write stays in memory, and all of it ends with this script. The program is the one that
-# packaging/deb.sh takes. Needs root, systemd-nspawn, nsenter, ip, nft, socat, openssl, setfacl, dpkg.
+# What the two systems write stays in memory, and ends with this script. The program is the one that packaging/deb.sh
+# takes. Needs root, systemd-nspawn, nsenter, ip, nft, socat, openssl, setfacl, dpkg.
 set -euo pipefail
 cd "$(dirname "$0")/.."
 if [ "${1:-}" != --inside ]; then
@@ -28,7 +28,7 @@ if [ "${1:-}" != --inside ]; then
     trap 'kill -KILL $!; wait; exit 130' HUP INT TERM
     packaging/deb.sh "$folder" > /dev/null
     mkdir "${groups[@]}"
-    # What is killed here takes all that it started along.
+    # A process that is killed here takes its children along.
     setpriv --pdeathsig KILL unshare --mount --net --uts --ipc --pid --fork --kill-child --mount-proc \
         "$0" --inside "$folder" "${groups[@]}" &
     status=0
@@ -60,7 +60,7 @@ row() {
     fi
 }
 fails() { ! "$@"; }
-# Tries the command for so many seconds.
+# Tries the command for this many seconds.
 within() {
     local until=$((SECONDS + $1))
     shift
@@ -73,7 +73,7 @@ within() {
 # --- The two systems -------------------------------------------------------------------------------------------------
 
 declare -A first
-# A system with this name and address. Its network card is one end of a line, whose other end is in the bridge.
+# A system with this name and address. Its network card is one end of a line; the other end is in the bridge.
 boot() {
     local name=$1 address=$2 system=$folder/$1
     mkdir "$system"
@@ -115,7 +115,7 @@ as() { on "$1" "runuser -u $2 -- bash -c '$3'"; }
 
 # --- The text --------------------------------------------------------------------------------------------------------
 
-# The block of commands of the section that has this in it, without the prompts and what is said beside.
+# The section's block of commands with this text, without the prompts and the remarks.
 block() {
     awk -v wanted="$1" '
         /^## / { on = $0 == "## Several machines" }
@@ -123,7 +123,7 @@ block() {
         block != "" { if (index(block, wanted)) printf "%s", block; block = "" }
     ' "$text" | sed 's/^[#$] //; s/   .*`.*//; s/   *what the link last met$//; s/   *Send-Q above 0 .*//'
 }
-# Runs that block on a machine, of which the text is or which stands in the place of another.
+# Runs that block on the machine of the text, or on one in its place.
 follow() {
     local commands
     commands=$(block "$2" | sed "${3:-}")

@@ -1,10 +1,10 @@
 #!/usr/bin/env bash
-# Counts the frames that get under way in one direction of an edge if the receiver stops reading, for each way of joining
-# two nodes: a Unix socket alone; plain TCP by socat; TLS by packaging/tokentree-link, also with socat's usual blocks and
-# with the system's usual buffers; and ssh -L. A sender, which has the least send buffer as a node has, writes frames until
-# none has gone out for two seconds. Then the receiver reads, and what it gets has to be what was sent, byte for byte.
+# Counts the frames that get under way in one direction of an edge if the receiver stops reading, for each way of
+# joining two nodes: just a Unix socket; plain TCP by socat; TLS by packaging/tokentree-link, also with socat's usual
+# blocks and with the system's usual buffers; and ssh -L. A sender with the smallest send buffer, as a node has, writes
+# frames until none has gone out for two seconds. Then the receiver reads, and must get what was sent, byte for byte.
 # Prints a table. Status 1 if bytes were lost or changed, or if the ways that docs/OPERATING.md describes hold more than
-# the capacity there, less the 30 frames that a node itself may hold.
+# the capacity there minus the 30 frames that a node itself may hold.
 #
 #   bench/under_way.sh [TIMES]     the worst of TIMES tries (3): two minutes, and half a minute for each try
 #
@@ -16,14 +16,14 @@ if [ "${1:-}" != --inside ]; then
     folder=$(mktemp -d)
     trap 'rm -rf "$folder"' EXIT
     trap 'kill -KILL $!; wait; exit 130' HUP INT TERM
-    # What is killed here takes all that it started along.
+    # A process that is killed here takes its children along.
     setpriv --pdeathsig KILL unshare --mount --net --pid --fork --kill-child --mount-proc \
         "$0" --inside "${1:-3}" "$folder" &
     status=0
     wait $! || status=$?
     exit $status
 fi
-# From here on in namespaces of its own: names, sockets and processes are gone with this script.
+# From here on in namespaces of its own: names, sockets and processes end with this script.
 mount -t tmpfs tmpfs /run
 mkdir -m 755 /run/sshd
 ip link set lo up
@@ -33,7 +33,8 @@ import os, shutil, socket, subprocess, sys, time
 link, folder, times = sys.argv[1], sys.argv[2], int(sys.argv[3])
 LOWER, HIGHER = f"{folder}/lower/node-0.sock", f"{folder}/higher/node-0.sock"
 FRAME = 22
-# What a node itself may hold: lines that it read and has not taken, one that waits, those of an older connection.
+# Frames that a node itself may hold: lines that it has read and not taken, one that waits, and those of an older
+# connection.
 IN_NODE, CAPACITY = 30, 256
 LEAST = "sndbuf=1,rcvbuf=1,nodelay"
 
@@ -43,7 +44,7 @@ def run(*words):
 
 
 def certificates():
-    """An authority, and a certificate of `localhost`, at which both ends are."""
+    """An authority, and a certificate of `localhost`, where both ends are."""
     keys = f"{folder}/keys"
     os.mkdir(keys)
     new = ["-newkey", "ec", "-pkeyopt", "ec_paramgen_curve:prime256v1", "-nodes"]
@@ -55,7 +56,7 @@ def certificates():
 
 
 def start(words, environment=None):
-    # What an end says when it is ended is of no interest.
+    # What an end prints when it is ended does not matter.
     return subprocess.Popen(words, env={**os.environ, **(environment or {})}, stderr=subprocess.DEVNULL)
 
 
@@ -84,7 +85,7 @@ def plain(blocks):
 
 
 def by_link(changes=()):
-    """The link's own command, or one in which words are changed."""
+    """The link's own command, or one with some words changed."""
     def begin():
         with open(link) as file:
             text = file.read()
@@ -135,7 +136,7 @@ def connected(path):
 
 
 def fill(sender):
-    """Writes frames until none has gone out for two seconds: the bytes that are under way then."""
+    """Writes frames until none has gone out for two seconds. Returns the bytes then under way."""
     sender.setblocking(False)
     sent, rest, number, moved = bytearray(), b"", 0, time.monotonic()
     while time.monotonic() < moved + 2:
@@ -196,7 +197,7 @@ def under_way(begin):
 
 
 certificates()
-# Not so soon an end of a connection that does not move, either: to fill such buffers takes longer.
+# A connection that does not move may not end so soon, either: filling such buffers takes longer.
 USUAL = [("sndbuf=1,rcvbuf=1,", ""), ("setsockopt-int=6:18:5000", "setsockopt-int=6:18:60000")]
 WAYS = [
     ("a Unix socket alone", alone, 1, True),

@@ -1,8 +1,9 @@
 #!/bin/sh
-# Watches a ring of three in a terminal, of tmux, and sees by captures of its pane that `status --watch` shows the tree, a
-# node that lends, one that is frozen and killed, and the last minute; that a small terminal does no harm; and that Ctrl-C ends it with
-# status 0 and leaves the terminal as it was. Then that blocks come one after the other where there is no terminal, and that
-# jq reads what --json prints of status, bound and measure. Prints a line for each, and ends with status 1 if one was not so.
+# Watches a ring of three in a terminal of tmux. By captures of its pane it checks that `status --watch` shows the tree,
+# a node that lends, one that is frozen and killed, and the last minute; that a small terminal does no harm; and that
+# Ctrl-C ends it with status 0 and leaves the terminal as it was. Then it checks that blocks come one after the other
+# without a terminal, and that jq reads what --json prints for status, bound and measure. Prints a line for each; status
+# 1 if one is wrong.
 #
 # The program is ./tokentree, or what TOKENTREE names. Needs tmux, jq, pgrep and stty.
 set -u
@@ -17,7 +18,7 @@ session=watch-$$
 found=0
 up=
 
-# A server of its own, so that neither the sessions nor the settings of whoever runs this are touched.
+# A server of its own, so that your sessions and settings stay untouched.
 pane() { tmux -L "$session" -f /dev/null "$@" 3>&-; }
 
 tidy() {
@@ -50,7 +51,7 @@ said() { grep -q -e "$1" "$2"; }
 said_not() { ! said "$1" "$2"; }
 answer() { "$program" status "$nodes" >/dev/null 2>&1 3>&-; }
 
-# The pipe's other end is held here alone: once it is closed, `up` ends its nodes and itself.
+# Only this script holds the pipe's other end: once it is closed, `up` ends its nodes and itself.
 mkfifo "$made/input"
 "$program" up examples/ring-of-three.toml "$nodes" <"$made/input" >"$made/up" 2>&1 &
 up=$!
@@ -71,7 +72,7 @@ hold "a loan is shown" shows 'node 2 distance 1 token lent [0-9]* for [0-9]*\.[0
 hold "the counts say it" shows 'lending 1'
 wait "$lock"
 hold "its length is shown after it" shows 'longest [67]\.[0-9]* s$'
-# Its process has the node and the folder as its last words.
+# The node and the folder are the last words of its process.
 kill -STOP "$(pgrep -f " 1 $nodes$")"
 hold "a node that is frozen does not answer" shows '^node 1 no answer'
 kill -9 "$(pgrep -f " 1 $nodes$")"
@@ -81,7 +82,7 @@ sleep 1
 pane resize-window -t "$session" -x 80 -y 12
 hold "it goes on after a resize" shows '^  node [12] distance 1'
 "$program" status "$nodes" 9 >/dev/null 2>"$made/never" 3>&-
-hold "a node that never ran is told from a dead one" said 'node 9 never ran' "$made/never"
+hold "a node that never ran differs from a dead one" said 'node 9 never ran' "$made/never"
 pane send-keys -t "$session" C-c
 hold "Ctrl-C ends it with 0" said '^ended 0$' "$made/ended"
 hold "the settings of the terminal are as they were" cmp -s "$made/before" "$made/after"
@@ -99,7 +100,7 @@ hold "bound --json" jq -e '.sweeps == 461 and .sharp == 71 and .window_us == 125
 "$program" measure examples/two-nodes.toml --runs 10 --json >"$made/json" 3>&-
 hold "measure --json" jq -e '.runs == 10 and .sharp == 35 and .least <= .most and .seeds == []' "$made/json"
 
-# check FOLDER FILE STATUS PATTERN: whether a check ends with this status, and a line that begins so.
+# check FOLDER FILE STATUS PATTERN: whether a check ends with this status, and a line that begins like this.
 check() {
     "$program" status "$1" --check "$2" >"$made/check" 3>&-
     [ $? -eq "$3" ] && said "^tokentree $4" "$made/check"

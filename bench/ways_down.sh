@@ -1,15 +1,15 @@
 #!/bin/sh
-# Prints for each crate its depth, how many crates stand below it, and how many ways lead down from it: `sh
-# bench/ways_down.sh [CRATE]`, the last line for CRATE, `tokentree` if none is given.
+# Prints for each crate its depth, how many crates are below it, and how many ways lead down from it: `sh
+# bench/ways_down.sh [CRATE]`; the last line is for CRATE, by default `tokentree`.
 #
-# The ways count what rt reads before a check. Whether a crate is built is asked by a sum over all files below it, and rt
-# makes that sum once for each way down, not once for each crate. A word of crates.txt adds all ways down from the crate that
-# it names, once for each way that leads to its line.
+# The ways count what rt reads before a check. To see whether a crate is built, rt makes a sum over all files below it,
+# once for each way down, not once for each crate. A word of crates.txt adds all ways down from the crate that it names,
+# once for each way that leads to its line.
 set -eu
 cd "$(dirname "$0")/.."
 
 awk -v last="${1:-tokentree}" '
-    # Reads all crates below one, and counts the ways and the storeys.
+    # Reads all crates below one, and counts the ways and the levels.
     function count(name, words, used, i, j) {
         if (name in ways) return
         ways[name] = 0

@@ -1,9 +1,9 @@
 #!/bin/sh
-# Makes a Debian package of the built program, with dpkg-deb: packaging/deb.sh [FOLDER]
-# writes FOLDER/tokentree_VERSION_ARCHITECTURE.deb (FOLDER is . by default). The program is the proved one that
-# ./tokentree runs, or what TOKENTREE names. The same program and the same files give the same package, byte for byte:
-# each file in it has the date of the newest entry of packaging/changelog. Whoever gives the package away names a
-# maintainer that can be reached, in DEBFULLNAME and DEBEMAIL.
+# Makes a Debian package of the built program, with dpkg-deb: packaging/deb.sh [FOLDER] writes
+# FOLDER/tokentree_VERSION_ARCHITECTURE.deb (FOLDER is . by default). The program is the proved one that ./tokentree
+# runs, or what TOKENTREE names. The same program and the same files give the same package, byte for byte: each file in
+# it has the date of the newest entry of packaging/changelog. If you give the package away, name a maintainer that can
+# be reached, in DEBFULLNAME and DEBEMAIL.
 set -eu
 folder=$(cd "${1:-.}" && pwd)
 cd "$(dirname "$0")/.."
@@ -12,7 +12,7 @@ program=${TOKENTREE:-./crates/tokentree/out/tokentree}
 version=$("$program" --version | awk '{ print $2 }')
 architecture=$(dpkg --print-architecture)
 maintainer="${DEBFULLNAME:-tokentree maintainers} <${DEBEMAIL:-maintainers@tokentree.example}>"
-# dpkg-deb gives no file a later date than this one.
+# dpkg-deb gives no file a later date than this.
 SOURCE_DATE_EPOCH=$(date -d "$(sed -n 's/^ -- .*>  //p' packaging/changelog | head -n 1)" +%s)
 export SOURCE_DATE_EPOCH
 umask 022
@@ -42,7 +42,7 @@ gzip -9n "$root/usr/share/man/man1/tokentree.1" "$root/usr/share/doc/tokentree/c
 install -d -m 755 "$root/etc/tokentree" "$root/DEBIAN"
 install -d -m 700 "$root/etc/tokentree/tls"
 
-# The C library that the program needs is that of the newest symbol that it takes of it.
+# The program needs the C library of the newest symbol that it uses.
 libc=$(objdump -T "$program" | sed -n 's/.*(\{0,1\}GLIBC_\([0-9.]*\).*/\1/p' | sort -V | tail -n 1)
 size=$(find "$root/usr" "$root/etc" -type f -printf '%s\n' | awk '{ sum += int(($1 + 1023) / 1024) } END { print sum }')
 cat >"$root/DEBIAN/control" <<END
@@ -61,8 +61,8 @@ Description: self-stabilising lock service
  That it does is proved.
 END
 
-# The users of the units: one for the nodes, one for the links to other machines. The states of the nodes are removed
-# with the package if it is purged.
+# The users of the units: one for the nodes, one for the links to other machines. A purge of the package removes the
+# states of the nodes.
 cat >"$root/DEBIAN/postinst" <<'END'
 #!/bin/sh
 set -e
