@@ -104,7 +104,7 @@ module _ (b : Below) where
   full-tick net w (Leave u v) l s d t h = absurd (false≢true h)
   full-tick net w (Damage x) l s d t h = absurd (false≢true h)
 
-  -- the leg's node tells the node that the leg goes on to its machine's value
+  -- the leg's node says its machine's value to the node that the leg goes on to
   pub present-is : (net : Network) (w : World) (l : Leg) → IsSettledOn net w → IsTreeLeg net l → (present w l.here l.onward).ring ≡ machine_value w l
   present-is net w l s t =
       let tl = tree-leg-on net w l s.1 t in

@@ -1,5 +1,5 @@
--- The true tree from each of its nodes: who is a child, who is a tree neighbour, and in which order
--- they stand.
+-- The true tree from each of its nodes: its children and its tree neighbours, and their order they
+-- stand.
 use Rattle.std.proofs.Common.{◌≡◌, ◌≢◌, ℕ, ◌+◌, ◌<◌, ◌&&◌, ◌||◌, Bool, true, false, List, [], ◌∷◌, ◌++◌, Option, Some, None, inl, inr, refl, sym, ◌∙◌, ap, subst, arith, IsTrue, nat_lt}
 use Rattle.std.specs.Prelude.{filter}
 use Rattle.std.specs.List.{AllByRecursion, range_with_len}

@@ -39,7 +39,7 @@ pub struct Recovery {
 }
 
 /// How many stretches a run has at most for each sweep of the bound. By rounds one is enough; of
-/// random steps a sweep takes as many stretches as chance wants.
+/// random steps a sweep takes a random number of stretches.
 const STRETCHES_A_SWEEP: u64 = 1000;
 
 /// A run of random steps draws nothing but ticks, sends and takes.

@@ -57,7 +57,7 @@ after_note instant n r =
     else if has_no_room r then record r { is_stopped = true }
     else record r { page = r.page ++ spelling r.last (entry_noted instant n r); last = max instant r.last }
 
--- the page is to be written
+-- the page must be written
 abbrev pub is_due : RecorderView → Bool
 is_due r = not r.is_stopped && nat_le 4096 (length r.page)
 

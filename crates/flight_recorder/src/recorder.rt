@@ -112,15 +112,15 @@ impl<A: Allocator> Recorder<A> {
         self.last = entry.instant;
     }
 
-    /// Whether nothing is noted yet of what belongs into the present file: it is to be emptied, and
-    /// the whole state is to be noted.
+    /// Whether nothing is noted yet of what belongs into the present file: then it must be
+    /// emptied, and the whole state noted.
     pub fn is_at_start(&self) -> bool
         ensures { result ≡ is_at_start self.now }
     {
         self.written == 0 && self.page.is_empty()
     }
 
-    /// Whether the page is to be written.
+    /// Whether the page must be written.
     pub fn is_due(&self) -> bool
         ensures { result ≡ is_due self.now }
     {

@@ -3,9 +3,9 @@ ghost use Rattle.flight_records.specs.Laws.{WrittenIsRead, CutIsRead, WhatIsRead
 ghost use Rattle.flight_records.specs.Laws.{RecordsGrow};
 
 /// Every list of entries, each no earlier than the one before, is read again as it was written,
-/// whatever follows; wherever the bytes are cut, the whole entries in front of the cut are read, and
-/// then the bytes are short; and what is read stands there as it is written. Whoever keeps a record
-/// in a file, of which a part may be missing, stands on it.
+/// whatever follows; at whatever place the bytes are cut, the whole entries in front of the cut
+/// are read, and then the bytes are short; and what is read stands there as it is written. Whoever
+/// keeps a record in a file, of which a part may be missing, stands on it.
 pub fn one_reading()
     ensures again { WrittenIsRead }
     ensures cut { CutIsRead }

@@ -1,4 +1,4 @@
--- Which acts hand an item over, wherever it comes from.
+-- Which acts hand an item over, old or new.
 use Rattle.std.specs.Prelude.{ℕ, List, ◌∷◌}
 use Rattle.link_model.specs.declared.item.Item.{Item}
 use Rattle.link_model.specs.Acts.{LinkAct, Takes}

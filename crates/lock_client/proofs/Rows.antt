@@ -88,7 +88,7 @@ late = refl
 no_node : deeds false Asking (Gone ∷ Unserved ∷ []) ≡ ConnectAgain ∷ Finish NoService ∷ []
 no_node = refl
 
--- if the node closed the connection for want of room, the client connects again
+-- if the node closed the connection since it had no room, the client connects again
 no_room : deeds false Asking (Gone ∷ Line answer.Granted ∷ []) ≡ ConnectAgain ∷ Start ∷ []
 no_room = refl
 

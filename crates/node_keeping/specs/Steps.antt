@@ -97,7 +97,7 @@ abbrev pub failures_after : Seen → Stage → ℕ → ℕ
 failures_after (Ended end) (Runs looks) failures = failures_now end looks failures
 failures_after _ _ failures = failures
 
--- what is to be done
+-- what to do
 abbrev pub deed_at : Seen → ℕ → Stage → Deed
 deed_at Nothing failures stage = looked_deed stage
 deed_at Started failures stage = Rest
@@ -111,7 +111,7 @@ stage_after_all failures stage [] = stage
 stage_after_all failures stage (seen ∷ rest) =
     stage_after_all (failures_after seen stage failures) (stage_after seen failures stage) rest
 
--- what was to be done then, one after the other
+-- the deeds of these events, one after the other
 abbrev pub deeds : ℕ → Stage → List Seen → List Deed
 deeds failures stage [] = []
 deeds failures stage (seen ∷ rest) =

@@ -50,22 +50,22 @@ pub enum Seen {
     Urged,
 }
 
-/// What is to be done with a node.
+/// What to do with a node.
 #[derive(Clone, Copy, Debug, PartialEq, Eq)]
 pub enum Deed {
     /// Nothing.
     Rest,
     /// It is started.
     Start,
-    /// It is said that it ended so, and is started again.
+    /// Say that it ended like this, and is started again.
     SayAgain(End),
-    /// It is said that it ended so, and is left alone.
+    /// Say that it ended like this, and is left alone.
     SayLeft(End),
-    /// Its input is closed, so that it ends.
+    /// Close its input, so that it ends.
     CloseInput,
-    /// It is said that it ended so, as it was to.
+    /// Say that it ended like this, as asked.
     SayGone(End),
-    /// It is killed.
+    /// Kill it.
     Kill,
 }
 
@@ -101,8 +101,8 @@ impl Keeper {
         !matches!(self.stage, Stage::Left | Stage::Over)
     }
 
-    /// Takes note of what was seen, and says what is to be done. What cannot be seen at that stage
-    /// changes nothing.
+    /// Takes note of what was seen, and says what to do. What cannot be seen at that stage changes
+    /// nothing.
     pub fn step(&mut self, seen: Seen) -> Deed
         ensures stage { self.new.stage ≡ stage_after seen self.old.failures self.old.stage }
         ensures failures { self.new.failures ≡ failures_after seen self.old.stage self.old.failures }

@@ -106,7 +106,7 @@ impl Complaint {
         Complaint { lasts: false }
     }
 
-    /// Takes note of whether it is so now, and says whether it is to be said.
+    /// Takes note of whether it is so now, and returns whether that must be said.
     pub fn is_due(&mut self, is_so: bool) -> bool
         ensures lasts { self.new.lasts ≡ is_so }
         ensures due { result ≡ (is_so && not self.old.lasts) }

@@ -32,8 +32,8 @@ changed id is_up was_up = None
 abbrev pub by_link : ℕ → Bool → List Bool → Option Event
 by_link id is_up up = if nat_lt id 64 then changed id is_up (slice_index_or up id false) else None
 
--- a desk has 64 places for those who wait, and refuses whoever asks while they are taken. That is said once, until at
--- most half of them are taken
+-- a desk has 64 places for those who wait, and refuses all others while they are taken. That is
+-- said once, until at most half of them are taken
 abbrev pub by_desk : ℕ → Bool → Option Event
 by_desk waiting false = if nat_lt waiting 64 then None else Some Full
 by_desk waiting true = if nat_lt 32 waiting then None else Some Room

@@ -30,7 +30,7 @@ pub enum Event {
 pub enum Level {
     /// Something is amiss.
     Warning,
-    /// All is well, and something changed that an operator may want to know.
+    /// All is well, and something changed that may interest an operator.
     Notice,
     /// What goes on all the time.
     Info,

@@ -85,9 +85,9 @@ impl NodeLog {
         link
     }
 
-    /// What happened in a turn, by what is seen after it: who gave the lock back, who was granted it or lost
-    /// it, whether the link is up or down now, and whether further clients are refused now or may wait again.
-    /// Of an id above 63 nothing is said.
+    /// What happened in a turn, by what is seen after it: who released the lock, and who was
+    /// granted it or lost it, whether the link is up or down now, and whether further clients are
+    /// refused now or may wait again. Of an id above 63 nothing is said.
     pub fn turn_ended(&mut self, sight: TurnSight) -> [Option<Event>; 4]
         ensures events { result ≡ gave_back self.old.lent sight.act sight.lent ∷ by_act sight.act
             ∷ by_link sight.link sight.is_up self.old.up
@@ -158,8 +158,8 @@ impl NodeLog {
     }
 }
 
-/// Who gave the lock back that had it, by what the tick did and who has it now. A tick that grants began with
-/// nobody who had it.
+/// Which client released the lock, by what the tick did and who has it now. A tick that grants
+/// began with nobody who had it.
 fn gave_back(before: Option<u16>, act: DeskAct, now: Option<u16>) -> Option<Event>
     ensures { result ≡ gave_back before act now }
 {

@@ -1,4 +1,4 @@
--- What is said of a node that was to end.
+-- The line for a node that was asked to end.
 use Rattle.std.specs.Prelude.{ℕ, List, ◌++◌, codes, decimal}
 use Rattle.node_stopping.specs.declared.lines.Ending.{Ending}
 use Rattle.node_stopping.specs.declared.lines.Ending.TheVariants.{Ended, NotRunning, Late, Hidden, Unasked}

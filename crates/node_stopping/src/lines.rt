@@ -1,7 +1,7 @@
-//! What is said of a node that was to end.
+//! The line for a node that was asked to end.
 use std::fmt;
 
-/// How it went with a node that was to end.
+/// What became of a node that was asked to end.
 #[derive(Clone, Copy, Debug, PartialEq, Eq)]
 pub enum Ending {
     /// It ran, and has ended.

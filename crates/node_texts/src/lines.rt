@@ -13,7 +13,7 @@ pub const SOCKET_FRAMES: u16 = 64;
 /// What a node's process says on standard output.
 #[derive(Clone, Copy, Debug, PartialEq, Eq)]
 pub enum Note {
-    /// From what it starts: its stored state or, for want of one, the default state.
+    /// From what it starts: its stored state or, if there is none, the default state.
     Started(Option<StartFault>),
     /// Both of its sockets listen.
     Ready,

@@ -98,7 +98,7 @@ planned-next f offers i x here same l = rw same record {
   above = λ p from. rw (get_or-set_other offers i p (f i) false (λ same. elim (past p i from same) [ ])) (l.above p (omega arith));
 }
 
--- the calls so far: each port below is as it is to be, and all others as before
+-- the calls so far: each port below is as it must be, and all others as before
 pub record IsPassed (f : ℕ → PortPace) (old ports : List PortPace) (i : ℕ) : Type 0 where
   pub size : length ports ≡ length old
   pub below : (p : ℕ) → p < i → port_of ports p ≡ f p

@@ -39,7 +39,7 @@ abbrev pub is_other : Option ℕ → ℕ → Bool
 is_other None p = true
 is_other (Some but) p = not (but == p)
 
--- a port at which a call is to be passed on, if there is one
+-- a port at which a call must be passed on, if there is one
 abbrev pub called_port : Bool → PortPace → PortPace
 called_port is_called port = record port { calls = port.calls || is_called }
 

@@ -93,8 +93,8 @@ is_new_after (Some last) frame = not (same_payload last.payload frame.payload)
 abbrev pub is_news : Frame → PortPace → Bool
 is_news frame port = is_new_after port.given frame
 
--- a frame is due if one is taken, and its payload is news, an answer is owed, a call is to be
--- passed on, the repetition time is over, or a question is to be asked, which is to give it twice
+-- a frame is due if one is taken, and its payload is news, an answer is owed, a call must be
+-- passed on, the repetition time is over, or a question must be asked, which gives it twice
 abbrev pub is_due : PortSight → Bool → ℕ → ℕ → PortPace → Bool
 is_due sight holds repeat now port =
     sight.takes_frames

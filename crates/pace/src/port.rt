@@ -52,7 +52,7 @@ pub struct PortPace {
     pub heard_times: u32,
     /// Whether an answer is owed.
     pub owes: bool,
-    /// Whether a call is to be passed on.
+    /// Whether a call must be passed on.
     pub calls: bool,
 }
 
@@ -121,7 +121,7 @@ impl PortPace {
         self.calls = self.calls && self.given_times < CALL;
     }
 
-    /// From now on a call is to be passed on, if there is one.
+    /// From now on a call must be passed on, if there is one.
     pub fn call(&mut self, is_called: bool)
         ensures { self.new ≡ called_port is_called self.old }
     {
@@ -143,7 +143,7 @@ impl PortPace {
     }
 
     /// Whether a frame is due: none was given yet; its payload is news; an answer is owed; a call
-    /// is to be passed on; the repetition time is over; or there is a question to be asked.
+    /// must be passed on; the repetition time is over; or there is a question to ask.
     pub fn is_due(&self, sight: &PortSight, holds: bool, repeat: u64, now: u64) -> bool
         ensures { result ≡ is_due sight.now holds repeat now self.now }
     {

@@ -77,7 +77,7 @@ impl Notes {
         self.rounds.note(sight);
     }
 
-    /// Whose link is to be noted now: that of each node of a network of `nodes` nodes in turn.
+    /// Whose link to note now: that of each node of a network of `nodes` nodes, in turn.
     pub fn next_link(&mut self, nodes: u16) -> u16
         ensures next { result ≡ self.old.next }
         ensures after { self.new ≡ record self.old { next = next_of nodes self.old.next } }
