@@ -1,6 +1,6 @@
 # bash completion for tokentree, made by bench/packaging.sh --write
 
-# The node ids that a folder has sockets of, or that a network file names.
+# The ids of the nodes that have sockets in a folder, or that a network file names.
 _tokentree_ids() {
     local path=${1/#\~/$HOME} name last
     if [ -d "$path" ]; then
@@ -14,7 +14,7 @@ _tokentree_ids() {
     fi
 }
 
-# What may stand in a place of this kind, once each.
+# What an argument of this kind may be, once each.
 _tokentree_words() {
     case $1 in
     FILE) compgen -d -- "$current"; compgen -f -X '!*.toml' -- "$current" ;;
@@ -60,12 +60,12 @@ _tokentree() {
         if [ $is_past = no ] && [ "$word" = -- ]; then
             is_past=yes
         elif [ $is_past = no ] && [[ $word == -* ]]; then
-            # A value is the word after its flag, and may be the one that is typed.
+            # A value is the word after its flag, perhaps the one being typed.
             if [[ " $valued " == *" $word "* ]] && ((++at == COMP_CWORD)); then return; fi
         else
             given+=("$word")
         fi
-        # What follows the first word of a command is the command's.
+        # What follows the first word of a command belongs to the command.
         [ "${kinds[${#given[@]}]}" != COMMAND ] || [ "${#given[@]}" -lt "${#kinds[@]}" ] || is_past=yes
     done
     at=${#given[@]}

@@ -16,9 +16,9 @@ const BOUND: Grammar<'static> = Grammar {
     help: HELP,
     parameters: &[
         Parameter::Place("FILE", NETWORK_FILE),
-        Parameter::Flag("sharp", "Show the bound without the capacity, too"),
-        Parameter::Flag("json", "Show a JSON object, on one line"),
-        Parameter::Flag("time", "Show how long recovery and a grant take, too"),
+        Parameter::Flag("sharp", "Also show the bound without the capacity"),
+        Parameter::Flag("json", "Print one JSON object, on one line"),
+        Parameter::Flag("time", "Also show how long recovery and a grant take"),
         Parameter::Value(
             "turn",
             MILLISECONDS,
@@ -61,8 +61,8 @@ const MILLISECONDS: &str = "MILLISECONDS";
 /// What follows the options in its help.
 const HELP: &str = "\
 A network file names its nodes 0 to nodes-1, the root, how many items each
-direction of an edge holds, for how many ticks the lock is lent at most (0: no
-limit), and the edges:
+direction of an edge holds, the most ticks of a loan of the lock (0: no limit),
+and the edges:
 
   nodes = 2
   root = 0
@@ -82,29 +82,29 @@ limit), and the edges:
 
 counter and ring are the moduli of the links' counters and of the token's
 values; distances and parents are those of the nodes 0, 1, .. in the tree to the
-root. From whatever state, the lock works after 69 sweeps: stretches of a run in
-each of which every node makes a full tick, one after which it lends to nobody,
-and takes from each neighbour an item that was sent within the stretch. With
---sharp one more line is shown, here sharp 35: a bound in which the capacity has
-no part, and which is never above the other one.
+root. From any state, the lock works after 69 sweeps. A sweep is a stretch of a
+run: in it every node makes a full tick, after which it lends to nobody, and
+takes from each neighbour an item that was sent within the stretch. --sharp adds
+one line, here sharp 35: a bound that does not depend on the capacity, and is
+never above the other one.
 
-With --time three more lines are shown, here for the default times:
+--time adds three lines, here for the default times:
 
   window 12.5 ms
   recovers within 438 ms
   lends within 200 ms
 
 They hold if the machine keeps these premises. Each node gets a whole turn in
-each stretch of --turn. A node sends its frame again after --repeat, at the
+each stretch of --turn. A node sends its frame again after --repeat at the
 latest. A frame is taken in the first turn that begins --delay after it was
 sent, so every connection is up. A loan ends within --loan, as its node sees it.
-Then each window holds a sweep: so after the last fault the lock works within
-the first time, from whatever state, and from then on one who waits alone is
+Then each window holds a sweep. So after the last fault the lock works within
+the first time, from any state. From then on a client that waits alone is
 granted the lock within the second. Times are milliseconds up to 3600000 (an
-hour), with at most 3 decimals; --turn and --repeat are above 0. What is shown
-is rounded up.
+hour), with at most 3 decimals; --turn and --repeat are above 0. The times shown
+are rounded up.
 
-With --json the same is one JSON object: the names are those of the lines, with
+With --json it prints one JSON object. The names are those of the lines, with
 window_us in microseconds, and recovers_within_ms and lends_within_ms.";
 
 /// Does what the words of `bound` say.

@@ -29,14 +29,14 @@ pub fn add_to<'a>(parser: Command<'a>, alloc: Global) -> Result<Command<'a>, All
 
 /// What follows the options in its help.
 const HELP: &str = "\
-A file that is not longer stays as it is. If it is the state file of a node that
-runs, a line on standard error says so, since the node writes it again within
-half a second: stop the node first, or cut and kill it at once.
+A file that is not longer stays as it is. A running node writes its state file
+again within half a second, and a line on standard error says that it runs. So
+stop the node first, or kill it right after the cut.
 
   $ tokentree cut node-1.state 33
 
-Statuses: 0 done; 1 the file is not there, cannot be written or is no plain
-file; 2 invalid arguments.";
+Statuses: 0 done; 1 the file is missing, cannot be written or is no plain file;
+2 invalid arguments.";
 
 /// The number of bytes that a file is cut to.
 const LENGTH: Number<'static> = Number {

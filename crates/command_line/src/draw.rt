@@ -26,8 +26,8 @@ const DRAW: Grammar<'static> = Grammar {
         Parameter::Place("FILE", NETWORK_FILE),
         Parameter::Place("EVENTS", EVENTS_TEXT),
         Parameter::Value("columns", "N", "The most columns, 1 to 1200"),
-        Parameter::Value("from", "SWEEP", "Begin where as many sweeps have ended"),
-        Parameter::Value("to", "SWEEP", "End where more sweeps have ended"),
+        Parameter::Value("from", "SWEEP", "Begin once this many sweeps have ended"),
+        Parameter::Value("to", "SWEEP", "End once more sweeps than this have ended"),
         Parameter::Flag("film", "Write a film of the run: an SVG that plays"),
         Parameter::Flag("page", "Write the film in an HTML page with controls"),
         Parameter::Value(
@@ -48,42 +48,44 @@ pub fn add_to<'a>(parser: Command<'a>, alloc: Global) -> Result<Command<'a>, All
 
 /// What follows the options in its help.
 const HELP: &str = "\
-The picture is SVG 1.1, which a browser shows; it needs no script, no font and
-no network connection. Each node has a lane, in the order in which the tour of
-the tree comes to it first; time runs from left to right, in events. A lane is
-pale while the node's distance and parent are true, grey while they are not,
-gold while it is privileged, red while its desk lends. Above stand damage,
+The picture is SVG 1.1: a browser shows it without scripts, fonts or a network.
+Time runs from left to right, in events. Each node has a lane, in the order in
+which the tour of the tree first reaches it. A lane is pale while the node's
+distance and parent are true, and grey while they are not. It is gold while the
+node is privileged, and red while its desk lends. Above the lanes are damage,
 sweeps, and the lines from which the guarantee holds: sharp bound and bound, as
-bound --sharp shows them. Below stand the numbers of privileged and of lending
-nodes. Beside stands the network: the edges of its tree thick, others thin.
+bound --sharp shows them. Below are the numbers of privileged and of lending
+nodes. On the right is the network, with thick lines for the edges of its tree.
 
 The events text is that of simulate. If it has more events than there are
-columns, a column is several events, as the legend says, and shows the worst of
-them: lending over privileged over wrong. With --from and --to the picture shows
-only the moments at which that many sweeps have ended since the start. If lines
-were refused of a text with carriage returns, whose lines end in CRLF, a line on
-standard error says so.
+columns, a column stands for several events, as the legend says, and shows the
+worst of them: lending over privileged over wrong. With --from and --to the
+picture shows only the moments at which that many sweeps have ended since the
+start. If lines were refused and the text has carriage returns, as at the end of
+CRLF lines, a line on standard error says so.
 
-With --film it writes a picture that moves: the network, the root at the top and
-each node as far below as its true distance. In each node stands the distance
-that it has, and an arrow goes towards the parent that it has. A node that is
-wrong is dashed, a privileged one has two circles, one that lends has a frame
-with its ticket, and lightning shows where damage strikes. In networks of at
-most 12 nodes dots show the frame that was sent or taken last. It plays in a
-browser and on pages that show pictures, holds the end for three seconds, and
-begins again; what plays no film shows the end. Moments that look alike share a
-still. If there are more than fit, calm stretches are shown by their last
-moment. Moments with damage, or with two privileged or two lending nodes, are
-joined last, and the film says so then. With --page the film stands in a page,
-which plays and pauses by a button, a slider and the keys: space, the arrows,
-Home and End. It says each still in a sentence.
+With --film it writes a picture that moves. It shows the network, with the root
+at the top and each node as far below as its true distance. Each node shows the
+distance that it has, and an arrow towards the parent that it has. A wrong node
+is dashed, a privileged one has two circles, one that lends has a frame with its
+ticket, and lightning shows where damage strikes. In networks of at most 12
+nodes, dots show the frame that was last sent or taken.
+
+A film plays in a browser, and on pages that show pictures. It holds its end for
+three seconds, and begins again; a viewer that plays no films shows the end.
+Moments that look alike share a still. If there are too many stills, a calm
+stretch shows only its last moment. Moments with damage, or with two privileged
+or two lending nodes, are joined only if nothing else is left, and then the film
+says so. With --page the film stands in a page. A button, a slider and the keys
+(space, the arrows, Home and End) play and pause it. The page says each still in
+a sentence.
 
   $ tokentree draw examples/two-nodes.toml examples/forged-tokens.txt > run.svg
   $ tokentree draw examples/two-nodes.toml examples/forged-tokens.txt \\
       --film --seconds 30 > film.svg
 
-Statuses: 0 done; 1 a file, memory or standard output was refused, with its
-fault on standard error; 2 invalid arguments; 3 done, and some lines were
+Statuses: 0 done; 1 a file, memory or standard output failed, and a line on
+standard error says which; 2 invalid arguments; 3 done, and some lines were
 refused.";
 
 /// How many columns a picture may have.

@@ -12,7 +12,7 @@ const JUNK: Grammar<'static> = Grammar {
     about: "Prints lines that mean nothing, for whatever reads lines",
     help: HELP,
     parameters: &[
-        Parameter::Place("SEED", "What is drawn from: 0 to 4294967295"),
+        Parameter::Place("SEED", "The seed, 0 to 4294967295"),
         Parameter::Place("LINES", "How many lines: 0 to 1000000"),
     ],
     needs: &[],
@@ -34,7 +34,7 @@ machine.
   +(==lkMfO]!#B{X}whq}R*SbyZPz$`#?5I3
   .Vnn)AQDz\"jU}#08]yttOpOL9&sj
 
-Statuses: 0 done; 1 standard output did not take the text; 2 invalid arguments.";
+Statuses: 0 done; 1 standard output failed; 2 invalid arguments.";
 
 /// The seeds.
 const SEED: Number<'static> = Number {

@@ -23,7 +23,7 @@ const LOCK: Grammar<'static> = Grammar {
         ),
         Parameter::Flag(
             "no-wait",
-            "Give up at once, which is after half a second (-n)",
+            "Give up at once, after half a second (-n)",
         ),
         Parameter::ValueOr(
             "lost-status",
@@ -48,11 +48,11 @@ const LOCK: Grammar<'static> = Grammar {
         Parameter::Place("DIR", SOCKETS_FOLDER),
         Parameter::Place(
             "ID",
-            "The node that is asked, or any: whichever of DIR answers first",
+            "The node to ask, or any: the one of DIR that answers first",
         ),
         Parameter::Rest(
             "COMMAND",
-            "Command and arguments; none holds the lock until input ends",
+            "Command and arguments; if none, hold the lock until input ends",
         ),
     ],
     needs: &[],
@@ -67,10 +67,10 @@ pub fn add_to<'a>(parser: Command<'a>, alloc: Global) -> Result<Command<'a>, All
 
 /// What follows the options in its help.
 const HELP: &str = "\
-Waits until node ID, whose socket is DIR/desk-ID.sock, grants the lock, runs the
-command with the standard streams of this one, releases the lock, and ends with
-the command's status. Before it, -- may stand, and must if its name begins with
-a hyphen.
+Waits until node ID, whose socket is DIR/desk-ID.sock, grants the lock. Then it
+runs the command with its own standard streams, releases the lock, and ends with
+the command's status. -- may stand before the command, and must if its name
+begins with a hyphen.
 
   $ tokentree lock /run/tokentree 1 -- make deploy
   $ tokentree lock --timeout 0.2 /run/tokentree any -- ./backup.sh /srv
@@ -80,51 +80,54 @@ a hyphen.
   tokentree: node 1 granted the lock
   tokentree: node 1 took the lock back
 
-any asks all nodes of DIR and takes the one that answers first, so that a node
-which is down keeps nobody from the lock. -n gives up at once: half a second is
-longer than the token takes to come round if nobody holds the lock. -E is the
-status of a lost lock, for a command that ends with 122 itself.
+any asks all nodes of DIR and takes the one that answers first. So a node that
+is down keeps nobody from the lock. -n gives up at once, that is after half a
+second. The token comes round sooner if nobody holds the lock. -E is the status
+of a lost lock, for a command that may end with 122 itself.
 
 If DIR or ID is left out, the variables TOKENTREE_DIR and TOKENTREE_NODE stand
-in for it, and -- stands before COMMAND:
+in for it. Then -- must stand before COMMAND:
 
   $ export TOKENTREE_DIR=/run/tokentree TOKENTREE_NODE=1
   $ tokentree lock -- make deploy
 
-Without a command it prints granted and holds the lock until its standard input
+Without a command it prints granted, and holds the lock until its standard input
 ends:
 
   $ tokentree lock /run/tokentree 1
   granted
 
-The lock is lost if its lease is over, if the node goes away, and if the node is
-damaged. Then lock reports it, asks the command and what it started to end
-(SIGTERM), kills them 3 seconds later, and ends with 122; with --keep they run
-on, and the command's status counts. A command whose status is lock's held the
-lock from its start to its end.
+The lock is lost if its lease is over, if the node goes away, or if the node is
+damaged. Then lock reports it, asks the command and all that it started to end
+(SIGTERM), kills them 3 seconds later, and ends with 122. With --keep they run
+on, and the command's status counts. Without --keep, a command whose status lock
+ends with held the lock from its start to its end.
 
-While the command runs, lock is two processes, and either of them holds the
-lock. If the first one is killed, the second one ends the command in the same
-way, and gives the lock back when nobody of it is left. If a signal came to the
-whole group, as Ctrl-C on a terminal, the command has had it too: the second
+While the command runs, lock is two processes, and each of them holds the lock.
+If the first is killed, the second ends the command in the same way, and
+releases the lock when nothing of it is left. If a signal came to the whole
+group, as Ctrl-C on a terminal does, the command has had it too. Then the second
 process only waits until the command has ended. So a command that catches the
-signal and cleans up still has the lock. If the second one is killed, the lock
-counts as lost.
+signal and cleans up still has the lock. If the second process is killed, the
+lock counts as lost.
 
-The launcher ./tokentree, or env --block-signal=INT,QUIT,TERM tokentree lock ..,
-holds signals back from lock itself: it then outlives Ctrl-C, hands SIGTERM on
-to the command, and ends as the command does.
+The launcher ./tokentree holds signals back from lock, and so does
 
-The lock is given back when the command itself has ended. What it left in the
-background runs on without the lock, other than under flock, whose open file
-children keep; with --wait-children lock waits for them.
+  env --block-signal=INT,QUIT,TERM tokentree lock ..
 
-Statuses: the command's own, or 128 and the number of the signal that ended it;
+Then lock survives Ctrl-C, passes SIGTERM on to the command, and ends as the
+command does.
+
+The lock is released when the command itself has ended. What it left in the
+background runs on without the lock. (Under flock it would keep the lock, by the
+open file.) With --wait-children, lock waits for it.
+
+Statuses: the command's own, or 128 plus the number of the signal that ended it;
 122 (or STATUS of -E) the lock was lost, or may have been; 124 it was not
 granted in time, or the node has no room for a client; 125 there is no lock
 service at DIR, or it or the system failed, or the second process could not be
 started; 126 the command cannot be run; 127 there is no such command; 2 invalid
-arguments. A signal that ends lock while it waits gives 128 and its number.";
+arguments. A signal that ends lock while it waits gives 128 plus its number.";
 
 /// The ids that the parser takes. The folder says which nodes there are.
 const ID: Number<'static> = Number {

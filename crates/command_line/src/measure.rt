@@ -29,10 +29,10 @@ const MEASURE: Grammar<'static> = Grammar {
             "0",
             "The first seed; each run has the next one",
         ),
-        Parameter::Flag("rounds", "Run by rounds, as where nothing is said"),
-        Parameter::Flag("random", "Run by steps that are drawn"),
-        Parameter::Flag("table", "Show a line for each run, too"),
-        Parameter::Flag("json", "Show a JSON object, on one line"),
+        Parameter::Flag("rounds", "Run by rounds, the default"),
+        Parameter::Flag("random", "Run by random steps"),
+        Parameter::Flag("table", "Also show a line for each run"),
+        Parameter::Flag("json", "Print one JSON object, on one line"),
     ],
     needs: &[],
     excludes: &[("random", "rounds")],
@@ -46,12 +46,12 @@ pub fn add_to<'a>(parser: Command<'a>, alloc: Global) -> Result<Command<'a>, All
 
 /// What follows the options in its help.
 const HELP: &str = "\
-Each run begins in a world that is scrambled by its seed, and goes on by rounds,
-or by random steps of the same seed, until there have been as many sweeps as the
-sharper bound says. After each round, or as many random steps as there are nodes
-and four times the edges, whoever has the lock gives it back. A run's sweeps are
-the least number after which the network served at each moment of the run: all
-distances and parents true, one node privileged at most, one lending.
+Each run begins in a world that its seed scrambles. It goes on by rounds, or by
+random steps of the same seed, until there were as many sweeps as the sharper
+bound says. After each round, or after as many random steps as there are nodes
+and four times the edges, the client that has the lock releases it. A run's
+sweeps are the least number from which on the network served at each moment: all
+distances and parents true, at most one node privileged, at most one lending.
 
   $ tokentree measure two-nodes.toml --runs 100
   runs 100
@@ -59,18 +59,19 @@ distances and parents true, one node privileged at most, one lending.
   sharp 35
   sweeps-bound 69
 
-Of an even number of runs the median is the lower one of the two in the middle.
-With --table each run has a line 'seed S sweeps K' before these. 'sweeps none'
-stands for a run that did not serve after the sharper bound, or that had fewer
-sweeps than it says after 1000 rounds, or stretches of random steps, for each of
-them; it is always shown, and the status is 1. 'schedule FILE --scramble S
---rounds N --give-back 1' prints the events of such a run by rounds.
+For an even number of runs the median is the lower of the two in the middle.
+With --table each run first has a line 'seed S sweeps K'. It says 'sweeps none'
+of a run that did not serve by the sharper bound. So it does of a run with too
+few sweeps: fewer than the bound after 1000 rounds, or stretches of random
+steps, for each sweep of the bound. Such a run is always shown, and the status
+is 1. 'schedule FILE --scramble S --rounds N --give-back 1' prints the events of
+such a run by rounds.
 
-With --json the same is one JSON object: runs, least, median, most, sharp and
-sweeps-bound, and seeds, a list with the seed and the sweeps of each run that
-would have a line; null for none.
+With --json it prints one JSON object: runs, least, median, most, sharp and
+sweeps-bound, and seeds. That is a list with the seed and the sweeps of each run
+that would have a line. null means none.
 
-Statuses: 0 done; 1 a file, memory or standard output was refused, and a line on
+Statuses: 0 done; 1 a file, memory or standard output failed, and a line on
 standard error says which, or a run did not serve; 2 invalid arguments.";
 
 /// How many runs are measured.

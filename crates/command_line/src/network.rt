@@ -20,8 +20,8 @@ const NETWORK: Grammar<'static> = Grammar {
     help: HELP,
     parameters: &[
         Parameter::Place("KIND", "line, ring, star, complete, tree, grid or random"),
-        Parameter::Place("N", "How many nodes there are; of a grid, how many rows"),
-        Parameter::Places("M", "Of a grid, how many columns"),
+        Parameter::Place("N", "The number of nodes, or of a grid's rows"),
+        Parameter::Places("M", "The number of a grid's columns"),
         Parameter::ValueOr("root", "ID", "0", "The root of the tree: a node"),
         Parameter::ValueOr(
             "capacity",
@@ -57,20 +57,20 @@ const HELP: &str = "\
   line N       node v is joined to v+1; 2 to 64 nodes
   ring N       a line whose ends are joined; 3 to 64
   star N       node 0 is joined to each other node; 2 to 64
-  complete N   each node is joined to each other node; 2 to 23, since a network
-               has 256 edges at most
+  complete N   each node is joined to every other node; 2 to 23, since a network
+               has at most 256 edges
   tree N       a binary tree: the children of node u are 2u+1 and 2u+2; 2 to 64
   grid N M     N rows of M nodes, each joined to those beside, above and below;
                2 to 64 nodes
-  random N     each node is joined to an earlier one that is drawn, and then
-               further pairs are drawn; 2 to 64
+  random N     each node is joined to a random earlier one, and then
+               further random pairs are joined; 2 to 64
 
 Networks of processes need --capacity 64. If --edges is left out, a random graph
 has twice as many edges as a tree. --lease is 0 to 65535 ticks, --seed 0 to
-4294967295. The same words give the same text on any machine. What is printed is
-always a network file that is accepted.
+4294967295. The same words give the same text on any machine. It always prints a
+valid network file.
 
-Statuses: 0 done; 1 memory or standard output was refused; 2 invalid arguments.";
+Statuses: 0 done; 1 memory or standard output failed; 2 invalid arguments.";
 
 /// The roots in a network of two nodes; larger ones have more.
 const ROOT: Number<'static> = Number {

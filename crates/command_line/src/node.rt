@@ -27,7 +27,7 @@ const NODE: Grammar<'static> = Grammar {
         Parameter::Value("log", "LEVEL", LOG_HELP),
         Parameter::Flag(
             "child",
-            "Name the node in each line, and end as standard input does, for `up`",
+            "For `up`: name the node in each line, and end with standard input",
         ),
     ],
     needs: &[],
@@ -42,51 +42,57 @@ pub fn add_to<'a>(parser: Command<'a>, alloc: Global) -> Result<Command<'a>, All
 
 /// What follows the options in its help.
 const HELP: &str = "\
-FILE is a network file, as `help bound` shows. Node ID keeps its files in DIR,
-which is made if it is missing, for its owner alone: state-ID.tkt, its state,
-node-ID.sock, where other nodes connect, desk-ID.sock, where clients do, and
-look-ID.sock: whoever connects there is shown in a line of JSON how the node
-stands, its links, loans and turns. Each node of the network runs so, in one
-DIR, in any order, and may end and start at any time.
+FILE is a network file, as `help bound` shows. Node ID keeps these files in DIR.
+If DIR is missing, the node makes it, for its owner alone:
+
+  state-ID.tkt   its state
+  node-ID.sock   other nodes connect here
+  desk-ID.sock   clients connect here
+  look-ID.sock   shows a line of JSON to whoever connects: how the node stands,
+                 its links, loans and turns
+
+All nodes of the network run like this in one DIR. They may start and end in any
+order, at any time.
 
   $ tokentree node examples/ring-of-three.toml 0 run
   start default Absent
   ready
 
-It prints from what it starts, its state or the default state and why, and that
-it is ready once its sockets listen. A client writes the lines lock, unlock and
-status to desk-ID.sock, and reads granted, lost, released and the rest.
+It prints what it starts from: its state, or the default state and why. It
+prints ready once its sockets listen. A client writes the lines lock, unlock and
+status to desk-ID.sock, and reads granted, lost, released and others.
 
-It ends with status 0 within 256 turns, at most half a second, once a file
-DIR/stop-ID is there:
+Make the file DIR/stop-ID to end the node. It ends with status 0 within 256
+turns, at most half a second:
 
   $ touch run/stop-0
 
-As often it saves its state and reads FILE again: edges may join and go while it
-runs, and it says which did; any other change means nothing, and it says why.
+As often, it saves its state and reads FILE again. Edges may join and go while
+it runs, and it says which did. It ignores any other change, and says why.
 
-The network's capacity is a premise of what is proved. On a link of two
-processes 36 frames may be under way; give it 64 or more.
+What is proved assumes that no more frames are under way than the network's
+capacity. On a link of two processes 36 frames may be under way, so give it 64
+or more.
 
---hold is how long a node keeps news to itself while nobody wants the lock,
---repeat after what time it sends a frame again; both in microseconds. Less of
-either is more work and less waiting. The node counts the turns that end more
-than --turn milliseconds after the turn before (0.001 to 3600000, with at most 3
-decimals), for whoever looks.
+--hold is how long a node keeps news to itself while nobody asks for the lock.
+--repeat is the time after which it sends a frame again. Both are in
+microseconds; less means more work and less waiting. For lookers, the node
+counts late turns. A turn is late if it ends more than --turn milliseconds after
+the turn before (0.001 to 3600000, with at most 3 decimals).
 
 Whoever may write in DIR can stop nodes, and whoever can open desk-ID.sock can
-take the lock. With --group-locks the group of the user enters DIR and opens
-desk-ID.sock; all else is for the user alone.
+take the lock. With --group-locks the user's group may enter DIR and open
+desk-ID.sock. All else is for the user alone.
 
-With --log 6 the node says on standard error, in a line each, when it begins and
-ends, when a link comes and goes, who is granted the lock, loses it and gives it
-back, and when clients are refused since 64 wait; --log 5 leaves out grants, and
---log 4 says only what is amiss. It says at most 20 lines in a second, and how
-many it left out. If JOURNAL_STREAM is set, a line begins with its priority, as
-<4>.
+With --log the node says on standard error what happens, a line each. Level 4
+has what is wrong: a link is down, a client has lost the lock, or clients are
+refused since 64 wait. Level 5 adds its begin and end, and links that are up
+again; level 6 adds who is granted the lock and who releases it. It says at most
+20 lines a second, and how many it left out. If JOURNAL_STREAM is set, a line
+begins with its priority, as <4>.
 
-Statuses: 0 ended by the stop file; 1 it cannot run, with the reason on standard
-error; 2 invalid arguments.";
+Statuses: 0 ended by the stop file; 1 it cannot run, and a line on standard
+error says why; 2 invalid arguments.";
 
 /// The ids that the parser takes. The network says which there are.
 const ID: Number<'static> = Number {

@@ -39,10 +39,10 @@ pub const REPEAT: Number<'static> = Number {
 };
 
 /// Its help.
-pub const REPEAT_HELP: &str = "Repeat a frame then, 0-100000 [default: 8000]";
+pub const REPEAT_HELP: &str = "When to repeat a frame, 0-100000 [default: 8000]";
 
 /// The help of the time after which a turn is late.
-pub const TURN_HELP: &str = "After which time a turn is late [default: 2.2]";
+pub const TURN_HELP: &str = "When a turn counts as late [default: 2.2]";
 
 /// The lowest level of a node's log, by the numbers of syslog.
 pub const LOG: Number<'static> = Number {
@@ -53,7 +53,7 @@ pub const LOG: Number<'static> = Number {
 };
 
 /// Its help.
-pub const LOG_HELP: &str = "Log 4 what is amiss, 5 links too, 6 grants too";
+pub const LOG_HELP: &str = "Log 4 what is wrong, 5 links too, 6 grants too";
 
 /// The level of the log, by the words of `node` or `up`; none if they set none.
 ///

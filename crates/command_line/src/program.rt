@@ -68,6 +68,6 @@ Examples:
   tokentree threads examples/square.toml 1000
   tokentree help simulate
 
-Statuses: 0 done; 1 a file, memory or standard output was refused, with its
-fault on standard error; 2 invalid arguments; 3 simulate is done, and refused
+Statuses: 0 done; 1 a file, memory or standard output failed, and a line on
+standard error says which; 2 invalid arguments; 3 simulate is done, and refused
 some lines of its events.";

@@ -33,12 +33,12 @@ const SCHEDULE: Grammar<'static> = Grammar {
         Parameter::Value(
             "rounds",
             "N",
-            "Rounds, in each of which every node and link acts",
+            "Rounds; in each every node and link acts",
         ),
         Parameter::Value(
             "random",
             "EVENTS",
-            "Steps, each drawn: a tick, a send or a take",
+            "Random steps: ticks, sends and takes",
         ),
         Parameter::Value("seed", "SEED", "The seed of the random steps"),
         Parameter::Value(
@@ -48,12 +48,12 @@ const SCHEDULE: Grammar<'static> = Grammar {
         ),
         Parameter::Flag(
             "clients",
-            "Random steps of clients too: one asks, or leaves",
+            "Random steps of clients too: they ask and leave",
         ),
         Parameter::Value(
             "give-back",
             "TICKS",
-            "Give the lock back after so many ticks, 1 to 65535",
+            "Release the lock after this many ticks, 1 to 65535",
         ),
     ],
     needs: &[
@@ -86,29 +86,30 @@ scramble may write a loan that nobody ends, and then there are no sweeps.
   $ tokentree schedule ring.toml --scramble 7 --rounds 100 --give-back 1 |
       tokentree simulate ring.toml -
 
-A round: each node ticks, by ascending id; then for each direction of each edge,
-by ascending source and destination, one time more than it holds items: a send
-and a take. A round is a sweep if no node lends the lock after its tick.
+A round: each node ticks, by ascending id. Then come sends and takes in turn on
+each direction of each edge, by ascending source and destination: one of each
+more than the link holds items. A round is a sweep if no node lends the lock
+after its tick.
 
-With --give-back, whoever has the lock gives it back once its node has lent it
-for so many ticks on end: after the round, or right after that tick among random
-steps. --rounds with --give-back 1 is a run that measure watches.
+With --give-back, a client releases the lock once its node has lent it for so
+many ticks in a row: after the round, or right after that tick among random
+steps. --rounds with --give-back 1 is a run as measure makes it.
 
-Random steps: each is a tick, a send or a take, one as likely as the other, at a
-node or a direction of an edge. With --loss some takes are losses of the oldest
-item. With --clients a fourth kind is as likely: a client with one of 16 tickets
-asks at a node, or leaves. A step that would be refused, as a loss if nothing
-is under way, is a tick of its node in its place. The words of the generator
-(PCG32, from the seed) are used in this order, each modulo how many there are to
-choose from: the kind, 3 or 4; of a tick the node; of the others the edge as the
-file lists it and 2 for its direction; of a take 100 for the loss; of a client
-the node, 16 for the ticket, and 2 for asking or leaving.
+Random steps: each is a tick, a send or a take, all equally likely, at a node or
+a direction of an edge. With --loss some takes are losses of the oldest item.
+With --clients a fourth kind is as likely: a client with one of 16 tickets asks
+at a node, or leaves. A step that would be refused (a loss with nothing under
+way, say) becomes a tick of its node. The words of the generator (PCG32, from
+the seed) are used in this order, each modulo how many there are to choose from:
+the kind, 3 or 4; of a tick the node; of the others the edge as the file lists
+it and 2 for its direction; of a take 100 for the loss; of a client the node, 16
+for the ticket, and 2 for asking or leaving.
 
 --scramble begins with harms that write every part of the world, drawn from its
-own seed. None of the events is refused, and the same words give the same text
-on any machine. SEED, N and EVENTS are 0 to 4294967295.
+own seed. No event is refused, and the same words give the same text on any
+machine. SEED, N and EVENTS are 0 to 4294967295.
 
-Statuses: 0 done; 1 a file, memory or standard output was refused, and a line on
+Statuses: 0 done; 1 a file, memory or standard output failed, and a line on
 standard error says which; 2 invalid arguments.";
 
 /// The seeds of a scramble.

@@ -18,7 +18,7 @@ const SCRAMBLE: Grammar<'static> = Grammar {
         Parameter::Place("FILE", NETWORK_FILE),
         Parameter::Place("ID", "The node, by its id"),
         Parameter::Place("PATH", "The state file, which is written in place"),
-        Parameter::Place("SEED", "What is drawn from: 0 to 4294967295"),
+        Parameter::Place("SEED", "The seed, 0 to 4294967295"),
     ],
     needs: &[],
     excludes: &[],
@@ -33,18 +33,18 @@ pub fn add_to<'a>(parser: Command<'a>, alloc: Global) -> Result<Command<'a>, All
 /// What follows the options in its help.
 const HELP: &str = "\
 The same seed gives the same file, on any machine. Numbers are decimal, with no
-sign and no leading zero. The desk is no part of a state file: a lock that was
+sign and no leading zero. A state file does not have the desk: a lock that was
 lent is forgotten.
 
   $ tokentree scramble examples/two-nodes.toml 1 node-1.state 7
 
-A node that runs writes its file again within half a second, and the damage is
+A running node writes its file again within half a second, and the damage is
 gone; a line on standard error says that it runs. So stop the node first, or
-scramble and kill it at once.
+kill it right after the scramble.
 
-Statuses: 0 done; 1 the network, the id or the file was refused, with its fault
-on standard error; 2 invalid arguments. If the file cannot be opened for
-writing, or is no plain file, what was there is still there.";
+Statuses: 0 done; 1 the network, the id or the file is invalid, and a line on
+standard error says why; 2 invalid arguments. If the file cannot be opened for
+writing, or is no plain file, it stays as it is.";
 
 /// The ids that the parser takes. The network says which there are.
 const ID: Number<'static> = Number {

@@ -30,15 +30,14 @@ pub fn add_to<'a>(parser: Command<'a>, alloc: Global) -> Result<Command<'a>, All
 
 /// What follows the options in its help.
 const HELP: &str = "\
-Nothing happens but what the events text says, one event a line, from nodes as
-they start and empty links on:
+Replays the events of a text, one a line, from fresh nodes and empty links:
 
   tick 0                   node 0 does its part: its place, its desk, the token
   send 0 1                 node 0 sends a frame to node 1; a full link loses it
   take 0 1                 node 1 takes the oldest item from node 0, if any
   lose 0 1 2               item 2 of that link is lost; item 0 is the oldest
   ask 1 7                  ticket 7 asks at node 1 for the lock
-  leave 1 7                ticket 7 gives the lock back, or waits no longer
+  leave 1 7                ticket 7 releases the lock, or waits no longer
 
 Lines that begin with harm write any state, as a fault would:
 
@@ -56,43 +55,43 @@ Lines that begin with harm write any state, as a fault would:
   harm junk 0 1            noise on that link
   harm empty 0 1           nothing is on that link any more
 
-Edges join and go as well, while all else goes on; up to 8 edges more than the
-network's may stand at a time:
+Edges may join and go too, with up to 8 edges more than the network's at a time:
 
   harm join 0 2            an edge joins nodes 0 and 2; its links are empty, and
                            their other ports stay
   harm part 0 1            the edge between nodes 0 and 1 goes, with its ports
                            and what is on its links
 
-Words are parted by exactly one space; a number is decimal, 0 to 65535, with no
-leading zero. An empty line, and a line that begins with #, is passed over, and
-counted. The text may have 1,073,741,824 bytes.
+Exactly one space stands between two words. A number is decimal, 0 to 65535,
+with no leading zero. An empty line, and a line that begins with #, is skipped,
+but counted. The text may have 1,073,741,824 bytes.
 
-A line that is refused changes nothing, and is named by its number: 'line 4:
-Unread' if it spells no event (or has more than 64 bytes), and else the first
-that holds of
+A refused line changes nothing, and is named by its number: 'line 4: Unread' if
+it spells no event (or has more than 64 bytes), else the first of these that
+holds:
 
   NoNode        there is no such node
   NoLink        the two nodes are not neighbours
   NoItem        there is no such item to lose
-  OutOfRange    no state has such a value; a frame or noise is put on a full
+  OutOfRange    no state has such a value; a frame or noise is for a full
                 link; or the two nodes to join are one, or are joined already,
                 or there are 256 edges
-  Full          64 tickets wait already
-  Twice         the ticket waits already, or has the lock
+  Full          64 tickets already wait
+  Twice         the ticket already waits, or has the lock
   Stranger      the ticket neither waits nor has the lock
   NoSpare       8 edges have joined more than have gone
   Apart         without that edge some node cannot reach the root
 
-After the last line the state is shown: each node; how many items are on each
-link that stands; how many nodes are privileged, which is to hold the token, and
-how many lend; and last the sweeps, as in `sweeps 331 of 69`: 331 sweeps have
-passed since the last damage, and 69 are proved to be enough (see bound), so the
-network has had more than it needs. No sweep ends while a node lends, and if the
-network has no lease, a loan ends only by a leave.
+After the last line it shows the state: each node; how many items are on each
+link; how many nodes are privileged, that is, have the token, and how many lend;
+and last the sweeps, as in `sweeps 331 of 69`. 331 sweeps have passed since the
+last damage, and 69 are proved to be enough (see bound), so the network has had
+more than it needs. No sweep ends while a node lends. If the network has no
+lease, only a leave ends a loan.
 
-A line on standard error says so if such a loan holds up the sweeps; and if
-lines were refused of a text with carriage returns, whose lines end in CRLF.
+A line on standard error says so if such a loan holds up the sweeps. So does one
+if lines were refused and the text has carriage returns, as at the end of CRLF
+lines.
 
   $ printf 'tick 0\\ntick 2\\n' | tokentree simulate two-nodes.toml -
   line 2: NoNode
@@ -105,8 +104,8 @@ lines were refused of a text with carriage returns, whose lines end in CRLF.
 
 The output is buffered: refusals come when the buffer is full, and at the end.
 
-Statuses: 0 done; 1 a file, memory or standard output was refused, with its
-fault on standard error; 2 invalid arguments; 3 done, and some lines were
+Statuses: 0 done; 1 a file, memory or standard output failed, and a line on
+standard error says which; 2 invalid arguments; 3 done, and some lines were
 refused.";
 
 /// Does what the words of `simulate` say.

@@ -18,7 +18,7 @@ const STATUS: Grammar<'static> = Grammar {
     about: "Shows how nodes stand, and how many are privileged and lend",
     help: HELP,
     parameters: &[
-        Parameter::Flag("json", "Show a JSON object, on one line"),
+        Parameter::Flag("json", "Print one JSON object, on one line"),
         Parameter::Value(
             "check",
             "FILE",
@@ -64,7 +64,7 @@ pub fn add_to<'a>(parser: Command<'a>, alloc: Global) -> Result<Command<'a>, All
 
 /// What follows the options in its help.
 const HELP: &str = "\
-Asks each node for its status line, for a second at most:
+Asks each node for its status line, for at most a second:
 
   $ tokentree status /run/tokentree
   node 0 distance 0 parent none token yes lent 3 waiting 1
@@ -73,16 +73,15 @@ Asks each node for its status line, for a second at most:
   privileged 1 lending 1
 
 distance and parent are the node's place in the tree to the root; token is yes
-where it is privileged, which lets it lend the lock; lent is the ticket that it
-lends to; waiting is how many wait at it. The last line counts those with token
-yes, and those that lend.
+if it is privileged, so that it may lend the lock; lent is the ticket that it
+lends to; waiting is how many wait at it. The last line counts the nodes with
+token yes, and those that lend.
 
-The nodes answer one after the other while the token goes round: so it may be
-seen at two of them, or at none. Two that lend at once are seen only after
-damage, until the lock has recovered. A node that is cut off shows the place
-that it had; --links shows that it is. Of a node without an answer, whose socket
-and state DIR does not have either, a line on standard error says that it never
-ran there.
+The nodes answer one after the other while the token goes round, so it may be
+seen at two of them, or at none. Two nodes lend at once only after damage, until
+the lock has recovered. A node that is cut off shows its old place; --links
+shows that it is cut off. If a node gives no answer, and DIR has neither its
+socket nor its state, a line on standard error says that it never ran there.
 
   $ tokentree status /run/tokentree --links
   node 0 link 1 up for 86.001 s breaks 0
@@ -91,21 +90,21 @@ ran there.
   $ tokentree status /run/tokentree --premises
   node 0 turns 51200 longest 3.104 ms lately 2.290 ms late 3
 
---links says for each neighbour whether a connection stands, since when, and how
-often one broke. --premises says how long the longest time between two turns of
-a node was, since its start and within the last minute, and how many turns came
-later than the node's --turn allows. Both are read at DIR/look-ID.sock.
+--links shows for each neighbour whether it is connected, since when, and how
+often a connection broke. --premises shows the longest time between two turns of
+a node, since its start and within the last minute, and how many turns came
+later than the node's --turn allows. Both come from DIR/look-ID.sock.
 
---json shows the same as the lines in one JSON object: nodes, privileged,
-lending; of each node the words of its line as names, null for none, and answer,
-which is false for a node that gave none.
+--json shows the same as one JSON object: nodes, privileged, lending. Each node
+has the words of its line as names, null for none, and answer, which is false if
+it gave none.
 
---watch shows the nodes each half second, or each --every seconds, each under
-its parent, with the time that a loan has taken so far; the loans of the last
-minute, of which the longest may have ended up to half a minute earlier; and how
-often the token came round. On a terminal it stays in its place; Ctrl-C or q
-ends it. Elsewhere there is a block a time, with an empty line between. With
---json it is a line a time.
+--watch shows the nodes every half second, or every --every seconds. Each node
+is under its parent, with the time that its loan has taken so far. Below are the
+loans of the last minute, whose longest may have ended up to half a minute
+earlier, and how often the token came round. On a terminal the picture stays in
+place, and Ctrl-C or q ends it. Elsewhere each reading is a block, with an empty
+line between two. With --json it is a line.
 
   $ tokentree status /run/tokentree --check ring.toml
   tokentree OK - each node is in its place, and at most one lends | nodes=3;; ..
@@ -115,14 +114,13 @@ Statuses and words are those of monitoring plugins: 0 OK, if each time each node
 answers, with the distance and parent that the network gives, and at most one
 lends; 1 WARNING, if one does not, or two lend in some reading; 2 CRITICAL, if
 nobody answers, or two lend each time; 3 UNKNOWN, if it cannot look, or DIR has
-a node that the network has not. A reading is of no one instant, so two that
-lend in one may have lent one after the other; in three readings on end that is
-unlikely, and no proof of two locks. OK does not say that nothing happened
+a node that is not in the network. A reading takes some time, so two nodes that
+lend in it may have lent one after the other. In three readings in a row that is
+unlikely, but still no proof of two locks. OK does not say that nothing happened
 between the readings. The figures are those of the last.
 
-Statuses: 0 each node answered; 1 one gave no answer, or none is there; 2
-invalid arguments; with --check those above; 0 for a watch that was ended by a
-key.";
+Statuses: 0 each node answered; 1 one gave no answer, or there is none; 2
+invalid arguments; with --check those above; 0 for a watch that a key ended.";
 
 /// The ids that the parser takes. The folder says which nodes there are.
 const ID: Number<'static> = Number {

@@ -43,10 +43,10 @@ the node has saved its state and ended:
   $ tokentree stop run 1
   node 1 has ended
 
-Such a stop is no damage. Nodes that `up` keeps running are ended with `up`.
+Such a stop is no damage. To stop nodes that `up` keeps running, end `up`.
 
 Statuses: 0 each node ran, and has ended; 1 one did not run or has not ended in
-time, with the reason on standard error; 2 invalid arguments.";
+time, and a line on standard error says why; 2 invalid arguments.";
 
 /// How many seconds `stop` waits for a node.
 const TIMEOUT: Number<'static> = Number {

@@ -33,13 +33,13 @@ pub fn add_to<'a>(parser: Command<'a>, alloc: Global) -> Result<Command<'a>, All
 
 /// What follows the options in its help.
 const HELP: &str = "\
-Each node does TURNS turns, from nodes as they start and empty links on, each on
-a thread of its own: in a turn it ticks, then sends to each neighbour if a place
-is free, and takes up to two items from each. All begin together, and wait for
-one another after each 16 of the first 1024 turns. Else the system decides who
-runs, so what happens differs from run to run; but it is always a list of events
-that could have happened one after the other. The state that they lead to is
-shown as simulate shows it, with the sweeps in that list:
+Each node does TURNS turns on its own thread, from fresh nodes and empty links.
+In a turn it ticks, then sends to each neighbour if a place is free, and takes
+up to two items from each. All begin together, and wait for one another after
+each 16 of the first 1024 turns. Apart from that the system decides which node
+runs. So what happens differs from run to run, but it is always a list of events
+that could have happened one after the other. It shows the state that they lead
+to as simulate does, with the sweeps in that list:
 
   $ tokentree threads examples/square.toml 1000 --events run.txt
   node 0 distance 0 parent none token no lent none waiting 0
@@ -50,18 +50,18 @@ shown as simulate shows it, with the sweeps in that list:
   privileged 0 lending 0
   sweeps 22 of 461
 
-22 sweeps have passed, and 461 are proved to be enough from whatever state: from
-its start this network needs far fewer. With --events the list is written to a
-file, and simulate shows the same of it:
+22 sweeps have passed, and 461 are proved to be enough from any state; from its
+start this network needs far fewer. --events writes the list to a file, for
+which simulate shows the same:
 
   $ tokentree simulate examples/square.toml run.txt
 
-All memory is taken before the first turn: a run that does not fit is refused at
-once. Nothing is printed before the end; on a terminal, one line of standard
-error shows meanwhile how many turns node 0 has done.
+All memory is taken before the first turn, so a run that does not fit fails at
+once. Nothing is printed before the end. On a terminal, a line on standard error
+shows meanwhile how many turns node 0 has done.
 
-Statuses: 0 done; 1 a file, memory, a thread or standard output was refused, and
-a line on standard error says which; 2 invalid arguments.";
+Statuses: 0 done; 1 a file, memory, a thread or standard output failed, and a
+line on standard error says which; 2 invalid arguments.";
 
 /// How many turns a node does on a thread.
 const TURNS: Number<'static> = Number {

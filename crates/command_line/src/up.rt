@@ -37,8 +37,8 @@ pub fn add_to<'a>(parser: Command<'a>, alloc: Global) -> Result<Command<'a>, All
 
 /// What follows the options in its help.
 const HELP: &str = "\
-Each node of the network of FILE runs as a process of its own, with its files in
-DIR (see `help node`):
+Each node of the network of FILE runs as its own process, with its files in DIR
+(see `help node`):
 
   $ tokentree up examples/ring-of-three.toml run
   node 0 start default Absent
@@ -46,22 +46,25 @@ DIR (see `help node`):
   node 1 start default Absent
   ...
 
-A node that ends, in whatever way, is started again within a second, and a line
-says so. Each node is given --hold, --repeat, --turn, --group-locks and --log
+A node that ends, for whatever reason, is started again within a second, and a
+line says so. Each node gets --hold, --repeat, --turn, --group-locks and --log
 (see `help node`).
 
-SIGINT (Ctrl-C), SIGTERM or SIGHUP ends it, and so does the end of its standard
-input, if that is a terminal (Ctrl-D) or a pipe; with a file or /dev/null there
-it runs on. Then the nodes save their states and end, a line for each. What has
-not ended after five seconds is killed, or at once if Ctrl-C or another signal
-comes meanwhile. Each node ends well too if `up` itself is killed.
+SIGINT (Ctrl-C), SIGTERM or SIGHUP ends it. So does the end of its standard
+input, if that is a terminal (Ctrl-D) or a pipe; with a file or /dev/null it
+runs on. Then the nodes save their states and end, with a line each. What has
+not ended after five seconds is killed. Ctrl-C or another signal meanwhile kills
+it at once. If `up` itself is killed, each node still ends well.
 
-The launcher ./tokentree, or env --block-signal=HUP,INT,TERM,TTIN tokentree up
-.., holds signals back from up, so that it waits for its nodes and says that
-they have ended. Otherwise up ends at once, and the nodes within half a second.
+The launcher ./tokentree holds signals back from up, and so does
+
+  env --block-signal=HUP,INT,TERM,TTIN tokentree up ..
+
+Then up waits for its nodes, and says that they have ended. Otherwise up ends at
+once, and the nodes within half a second.
 
 Statuses: 0 it was asked to end, and all nodes have ended; 1 it cannot run, or
-no node stays up, with the reason on standard error; 2 invalid arguments.";
+no node stays up, and a line on standard error says why; 2 invalid arguments.";
 
 /// Does what the words of `up` say.
 pub fn run<R: Runtime>(rt: &R, given: &ArgMatches) -> Result<ExitCode, Refusal> {
