@@ -1,22 +1,54 @@
--- One more pair of nodes is joined by rings.
-use Rattle.std.proofs.Common.{◌≡◌, ◌≢◌, ◌⊎◌, inl, inr, ℕ, zero, suc, ◌+◌, ◌<◌, ◌≤◌, Bool, true, false, if◌then◌else◌, List, [], ◌∷◌, ◌++◌, length, filter, ap, refl, sym, subst, ◌∙◌, arith, append-nil, slice_index_or, slice_set, All}
-use Rattle.std.specs.List.{range_with_len}
+-- One pair of nodes more: rings join the two, and each has a port to the other.
+use Rattle.std.proofs.Common.{◌≡◌, ◌≢◌, ◌⊎◌, inl, inr, ℕ, zero, suc, ◌+◌, ◌<◌, ◌==◌, Bool, true, false, if◌then◌else◌, nat_le, Option, Some, None, List, [], ◌∷◌, ◌++◌, length, filter, ap, refl, sym, subst, ◌∙◌, arith, append-nil, slice_index_or, slice_set, All}
+use Rattle.std.specs.List.{range_with_len, AllByRecursion}
 use Rattle.std.proofs.lemmas.Bool.{cases_eq}
 use Rattle.std.proofs.lemmas.Grind.{common_steps}
-use Rattle.std.proofs.lemmas.List.{get_or-map, map_push, get_or-set_same, get_or-set_other, length-set}
-use Rattle.std.proofs.lemmas.List.Elements.{All-push, All-nil, filter-append}
+use Rattle.std.proofs.lemmas.List.{map-id, map_push, get_or-set_same, get_or-set_other, length-set, length-append, same_from_push}
+use Rattle.std.proofs.lemmas.List.Elements.{All-push, All-nil, All-filter, recursion_from_All}
+use Rattle.std.proofs.lemmas.List.FromFn.{filter_of_map_range_with_len_more, length-range_with_len, get_or-range_with_len}
 use Rattle.topology.specs.Network.{Network, are_joined}
 use Rattle.run_model.specs.World.{World}
 use Rattle.node_runner.specs.declared.runner.Port.{Port}
 use Rattle.node_runner.specs.Runner.{IsPortTold}
-use Rattle.thread_net.specs.Cables.{IsCable, AreCabled, AreLaid, AreFurnished, ids_in, row, reach, rows_reach, neighbours_below}
+use Rattle.thread_net.specs.Cables.{IsCable, IsCabledOn, AreCabled, AreLaid, AreFurnished, ids_in, row, reach, rows_reach, neighbours_below, port_to}
+use Rattle.thread_net.proofs.Maps.{map-long}
 
-pub range-last : (a n : ℕ) → range_with_len a (suc n) ≡ range_with_len a n ++ (a + n) ∷ []
-range-last a zero = let e : a + 0 ≡ a = omega arith in ap (λ x. x ∷ []) (sym e)
-range-last a (suc n) = let e : a + 1 + n ≡ a + suc n = omega arith in ap (λ xs. a ∷ xs) (range-last (a + 1) n ∙ ap (λ x. range_with_len (a + 1) n ++ x ∷ []) e)
+-- ---- two nodes, and the others
 
-one-kept : (p : ℕ → Bool) (k : ℕ) → filter p (k ∷ []) ≡ (if p k then k ∷ [] else [])
-one-kept p k = grind (arith, common_steps)
+-- what holds of two nodes and of all others holds of each
+pub by-node : (Q : ℕ → Type 0) (u v : ℕ) → Q u → Q v → ((x : ℕ) → x ≢ u → x ≢ v → Q x) → (x : ℕ) → Q x
+by-node Q u v at-u at-v other x = elim (cases_eq x u) [
+  | inl is-u ↦ subst Q (sym is-u) at-u
+  | inr no-u ↦ elim (cases_eq x v) [
+    | inl is-v ↦ subst Q (sym is-v) at-v
+    | inr no-v ↦ other x no-u no-v
+  ]
+]
+
+-- i and j are not u and v, in this order
+abbrev pub IsOtherPair : ℕ → ℕ → ℕ → ℕ → Type 0
+IsOtherPair i j u v = (i ≡ u) → (j ≡ v) → ⊥
+
+is-pair : (i j u v : ℕ) → ((i ≡ u) × (j ≡ v)) ⊎ IsOtherPair i j u v
+is-pair i j u v = elim (cases_eq i u) [
+  | inl iu ↦ elim (cases_eq j v) [
+    | inl jv ↦ inl (iu, jv)
+    | inr apart ↦ inr (λ a b. apart b)
+  ]
+  | inr apart ↦ inr (λ a b. apart a)
+]
+
+-- what holds of a pair, of the same the other way round, and of all others holds of each
+pub by-pair : (Q : ℕ → ℕ → Type 0) (u v : ℕ) → Q u v → Q v u → ((i j : ℕ) → IsOtherPair i j u v → IsOtherPair i j v u → Q i j) → (i j : ℕ) → Q i j
+by-pair Q u v forth home other i j = elim (is-pair i j u v) [
+  | inl (iu, jv) ↦ subst (λ a. Q a j) (sym iu) (subst (Q u) (sym jv) forth)
+  | inr one ↦ elim (is-pair i j v u) [
+    | inl (iv, ju) ↦ subst (λ a. Q a j) (sym iv) (subst (Q v) (sym ju) home)
+    | inr two ↦ other i j one two
+  ]
+]
+
+-- ---- the bounds of nodes
 
 -- how the bounds of nodes change with a pair
 module _ (n u v : ℕ) (order : u < v) where
@@ -35,87 +67,82 @@ module _ (n u v : ℕ) (order : u < v) where
   pub next-x : (x : ℕ) → x ≢ u → x ≢ v → reach n u (v + 1) x ≡ reach n u v x
   next-x x no-u no-v = let o = order in grind (arith, common_steps, o, no-u, no-v)
 
+-- the bounds are the same, or what lies between them is no neighbour
+abbrev pub IsSameBound : Network → ℕ → ℕ → ℕ → Type 0
+IsSameBound net x a b = (a ≡ b) ⊎ ((a ≡ b + 1) × (are_joined net.edges x b ≡ false))
+
+pub no-both : (b : Bool) → b ≡ true → b ≡ false → ⊥
+no-both b x y = grind (arith, common_steps, x, y)
+
+pub one-on : (b j : ℕ) → j ≢ b → nat_le (b + 1) j ≡ nat_le b j
+one-on b j apart = grind (arith, common_steps, apart)
+
 module _ (net : Network) where
   -- the next node is a neighbour or none
-  pub below-more : (x k : ℕ) → neighbours_below net x (k + 1) ≡ neighbours_below net x k ++ (if are_joined net.edges x k then k ∷ [] else [])
+  below-more : (x k : ℕ) → neighbours_below net x (k + 1) ≡ neighbours_below net x k ++ (if are_joined net.edges x k then k ∷ [] else [])
   below-more x k =
       let p = are_joined net.edges x in
-      let on : k + 1 ≡ suc k = omega arith in
-      let zero-on : 0 + k ≡ k = omega arith in
-      ap (λ n. filter p (range_with_len 0 n)) on
-      ∙ (ap (filter p) (range-last 0 k ∙ ap (λ x. range_with_len 0 k ++ x ∷ []) zero-on)
-      ∙ (filter-append p (range_with_len 0 k) (k ∷ []) ∙ ap (λ xs. filter p (range_with_len 0 k) ++ xs) (one-kept p k)))
+      ap (filter p) (sym (map-id (range_with_len 0 (k + 1))))
+      ∙ (filter_of_map_range_with_len_more p (λ z. z) 0 k k (omega arith) ∙ ap (λ zs. filter p zs ++ (if p k then k ∷ [] else [])) (map-id (range_with_len 0 k)))
 
   pub below-yes : (x k : ℕ) → are_joined net.edges x k ≡ true → neighbours_below net x (k + 1) ≡ neighbours_below net x k ++ k ∷ []
-  below-yes x k is = let more = below-more x k in more ∙ ap (λ b. neighbours_below net x k ++ (if b then k ∷ [] else [])) is
+  below-yes x k is = below-more x k ∙ ap (λ b. neighbours_below net x k ++ (if b then k ∷ [] else [])) is
 
-  pub below-no : (x k : ℕ) → are_joined net.edges x k ≡ false → neighbours_below net x (k + 1) ≡ neighbours_below net x k
+  below-no : (x k : ℕ) → are_joined net.edges x k ≡ false → neighbours_below net x (k + 1) ≡ neighbours_below net x k
   below-no x k isnt = below-more x k ∙ (ap (λ b. neighbours_below net x k ++ (if b then k ∷ [] else [])) isnt ∙ append-nil (neighbours_below net x k))
 
-  all-weaker : (xs : List ℕ) (a b : ℕ) → a ≤ b → All (λ z. z < a) xs → All (λ z. z < b) xs
-  all-weaker xs a b le all = λ k d within. let h = all k d within in omega (arith, h, le)
+  below-all : (x k : ℕ) → All (λ z. z < k) (neighbours_below net x k)
+  below-all x k =
+      let long = length-range_with_len 0 k in
+      All-filter (are_joined net.edges x) (λ z. z < k) (range_with_len 0 k) (λ i d there. let is = get_or-range_with_len 0 k i d (omega (arith, there, long)) in omega (arith, there, long, is))
 
-  pub below-all : (x k : ℕ) → All (λ z. z < k) (neighbours_below net x k)
-  below-all x zero = All-nil (λ z. z < 0)
-  below-all x (suc k) =
-      let on : k + 1 ≡ suc k = omega arith in
-      let before = all-weaker (neighbours_below net x k) k (suc k) (omega arith) (below-all x k) in
-      let cases : (are_joined net.edges x k ≡ true) ⊎ (are_joined net.edges x k ≡ false) = grind arith in
-      elim cases [
-        | inl is ↦ subst (λ xs. All (λ z. z < suc k) xs) (sym (below-yes x k is) ∙ ap (neighbours_below net x) on) (All-push (λ z. z < suc k) (neighbours_below net x k) k before (omega arith))
-        | inr isnt ↦ subst (λ xs. All (λ z. z < suc k) xs) (sym (below-no x k isnt) ∙ ap (neighbours_below net x) on) before
-      ]
+  pub below-same : (x a b : ℕ) → IsSameBound net x a b → neighbours_below net x a ≡ neighbours_below net x b
+  below-same x a b same = elim same [
+    | inl is ↦ ap (neighbours_below net x) is
+    | inr (is, isnt) ↦ ap (neighbours_below net x) is ∙ below-no x b isnt
+  ]
 
--- the bounds of two ways to tell where pairs stand
+  -- a neighbour lies below both bounds or below none
+  pub test-same : (x a b j : ℕ) → IsSameBound net x a b → are_joined net.edges x j ≡ true → nat_le a j ≡ nat_le b j
+  test-same x a b j same joined = elim same [
+    | inl is ↦ ap (λ k. nat_le k j) is
+    | inr (is, isnt) ↦ ap (λ k. nat_le k j) is ∙ one-on b j (λ e. no-both (are_joined net.edges x j) joined (ap (are_joined net.edges x) e ∙ isnt))
+  ]
+
+  -- two nodes that are not joined are passed over
+  pub skip-reach : (u v : ℕ) → u < v → are_joined net.edges u v ≡ false → are_joined net.edges v u ≡ false → (x : ℕ) → IsSameBound net x (reach net.nodes u (v + 1) x) (reach net.nodes u v x)
+  skip-reach u v order isnt isnt-back = by-node (λ x. IsSameBound net x (reach net.nodes u (v + 1) x) (reach net.nodes u v x)) u v
+      (inr (next-u net.nodes u v order ∙ ap (λ k. k + 1) (sym (reach-u net.nodes u v order)), ap (are_joined net.edges u) (reach-u net.nodes u v order) ∙ isnt))
+      (inr (next-v net.nodes u v order ∙ ap (λ k. k + 1) (sym (reach-v net.nodes u v order)), ap (are_joined net.edges v) (reach-v net.nodes u v order) ∙ isnt-back))
+      (λ x no-u no-v. inl (next-x net.nodes u v order x no-u no-v))
+
+  -- a row begins: its node is not joined to itself
+  pub row-reach : (u : ℕ) → are_joined net.edges u u ≡ false → (x : ℕ) → IsSameBound net x (reach net.nodes u (u + 1) x) (rows_reach net.nodes u x)
+  row-reach u isnt x = elim (cases_eq x u) [
+    | inl is ↦ subst (λ z. IsSameBound net z (reach net.nodes u (u + 1) z) (rows_reach net.nodes u z)) (sym is)
+        (inr (at net.nodes u ∙ ap (λ k. k + 1) (sym (was net.nodes u)), ap (are_joined net.edges u) (was net.nodes u) ∙ isnt))
+    | inr apart ↦ inl (other net.nodes u x apart)
+  ]
+    where
+      at : (n u : ℕ) → reach n u (u + 1) u ≡ u + 1
+      at n u = grind (arith, common_steps)
+
+      was : (n u : ℕ) → rows_reach n u u ≡ u
+      was n u = grind (arith, common_steps)
+
+      other : (n u x : ℕ) → x ≢ u → reach n u (u + 1) x ≡ rows_reach n u x
+      other n u x apart = grind (arith, common_steps, apart)
+
+-- a row ends
 pub done-reach : (n u x : ℕ) → x < n → reach n u n x ≡ rows_reach n (u + 1) x
 done-reach n u x xn = grind (arith, common_steps, xn)
 
 pub all-reach : (n x : ℕ) → x < n → rows_reach n n x ≡ n
 all-reach n x xn = grind (arith, common_steps, xn)
 
-pub skip-reach : (net : Network) (u v x : ℕ) → u < v → are_joined net.edges u v ≡ false → are_joined net.edges v u ≡ false
-    → neighbours_below net x (reach net.nodes u v x) ≡ neighbours_below net x (reach net.nodes u (v + 1) x)
-skip-reach net u v x order isnt isnt-back = elim (cases_eq x u) [
-  | inl is-u ↦
-      subst (λ z. neighbours_below net z (reach net.nodes u v z) ≡ neighbours_below net z (reach net.nodes u (v + 1) z)) (sym is-u)
-      (ap (neighbours_below net u) (reach-u net.nodes u v order) ∙ (sym (below-no net u v isnt) ∙ ap (neighbours_below net u) (sym (next-u net.nodes u v order))))
-  | inr no-u ↦ elim (cases_eq x v) [
-    | inl is-v ↦
-        subst (λ z. neighbours_below net z (reach net.nodes u v z) ≡ neighbours_below net z (reach net.nodes u (v + 1) z)) (sym is-v)
-        (ap (neighbours_below net v) (reach-v net.nodes u v order) ∙ (sym (below-no net v u isnt-back) ∙ ap (neighbours_below net v) (sym (next-v net.nodes u v order))))
-    | inr no-v ↦ ap (neighbours_below net x) (sym (next-x net.nodes u v order x no-u no-v))
-  ]
-]
-
-pub row-reach : (net : Network) (u x : ℕ) → are_joined net.edges u u ≡ false → neighbours_below net x (rows_reach net.nodes u x) ≡ neighbours_below net x (reach net.nodes u (u + 1) x)
-row-reach net u x isnt = elim (cases_eq x u) [
-  | inl is-u ↦
-      subst (λ z. neighbours_below net z (rows_reach net.nodes u z) ≡ neighbours_below net z (reach net.nodes u (u + 1) z)) (sym is-u)
-      (ap (neighbours_below net u) (row-was net.nodes u) ∙ (sym (below-no net u u isnt) ∙ ap (neighbours_below net u) (sym (row-at net.nodes u))))
-  | inr apart ↦ ap (neighbours_below net x) (row-other-reach net.nodes u x apart)
-]
-  where
-    row-at : (n u : ℕ) → reach n u (u + 1) u ≡ u + 1
-    row-at n u = grind (arith, common_steps)
-
-    row-was : (n u : ℕ) → rows_reach n u u ≡ u
-    row-was n u = grind (arith, common_steps)
-
-    row-other-reach : (n u x : ℕ) → x ≢ u → rows_reach n u x ≡ reach n u (u + 1) x
-    row-other-reach n u x apart = grind (arith, common_steps, apart)
+-- ---- the ports of nodes
 
 module _ {A : Type 0} where
-  -- a port leads below the bound of its node
-  pub port-below : (w : World) (bound : ℕ → ℕ) (rows : List (List (Port A))) (x k : ℕ) (d : Port A) → AreLaid w bound rows → x < w.net.nodes → k < length (row rows x)
-      → (slice_index_or (row rows x) k d).neighbour < bound x
-  port-below w bound rows x k d laid within there =
-      let ids = laid.ids x within in
-      let long : length (ids_in (row rows x)) ≡ length (row rows x) = grind (arith, common_steps) in
-      let at = get_or-map (λ p. p.neighbour) (row rows x) k d 0 there in
-      let all : All (λ z. z < bound x) (ids_in (row rows x)) = subst (λ xs. All (λ z. z < bound x) xs) (sym ids) (below-all w.net x (bound x)) in
-      let h = all k 0 (omega (arith, there, long)) in
-      omega (arith, h, at)
-
   -- the rows with other ports of one node
   pub row-same : (rows : List (List (Port A))) (u : ℕ) (ps : List (Port A)) → u < length rows → row (slice_set rows u ps) u ≡ ps
   row-same rows u ps within = get_or-set_same rows u ps [] within
@@ -123,192 +150,148 @@ module _ {A : Type 0} where
   pub row-other : (rows : List (List (Port A))) (u x : ℕ) (ps : List (Port A)) → x ≢ u → row (slice_set rows u ps) x ≡ row rows x
   row-other rows u x ps apart = get_or-set_other rows u x ps [] apart
 
-  -- a port of a list that is longer by one is one of the list, or the last
-  pushed : (ps : List (Port A)) (a : Port A) (k : ℕ) (d : Port A) → k < length (ps ++ a ∷ [])
-      → ((k < length ps) × (slice_index_or (ps ++ a ∷ []) k d ≡ slice_index_or ps k d)) ⊎ (slice_index_or (ps ++ a ∷ []) k d ≡ a)
-  pushed [] a zero d within = inr refl
-  pushed [] a (suc k) d within = absurd (omega (arith, within))
-  pushed (p ∷ ps) a zero d within = inl (omega arith, refl)
-  pushed (p ∷ ps) a (suc k) d within = elim (pushed ps a k d (omega (arith, within))) [
-    | inl old ↦ inl (let h = old.0 in omega (arith, h), old.1)
-    | inr new ↦ inr new
-  ]
+  -- one port more
+  push-id : (net : Network) (x k : ℕ) (ps : List (Port A)) (p : Port A) → are_joined net.edges x k ≡ true → ids_in ps ≡ neighbours_below net x k → p.neighbour ≡ k
+      → ids_in (ps ++ p ∷ []) ≡ neighbours_below net x (k + 1)
+  push-id net x k ps p joined ids to =
+      map_push (λ q. q.neighbour) ps p
+      ∙ (ap (λ xs. xs ++ p.neighbour ∷ []) ids ∙ (ap (λ z. neighbours_below net x k ++ z ∷ []) to ∙ sym (below-yes net x k joined)))
 
-  back : (p q : Port A) → IsCable p q → IsCable q p
-  back p q c = (c.1, c.0)
+  -- one port less
+  pub pop-id : (net : Network) (x k : ℕ) (ps : List (Port A)) (p : Port A) → are_joined net.edges x k ≡ true → ids_in (ps ++ p ∷ []) ≡ neighbours_below net x (k + 1)
+      → (ids_in ps ≡ neighbours_below net x k) × (p.neighbour ≡ k)
+  pop-id net x k ps p joined ids = same_from_push (ids_in ps) (neighbours_below net x k) p.neighbour k (sym (map_push (λ q. q.neighbour) ps p) ∙ (ids ∙ below-yes net x k joined))
 
-  module _ (w : World) (rows : List (List (Port A))) (u v : ℕ) (a b : Port A) (order : u < v) (within : v < w.net.nodes) (all : length rows ≡ w.net.nodes)
-      (laid : AreLaid w (reach w.net.nodes u v) rows) where
+  -- there is one
+  pub some-port : (net : Network) (x k : ℕ) (ps : List (Port A)) → are_joined net.edges x k ≡ true → ids_in ps ≡ neighbours_below net x (k + 1) → 0 < length ps
+  some-port net x k ps joined ids =
+      let many = ap length (ids ∙ below-yes net x k joined) in
+      let long = length-append (neighbours_below net x k) (k ∷ []) in
+      let same = map-long (λ p. p.neighbour) ps in
+      omega (arith, many, long, same)
+
+  lookup-append : (ps qs : List (Port A)) (n : ℕ) → port_to ps n ≡ None → port_to (ps ++ qs) n ≡ port_to qs n
+  lookup-append [] qs n none = refl
+  lookup-append (p ∷ ps) qs n none = let later = lookup-append ps qs n in grind (arith, common_steps, none, later)
+
+  lookup-none : (ps : List (Port A)) (n : ℕ) → AllByRecursion (λ z. z < n) (ids_in ps) → port_to ps n ≡ None
+  lookup-none [] n below = refl
+  lookup-none (p ∷ ps) n below = let h = below.0 in let later = lookup-none ps n below.1 in grind (arith, common_steps, h, later)
+
+  lookup-last : (p : Port A) (n : ℕ) → p.neighbour ≡ n → port_to (p ∷ []) n ≡ Some p
+  lookup-last p n is = grind (arith, common_steps, is)
+
+  lookup-without : (ps : List (Port A)) (p : Port A) (n : ℕ) → p.neighbour ≢ n → port_to (ps ++ p ∷ []) n ≡ port_to ps n
+  lookup-without [] p n apart = grind (arith, common_steps, apart)
+  lookup-without (q ∷ ps) p n apart = let later = lookup-without ps p n apart in grind (arith, common_steps, later)
+
+  -- two ports of which this holds are found in two places
+  pub on-as : (R : Option (Port A) → Option (Port A) → Type 0) (a b c d : Option (Port A)) → a ≡ c → b ≡ d → R c d → R a b
+  on-as R a b c d x y is = subst (λ o. R o b) (sym x) (subst (R c) (sym y) is)
+
+-- after the ports of rows there is p at u and q at v
+pub record ArePushed {A : Type 0} (rows more : List (List (Port A))) (u v : ℕ) (p q : Port A) : Type 0 where
+  pub row_u : row more u ≡ row rows u ++ p ∷ []
+  pub row_v : row more v ≡ row rows v ++ q ∷ []
+  pub row_x : (x : ℕ) → x ≢ u → x ≢ v → row more x ≡ row rows x
+
+module _ {A : Type 0} (net : Network) (rows more : List (List (Port A))) (u v : ℕ) (p q : Port A) (pushed : ArePushed rows more u v p q)
+    (ids-u : ids_in (row rows u) ≡ neighbours_below net u v) (ids-v : ids_in (row rows v) ≡ neighbours_below net v u) (to-v : p.neighbour ≡ v) (to-u : q.neighbour ≡ u) where
+  pub find-u : port_to (row more u) v ≡ Some p
+  find-u =
+      let below = recursion_from_All (λ z. z < v) (ids_in (row rows u)) (subst (All (λ z. z < v)) (sym ids-u) (below-all net u v)) in
+      ap (λ ps. port_to ps v) pushed.row_u ∙ (lookup-append (row rows u) (p ∷ []) v (lookup-none (row rows u) v below) ∙ lookup-last p v to-v)
+
+  pub find-v : port_to (row more v) u ≡ Some q
+  find-v =
+      let below = recursion_from_All (λ z. z < u) (ids_in (row rows v)) (subst (All (λ z. z < u)) (sym ids-v) (below-all net v u)) in
+      ap (λ ps. port_to ps u) pushed.row_v ∙ (lookup-append (row rows v) (q ∷ []) u (lookup-none (row rows v) u below) ∙ lookup-last q u to-u)
+
+  pub find-other : (i j : ℕ) → IsOtherPair i j u v → IsOtherPair i j v u → port_to (row more i) j ≡ port_to (row rows i) j
+  find-other i j = by-node (λ i. IsOtherPair i j u v → IsOtherPair i j v u → port_to (row more i) j ≡ port_to (row rows i) j) u v
+      (λ one two. ap (λ ps. port_to ps j) pushed.row_u ∙ lookup-without (row rows u) p j (λ e. one refl (sym e ∙ to-v)))
+      (λ one two. ap (λ ps. port_to ps j) pushed.row_v ∙ lookup-without (row rows v) q j (λ e. two refl (sym e ∙ to-u)))
+      (λ i no-u no-v one two. ap (λ ps. port_to ps j) (pushed.row_x i no-u no-v)) i
+
+module _ {A : Type 0} (w : World) where
+  module _ (rows : List (List (Port A))) (u v : ℕ) (a b : Port A) (order : u < v) (within : v < w.net.nodes) (all : length rows ≡ w.net.nodes) (laid : AreLaid w (reach w.net.nodes u v) rows) where
+    abbrev once : List (List (Port A))
+    once = slice_set rows u (row rows u ++ a ∷ [])
+
     abbrev pub more : List (List (Port A))
-    more = slice_set (slice_set rows u (row rows u ++ a ∷ [])) v (row (slice_set rows u (row rows u ++ a ∷ [])) v ++ b ∷ [])
+    more = slice_set once v (row once v ++ b ∷ [])
 
-    here-u : row more u ≡ row rows u ++ a ∷ []
-    here-u =
-        row-other (slice_set rows u (row rows u ++ a ∷ [])) v u (row (slice_set rows u (row rows u ++ a ∷ [])) v ++ b ∷ []) (λ e. omega (arith, e, order))
-        ∙ row-same rows u (row rows u ++ a ∷ []) (omega (arith, order, within, all))
+    apart : u ≢ v
+    apart e = omega (arith, e, order)
 
-    here-v : row more v ≡ row rows v ++ b ∷ []
-    here-v =
-        let long = length-set rows u (row rows u ++ a ∷ []) in
-        row-same (slice_set rows u (row rows u ++ a ∷ [])) v (row (slice_set rows u (row rows u ++ a ∷ [])) v ++ b ∷ []) (omega (arith, long, within, all))
-        ∙ ap (λ ps. ps ++ b ∷ []) (row-other rows u v (row rows u ++ a ∷ []) (λ e. omega (arith, e, order)))
+    once-v : row once v ≡ row rows v
+    once-v = row-other rows u v (row rows u ++ a ∷ []) (λ e. apart (sym e))
 
-    here-x : (x : ℕ) → x ≢ u → x ≢ v → row more x ≡ row rows x
-    here-x x no-u no-v =
-        row-other (slice_set rows u (row rows u ++ a ∷ [])) v x (row (slice_set rows u (row rows u ++ a ∷ [])) v ++ b ∷ []) no-v
-        ∙ row-other rows u x (row rows u ++ a ∷ []) no-u
+    pushed : ArePushed rows more u v a b
+    pushed = record {
+      row_u = row-other once v u (row once v ++ b ∷ []) apart ∙ row-same rows u (row rows u ++ a ∷ []) (omega (arith, order, within, all));
+      row_v =
+          let long = length-set rows u (row rows u ++ a ∷ []) in
+          row-same once v (row once v ++ b ∷ []) (omega (arith, long, within, all)) ∙ ap (λ ps. ps ++ b ∷ []) once-v;
+      row_x = λ x no-u no-v. row-other once v x (row once v ++ b ∷ []) no-v ∙ row-other rows u x (row rows u ++ a ∷ []) no-u;
+    }
 
-    below-u : (k : ℕ) (d : Port A) → k < length (row rows u) → (slice_index_or (row rows u) k d).neighbour < v
-    below-u k d there = let h = port-below w (reach w.net.nodes u v) rows u k d laid (omega (arith, order, within)) there in let r = reach-u w.net.nodes u v order in omega (arith, h, r)
+    ids-u : ids_in (row rows u) ≡ neighbours_below w.net u v
+    ids-u = laid.ids u (omega (arith, order, within)) ∙ ap (neighbours_below w.net u) (reach-u w.net.nodes u v order)
 
-    below-v : (k : ℕ) (d : Port A) → k < length (row rows v) → (slice_index_or (row rows v) k d).neighbour < u
-    below-v k d there = let h = port-below w (reach w.net.nodes u v) rows v k d laid within there in let r = reach-v w.net.nodes u v order in omega (arith, h, r)
-
-    -- a port is an old one, or one of the two new ones
-    which : (x k : ℕ) (d : Port A) → k < length (row more x)
-        → ((k < length (row rows x)) × (slice_index_or (row more x) k d ≡ slice_index_or (row rows x) k d))
-        ⊎ (((x ≡ u) × (slice_index_or (row more x) k d ≡ a)) ⊎ ((x ≡ v) × (slice_index_or (row more x) k d ≡ b)))
-    which x k d there = elim (cases_eq x u) [
-      | inl is-u ↦
-          let e : row more x ≡ row rows x ++ a ∷ [] = ap (row more) is-u ∙ (here-u ∙ ap (λ y. row rows y ++ a ∷ []) (sym is-u)) in
-          elim (pushed (row rows x) a k d (subst (λ ps. k < length ps) e there)) [
-            | inl old ↦ inl (old.0, ap (λ ps. slice_index_or ps k d) e ∙ old.1)
-            | inr new ↦ inr (inl (is-u, ap (λ ps. slice_index_or ps k d) e ∙ new))
-          ]
-      | inr no-u ↦ elim (cases_eq x v) [
-        | inl is-v ↦
-            let e : row more x ≡ row rows x ++ b ∷ [] = ap (row more) is-v ∙ (here-v ∙ ap (λ y. row rows y ++ b ∷ []) (sym is-v)) in
-            elim (pushed (row rows x) b k d (subst (λ ps. k < length ps) e there)) [
-              | inl old ↦ inl (old.0, ap (λ ps. slice_index_or ps k d) e ∙ old.1)
-              | inr new ↦ inr (inr (is-v, ap (λ ps. slice_index_or ps k d) e ∙ new))
-            ]
-        | inr no-v ↦
-            let e = here-x x no-u no-v in
-            inl (subst (λ ps. k < length ps) e there, ap (λ ps. slice_index_or ps k d) e)
-      ]
-    ]
+    ids-v : ids_in (row rows v) ≡ neighbours_below w.net v u
+    ids-v = laid.ids v within ∙ ap (neighbours_below w.net v) (reach-v w.net.nodes u v order)
 
     module _ (to-v : a.neighbour ≡ v) (to-u : b.neighbour ≡ u) (cable : IsCable a b) where
+      find-more : (i j : ℕ) → IsOtherPair i j u v → IsOtherPair i j v u → port_to (row more i) j ≡ port_to (row rows i) j
+      find-more = find-other w.net rows more u v a b pushed ids-u ids-v to-v to-u
+
       cabled : AreCabled more
-      cabled x y i d ib j e jb forth home = elim (which x i d ib) [
-        | inl p-old ↦ elim (which y j e jb) [
-          | inl q-old ↦
-              subst (λ p. IsCable p (slice_index_or (row more y) j e)) (sym p-old.1)
-              (subst (λ q. IsCable (slice_index_or (row rows x) i d) q) (sym q-old.1)
-              (laid.cabled x y i d p-old.0 j e q-old.0 (ap (λ p. p.neighbour) (sym p-old.1) ∙ forth) (ap (λ q. q.neighbour) (sym q-old.1) ∙ home)))
-          | inr (inl (y-u, q-a)) ↦
-              let x-v : v ≡ x = sym to-v ∙ (ap (λ q. q.neighbour) (sym q-a) ∙ home) in
-              let p-u : (slice_index_or (row rows x) i d).neighbour ≡ u = ap (λ p. p.neighbour) (sym p-old.1) ∙ (forth ∙ y-u) in
-              let low = below-v i d (subst (λ z. i < length (row rows z)) (sym x-v) p-old.0) in
-              let same : (slice_index_or (row rows v) i d).neighbour ≡ u = ap (λ z. (slice_index_or (row rows z) i d).neighbour) x-v ∙ p-u in
-              absurd (omega (arith, low, same))
-          | inr (inr (y-v, q-b)) ↦
-              let x-u : u ≡ x = sym to-u ∙ (ap (λ q. q.neighbour) (sym q-b) ∙ home) in
-              let p-v : (slice_index_or (row rows x) i d).neighbour ≡ v = ap (λ p. p.neighbour) (sym p-old.1) ∙ (forth ∙ y-v) in
-              let low = below-u i d (subst (λ z. i < length (row rows z)) (sym x-u) p-old.0) in
-              let same : (slice_index_or (row rows u) i d).neighbour ≡ v = ap (λ z. (slice_index_or (row rows z) i d).neighbour) x-u ∙ p-v in
-              absurd (omega (arith, low, same))
-        ]
-        | inr (inl (x-u, p-a)) ↦
-            let y-v : v ≡ y = sym to-v ∙ (ap (λ p. p.neighbour) (sym p-a) ∙ forth) in
-            elim (which y j e jb) [
-              | inl q-old ↦
-                  let q-u : (slice_index_or (row rows y) j e).neighbour ≡ u = ap (λ q. q.neighbour) (sym q-old.1) ∙ (home ∙ x-u) in
-                  let low = below-v j e (subst (λ z. j < length (row rows z)) (sym y-v) q-old.0) in
-                  let same : (slice_index_or (row rows v) j e).neighbour ≡ u = ap (λ z. (slice_index_or (row rows z) j e).neighbour) y-v ∙ q-u in
-                  absurd (omega (arith, low, same))
-              | inr (inl (y-u, q-a)) ↦ absurd (omega (arith, y-v, y-u, order))
-              | inr (inr (is-v, q-b)) ↦ subst (λ p. IsCable p (slice_index_or (row more y) j e)) (sym p-a) (subst (λ q. IsCable a q) (sym q-b) cable)
-            ]
-        | inr (inr (x-v, p-b)) ↦
-            let y-u : u ≡ y = sym to-u ∙ (ap (λ p. p.neighbour) (sym p-b) ∙ forth) in
-            elim (which y j e jb) [
-              | inl q-old ↦
-                  let q-v : (slice_index_or (row rows y) j e).neighbour ≡ v = ap (λ q. q.neighbour) (sym q-old.1) ∙ (home ∙ x-v) in
-                  let low = below-u j e (subst (λ z. j < length (row rows z)) (sym y-u) q-old.0) in
-                  let same : (slice_index_or (row rows u) j e).neighbour ≡ v = ap (λ z. (slice_index_or (row rows z) j e).neighbour) y-u ∙ q-v in
-                  absurd (omega (arith, low, same))
-              | inr (inl (is-u, q-a)) ↦ subst (λ p. IsCable p (slice_index_or (row more y) j e)) (sym p-b) (subst (λ q. IsCable b q) (sym q-a) (back a b cable))
-              | inr (inr (is-v, q-b)) ↦ absurd (omega (arith, y-u, is-v, order))
-            ]
-      ]
+      cabled =
+          let at-u = find-u w.net rows more u v a b pushed ids-u ids-v to-v to-u in
+          let at-v = find-v w.net rows more u v a b pushed ids-u ids-v to-v to-u in
+          by-pair (λ i j. IsCabledOn (port_to (row more i) j) (port_to (row more j) i)) u v
+          (on-as IsCabledOn (port_to (row more u) v) (port_to (row more v) u) (Some a) (Some b) at-u at-v cable)
+          (on-as IsCabledOn (port_to (row more v) u) (port_to (row more u) v) (Some b) (Some a) at-v at-u (cable.1, cable.0))
+          (λ i j one two.
+          on-as IsCabledOn (port_to (row more i) j) (port_to (row more j) i) (port_to (row rows i) j) (port_to (row rows j) i) (find-more i j one two) (find-more j i (λ x y. two y x) (λ x y. one y x))
+          (laid.cabled i j))
 
       pub laid-more : are_joined w.net.edges u v ≡ true → are_joined w.net.edges v u ≡ true → IsPortTold w u [] a → IsPortTold w v [] b → AreLaid w (reach w.net.nodes u (v + 1)) more
-      laid-more joined joined-back told-a told-b =
-          let un : u < w.net.nodes = omega (arith, order, within) in
-          record {
-            ids = λ x xn. elim (cases_eq x u) [
-              | inl is-u ↦ subst (λ z. ids_in (row more z) ≡ neighbours_below w.net z (reach w.net.nodes u (v + 1) z)) (sym is-u)
-                  (ap ids_in here-u
-                  ∙ (map_push (λ p. p.neighbour) (row rows u) a
-                  ∙ (ap (λ xs. xs ++ a.neighbour ∷ []) (laid.ids u un ∙ ap (neighbours_below w.net u) (reach-u w.net.nodes u v order))
-                  ∙ (ap (λ z. neighbours_below w.net u v ++ z ∷ []) to-v
-                  ∙ (sym (below-yes w.net u v joined) ∙ ap (neighbours_below w.net u) (sym (next-u w.net.nodes u v order)))))))
-              | inr no-u ↦ elim (cases_eq x v) [
-                | inl is-v ↦ subst (λ z. ids_in (row more z) ≡ neighbours_below w.net z (reach w.net.nodes u (v + 1) z)) (sym is-v)
-                    (ap ids_in here-v
-                    ∙ (map_push (λ p. p.neighbour) (row rows v) b
-                    ∙ (ap (λ xs. xs ++ b.neighbour ∷ []) (laid.ids v within ∙ ap (neighbours_below w.net v) (reach-v w.net.nodes u v order))
-                    ∙ (ap (λ z. neighbours_below w.net v u ++ z ∷ []) to-u
-                    ∙ (sym (below-yes w.net v u joined-back) ∙ ap (neighbours_below w.net v) (sym (next-v w.net.nodes u v order)))))))
-                | inr no-v ↦ ap ids_in (here-x x no-u no-v) ∙ (laid.ids x xn ∙ ap (neighbours_below w.net x) (sym (next-x w.net.nodes u v order x no-u no-v)))
-              ]
-            ];
-            told = λ x xn. elim (cases_eq x u) [
-              | inl is-u ↦ subst (λ z. All (IsPortTold w z []) (row more z)) (sym is-u)
-                  (subst (All (IsPortTold w u [])) (sym here-u) (All-push (IsPortTold w u []) (row rows u) a (laid.told u un) told-a))
-              | inr no-u ↦ elim (cases_eq x v) [
-                | inl is-v ↦ subst (λ z. All (IsPortTold w z []) (row more z)) (sym is-v)
-                    (subst (All (IsPortTold w v [])) (sym here-v) (All-push (IsPortTold w v []) (row rows v) b (laid.told v within) told-b))
-                | inr no-v ↦ subst (All (IsPortTold w x [])) (sym (here-x x no-u no-v)) (laid.told x xn)
-              ]
-            ];
-            cabled = cabled;
-          }
+      laid-more joined joined-back told-a told-b = record {
+        ids = by-node (λ x. x < w.net.nodes → ids_in (row more x) ≡ neighbours_below w.net x (reach w.net.nodes u (v + 1) x)) u v
+            (λ xn. ap ids_in pushed.row_u ∙ (push-id w.net u v (row rows u) a joined ids-u to-v ∙ ap (neighbours_below w.net u) (sym (next-u w.net.nodes u v order))))
+            (λ xn. ap ids_in pushed.row_v ∙ (push-id w.net v u (row rows v) b joined-back ids-v to-u ∙ ap (neighbours_below w.net v) (sym (next-v w.net.nodes u v order))))
+            (λ x no-u no-v xn. ap ids_in (pushed.row_x x no-u no-v) ∙ (laid.ids x xn ∙ ap (neighbours_below w.net x) (sym (next-x w.net.nodes u v order x no-u no-v))));
+        told = by-node (λ x. x < w.net.nodes → All (IsPortTold w x []) (row more x)) u v
+            (λ xn. subst (All (IsPortTold w u [])) (sym pushed.row_u) (All-push (IsPortTold w u []) (row rows u) a (laid.told u xn) told-a))
+            (λ xn. subst (All (IsPortTold w v [])) (sym pushed.row_v) (All-push (IsPortTold w v []) (row rows v) b (laid.told v xn) told-b))
+            (λ x no-u no-v xn. subst (All (IsPortTold w x [])) (sym (pushed.row_x x no-u no-v)) (laid.told x xn));
+        cabled = cabled;
+      }
 
-  -- two nodes that are not joined
-  pub laid-none : (w : World) (rows : List (List (Port A))) (u v : ℕ) → u < v → are_joined w.net.edges u v ≡ false → are_joined w.net.edges v u ≡ false
-      → AreLaid w (reach w.net.nodes u v) rows → AreLaid w (reach w.net.nodes u (v + 1)) rows
-  laid-none w rows u v order isnt isnt-back laid = record {
-    ids = λ x xn. laid.ids x xn ∙ skip-reach w.net u v x order isnt isnt-back;
-    told = laid.told;
-    cabled = laid.cabled;
-  }
-
-  -- a row begins: its node is not joined to itself
-  pub laid-row : (w : World) (rows : List (List (Port A))) (u : ℕ) → are_joined w.net.edges u u ≡ false
-      → AreLaid w (rows_reach w.net.nodes u) rows → AreLaid w (reach w.net.nodes u (u + 1)) rows
-  laid-row w rows u isnt laid = record {
-    ids = λ x xn. laid.ids x xn ∙ row-reach w.net u x isnt;
-    told = laid.told;
-    cabled = laid.cabled;
-  }
-
-  -- a row is done
-  pub laid-done : (w : World) (rows : List (List (Port A))) (u : ℕ) → AreLaid w (reach w.net.nodes u w.net.nodes) rows → AreLaid w (rows_reach w.net.nodes (u + 1)) rows
-  laid-done w rows u laid = record {
-    ids = λ x xn. laid.ids x xn ∙ ap (neighbours_below w.net x) (done-reach w.net.nodes u x xn);
+  -- the same ports below bounds that are the same
+  pub laid-as : (f g : ℕ → ℕ) (rows : List (List (Port A))) → ((x : ℕ) → x < w.net.nodes → IsSameBound w.net x (f x) (g x)) → AreLaid w g rows → AreLaid w f rows
+  laid-as f g rows same laid = record {
+    ids = λ x xn. laid.ids x xn ∙ sym (below-same w.net x (f x) (g x) (same x xn));
     told = laid.told;
     cabled = laid.cabled;
   }
 
   -- at first there is no port
-  pub laid-nothing : (w : World) (rows : List (List (Port A))) → ((x : ℕ) → row rows x ≡ []) → AreLaid w (rows_reach w.net.nodes 0) rows
-  laid-nothing w rows none = record {
+  pub laid-nothing : (rows : List (List (Port A))) → ((x : ℕ) → row rows x ≡ []) → AreLaid w (rows_reach w.net.nodes 0) rows
+  laid-nothing rows none = record {
     ids = λ x xn. ap ids_in (none x) ∙ ap (neighbours_below w.net x) (sym (zero-reach x));
     told = λ x xn. subst (All (IsPortTold w x [])) (sym (none x)) (All-nil (IsPortTold w x []));
-    cabled = λ u v i d there. absurd (no-port u i there);
+    cabled = λ i j. on-as IsCabledOn (port_to (row rows i) j) (port_to (row rows j) i) None None (ap (λ ps. port_to ps j) (none i)) (ap (λ ps. port_to ps i) (none j)) tt;
   }
     where
       zero-reach : (x : ℕ) → rows_reach w.net.nodes 0 x ≡ 0
       zero-reach x = grind (arith, common_steps)
 
-      no-port : (u i : ℕ) → i < length (row rows u) → ⊥
-      no-port u i there = let e = ap length (none u) in omega (arith, there, e)
-
   -- at last each has all of its own
-  pub laid-all : (w : World) (rows : List (List (Port A))) → AreLaid w (rows_reach w.net.nodes w.net.nodes) rows → AreFurnished w rows
-  laid-all w rows laid = record {
+  pub laid-all : (rows : List (List (Port A))) → AreLaid w (rows_reach w.net.nodes w.net.nodes) rows → AreFurnished w rows
+  laid-all rows laid = record {
     ids = λ x xn. laid.ids x xn ∙ ap (neighbours_below w.net x) (all-reach w.net.nodes x xn);
     told = laid.told;
     cabled = laid.cabled;

@@ -2,7 +2,7 @@
 use Rattle.std.proofs.Common.{◌≡◌, ℕ, zero, suc, ◌+◌, ◌<◌, if◌then◌else◌, nat_lt, true, IsTrue, List, [], ◌∷◌, ◌++◌, length, take, drop, ap, sym, subst, ◌∙◌, arith, slice_index_or}
 use Rattle.std.proofs.lemmas.Grind.{common_steps}
 use Rattle.std.proofs.Math.Path.{fun_ext}
-use Rattle.std.proofs.lemmas.List.{map_push}
+use Rattle.std.proofs.lemmas.List.{get_or-map, length-map, length-take, map_push}
 use Rattle.topology.specs.Network.{Network}
 use Rattle.topology.specs.Ranges.{ranges_of}
 use Rattle.link_model.specs.declared.item.Item.{Item}
@@ -10,23 +10,22 @@ use Rattle.run_model.specs.World.{at_pair, item_fits}
 use Rattle.weaving.specs.declared.journal.Stamped.{Stamped}
 use Rattle.weaving.specs.Matched.{items}
 use Rattle.thread_net.specs.Cables.{IsRoomFor}
-use Rattle.thread_net.proofs.Maps.{take_one}
+use Rattle.thread_net.proofs.Maps.{drop_head, take_one}
 
-module _ (net : Network) where
-  pub item-fits : (known : List Stamped) (k : ℕ) (x : Stamped) (rest : List Stamped) → drop k known ≡ x ∷ rest → IsRoomFor net (items known) → IsTrue (item_fits (ranges_of net) x.item)
-  item-fits [] zero x rest left room = absurd (let e = ap length left in omega (arith, e))
-  item-fits [] (suc k) x rest left room = absurd (let e = ap length left in omega (arith, e))
-  item-fits (y ∷ known) zero x rest left room =
-      let e : y ≡ x = ap (λ xs. slice_index_or xs 0 x) left in
-      subst (λ z. IsTrue (item_fits (ranges_of net) z.item)) e (room.1 0 y.item (omega arith))
-  item-fits (y ∷ known) (suc k) x rest left room =
-      item-fits known k x rest left ((let l = room.0 in omega (arith, l)), λ i d within. room.1 (suc i) d (omega (arith, within)))
+pub item-fits : (net : Network) (known : List Stamped) (k : ℕ) (x : Stamped) (rest : List Stamped) → drop k known ≡ x ∷ rest → IsRoomFor net (items known) → IsTrue (item_fits (ranges_of net) x.item)
+item-fits net known k x rest left room =
+    let h = drop_head k known rest x left in
+    let within = h.0 in
+    let long = length-map known (λ y. y.item) in
+    subst (λ i. IsTrue (item_fits (ranges_of net) i)) (get_or-map (λ y. y.item) known k x x.item within ∙ ap (λ y. y.item) h.1) (room.1 k x.item (omega (arith, within, long)))
 
-  few-taken : (known : List Stamped) (k : ℕ) (x : Stamped) (rest : List Stamped) → drop k known ≡ x ∷ rest → length (items (take k known)) < length (items known)
-  few-taken [] zero x rest left = absurd (let e = ap length left in omega (arith, e))
-  few-taken [] (suc k) x rest left = absurd (let e = ap length left in omega (arith, e))
-  few-taken (y ∷ known) zero x rest left = omega arith
-  few-taken (y ∷ known) (suc k) x rest left = let h = few-taken known k x rest left in omega (arith, h)
+few-taken : (known : List Stamped) (k : ℕ) (x : Stamped) (rest : List Stamped) → drop k known ≡ x ∷ rest → length (items (take k known)) < length (items known)
+few-taken known k x rest left =
+    let within = (drop_head k known rest x left).0 in
+    let all = length-map known (λ y. y.item) in
+    let some = length-map (take k known) (λ y. y.item) in
+    let taken = length-take k known in
+    omega (arith, within, all, some, taken)
 
 pub same-pair : {X : Type 0} (f : ℕ → ℕ → X) (u v : ℕ) (x : X) → at_pair f u v x u v ≡ x
 same-pair f u v x = grind (arith, common_steps)
@@ -49,7 +48,7 @@ pub drain-step : (net : Network) (f g now : ℕ → ℕ → List Item) (u v capa
     → now ≡ (if nat_lt (length (g u v)) capacity then at_pair g u v (g u v ++ i ∷ []) else g)
     → now ≡ at_pair f u v (items (take (k + 1) known))
 drain-step net f g now u v capacity known k x rest i left room cap same is put =
-    let few = few-taken net known k x rest left in
+    let few = few-taken known k x rest left in
     let most = room.0 in
     put ∙ (put-next f g u v capacity (items (take k known)) i x.item is (omega (arith, few, most, cap)) same
     ∙ ap (at_pair f u v) (sym (ap items (take_one k known rest x left) ∙ map_push (λ y. y.item) (take k known) x)))

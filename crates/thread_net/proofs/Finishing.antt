@@ -1,7 +1,10 @@
 -- Runners that came back, and the world that is made of them.
-use Rattle.std.proofs.Common.{◌≡◌, ◌⊎◌, inl, inr, ℕ, zero, suc, ◌+◌, ◌*◌, ◌<◌, ◌≤◌, ◌&&◌, Bool, true, false, if◌then◌else◌, nat_lt, IsTrue, Option, Some, None, List, [], ◌∷◌, length, map, ap, refl, sym, subst, ◌∙◌, rules, arith, slice_index_or, slice_get, All}
+use Rattle.std.proofs.Common.{◌≡◌, ◌⊎◌, inl, inr, ℕ, zero, suc, ◌+◌, ◌*◌, ◌<◌, ◌≤◌, ◌==◌, ◌&&◌, Bool, true, false, if◌then◌else◌, nat_lt, IsTrue, Option, Some, None, List, [], ◌∷◌, length, map, ap, refl, sym, subst, ◌∙◌, rules, arith, slice_index_or, slice_get, All}
 use Rattle.std.proofs.lemmas.Grind.{common_steps}
 use Rattle.std.specs.List.{AllZip}
+use Rattle.std.proofs.lemmas.Bool.{false≢true}
+use Rattle.std.proofs.lemmas.Option.{none-some, same_Some, slice_get_within, get_or_from_slice_get}
+use Rattle.std.proofs.lemmas.Slice.Zip.{AllZip-long}
 use Rattle.std.specs.declared.alloc.Global.{Global}
 use Rattle.topology.specs.Network.{Network, are_joined, neighbours_of}
 use Rattle.topology.specs.Laws.{JoinedAreNodes}
@@ -30,7 +33,7 @@ use Rattle.thread_net.specs.declared.threads.Outcome.{Outcome}
 use Rattle.node_runner.specs.Ports.{SameOutgoing, SameIncoming}
 use Rattle.node_runner.specs.Runner.{IsTold, AreSamePorts, IsSamePort, port_ids, round_room}
 use Rattle.node_runner.specs.Rounds.{AreRounds}
-use Rattle.thread_net.specs.Cables.{AreCabled, AreEnds, IsCable, IsOver, AreSettleable, IsFlushedBetween, ids_in, row, rows_of, settled}
+use Rattle.thread_net.specs.Cables.{AreCabled, AreEnds, IsCabledOn, IsOver, AreSettleable, IsFlushedBetween, ids_in, port_to, row, rows_of, settled}
 use Rattle.thread_net.specs.Seats.{AreAtStart, IsAtStart, degree_of, entries_of_all, nodes_of, total_room}
 use Rattle.thread_net.specs.Keeps.{Keeps}
 use Rattle.thread_net.specs.Outcomes.{MayRun, IsOutcomeOf, have_run, runners_in, turns_of}
@@ -41,7 +44,6 @@ use Rattle.thread_net.specs.Fault.{IsPartRun}
 use Rattle.thread_net.specs.Done.{HasDone, HaveDone, IsStart, IsGatherable}
 use Rattle.thread_net.specs.ThreadRun.{IsThreadRun}
 use Rattle.thread_net.proofs.Maps.{map-long}
-use Rattle.thread_net.proofs.Zips.{zip_length}
 use Rattle.thread_net.proofs.Gathering.{is-run, last, settleable, get-mapped}
 use Rattle.thread_net.proofs.Starting.{below-long}
 
@@ -63,28 +65,10 @@ may-run w turns rs start k d within =
     let room = one.room in
     (one.ready, omega (arith, none, room))
 
--- ---- elements of two lists
-
 get-some : {X : Type 0} (xs : List X) (k : ℕ) → k < length xs → (x : X) × (slice_get xs k ≡ Some x)
 get-some [] k within = absurd (omega (arith, within))
 get-some (x ∷ xs) zero within = (x, refl)
 get-some (x ∷ xs) (suc k) within = get-some xs k (omega (arith, within))
-
-get-index : {X : Type 0} (xs : List X) (k : ℕ) (x : X) → slice_get xs k ≡ Some x → (k < length xs) × (slice_index_or xs k x ≡ x)
-get-index [] k x is = absurd (none-some x is)
-  where
-    none-some : {X : Type 0} (x : X) → ◌≡◌ {A = Option X} None (Some x) → ⊥
-    none-some x e = grind (arith, common_steps, e)
-get-index (y ∷ ys) zero x is = (omega arith, some-same y x is)
-  where
-    some-same : {X : Type 0} (a b : X) → Some a ≡ Some b → a ≡ b
-    some-same a b e = grind (arith, common_steps, e)
-get-index (y ∷ ys) (suc k) x is = let later = get-index ys k x is in let l = later.0 in (omega (arith, l), later.1)
-
-get-row : {X Y : Type 0} (f : X → List Y) (xs : List X) (k : ℕ) (x : X) → slice_get xs k ≡ Some x → slice_index_or (map f xs) k [] ≡ f x
-get-row f [] k x is = grind (arith, common_steps, is)
-get-row f (y ∷ ys) zero x is = grind (arith, common_steps, is)
-get-row f (y ∷ ys) (suc k) x is = get-row f ys k x is
 
 -- ---- one runner that came back
 
@@ -140,38 +124,19 @@ entries-as w turns v r now false start same =
 
 zip-get : (turns : ℕ) (rs : List (Runner Global)) (os : List Outcome) (v : ℕ) (o : Outcome) → AllZip (IsOutcomeOf turns) rs os → slice_get os v ≡ Some o
     → (r : Runner Global) × (slice_get rs v ≡ Some r) × IsOutcomeOf turns r o
-zip-get turns [] [] v o all is = absurd (none-some o is)
-  where
-    none-some : (o : Outcome) → ◌≡◌ {A = Option Outcome} None (Some o) → ⊥
-    none-some o e = grind (arith, common_steps, e)
+zip-get turns rs [] v o all is = absurd (none-some o is)
 zip-get turns [] (x ∷ os) v o all is = elim all [ ]
-zip-get turns (r ∷ rs) [] v o all is = elim all [ ]
-zip-get turns (r ∷ rs) (x ∷ os) zero o all is = (r, refl, subst (IsOutcomeOf turns r) (some-same x o is) all.0)
-  where
-    some-same : (a b : Outcome) → Some a ≡ Some b → a ≡ b
-    some-same a b e = grind (arith, common_steps, e)
+zip-get turns (r ∷ rs) (x ∷ os) zero o all is = (r, refl, subst (IsOutcomeOf turns r) (same_Some x o is) all.0)
 zip-get turns (r ∷ rs) (x ∷ os) (suc v) o all is = zip-get turns rs os v o all.1 is
 
 come-back : (os : List Outcome) (v : ℕ) (r : Runner Global) → slice_get (runners_in os) v ≡ Some r → (o : Outcome) × (slice_get os v ≡ Some o) × (o.runner ≡ r)
 come-back [] v r is = absurd (none-some r is)
-  where
-    none-some : (r : Runner Global) → ◌≡◌ {A = Option (Runner Global)} None (Some r) → ⊥
-    none-some r e = grind (arith, common_steps, e)
-come-back (o ∷ os) zero r is = (o, refl, some-same o.runner r is)
-  where
-    some-same : (a b : Runner Global) → Some a ≡ Some b → a ≡ b
-    some-same a b e = grind (arith, common_steps, e)
+come-back (o ∷ os) zero r is = (o, refl, same_Some o.runner r is)
 come-back (o ∷ os) (suc v) r is = come-back os v r is
 
 turns-at : (turns v : ℕ) (os : List Outcome) (o : Outcome) → slice_get os v ≡ Some o → turns_of turns os v ≡ (if o.ran then turns else 0)
 turns-at turns v [] o is = absurd (none-some o is)
-  where
-    none-some : (o : Outcome) → ◌≡◌ {A = Option Outcome} None (Some o) → ⊥
-    none-some o e = grind (arith, common_steps, e)
-turns-at turns zero (x ∷ os) o is = ap (λ y. if y.ran then turns else 0) (some-same x o is)
-  where
-    some-same : (a b : Outcome) → Some a ≡ Some b → a ≡ b
-    some-same a b e = grind (arith, common_steps, e)
+turns-at turns zero (x ∷ os) o is = ap (λ y. if y.ran then turns else 0) (same_Some x o is)
 turns-at turns (suc v) (x ∷ os) o is = turns-at turns v os o is
 
 same-rows : (turns : ℕ) (rs : List (Runner Global)) (os : List Outcome) → AllZip (IsOutcomeOf turns) rs os → (x : ℕ) → AreSamePorts (row (rows_of rs) x) (row (rows_of (runners_in os)) x)
@@ -187,28 +152,42 @@ ends-stay o o' i i' x y ends = (
   (x.1.0.0 ∙ (ends.1.0 ∙ sym y.1.0.0), x.1.0.1 ∙ (ends.1.1 ∙ sym y.1.0.1), x.1.0.2 ∙ (ends.1.2 ∙ sym y.1.0.2), x.1.0.3 ∙ (ends.1.3 ∙ sym y.1.0.3)),
 )
 
-cable-stays : {A : Type 0} (p p' q q' : Port A) → IsSamePort p p' → IsSamePort q q' → IsCable p q → IsCable p' q'
-cable-stays p p' q q' x y cable = (ends-stay p.outgoing p'.outgoing q.incoming q'.incoming x.1 y.2 cable.0, ends-stay q.outgoing q'.outgoing p.incoming p'.incoming y.1 x.2 cable.1)
+-- the same port is found, or none
+abbrev IsSameFound : {A : Type 0} → Option (Port A) → Option (Port A) → Type 0
+IsSameFound (Some p) (Some q) = IsSamePort p q
+IsSameFound (Some p) None = ⊥
+IsSameFound None (Some q) = ⊥
+IsSameFound None None = Unit {0}
 
-cabled-stays : {A : Type 0} (old new : List (List (Port A))) → ((x : ℕ) → AreSamePorts (row old x) (row new x)) → AreCabled old → AreCabled new
-cabled-stays old new same cabled u v i d there j e there' forth home =
-    let a = same u in
-    let b = same v in
-    let la = a.0 in
-    let lb = b.0 in
-    let i-in : i < length (row old u) = omega (arith, there, la) in
-    let j-in : j < length (row old v) = omega (arith, there', lb) in
-    let x = a.1 i d i-in in
-    let y = b.1 j e j-in in
-    cable-stays (slice_index_or (row old u) i d) (slice_index_or (row new u) i d) (slice_index_or (row old v) j e) (slice_index_or (row new v) j e) x y
-    (cabled u v i d i-in j e j-in (sym x.0 ∙ forth) (sym y.0 ∙ home))
+same-found : {A : Type 0} (ps qs : List (Port A)) (v : ℕ) → AreSamePorts ps qs → IsSameFound (port_to ps v) (port_to qs v)
+same-found [] [] v same = tt
+same-found [] (q ∷ qs) v same = absurd (let l = same.0 in omega (arith, l))
+same-found (p ∷ ps) [] v same = absurd (let l = same.0 in omega (arith, l))
+same-found (p ∷ ps) (q ∷ qs) v same =
+    let one : IsSamePort p q = same.1 0 p (omega arith) in
+    let rest = same-found ps qs v ((let l = same.0 in omega (arith, l)), λ k d there. same.1 (suc k) d (omega (arith, there))) in
+    subst (λ n. IsSameFound (port_to (p ∷ ps) v) (if n == v then Some q else port_to qs v)) (sym one.0) (go (p.neighbour == v) one rest)
+  where
+    go : (b : Bool) → IsSamePort p q → IsSameFound (port_to ps v) (port_to qs v) → IsSameFound (if b then Some p else port_to ps v) (if b then Some q else port_to qs v)
+    go true one rest = one
+    go false one rest = rest
+
+cabled-stays : {A : Type 0} (a c b d : Option (Port A)) → IsSameFound a c → IsSameFound b d → IsCabledOn a b → IsCabledOn c d
+cabled-stays None None b d x y is = tt
+cabled-stays None (Some r) b d x y is = elim x [ ]
+cabled-stays (Some p) None b d x y is = elim x [ ]
+cabled-stays (Some p) (Some r) None None x y is = tt
+cabled-stays (Some p) (Some r) None (Some s) x y is = elim y [ ]
+cabled-stays (Some p) (Some r) (Some q) None x y is = elim y [ ]
+cabled-stays (Some p) (Some r) (Some q) (Some s) x y is =
+    (ends-stay p.outgoing r.outgoing q.incoming s.incoming x.1 y.2 is.0, ends-stay q.outgoing s.outgoing p.incoming r.incoming y.1 x.2 is.1)
 
 module _ (w : World) (turns : ℕ) (rs : List (Runner Global)) (os : List Outcome) (range : IsWorldInRange w) (start : AreAtStart w turns rs) (all : AllZip (IsOutcomeOf turns) rs os) where
   at : (v : ℕ) (r : Runner Global) → slice_get rs v ≡ Some r → IsAtStart w turns v r
-  at v r is = let g = get-index rs v r is in let l = g.0 in let c = start.count in subst (IsAtStart w turns v) g.1 (start.each v r (omega (arith, l, c)))
+  at v r is = let l = slice_get_within rs v r is in let c = start.count in subst (IsAtStart w turns v) (get_or_from_slice_get rs v r r is) (start.each v r (omega (arith, l, c)))
 
   pub came-count : length (runners_in os) ≡ w.net.nodes
-  came-count = let a = map-long (λ o. o.runner) os in let b = zip_length (IsOutcomeOf turns) rs os all in let c = start.count in omega (arith, a, b, c)
+  came-count = let a = map-long (λ o. o.runner) os in let b = AllZip-long (IsOutcomeOf turns) rs os all in let c = start.count in omega (arith, a, b, c)
 
   pub have-done : HaveDone w (turns_of turns os) (runners_in os)
   have-done = record {
@@ -222,11 +201,15 @@ module _ (w : World) (turns : ℕ) (rs : List (Runner Global)) (os : List Outcom
         let g = get-some (runners_in os) x (let c = came-count in omega (arith, c, xn)) in
         let c = come-back os x g.0 g.1 in
         let z = zip-get turns rs os x c.0 all c.1 in
-        ap ids_in (get-row (λ r. r.ports.items) (runners_in os) x g.0 g.1) ∙ (ap port_ids (sym c.2) ∙ ids-as w turns x z.0 c.0.runner c.0.ran (at x z.0 z.1) z.2);
-    cabled = cabled-stays (rows_of rs) (rows_of (runners_in os)) (same-rows turns rs os all) start.cabled;
+        ap ids_in (get-mapped (λ r. r.ports.items) (runners_in os) x g.0 [] g.1) ∙ (ap port_ids (sym c.2) ∙ ids-as w turns x z.0 c.0.runner c.0.ran (at x z.0 z.1) z.2);
+    cabled = λ u v.
+        let found : (x y : ℕ) → IsSameFound (port_to (row (rows_of rs) x) y) (port_to (row (rows_of (runners_in os)) x) y) =
+        λ x y. same-found (row (rows_of rs) x) (row (rows_of (runners_in os)) x) y (same-rows turns rs os all x) in
+        cabled-stays (port_to (row (rows_of rs) u) v) (port_to (row (rows_of (runners_in os)) u) v) (port_to (row (rows_of rs) v) u) (port_to (row (rows_of (runners_in os)) v) u)
+        (found u v) (found v u) (start.cabled u v);
   }
 
--- entries of some nodes fit where there is room for all of theirs
+-- the entries of some nodes fit if there is room for all of theirs
 fit-from : (w : World) (turns k : ℕ) (rs : List (Runner Global)) (os : List Outcome) → ((v : ℕ) (r : Runner Global) → slice_get rs v ≡ Some r → IsAtStart w turns (k + v) r)
     → AllZip (IsOutcomeOf turns) rs os → entry_count (entries_of_all (runners_in os)) ≤ total_room turns (nodes_of rs)
 fit-from w turns k [] [] at all = omega arith
@@ -249,10 +232,7 @@ all-turns turns (o ∷ os) ran zero within = let one : o.ran ≡ true = grind (a
 all-turns turns (o ∷ os) ran (suc v) within = all-turns turns os (let later : have_run os ≡ true = grind (arith, common_steps, ran) in later) v (omega (arith, within))
 
 pub some-idle : (turns : ℕ) (os : List Outcome) → have_run os ≡ false → (v : ℕ) × (v < length os) × (turns_of turns os v ≡ 0)
-some-idle turns [] ran = absurd (let h = ran in bools h)
-  where
-    bools : true ≡ false → ⊥
-    bools e = grind (arith, common_steps, e)
+some-idle turns [] ran = absurd (false≢true (sym ran))
 some-idle turns (o ∷ os) ran = cases o.ran refl (some-idle turns os)
   where
     cases : (b : Bool) → o.ran ≡ b → (have_run os ≡ false → (v : ℕ) × (v < length os) × (turns_of turns os v ≡ 0)) → (v : ℕ) × (v < length (o ∷ os)) × (turns_of turns (o ∷ os) v ≡ 0)
@@ -334,13 +314,10 @@ one-worlds w turns rs links now nodes room done over are net judged =
             let vn' : v < w.net.nodes = (let d = ap (λ n. n.nodes) same in omega (arith, vn, d)) in
             let g = get-some rs v (let c = done.count in omega (arith, c, vn')) in
             let one = done.each v g.0 g.1 in
-            ap (λ ns. site_in (node_at ns v)) are ∙ (ap site_in (get-node rs v g.0 g.1) ∙ (one.told.site ∙ ap (λ n. site_of n v) (sym same)));
+            ap (λ ns. site_in (node_at ns v)) are ∙ (ap site_in (get-mapped (λ r. r.node) rs v g.0 no_node g.1) ∙ (one.told.site ∙ ap (λ n. site_of n v) (sym same)));
       };
       room_is = subst (λ n. HasRoomFor n room) (sym same) judged;
     }
-  where
-    get-node : {A : Type 0} (rs : List (Runner A)) (v : ℕ) (r : Runner A) → slice_get rs v ≡ Some r → node_at (nodes_of rs) v ≡ r.node
-    get-node rs v r is = get-mapped (λ r. r.node) rs v r no_node is
 
 -- ---- the whole run
 

@@ -1,7 +1,9 @@
--- What runners that are done tell together.
+-- What the accounts of runners that are done say together.
 use Rattle.std.proofs.Common.{◌≡◌, ◌⊎◌, inl, inr, ℕ, zero, suc, ◌-◌, ◌<◌, ◌≤◌, ◌==◌, Bool, true, false, if◌then◌else◌, nat_lt, IsTrue, Option, Some, None, List, [], ◌∷◌, length, map, drop, ap, refl, sym, subst, ◌∙◌, arith, append-nil, slice_index_or, slice_get, All}
 use Rattle.std.proofs.lemmas.Grind.{common_steps}
+use Rattle.std.proofs.lemmas.List.{get_or-map, get_or_past}
 use Rattle.std.proofs.lemmas.List.Elements.{All-head, All-tail}
+use Rattle.std.proofs.lemmas.Option.{none-some, same_Some, slice_get_within, get_or_from_slice_get}
 use Rattle.std.specs.List.{AllByRecursion}
 use Rattle.topology.specs.Network.{Network, are_joined, neighbours_of}
 use Rattle.topology.specs.Laws.{JoinedAreNodes}
@@ -32,15 +34,11 @@ use Rattle.thread_net.specs.ThreadRun.{IsThreadRun}
 use Rattle.node_runner.specs.FirstTurn.{IsFirstTurn, count_of, is_tick_of}
 use Rattle.node_runner.specs.Due.{events_of}
 use Rattle.node_runner.specs.Laws.{EachRoundTicks}
+use Rattle.thread_net.proofs.Maps.{map-long}
 use Rattle.thread_net.proofs.OwnEvents.{own-deeds, own-ticks}
 use Rattle.thread_net.proofs.Matching.{Rise, link-matched}
 
 -- ---- lists that are read at a place
-
-get-within : {X : Type 0} (xs : List X) (k : ℕ) (x : X) → slice_get xs k ≡ Some x → k < length xs
-get-within [] k x is = grind (arith, common_steps, is)
-get-within (y ∷ ys) zero x is = omega arith
-get-within (y ∷ ys) (suc k) x is = let h = get-within ys k x is in omega (arith, h)
 
 get-beyond : {X : Type 0} (xs : List X) (k : ℕ) → slice_get xs k ≡ None → length xs ≤ k
 get-beyond [] k is = omega arith
@@ -48,14 +46,10 @@ get-beyond (y ∷ ys) zero is = grind (arith, common_steps, is)
 get-beyond (y ∷ ys) (suc k) is = let h = get-beyond ys k is in omega (arith, h)
 
 pub get-mapped : {X Y : Type 0} (f : X → Y) (xs : List X) (k : ℕ) (x : X) (d : Y) → slice_get xs k ≡ Some x → slice_index_or (map f xs) k d ≡ f x
-get-mapped f [] k x d is = grind (arith, common_steps, is)
-get-mapped f (y ∷ ys) zero x d is = grind (arith, common_steps, is)
-get-mapped f (y ∷ ys) (suc k) x d is = get-mapped f ys k x d is
+get-mapped f xs k x d is = get_or-map f xs k x d (slice_get_within xs k x is) ∙ ap f (get_or_from_slice_get xs k x x is)
 
 none-mapped : {X Y : Type 0} (f : X → Y) (xs : List X) (k : ℕ) (d : Y) → slice_get xs k ≡ None → slice_index_or (map f xs) k d ≡ d
-none-mapped f [] k d is = refl
-none-mapped f (y ∷ ys) zero d is = grind (arith, common_steps, is)
-none-mapped f (y ∷ ys) (suc k) d is = none-mapped f ys k d is
+none-mapped f xs k d is = let long = map-long f xs in let past = get-beyond xs k is in get_or_past (map f xs) k d (omega (arith, long, past))
 
 drop-nil : (k : ℕ) → ◌≡◌ {A = List ℕ} (drop k []) []
 drop-nil zero = refl
@@ -109,16 +103,10 @@ idle-link capacity old = record {
 }
 
 module _ {A : Type 0} where
-  none-some : (p : Port A) → ◌≡◌ {A = Option (Port A)} None (Some p) → ⊥
-  none-some p e = grind (arith, common_steps, e)
-
-  some-same : (a b : Port A) → Some a ≡ Some b → a ≡ b
-  some-same a b e = grind (arith, common_steps, e)
-
   either : (Q : Port A → Type 0) (q : Port A) (ps : List (Port A)) (v : ℕ) (p : Port A) (b : Bool) → Q q → (port_to ps v ≡ Some p → (p.neighbour ≡ v) × Q p) → (q.neighbour == v) ≡ b
       → (if b then Some q else port_to ps v) ≡ Some p → (p.neighbour ≡ v) × Q p
   either Q q ps v p true one later test e =
-      let same = some-same q p e in let at : q.neighbour ≡ v = grind (arith, common_steps, test) in (ap (λ r. r.neighbour) (sym same) ∙ at, subst Q same one)
+      let same = same_Some q p e in let at : q.neighbour ≡ v = grind (arith, common_steps, test) in (ap (λ r. r.neighbour) (sym same) ∙ at, subst Q same one)
   either Q q ps v p false one later test e = later e
 
   found : (Q : Port A → Type 0) (ps : List (Port A)) (v : ℕ) (p : Port A) → port_to ps v ≡ Some p → All Q ps → (p.neighbour ≡ v) × Q p
@@ -150,7 +138,7 @@ module _ {A : Type 0} where
     known v = known-from w turns v (slice_get rs v) (done.each v)
 
     within : (v : ℕ) (r : Runner A) → slice_get rs v ≡ Some r → v < w.net.nodes
-    within v r is = let h = get-within rs v r is in let c = done.count in omega (arith, h, c)
+    within v r is = let h = slice_get_within rs v r is in let c = done.count in omega (arith, h, c)
 
     beyond : (v : ℕ) → slice_get rs v ≡ None → w.net.nodes ≤ v
     beyond v is = let h = get-beyond rs v is in let c = done.count in omega (arith, h, c)

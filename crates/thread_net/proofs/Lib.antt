@@ -3,7 +3,6 @@ pub mod Zips
 pub mod Maps
 pub mod Cabling
 pub mod Settling
-pub mod Popping
 pub mod Seating
 pub mod Matching
 pub mod Draining

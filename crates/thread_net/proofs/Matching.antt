@@ -1,6 +1,8 @@
--- The ends of a link tell together what the link did.
+-- The two ends of a link say together what the link did.
 use Rattle.std.proofs.Common.{◌≡◌, ◌⊎◌, inl, inr, ℕ, suc, ◌-◌, ◌<◌, ◌≤◌, List, [], ◌∷◌, ◌++◌, length, drop, filter, nat_le, true, false, ap, refl, sym, subst, ◌∙◌, arith, append_assoc}
 use Rattle.std.proofs.lemmas.Grind.{common_steps}
+use Rattle.std.proofs.lemmas.List.{map-append}
+use Rattle.std.proofs.Math.Seq.{drop-append_seam}
 use Rattle.std.specs.List.{AllZip, AllByRecursion}
 use Rattle.rtrb.specs.Ring.{received}
 use Rattle.link_model.specs.declared.item.Item.{Item}
@@ -12,27 +14,15 @@ use Rattle.node_runner.specs.Stamps.{IsTakeOf, last_place}
 use Rattle.node_runner.specs.Ports.{opening, IsSender, IsReceiver}
 use Rattle.thread_net.specs.Cables.{IsFlushed, left_on}
 
-items-append : (xs ys : List Stamped) → items (xs ++ ys) ≡ items xs ++ items ys
-items-append [] ys = refl
-items-append (x ∷ xs) ys = ap (λ zs. x.item ∷ zs) (items-append xs ys)
-
 items-opening : (old : List Item) → items (opening old) ≡ old
 items-opening [] = refl
 items-opening (i ∷ old) = ap (λ zs. i ∷ zs) (items-opening old)
-
-opening-long : (old : List Item) → length (opening old) ≡ length old
-opening-long [] = refl
-opening-long (i ∷ old) = ap suc (opening-long old)
 
 taken-items : (takes came : List Stamped) → AllZip IsTakeOf takes came → items takes ≡ items came
 taken-items [] [] all = refl
 taken-items [] (y ∷ ys) all = elim all [ ]
 taken-items (x ∷ xs) [] all = elim all [ ]
 taken-items (x ∷ xs) (y ∷ ys) all = let later = taken-items xs ys all.1 in let one = all.0.item in ap (λ i. i ∷ items xs) one ∙ ap (λ zs. y.item ∷ zs) later
-
-pub drop-front : {X : Type 0} (xs ys : List X) → drop (length xs) (xs ++ ys) ≡ ys
-drop-front [] ys = refl
-drop-front (x ∷ xs) ys = drop-front xs ys
 
 -- takes are later than what they took, and so than the sends that are a longer list
 above-taken : (takes came left : List Stamped) → AllZip IsTakeOf takes came → AreAbove (stamps takes) (stamps (came ++ left))
@@ -86,15 +76,15 @@ module _ {A : Type 0} (capacity : ℕ) (old : List Item) (sends takes : List Sta
   went = flushed.0.1 ∙ sender.sent
 
   left-is : left_on o i ≡ items flushed.0.0
-  left-is = ap items (ap (drop (length (received i.frames))) (sym flushed.0.1) ∙ drop-front (received i.frames) flushed.0.0)
+  left-is = ap items (ap (drop (length (received i.frames))) (sym flushed.0.1) ∙ drop-append_seam (received i.frames) flushed.0.0)
 
   pub link-matched : IsLinkMatched capacity old sends takes (left_on o i)
   link-matched = record {
     kept =
         ap (λ xs. xs ++ items sends) (sym (items-opening old))
-        ∙ (sym (items-append (opening old) sends)
+        ∙ (sym (map-append (λ x. x.item) (opening old) sends)
         ∙ (ap items (sym went)
-        ∙ (items-append (received i.frames) flushed.0.0
+        ∙ (map-append (λ x. x.item) (received i.frames) flushed.0.0
         ∙ (ap (λ xs. xs ++ items flushed.0.0) (sym (taken-items takes (received i.frames) receiver.taken)) ∙ ap (λ xs. items takes ++ xs) (sym left-is)))));
     taken_later = above-drop old takes sends (subst (λ xs. AreAbove (stamps takes) (stamps xs)) went (above-taken takes (received i.frames) flushed.0.0 receiver.taken));
     sent_later =

@@ -23,8 +23,8 @@ account-own : (u : ℕ) (ds : List Note) → AllByRecursion (IsOwn u) (map (entr
 account-own u [] = tt
 account-own u (d ∷ ds) = (deed-own u d, account-own u ds)
 
-behind : (v : ℕ) (p : Placed) (ps : List Placed) → AllByRecursion (IsOwn v) (entries_of v (p ∷ ps)) → AllByRecursion (IsOwn v) (entries_of v ps)
-behind v p ps all = go (p.node == v) all where
+after-first : (v : ℕ) (p : Placed) (ps : List Placed) → AllByRecursion (IsOwn v) (entries_of v (p ∷ ps)) → AllByRecursion (IsOwn v) (entries_of v ps)
+after-first v p ps all = go (p.node == v) all where
   go : (b : Bool) → AllByRecursion (IsOwn v) (if b then p.entry ∷ entries_of v ps else entries_of v ps) → AllByRecursion (IsOwn v) (entries_of v ps)
   go true both = both.1
   go false rest = rest
@@ -34,7 +34,7 @@ all-own [] each = tt
 all-own (p ∷ ps) each =
     let here : entries_of p.node (p ∷ ps) ≡ p.entry ∷ entries_of p.node ps = grind (arith, common_steps) in
     let both = subst (AllByRecursion (IsOwn p.node)) here (each p.node) in
-    (both.0, all-own ps (λ v. behind v p ps (each v)))
+    (both.0, all-own ps (λ v. after-first v p ps (each v)))
 
 -- a deed of one node is no other's
 by-one : (u v : ℕ) (e : Event) → is_deed_of u e ≡ true → is_deed_of v e ≡ (u == v)
@@ -51,16 +51,16 @@ placed-own v (p ∷ ps) own =
     let rest = deeds_of v (map (λ q. q.entry.event) ps) in
     ap (λ b. if b then p.entry.event ∷ rest else rest) (by-one p.node v p.entry.event own.0) ∙ chosen (p.node == v) p.entry (entries_of v ps) rest (placed-own v ps own.1)
 
-told-events : (v : ℕ) (ds : List Note) → map (λ e. e.event) (map (entry_of v) ds) ≡ events_of v ds
-told-events v [] = refl
-told-events v (d ∷ ds) = ap (λ es. (entry_of v d).event ∷ es) (told-events v ds)
+note-events : (v : ℕ) (ds : List Note) → map (λ e. e.event) (map (entry_of v) ds) ≡ events_of v ds
+note-events v [] = refl
+note-events v (d ∷ ds) = ap (λ es. (entry_of v d).event ∷ es) (note-events v ds)
 
 pub own-deeds : (account : ℕ → List Note) (journal : ℕ → List Entry) (events : List Event) (v : ℕ) → AreOf account journal → IsWoven journal events
     → deeds_of v events ≡ events_of v (account v)
 own-deeds account journal events v told woven =
     let each : (u : ℕ) → AllByRecursion (IsOwn u) (entries_of u woven.placed) = λ u. subst (AllByRecursion (IsOwn u)) (sym (woven.complete u ∙ told u)) (account-own u (account u)) in
     ap (deeds_of v) (sym woven.are_events)
-    ∙ (placed-own v woven.placed (all-own woven.placed each) ∙ (ap (map (λ e. e.event)) (woven.complete v ∙ told v) ∙ told-events v (account v)))
+    ∙ (placed-own v woven.placed (all-own woven.placed each) ∙ (ap (map (λ e. e.event)) (woven.complete v ∙ told v) ∙ note-events v (account v)))
 
 -- a node's ticks are among its own events
 pub own-ticks : (v : ℕ) (es : List Event) → count_of (is_tick_of v) es ≡ count_of (is_tick_of v) (deeds_of v es)

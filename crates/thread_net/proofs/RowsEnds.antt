@@ -72,7 +72,7 @@ module _ {A : Type 0} (p q : Port A) (to_one : p.neighbour ≡ 1) (to_two : q.ne
   row-no_port : port_to (p ∷ q ∷ []) 3 ≡ None
   row-no_port = grind (arith, common_steps, to_one, to_two)
 
-  -- where a port is missing nothing is left, and nothing is flushed
+  -- if a port is missing nothing is left, and nothing is flushed
   row-nothing : left_on_ports (Some p) None ≡ []
   row-nothing = refl
 
@@ -87,7 +87,7 @@ row-below = refl
 row-below-all : neighbours_below two_nodes 0 2 ≡ 1 ∷ []
 row-below-all = refl
 
--- where the pair of 1 and 3 of four nodes comes next: node 0 is through, 1 has had those below 3, 2 has had 0 and 1
+-- if the pair of 1 and 3 of four nodes comes next, node 0 is through, 1 has had those below 3, 2 has had 0 and 1
 row-reach : (reach 4 1 3 0 ≡ 4) × (reach 4 1 3 1 ≡ 3) × (reach 4 1 3 2 ≡ 2) × (reach 4 1 3 3 ≡ 1)
 row-reach = (refl, refl, refl, refl)
 

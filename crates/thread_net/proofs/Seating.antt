@@ -1,12 +1,12 @@
 -- The seats of runners, of which one changes.
 use Rattle.std.proofs.Common.{◌≡◌, ℕ, ◌+◌, ◌<◌, ◌≤◌, List, [], ◌∷◌, ◌++◌, length, ap, sym, subst, ◌∙◌, arith, slice_index_or, slice_set, All, take, take_all}
-use Rattle.std.proofs.lemmas.List.{get_or-map, take_more_set, take_more}
+use Rattle.std.proofs.lemmas.List.{get_or-map, map-set, take_more_set, take_more}
 use Rattle.std.proofs.lemmas.List.Elements.{All-push, All-set}
 use Rattle.node_core.specs.View.{NodeView, site_in}
 use Rattle.node_runner.specs.declared.runner.Runner.{Runner}
 use Rattle.thread_net.specs.Cables.{seat_of, seats_of}
 use Rattle.thread_net.specs.Seats.{IsNew, HasRoom, AreShort, degree_of, entry_room, total_room, nodes_of}
-use Rattle.thread_net.proofs.Maps.{map-set, map-long}
+use Rattle.thread_net.proofs.Maps.{map-long}
 
 module _ {A : Type 0} (rs : List (Runner A)) (k : ℕ) (r : Runner A) (within : k < length rs) (at : r ≡ slice_index_or rs k r) where
   pub short-at : (nodes : List NodeView) → nodes_of rs ≡ nodes → AreShort nodes → degree_of r.node ≤ 64

@@ -1,7 +1,10 @@
 -- Runners that are furnished are at the start.
-use Rattle.std.proofs.Common.{◌≡◌, ℕ, zero, suc, ◌+◌, ◌*◌, ◌<◌, ◌≤◌, ◌⊎◌, inl, inr, true, false, nat_lt, if◌then◌else◌, List, [], ◌∷◌, length, map, ap, refl, sym, subst, ◌∙◌, arith, slice_index_or, All, vec_capacity}
+use Rattle.std.proofs.Common.{◌≡◌, ℕ, zero, suc, ◌+◌, ◌*◌, ◌<◌, ◌≤◌, true, not, nat_lt, if◌then◌else◌, List, [], ◌∷◌, length, map, ap, refl, sym, subst, ◌∙◌, arith, slice_index_or, All, vec_capacity}
 use Rattle.std.proofs.lemmas.Grind.{common_steps}
-use Rattle.std.proofs.lemmas.List.{get_or-map, length-append}
+use Rattle.std.specs.List.{range_with_len}
+use Rattle.std.proofs.lemmas.List.{get_or-map}
+use Rattle.std.proofs.lemmas.List.Filters.{length-filter_both}
+use Rattle.std.proofs.lemmas.List.FromFn.{length-range_with_len}
 use Rattle.topology.specs.Network.{Network, are_joined, neighbours_of}
 use Rattle.topology.specs.Ranges.{ranges_of}
 use Rattle.node_core.specs.Site.{site_of}
@@ -14,7 +17,6 @@ use Rattle.node_runner.specs.declared.runner.Runner.{Runner}
 use Rattle.node_runner.specs.Runner.{IsPortTold, port_ids}
 use Rattle.thread_net.specs.Cables.{AreFurnished, neighbours_below, row, rows_of, seat_of, seats_of}
 use Rattle.thread_net.specs.Seats.{IsNew, HasRoom, AreAtStart, AreShort, IsAtStart, degree_of, nodes_of}
-use Rattle.thread_net.proofs.Cabling.{below-yes, below-no}
 use Rattle.thread_net.proofs.Maps.{map-long}
 
 module _ {A : Type 0} where
@@ -30,18 +32,10 @@ module _ {A : Type 0} where
 
 -- a node has no more neighbours than there are nodes
 pub below-long : (net : Network) (x k : ℕ) → length (neighbours_below net x k) ≤ k
-below-long net x zero = omega arith
-below-long net x (suc k) =
-    let on : k + 1 ≡ suc k = omega arith in
-    let before = below-long net x k in
-    let cases : (are_joined net.edges x k ≡ true) ⊎ (are_joined net.edges x k ≡ false) = grind arith in
-    elim cases [
-      | inl is ↦
-          let e = ap length (sym (ap (neighbours_below net x) on) ∙ below-yes net x k is) in
-          let l = length-append (neighbours_below net x k) (k ∷ []) in
-          omega (arith, before, e, l)
-      | inr isnt ↦ let e = ap length (sym (ap (neighbours_below net x) on) ∙ below-no net x k isnt) in omega (arith, before, e)
-    ]
+below-long net x k =
+    let all = length-filter_both (are_joined net.edges x) (λ z. not (are_joined net.edges x z)) (λ z. refl) (range_with_len 0 k) in
+    let long = length-range_with_len 0 k in
+    omega (arith, all, long)
 
 pub short-nodes : (net : Network) (nodes : List NodeView) → net.nodes ≤ 64 → AreNodesOf net nodes → AreShort nodes
 short-nodes net nodes few are k d within =

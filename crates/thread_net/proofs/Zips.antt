@@ -1,22 +1,8 @@
 -- A list that is gone through while another grows.
 use Rattle.std.proofs.Common.{◌≡◌, ℕ, zero, suc, ◌+◌, ◌++◌, List, [], ◌∷◌, length, take, drop, ap, refl, rules, arith, ◌≤◌, take_all}
-use Rattle.std.proofs.Math.Numerals.{add-one}
 use Rattle.std.specs.List.{AllZip}
-
-take_next : {X : Type 0} (n : ℕ) (xs rest : List X) (x : X) → drop n xs ≡ x ∷ rest → take (suc n) xs ≡ take n xs ++ x ∷ []
-take_next zero [] rest x e = Prim.search rules
-take_next zero (y ∷ ys) rest x e = Prim.search rules
-take_next (suc n) [] rest x e = Prim.search rules
-take_next (suc n) (y ∷ ys) rest x e = ap (λ zs. y ∷ zs) (take_next n ys rest x e)
-
-drop_next : {X : Type 0} (n : ℕ) (xs rest : List X) (x : X) → drop n xs ≡ x ∷ rest → drop (suc n) xs ≡ rest
-drop_next zero [] rest x e = Prim.search rules
-drop_next zero (y ∷ ys) rest x e = Prim.search rules
-drop_next (suc n) [] rest x e = Prim.search rules
-drop_next (suc n) (y ∷ ys) rest x e = drop_next n ys rest x e
-
-pub drop_one : {X : Type 0} (n : ℕ) (xs rest : List X) (x : X) → drop n xs ≡ x ∷ rest → drop (n + 1) xs ≡ rest
-drop_one n xs rest x e = rw add-one (drop_next n xs rest x e)
+use Rattle.std.proofs.lemmas.Slice.Zip.{AllZip-long}
+use Rattle.thread_net.proofs.Maps.{drop_one, take_one}
 
 module _ {X Y : Type 0} (R : X → Y → Type 0) where
   pub zip_push : (xs : List X) (ys : List Y) (x : X) (y : Y) → AllZip R xs ys → R x y → AllZip R (xs ++ x ∷ []) (ys ++ y ∷ [])
@@ -27,9 +13,9 @@ module _ {X Y : Type 0} (R : X → Y → Type 0) where
 
   -- the next of those that are left goes to those that are done
   pub zip_more : (n : ℕ) (xs rest : List X) (ys : List Y) (x : X) (y : Y) → drop n xs ≡ x ∷ rest → AllZip R (take n xs) ys → R x y → AllZip R (take (n + 1) xs) (ys ++ y ∷ [])
-  zip_more n xs rest ys x y left all one = rw (add-one, take_next n xs rest x left) (zip_push (take n xs) ys x y all one)
+  zip_more n xs rest ys x y left all one = rw (take_one n xs rest x left) (zip_push (take n xs) ys x y all one)
 
-  -- where the second list goes on, the first does
+  -- if the second list goes on, the first does
   pub zip_uncons : (xs : List X) (y : Y) (ys : List Y) → AllZip R xs (y ∷ ys) → (x : X) × (zs : List X) × (xs ≡ x ∷ zs) × R x y × AllZip R zs ys
   zip_uncons [] y ys all = elim all [ ]
   zip_uncons (x ∷ xs) y ys all = (x, xs, refl, all.0, all.1)
@@ -44,16 +30,10 @@ step_on S R n jobs y left z done gives was rest =
     let zs = it.1 in
     (zip_more R n jobs zs done x z it.2 was (gives x it.3), rw (drop_one n jobs zs x it.2) it.4)
 
-pub zip_length : {X Y : Type 0} (S : X → Y → Type 0) (xs : List X) (ys : List Y) → AllZip S xs ys → length xs ≡ length ys
-zip_length S [] [] all = refl
-zip_length S [] (y ∷ ys) all = elim all [ ]
-zip_length S (x ∷ xs) [] all = elim all [ ]
-zip_length S (x ∷ xs) (y ∷ ys) all = ap suc (zip_length S xs ys all.1)
-
--- where all were started, all are finished
+-- if all were started, all are finished
 pub all_done : {X Y Z : Type 0} (S : X → Y → Type 0) (R : X → Z → Type 0) (n : ℕ) (jobs : List X) (started : List Y) (done : List Z)
     → AllZip S jobs started → length started ≤ n → AllZip R (take n jobs) done → AllZip R jobs done
 all_done S R n jobs started done all enough was =
-    let len = zip_length S jobs started all in
+    let len = AllZip-long S jobs started all in
     let same : take n jobs ≡ jobs = take_all n jobs (omega (arith, len)) in
     rw same at was

@@ -56,22 +56,31 @@ AreWithin l = (u v : ℕ) → IsTrue (are_joined l.net.edges u v) → length (un
 abbrev pub IsOver : World → LinksView → Type 0
 IsOver w l = (w.net ≡ l.net) × (w.link ≡ under_way l)
 
--- wherever two of the ports lead to each other's nodes, they are the ends of the same links
+-- the first port that leads to a node
+abbrev pub port_to : {A : Type 0} → List (Port A) → ℕ → Option (Port A)
+port_to [] v = None
+port_to (p ∷ ps) v = if p.neighbour == v then Some p else port_to ps v
+
+-- they are the ends of the same links, if both are there
+abbrev pub IsCabledOn : {A : Type 0} → Option (Port A) → Option (Port A) → Type 0
+IsCabledOn (Some p) (Some q) = IsCable p q
+IsCabledOn (Some p) None = Unit {0}
+IsCabledOn None q = Unit {0}
+
+-- if two nodes have ports to each other, these are the ends of the same links
 abbrev pub AreCabled : {A : Type 0} → List (List (Port A)) → Type 0
-AreCabled rows =
-    (u v : ℕ)
-    → All (λ p. All (λ q. p.neighbour ≡ v → q.neighbour ≡ u → IsCable p q) (row rows v)) (row rows u)
+AreCabled rows = (u v : ℕ) → IsCabledOn (port_to (row rows u) v) (port_to (row rows v) u)
 
 -- the neighbours of x below a bound, ascending
 abbrev pub neighbours_below : Network → ℕ → ℕ → List ℕ
 neighbours_below net x bound = filter (are_joined net.edges x) (range_with_len 0 bound)
 
--- Pairs of nodes are gone through by their smaller node, and then by the other: where the pair of u
--- and v comes next, x has had its pairs with the nodes below this bound.
+-- Pairs of nodes are gone through by their smaller node, and then by the other. If the pair of u and
+-- v comes next, x has had its pairs with the nodes below this bound.
 abbrev pub reach : ℕ → ℕ → ℕ → ℕ → ℕ
 reach n u v x = if nat_lt x u then n else if x == u then v else if nat_lt x v then u + 1 else u
 
--- the same where the pairs of which u is the smaller node come next
+-- the same if the pairs of which u is the smaller node come next
 abbrev pub rows_reach : ℕ → ℕ → ℕ → ℕ
 rows_reach n u x = if nat_lt x u then n else u
 
@@ -88,16 +97,11 @@ pub record AreFurnished {A : Type 0} (w : World) (rows : List (List (Port A))) :
   pub told : (x : ℕ) → x < w.net.nodes → All (IsPortTold w x []) (row rows x)
   pub cabled : AreCabled rows
 
--- the first port that leads to a node
-abbrev pub port_to : {A : Type 0} → List (Port A) → ℕ → Option (Port A)
-port_to [] v = None
-port_to (p ∷ ps) v = if p.neighbour == v then Some p else port_to ps v
-
 -- what was sent at the one end and not yet taken at the other
 abbrev pub left_on : {A : Type 0} → Outgoing A → Incoming A → List Item
 left_on o i = items (drop (length (received i.frames)) (sent o.frames))
 
--- the same of two ports, where both are there
+-- the same of two ports, if both are there
 abbrev pub left_on_ports : {A : Type 0} → Option (Port A) → Option (Port A) → List Item
 left_on_ports (Some p) (Some q) = left_on p.outgoing q.incoming
 left_on_ports (Some p) None = []

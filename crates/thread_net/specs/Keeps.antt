@@ -10,7 +10,7 @@ use Rattle.node_runner.specs.Due.{BeginsWhole}
 abbrev pub MayRun : {A : Type 0} → ℕ → Runner A → Type 0
 MayRun turns r = IsReady r × (length r.journal.entries.items + turns * round_room r ≤ vec_capacity r.journal.entries)
 
--- it did that number of rounds, and nothing else; the first one is whole where a run begins with it
+-- it did that number of rounds, and nothing else; the first one is whole if a run begins with it
 abbrev pub HasRun : {A : Type 0} → ℕ → Runner A → Runner A → Type 0
 HasRun turns was now =
     (notes : List Note) × Does notes was now × AreRounds (port_ids was) turns notes

@@ -72,8 +72,8 @@ fn tables<A: Allocator + Copy>(
     Ok((runners, seats))
 }
 
-/// Makes all that a run of a world needs. Where memory is refused for any of it, the world's parts
-/// come back as they were.
+/// Makes all that a run of a world needs. If memory is refused for any of it, the world's parts come
+/// back as they were.
 pub fn prepare<A: Allocator + Copy>(
     alloc: A,
     parts: Parts<A>,

@@ -97,8 +97,8 @@ fn gather<A: Allocator + Copy>(
     }
 }
 
-/// Makes all that a run of a world needs. Where memory is refused for any of it, the world comes
-/// back as it was.
+/// Makes all that a run of a world needs. If memory is refused for any of it, the world comes back as
+/// it was.
 pub fn prepare_world<A: Allocator + Copy>(
     alloc: A,
     world: World<A>,
@@ -121,8 +121,8 @@ pub fn prepare_world<A: Allocator + Copy>(
 /// All memory is taken before the first thread starts, but what the start of a thread takes.
 ///
 /// # Errors
-/// [`RunFault::Memory`] where memory is refused, before the first turn; the world comes back as it
-/// was. [`RunFault::Spawn`] where a thread is refused, with what the nodes did that were started.
+/// [`RunFault::Memory`] if memory is refused, before the first turn; the world comes back as it was.
+/// [`RunFault::Spawn`] if a thread is refused, with what the nodes did that were started.
 pub fn run_threads<R: Threads + Wait + Sync, G: Gate>(
     rt: &R,
     alloc: Global,

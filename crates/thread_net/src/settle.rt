@@ -127,8 +127,8 @@ fn settle_row<A: Allocator + Copy>(
     topology::laws::joined();
     let nodes = links.net().nodes();
     let greater = nodes - 1 - one;
-    for behind in 0..greater {
-        let other = nodes - 1 - behind;
+    for done in 0..greater {
+        let other = nodes - 1 - done;
         if links.are_joined(one, other) {
             settle_edge(links, rows, one, other);
         }
@@ -153,7 +153,7 @@ pub(crate) fn settle_all<A: Allocator + Copy>(
 {
     topology::laws::joined();
     let nodes = links.net().nodes();
-    for behind in 0..nodes {
-        settle_row(links, rows, nodes - 1 - behind);
+    for done in 0..nodes {
+        settle_row(links, rows, nodes - 1 - done);
     }
 }

@@ -62,8 +62,8 @@ fn run_one<G: Gate>(runner: Runner, gate: &G, stop: &AtomicBool, turns: u32) -> 
     Outcome { runner, ran: true }
 }
 
-/// Starts a runner on a thread of its own. Where there is no thread for it, nobody begins any more,
-/// and it comes back as it was.
+/// Starts a runner on a thread of its own. If there is no thread for it, it comes back as it was, and
+/// no other runner begins.
 fn start<'s, E, G: Gate>(
     scope: &Scope<'s, E>,
     gate: &'s G,

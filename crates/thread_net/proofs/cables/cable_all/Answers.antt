@@ -1,8 +1,11 @@
-use Rattle.std.proofs.Common.{rules, arith, ap, sym, subst, ◌≡◌, ◌∙◌}
+use Rattle.std.proofs.Common.{rules, arith, ap, inl, refl, sym, subst, ◌≡◌, ◌∙◌, ◌+◌}
 use Rattle.topology.specs.Network.{are_joined, IsAcceptedNetwork}
-use Rattle.thread_net.specs.Cables.{rows_of, rows_reach, AreLaid}
-use Rattle.thread_net.proofs.Cabling.{laid-row, laid-done, laid-all}
+use Rattle.thread_net.specs.Cables.{rows_of, reach, rows_reach, AreLaid}
+use Rattle.thread_net.proofs.Cabling.{row-reach, done-reach, laid-as, laid-nothing, laid-all}
 use Rattle.thread_net.proofs.cables.cable_all.Goals as goal
+
+pub loop-one-init : goal.loop-one-init
+loop-one-init g c = (refl, refl, λ w over none. laid-nothing w (rows_of c.args.runners.now.items) none)
 
 pub loop-one-preserved : goal.loop-one-preserved
 loop-one-preserved g c =
@@ -14,7 +17,9 @@ loop-one-preserved g c =
       c.cable_row.ensures.seats ∙ c.loop-one.invariant.1,
       λ w over none.
           let itself = ap (λ n. are_joined n.edges u u) over.0 ∙ c.joined.ensures.not_to_itself net u accepted in
-          laid-done w (rows_of c.cable_row.new.runners.items) u (c.in_ok-cable_row.ensures.laid w over (laid-row w rows u itself (c.loop-one.invariant.2 w over none))),
+          let n = w.net.nodes in
+          let begun = laid-as w (reach n u (u + 1)) (rows_reach n u) rows (λ x xn. row-reach w.net u itself x) (c.loop-one.invariant.2 w over none) in
+          laid-as w (rows_reach n (u + 1)) (reach n u n) (rows_of c.cable_row.new.runners.items) (λ x xn. inl (sym (done-reach n u x xn))) (c.in_ok-cable_row.ensures.laid w over begun),
     )
 
 pub returns-clause-furnished : goal.returns-clause-furnished

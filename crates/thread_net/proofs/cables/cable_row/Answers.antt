@@ -1,7 +1,7 @@
-use Rattle.std.proofs.Common.{rules, arith, ap, sym, subst, false, ◌≡◌, ◌∙◌, ◌<◌}
+use Rattle.std.proofs.Common.{rules, arith, ap, sym, subst, false, ◌≡◌, ◌∙◌, ◌<◌, ◌+◌}
 use Rattle.topology.specs.Network.{are_joined}
 use Rattle.thread_net.specs.Cables.{rows_of, reach, AreLaid}
-use Rattle.thread_net.proofs.Cabling.{laid-none}
+use Rattle.thread_net.proofs.Cabling.{skip-reach, laid-as}
 use Rattle.thread_net.proofs.cables.cable_row.Goals as goal
 use Rattle.thread_net.proofs.cables.cable_row.Goals.{then-are_joined+in_ok-join, else-are_joined}
 
@@ -21,8 +21,9 @@ loop-other-preserved g c = elim c.if-are_joined.branch [
         c.loop-other.invariant.0,
         c.loop-other.invariant.1,
         λ z over laid.
-            laid-none z (rows_of c.loop-other.runners.items) u v order (ap (λ n. are_joined n.edges u v) over.0 ∙ isnt) (ap (λ n. are_joined n.edges v u) over.0 ∙ isnt-back)
-            (c.loop-other.invariant.2 z over laid),
+            let n = z.net.nodes in
+            laid-as z (reach n u (v + 1)) (reach n u v) (rows_of c.loop-other.runners.items)
+            (λ x xn. skip-reach z.net u v order (ap (λ m. are_joined m.edges u v) over.0 ∙ isnt) (ap (λ m. are_joined m.edges v u) over.0 ∙ isnt-back) x) (c.loop-other.invariant.2 z over laid),
       )
 ]
 

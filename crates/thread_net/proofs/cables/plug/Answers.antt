@@ -8,8 +8,7 @@ returns-in_err-push-clause-seats g c =
     let rs = c.args.runners.now.items in
     let k = c.from.result in
     let r = c.index_mut.result.now in
-    let within : k < length rs = search (rules, arith) in
-    map-set-same seat_of rs k r (record r { ports = c.push.new.self }) within c.index_mut.ensures.value refl
+    map-set-same seat_of rs k r (record r { ports = c.push.new.self }) c.index_mut.ensures.value refl
 
 pub returns-clause-rows : goal.returns-clause-rows
 returns-clause-rows g c =
@@ -25,5 +24,4 @@ returns-clause-seats g c =
     let rs = c.args.runners.now.items in
     let k = c.from.result in
     let r = c.index_mut.result.now in
-    let within : k < length rs = search (rules, arith) in
-    map-set-same seat_of rs k r (record r { ports = c.push.new.self }) within c.index_mut.ensures.value refl
+    map-set-same seat_of rs k r (record r { ports = c.push.new.self }) c.index_mut.ensures.value refl

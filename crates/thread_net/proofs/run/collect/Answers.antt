@@ -2,8 +2,7 @@ use Rattle.std.proofs.Common.{rules, arith, ap, sym, ◌≡◌, ◌∙◌, ◌++
 use Rattle.std.specs.Vec.Iter.{into_iter_items}
 use Rattle.std.proofs.lemmas.List.{map_push}
 use Rattle.thread_net.specs.Outcomes.{runners_in, have_run}
-use Rattle.thread_net.proofs.Zips.{drop_one}
-use Rattle.thread_net.proofs.Maps.{take_one}
+use Rattle.thread_net.proofs.Maps.{drop_one, take_one}
 use Rattle.thread_net.proofs.Collecting.{run-push}
 use Rattle.thread_net.proofs.run.collect.Goals as goal
 

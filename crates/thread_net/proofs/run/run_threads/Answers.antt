@@ -1,7 +1,7 @@
 use Rattle.std.proofs.Common.{rules, arith, ap, ◌≡◌, true, false, length, vec_len}
 use Rattle.configuration.specs.ConfigurationView.{world_of}
 use Rattle.thread_net.specs.Outcomes.{IsOutcomeOf, have_run, turns_of}
-use Rattle.thread_net.proofs.Zips.{zip_length}
+use Rattle.std.proofs.lemmas.Slice.Zip.{AllZip-long}
 use Rattle.thread_net.proofs.Finishing.{gatherable, whole, part}
 use Rattle.thread_net.proofs.run.run_threads.Goals as goal
 
@@ -10,7 +10,7 @@ collect-all_ran-requires g c =
     let os = c.run_all-outcomes.result.items in
     let runners = c.in-Ok-prepare.prepared.runners.items in
     let many = c.in-Ok-prepare.ensures.ready.runners.count in
-    let zip = zip_length (IsOutcomeOf c.args.turns) runners os c.run_all-outcomes.ensures in
+    let zip = AllZip-long (IsOutcomeOf c.args.turns) runners os c.run_all-outcomes.ensures in
     let links = ap (λ l. l.net.nodes) c.into_parts.ensures.links in
     let count : c.from-count.result ≡ c.args.world.links.net.nodes = search rules in
     let exact = c.in-Ok-with_capacity.ensures.exact in

@@ -1,10 +1,10 @@
 use Rattle.std.proofs.Common.{rules, arith, ap, sym, refl, ◌≡◌, ◌∙◌, ◌<◌, ◌≤◌, length}
-use Rattle.std.proofs.lemmas.List.{length-set}
+use Rattle.std.proofs.lemmas.List.{length-set, get_or_default}
 use Rattle.node_runner.specs.declared.runner.Runner.{Runner}
 use Rattle.thread_net.specs.Cables.{seat_of}
 use Rattle.thread_net.specs.Seats.{HasRoom, entry_room, degree_of, nodes_of}
 use Rattle.node_core.specs.View.{site_in}
-use Rattle.thread_net.proofs.Maps.{map-set-same, default-free}
+use Rattle.thread_net.proofs.Maps.{map-set-same}
 use Rattle.thread_net.proofs.Seating.{short-at, new-set, room-set, room-all}
 use Rattle.thread_net.proofs.seats.reserve_journals.Goals as goal
 
@@ -26,14 +26,14 @@ loop-place-preserved g c =
     let changed : Runner _ = record r { journal = record { entries = c.in_ok-entries.entries } } in
     let within : k < length rs = search (rules, arith) in
     let at = c.index_mut.ensures.value in
-    let node : c.index.result.now.node ≡ r.node = ap (λ q. q.node) (c.index.ensures ∙ (default-free rs k c.index.result.now r within ∙ sym at)) in
+    let node : c.index.result.now.node ≡ r.node = ap (λ q. q.node) (c.index.ensures ∙ (get_or_default rs k c.index.result.now r within ∙ sym at)) in
     let size : c.entry_room-room.result ≡ entry_room c.args.turns (degree_of r.node) =
     c.entry_room-room.ensures.room ∙ ap (λ ns. entry_room c.args.turns (length ns)) (c.neighbours.ensures ∙ ap (λ n. (site_in n).neighbours) node) in
     let exact = c.in_ok-entries.ensures.exact in
     let room : HasRoom c.args.turns (seat_of changed) = omega (arith, size, exact) in (
       length-set rs k changed ∙ c.loop-place.invariant.0,
-      map-set-same (λ r. r.node) rs k r changed within at refl ∙ c.loop-place.invariant.1,
-      map-set-same (λ r. r.ports.items) rs k r changed within at refl ∙ c.loop-place.invariant.2,
+      map-set-same (λ r. r.node) rs k r changed at refl ∙ c.loop-place.invariant.1,
+      map-set-same (λ r. r.ports.items) rs k r changed at refl ∙ c.loop-place.invariant.2,
       new-set rs k r within at changed refl refl refl c.in_ok-entries.ensures.items c.loop-place.invariant.3,
       room-set rs k r within at c.args.turns changed room c.loop-place.invariant.4,
     )

@@ -3,8 +3,7 @@ use Rattle.std.specs.Vec.Iter.{into_iter_items}
 use Rattle.std.proofs.lemmas.List.{map_push}
 use Rattle.thread_net.specs.Cables.{rows_of}
 use Rattle.thread_net.specs.Seats.{nodes_of, entries_of_all}
-use Rattle.thread_net.proofs.Zips.{drop_one}
-use Rattle.thread_net.proofs.Maps.{take_one}
+use Rattle.thread_net.proofs.Maps.{drop_one, take_one}
 use Rattle.thread_net.proofs.seats.unseat_all.Goals as goal
 
 pub loop-runner-preserved : goal.loop-runner-preserved

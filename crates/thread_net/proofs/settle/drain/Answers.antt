@@ -4,8 +4,8 @@ use Rattle.configuration.specs.LinksView.{under_way}
 use Rattle.run_model.specs.World.{at_pair}
 use Rattle.weaving.specs.Matched.{items}
 use Rattle.thread_net.specs.Cables.{left_on, IsRoomFor}
-use Rattle.thread_net.proofs.Zips.{drop_one}
-use Rattle.thread_net.proofs.Matching.{drop-front}
+use Rattle.thread_net.proofs.Maps.{drop_one}
+use Rattle.std.proofs.Math.Seq.{drop-append_seam}
 use Rattle.thread_net.proofs.Draining.{drain-step, item-fits}
 use Rattle.thread_net.proofs.settle.drain.Goals as goal
 
@@ -38,7 +38,7 @@ returns-clause-left g c = λ room.
     let known = known_items c.slots_beside-left.new.self in
     let came = received c.args.incoming.now.frames in
     let first : came ++ known ≡ sent c.args.outgoing.now.frames = search rules in
-    let is : left_on c.args.outgoing.now c.args.incoming.now ≡ items known = ap items (ap (drop (length came)) (sym first) ∙ drop-front came known) in
+    let is : left_on c.args.outgoing.now c.args.incoming.now ≡ items known = ap items (ap (drop (length came)) (sym first) ∙ drop-append_seam came known) in
     let all : length known ≤ c.loop-item._item = search (rules, arith) in
     c.loop-item.invariant.3 (subst (IsRoomFor c.args.links.now.net) is room)
     ∙ ap (at_pair (under_way c.args.links.now) c.args.from c.args.to) (ap items (take_all c.loop-item._item known all) ∙ sym is)

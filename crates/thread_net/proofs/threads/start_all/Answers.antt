@@ -1,7 +1,8 @@
 use Rattle.std.proofs.Common.{rules, ◌≡◌, ◌∷◌, drop, vec_len, ◌∙◌, sym}
 use Rattle.std.specs.Vec.Iter.{into_iter_items}
 use Rattle.thread_net.specs.Outcomes.{IsStartOf}
-use Rattle.thread_net.proofs.Zips.{zip_more, drop_one}
+use Rattle.thread_net.proofs.Maps.{drop_one}
+use Rattle.thread_net.proofs.Zips.{zip_more}
 use Rattle.thread_net.proofs.threads.start_all.Goals as goal
 
 pub loop-runner-preserved : goal.loop-runner-preserved
