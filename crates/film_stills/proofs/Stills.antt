@@ -82,9 +82,9 @@ itself m = record { looks = refl; places = refl; edges = refl }
 pub stands_new : (crowded : Bool) (moments stills : List Still) (m : Still) → StandFor crowded moments stills
     → StandFor crowded (moments ++ m ∷ []) (stills ++ m ∷ [])
 stands_new crowded moments stills m Nothing = Further m [] (λ calm. (λ weighty. itself m, tt)) Nothing
-stands_new crowded moments stills m (Further first later {moments = others} {stills = behind} faithful rest) =
-    subst (λ ms. StandFor crowded (first ∷ ms) (together first later ∷ (behind ++ m ∷ []))) (sym (append_assoc later others (m ∷ [])))
-    (Further first later faithful (stands_new crowded others behind m rest))
+stands_new crowded moments stills m (Further first later {moments = others} {stills = after} faithful rest) =
+    subst (λ ms. StandFor crowded (first ∷ ms) (together first later ∷ (after ++ m ∷ []))) (sym (append_assoc later others (m ∷ [])))
+    (Further first later faithful (stands_new crowded others after m rest))
 
 -- the last stretch with one moment more
 last_faithful : (first : Still) (later : List Still) (m : Still) → IsFaithful (together first later) (first ∷ later)
@@ -114,7 +114,7 @@ stands_last crowded moments stills m may (Further first later {moments = []} {st
     (subst (λ s. StandFor crowded (first ∷ (later ++ m ∷ [])) (s ∷ [])) (together_both first later m [])
     (subst (λ ms. StandFor crowded (first ∷ ms) (together first (later ++ m ∷ []) ∷ [])) (append-nil (later ++ m ∷ []))
     (Further first (later ++ m ∷ []) (λ calm. last_faithful first later m (faithful calm) (may_one crowded (together first later) m calm may)) Nothing)))
-stands_last crowded moments stills m may (Further first later {moments = others} {stills = behind} faithful (Further next more {moments = last} {stills = end} fair rest)) =
+stands_last crowded moments stills m may (Further first later {moments = others} {stills = after} faithful (Further next more {moments = last} {stills = end} fair rest)) =
     subst (λ ms. StandFor crowded (first ∷ ms) (together first later ∷ with_last (together next more ∷ end) m))
     (sym (append_assoc later (next ∷ (more ++ last)) (m ∷ [])))
     (Further first later faithful
@@ -137,18 +137,18 @@ merged crowded first later next more moments stills calm rest =
 -- crowded stills promise less
 pub stands_crowded : (crowded : Bool) (moments stills : List Still) → StandFor crowded moments stills → StandFor true moments stills
 stands_crowded crowded moments stills Nothing = Nothing
-stands_crowded crowded moments stills (Further first later {moments = others} {stills = behind} faithful rest) =
-    Further first later (λ is. let no : ⊥ = grind (arith, is) in elim no [ ]) (stands_crowded crowded others behind rest)
+stands_crowded crowded moments stills (Further first later {moments = others} {stills = after} faithful rest) =
+    Further first later (λ is. let no : ⊥ = grind (arith, is) in elim no [ ]) (stands_crowded crowded others after rest)
 
 crowded_calm : (a b : Still) → true ≡ false → IsTrue (are_calm a b)
 crowded_calm a b is = let no : ⊥ = grind (arith, is) in elim no [ ]
 
 pub stands_folded : (crowded : Bool) (moments stills : List Still) → StandFor crowded moments stills → StandFor true moments (folded stills)
 stands_folded crowded moments stills Nothing = Nothing
-stands_folded crowded moments stills (Further first later {moments = others} {stills = behind} faithful Nothing) =
+stands_folded crowded moments stills (Further first later {moments = others} {stills = after} faithful Nothing) =
     stands_crowded crowded (first ∷ (later ++ [])) (together first later ∷ []) (Further first later faithful Nothing)
-stands_folded crowded moments stills (Further first later faithful (Further next more {moments = others} {stills = behind} fair rest)) =
-    merged true first later next more others (folded behind) (crowded_calm (together first later) (together next more)) (stands_folded crowded others behind rest)
+stands_folded crowded moments stills (Further first later faithful (Further next more {moments = others} {stills = after} fair rest)) =
+    merged true first later next more others (folded after) (crowded_calm (together first later) (together next more)) (stands_folded crowded others after rest)
 
 mutual_calm : (crowded calm : Bool) (first : Still) (later : List Still) (next : Still) (more moments stills : List Still)
     → are_calm (together first later) (together next more) ≡ calm
@@ -168,9 +168,9 @@ mutual_calm crowded false first later next more moments stills is faithful rest 
 pub stands_calm : (crowded : Bool) (moments stills : List Still) → StandFor crowded moments stills → StandFor crowded moments (calm_folded stills)
 stands_calm crowded moments stills Nothing = Nothing
 stands_calm crowded moments stills (Further first later faithful Nothing) = Further first later faithful Nothing
-stands_calm crowded moments stills (Further first later faithful (Further next more {moments = others} {stills = behind} fair rest)) =
-    mutual_calm crowded _ first later next more others behind refl faithful (stands_calm crowded others behind rest)
-    (stands_calm crowded (next ∷ (more ++ others)) (together next more ∷ behind) (Further next more fair rest))
+stands_calm crowded moments stills (Further first later faithful (Further next more {moments = others} {stills = after} fair rest)) =
+    mutual_calm crowded _ first later next more others after refl faithful (stands_calm crowded others after rest)
+    (stands_calm crowded (next ∷ (more ++ others)) (together next more ∷ after) (Further next more fair rest))
 
 -- ---- how many they are
 
@@ -207,29 +207,29 @@ written_back stills now count m all is =
 -- ---- the last still
 
 -- the last of some stills is written
-behind_written : (a : Still) (stills : List Still) (m d : Still)
+written_further : (a : Still) (stills : List Still) (m d : Still)
     → slice_set (a ∷ stills) (length stills) (joined (slice_index_or (a ∷ stills) (length stills) d) m) ≡ with_last (a ∷ stills) m
-behind_written a [] m d = refl
-behind_written a (b ∷ stills) m d = ap (λ xs. a ∷ xs) (behind_written b stills m d)
+written_further a [] m d = refl
+written_further a (b ∷ stills) m d = ap (λ xs. a ∷ xs) (written_further b stills m d)
 
 pub last_written : (stills : List Still) (m d : Still) → 0 < length stills
     → slice_set stills (length stills - 1) (joined (slice_index_or stills (length stills - 1) d) m) ≡ with_last stills m
 last_written [] m d some = grind (arith, common_steps)
 last_written (a ∷ stills) m d some =
     let place : length (a ∷ stills) - 1 ≡ length stills = omega arith in
-    rw place (behind_written a stills m d)
+    rw place (written_further a stills m d)
 
-behind_may : (a : Still) (stills : List Still) (m d : Still)
+may_further : (a : Still) (stills : List Still) (m d : Still)
     → IsLike (slice_index_or (a ∷ stills) (length stills) d) m ⊎ IsTrue (are_calm (slice_index_or (a ∷ stills) (length stills) d) m) → MayJoin (a ∷ stills) m
-behind_may a [] m d may = may
-behind_may a (b ∷ stills) m d may = behind_may b stills m d may
+may_further a [] m d may = may
+may_further a (b ∷ stills) m d may = may_further b stills m d may
 
 pub last_may : (stills : List Still) (m d : Still) → 0 < length stills
     → IsLike (slice_index_or stills (length stills - 1) d) m ⊎ IsTrue (are_calm (slice_index_or stills (length stills - 1) d) m) → MayJoin stills m
 last_may [] m d some may = grind (arith, common_steps)
 last_may (a ∷ stills) m d some may =
     let place : length (a ∷ stills) - 1 ≡ length stills = omega arith in
-    behind_may a stills m d (rw place at may)
+    may_further a stills m d (rw place at may)
 
 -- ---- the first moment
 
