@@ -3,7 +3,7 @@ ghost use Rattle.accounts.specs.Laws.{AccountsJoin, OneEnd, FramesJoin};
 
 /// Two accounts of a node, the second from where the first led, are one account, which says of each
 /// neighbour what the first says and then what the second says; and an account leads to one state
-/// alone. Whoever drives a node turn by turn strings the turns' accounts together by this.
+/// alone. So the accounts of many turns are strung together to one.
 pub fn accounts()
     ensures join { AccountsJoin }
     ensures one_end { OneEnd }

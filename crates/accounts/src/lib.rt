@@ -4,8 +4,8 @@
 //! these deeds, in their order. The account of many turns is that of the first, then that of the
 //! second, and so on: `laws::accounts` says so.
 //!
-//! Nothing is computed here: contracts of whoever drives a node name an account, and the crate
-//! `processes` says what accounts of all nodes, together, are.
+//! Nothing is computed here: the contracts of code that drives a node name an account, and the crate
+//! `processes` says what the accounts of all nodes are together.
 //!
 //! The trap: a send is the moment at which the link accepts the frame, whole. A frame that was
 //! offered and not accepted is no deed.

@@ -26,7 +26,7 @@ strangers-stay t u d s = grind (arith, common_steps, nat_tests, not-more-without
 pub strangers-tick : (lease : ℕ) (privileged : Bool) (u : ℕ) (d : DeskState) → is_stranger u d ≡ true → is_stranger u (desk_ticked lease privileged d) ≡ true
 strangers-tick lease privileged u d s = grind (arith, common_steps, nat_tests)
 
--- so whoever is known after a tick was known before it
+-- so a ticket that is known after a tick was known before it
 pub known-tick : (lease : ℕ) (privileged : Bool) (u : ℕ) (d : DeskState) → is_stranger u (desk_ticked lease privileged d) ≡ false → is_stranger u d ≡ false
 known-tick lease privileged u d k = grind (arith, common_steps, strangers-tick lease privileged u d, k)
 
@@ -40,7 +40,7 @@ pub shorter-without : (t : ℕ) (xs : List ℕ) → is_in xs t ≡ true → leng
 shorter-without t [] n = grind (arith, n)
 shorter-without t (x ∷ xs) n = grind (arith, common_steps, nat_tests, shorter-without t xs, length-without t xs)
 
--- where the first tickets are others, they stay the first
+-- if the first tickets are others, they stay the first
 take-without : (t k : ℕ) (xs : List ℕ) → is_in (take k xs) t ≡ false → take k (without t xs) ≡ take k xs
 take-without t k [] n = grind (arith, common_steps)
 take-without t zero (x ∷ xs) n = grind (arith, common_steps)
@@ -58,9 +58,9 @@ in-further [] k u l = grind (arith, l)
 in-further (x ∷ xs) zero u l = grind (arith, common_steps, nat_tests)
 in-further (x ∷ xs) (suc k) u l = grind (arith, common_steps, nat_tests, in-further xs k u)
 
--- a list from which one of its tickets goes has fewer behind a place
-pub fewer-behind : (t k : ℕ) (d : DeskState) → waits d t ≡ true → k < length d.waiting → length (after_leave t d).waiting - k < length d.waiting - k
-fewer-behind t k d w l = grind (arith, common_steps, shorter-without t d.waiting)
+-- a list from which one of its tickets goes has fewer from a place on
+pub fewer-from : (t k : ℕ) (d : DeskState) → waits d t ≡ true → k < length d.waiting → length (after_leave t d).waiting - k < length d.waiting - k
+fewer-from t k d w l = grind (arith, common_steps, shorter-without t d.waiting)
 
 module _ (connected : ℕ → Bool) (t k : ℕ) (d : DeskState) (absent : connected t ≡ false)
     (looked : (u : ℕ) → is_in (take k d.waiting) u ≡ true → connected u ≡ true) where
@@ -79,7 +79,7 @@ lent-stays t d w = grind (arith, common_steps)
 pub lent-goes : (lease t : ℕ) (d : DeskState) → desk_fits lease d ≡ true → d.lent ≡ Some t → (u : ℕ) → is_ticket (after_leave t d).lent u ≡ false
 lent-goes lease t d fits e u = grind (arith, common_steps, nat_tests)
 
--- once a client is closed and its ticket has left, whoever is known is connected, as before
+-- once a client is closed and its ticket has left, each known ticket is a connected client's, as before
 pub dismissed : (old new : ℕ → Bool) (lease t : ℕ) (d : DeskState) → desk_fits lease d ≡ true
     → ((u : ℕ) → new u ≡ (old u && not (u == t))) → ((u : ℕ) → is_stranger u d ≡ false → old u ≡ true)
     → (u : ℕ) → is_stranger u (after_leave t d) ≡ false → new u ≡ true

@@ -69,7 +69,7 @@ module _ {P : Type 0} (gave took : P → Option (List ℕ)) (counts : P → Coun
   there : (s : Slab (Client P)) (k : ℕ) (old : Client P) → Some old ≡ get s k → IsSome (get s k)
   there s k old e = subst (λ x. IsSome x) e refl
 
-  -- a client of which the pipe lives on is written back to its place
+  -- a client whose pipe lives on is written back to its place
   pub touched-here : (s : Slab (Client P)) (k : ℕ) (old new : Client P) → Some old ≡ get s k → Lives gave took counts old.pipe new.pipe
       → LivesAt gave took counts (get s k) (get (with_value s k new) k)
   touched-here s k old new e l =
@@ -147,14 +147,14 @@ module _ {P A : Type 0} where
       ]
 
 module _ {P A : Type 0} (gave took : P → Option (List ℕ)) (counts : P → Counts) where
-  -- some came, and all who are there live on
+  -- some came, and all that are there live on
   pub still-live : (a b c : Clients P A) → Admits a b → LiveOn gave took counts b c → StillLive gave took counts a c
   still-live a b c f g t was = subst (λ x. LivesAt gave took counts x (get c.table t)) ((f t).0 was).0 (g t)
 
   pub still-join : (a b c : Clients P A) → StillLive gave took counts a b → LiveOn gave took counts b c → StillLive gave took counts a c
   still-join a b c f g t was = join-at gave took counts (get a.table t) (get b.table t) (get c.table t) (f t was) (g t)
 
--- a client of which the pipe failed is written back to its place
+-- a client whose pipe failed is written back to its place
 pub failed-here : {P : Type 0} (counts : P → Counts) (s : Slab (Client P)) (k : ℕ) (old new : Client P) → Some old ≡ get s k → Rose (counts old.pipe).failed (counts new.pipe).failed
     → FailsAt counts (get s k) (get (with_value s k new) k)
 failed-here counts s k old new e rose =

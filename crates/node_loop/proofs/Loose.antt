@@ -14,7 +14,7 @@ module _ {P : Type 0} where
   unlinked : (q : NodePort P) → q.link.pipe ≡ None → q.greeting ≡ None → is_linked (Some q) ≡ false
   unlinked q pipe greeting = rw (pipe, greeting) refl
 
-  -- the ports below i are closed, where they are no neighbours; all others are as before
+  -- of the ports below i those to no neighbours are closed; all others are as before
   pub record AreClosed (ns : List ℕ) (old new : List (NodePort P)) (i : ℕ) : Type 0 where
     pub kept : AreKept ns old new
     pub closed : (w : ℕ) → w < i → ¬ Contains ns w → is_linked (slice_get new w) ≡ false
@@ -74,7 +74,7 @@ left-of false b e = refl
 left-of true b e = e
 
 module _ {P : Type 0} where
-  -- where no port has a connection, no stranger's has one
+  -- if no port has a connection, no stranger's has one
   pub loose-all : (ns : List ℕ) (ports : List (NodePort P)) → AreLoose [] ports → AreLoose ns ports
   loose-all ns ports so w not = so w (none-there w)
 

@@ -38,7 +38,7 @@ leads-tick = refl
 leads_not-nothing : ¬ Leads leaf [] start (ticked leaf start)
 leads_not-nothing = λ e. grind (arith, common_steps, ap (λ s. s.parent) e)
 
--- who asks and leaves waits no longer
+-- a ticket that asks and leaves waits no longer
 leads-ask-leave : Leads leaf (Asks 3 ∷ (Leaves 3 ∷ [])) start start
 leads-ask-leave = (refl, refl)
 
@@ -63,7 +63,7 @@ sent-one : sent_to 0 (Takes 0 first_frame ∷ (Sends 1 first_frame ∷ (Sends 0 
 sent-one = refl
 
 module _ {P A : Type 0} (clients : Clients P A) (node : NodeView) where
-  -- where nobody waits or borrows, no client need be connected
+  -- if nobody waits or borrows, no client need be connected
   connected-nobody : (state_of node).desk ≡ no_desk → AreConnected clients node
   connected-nobody e t known = grind (arith, common_steps, e, known)
 

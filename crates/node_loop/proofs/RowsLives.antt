@@ -15,7 +15,7 @@ not-rose : (n m : ℕ) → Rose n m → m ≡ 0 → ⊥
 not-rose n m (inl more) none = omega (arith, more, none)
 not-rose n m (inr most) none = grind (arith, most, none)
 
--- whoever gave or took a byte gave or took one
+-- a pipe that gave or took a byte gave or took one
 not-grown : (xs : Option (List ℕ)) (n : ℕ) (bytes : List ℕ) → 0 < n → n ≤ length bytes → GoesOn (take n bytes) xs (Some []) → ⊥
 not-grown None n bytes some within goes = absurd cc
 not-grown (Some xs) zero bytes some within goes = omega (arith, some)
@@ -89,7 +89,7 @@ module _ {P A : Type 0} (gave took : P → Option (List ℕ)) (counts : P → Co
       let lives : LivesAt gave took counts (Some a) (Some b) = rw (was, is) at (l t) in
       lives_not-failed gave took counts a.pipe b.pipe fresh before after lives
 
-  -- it is closed; and whoever came to a free ticket may be there
+  -- it is closed; and a client that came to a free ticket may be there
   still-closed : ((u : ℕ) → get new.table u ≡ None) → StillLive gave took counts old new
   still-closed gone u was = rw (gone u) tt
 
@@ -104,7 +104,7 @@ module _ {P A : Type 0} (gave took : P → Option (List ℕ)) (counts : P → Co
   admits_not-taken : get old.table t ≡ Some a → get new.table t ≡ None → ¬ Admits old new
   admits_not-taken was is f = (let e : ◌≡◌ {A = Option (Client P)} None (Some a) = rw (was, is) at ((f t).0 (rw was refl)).0 in absurd cc)
 
-  -- and nothing of whoever had the ticket before waits for it
+  -- and nothing for an earlier client with that ticket waits for it
   admits_not-told : get old.table t ≡ None → get new.table t ≡ Some b → answers_of new t ≡ codes "lost\n" → ¬ Admits old new
   admits_not-told was is waits f = (let e : ◌≡◌ {A = List ℕ} (codes "lost\n") [] = rw waits at ((f t).1 (rw was refl) (rw is refl)) in absurd cc)
 

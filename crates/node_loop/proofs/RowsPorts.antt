@@ -95,7 +95,7 @@ module _ {P : Type 0} (gave took : P → Option (List ℕ)) (counts : P → Coun
     silent : (line : List ℕ) → unsent old.link ≡ [] → old.is_stuck ≡ false → PortSpeaks gave took counts line false old old false
     silent line written free = record { pushed = old; pushes = pushes-loose written free; offers = (refl, refl) }
 
-    -- of a frame that was not offered nothing is sent, and the pace is told nothing
+    -- of a frame that was not offered nothing is sent, and the pace notes nothing
     silent-to : (was : PortPace) (now : ℕ) → unsent old.link ≡ [] → old.is_stuck ≡ false → SpeaksTo gave took counts some_frame false now was was [] old old
     silent-to was now written free = record { is_taken = false; port = silent _ written free; told = refl; sends = refl }
 

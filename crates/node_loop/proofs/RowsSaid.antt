@@ -25,7 +25,7 @@ abbrev bytes-of : Option (List ℕ) → List ℕ
 bytes-of None = []
 bytes-of (Some bytes) = bytes
 
--- whoever was said nothing was not said that
+-- a client to which nothing was said did not hear that
 not-nothing : (more : List ℕ) (x : ℕ) (xs : List ℕ) → more ++ (x ∷ xs) ≡ [] → ⊥
 not-nothing [] x xs e = absurd cc
 not-nothing (y ∷ more) x xs e = absurd cc
@@ -49,7 +49,7 @@ module _ {P : Type 0} (took : P → Option (List ℕ)) (a b : Client P) (before 
   said_not-newcomer : ¬ SaidAt took [] None [] (Some b) []
   said_not-newcomer s = s
 
--- where both took nothing, what waits now is what was said
+-- if both took nothing, what waits now is what was said
 plain-said : {P : Type 0} (took : P → Option (List ℕ)) (a b : Client P) (more waits : List ℕ) → took a.pipe ≡ Some [] → took b.pipe ≡ Some [] → SaidAt took more (Some a) [] (Some b) waits → waits ≡ more
 plain-said took a b more waits before after f =
     let g = subst (λ o. GoesOn more (option_map (λ bytes. bytes ++ []) o) (option_map (λ bytes. bytes ++ waits) (took b.pipe))) before f in
@@ -114,7 +114,7 @@ module _ {P A : Type 0} (took : P → Option (List ℕ)) (site : Site) (old new 
   turn-quiet : TurnSays took site Quiet old old
   turn-quiet = record { heard = old; acted = old; answers = has-answered; told = refl; goes_out = nothing-still }
 
-  -- and one in which a client is told that it lost the lock
+  -- and one in which a client hears that it lost the lock
   turn-lost : Tells (codes "lost\n") 3 old new → TurnSays took site (Lost 3) old new
   turn-lost tells = record { heard = old; acted = new; answers = has-answered; told = tells; goes_out = nothing-same took new new refl refl }
 
@@ -141,13 +141,13 @@ module _ {P A : Type 0} (took : P → Option (List ℕ)) (site : Site) (old new 
         waits-said (answers_to site 3 lines ++ text)
         (subst (λ all. IsSaid took all 3 old new) (append-nil (answers_to site 3 lines ++ text)) (is-said-join took (answers_to site 3 lines ++ text) [] 3 old x.acted new told (x.goes_out 3)))
 
-    -- whoever lost the lock and was said nothing was not told so
+    -- a client that lost the lock hears so
     turn_not-silent : answers_of new 3 ≡ [] → ¬ TurnSays took site (Lost 3) old new
     turn_not-silent silent x =
         let all = said-in (Lost 3) (codes "lost\n") (λ c d told. (told-said took (codes "lost\n") 3 c d told).0) x in
         not-nothing (answers_to site 3 (x.answers.answers 3).0) 108 (codes "ost\n") (sym all ∙ silent)
 
-    -- nobody is told that it has the lock if no loan began
+    -- no client hears that it has the lock if no loan began
     turn_not-granted : answers_of new 3 ≡ codes "granted\n" → ¬ TurnSays took site Quiet old new
     turn_not-granted text x =
         let all = said-in Quiet [] (λ c d told. nothing-same took c d (ap (λ z. z.table) told) (ap (λ z. z.answers) told) 3) x in

@@ -70,7 +70,7 @@ counts_not-deeds = grind arith
 became-leave : Became IsLeave root root
 became-leave = record { site = refl; deeds = Leaves 3 ∷ []; kinds = All-cons IsLeave (Leaves 3) [] tt (All-nil IsLeave); leads = refl }
 
--- where nothing ticks, the distance stays
+-- if nothing ticks, the distance stays
 distance-takes : (site : Site) (w : ℕ) (f : Frame) (s : LocalState) → (taken site w (item.Frame f) s).distance ≡ s.distance
 distance-takes site w f s = grind (arith, common_steps)
 
@@ -105,14 +105,14 @@ quiet = record { act = Quiet; full = true }
 abbrev acts : Acts quiet root root_ticked
 acts = record { acted = root_ticked; act = refl; full = refl; site = refl; state = refl; leaves = record { site = refl; deeds = []; kinds = All-nil IsLeave; leads = refl } }
 
--- whoever does not tick does not act
+-- a node that does not tick does not act
 acted-distance : (says : Ticked) (new : NodeView) → Acts says root new → new.distance ≡ 0
 acted-distance says new a = leaves-keep a.acted new a.leaves ∙ ap (λ s. s.distance) a.state
 
 acts_not-still : (says : Ticked) → ¬ Acts says root root
 acts_not-still says a = grind (arith, acted-distance says root a)
 
--- nor does whoever says something else of the loan, or of the tick
+-- nor does one that says something else of the loan, or of the tick
 acts_not-granted : ¬ Acts (record quiet { act = Granted 3 }) root root_ticked
 acts_not-granted a = grind (arith, a.act, ap (λ s. s.desk.lent) a.state)
 
@@ -197,7 +197,7 @@ module _ {P : Type 0} where
       leads = refl;
     }
 
-    -- what a turn leaves without its tick is no turn, whatever came and whoever asked
+    -- what a turn leaves without its tick is no turn, whatever came and whichever client asked
     turn-distance : (says : Ticked) (now : ℕ) (old new : Moment P) → (site_in old.node).is_root ≡ true
         → Turns gave took counts says now old new → new.node.distance ≡ 0
     turn-distance says now old new is_root t =
@@ -242,7 +242,7 @@ site = site_in root
 waiting : LocalState
 waiting = record (state_of root) { desk = record { waiting = 3 ∷ []; lent = None; left = 0; served = false } }
 
--- who asks first waits for its answer; who waits already is told so, and who does not is a stranger
+-- a client that asks first waits for its answer; one that waits already hears so; any other is a stranger
 answers-ask : answer_text site 3 Lock (state_of root) ≡ []
 answers-ask = refl
 
@@ -276,17 +276,17 @@ unfolding waiting
 lines_not-unknown = grind arith
 
 module _ {P A : Type 0} (old new : Clients P A) where
-  -- the client of a loan that ended is told, unless there is no room or it is closed
+  -- the client of a loan that ended hears so, unless there is no room or it is closed
   told_not-silent : answers_of old 3 ≡ [] → answers_of new 3 ≡ [] → is_connected new 3 ≡ true → ¬ IsTold (Lost 3) old new
   told_not-silent before after there (inl told, others) = grind (arith, common_steps, before, after, told.0)
   told_not-silent before after there (inr closed, others) = grind (arith, there, closed.1)
 
-  -- nor is it closed where there is room
+  -- nor is it closed if there is room
   told_not-closed : room_of old 3 ≡ 256 → is_connected old 3 ≡ true → is_connected new 3 ≡ false → ¬ IsTold (Granted 3) old new
   told_not-closed room was closed (inl told, others) = grind (arith, was, closed, told.1)
   told_not-closed room was closed (inr full, others) = grind (arith, room, full.0 (omega arith))
 
-  -- and no other client is told anything
+  -- and no other client hears anything
   told_not-other : answers_of old 4 ≡ [] → answers_of new 4 ≡ codes "lost\n" → ¬ IsTold (Lost 3) old new
   told_not-other before after (_, others) = grind (arith, before, after, (others 4 (λ e. omega (arith, e))).0)
 
@@ -296,7 +296,7 @@ gives = omega arith
 gives_not-more : ¬ GivesWithin (read.Got 65) 64
 gives_not-more g = omega (arith, g)
 
--- ---- who comes
+-- ---- visitors
 
 -- node 2 of three says who it is; node 3 is none of them
 arrives : IsArrival 3 (codes "H0002") (arrival.Is 2)
@@ -348,7 +348,7 @@ module _ (P : Type 0) where
   both_not-one : (R : NodePort P → NodePort P → Type 0) (port : NodePort P) → ¬ AtBoth R (Some port) None
   both_not-one R port both = both
 
-  -- a frame is taken where there is a pipe, and no line is stuck
+  -- a frame is taken if there is a pipe, and no line is stuck
   takes : (p : P) (port : NodePort P) → port.link.pipe ≡ Some p → port.is_stuck ≡ false → takes_frames (Some port) ≡ true
   takes p port pipe free = grind (arith, common_steps, pipe, free)
 

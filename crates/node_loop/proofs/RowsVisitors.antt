@@ -6,7 +6,7 @@ use Rattle.node_loop.specs.declared.lobby.Visitor.{Visitor}
 use Rattle.node_loop.specs.Answers.{lock_answer}
 use Rattle.node_loop.specs.Arrivals.{first_line, HasSaid, Listened, Says}
 
--- whoever may wait is answered nothing at once
+-- a client that may wait gets no answer yet
 lock-waits : lock_answer None ≡ []
 lock-waits = refl
 

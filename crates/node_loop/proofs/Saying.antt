@@ -127,7 +127,7 @@ module _ {P A : Type 0} (took : P → Option (List ℕ)) where
       nothing-one k old new (said-read took gave counts answer bytes (get old.table k) (get new.table k) (answers_of old k) (answers_of new k) reads (answers-same old new answers k))
       (others-nothing k old new others (λ t o. answers-same old new answers t))
 
-  -- a client that was told, or closed for want of room
+  -- a client that heard of it, or was closed for lack of room
   pub told-said : (text : List ℕ) (k : ℕ) (old new : Clients P A) → Tells text k old new → SaidTo took text k old new
   told-said text k old new (inl told, others) =
       (said-text took text (get old.table k) (get new.table k) (answers_of old k) (answers_of new k) told.1 told.0, others-nothing k old new (λ t o. (others t o).1) (λ t o. (others t o).0))

@@ -34,7 +34,7 @@ abbrev pub StaysAt : {P : Type 0} → Moment P → Moment P → ℕ → Type 0
 StaysAt old new w =
     (slice_get new.ports w ≡ slice_get old.ports w) × (port_of new.pace.ports w ≡ port_of old.pace.ports w)
 
--- what a neighbour is told, of which these frames were accepted
+-- what is said to a neighbour; of that, these frames were accepted
 abbrev pub TellsAt : {P : Type 0} → (P → Option (List ℕ)) → (P → Option (List ℕ)) → (P → Counts) → List Bool → ℕ → Moment P → Moment P → List Frame → ℕ → Type 0
 TellsAt gave took counts offers now old new sent w =
     AtBoth (SpeaksTo gave took counts (frame_of ((state_of old.node).port w)) (slice_index_or offers w false) now (port_of old.pace.ports w) (port_of new.pace.ports w) sent)
@@ -61,7 +61,7 @@ sent-other : (is_taken : Bool) (i w : ℕ) (frame : Frame) → w ≢ i → sent_
 sent-other true i w frame n = grind (arith, common_steps)
 sent-other false i w frame n = refl
 
--- the nodes below i were spoken to, where they are neighbours; all else is as before
+-- the node spoke to each neighbour below i; all else is as before
 pub record SpokenTo {P : Type 0} (gave took : P → Option (List ℕ)) (counts : P → Counts) (offers : List Bool) (now : ℕ)
     (old new : Moment P) (i : ℕ) : Type 0 where
   pub node : new.node ≡ old.node
@@ -90,7 +90,7 @@ module _ {P : Type 0} (gave took : P → Option (List ℕ)) (counts : P → Coun
     rest = (refl, refl);
   }
 
-  -- the same is told where the port and what is kept of it stand as before the call, and as behind it
+  -- the same is said if the port and what is kept of it stand as before the call, and as after it
   told-moves : (old mid new : Moment P) (sent : List Frame) (w : ℕ) → StaysAt mid new w → TellsAt gave took counts offers now old mid sent w → TellsAt gave took counts offers now old new sent w
   told-moves old mid new sent w stays told = rw (stays.0, stays.1) told
 
@@ -139,7 +139,7 @@ module _ {P : Type 0} (gave took : P → Option (List ℕ)) (counts : P → Coun
         rest = (pace.0 ∙ so.rest.0, pace.1 ∙ so.rest.1);
       }
 
-  -- all were spoken to
+  -- it spoke to all
   pub spoken-end : (old mid new : Moment P) (i : ℕ) → (site_in old.node).ranges.nodes ≤ i → SpokenTo gave took counts offers now old mid i
       → new.ports ≡ mid.ports → new.pace ≡ mid.pace → Speaks gave took counts offers now old new
   spoken-end old mid new i all so ports pace = rw (ports, pace) record {

@@ -12,7 +12,7 @@ use Rattle.node_core.specs.State.{LocalState}
 use Rattle.node_core.specs.Status.{status_line}
 use Rattle.node_loop.specs.Deeds.{after_ask}
 
--- the answer to `lock`: none at once where the ticket may wait
+-- the answer to `lock`: none yet if the ticket may wait
 abbrev pub lock_answer : Option AskFault → List ℕ
 lock_answer None = []
 lock_answer (Some Full) = codes "full\n"

@@ -50,7 +50,7 @@ module _ {P A : Type 0} where
       × ((u : ℕ) → u ≢ t
       → (answers_of new u ≡ answers_of old u) × (get new.table u ≡ get old.table u))
 
-  -- who is told what by a tick: the client whose loan it began, and the one whose loan it ended
+  -- what a tick says to clients: to one whose loan it began, or to one whose loan it ended
   abbrev pub IsTold : DeskAct → Clients P A → Clients P A → Type 0
   IsTold act.Quiet old new = new ≡ old
   IsTold (act.Granted t) old new = Tells (codes "granted\n") t old new

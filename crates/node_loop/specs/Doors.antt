@@ -4,7 +4,7 @@ use Rattle.byte_streams.specs.Streams.{Rose}
 use Rattle.node_loop.specs.declared.doors.Door.{Door}
 use Rattle.node_loop.specs.declared.doors.Door.TheVariants.{Came, Nobody, Failed}
 
--- a door answers Failed only where its count of failures rose in the call; the count never falls
+-- a door answers Failed only if its count of failures rose in the call; the count never falls
 abbrev pub Opens : {P : Type 0} → Door P → ℕ → ℕ → Type 0
 Opens (Came p) before after = before ≤ after
 Opens Nobody before after = before ≤ after

@@ -1,4 +1,4 @@
--- Clients that live on: of whoever is still connected, no read and no write said that it is gone.
+-- Clients that live on: of one that is still connected, no read and no write said that it is gone.
 use Rattle.std.specs.Prelude.{◌≡◌, ◌≢◌, ℕ, true, false, List, [], Option, None, Some, ⊤}
 use Rattle.byte_streams.specs.Streams.{Rose}
 use Rattle.slab.specs.Slab.{get}
@@ -11,8 +11,8 @@ use Rattle.node_loop.specs.declared.clients.Client.{Client}
 use Rattle.node_loop.specs.declared.clients.Clients.{Clients}
 use Rattle.node_loop.specs.Clients.{answers_of, is_connected}
 
--- The pipe became this by reads and writes, if by any; and none of them said that it closed or
--- failed. A read writes nothing, and a write reads nothing.
+-- The pipe came to this by some reads and writes, or by none; and none of them said that it closed
+-- or failed. A read writes nothing, and a write reads nothing.
 pub data Lives {P : Type 0} (gave took : P → Option (List ℕ)) (counts : P → Counts)
     : P → P → Type 0 where
   Stays : {p : P} → Lives gave took counts p p
@@ -32,7 +32,7 @@ pub data Lives {P : Type 0} (gave took : P → Option (List ℕ)) (counts : P �
       → Lives gave took counts p r
 
 module _ {P : Type 0} (gave took : P → Option (List ℕ)) (counts : P → Counts) where
-  -- whoever has a ticket had it before, and its pipe lives on
+  -- a client that is there was there before, and its pipe lives on
   abbrev pub LivesAt : Option (Client P) → Option (Client P) → Type 0
   LivesAt old None = ⊤
   LivesAt None (Some new) = ⊥
@@ -53,12 +53,12 @@ FailsAt counts (Some old) None = ⊥
 FailsAt counts (Some old) (Some new) = Rose (counts old.pipe).failed (counts new.pipe).failed
 
 module _ {P A : Type 0} where
-  -- of the client with this ticket alone something may have changed
+  -- only the client with this ticket may have changed
   abbrev pub OthersStay : ℕ → Clients P A → Clients P A → Type 0
   OthersStay ticket old new = (t : ℕ) → t ≢ ticket → get new.table t ≡ get old.table t
 
-  -- Clients came, if any did, and nothing waits for them yet. Whoever was connected is as before, and
-  -- so is what waits for it.
+  -- Clients came, or none did, and nothing waits for them yet. A client that was connected is as
+  -- before, and so is what waits for it.
   abbrev pub Admits : Clients P A → Clients P A → Type 0
   Admits old new =
       (t : ℕ)
@@ -67,7 +67,7 @@ module _ {P A : Type 0} where
       × (is_connected old t ≡ false → is_connected new t ≡ true → answers_of new t ≡ [])
 
 module _ {P A : Type 0} (gave took : P → Option (List ℕ)) (counts : P → Counts) where
-  -- whoever was connected, and still is, lives on; others may have come
+  -- a client that was connected and still is lives on; others may have come
   abbrev pub StillLive : Clients P A → Clients P A → Type 0
   StillLive old new =
       (t : ℕ) → is_connected old t ≡ true

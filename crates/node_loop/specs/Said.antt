@@ -23,8 +23,8 @@ module _ {P : Type 0} (took : P → Option (List ℕ)) where
   abbrev pub said : Client P → List ℕ → Option (List ℕ)
   said client waits = option_map (λ bytes. bytes ++ waits) (took client.pipe)
 
-  -- Whoever has a ticket now had it before, and just these bytes more were said to it. Nothing is
-  -- said of a client that is closed.
+  -- A client that is there was there before, and just these bytes more were said to it. Of a client
+  -- that is closed nothing is claimed.
   abbrev pub SaidAt : List ℕ → Option (Client P) → List ℕ → Option (Client P) → List ℕ → Type 0
   SaidAt more old waited None waits = ⊤
   SaidAt more None waited (Some new) waits = ⊥
@@ -49,13 +49,13 @@ module _ {P A : Type 0} (took : P → Option (List ℕ)) where
   AreAnswered site old new =
       (t : ℕ) → (lines : List (ClientLine × LocalState)) × IsSaid (answers_to site t lines) t old new
 
-  -- clients came, if any did; and then it was so
+  -- clients came, or none did; and then it was so
   pub record HasAnswered (site : Site) (old new : Clients P A) : Type 0 where
     pub came : Clients P A
     pub admits : Admits old came
     pub answers : AreAnswered site came new
 
-  -- That was so; then the client was told whose loan the tick began or ended; and what waited then
+  -- That was so; then the client whose loan the tick began or ended heard of it; and what waited then
   -- waits still, or went out.
   pub record TurnSays (site : Site) (act : DeskAct) (old new : Clients P A) : Type 0 where
     pub heard : Clients P A

@@ -1,5 +1,5 @@
--- What a node says to neighbours: where a frame is offered, what becomes of it, and which plan it
--- goes by.
+-- What a node says to neighbours: on which ports a frame is offered, what becomes of it, and by
+-- which plan.
 use Rattle.std.specs.Prelude.{◌≡◌, ℕ, ◌<◌, Bool, true, false, nat_lt, is_some, not, ◌&&◌, List, ◌++◌, ◌∷◌, [], length, slice_get, slice_index_or, Option, None, Some, All, Contains, if◌then◌else◌}
 use Rattle.topology.specs.declared.frame.Frame.{Frame}
 use Rattle.byte_lines.specs.Lines.{newline}
@@ -72,12 +72,12 @@ pub record PortSpeaks {P : Type 0} (gave took : P → Option (List ℕ)) (counts
   pub pushes : PushesOut gave took counts old pushed
   pub offers : OffersIf gave took counts is_offered line pushed new is_taken
 
--- what is sent of a frame: that frame where it was accepted, and else nothing
+-- what is sent of a frame: that frame if it was accepted, and else nothing
 abbrev pub sent_if : Bool → Frame → List Frame
 sent_if is_taken frame = if is_taken then frame ∷ [] else []
 
--- The same of a frame, by its line; the pace is told of a frame that was accepted, and of nothing
--- else. These frames are sent by that: the frame where it was accepted, and else nothing.
+-- The same of a frame, by its line. The pace notes a frame that was accepted, and nothing else. What
+-- is sent is the frame if it was accepted, and else nothing.
 pub record SpeaksTo {P : Type 0} (gave took : P → Option (List ℕ)) (counts : P → Counts)
     (frame : Frame) (is_offered : Bool) (now : ℕ) (was is : PortPace) (sent : List Frame)
     (old new : NodePort P) : Type 0 where

@@ -10,8 +10,8 @@ use std::alloc::Allocator;
 /// The most bytes of an answer.
 pub(crate) const ANSWER: usize = 96;
 
-/// Does what the line of the client with this ticket asks for, and writes the answer with its
-/// newline to the front of `text`; how many bytes it has, none where there is no answer.
+/// Does what the line of the client with this ticket asks for. The answer goes to the front of
+/// `text`, with its newline. Its length is returned: 0 if there is none.
 pub(crate) fn answer<A: Allocator>(
     node: &mut Node<A>,
     ticket: u16,
@@ -39,7 +39,7 @@ pub(crate) fn answer<A: Allocator>(
     }
 }
 
-/// Writes a word to the front of `text`, and answers how many bytes it has.
+/// Writes a word to the front of `text`, and returns its length.
 fn write(text: &mut [u8; ANSWER], word: &[u8]) -> usize
     requires { length word.now ≤ 96 }
     ensures count { result ≡ length word.now }

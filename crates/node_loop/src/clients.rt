@@ -11,13 +11,13 @@ use slab::Slab;
 use socket_links::{Pipe, ReadAnswer, WriteAnswer};
 use std::alloc::{AllocError, Allocator, Global};
 
-/// How many clients are connected at most.
+/// At most so many clients are connected.
 pub(crate) const PLACES: usize = 128;
 
-/// How many bytes of answers wait for one client at most.
+/// At most so many bytes of answers wait for one client.
 const ROOM: usize = 256;
 
-/// How many bytes are read of one client in a turn.
+/// At most so many bytes of one client are read in a turn.
 pub(crate) const PIECE: usize = 64;
 
 /// One client.
@@ -45,7 +45,7 @@ impl<P: Pipe, A: Allocator + Copy> Clients<P, A> {
     ghost use Rattle.node_loop.specs.Lives.{FailsAt, LivesAt, LiveOn, OthersStay, ReadsAt};
     ghost use Rattle.node_loop.specs.Said.{NothingSaid};
 
-    /// No clients, with all the room that there ever is. `AllocError` comes only where memory is
+    /// No clients yet. All memory for them is reserved here. `AllocError` comes only if that is
     /// refused.
     pub fn new(alloc: A) -> Result<Clients<P, A>, AllocError>
         ensures { IfOk result (λ clients. (t : ℕ) → is_connected clients t ≡ false) }
@@ -65,8 +65,8 @@ impl<P: Pipe, A: Allocator + Copy> Clients<P, A> {
         self.table.contains(ticket as usize)
     }
 
-    /// A client has come. It is closed where 128 are connected, and else has a ticket that no
-    /// connected client has.
+    /// A client has come. If 128 are connected it is closed; else it gets a ticket that no connected
+    /// client has.
     pub fn admit(&mut self, pipe: P)
         ensures closed { 128 ≤ slab_len self.old.table → self.new ≡ self.old }
         ensures past { 128 ≤ self.old.table.vacant_key → self.new ≡ self.old }
@@ -77,7 +77,7 @@ impl<P: Pipe, A: Allocator + Copy> Clients<P, A> {
         ensures admitted { slab_len self.old.table < 128 → self.old.table.vacant_key < 128
             → IfSome (get self.new.table self.old.table.vacant_key) (λ client. client.pipe ≡ pipe)
             × (is_connected self.new self.old.table.vacant_key ≡ true) }
-        // No answer to whoever had the ticket before waits for the client.
+        // No answer to an earlier client with that ticket waits for it.
         ensures silent { is_connected self.new self.old.table.vacant_key ≡ true
             → answers_of self.new self.old.table.vacant_key ≡ [] }
     {
@@ -102,11 +102,11 @@ impl<P: Pipe, A: Allocator + Copy> Clients<P, A> {
         let _client = self.table.try_remove(ticket as usize);
     }
 
-    /// Reads a client once; what has come, `Closed` where it is not there.
+    /// Reads a client once, and returns what came; `Closed` if there is no such client.
     pub fn read(&mut self, ticket: u16, bytes: &mut [u8; PIECE]) -> ReadAnswer
         ensures same { SameClients self.old self.new }
         ensures within { GivesWithin result 64 }
-        // What came is what its pipe gave, and nobody else was read.
+        // What came is what its pipe gave, and no other client was read.
         ensures reads { ReadsAt P.gave P.took P.counts result bytes.new
             (get self.old.table ticket) (get self.new.table ticket) }
         ensures others { OthersStay ticket self.old self.new }
@@ -118,7 +118,7 @@ impl<P: Pipe, A: Allocator + Copy> Clients<P, A> {
         }
     }
 
-    /// Takes the next byte of a client, and answers the line that it ends, if it ends one.
+    /// Takes the next byte of a client, and returns the line that it ends, if it ends one.
     pub fn push(&mut self, ticket: u16, byte: u8) -> Option<ClientLine>
         ensures same { SameClients self.old self.new }
         ensures lives { LiveOn P.gave P.took P.counts self.old self.new }
@@ -129,8 +129,8 @@ impl<P: Pipe, A: Allocator + Copy> Clients<P, A> {
         self.table.get_mut(ticket as usize)?.reader.push(byte)
     }
 
-    /// Puts an answer behind those that wait for a client; no where there is no room for it whole,
-    /// and then nothing has changed.
+    /// Adds an answer after those that wait for a client. If there is no room for the whole of it,
+    /// returns false and changes nothing.
     pub fn say(&mut self, ticket: u16, text: &[u8]) -> bool
         ensures same { SameClients self.old self.new }
         ensures table { self.new.table ≡ self.old.table }
@@ -153,10 +153,10 @@ impl<P: Pipe, A: Allocator + Copy> Clients<P, A> {
         true
     }
 
-    /// Writes once to a client for whom answers wait; no where that fails.
+    /// Writes once to a client, if answers wait for it. Returns false if that fails.
     pub fn write(&mut self, ticket: u16) -> bool
         ensures same { SameClients self.old self.new }
-        // Unless that fails, its pipe lives on; and nobody else was written to.
+        // Unless that fails, its pipe lives on; and no other client was written to.
         ensures lives { IsTrue result → LivesAt P.gave P.took P.counts
             (get self.old.table ticket) (get self.new.table ticket) }
         ensures failed { result ≡ false

@@ -15,7 +15,7 @@ pub enum Door<P> {
     Failed,
 }
 
-/// Where connections come from. None of its calls but `wait` waits.
+/// Where connections come from. Of its calls only `wait` waits.
 pub trait Doors: Drop {
     /// A connection.
     type P: Pipe;

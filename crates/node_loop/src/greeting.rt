@@ -23,7 +23,7 @@ pub(crate) struct Greeting<P> {
 pub(crate) enum Greeted<P> {
     /// The hello is out.
     Done(P),
-    /// The pipe has taken a part of it at most.
+    /// The pipe took a part of it, or nothing.
     Later(Greeting<P>),
     /// The pipe failed, and was let go.
     Failed,
@@ -41,7 +41,7 @@ impl<P: Pipe> Greeting<P> {
 
     /// Writes once what is left of the hello of node `id`.
     pub fn push_out(self, id: u16) -> Greeted<P>
-        // What the pipe took goes on along the hello, up to its end where it is out.
+        // What the pipe took goes on along the hello, and to its end if the hello is out.
         ensures { Greets P.took (hello id ++ newline ∷ []) self result }
     {
         let Greeting { mut pipe, sent } = self;

@@ -17,20 +17,20 @@
 //! ```
 //!
 //! A turn takes what came, in this order: connections, hellos, frames of neighbours, lines of
-//! clients; whoever is gone leaves; then the node ticks once, frames go out on the ports of the
-//! plan, answers to clients; and each 256th turn the state is saved. No door, connection or store
-//! that fails ends it: what failed is tried again in the next turn. It takes no memory.
+//! clients. Clients that are gone leave. Then the node ticks once; frames go out on the ports of the
+//! plan, and answers to clients. Each 256th turn saves the state. If a door, a connection or the
+//! store fails, the turn goes on, and the next one tries again. It takes no memory.
 //!
 //! The contract of a turn names its account: one list of all that the node did, in order. At each
 //! port it took exactly the frames that were pulled there, and it sent exactly the frames that the
 //! link accepted.
 //!
-//! A tick uses up a part of a loan's lease, so that a lease means a time only if ticks are not too
+//! A tick uses up a part of a loan's lease, so a lease stands for a time only if ticks are not too
 //! dense. While such a loan runs, the loop calls `attend` in place of a turn for 2 milliseconds
 //! after each tick.
 //!
-//! The trap: a turn does not wait, and never says that there was nothing to do. Who calls it again
-//! and again without `wait` burns a core.
+//! The trap: a turn does not wait, and never says that there was nothing to do. A loop that calls it
+//! without `wait` burns a core.
 #![tactic(auto)]
 
 mod answer;

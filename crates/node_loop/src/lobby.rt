@@ -8,23 +8,23 @@ use socket_links::{Pipe, ReadAnswer};
 use std::alloc::{AllocError, Allocator, Global};
 use topology::Net;
 
-/// How many connections wait for their hello at most.
+/// At most so many connections wait for their hello.
 pub(crate) const PLACES: usize = 64;
 
-/// In how many turns a hello is to have come.
+/// A hello must have come within so many turns.
 const PATIENCE: u16 = 256;
 
 /// The bytes of a hello, without its newline.
 const HELLO: usize = 5;
 
-/// A connection that has not said whole who it is.
+/// A connection whose hello has not come whole.
 #[derive(Drop)]
 struct Visitor<P> {
     pipe: P,
     /// The first line so far.
     line: [u8; HELLO],
     count: usize,
-    /// In how many turns it was listened to.
+    /// In so many turns it was listened to.
     turns: u16,
     ghost within: { (count ≤ 5) × (length line ≡ 5) },
 }
@@ -54,8 +54,8 @@ impl<P: Pipe> Visitor<P> {
         }
     }
 
-    /// Reads on in its first line, one byte a call and not beyond its newline: what stands there is
-    /// of frames.
+    /// Reads on in its first line, one byte at a time and not beyond its newline: after that come
+    /// frames.
     fn listen(&mut self, net: &Net) -> Arrival
         ensures { Listened P.gave P.took net.now.nodes self.old self.new result }
     {
@@ -80,7 +80,7 @@ impl<P: Pipe> Visitor<P> {
         }
     }
 
-    /// What its first line says, which is whole.
+    /// What its first line says, once that is whole.
     fn arrival(&self, net: &Net) -> Arrival
         ensures { IsArrival net.now.nodes (take self.now.count self.now.line) result }
     {
@@ -101,7 +101,7 @@ pub(crate) struct Lobby<P, A: Allocator + Copy = Global> {
 impl<P: Pipe, A: Allocator + Copy> Lobby<P, A> {
     ghost use Rattle.node_loop.specs.Arrivals.{HasSaid};
 
-    /// An empty lobby, with all its room. `AllocError` comes only where memory is refused.
+    /// An empty lobby. All its memory is reserved here. `AllocError` comes only if that is refused.
     pub fn new(alloc: A) -> Result<Lobby<P, A>, AllocError>
         ensures { IfOk result (λ lobby. (place : ℕ) → get lobby.visitors place ≡ None) }
     {
@@ -110,7 +110,7 @@ impl<P: Pipe, A: Allocator + Copy> Lobby<P, A> {
         })
     }
 
-    /// A connection has come. It is closed where 64 wait.
+    /// A connection has come. It is closed if 64 wait already.
     pub fn admit(&mut self, pipe: P)
         ensures closed { 64 ≤ slab_len self.old.visitors → self.new ≡ self.old }
         ensures others { (place : ℕ) → place ≢ self.old.visitors.vacant_key
@@ -124,10 +124,10 @@ impl<P: Pipe, A: Allocator + Copy> Lobby<P, A> {
         }
     }
 
-    /// Listens to the visitor of one place, 0 to 63, if there is one; a node's id and its
-    /// connection, where it has said who it is. Whoever waits no longer is closed.
+    /// Listens to the visitor at a place, 0 to 63, if there is one. If it has said who it is, that
+    /// node's id and the connection are returned. A visitor that is waited for no longer is closed.
     pub fn listen(&mut self, place: usize, net: &Net) -> Option<(u16, P)>
-        // Whoever has said who it is was a visitor there, and is none any more.
+        // A visitor that has said who it is leaves its place.
         ensures said { IfSome result (λ said.
             HasSaid P.gave P.took net.now.nodes (get self.old.visitors place) said.0 said.1
             × (get self.new.visitors place ≡ None)) }

@@ -66,7 +66,7 @@ impl<P: Pipe> NodePort<P> {
         self.link.is_attached() && !self.is_stuck
     }
 
-    /// From now on this pipe is the connection; the one that stood there is closed.
+    /// This pipe is the connection from now on; an older one is closed.
     pub fn attach(&mut self, pipe: P)
         ensures stands { (self.new.link.pipe ≡ Some pipe) × (self.new.greeting ≡ None)
             × (self.new.is_stuck ≡ false) }
@@ -90,7 +90,7 @@ impl<P: Pipe> NodePort<P> {
         self.is_stuck = false;
     }
 
-    /// A new connection, on which the hello is to go out first.
+    /// A new connection, on which the hello goes out first.
     pub fn greet(&mut self, pipe: P)
         ensures hello { IfSome self.new.greeting
             (λ greeting. (greeting.pipe ≡ pipe) × (greeting.sent ≡ 0)) }
@@ -100,14 +100,14 @@ impl<P: Pipe> NodePort<P> {
         self.greeting = Some(Greeting::new(pipe));
     }
 
-    /// Writes what is left of the hello of node `id`, if there is one, and says whether the
-    /// connection stands with that.
+    /// Writes what is left of the hello of node `id`, if there is one. Returns whether the
+    /// connection stands now.
     pub fn go_on_greeting(&mut self, id: u16) -> bool
         // The connection stands as before, or it is a new one.
         ensures wires { Wires self.old self.new }
         // Without a hello nothing is done.
         ensures none { self.old.greeting ≡ None → (self.new ≡ self.old) × (result ≡ false) }
-        // A connection that stands with that is one more.
+        // A connection that stands now is one more.
         ensures made { self.new.made ≡ (if result then one_more self.old.made else self.old.made) }
     {
         let Some(greeting) = self.greeting.take() else {
@@ -148,12 +148,12 @@ impl<P: Pipe> NodePort<P> {
         self.is_stuck = self.link.push_out() == Flow::Later;
     }
 
-    /// Accepts a frame, if the last line is out, and writes it as far as the pipe takes it. The
-    /// answer is whether it was accepted.
+    /// Accepts a frame, if the last line is out, and writes it as far as the pipe takes it. Returns
+    /// whether it was accepted.
     pub fn offer(&mut self, frame: &Frame) -> bool
         ensures offered { OffersLine P.gave P.took P.counts (spelling frame.now ++ newline ∷ [])
             self.old self.new result }
-        // What the pipe took goes on by the frame's line, or by nothing where it is not accepted.
+        // What the pipe took goes on by the frame's line, or by nothing if it is not accepted.
         ensures line { PushesOn P.took (if result then spelling frame.now ++ newline ∷ [] else [])
             self.old.link self.new.link }
         ensures made { self.new.made ≡ self.old.made }
@@ -168,8 +168,8 @@ impl<P: Pipe> NodePort<P> {
         }
     }
 
-    /// Writes what is left of the last line, and then offers a frame, if it is to be offered. The
-    /// answer is whether it was accepted.
+    /// Writes what is left of the last line, and then offers the frame, if `is_offered` says so.
+    /// Returns whether it was accepted.
     pub fn speak(&mut self, frame: &Frame, is_offered: bool) -> bool
         ensures speaks { PortSpeaks P.gave P.took P.counts (spelling frame.now ++ newline ∷ [])
             is_offered self.old self.new result }

@@ -33,13 +33,13 @@ use std::alloc::{AllocError, Allocator, Global};
 use topology::{Frame, Net};
 use turn_watch::LinkSight;
 
-/// How many connections are accepted at each door in a turn, at most.
+/// At most so many connections are accepted at each door in a turn.
 const COMERS: usize = 64;
 
-/// How many frames are taken at each port in a turn, at most.
+/// At most so many frames are taken at each port in a turn.
 const FRAMES: usize = 64;
 
-/// What was handed in for a node that could not be made, for want of memory.
+/// What was passed in for a node that could not be made, for lack of memory.
 #[derive(Drop)]
 pub struct Unmade<D: Doors, S: Store + Drop, A: Allocator + Copy = Global> {
     pub net: Net,
@@ -56,17 +56,17 @@ pub struct NodeRun<D: Doors, S: Store + Drop, A: Allocator + Copy = Global> {
     net: Net,
     node: Node<A>,
     pace: Pace,
-    /// By the id of any node; those of others than neighbours have no connection.
+    /// One for each node, by its id. Only those of neighbours have connections.
     ports: Vec<NodePort<D::P>, A>,
     lobby: Lobby<D::P, A>,
     clients: Clients<D::P, A>,
     /// The turns since the last save, 0 to 255.
     turns: u8,
-    /// Since the last tick, or in the turn of it, a client let the lock go.
+    /// A client let the lock go since the last tick, or in the turn of that tick.
     let_go: bool,
-    /// Nothing was taken since the last tick.
+    /// It has ticked since it last listened.
     has_ticked: bool,
-    /// The next turn is not to wait: something that came may wait to be read, or a tick is due.
+    /// The next turn must not wait: there may be more to read, or a tick is due.
     has_more: bool,
     ghost site: { (site_in node).id < net.nodes },
     ghost wired: { site_in node ≡ site_of net (site_in node).id },
@@ -87,7 +87,7 @@ impl<D: Doors, S: Store + Drop, A: Allocator + Copy> NodeRun<D, S, A> {
     ghost use Rattle.node_loop.specs.Turns.{Attends, Turns};
 
     /// A node of this network that runs over these doors. All memory that turns ever need is
-    /// reserved here; all four come back only where that is refused.
+    /// reserved here. Only if that is refused do all four come back.
     pub fn new(
         alloc: A,
         net: Net,
@@ -130,7 +130,7 @@ impl<D: Doors, S: Store + Drop, A: Allocator + Copy> NodeRun<D, S, A> {
         }
     }
 
-    /// Waits by the doors until something may have come, as long as the pace lets, at most 2
+    /// Waits at the doors until something may have come: as long as the pace allows, at most 2
     /// milliseconds. `now` is microseconds of a clock that never goes back.
     pub fn wait(&mut self, now: u64)
         // The doors may change, and nothing else.
@@ -146,7 +146,7 @@ impl<D: Doors, S: Store + Drop, A: Allocator + Copy> NodeRun<D, S, A> {
         self.doors.wait(rest);
     }
 
-    /// How long it rests if nothing comes, in microseconds: not at all if the next turn is not to wait.
+    /// How long it rests if nothing comes, in microseconds: not at all if the next turn must not wait.
     fn rest(&self, now: u64) -> u64
         ensures longest { result ≤ 2000 }
         ensures at_once { self.now.has_more ≡ true → result ≡ 0 }
@@ -159,8 +159,8 @@ impl<D: Doors, S: Store + Drop, A: Allocator + Copy> NodeRun<D, S, A> {
         self.pace.rest(&sights, &outlook, now)
     }
 
-    /// One turn: all that came is taken, the node ticks once, and it speaks, by the plan that the
-    /// pace makes then. `now` is microseconds of a clock that never goes back.
+    /// One turn: the node takes all that came, ticks once, and speaks by the plan that the pace
+    /// makes then. `now` is microseconds of a clock that never goes back.
     pub fn turn(&mut self, now: u64) -> Turned
         // All that it did is one list of deeds, which are the node's own steps.
         ensures turns { Turns D.P.gave D.P.took D.P.counts result.ticked now
@@ -178,12 +178,12 @@ impl<D: Doors, S: Store + Drop, A: Allocator + Copy> NodeRun<D, S, A> {
             }) }
         // Each ticket that waits or borrows is a connected client's.
         ensures connected { AreConnected self.new.clients self.new.node }
-        // Whoever was connected and still is lives on: of its pipe no read and no write said that it
+        // A client that was connected and still is lives on: no read and no write said that its pipe
         // closed or failed.
         ensures lives { StillLive D.P.gave D.P.took D.P.counts self.old.clients self.new.clients }
-        // Whoever stays connected was said the answers to its lines, and then `granted` or `lost` if the
-        // tick began or ended its loan. Nothing else was said, and no byte is lost: the pipe took it,
-        // or it waits.
+        // A client that stays connected was sent the answers to its lines, and then `granted` or `lost`
+        // if the tick began or ended its loan. Nothing else was sent, and no byte is lost: its pipe took
+        // it, or it waits.
         ensures says { TurnSays D.P.took (site_in self.old.node) result.ticked.act self.old.clients
             self.new.clients }
         // In each 256th turn, and in no other, the state is stored as it is at the turn's end.
@@ -231,9 +231,9 @@ impl<D: Doors, S: Store + Drop, A: Allocator + Copy> NodeRun<D, S, A> {
         ticked
     }
 
-    /// Between two turns, while a loan with a lease runs and no tick is due: all that came is
-    /// taken, and the node speaks, by the plan that the pace makes then. It does not tick, and it
-    /// counts as no turn. `now` is as for [`NodeRun::turn`].
+    /// What is done between two turns, while a loan with a lease runs and no tick is due: the node
+    /// takes all that came, and speaks by the plan that the pace makes then. It does not tick, and
+    /// this counts as no turn. `now` is as for [`NodeRun::turn`].
     pub fn attend(&mut self, now: u64)
         // All that it did is one list of deeds, which are the node's own steps; no tick is among
         // them.
@@ -252,10 +252,10 @@ impl<D: Doors, S: Store + Drop, A: Allocator + Copy> NodeRun<D, S, A> {
             }) }
         // Each ticket that waits or borrows is a connected client's.
         ensures connected { AreConnected self.new.clients self.new.node }
-        // Whoever was connected and still is lives on: of its pipe no read and no write said that it
+        // A client that was connected and still is lives on: no read and no write said that its pipe
         // closed or failed.
         ensures lives { StillLive D.P.gave D.P.took D.P.counts self.old.clients self.new.clients }
-        // Whoever stays connected was said the answers to its lines, and nothing else.
+        // A client that stays connected was sent the answers to its lines, and nothing else.
         ensures answers { HasAnswered D.P.took (site_in self.old.node) self.old.clients
             self.new.clients }
         // Its network stays, and it stores nothing.
@@ -268,7 +268,7 @@ impl<D: Doors, S: Store + Drop, A: Allocator + Copy> NodeRun<D, S, A> {
         self.has_more |= plan.ticks;
     }
 
-    /// Whether a turn is due: always, but while a loan with a lease runs once in 2 milliseconds.
+    /// Whether a turn is due: once in 2 milliseconds while a loan with a lease runs, and else always.
     /// `now` is as for [`NodeRun::turn`].
     pub fn is_turn_due(&self, now: u64) -> bool
         ensures { result ≡ may_tick (outlook_of self.now.node self.now.let_go) now
@@ -294,7 +294,7 @@ impl<D: Doors, S: Store + Drop, A: Allocator + Copy> NodeRun<D, S, A> {
         self.pace.plan(&sights, &outlook, now)
     }
 
-    /// From now on its pace remembers this, as damage may have it. Nothing else changes.
+    /// Its pace remembers this from now on, as after damage. Nothing else changes.
     pub fn set_pace(&mut self, pace: Pace)
         ensures pace { self.new.pace ≡ pace }
         ensures rest { (self.new.node ≡ self.old.node) × (self.new.net ≡ self.old.net)
@@ -307,7 +307,7 @@ impl<D: Doors, S: Store + Drop, A: Allocator + Copy> NodeRun<D, S, A> {
         self.pace = pace;
     }
 
-    /// First part of a turn: all that came is taken, and whoever is gone leaves.
+    /// First part of a turn: the node takes all that came, and clients that are gone leave.
     fn listen(&mut self, now: u64)
         ensures listens { Listens D.P.gave D.P.took D.P.counts
             (record {
@@ -366,7 +366,7 @@ impl<D: Doors, S: Store + Drop, A: Allocator + Copy> NodeRun<D, S, A> {
         ensures node { self.new.node ≡ self.old.node }
         // No port changes, whatever the door answers.
         ensures ports { self.new.ports ≡ self.old.ports }
-        // Whoever was connected is as before.
+        // A client that was connected is as before.
         ensures admits { Admits self.old.clients self.new.clients }
         ensures pace { self.new.pace ≡ self.old.pace }
         ensures rest { (self.new.net ≡ self.old.net) × (self.new.turns ≡ self.old.turns)
@@ -395,8 +395,8 @@ impl<D: Doors, S: Store + Drop, A: Allocator + Copy> NodeRun<D, S, A> {
         }
     }
 
-    /// A connection has said whose it is. It is the port's from now on where that is a higher
-    /// neighbour, and else is closed.
+    /// A connection has said whose it is. If that is a higher neighbour, it is the port's from now on;
+    /// else it is closed.
     fn welcome(&mut self, id: u16, pipe: D::P)
         ensures node { self.new.node ≡ self.old.node }
         ensures welcome { (site_in self.old.node).id < id
@@ -524,7 +524,7 @@ impl<D: Doors, S: Store + Drop, A: Allocator + Copy> NodeRun<D, S, A> {
         self.has_more = true;
     }
 
-    /// Takes the next frame that a neighbour sent; no where there is none.
+    /// Takes the next frame that a neighbour sent. Returns false if there is none.
     fn pull_one(&mut self, id: u16, now: u64) -> bool
         ensures came { IsTrue result
             → TakesAt (Comes (site_in self.old.node).ranges D.P.gave D.P.took)
@@ -553,7 +553,7 @@ impl<D: Doors, S: Store + Drop, A: Allocator + Copy> NodeRun<D, S, A> {
     /// Second part of a turn: one tick.
     fn tick(&mut self, now: u64) -> Ticked
         ensures node { Acts result self.old.node self.new.node }
-        // The client whose loan it began or ended is told.
+        // The client whose loan it began or ended hears of it.
         ensures told { IsTold result.act self.old.clients self.new.clients }
         ensures ports { (self.new.ports ≡ self.old.ports) × (self.new.let_go ≡ self.old.let_go) }
         ensures connected { AreConnected self.old.clients self.old.node
@@ -603,7 +603,7 @@ impl<D: Doors, S: Store + Drop, A: Allocator + Copy> NodeRun<D, S, A> {
     }
 
     /// Writes what is left of the last line to a neighbour, and then a frame, if one is offered.
-    /// The answer is whether it was accepted.
+    /// Returns whether it was accepted.
     fn speak_to(&mut self, id: u16, offered: bool, now: u64) -> bool
         ensures spoken { Contains (site_in self.old.node).neighbours id
             → AtBoth (SpeaksTo D.P.gave D.P.took D.P.counts
@@ -656,8 +656,8 @@ impl<D: Doors, S: Store + Drop, A: Allocator + Copy> NodeRun<D, S, A> {
     }
 
     /// Takes up a network with other edges, if its nodes, root, capacity and lease are the same;
-    /// else the answer is no, and nothing has changed. The connections of edges that are gone are
-    /// closed; those of new ones begin loose.
+    /// else returns false and changes nothing. The connections of edges that are gone are closed;
+    /// new edges have none yet.
     pub fn rewire(&mut self, net: &Net) -> bool
         ensures answer { result ≡ is_same_frame self.old.net net.now }
         ensures net { IsTrue result → self.new.net ≡ net.now }
@@ -728,8 +728,8 @@ impl<D: Doors, S: Store + Drop, A: Allocator + Copy> NodeRun<D, S, A> {
     }
 }
 
-/// Writes what is left of the last line at a port, and then a frame, if it is offered. The pace is told
-/// of a frame that is accepted; the answer is whether it was.
+/// Writes what is left of the last line at a port, and then a frame, if it is offered. The pace notes a
+/// frame that is accepted. Returns whether it was.
 fn speak_at<P: Pipe, A: Allocator + Copy>(
     ports: &mut Vec<NodePort<P>, A>,
     pace: &mut Pace,

@@ -45,7 +45,7 @@ fn dismiss<P: Pipe, A: Allocator + Copy>(
     leave(node, ticket);
 }
 
-/// Answers a client; it is closed where there is no room for the answer.
+/// Answers a client, or closes it if there is no room for the answer.
 fn tell<P: Pipe, A: Allocator + Copy>(
     node: &mut Node<A>,
     clients: &mut Clients<P, A>,
@@ -62,13 +62,13 @@ fn tell<P: Pipe, A: Allocator + Copy>(
     }
 }
 
-/// Reads each client once, and serves its lines. The answer is whether some client may have more.
+/// Reads each client once, and serves its lines. Returns whether some client may have more.
 pub(crate) fn serve_all<P: Pipe, A: Allocator + Copy>(
     node: &mut Node<A>,
     clients: &mut Clients<P, A>,
 ) -> bool
     ensures node { Became IsOfClient node.old node.new }
-    // A client whose read says that it is gone is connected no more.
+    // A client whose read says that it is gone is no longer connected.
     ensures lives { LiveOn P.gave P.took P.counts clients.old clients.new }
     ensures answers { AreAnswered P.took (site_in node.old) clients.old clients.new }
 {
@@ -81,8 +81,8 @@ pub(crate) fn serve_all<P: Pipe, A: Allocator + Copy>(
     has_more
 }
 
-/// Reads a client once, and serves its lines; whether it may have more. One that closed or whose
-/// read failed is closed, and what waits for it is written before, as far as that goes.
+/// Reads a client once, and serves its lines. Returns whether it may have more. A client that closed
+/// is closed here too, after one more write of what waits for it; so is one whose read failed.
 fn serve<P: Pipe, A: Allocator + Copy>(
     node: &mut Node<A>,
     clients: &mut Clients<P, A>,
@@ -138,7 +138,7 @@ fn serve_line<P: Pipe, A: Allocator + Copy>(
 )
     ensures node { Became IsOfClient node.old node.new }
     ensures lives { LiveOn P.gave P.took P.counts clients.old clients.new }
-    // The client is answered, and nobody else.
+    // The client is answered, and no other.
     ensures answers { SaidTo P.took
         (answer_text (site_in node.old) ticket line (state_of node.old)) ticket
         clients.old clients.new }
@@ -150,7 +150,7 @@ fn serve_line<P: Pipe, A: Allocator + Copy>(
     }
 }
 
-/// Has each ticket leave that waits or borrows and is no connected client's.
+/// Each ticket that waits or borrows and is no connected client's leaves.
 pub(crate) fn leave_absent<P: Pipe, A: Allocator + Copy>(
     node: &mut Node<A>,
     clients: &Clients<P, A>,
@@ -162,7 +162,7 @@ pub(crate) fn leave_absent<P: Pipe, A: Allocator + Copy>(
     leave_waiting(node, clients);
 }
 
-/// Has the borrower leave, if it is no connected client.
+/// The borrower leaves, if it is no connected client.
 fn leave_lent<P: Pipe, A: Allocator + Copy>(node: &mut Node<A>, clients: &Clients<P, A>)
     ensures node { Became IsLeave node.old node.new }
     ensures connected { (t : ℕ) → is_ticket (state_of node.new).desk.lent t ≡ true
@@ -178,7 +178,7 @@ fn leave_lent<P: Pipe, A: Allocator + Copy>(node: &mut Node<A>, clients: &Client
     }
 }
 
-/// Has each ticket leave that waits and is no connected client's.
+/// Each ticket that waits and is no connected client's leaves.
 fn leave_waiting<P: Pipe, A: Allocator + Copy>(node: &mut Node<A>, clients: &Clients<P, A>)
     requires { (t : ℕ) → is_ticket (state_of node.old).desk.lent t ≡ true
         → is_connected clients.now t ≡ true }
@@ -196,7 +196,7 @@ fn leave_waiting<P: Pipe, A: Allocator + Copy>(node: &mut Node<A>, clients: &Cli
     }
 }
 
-/// One tick of the node; the client whose loan it began or ended is told.
+/// One tick of the node. The client whose loan it began or ended hears of it.
 pub(crate) fn tick<P: Pipe, A: Allocator + Copy>(
     node: &mut Node<A>,
     clients: &mut Clients<P, A>,
@@ -216,14 +216,14 @@ pub(crate) fn tick<P: Pipe, A: Allocator + Copy>(
     ticked
 }
 
-/// Writes once to each client for whom answers wait; one to which that fails is closed.
+/// Writes once to each client for whom answers wait, and closes each to which that fails.
 pub(crate) fn write_all<P: Pipe, A: Allocator + Copy>(
     node: &mut Node<A>,
     clients: &mut Clients<P, A>,
 )
     ensures node { Became IsLeave node.old node.new }
     ensures connected { AreConnected clients.old node.old → AreConnected clients.new node.new }
-    // A client to which a write fails is connected no more.
+    // A client to which a write fails is no longer connected.
     ensures lives { LiveOn P.gave P.took P.counts clients.old clients.new }
     ensures nothing { NothingSaid P.took clients.old clients.new }
 {

@@ -1,4 +1,4 @@
-//! What the pace of a node is shown: how its desk stands, and what there is to say at its ports.
+//! What the pace of a node sees: how its desk stands, and what there is to say at its ports.
 ghost use Rattle.std.specs.Prelude.{◌≡◌, ◌<◌, ◌≤◌, ℕ, IsTrue, Contains, length, slice_index_or};
 ghost use Rattle.euler_ring.specs.Cycle.{is_on};
 ghost use Rattle.node_core.specs.Machines.{tree_of};
@@ -48,7 +48,7 @@ fn tree<A: Allocator>(node: &Node<A>, net: &Net) -> TreeNeighbours
     tree_neighbours(node.parent(), node.id(), node.neighbours(), copied_parent)
 }
 
-/// By id, whether a tree neighbour is there.
+/// By id, whether that node is a tree neighbour.
 pub(crate) fn trees<A: Allocator>(node: &Node<A>, net: &Net) -> [bool; NODES]
     requires id { (site_in node.now).id < net.now.nodes }
     requires site { site_in node.now ≡ site_of net.now (site_in node.now).id }

@@ -6,7 +6,7 @@ use lock_desk::DeskAct;
 use node_core::Ticked;
 use node_state_file::StoreFault;
 
-/// What a turn did that its caller may want to know.
+/// What a turn did, as far as its caller may need it.
 #[derive(Clone, Copy, Debug, PartialEq, Eq)]
 pub struct Turned {
     /// What the tick did.

@@ -14,7 +14,8 @@ use Rattle.frame_codec.specs.Reading.{frame_of}
 use Rattle.frame_codec.specs.Spelling.{digit, digits, parent_number, spelling}
 use Rattle.processes.specs.Links.{Act}
 use Rattle.processes.proofs.Connections.{connections-play}
-use Rattle.processes.specs.Connections.{accepted_frames, given_frames, KeepsOrder, line_of, lines_of, Ended, left_after, left_over, KeepOrder, AreInRange, CarriesActs, CarryActs}
+use Rattle.processes.proofs.Frames.{of-accepts, EachInRange, each-in_range}
+use Rattle.processes.specs.Connections.{accepted_frames, given_frames, KeepsOrder, line_of, lines_of, Ended, left_after, left_over, history_over, KeepOrder, AreInRange, CarriesActs, CarryActs}
 use Rattle.processes.specs.LinkLaws.{PipesAreConnections, ConnectionsGiveABeginning, BytesKeepOrder, JunkSpoilsOneFrame, BytesAreHistory}
 
 digit-goes-on : (d : ℕ) → digit d ≢ 10
@@ -84,28 +85,31 @@ module _ (one : OneReading) (cutting : AnyCutting) (ends : JunkEndsAtNewline) (g
       (left.0, record { kept = sym whole ∙ left.1; within = within })
 
   -- what is left is what comes after all that was given
-  carries-order : (r : Ranges) (junk : List ℕ) (capacity : ℕ) (acts : List Act) → AreNarrow r → half_line junk ≡ [] → CarriesActs r capacity junk acts
-      → KeepsOrder capacity (good_lines r junk) acts (left_after (good_lines r junk) acts)
-  carries-order r junk capacity acts narrow none c =
-      let found = keep-order r junk capacity acts narrow none c.in_range c.bytes c.within in
+  carries-order : (r : Ranges) (junk : List ℕ) (capacity : ℕ) (acts : List Act) → AreNarrow r → half_line junk ≡ [] → AreInRange r (accepted_frames acts)
+      → CarriesActs r capacity junk acts → KeepsOrder capacity (good_lines r junk) acts (left_after (good_lines r junk) acts)
+  carries-order r junk capacity acts narrow none fit c =
+      let found = keep-order r junk capacity acts narrow none fit c.bytes c.within in
       let left-is : left_after (good_lines r junk) acts ≡ found.0
       = ap (drop (length (given_frames acts))) found.1.kept ∙ drop-front (given_frames acts) found.0 in
       subst (λ left. KeepsOrder capacity (good_lines r junk) acts left) (sym left-is) found.1
 
-  carry-order : (r : Ranges) (cs : List Ended) (junk : List ℕ) (capacity : ℕ) (acts : List Act) → AreNarrow r → half_line junk ≡ []
+  carry-order : (r : Ranges) (cs : List Ended) (junk : List ℕ) (capacity : ℕ) (acts : List Act) → AreNarrow r → half_line junk ≡ [] → EachInRange r cs acts
       → CarryActs r capacity junk cs acts → KeepOrder capacity (good_lines r junk) cs acts (left_over (good_lines r junk) cs acts)
-  carry-order r [] junk capacity acts narrow none c = carries-order r junk capacity acts narrow none c
-  carry-order r (e ∷ cs) junk capacity acts narrow none c =
-      (carries-order r junk capacity e.acts narrow none c.0, carry-order r cs [] capacity acts narrow refl c.1)
+  carry-order r [] junk capacity acts narrow none fit c = carries-order r junk capacity acts narrow none fit c
+  carry-order r (e ∷ cs) junk capacity acts narrow none fit c =
+      (carries-order r junk capacity e.acts narrow none fit.0 c.0, carry-order r cs [] capacity acts narrow refl fit.1 c.1)
 
   pub are-history : BytesAreHistory
-  are-history r junk capacity sent taken cs acts narrow link = record {
-    accepted = link.accepted;
-    given = link.given;
-    in_order = link.in_order;
-    plays =
-        connections-play capacity (good_lines r junk) (left_over (good_lines r junk) cs acts) cs acts (carry-order r cs junk capacity acts narrow link.whole link.connections);
-  }
+  are-history r junk capacity sent taken cs acts narrow fit link =
+      let way = good_lines r junk in
+      let all : accepted_frames (history_over way cs acts) ≡ accepted_frames sent = sym (of-accepts (history_over way cs acts)) ∙ ap accepted_frames link.accepted in
+      let each = each-in_range r way cs acts (subst (λ fs. AreInRange r fs) (sym all) fit) in
+      record {
+        accepted = link.accepted;
+        given = link.given;
+        in_order = link.in_order;
+        plays = connections-play capacity way (left_over way cs acts) cs acts (carry-order r cs junk capacity acts narrow link.whole each link.connections);
+      }
 
   pub spoils-one : JunkSpoilsOneFrame
   spoils-one r junk f fs narrow fit =

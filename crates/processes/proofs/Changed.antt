@@ -6,7 +6,7 @@ use Rattle.std.proofs.lemmas.Grind.{common_steps}
 use Rattle.topology.specs.At.{at}
 use Rattle.run_model.specs.World.{at_pair}
 
-at-here : {X : Type 0} (f : ℕ → X) (k : ℕ) (x : X) → at f k x k ≡ x
+pub at-here : {X : Type 0} (f : ℕ → X) (k : ℕ) (x : X) → at f k x k ≡ x
 at-here f k x = grind (arith, common_steps)
 
 at-other : {X : Type 0} (f : ℕ → X) (k : ℕ) (x : X) (i : ℕ) → i ≢ k → at f k x i ≡ f i
@@ -23,7 +23,7 @@ at-each P f k x here there i = elim (cases_eq i k) [
 pub at-same : {X : Type 0} (f : ℕ → X) (k : ℕ) → at f k (f k) ≡ f
 at-same f k = fun_ext (at-each (λ i x. x ≡ f i) f k (f k) refl (λ i _. refl))
 
-at_pair-here : {X : Type 0} (f : ℕ → ℕ → X) (u v : ℕ) (x : X) → at_pair f u v x u v ≡ x
+pub at_pair-here : {X : Type 0} (f : ℕ → ℕ → X) (u v : ℕ) (x : X) → at_pair f u v x u v ≡ x
 at_pair-here f u v x = grind (arith, common_steps)
 
 at_pair-other : {X : Type 0} (f : ℕ → ℕ → X) (u v : ℕ) (x : X) (i j : ℕ) → ((i ≡ u) × (j ≡ v) → ⊥) → at_pair f u v x i j ≡ f i j

@@ -1,13 +1,15 @@
 -- The frames of accounts and of histories.
-use Rattle.std.proofs.Common.{◌≡◌, ℕ, List, [], ◌∷◌, ◌++◌, refl, ap, ◌∙◌, sym, arith}
+use Rattle.std.proofs.Common.{◌≡◌, ℕ, List, [], ◌∷◌, ◌++◌, refl, ap, ◌∙◌, sym, subst, arith}
 use Rattle.std.proofs.lemmas.Grind.{common_steps}
+use Rattle.topology.specs.declared.frame.Frame.{Frame}
+use Rattle.topology.specs.declared.frame.Ranges.{Ranges}
 use Rattle.accounts.specs.Deeds.{Deed, Ticks, Sends, Takes, Asks, Leaves, taken_from, sent_to}
 use Rattle.processes.specs.Accounts.{Timed, deeds}
 use Rattle.processes.specs.Links.{Act, Accepts, Gives, Loses, the_accepts, the_gives, accept_at, give_at, accepts_in, gives_in}
-use Rattle.processes.specs.Connections.{accepted_frames, given_frames}
+use Rattle.processes.specs.Connections.{accepted_frames, given_frames, AreInRange, Ended, all_lost, history_over, left_after}
 use Rattle.processes.specs.LinkLaws.{HistoriesTellFrames}
 
-of-accepts : (acts : List Act) → accepted_frames (the_accepts acts) ≡ accepted_frames acts
+pub of-accepts : (acts : List Act) → accepted_frames (the_accepts acts) ≡ accepted_frames acts
 of-accepts [] = refl
 of-accepts (Accepts t f ∷ acts) = ap (λ fs. f ∷ fs) (of-accepts acts)
 of-accepts (Gives t f ∷ acts) = of-accepts acts
@@ -33,7 +35,7 @@ one-taken u t (Takes w f) ds acts e = grind (arith, common_steps)
 one-taken u t (Asks k) ds acts e = e
 one-taken u t (Leaves k) ds acts e = e
 
-all-sent : (v : ℕ) (ts : List Timed) → accepted_frames (accepts_in v ts) ≡ sent_to v (deeds ts)
+pub all-sent : (v : ℕ) (ts : List Timed) → accepted_frames (accepts_in v ts) ≡ sent_to v (deeds ts)
 all-sent v [] = refl
 all-sent v (t ∷ ts) = one-sent v t.instant t.deed (deeds ts) (accepts_in v ts) (all-sent v ts)
 
@@ -46,3 +48,36 @@ tell-frames capacity u v first last sender receiver history h = (
   sym (of-accepts history) ∙ (ap accepted_frames h.accepted ∙ all-sent v sender),
   sym (of-gives history) ∙ (ap given_frames h.given ∙ all-taken u receiver),
 )
+
+-- ---- the frames of a link's connections
+
+accepted-join : (acts others : List Act) → accepted_frames (acts ++ others) ≡ accepted_frames acts ++ accepted_frames others
+accepted-join [] others = refl
+accepted-join (Accepts t f ∷ acts) others = ap (λ fs. f ∷ fs) (accepted-join acts others)
+accepted-join (Gives t f ∷ acts) others = accepted-join acts others
+accepted-join (Loses t i ∷ acts) others = accepted-join acts others
+
+lost-accepts-none : (t : ℕ) (way : List Frame) → accepted_frames (all_lost t way) ≡ []
+lost-accepts-none t [] = refl
+lost-accepts-none t (f ∷ way) = lost-accepts-none t way
+
+in-two : (r : Ranges) (fs gs : List Frame) → AreInRange r (fs ++ gs) → AreInRange r fs × AreInRange r gs
+in-two r [] gs h = (tt, h)
+in-two r (f ∷ fs) gs h = let rest = in-two r fs gs h.1 in ((h.0, rest.0), rest.1)
+
+-- what each of the connections accepted is in range
+abbrev pub EachInRange : Ranges → List Ended → List Act → Type 0
+EachInRange r [] acts = AreInRange r (accepted_frames acts)
+EachInRange r (c ∷ cs) acts = AreInRange r (accepted_frames c.acts) × EachInRange r cs acts
+
+-- if all that the link accepted is
+pub each-in_range : (r : Ranges) (way : List Frame) (cs : List Ended) (acts : List Act) → AreInRange r (accepted_frames (history_over way cs acts)) → EachInRange r cs acts
+each-in_range r way [] acts h = h
+each-in_range r way (c ∷ cs) acts h =
+    let lost = all_lost c.instant (left_after way c.acts) in
+    let later = history_over [] cs acts in
+    let parts : accepted_frames (history_over way (c ∷ cs) acts) ≡ accepted_frames c.acts ++ accepted_frames later
+    = accepted-join c.acts (lost ++ later) ∙ ap (λ fs. accepted_frames c.acts ++ fs)
+    (accepted-join lost later ∙ ap (λ fs. fs ++ accepted_frames later) (lost-accepts-none c.instant (left_after way c.acts))) in
+    let both = in-two r (accepted_frames c.acts) (accepted_frames later) (subst (λ fs. AreInRange r fs) parts h) in
+    (both.0, each-in_range r [] cs acts both.1)

@@ -196,7 +196,7 @@ first-tick site s e b (t ∷ ts) x free time since l there =
     before (inr later) =
         let i : t.instant ≤ b = all-at (λ z. t.instant ≤ z.instant) (record { instant = b; deed = Ticks }) ts later time.0 in omega (arith, i, l)
 
--- and where a free node lends later, it has ticked
+-- and if a free node lends later, it has ticked
 lends-later : (site : Site) (s e : ℕ) (ts rest : List Timed) (x : LocalState) → IsFree x → Since s ts → AllByRecursion (λ t. t.instant < e) ts → IsTrue (lends (led site ts x).desk)
     → IsTrue (ticks_fully_in site s e (ts ++ rest) x)
 lends-later site s e [] rest x free since soon h = absurd (free-lends x free h)

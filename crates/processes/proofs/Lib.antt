@@ -16,6 +16,7 @@ mod RowsTiming
 mod RowsTimes
 mod RowsLoans
 pub mod OneDeed
+pub mod OwnFrames
 pub mod Connections
 pub mod Bytes
 pub mod Frames

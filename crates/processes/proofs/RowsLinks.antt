@@ -173,8 +173,8 @@ of-bytes : IsLinkOfBytes sizes 1 [] (Accepts 1 (numbered 1) ∷ Accepts 5 (numbe
 of-bytes = record {
   whole = refl;
   connections = (
-    record { bytes = nothing-yet sizes [] (numbered 1 ∷ []); in_range = (refl, tt); within = (omega arith, tt) },
-    record { bytes = nothing-yet sizes [] (numbered 2 ∷ []); in_range = (refl, tt); within = (omega arith, tt) },
+    record { bytes = nothing-yet sizes [] (numbered 1 ∷ []); within = (omega arith, tt) },
+    record { bytes = nothing-yet sizes [] (numbered 2 ∷ []); within = (omega arith, tt) },
   );
   accepted = refl;
   given = refl;
@@ -190,7 +190,10 @@ not-lost-too-late sent taken r h = let a = h.in_order.1.0.0 in grind arith
 keep-order : KeepOrder 1 [] first_one (Accepts 5 (numbered 2) ∷ []) (numbered 2 ∷ [])
 keep-order = (record { kept = refl; within = (omega arith, tt) }, record { kept = refl; within = (omega arith, tt) })
 
--- a number that is no counter's is out of range
+-- two numbers of counters are in range; a number that is no counter's is not
+in-range : AreInRange sizes (numbered 1 ∷ numbered 2 ∷ [])
+in-range = (refl, (refl, tt))
+
 not-in-range : AreInRange sizes (numbered 9 ∷ []) → ⊥
 not-in-range h = let e = h.0 in absurd cc
 

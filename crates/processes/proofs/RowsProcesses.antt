@@ -199,7 +199,7 @@ keeps-promise = record {
   lends = nobody-to-lend (sharp_of two_nodes);
 }
 
--- it is not kept where the events lead to another world, nor where one of them does not go through
+-- it is not kept if the events lead to another world, nor if one of them does not go through
 not-elsewhere : KeepsPromise calm (run calm (Send 0 1 ∷ [])) [] → ⊥
 not-elsewhere h = let e : ◌≡◌ {A = List Item} [] (item.Frame said ∷ []) = ap (λ w. w.link 0 1) h.leads in absurd cc
 
@@ -246,13 +246,13 @@ over-bytes = record {
   links = each-link (λ u v. IsLinkOfBytes (ranges_of two_nodes) 1 [] (accepts_in v (only_sends u)) (gives_in u (only_sends v)) [] (one_wire.acts u v))
       (record {
         whole = refl;
-        connections = record { bytes = nothing-yet (ranges_of two_nodes) [] (said ∷ []); in_range = (refl, tt); within = (omega arith, tt) };
+        connections = record { bytes = nothing-yet (ranges_of two_nodes) [] (said ∷ []); within = (omega arith, tt) };
         accepted = refl;
         given = refl;
         in_order = (tt, tt);
       }) (record {
         whole = refl;
-        connections = record { bytes = nothing-yet (ranges_of two_nodes) [] []; in_range = tt; within = tt };
+        connections = record { bytes = nothing-yet (ranges_of two_nodes) [] []; within = tt };
         accepted = refl;
         given = refl;
         in_order = tt;

@@ -116,8 +116,8 @@ sizes = record { nodes = 3; counter = 5; ring = 13 }
 -- junk stands on the first connection alone: of two, each in turn carries one frame
 carry-two : CarryActs sizes 1 [] (record { acts = Accepts 1 (numbered 1) ∷ []; instant = 4 } ∷ []) (Accepts 5 (numbered 2) ∷ [])
 carry-two = (
-  record { bytes = nothing-yet sizes [] (numbered 1 ∷ []); in_range = (refl, tt); within = (omega arith, tt) },
-  record { bytes = nothing-yet sizes [] (numbered 2 ∷ []); in_range = (refl, tt); within = (omega arith, tt) },
+  record { bytes = nothing-yet sizes [] (numbered 1 ∷ []); within = (omega arith, tt) },
+  record { bytes = nothing-yet sizes [] (numbered 2 ∷ []); within = (omega arith, tt) },
 )
 
 carry_not-two-at-once : ¬ CarryActs sizes 1 [] [] (Accepts 1 (numbered 1) ∷ Accepts 2 (numbered 2) ∷ [])

@@ -59,7 +59,7 @@ abbrev pub AreWeaklyInOrder : List Act → Type 0
 AreWeaklyInOrder [] = Unit {0}
 AreWeaklyInOrder (a ∷ acts) = AllByRecursion (λ b. moment a ≤ moment b) acts × AreWeaklyInOrder acts
 
--- two lists of acts, of which each has the same acts of each kind, in this order, are one
+-- two lists of acts that have the same acts of each kind, both in order, are one
 same-acts : (xs ys : List Act) → AreWeaklyInOrder xs → AreInOrder ys → ((k : ℕ) → of_kind k xs ≡ of_kind k ys) → xs ≡ ys
 same-acts [] [] wx wy same = refl
 same-acts [] (y ∷ ys) wx wy same =

@@ -80,7 +80,7 @@ lose-node w a b i v = grind (arith, common_steps)
 own-node : (f : ℕ → LocalState) (a v : ℕ) → f v ≡ at f a (f a) v
 own-node f a v = grind (arith, common_steps)
 
--- where v is the one that does the deed, that is its state
+-- if v does the deed, that is its state
 own-state : (f : ℕ → LocalState) (v : ℕ) (x : LocalState) → at f v x v ≡ x
 own-state f v x = grind (arith, common_steps)
 

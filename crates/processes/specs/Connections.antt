@@ -101,11 +101,10 @@ pub record IsConnection (r : Ranges) (junk : List ℕ) (accepted pulled : List F
   pub beginning : read ++ ahead ≡ junk ++ lines_of accepted
   pub pulled_are : good_lines r read ≡ pulled
 
--- The connection carries these acts, with that junk at its start: its bytes are so, the frames are in
--- range, and at most so many are under way.
+-- The connection carries these acts, with that junk at its start: its bytes are so, and at most so
+-- many frames are under way.
 pub record CarriesActs (r : Ranges) (capacity : ℕ) (junk : List ℕ) (acts : List Act) : Type 0 where
   pub bytes : IsConnection r junk (accepted_frames acts) (given_frames acts)
-  pub in_range : AreInRange r (accepted_frames acts)
   pub within : IsWithin capacity (length (good_lines r junk)) acts
 
 -- each of the connections carries its acts; junk stands on the first one alone

@@ -55,11 +55,12 @@ JunkSpoilsOneFrame =
     (r : Ranges) (junk : List ℕ) (f : Frame) (fs : List Frame) → AreNarrow r → AreInRange r fs
     → good_lines r (junk ++ lines_of (f ∷ fs)) ≡ good_lines r (junk ++ line_of f) ++ fs
 
--- a link of bytes has a history
+-- a link of bytes has a history, if what its sender sent is in range
 abbrev pub BytesAreHistory : Type 0
 BytesAreHistory =
     (r : Ranges) (junk : List ℕ) (capacity : ℕ) (sent taken : List Act) (cs : List Ended)
-    (acts : List Act) → AreNarrow r → IsLinkOfBytes r capacity junk sent taken cs acts
+    (acts : List Act) → AreNarrow r → AreInRange r (accepted_frames sent)
+    → IsLinkOfBytes r capacity junk sent taken cs acts
     → IsHistory capacity (as_items (good_lines r junk)) sent taken
     (history_over (good_lines r junk) cs acts) (as_items (left_over (good_lines r junk) cs acts))
 

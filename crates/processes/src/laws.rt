@@ -10,8 +10,8 @@ ghost use Rattle.processes.specs.Loans.{RecoversInTime, WaitsInTime};
 ghost use Rattle.processes.specs.Laws.{BytesAreProcesses, BytesKeepPromise};
 
 /// What processes did is a run: their deeds, with the losses between them, have an order by
-/// instants, and each such order leads from the world at the start to that at the end. Whoever
-/// speaks of running nodes has all laws of runs by this.
+/// instants, and each such order leads from the world at the start to that at the end. So all laws of
+/// runs hold of running nodes.
 pub fn runs()
     ensures order { ProcessesHaveOrder }
     ensures run { OrdersAreRuns }
@@ -35,17 +35,18 @@ pub fn promise()
 }
 
 /// A link that is one connection after another: if each keeps order and loses nothing until it
-/// ends, and at most as many frames as the capacity are under way, the link has a history. Whoever
-/// joins two nodes by connections has the premise of the laws above by this. And the frames of a
+/// ends, and at most as many frames as the capacity are under way, the link has a history. So two
+/// nodes that are joined by connections keep the premise of the laws above. And the frames of a
 /// history are those that the accounts of the link's two ends speak of.
 pub fn connections()
     ensures play { ConnectionsPlay }
     ensures frames { HistoriesTellFrames }
 {}
 
-/// A connection of bytes: pipes of which the one gives a beginning of what the other took are such a
-/// connection, and it keeps order and loses nothing until it ends; so a link that is one of them after
-/// another has a history. A half line that stood on it at the start spoils at most one frame.
+/// A connection of bytes: two pipes, of which one gives a beginning of what the other took. It keeps
+/// order and loses nothing until it ends, if what was sent on it is in range. So a link that is one
+/// such connection after another has a history. A half line that stood on a connection at the start
+/// spoils at most one frame.
 pub fn bytes()
     ensures pipes { PipesAreConnections }
     ensures beginning { ConnectionsGiveABeginning }
@@ -62,21 +63,24 @@ pub fn bytes()
 /// The headline and the service of processes over bytes, whole. What is asked: the nodes go by their
 /// own steps; each link is one connection of bytes after another, on which whole lines stand at the
 /// start; a frame is taken later than it was accepted; and at most as many frames as the capacity are
-/// under way on a link.
+/// under way on a link. What a node sends is in range by itself.
 pub fn promise_over_bytes()
     ensures are { BytesAreProcesses }
     ensures keep { BytesKeepPromise }
 {
     topology::laws::limits();
+    topology::laws::joined();
+    topology::laws::neighbours();
+    run_model::laws::in_range();
     bytes();
     promise();
 }
 
-/// The same in time: where each window of that length, from one instant to another, holds a full
+/// The same in time: if each window of that length, from one instant to another, holds a full
 /// tick of each node, and each link hands over a frame that it accepted inside the window, each
 /// window is a sweep. So after 16(n - 1) + 4e + 15 windows the network serves, and from then on a
 /// ticket that waits after i others, and does not leave while it waits, is lent the lock within
-/// 8(n - 1)(i + 2) windows. Whoever can bound the turns of the nodes has a time of recovery by this.
+/// 8(n - 1)(i + 2) windows. A bound on the turns of the nodes thus gives a time of recovery.
 pub fn windows()
     ensures sweeps { WindowsAreSweeps }
     ensures serves { ServesInTime }
@@ -92,11 +96,11 @@ pub fn windows()
     convergence::laws::converge();
 }
 
-/// How long a window is: where each node has a whole turn in each stretch of `turn`, a port that was
-/// given nothing for `repeat` is given a frame in the next turn, a frame is taken in the next turn
-/// that begins `delay` after it was accepted, and each node has a full tick in each stretch of
-/// `full`, a window of max(full, repeat + 2 turn + delay) is enough for `windows`. Whoever measures
-/// these four has the window by this.
+/// How long a window is: max(full, repeat + 2 turn + delay) is enough for `windows`. That holds if
+/// each node has a whole turn in each stretch of `turn`, a port that was given nothing for `repeat` is
+/// given a frame in the next turn, a frame is taken in the next turn that begins `delay` after it was
+/// accepted, and each node has a full tick in each stretch of `full`. So a window follows from these
+/// four, once they are measured.
 pub fn pace()
     ensures { PaceGivesWindows }
 {

@@ -8,7 +8,7 @@
 //! the network. So from every state it comes to serve, and then serves for good.
 //!
 //! Nothing is computed here: `laws` has the statements, as contracts of functions that do nothing.
-//! Whoever drives a node names its account; of the links the premise is believed.
+//! The code that drives a node names its account. What is asked of the links is believed.
 //!
 //! The trap: a stretch is without damage. If a node begins again, or an edge comes or goes, a new
 //! stretch begins, from the world of that instant, which may be any in range.

@@ -71,7 +71,6 @@ module _ {P : Type 0} (gave took : P → Option (List ℕ)) where
   carries r capacity junk acts ends c is-out is-into = record {
     bytes = subst (λ fs. IsConnection r junk fs (given_frames acts)) (sym c.accepted)
         (subst (λ fs. IsConnection r junk (sent_at ends.out) fs) (sym c.given) (ends-connect r junk ends.out ends.into is-out is-into c.joined));
-    in_range = c.in_range;
     within = c.within;
   }
 

@@ -99,7 +99,7 @@ module _ {P : Type 0} (gave took : P → Option (List ℕ)) (counts : P → Coun
     calm : IsLinkOfPipes (ranges_of two_nodes) 1 gave took [] [] [] [] [] (record { out = None; into = None } ∷ []) [] []
     calm = record {
       whole = refl;
-      carries = record { joined = tt; accepted = refl; given = refl; in_range = tt; within = tt };
+      carries = record { joined = tt; accepted = refl; given = refl; within = tt };
       outs_are = refl;
       intos_are = refl;
       accepted = refl;

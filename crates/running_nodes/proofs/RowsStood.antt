@@ -98,7 +98,7 @@ module _ {P : Type 0} (gave took : P → Option (List ℕ)) (counts : P → Coun
           none [] parts are = let e : ◌≡◌ {A = List Frame} [] (numbered 1 ∷ []) = are in absurd cc
           none (b ∷ read) parts are = let e : ◌≡◌ {A = List ℕ} (72 ∷ []) (72 ∷ b ∷ (read ++ waiting link)) = parts in absurd cc
 
-    -- and none was sent of which the pipe took no byte
+    -- and no frame was sent if the pipe took no byte of it
     stands_not-sent : took p ≡ Some (72 ∷ []) → ¬ IsStood sizes gave took (stood link [] (numbered 1 ∷ []))
     stands_not-sent wrote s =
         let pushed : (72 ∷ []) ++ unsent link ≡ (72 ∷ []) ++ lines_of (numbered 1 ∷ []) = rw (pipe, wrote) at s.pushed in
@@ -127,7 +127,7 @@ module _ {P : Type 0} (gave took : P → Option (List ℕ)) (counts : P → Coun
         let all : (72 ∷ 1 ∷ []) ++ unsent link ≡ 72 ∷ 1 ∷ 2 ∷ [] = rw taken at t.all in
         let e : ◌≡◌ {A = List ℕ} (72 ∷ 1 ∷ []) (72 ∷ 1 ∷ 2 ∷ []) = rw written at all in absurd cc
 
-    -- where the other end sends no more, its pipe gives of what stood there alone
+    -- if the other end sends no more, its pipe gives only what stood there
     only-read : gave p ≡ Some (72 ∷ 1 ∷ []) → IsOnlyRead gave (1 ∷ 2 ∷ []) (stood link [] [])
     only-read said = record { given = 1 ∷ []; ahead = 2 ∷ []; gives = record { pipe = p; stands = pipe; all = said }; beginning = refl }
 
@@ -207,7 +207,7 @@ module _ {P : Type 0} (gave took : P → Option (List ℕ)) (counts : P → Coun
 
   -- a connection that nobody took up carries nothing
   carries-nothing : Carries sizes 1 gave took [] [] unseen
-  carries-nothing = record { joined = tt; accepted = refl; given = refl; in_range = tt; within = tt }
+  carries-nothing = record { joined = tt; accepted = refl; given = refl; within = tt }
 
   carries_not-unsent : ¬ Carries sizes 1 gave took [] (Accepts 4 (numbered 1) ∷ []) unseen
   carries_not-unsent c = let e : ◌≡◌ {A = List Frame} (numbered 1 ∷ []) [] = c.accepted in absurd cc

@@ -41,8 +41,8 @@ module _ {P : Type 0} (gave took : P → Option (List ℕ)) (counts : P → Coun
       → (cs : List (Stood P)) × PortWas (site_in old.node).ranges gave took
       (taken_from w (all_deeds ts)) (sent_to w (all_deeds ts)) cs
 
--- The two ends of a connection, of which the one gives a beginning of what the other took, are a
--- connection that carries the frames that were sent and taken at its ends.
+-- Two ends of a connection, of which one gives a beginning of what the other took, are a connection
+-- that carries the frames that were sent and taken at its ends.
 abbrev pub EndsAreConnections : {P : Type 0} → (P → Option (List ℕ)) → (P → Option (List ℕ)) → Type 0
 EndsAreConnections {P} gave took =
     (r : Ranges) (junk : List ℕ) (out into : Option (Stood P))
@@ -51,7 +51,7 @@ EndsAreConnections {P} gave took =
     → IsConnection r junk (sent_at out) (taken_at into)
 
 module _ {P : Type 0} (gave took : P → Option (List ℕ)) (counts : P → Counts) where
-  -- Nodes that run have connections, one after the other at each port; and where the pipes of these
+  -- Nodes that run have connections, one after the other at each port; and if the pipes of these
   -- connections are joined two by two, the nodes are processes over links of bytes,
   abbrev pub NodeRunsAreProcesses : Type 0
   NodeRunsAreProcesses =

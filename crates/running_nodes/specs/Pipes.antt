@@ -7,7 +7,7 @@ use Rattle.byte_lines.specs.Lines.{half_line}
 use Rattle.frame_codec.specs.Lines.{good_lines}
 use Rattle.socket_links.specs.Links.{unsent}
 use Rattle.processes.specs.Links.{Act, the_accepts, the_gives, AreInOrder}
-use Rattle.processes.specs.Connections.{accepted_frames, given_frames, IsWithin, AreInRange, Ended}
+use Rattle.processes.specs.Connections.{accepted_frames, given_frames, IsWithin, Ended}
 use Rattle.processes.specs.Connections.{history_over}
 use Rattle.running_nodes.specs.Stood.{Stood}
 
@@ -63,7 +63,7 @@ module _ {P : Type 0} where
     pub takes : TookSince took out taken
     pub beginning : given ++ ahead ≡ junk ++ taken
 
-  -- the same where there was no sender any more
+  -- the same if there was no sender any more
   pub record IsOnlyRead (gave : P → Option (List ℕ)) (junk : List ℕ) (into : Stood P) : Type 0 where
     pub given : List ℕ
     pub ahead : List ℕ
@@ -85,7 +85,6 @@ module _ {P : Type 0} where
     pub joined : AreEnds gave took junk ends.out ends.into
     pub accepted : accepted_frames acts ≡ sent_at ends.out
     pub given : given_frames acts ≡ taken_at ends.into
-    pub in_range : AreInRange r (accepted_frames acts)
     pub within : IsWithin capacity (length (good_lines r junk)) acts
 
   -- so it is with each connection of a link; junk stands on the first one alone

@@ -12,17 +12,17 @@ pub fn turns<P: Pipe>()
     ensures connections { TurnsGoByConnections P.gave P.took P.counts }
 {}
 
-/// The two ends of a connection: where the one pipe gives a beginning of what the other took, it
-/// carries the frames that were sent at the one end, in order, as far as they came.
+/// The two ends of a connection: if the pipe at one end gives a beginning of what the pipe at the
+/// other end took, it carries the frames that were sent there, in order, as far as they came.
 pub fn ends<P: Pipe>()
     ensures { EndsAreConnections P.gave P.took }
 {}
 
-/// The headline and the service of nodes that run, whole. What is asked: each node goes by turns of
-/// a `NodeRun`, and by `attend` between them; what its ports keep at first is what their pipes gave
-/// and have yet to write; and of the pipes that the premises of links of bytes hold: each gives a
-/// beginning of what the other end took, connections follow one another, and at most as many frames
-/// as the capacity are under way.
+/// The headline and the service of nodes that run, whole. What is asked of the nodes: each goes by
+/// turns of a `NodeRun`, and by `attend` between them; and what its ports keep at first is what their
+/// pipes gave and have yet to write. What is asked of the pipes: each gives, later, a beginning of
+/// what the other end took; connections follow one another; whole lines stand on a link at the
+/// start; and at most as many frames as the capacity are under way. Nothing else is asked.
 pub fn promise<P: Pipe>()
     ensures are { NodeRunsAreProcesses P.gave P.took P.counts }
     ensures keep { NodeRunsKeepPromise P.gave P.took P.counts }

@@ -3,7 +3,7 @@ use Rattle.lock_desk.specs.Desk.{after_leave, is_in, is_ticket}
 use Rattle.node_loop.specs.Clients.{is_connected}
 use Rattle.node_loop.specs.Deeds.{IsLeave, Leaves}
 use Rattle.node_loop.proofs.Became.{one, joins}
-use Rattle.node_loop.proofs.Leaving.{at-place, fewer-behind, looked-stay, lent-stays}
+use Rattle.node_loop.proofs.Leaving.{at-place, fewer-from, looked-stay, lent-stays}
 use Rattle.node_loop.proofs.service.leave_waiting.Goals as goal
 
 pub loop-place-smaller : goal.loop-place-smaller
@@ -13,7 +13,7 @@ loop-place-smaller g c =
     let within : k < length d.waiting = let w = c.waiting.ensures.waiting in let l = c.loop-place-test.true in omega arith in
     let t = slice_index d.waiting k in
     let state : c.leave.new.node.desk.state ≡ after_leave t d = subst (λ ts. c.leave.new.node.desk.state ≡ after_leave (slice_index ts k) d) c.tickets.ensures (ap (λ s. s.desk) c.leave.ensures.state) in
-    subst (λ e. length e.waiting - k < length d.waiting - k) (sym state) (fewer-behind t k d (at-place d.waiting k within) within)
+    subst (λ e. length e.waiting - k < length d.waiting - k) (sym state) (fewer-from t k d (at-place d.waiting k within) within)
 
 pub loop-place-preserved : goal.loop-place-preserved
 loop-place-preserved g c =
