@@ -15,7 +15,7 @@ use Rattle.world.specs.StateText.{state_text}
 use Rattle.thread_net.specs.ThreadRun.{IsThreadRun}
 use Rattle.thread_net.specs.declared.run.Woven.{Woven}
 use Rattle.thread_net.specs.declared.run.RunFault.TheVariants as run
-use Rattle.command_parts.specs.declared.fault.Fault.TheVariants.{Memory, Threads, Output, EventsUnwritable}
+use Rattle.command_parts.specs.declared.fault.Fault.TheVariants.{Memory, Threads, Output}
 use Rattle.live_commands.specs.Threads.{AllRan, IsStateWritten, IsUnwritten, refused}
 
 abbrev start : World
