@@ -16,5 +16,6 @@ mod WorldSteps
 mod RowsRewired
 mod RowsAnswers
 mod RowsSight
+mod RowsShown
 mod Serving
 mod Sights

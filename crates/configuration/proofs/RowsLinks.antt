@@ -1,13 +1,13 @@
 -- Links of two nodes and one spare pair: what is at which place, and what does not fit.
-use Rattle.std.proofs.Common.{◌≡◌, ℕ, ◌<◌, ◌+◌, slice_index_or, zero, suc, List, [], ◌∷◌, true, false, refl, ap, arith}
-use Rattle.topology.specs.Network.{Network}
+use Rattle.std.proofs.Common.{◌≡◌, ◌≢◌, ◌⊎◌, ℕ, ◌<◌, ◌+◌, if◌then◌else◌, slice_index_or, zero, suc, List, [], ◌∷◌, true, false, inl, inr, refl, ap, arith}
+use Rattle.topology.specs.Network.{are_joined}
 use Rattle.run_model.specs.link_model.Link.{LinkView, link}
 use Rattle.run_model.specs.link_model.declared.item.Item.{Item}
 use Rattle.run_model.specs.link_model.declared.item.Item.TheVariants.{Noise}
-use Rattle.run_model.proofs.RowsTwo.{two_nodes}
-use Rattle.configuration.specs.LinksView.{LinksView, link_between, under_way, spare_pairs}
+use Rattle.run_model.proofs.RowsTwo.{two_nodes, is-accepted}
+use Rattle.configuration.specs.LinksView.{IsLinks, LinksView, link_between, under_way, spare_pairs}
 use Rattle.configuration.specs.PairTable.{PairTableView, place_of, value_at}
-use Rattle.configuration.specs.Placed.{AreStocked, IsSpare, joined_too}
+use Rattle.configuration.specs.Placed.{ArePlaced, AreStocked, IsSpare, joined_too}
 
 -- for three nodes, the pairs of node 1 come after the three of node 0
 third-of_three : place_of 3 1 2 ≡ 5
@@ -69,6 +69,63 @@ stocked = record {
 
 not-stocked : AreStocked 1 2 (link 0 [] ∷ link 1 [] ∷ link 1 [] ∷ []) (1 ∷ []) → ⊥
 not-stocked s = let all : 1 ≡ 2 = s.all_spares in omega (arith, all)
+
+-- ---- all links of a network
+
+each-pair : (P : ℕ → ℕ → Type 0) → P 0 0 → P 0 1 → P 1 0 → P 1 1 → (u v : ℕ) → u < 2 → v < 2 → P u v
+each-pair P a b c d u v lu lv = each (λ u. P u v) (each (P 0) a b v lv) (each (P 1) c d v lv) u lu
+
+abbrev place : ℕ → ℕ → ℕ
+place u v = value_at table u v
+
+-- two pairs have one place only if they are one pair, or have no link
+abbrev AreApart : (u v i j : ℕ) → Type 0
+AreApart u v i j = place u v ≡ place i j → ((u ≡ i) × (v ≡ j)) ⊎ (place u v ≡ 0)
+
+abbrev AreApartFrom : (u v : ℕ) → Type 0
+AreApartFrom u v = (i j : ℕ) → i < 2 → j < 2 → AreApart u v i j
+
+apart-all : (u v : ℕ) → u < 2 → v < 2 → AreApartFrom u v
+apart-all = each-pair AreApartFrom
+    (each-pair (AreApart 0 0) (λ e. inr refl) (λ e. inr refl) (λ e. inr refl) (λ e. inr refl))
+    (each-pair (AreApart 0 1) (λ e. absurd (omega (arith, e))) (λ e. inl (refl, refl)) (λ e. absurd (omega (arith, e))) (λ e. absurd (omega (arith, e))))
+    (each-pair (AreApart 1 0) (λ e. absurd (omega (arith, e))) (λ e. absurd (omega (arith, e))) (λ e. inl (refl, refl)) (λ e. absurd (omega (arith, e))))
+    (each-pair (AreApart 1 1) (λ e. inr refl) (λ e. inr refl) (λ e. inr refl) (λ e. inr refl))
+
+abbrev capacity_at : ℕ → ℕ → ℕ
+capacity_at u v = (slice_index_or links.links (place u v) (link 0 [])).capacity
+
+placed : ArePlaced two_nodes (are_joined two_nodes.edges) table links.links (3 ∷ 4 ∷ [])
+placed = record {
+  table = refl;
+  inside = each-pair (λ u v. place u v < 5) (omega arith) (omega arith) (omega arith) (omega arith);
+  apart = λ u v i j lu lv li lj. apart-all u v lu lv i j li lj;
+  none = refl;
+  capacity = each-pair (λ u v. capacity_at u v ≡ (if are_joined two_nodes.edges u v then 1 else 0)) refl refl refl refl;
+  spare = each (λ k. IsSpare two_nodes links.links (slice_index_or (3 ∷ 4 ∷ []) k 0)) spare-there (record { there = omega arith; empty = refl });
+  free = λ k u v lk lu lv. each (λ k. place u v ≢ slice_index_or (3 ∷ 4 ∷ []) k 0)
+      (each-pair (λ u v. place u v ≢ 3) (λ e. omega (arith, e)) (λ e. omega (arith, e)) (λ e. omega (arith, e)) (λ e. omega (arith, e)) u v lu lv)
+      (each-pair (λ u v. place u v ≢ 4) (λ e. omega (arith, e)) (λ e. omega (arith, e)) (λ e. omega (arith, e)) (λ e. omega (arith, e)) u v lu lv) k lk;
+  distinct = each-pair (λ j k. slice_index_or (3 ∷ 4 ∷ []) j 0 ≡ slice_index_or (3 ∷ 4 ∷ []) k 0 → j ≡ k)
+      (λ e. refl) (λ e. absurd (omega (arith, e))) (λ e. absurd (omega (arith, e))) (λ e. refl);
+}
+
+-- a place that is a pair's is not spare
+not-placed : ArePlaced two_nodes (are_joined two_nodes.edges) table links.links (1 ∷ []) → ⊥
+not-placed p = not-spare (p.spare 0 (omega arith))
+
+all-links : IsLinks links
+all-links = record {
+  network = is-accepted;
+  placed = placed;
+  count = refl;
+  within = search arith;
+  fits = search arith;
+}
+
+-- the edges of a network have two links each
+not-links : IsLinks (record links { spares = [] }) → ⊥
+not-links l = let count : 5 ≡ 3 = l.count in omega (arith, count)
 
 -- ---- pairs that are joined
 

@@ -1,5 +1,5 @@
 pub mod Counting
-pub mod GuardRows
+pub mod RowsGuard
 pub mod Guarding
 pub mod Holding
 pub mod LineLemmas

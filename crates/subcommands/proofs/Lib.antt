@@ -4,4 +4,5 @@ pub mod FourParts
 pub mod Spaced
 pub mod Runs
 mod RowsTexts
+mod RowsFiles
 pub mod Listed

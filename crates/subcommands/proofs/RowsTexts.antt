@@ -18,7 +18,7 @@ use Rattle.subcommands.specs.Measured.{AreRunsOf, has_served, HaveServed, run_li
 use Rattle.subcommands.specs.PlanFault.{fault_of}
 use Rattle.subcommands.specs.Turns.{order_of}
 
-abbrev two_nodes : Network
+abbrev pub two_nodes : Network
 two_nodes = record { nodes = 2; root = 0; capacity = 1; lease = 0; edges = (0, 1) ∷ [] }
 
 zero-is : decimal 0 ≡ codes "0"
