@@ -8,7 +8,10 @@ use Rattle.std.proofs.lemmas.Bool.Decides.{nat_tests}
 use Rattle.std.proofs.lemmas.List.{append-nil, length-append}
 use Rattle.flight_records.specs.declared.entry.Entry.{Entry}
 use Rattle.flight_records.specs.declared.entry.Noted.{Noted}
-use Rattle.flight_records.specs.Laws.{AreInOrder, Follows, IsNoted, instant_after, RecordsGrow}
+use Rattle.std.specs.List.{AllByRecursion}
+use Rattle.flight_records.specs.Again.{no_frames, frames_after}
+use Rattle.flight_records.specs.Laws.{AreInOrder, AreRead, Follows, IsLong, IsNoted, instant_after, RecordsGrow, WrittenIsRead, ShortFormsStand, StandFor, frames_after_all, short_entry, short_entries}
+use Rattle.flight_records.specs.Frames.{FramesView}
 use Rattle.flight_records.specs.Spelling.{spelling, record_of}
 use Rattle.flight_recorder.specs.View.{RecorderView}
 use Rattle.flight_recorder.specs.Recorder.{is_start, is_at_start, is_passed_over, has_no_room, entry_noted, after_note, fills, after_write}
@@ -38,24 +41,45 @@ begins r file (e ∷ es) instant n h taken = h.start
 same : (r : RecorderView) (stopped : Bool) (file : List ℕ) (es : List Entry) → Holds r file es → Holds (record r { is_stopped = stopped }) file (es ++ [])
 same r stopped file es h =
     subst (λ (l : List Entry). Holds (record r { is_stopped = stopped }) file l) (sym (append-nil es))
-    (record { written = h.written; bytes = h.bytes; order = h.order; last = h.last; start = h.start })
+    (record { written = h.written; bytes = h.bytes; order = h.order; last = h.last; frames = h.frames; start = h.start })
 
-module _ (grow : RecordsGrow) where
+-- the last of entries in order may stand after those before it
+last-follows : (last : ℕ) (es : List Entry) (e : Entry) → AreInOrder last (es ++ e ∷ []) → Follows (instant_after last es) e
+last-follows last [] e order = order.0
+last-follows last (d ∷ es) e order = last-follows d.instant es e order.1
+
+module _ (grow : RecordsGrow) (again : WrittenIsRead) (short : ShortFormsStand) where
   one_more : (r : RecorderView) (file : List ℕ) (es : List Entry) (instant : ℕ) (n : Noted) → Holds r file es → instant < 2 ^ 64 → IsNoted n
       → is_passed_over n r ≡ false
-      → Holds (record r { page = r.page ++ spelling r.last (entry_noted instant n r); last = max instant r.last }) file (es ++ entry_noted instant n r ∷ [])
+      → Holds (record r {
+        page = r.page ++ spelling r.last (short_entry r.frames (entry_noted instant n r));
+        last = max instant r.last;
+        frames = frames_after r.frames n;
+      }) file (es ++ entry_noted instant n r ∷ [])
   one_more r file es instant n h wide is taken =
       let e = entry_noted instant n r in
+      let shorts = short_entries no_frames es in
       let last_wide : r.last < 2 ^ 64 = omega (arith, h.last, instant-wide 0 es (omega arith) h.order) in
       let most : max instant r.last ≤ 2 ^ 64 - 1 = max-le (omega (arith, wide)) (omega (arith, last_wide)) in
       let follows : Follows (instant_after 0 es) e = record { later = omega (arith, h.last, le-max_right instant r.last); wide = omega (arith, most); noted = is } in
       let g = grow 0 es e h.order follows in
+      let more = short.grow no_frames es e in
+      let first = short.order no_frames 0 es h.order in
+      let both = short.order no_frames 0 (es ++ e ∷ []) g.0 in
+      let short_order : AreInOrder 0 (shorts ++ short_entry (frames_after_all no_frames es) e ∷ []) =
+      subst (λ (l : List Entry). AreInOrder 0 l) more.0 both.0 in
+      let short_follows : Follows (instant_after 0 shorts) (short_entry (frames_after_all no_frames es) e) = last-follows 0 shorts (short_entry (frames_after_all no_frames es) e) short_order in
+      let s = grow 0 shorts (short_entry (frames_after_all no_frames es) e) first.0 short_follows in
+      let last_is : r.last ≡ instant_after 0 shorts = h.last ∙ sym first.1 in
       record {
         written = h.written;
-        bytes = sym (append_assoc file r.page (spelling r.last e)) ∙ ap (λ (l : List ℕ). l ++ spelling r.last e) h.bytes
-            ∙ ap (λ (k : ℕ). record_of 0 es ++ spelling k e) h.last ∙ sym g.2;
+        bytes = sym (append_assoc file r.page (spelling r.last (short_entry r.frames e))) ∙ ap (λ (l : List ℕ). l ++ spelling r.last (short_entry r.frames e)) h.bytes
+            ∙ ap (λ (k : ℕ). record_of 0 shorts ++ spelling k (short_entry r.frames e)) last_is
+            ∙ ap (λ (v : FramesView). record_of 0 shorts ++ spelling (instant_after 0 shorts) (short_entry v e)) h.frames
+            ∙ sym s.2 ∙ ap (record_of 0) (sym more.0);
         order = g.0;
         last = sym g.1;
+        frames = ap (λ (v : FramesView). frames_after v n) h.frames ∙ sym more.1;
         start = begins r file es instant n h taken;
       }
 
@@ -71,6 +95,14 @@ module _ (grow : RecordsGrow) where
             ]
       ]
 
+  read : (r : RecorderView) (file : List ℕ) (es : List Entry) → Holds r file es → AllByRecursion (λ e. IsLong e.noted) es
+      → AreRead 0 (file ++ r.page) (short_entries no_frames es) [] × StandFor no_frames (short_entries no_frames es) es
+  read r file es h long =
+      let shorts = short_entries no_frames es in
+      let bytes : record_of 0 shorts ++ [] ≡ file ++ r.page = append-nil (record_of 0 shorts) ∙ sym h.bytes in
+      let first = short.order no_frames 0 es h.order in
+      (subst (λ (l : List ℕ). AreRead 0 l shorts []) bytes (again 0 shorts [] first.0), short.stand no_frames es long)
+
   pub are_records : FilesAreRecords
   are_records = record {
     noted = noted;
@@ -80,7 +112,9 @@ module _ (grow : RecordsGrow) where
           bytes = append-nil (file ++ r.page) ∙ h.bytes;
           order = h.order;
           last = h.last;
+          frames = h.frames;
           start = h.start;
         });
-    turns = λ r full. rw full (record { written = refl; bytes = refl; order = tt; last = refl; start = tt });
+    turns = λ r full. rw full (record { written = refl; bytes = refl; order = tt; last = refl; frames = refl; start = tt });
+    read = read;
   }

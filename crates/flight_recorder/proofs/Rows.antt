@@ -6,6 +6,7 @@ use Rattle.flight_records.specs.declared.entry.Noted.{Noted}
 use Rattle.flight_records.specs.declared.entry.Noted.TheVariants as noted
 use Rattle.flight_records.specs.declared.entry.StatePart.TheVariants.{Start, Whole}
 use Rattle.flight_records.specs.declared.entry.Deed.TheVariants.{Ticks}
+use Rattle.flight_records.specs.Again.{no_frames}
 use Rattle.flight_recorder.specs.View.{RecorderView}
 use Rattle.flight_recorder.specs.Recorder.{at_start, is_at_start, after_note, after_write, after_failure, is_due, fills}
 use Rattle.flight_recorder.specs.Laws.{BeginsWithStart, Holds}
@@ -35,7 +36,7 @@ not-due = refl
 -- a file of 65536 bytes of which 32766 are written has room for a page more after one of 2 bytes, and
 -- none after one of 3
 abbrev late : List ℕ → RecorderView
-late page = record { page = page; size = 65536; written = 32766; last = 7; side = First; is_stopped = false }
+late page = record { page = page; size = 65536; written = 32766; last = 7; frames = no_frames; side = First; is_stopped = false }
 
 goes-on : fills (late (1 ∷ 2 ∷ [])) ≡ false
 goes-on = refl

@@ -1,4 +1,5 @@
 pub use Rattle.flight_records.specs as flight_records
 pub mod View
 pub mod Recorder
+pub mod Names
 pub mod Laws

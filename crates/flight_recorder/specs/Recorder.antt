@@ -7,6 +7,8 @@ use Rattle.flight_records.specs.declared.entry.Noted.TheVariants as noted
 use Rattle.flight_records.specs.declared.entry.StatePart.{StatePart}
 use Rattle.flight_records.specs.declared.entry.StatePart.TheVariants.{Start, Own, Port, Waits, Loan, Whole}
 use Rattle.flight_records.specs.Spelling.{spelling}
+use Rattle.flight_records.specs.Again.{no_frames, frames_after}
+use Rattle.flight_records.specs.Laws.{short_entry}
 use Rattle.flight_recorder.specs.View.{RecorderView}
 use Rattle.flight_recorder.specs.declared.recorder.Side.{Side}
 use Rattle.flight_recorder.specs.declared.recorder.Side.TheVariants.{First, Second}
@@ -19,7 +21,15 @@ other Second = First
 -- a recorder at the start of a file
 abbrev pub at_start : ℕ → Side → RecorderView
 at_start size side =
-    record { page = []; size = size; written = 0; last = 0; side = side; is_stopped = false }
+    record {
+      page = [];
+      size = size;
+      written = 0;
+      last = 0;
+      frames = no_frames;
+      side = side;
+      is_stopped = false;
+    }
 
 -- nothing is noted yet of what belongs into the present file
 abbrev pub is_at_start : RecorderView → Bool
@@ -50,12 +60,16 @@ has_no_room r = nat_lt 32768 (length r.page + 121)
 abbrev pub entry_noted : ℕ → Noted → RecorderView → Entry
 entry_noted instant n r = record { instant = max instant r.last; noted = n }
 
--- something is noted
+-- something is noted, in its short form if it is the last frame of its link once more
 abbrev pub after_note : ℕ → Noted → RecorderView → RecorderView
 after_note instant n r =
     if is_passed_over n r then r
     else if has_no_room r then record r { is_stopped = true }
-    else record r { page = r.page ++ spelling r.last (entry_noted instant n r); last = max instant r.last }
+    else record r {
+      page = r.page ++ spelling r.last (short_entry r.frames (entry_noted instant n r));
+      last = max instant r.last;
+      frames = frames_after r.frames n;
+    }
 
 -- the page must be written
 abbrev pub is_due : RecorderView → Bool
@@ -68,7 +82,7 @@ fills r = nat_lt r.size (r.written + length r.page + 32768)
 -- the page was written
 abbrev pub after_write : RecorderView → RecorderView
 after_write r =
-    if fills r then record r { page = []; written = 0; last = 0; side = other r.side }
+    if fills r then record r { page = []; written = 0; last = 0; frames = no_frames; side = other r.side }
     else record r { page = []; written = r.written + length r.page }
 
 -- it was not: the record stops, and nothing else

@@ -24,7 +24,9 @@
 #![tactic(auto)]
 
 pub mod laws;
+mod name;
 mod recorder;
 
 pub use flight_records;
+pub use name::record_name;
 pub use recorder::{LEAST_SIZE, ROOM, Recorder, Side};

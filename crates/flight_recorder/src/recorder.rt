@@ -2,9 +2,8 @@
 ghost use Rattle.std.specs.Prelude.{◌≡◌, ◌≤◌, ◌+◌, IfOk, length};
 ghost use Rattle.flight_recorder.specs.Recorder.{at_start, after_note, after_write, fills};
 ghost use Rattle.flight_recorder.specs.Recorder.{after_failure, is_due, is_start, is_at_start, other};
-ghost use Rattle.flight_recorder.specs.declared.recorder.Side.TheVariants.{First};
 
-use flight_records::{Entry, Noted, StatePart, write_entry};
+use flight_records::{Entry, LastFrames, Noted, StatePart, write_entry};
 use std::alloc::{AllocError, Allocator, Global};
 use std::marker::Model;
 
@@ -51,6 +50,8 @@ pub struct Recorder<A: Allocator = Global> {
     written: u64,
     /// The instant of the entry that was noted last; 0 at the start of a file.
     last: u64,
+    /// The frames that were noted last in the present file.
+    frames: LastFrames,
     side: Side,
     is_stopped: bool,
 }
@@ -66,6 +67,7 @@ impl<A: Allocator> Model for Recorder<A> {
       size = r.size;
       written = r.written;
       last = r.last;
+      frames = r.frames;
       side = r.side;
       is_stopped = r.is_stopped;
     } };
@@ -75,25 +77,27 @@ impl<A: Allocator> Model for Recorder<A> {
 }
 
 impl<A: Allocator> Recorder<A> {
-    /// A recorder at the start of the first of two files, of at most `size` bytes each. All memory
-    /// is reserved here; `AllocError` comes only where that is refused.
-    pub fn new(alloc: A, size: u64) -> Result<Recorder<A>, AllocError>
+    /// A recorder at the start of one of two files, of at most `size` bytes each. All memory is
+    /// reserved here; `AllocError` comes only where that is refused.
+    pub fn new(alloc: A, size: u64, side: Side) -> Result<Recorder<A>, AllocError>
         requires { 65536 ≤ size }
-        ensures { IfOk result (λ r. r ≡ at_start size First) }
+        ensures { IfOk result (λ r. r ≡ at_start size side) }
     {
         Ok(Recorder {
             page: Vec::with_capacity(alloc, ROOM)?,
             size,
             written: 0,
             last: 0,
-            side: Side::First,
+            frames: LastFrames::new(),
+            side,
             is_stopped: false,
         })
     }
 
-    /// Notes something of this instant, or of the one noted last if that is later. At the start of
-    /// a file only the start of a state is noted; once the record has stopped, nothing is; and where
-    /// the page has no room for one more entry, the record stops.
+    /// Notes something of this instant, or of the one noted last if that is later; a frame that was
+    /// the last one of its link, in its short form. At the start of a file only the start of a state
+    /// is noted; once the record has stopped, nothing is; and where the page has no room for one more
+    /// entry, the record stops.
     pub fn note(&mut self, instant: u64, noted: Noted)
         ensures { self.new ≡ after_note instant noted self.old }
     {
@@ -106,7 +110,7 @@ impl<A: Allocator> Recorder<A> {
         }
         let entry = Entry {
             instant: instant.max(self.last),
-            noted,
+            noted: self.frames.shorten(&noted),
         };
         write_entry(self.last, &entry, &mut self.page);
         self.last = entry.instant;
@@ -156,6 +160,7 @@ impl<A: Allocator> Recorder<A> {
         }
         self.written = 0;
         self.last = 0;
+        self.frames = LastFrames::new();
         self.side = self.side.other();
         true
     }

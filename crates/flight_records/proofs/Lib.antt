@@ -1,4 +1,6 @@
 mod NotedAgain
 mod Entries
 mod Loop
+mod ShortForms
 mod Rows
+mod RowsAgain

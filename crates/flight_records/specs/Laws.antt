@@ -1,5 +1,6 @@
 -- The laws of records.
-use Rattle.std.specs.Prelude.{◌≡◌, ℕ, ◌^◌, ◌<◌, ◌≤◌, List, [], ◌∷◌, ◌++◌, IfSome, Ok, Err}
+use Rattle.std.specs.Prelude.{◌≡◌, ℕ, ◌^◌, ◌<◌, ◌≤◌, List, [], ◌∷◌, ◌++◌, IfSome, Some, Ok, Err}
+use Rattle.std.specs.List.{AllByRecursion}
 use Rattle.topology.specs.declared.frame.Frame.{Frame}
 use Rattle.topology.specs.declared.frame.Payload.{Payload}
 use Rattle.leb128.specs.declared.unread.Unread.TheVariants.{Short}
@@ -15,6 +16,8 @@ use Rattle.flight_records.specs.declared.entry.Deed.TheVariants.{SendsAgain, Ask
 use Rattle.flight_records.specs.declared.entry.Deed.TheVariants.{Parts, Connects, Disconnects}
 use Rattle.flight_records.specs.Spelling.{spelling, record_of}
 use Rattle.flight_records.specs.Reading.{entry_at}
+use Rattle.flight_records.specs.Frames.{FramesView}
+use Rattle.flight_records.specs.Again.{frames_after, shortened, lengthened}
 
 -- a number of sixteen bits
 abbrev pub IsNarrow : ℕ → Type 0
@@ -126,3 +129,56 @@ RecordsGrow =
     → AreInOrder last (es ++ e ∷ [])
     × (instant_after last (es ++ e ∷ []) ≡ e.instant)
     × (record_of last (es ++ e ∷ []) ≡ record_of last es ++ spelling (instant_after last es) e)
+
+-- what is noted names its frame, if it has one
+abbrev pub IsLongDeed : Deed → Type 0
+IsLongDeed Ticks = Unit {0}
+IsLongDeed (Takes from frame) = Unit {0}
+IsLongDeed (TakesAgain from) = ⊥
+IsLongDeed (Sends to frame) = Unit {0}
+IsLongDeed (SendsAgain to) = ⊥
+IsLongDeed (Asks ticket) = Unit {0}
+IsLongDeed (Leaves ticket) = Unit {0}
+IsLongDeed (Joins neighbour) = Unit {0}
+IsLongDeed (Parts neighbour) = Unit {0}
+IsLongDeed (Connects neighbour) = Unit {0}
+IsLongDeed (Disconnects neighbour) = Unit {0}
+
+abbrev pub IsLong : Noted → Type 0
+IsLong (noted.State part) = Unit {0}
+IsLong (noted.Deed deed) = IsLongDeed deed
+
+-- what is remembered after entries
+abbrev pub frames_after_all : FramesView → List Entry → FramesView
+frames_after_all v [] = v
+frames_after_all v (e ∷ es) = frames_after_all (frames_after v e.noted) es
+
+-- an entry as it stands in a record, and entries, of which each frame that was the last one of its
+-- link is in the short form
+abbrev pub short_entry : FramesView → Entry → Entry
+short_entry v e = record { instant = e.instant; noted = shortened v e.noted }
+
+abbrev pub short_entries : FramesView → List Entry → List Entry
+short_entries v [] = []
+short_entries v (e ∷ es) = short_entry v e ∷ short_entries (frames_after v e.noted) es
+
+-- who reads the first entries, one after the other, finds that they stood for the second ones
+abbrev pub StandFor : FramesView → List Entry → List Entry → Type 0
+StandFor v [] [] = Unit {0}
+StandFor v [] (e ∷ es) = ⊥
+StandFor v (s ∷ ss) [] = ⊥
+StandFor v (s ∷ ss) (e ∷ es) =
+    (lengthened v s.noted ≡ Some e.noted) × (s.instant ≡ e.instant) × StandFor (frames_after v e.noted) ss es
+
+-- Entries in their short forms stand for those very entries, may stand one after the other if those
+-- may, and grow entry by entry.
+pub record ShortFormsStand : Type 0 where
+  pub stand : (v : FramesView) (es : List Entry) → AllByRecursion (λ e. IsLong e.noted) es
+      → StandFor v (short_entries v es) es
+  pub order : (v : FramesView) (last : ℕ) (es : List Entry) → AreInOrder last es
+      → AreInOrder last (short_entries v es)
+      × (instant_after last (short_entries v es) ≡ instant_after last es)
+  pub grow : (v : FramesView) (es : List Entry) (e : Entry)
+      → (short_entries v (es ++ e ∷ [])
+      ≡ short_entries v es ++ short_entry (frames_after_all v es) e ∷ [])
+      × (frames_after_all v (es ++ e ∷ []) ≡ frames_after (frames_after_all v es) e.noted)

@@ -1,6 +1,6 @@
 //! What holds of records: each law is the contract of a function that does nothing.
 ghost use Rattle.flight_records.specs.Laws.{WrittenIsRead, CutIsRead, WhatIsReadIsWritten};
-ghost use Rattle.flight_records.specs.Laws.{RecordsGrow};
+ghost use Rattle.flight_records.specs.Laws.{RecordsGrow, ShortFormsStand};
 
 /// Every list of entries, each no earlier than the one before, is read again as it was written,
 /// whatever follows; at whatever place the bytes are cut, the whole entries in front of the cut
@@ -18,4 +18,10 @@ pub fn one_reading()
 /// record of one more. Whoever writes entry by entry keeps a record by this.
 pub fn records_grow()
     ensures { RecordsGrow }
+{}
+
+/// Entries in their short forms stand for those very entries. Whoever notes a frame that came again as
+/// the last one of its link, and reads the record, stands on it.
+pub fn short_forms_stand()
+    ensures { ShortFormsStand }
 {}

@@ -22,12 +22,14 @@
 //! length, and of other damage all but one in 256.
 #![tactic(auto)]
 
+mod again;
 mod entry;
 mod fields;
 pub mod laws;
 mod reading;
 mod writing;
 
+pub use again::LastFrames;
 pub use entry::{Deed, Entry, Noted, StatePart};
 pub use leb128::Unread;
 pub use reading::EntryReader;

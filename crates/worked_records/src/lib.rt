@@ -1,10 +1,12 @@
-//! Worked rows of records: entries as bytes, cut at every place, and with bytes changed; and the
-//! order of the steps of many nodes. Every expected value was computed by hand.
+//! Worked rows of records: entries as bytes, cut at every place, and with bytes changed; frames that
+//! are noted again; and the order of the steps of many nodes. Every expected value was computed by hand.
 //!
 //! It has only tests, of `flight_records` and of `record_order`. They have a crate of their own,
 //! since the tests of a crate prove all of that crate once more.
 #![tactic(auto)]
 
+#[cfg(test)]
+mod again_rows;
 #[cfg(test)]
 mod entry_rows;
 #[cfg(test)]
