@@ -15,9 +15,9 @@
 //! The trap: the search finds what it finds. That it finds no later run says nothing.
 #![tactic(auto)]
 
-mod climb;
+mod climbing;
 mod play;
 mod trial;
 
-pub use climb::{Search, SlowRun, climb};
+pub use climbing::{Search, SlowRun, climb};
 pub use experiments::Delay;

@@ -30,7 +30,7 @@ impl Trial {
         let mut harms = Vec::new(alloc);
         scramble_world(net, generator, &mut harms)?;
         let mut orders = Vec::new(alloc);
-        for _ in 0..passes {
+        for pass in 0..passes {
             orders.push(generator.next_u32())?;
         }
         Ok(Trial { harms, orders })
