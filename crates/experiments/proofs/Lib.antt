@@ -3,6 +3,7 @@ pub mod Bounded
 pub mod Harmless
 pub mod Harms
 pub mod Plans
+pub mod Replays
 pub mod Steps
 pub mod Stretches
 pub mod Watching

@@ -1,4 +1,5 @@
 pub use Rattle.schedules.specs as schedules
+pub mod Delays
 pub mod Laws
 pub mod Plan
 pub mod Recovery

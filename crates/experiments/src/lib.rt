@@ -14,6 +14,7 @@
 //! would else wait for ever.
 #![tactic(auto)]
 
+mod delay;
 mod giving_back;
 pub mod laws;
 mod measured_run;
@@ -21,6 +22,7 @@ mod plan;
 mod summary;
 mod watch;
 
+pub use delay::{Delay, replay};
 pub use measured_run::{Recovery, Scheduler, measure_run};
 pub use plan::{Order, PlanFault, give_plan};
 pub use schedules;

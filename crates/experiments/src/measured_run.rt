@@ -103,7 +103,7 @@ fn scrambled_world<A: Allocator + Copy>(
 }
 
 /// Lets harms happen; none is refused if no client waits.
-fn happen<A: Allocator + Copy>(world: &mut World<A>, harms: &[Event])
+pub(crate) fn happen<A: Allocator + Copy>(world: &mut World<A>, harms: &[Event])
     ensures { world_of world.new ≡ run (world_of world.old) harms.now }
 {
     for harm in harms {

@@ -5,6 +5,7 @@ pub mod PlanFault
 pub mod Measured
 pub mod Named
 pub mod Turns
+pub mod Worst
 pub mod BoundData
 pub mod MeasuredData
 pub use Rattle.command_parts.specs as command_parts

@@ -33,6 +33,7 @@ pub mod network;
 pub mod schedule;
 pub mod scramble;
 pub mod simulate;
+pub mod worst;
 
 pub use command_parts::{Fault, PathFault};
 pub use experiments::Scheduler;

@@ -1,0 +1,20 @@
+-- A list without harms is without damage, in whatever world it happens.
+use Rattle.std.proofs.Common.{◌≡◌, Bool, true, false, List, [], ◌∷◌, arith, refl}
+use Rattle.std.specs.Prelude.{◌||◌}
+use Rattle.std.specs.List.{list_any}
+use Rattle.run_model.specs.World.{World}
+use Rattle.run_model.specs.Step.{step}
+use Rattle.run_model.specs.Run.{IsUndamaged}
+use Rattle.run_model.specs.declared.event.Event.{Event}
+use Rattle.run_model.specs.declared.event.Event.TheVariants.{Send, Take, Lose, Tick, Ask, Leave, Damage}
+use Rattle.experiments.specs.Delays.{is_harm}
+
+pub harmless-list : (w : World) (es : List Event) → list_any is_harm es ≡ false → IsUndamaged w es
+harmless-list w [] none = refl
+harmless-list w (Send u v ∷ es) none = harmless-list (step w (Send u v)) es none
+harmless-list w (Take u v ∷ es) none = harmless-list (step w (Take u v)) es none
+harmless-list w (Lose u v i ∷ es) none = harmless-list (step w (Lose u v i)) es none
+harmless-list w (Tick v ∷ es) none = harmless-list (step w (Tick v)) es none
+harmless-list w (Ask v t ∷ es) none = harmless-list (step w (Ask v t)) es none
+harmless-list w (Leave v t ∷ es) none = harmless-list (step w (Leave v t)) es none
+harmless-list w (Damage h ∷ es) none = absurd (grind (arith, none))

@@ -1,0 +1,75 @@
+//! A run that is given event by event.
+ghost use Rattle.std.specs.Prelude.{◌≡◌, IfOk};
+ghost use Rattle.std.specs.List.{list_any};
+ghost use Rattle.experiments.specs.Delays.{is_harm, IsReplayed};
+ghost use Rattle.experiments.specs.Watched.{GoesOn};
+
+use crate::measured_run::happen;
+use crate::watch::Watch;
+use judge::World;
+use run_model::Event;
+use schedules::EventSink;
+use std::alloc::{AllocError, Allocator};
+use topology::Net;
+
+/// How late a run serves.
+#[derive(Clone, Copy, Debug, PartialEq, Eq)]
+pub struct Delay {
+    /// After how many sweeps the network served at each moment of the run: if that is more than 0,
+    /// it did not serve at some moment after one sweep less.
+    pub sweeps: u64,
+    /// How many sweeps there were.
+    pub seen: u64,
+}
+
+/// Whether some of these events is a harm, accepted or refused.
+fn has_harm(events: &[Event]) -> bool
+    ensures { result ≡ list_any is_harm events.now }
+{
+    events
+        .iter()
+        .any(|event| matches!(event, Event::Damage(_)))
+}
+
+/// Lets harms happen in the default world of a network, and then judges a list of events. There is
+/// no answer if one of those is a harm itself.
+///
+/// # Errors
+/// `AllocError` if the memory of the world is refused.
+pub fn replay<A: Allocator + Copy, N: Allocator + Copy>(
+    alloc: A,
+    net: &Net<N>,
+    harms: &[Event],
+    events: &[Event],
+) -> Result<Option<Delay>, AllocError>
+    ensures { IfOk result (IsReplayed net.now harms.now events.now) }
+{
+    run_model::laws::runs();
+    run_model::laws::start();
+    run_model::laws::moments();
+    run_model::laws::sweep_numbers();
+    convergence::laws::sharp();
+    let _known_nodes = net.nodes();
+    if has_harm(events) {
+        return Ok(None);
+    }
+    let mut start = World::new(alloc, net)?;
+    happen(&mut start, harms);
+    let mut watch = Watch::new(start);
+    watch_all(events, &mut watch);
+    Ok(Some(Delay {
+        sweeps: watch.served_behind(),
+        seen: watch.sweeps(),
+    }))
+}
+
+/// Gives the watch all events.
+fn watch_all<A: Allocator + Copy>(events: &[Event], watch: &mut Watch<A>)
+    ensures { GoesOn watch.old.judge watch.old.last events.now watch.new.judge watch.new.last }
+{
+    schedules::laws::taking::<Watch<A>>();
+    for event in events {
+        // A watch never fails.
+        let _taken = watch.take(event);
+    }
+}

@@ -1,0 +1,6 @@
+use Rattle.slow_runs.specs.Moves.{AreMoves}
+use Rattle.slow_runs.proofs.play.Playing.give_back.Given as goal
+
+-- no harm has happened so far
+abbrev pub invariant-loop-node : goal.invariant-loop-node
+invariant-loop-node l = AreMoves l.self.events.items

@@ -1,0 +1,84 @@
+//! Hill climbing.
+ghost use Rattle.std.specs.Prelude.{◌≡◌, IfOk, Some};
+ghost use Rattle.experiments.specs.Delays.{IsReplayed};
+ghost use Rattle.slow_runs.specs.Moves.{AreMoves};
+
+use crate::play::{Playing, moves_of, play};
+use crate::trial::Trial;
+use experiments::{Delay, replay};
+use rand::SeedableRng;
+use rand_pcg::Lcg64Xsh32;
+use run_model::Event;
+use std::alloc::{AllocError, Global};
+use std::mem;
+use topology::Net;
+
+/// How a search goes.
+#[derive(Clone, Copy, Debug, PartialEq, Eq)]
+pub struct Search {
+    /// What all of it is drawn from.
+    pub seed: u64,
+    /// How many changes it tries.
+    pub steps: u32,
+}
+
+/// A run that serves late.
+#[derive(Drop)]
+pub struct SlowRun {
+    /// What happens in the default world first.
+    pub harms: Vec<Event>,
+    /// What happens then.
+    pub events: Vec<Event>,
+    /// How late that serves.
+    pub delay: Delay,
+}
+
+/// For each sweep of the sharper bound, how many passes a trial has at most.
+const PASSES_A_SWEEP: usize = 3;
+
+/// Looks for a run that serves late: from a trial that is drawn, by one change after the other, of
+/// which each stays that serves no earlier.
+///
+/// # Errors
+/// `AllocError` if memory is refused.
+pub fn climb(alloc: Global, net: &Net, search: Search) -> Result<SlowRun, AllocError>
+    // The list that it answers serves as late as it says.
+    ensures { IfOk result (λ run. IsReplayed net.now run.harms.items run.events.items
+        (Some run.delay)) }
+{
+    let mut moves = moves_of(alloc, net)?;
+    let (harms, events) = climbed(alloc, net, search, moves.as_mut_slice())?;
+    let delay = replay(alloc, net, harms.as_slice(), events.as_slice())?;
+    Ok(SlowRun {
+        delay: delay.unwrap(),
+        harms,
+        events,
+    })
+}
+
+/// The harms and the events of the last trial that stayed.
+fn climbed(
+    alloc: Global,
+    net: &Net,
+    search: Search,
+    moves: &mut [Event],
+) -> Result<(Vec<Event>, Vec<Event>), AllocError>
+    requires { AreMoves moves.old }
+    ensures { IfOk result (λ found. AreMoves found.1.items) }
+{
+    let mut generator = Lcg64Xsh32::seed_from_u64(search.seed);
+    let passes = PASSES_A_SWEEP * net.sharp_bound() as usize;
+    let mut trial = Trial::drawn(alloc, net, passes, &mut generator)?;
+    let mut next = Trial::drawn(alloc, net, passes, &mut generator)?;
+    let mut best = play(alloc, net, &trial, moves)?;
+    for _ in 0..search.steps {
+        next.become_like(&trial)?;
+        next.change(net, best.passes, &mut generator);
+        let played = play(alloc, net, &next, moves)?;
+        if played.score() >= best.score() {
+            mem::swap(&mut trial, &mut next);
+            best = played;
+        }
+    }
+    Ok((trial.harms, best.events))
+}
