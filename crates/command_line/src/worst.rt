@@ -49,11 +49,11 @@ pub fn add_to<'a>(parser: Command<'a>, alloc: Global) -> Result<Command<'a>, All
 
 /// What follows the options in its help.
 const HELP: &str = "\
-How bad can it get? A search begins with a world that its seed scrambles. In each
-pass all nodes tick and all links carry items, in an order that is drawn. Then
-the search changes a harm, or a few, or the order of a pass, again and again, and
-keeps each change after which the network does not serve earlier. The latest run
-of all searches is judged once more from its start:
+How bad can it get? A search begins with a world that its seed scrambles. In
+each pass all nodes tick and all links carry items, in an order that is drawn.
+Then the search changes a harm, or a few, or the order of a pass, again and
+again, and keeps each change after which the network does not serve earlier. The
+latest run of all searches is judged once more from its start:
 
   $ tokentree worst two-nodes.toml --events late.txt
   searches 16
@@ -63,9 +63,9 @@ of all searches is judged once more from its start:
   sweeps-bound 69
 
 After one sweep less than the line 'sweeps' says, that run did not serve yet, so
-no bound below this number is true. 'sharp' and 'sweeps-bound' are those that are
-proved. 'simulate' and 'draw' take the file of --events. After each pass, whoever
-has the lock gives it back.
+no bound below this number is true. 'sharp' and 'sweeps-bound' are proved ones.
+'simulate' and 'draw' take the file of --events. After each pass, whoever has
+the lock gives it back.
 
 The same words find the same run, on any machine. More searches, or more steps,
 may find a later one; if they find none, that says nothing.

@@ -179,10 +179,7 @@ fn save_run<R: Files + AllocGlobal>(rt: &R, path: &str, run: &SlowRun) -> Result
 ///
 /// # Errors
 /// If the writer fails.
-pub fn write_run<W: Write + Drop>(
-    run: &SlowRun,
-    text: &mut EventText<W>,
-) -> Result<(), Failed>
+pub fn write_run<W: Write + Drop>(run: &SlowRun, text: &mut EventText<W>) -> Result<(), Failed>
     // If the writer says what its bytes are, they are the text.
     ensures text { OnOk result (GrowsByText (writer_contents W.contents text.old.writer)
         (run.now.harms.items ++ run.now.events.items)
