@@ -4,4 +4,5 @@ pub mod Named
 pub mod Turns
 pub mod Plan
 pub mod Wanted
+pub mod Worst
 pub mod Interval

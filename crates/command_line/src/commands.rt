@@ -7,7 +7,7 @@ use crate::program::{Runtime, TOKENTREE};
 use crate::refusal::{Refusal, status};
 use crate::{
     bound, cut, draw, junk, lock, measure, network, node, schedule, scramble, simulate, stop,
-    threads, up,
+    threads, up, worst,
 };
 use clap::{ArgMatches, Command};
 use command_grammar::parser;
@@ -126,6 +126,7 @@ fn with_experiments<'a>(parser: Command<'a>, alloc: Global) -> Result<Command<'a
     let parser = network::add_to(parser, alloc)?;
     let parser = schedule::add_to(parser, alloc)?;
     let parser = measure::add_to(parser, alloc)?;
+    let parser = worst::add_to(parser, alloc)?;
     let parser = draw::add_to(parser, alloc)?;
     threads::add_to(parser, alloc)
 }
@@ -164,6 +165,7 @@ fn act<R: Runtime>(
     match name {
         "lock" => lock::run(rt, given, is_dashed),
         "measure" => measure::run(rt, given, on_terminal),
+        "worst" => worst::run(rt, given, on_terminal),
         "threads" => threads::run(rt, given, on_terminal),
         "draw" => draw::run(rt, given, on_terminal),
         _ => act_plainly(rt, name, given),

@@ -33,6 +33,7 @@ mod status;
 mod stop;
 mod threads;
 mod up;
+mod worst;
 
 pub use commands::run_words;
 pub use program::Runtime;

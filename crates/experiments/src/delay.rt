@@ -26,9 +26,7 @@ pub struct Delay {
 fn has_harm(events: &[Event]) -> bool
     ensures { result ≡ list_any is_harm events.now }
 {
-    events
-        .iter()
-        .any(|event| matches!(event, Event::Damage(_)))
+    events.iter().any(|event| matches!(event, Event::Damage(_)))
 }
 
 /// Lets harms happen in the default world of a network, and then judges a list of events. There is

@@ -134,7 +134,9 @@ fn redrawn(ranges: Ranges, harm: Harm, generator: &mut Lcg64Xsh32) -> Harm {
             parent: drawn_parent(ranges, generator),
         },
         Harm::Counters {
-            node, neighbour, ..
+            node,
+            neighbour,
+            ..
         } => Harm::Counters {
             node,
             neighbour,
@@ -142,21 +144,27 @@ fn redrawn(ranges: Ranges, harm: Harm, generator: &mut Lcg64Xsh32) -> Harm {
             last: generator.random_range(0..=ranges.counter.saturating_sub(1)),
         },
         Harm::Staged {
-            node, neighbour, ..
+            node,
+            neighbour,
+            ..
         } => Harm::Staged {
             node,
             neighbour,
             payload: drawn_payload(ranges, generator),
         },
         Harm::Copy {
-            node, neighbour, ..
+            node,
+            neighbour,
+            ..
         } => Harm::Copy {
             node,
             neighbour,
             payload: drawn_payload(ranges, generator),
         },
         Harm::Value {
-            node, neighbour, ..
+            node,
+            neighbour,
+            ..
         } => Harm::Value {
             node,
             neighbour,

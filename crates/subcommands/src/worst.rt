@@ -9,7 +9,7 @@ ghost use Rattle.subcommands.specs.Worst.{worst_text, IsJudged};
 
 use crate::bound::{done, push_number};
 use byte_streams::Failed;
-use command_parts::{EventText, Fault, PathFault, Progress, read_network};
+use command_parts::{EventText, Fault, Progress, read_network};
 use experiments::schedules::{self, EventSink};
 use rayon::prelude::*;
 use run_model::Event;
@@ -52,25 +52,21 @@ pub struct Found {
 /// # Errors
 /// If no network is read of the file, memory runs out, the file of events cannot be written, or
 /// standard output does not take the text: the first of these that is met.
-pub fn run<'a, R: Files + Print + Eprint + Clock + AllocGlobal + Threads + Sync>(
+pub fn run<R: Files + Print + Eprint + Clock + AllocGlobal + Threads + Sync>(
     rt: &R,
     network: &str,
     plan: Plan,
-    events: Option<&'a str>,
-) -> Result<ExitCode, PathFault<'a>>
+    events: Option<&str>,
+) -> Result<ExitCode, Fault>
     ensures { IfOk result (λ status. exit_status status ≡ 0) }
 {
     let net = read_network(rt, network)?;
-    let Ok(found) = latest(rt, rt.alloc(), &net, plan) else {
-        return Err(PathFault::Fault(Fault::Memory));
-    };
-    let Ok(text) = worst_text(rt.alloc(), &net, plan.searches, &found) else {
-        return Err(PathFault::Fault(Fault::Memory));
-    };
+    let found = latest(rt, rt.alloc(), &net, plan).map_err(|_| Fault::Memory)?;
+    let text = worst_text(rt.alloc(), &net, plan.searches, &found).map_err(|_| Fault::Memory)?;
     if let Some(path) = events {
-        save(rt, path, &found.run)?;
+        save_run(rt, path, &found.run)?;
     }
-    Ok(done(rt.print(text.as_str()))?)
+    done(rt.print(text.as_str()))
 }
 
 /// The latest run of all searches, the first of the like.
@@ -172,32 +168,18 @@ fn push_count(text: &mut String, word: &str, number: u64) -> Result<(), AllocErr
 }
 
 /// Writes the events of a run to the file of a path.
-fn save<'a, R: Files + AllocGlobal>(
-    rt: &R,
-    path: &'a str,
-    run: &SlowRun,
-) -> Result<(), PathFault<'a>> {
-    let Ok(file) = fs::create(rt, path) else {
-        return Err(PathFault::Unwritable(path));
-    };
-    let Ok(output) = BufWriter::new(rt.alloc(), file) else {
-        return Err(PathFault::Fault(Fault::Memory));
-    };
+fn save_run<R: Files + AllocGlobal>(rt: &R, path: &str, run: &SlowRun) -> Result<(), Fault> {
+    let file = fs::create(rt, path).map_err(|_| Fault::EventsUnwritable)?;
+    let output = BufWriter::new(rt.alloc(), file).map_err(|_| Fault::Memory)?;
     let mut text = EventText::new(output);
-    match write_run(run, &mut text) {
-        Ok(()) => Ok(()),
-        Err(_) => Err(PathFault::Unwritable(path)),
-    }
+    write_run(run, &mut text).map_err(|_| Fault::EventsUnwritable)
 }
 
 /// Writes the lines of a run's harms and events, and sees to it that all of them are written.
 ///
 /// # Errors
 /// If the writer fails.
-pub fn write_run<W: Write + Drop>(
-    run: &SlowRun,
-    text: &mut EventText<W>,
-) -> Result<(), Failed>
+pub fn write_run<W: Write + Drop>(run: &SlowRun, text: &mut EventText<W>) -> Result<(), Failed>
     // If the writer says what its bytes are, they are the text.
     ensures text { OnOk result (GrowsByText (writer_contents W.contents text.old.writer)
         (run.now.harms.items ++ run.now.events.items)

@@ -16,7 +16,7 @@ returns g c =
     let now = c.watch_all.new.watch in
     let begins : world_of c.happen.new.world ≡ start = c.happen.ensures ∙ ap (λ (w : World). run w c.args.harms.now) c.in_ok-start.ensures in
     let w : IsWatched start es now.judge now.last =
-        c.watch_all.ensures start [] (subst (λ (w : World). IsWatched w [] c.new-watch.result.judge c.new-watch.result.last) begins c.new-watch.ensures) in
+    c.watch_all.ensures start [] (subst (λ (w : World). IsWatched w [] c.new-watch.result.judge c.new-watch.result.last) begins c.new-watch.ensures) in
     let harmless = harmless-list start es (sym c.has_harm.ensures ∙ c.if-has_harm.false) in
     let count = c.sweeps.ensures.sweeps start es w.seen in
     record {

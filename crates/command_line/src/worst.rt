@@ -1,0 +1,120 @@
+//! The words of `worst`.
+ghost use Rattle.std.specs.Prelude.{IfOk, IfErr};
+ghost use Rattle.clap.specs.Matches.{found_of};
+ghost use Rattle.command_line.specs.Worst.{IsSearchOf, IsSearchRefused};
+
+use crate::program::{NETWORK_FILE, Runtime};
+use crate::refusal::Refusal;
+use clap::{ArgMatches, Command};
+use command_grammar::{Grammar, Number, Parameter, WordFault, given_number, with_command, word};
+use std::alloc::{AllocError, Global};
+use std::process::ExitCode;
+use subcommands::worst::{self, Plan};
+
+/// What `worst` takes.
+const WORST: Grammar<'static> = Grammar {
+    name: "worst",
+    about: "Searches for runs that recover late, and shows after how many sweeps",
+    help: HELP,
+    parameters: &[
+        Parameter::Place("FILE", NETWORK_FILE),
+        Parameter::ValueOr("searches", "N", "16", "How many searches, 1 to 1000000"),
+        Parameter::ValueOr(
+            "steps",
+            "N",
+            "10000",
+            "How many changes each search tries, 0 to 1000000000",
+        ),
+        Parameter::ValueOr(
+            "seed",
+            "SEED",
+            "0",
+            "The first seed; each search has the next one",
+        ),
+        Parameter::Value(
+            "events",
+            "PATH",
+            "Write the latest run to this file, as an events text",
+        ),
+    ],
+    needs: &[],
+    excludes: &[],
+    choice: None,
+};
+
+/// Adds the command to the program's parser.
+pub fn add_to<'a>(parser: Command<'a>, alloc: Global) -> Result<Command<'a>, AllocError> {
+    with_command(parser, alloc, &WORST)
+}
+
+/// What follows the options in its help.
+const HELP: &str = "\
+How bad can it get? A search begins with a world that its seed scrambles. In
+each pass all nodes tick and all links carry items, in an order that is drawn.
+Then the search changes a harm, or a few, or the order of a pass, again and
+again, and keeps each change after which the network does not serve earlier. The
+latest run of all searches is judged once more from its start:
+
+  $ tokentree worst two-nodes.toml --events late.txt
+  searches 16
+  seed ..
+  sweeps ..
+  sharp 35
+  sweeps-bound 69
+
+After one sweep less than the line 'sweeps' says, that run did not serve yet, so
+no bound below this number is true. 'sharp' and 'sweeps-bound' are proved ones.
+'simulate' and 'draw' take the file of --events. After each pass, whoever has
+the lock gives it back.
+
+The same words find the same run, on any machine. More searches, or more steps,
+may find a later one; if they find none, that says nothing.
+
+Statuses: 0 done; 1 a file, memory or standard output was refused, and a line on
+standard error says which; 2 invalid arguments.";
+
+/// How many searches there are.
+const SEARCHES: Number<'static> = Number {
+    id: "searches",
+    name: "--searches",
+    least: 1,
+    most: 1_000_000,
+};
+
+/// How many changes a search tries.
+const STEPS: Number<'static> = Number {
+    id: "steps",
+    name: "--steps",
+    least: 0,
+    most: 1_000_000_000,
+};
+
+/// Which seeds of a first search there are.
+const SEED: Number<'static> = Number {
+    id: "seed",
+    name: "--seed",
+    least: 0,
+    most: 4_294_967_295,
+};
+
+/// Does what the words of `worst` say, and shows its progress if that is asked for.
+pub fn run<R: Runtime>(rt: &R, given: &ArgMatches, progress: bool) -> Result<ExitCode, Refusal> {
+    let (file, plan) = (word(given, "FILE")?, plan(given, progress)?);
+    Ok(worst::run(rt, file, plan, given.get_str("events"))?)
+}
+
+/// The plan that the words of `worst` say.
+///
+/// # Errors
+/// If a word spells no number in its range.
+fn plan(given: &ArgMatches, progress: bool) -> Result<Plan, WordFault<'static>>
+    ensures ok { IfOk result (IsSearchOf (found_of given.now) progress) }
+    ensures err { IfErr result (IsSearchRefused (found_of given.now)) }
+{
+    Ok(Plan {
+        searches: given_number(given, SEARCHES)? as u32,
+        seed: given_number(given, SEED)? as u32,
+        steps: given_number(given, STEPS)? as u32,
+        progress,
+    })
+}
