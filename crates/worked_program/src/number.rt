@@ -39,6 +39,21 @@ const NUMBERS: [Row; 19] = [
         1,
     ),
     ("measure absent.toml --runs ", "", "1000000", "1000001", 1),
+    ("worst absent.toml --searches ", "", "1000000", "1000001", 1),
+    (
+        "worst absent.toml --steps ",
+        "",
+        "1000000000",
+        "1000000001",
+        1,
+    ),
+    (
+        "worst absent.toml --seed ",
+        "",
+        "4294967295",
+        "4294967296",
+        1,
+    ),
     (
         "measure absent.toml --seed ",
         "",

@@ -95,6 +95,18 @@ const ROWS: [(&str, u8); 79] = [
     ("tokentree measure two.toml --runs 1 --random --table", 0),
     ("tokentree measure bad.toml --runs 1", 1),
     ("tokentree measure two.toml --runs 0", 2),
+    ("tokentree worst two.toml --searches 2 --steps 3", 0),
+    (
+        "tokentree worst two.toml --searches 1 --steps 0 --events late.txt",
+        0,
+    ),
+    ("tokentree simulate two.toml late.txt", 0),
+    (
+        "tokentree worst two.toml --searches 1 --steps 0 --events absent/late.txt",
+        1,
+    ),
+    ("tokentree worst bad.toml", 1),
+    ("tokentree worst two.toml --searches 0", 2),
     ("tokentree measure two.toml --rounds --random", 2),
     ("tokentree version", 0),
     ("tokentree -v", 0),
