@@ -15,7 +15,8 @@ use Rattle.node_runner.specs.declared.ports.Outgoing.{Outgoing}
 use Rattle.node_runner.specs.declared.ports.Incoming.{Incoming}
 use Rattle.node_runner.specs.declared.runner.Port.{Port}
 use Rattle.thread_net.specs.declared.threads.Outcome.{Outcome}
-use Rattle.thread_net.specs.Cables.{AreWithin, neighbours_below, reach, rows_reach, port_to, left_on, left_on_ports, IsFlushed, IsFlushedOn}
+use Rattle.thread_net.specs.Cables.{AreWithin, neighbours_below, reach, rows_reach, port_to, left_on, left_on_ports, IsCable, IsCabledOn, IsFlushed, IsFlushedOn}
+use Rattle.thread_net.specs.Settling.{is_past}
 use Rattle.thread_net.specs.Prepared.{IsPrepared}
 use Rattle.thread_net.specs.Seats.{entry_room}
 use Rattle.thread_net.specs.declared.prepare.Prepared.{Prepared}
@@ -79,6 +80,16 @@ module _ {A : Type 0} (p q : Port A) (to_one : p.neighbour ≡ 1) (to_two : q.ne
   not-one_port : IsFlushedOn (Some p) None → ⊥
   not-one_port out = out
 
+  -- two ports to each other are the ends of the same links, and no others are asked for
+  row-cabled : IsCable p q → IsCabledOn (Some p) (Some q)
+  row-cabled cable = cable
+
+  row-cabled_alone : IsCabledOn (Some p) None × IsCabledOn None (Some q)
+  row-cabled_alone = (tt, tt)
+
+  not-cabled : (IsCable p q → ⊥) → IsCabledOn (Some p) (Some q) → ⊥
+  not-cabled apart cabled = apart cabled
+
 -- ---- which pairs have had their turn
 
 row-below : neighbours_below two_nodes 0 1 ≡ []
@@ -90,6 +101,13 @@ row-below-all = refl
 -- if the pair of 1 and 3 of four nodes comes next, node 0 is through, 1 has had those below 3, 2 has had 0 and 1
 row-reach : (reach 4 1 3 0 ≡ 4) × (reach 4 1 3 1 ≡ 3) × (reach 4 1 3 2 ≡ 2) × (reach 4 1 3 3 ≡ 1)
 row-reach = (refl, refl, refl, refl)
+
+-- from the pair of 1 and 3 on each has had its turn, whichever of its nodes comes first, and those before it have not
+row-past : (is_past (reach 4 1 3) 1 3 ≡ true) × (is_past (reach 4 1 3) 3 1 ≡ true) × (is_past (reach 4 1 3) 2 3 ≡ true)
+row-past = (refl, refl, refl)
+
+not-past : (is_past (reach 4 1 3) 1 2 ≡ false) × (is_past (reach 4 1 3) 0 3 ≡ false) × (is_past (reach 4 1 3) 3 0 ≡ false)
+not-past = (refl, refl, refl)
 
 row-rows : (rows_reach 4 2 1 ≡ 4) × (rows_reach 4 2 3 ≡ 2)
 row-rows = (refl, refl)

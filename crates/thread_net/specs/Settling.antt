@@ -5,7 +5,7 @@ use Rattle.link_model.specs.declared.item.Item.{Item}
 use Rattle.node_runner.specs.declared.runner.Port.{Port}
 use Rattle.thread_net.specs.Cables.{AreCabled, ids_in, row, reach, rows_reach, neighbours_below, left_between, port_to, IsFlushedBetween, AreSettleable}
 
--- the pair of i and j has had its turn, if i has had its pairs with the nodes from its bound on
+-- i has had its turn with j, if j is not below the bound of i
 abbrev pub is_past : (ℕ → ℕ) → ℕ → ℕ → Bool
 is_past bound i j = nat_le (bound i) j
 

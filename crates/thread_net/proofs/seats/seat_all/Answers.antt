@@ -5,8 +5,7 @@ use Rattle.std.proofs.lemmas.List.Elements.{All-push}
 use Rattle.node_runner.specs.declared.runner.Runner.{Runner}
 use Rattle.thread_net.specs.Cables.{seat_of, seats_of, rows_of}
 use Rattle.thread_net.specs.Seats.{IsNew, nodes_of}
-use Rattle.thread_net.proofs.Maps.{drop_one}
-use Rattle.thread_net.proofs.Maps.{take_one, empty-push}
+use Rattle.thread_net.proofs.Maps.{drop_one, empty-push, take_one}
 use Rattle.thread_net.proofs.seats.seat_all.Goals as goal
 
 pub loop-node-preserved : goal.loop-node-preserved
