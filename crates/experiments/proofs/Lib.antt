@@ -8,5 +8,6 @@ pub mod Steps
 pub mod Stretches
 pub mod Watching
 mod RowsGivenBack
+pub mod RowsDelays
 pub mod RowsMeasured
 pub mod RowsScheduled

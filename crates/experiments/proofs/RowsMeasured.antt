@@ -127,7 +127,7 @@ no-sweep : (w : World) (front back : List Event) → 0 < w.net.nodes → [] ≡ 
 no-sweep w [] back some parts sweep = grind (arith, sweep.ticked 0 some)
 no-sweep w (e ∷ front) back some parts sweep = grind (arith, parts)
 
-none-counted : (w : World) → 0 < w.net.nodes → IsSweepCount w [] 0
+pub none-counted : (w : World) → 0 < w.net.nodes → IsSweepCount w [] 0
 none-counted w some = record { held = tt; no_more = λ s. no-sweep w s.0 s.1 some s.2 s.3 }
 
 counted-none : (w : World) (count : ℕ) → 0 < w.net.nodes → IsSweepCount w [] count → count ≡ 0
@@ -135,7 +135,7 @@ counted-none w zero some are = refl
 counted-none w (suc count) some are = absurd (no-sweep w are.held.0 are.held.1 some are.held.2 are.held.3)
 
 -- a run that failed to serve at its end did so after as many sweeps as there were
-last-now : FailedLast two_tokens [] (Some 0)
+pub last-now : FailedLast two_tokens [] (Some 0)
 last-now = record {
   front = [];
   back = [];
@@ -172,7 +172,7 @@ shows_not-sweeps : ¬ IsShown calm [] (recovery 7 0)
 shows_not-sweeps s = grind (arith, s.sweeps_are, needed-none s.last s.failed)
 
 -- two nodes need 35 sweeps by the sharper bound; a run is over after them, or after 35,000 stretches
-sharp-two : sharp_of two_nodes ≡ 35
+pub sharp-two : sharp_of two_nodes ≡ 35
 sharp-two = refl
 
 enough : HasEnough two_nodes 35 1
