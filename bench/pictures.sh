@@ -3,8 +3,9 @@
 # three nodes did on threads, which differs from run to run; and the films of the square, without that edge's part and
 # with it. It also makes films of a star of 64 over 170,000 events, alone and in a page, and prints their sizes and
 # times. If there is a Chromium (CHROMIUM, or chromium in PATH), it renders each picture without a screen, as NAME.png
-# in the folder $1 (or in a new folder), and each film at 0, 25, 50 and 100 % of its time, as NAME-PERCENT.png. The
-# program is ./tokentree, or what TOKENTREE names.
+# in the folder $1 (or in a new folder), and each film at 0, 25, 50 and 100 % of its time, as NAME-PERCENT.png. If there
+# is Node.js too, it tries pages of the square over 1,000 and 100,000 events by their keys, with four pictures of each
+# (bench/page.js). The program is ./tokentree, or what TOKENTREE names.
 set -euo pipefail
 cd "$(dirname "$0")/.."
 program=$(realpath "${TOKENTREE:-./tokentree}")
@@ -64,7 +65,6 @@ sed 's/^lease = .*/lease = 0/' examples/square.toml > "$folder/square.toml"
 # The films of both runs.
 "$program" draw "$folder/square.toml" "$folder/square" --film > docs/square-film.svg
 "$program" draw "$folder/square.toml" "$folder/scrambled-square" --film --seconds 40 > docs/edge-film.svg
-"$program" draw "$folder/square.toml" "$folder/scrambled-square" --film --page --seconds 40 > "$folder/edge-page.html"
 
 # The star of 64, scrambled: 540 rounds of 316 events.
 "$program" network star 64 > "$folder/star.toml"
@@ -95,6 +95,18 @@ show_film() {
 }
 
 browser=${CHROMIUM:-$(command -v chromium || command -v chromium-browser || true)}
+
+# Pages over the first events of a schedule of the square.
+"$program" schedule examples/square.toml --scramble 7 --rounds 2800 > "$folder/rounds"
+for events in 1000 100000; do
+    head -n "$events" "$folder/rounds" > "$folder/first"
+    "$program" draw examples/square.toml "$folder/first" --film --page > "$folder/page.html"
+    echo "page of $(wc -l < "$folder/first") events: $(wc -c < "$folder/page.html") bytes"
+    if [ -n "$browser" ] && command -v node > /dev/null; then
+        node bench/page.js "$browser" "$folder/page.html" "$shown" "square-$events"
+    fi
+done
+
 for name in forged-tokens scrambled-square threads; do
     echo "docs/$name.svg $(wc -c < "docs/$name.svg") bytes"
     if [ -n "$browser" ]; then

@@ -3,8 +3,8 @@ use Rattle.std.specs.Prelude.{◌≡◌, ℕ, Bool, List, [], ◌∷◌, Option,
 use Rattle.film_stills.specs.declared.still.Still.{Still}
 use Rattle.film_stills.specs.Stills.{StandFor}
 
--- the first moment; the stills of those after it; how many these may be; and whether weighty moments
--- had to be joined too
+-- the first moment; the stills of those after it; how many these may be; whether weighty moments had
+-- to be joined too; and how many moments there were
 pub record ReelView : Type 0 where
   pub opening : Option Still
   pub stills : List Still

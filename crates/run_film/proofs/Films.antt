@@ -10,7 +10,9 @@ use Rattle.run_film.specs.Beats.{Film}
 use Rattle.run_film.specs.Tracks.{track_shown}
 use Rattle.run_film.specs.Films.{IsPlayed, Keeps, ShowsNode, AddsNode}
 use Rattle.run_film.specs.Shapes.{symbol_shown}
-use Rattle.run_film.specs.Symbols.{HasMarks, HasSymbols, IsDefined}
+use Rattle.run_film.specs.declared.frames.Deed.{Deed}
+use Rattle.run_film.specs.declared.frames.Deed.TheVariants.{Sent, Taken, Lost}
+use Rattle.run_film.specs.Symbols.{HasEdge, HasFrame, HasMarks, HasSymbols, IsDefined}
 
 -- a part that stands in a list stands in a longer one
 pub played_more : (groups added new : List Grouped) (part : ℕ → ℕ → Grouped) → new ≡ groups ++ added → IsPlayed groups part → IsPlayed new part
@@ -86,6 +88,18 @@ defined_kept old new name (added, is) (inside, before, after, there) =
 pub defined_here : (old new : List Grouped) (g : Grouped) (name : List ℕ) → new ≡ old ++ g ∷ [] → g.element ≡ symbol_shown name → IsDefined new name
 defined_here old new g name is named = (g.inside, old, [], is ∙ ap (λ e. old ++ (record { element = e; inside = g.inside } ∷ [])) named)
 
+pub edge_kept : (old new : List Grouped) (v w : ℕ) → Keeps old new → HasEdge old v w → HasEdge new v w
+edge_kept old new v w keeps has = record { thin = defined_kept old new _ keeps has.thin; strong = defined_kept old new _ keeps has.strong }
+
+pub frame_kept : (old new : List Grouped) (film : Film) (u v : ℕ) → Keeps old new → HasFrame old film u v → HasFrame new film u v
+frame_kept old new film u v keeps has = λ deed there. defined_kept old new _ keeps (has deed there)
+
+-- what holds of each deed holds of all
+pub each_deed : (P : Deed → Type 0) → P Sent → P Taken → P Lost → (deed : Deed) → P deed
+each_deed P sent taken lost Sent = sent
+each_deed P sent taken lost Taken = taken
+each_deed P sent taken lost Lost = lost
+
 pub marks_kept : (old new : List Grouped) → Keeps old new → HasMarks old → HasMarks new
 marks_kept old new keeps has = record {
   settled = defined_kept old new _ keeps has.settled;
@@ -102,7 +116,8 @@ symbols_kept old new film net keeps has = record {
   marks = marks_kept old new keeps has.marks;
   distances = λ d most. defined_kept old new _ keeps (has.distances d most);
   arrows = λ v within w below there. defined_kept old new _ keeps (has.arrows v within w below there);
-  edges = λ w within v below there. defined_kept old new _ keeps (has.edges w within v below there);
+  edges = λ w within v below there. edge_kept old new v w keeps (has.edges w within v below there);
+  frames = λ few u within v below. frame_kept old new film u v keeps (has.frames few u within v below);
 }
 
 -- ---- lists of groups

@@ -3,3 +3,4 @@ pub mod FilmTexts
 pub mod Pages
 pub mod Tracks
 mod RowsFilms
+mod RowsPlayed

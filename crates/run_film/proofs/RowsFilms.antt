@@ -13,21 +13,21 @@ use Rattle.run_film.specs.Places.{IsWayFrom}
 use Rattle.run_film.specs.Symbols.{IsDefined}
 
 -- a node that is wrong, one that is privileged, and one that lends to ticket 7
-abbrev wrong : Look
+abbrev pub wrong : Look
 wrong = record { own = record { distance = 3; parent = Some 1 }; settled = false; privileged = false; lent = None }
 
-abbrev privileged : Look
+abbrev pub privileged : Look
 privileged = record { own = record { distance = 0; parent = None }; settled = true; privileged = true; lent = None }
 
 abbrev lending : Look
 lending = record { own = record { distance = 0; parent = None }; settled = false; privileged = true; lent = Some 7 }
 
-abbrev still_of : Look → Still
+abbrev pub still_of : Look → Still
 still_of look = record { looks = look ∷ []; places = []; edges = (0, 1) ∷ (0, 0) ∷ []; events = 0; event = None; sweeps = 0; damaged = false; privileged = 0; lending = 0 }
 
 -- three stills in ten beats: four for the first one and three for each other, besides those that hold
 -- the first and the last
-abbrev three : Film
+abbrev pub three : Film
 three = record { opening = still_of wrong; later = still_of privileged ∷ still_of lending ∷ []; pace = record { beats = 10; closing = 30; seconds = 2 } }
 
 beats-first : beats_at three 0 ≡ 14
@@ -110,11 +110,11 @@ value-no_frame = refl
 way_not-elsewhere : ¬ IsWayFrom (record { x = record { 0 = 1 }; y = record { 0 = 2 } }) (codes "L1 2")
 way_not-elsewhere (rest, is) = grind (arith, is)
 
-defined_not-empty : ¬ IsDefined [] (codes "p")
+pub defined_not-empty : ¬ IsDefined [] (codes "p")
 defined_not-empty (inside, [], after, are) = grind (arith, are)
 defined_not-empty (inside, g ∷ before, after, are) = grind (arith, are)
 
 -- nothing is played in an empty film
-played_not-empty : (part : ℕ → ℕ → Grouped) → ¬ IsPlayed [] part
+pub played_not-empty : (part : ℕ → ℕ → Grouped) → ¬ IsPlayed [] part
 played_not-empty part (x, y, [], after, are) = grind (arith, are)
 played_not-empty part (x, y, g ∷ before, after, are) = grind (arith, are)

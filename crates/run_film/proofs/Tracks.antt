@@ -77,13 +77,13 @@ some_beats film = grind (arith, common_steps)
 
 -- ---- the last still
 
-behind_last : (s a : Still) (stills : List Still) (d : Still) → slice_index_or (a ∷ stills) (length stills) d ≡ last_or s (a ∷ stills)
-behind_last s a [] d = refl
-behind_last s a (b ∷ stills) d = behind_last a b stills d
+last_further : (s a : Still) (stills : List Still) (d : Still) → slice_index_or (a ∷ stills) (length stills) d ≡ last_or s (a ∷ stills)
+last_further s a [] d = refl
+last_further s a (b ∷ stills) d = last_further a b stills d
 
 -- the last of some stills is that at the last place
 pub last_is : (s : Still) (stills : List Still) (d : Still) → 0 < length stills → slice_index_or stills (length stills - 1) d ≡ last_or s stills
 last_is s [] d some = grind (arith, common_steps)
 last_is s (a ∷ stills) d some =
     let place : length (a ∷ stills) - 1 ≡ length stills = omega arith in
-    rw place (behind_last s a stills d)
+    rw place (last_further s a stills d)

@@ -1,10 +1,10 @@
 -- What a film shows of a run.
-use Rattle.std.specs.Prelude.{◌≡◌, ◌<◌, ℕ, Bool, IsTrue, nat_le, List, [], ◌∷◌, ◌++◌}
+use Rattle.std.specs.Prelude.{◌≡◌, ◌<◌, ℕ, Bool, IsTrue, List, [], ◌∷◌, ◌++◌}
 use Rattle.topology.specs.Network.{Network}
 use Rattle.svg_drawing.specs.Grouped.{Grouped}
 use Rattle.run_film.specs.declared.track.Track.TheVariants.{Mark, Distance, Parent, Ticket, Strike, Damage, Sweeps, Edge, Frame}
 use Rattle.run_film.specs.Beats.{Film, joins_in}
-use Rattle.run_film.specs.Symbols.{HasSymbols}
+use Rattle.run_film.specs.Symbols.{is_framed, HasSymbols}
 use Rattle.run_film.specs.Tracks.{track_shown}
 
 -- a part of a film stands somewhere in a list of groups
@@ -29,10 +29,6 @@ abbrev pub ShowsEdges : List Grouped → Film → Network → Type 0
 ShowsEdges groups film net =
     (w : ℕ) → w < net.nodes → (v : ℕ) → v < w → IsTrue (joins_in film v w) → IsPlayed groups (track_shown (Edge v w) film)
 
--- a network is small enough that its frames are shown
-abbrev pub is_framed : Network → Bool
-is_framed net = nat_le net.nodes 12
-
 -- The film shows a network: all its nodes, its edges, its frames if it is small, the sweeps, and
 -- whether there was damage.
 pub record ShowsParts (groups : List Grouped) (film : Film) (net : Network) : Type 0 where
@@ -42,7 +38,7 @@ pub record ShowsParts (groups : List Grouped) (film : Film) (net : Network) : Ty
   pub sweeps : IsPlayed groups (track_shown Sweeps film)
   pub damage : IsPlayed groups (track_shown Damage film)
 
--- it shows them, and the symbols of its nodes, its edges and its arrows are there
+-- it shows them, and the symbols of its nodes, its edges, its arrows and its frames are there
 pub record ShowsFilm (groups : List Grouped) (film : Film) (net : Network) : Type 0 where
   pub parts : ShowsParts groups film net
   pub symbols : HasSymbols groups film net

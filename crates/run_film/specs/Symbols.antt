@@ -1,13 +1,17 @@
 -- Which symbols a film defines, so that each that a part shows is there.
-use Rattle.std.specs.Prelude.{◌≡◌, ℕ, ◌<◌, ◌≤◌, Bool, ◌||◌, ◌==◌, false, IsTrue, List, [], ◌∷◌, ◌++◌, Option, None, Some, codes, decimal}
+use Rattle.std.specs.Prelude.{◌≡◌, ℕ, ◌<◌, ◌≤◌, Bool, ◌||◌, ◌&&◌, ◌==◌, nat_le, false, IsTrue, List, [], ◌∷◌, ◌++◌, Option, None, Some, codes, decimal}
 use Rattle.std.specs.List.{list_any}
 use Rattle.topology.specs.Network.{Network}
 use Rattle.svg_drawing.specs.Drawn.{Shown as Drawn}
 use Rattle.svg_drawing.specs.Grouped.{Grouped}
 use Rattle.run_recording.specs.film_stills.declared.still.Still.{Still}
+use Rattle.run_recording.specs.run_model.declared.event.Event.{Event}
+use Rattle.run_recording.specs.run_model.declared.event.Event.TheVariants.{Send, Take, Lose}
+use Rattle.run_film.specs.declared.frames.Deed.{Deed}
+use Rattle.run_film.specs.declared.frames.Deed.TheVariants.{Sent, Taken, Lost}
 use Rattle.run_film.specs.Beats.{Film, joins_in}
 use Rattle.run_film.specs.Shapes.{symbol_shown}
-use Rattle.run_film.specs.Tracks.{look_in, pair_code}
+use Rattle.run_film.specs.Tracks.{is_named, look_in, pair_code}
 
 -- a symbol of this name stands among groups
 abbrev pub IsDefined : List Grouped → List ℕ → Type 0
@@ -16,10 +20,6 @@ IsDefined groups name =
     × (groups ≡ before ++ (record { element = symbol_shown name; inside = inside } ∷ after))
 
 -- a node has another for its parent in a still
-abbrev pub is_named : Option ℕ → ℕ → Bool
-is_named None v = false
-is_named (Some w) v = w == v
-
 abbrev pub has_parent : Still → ℕ → ℕ → Bool
 has_parent still v parent = is_named (look_in still v).own.parent parent
 
@@ -46,13 +46,47 @@ abbrev pub HasArrows : List Grouped → Film → Network → Type 0
 HasArrows groups film net =
     (v : ℕ) → v < net.nodes → (w : ℕ) → w < net.nodes → IsTrue (parents_in film v w) → IsDefined groups (pair_code (codes "a") v w)
 
+-- those of an edge, thin and strong
+pub record HasEdge (groups : List Grouped) (v w : ℕ) : Type 0 where
+  pub thin : IsDefined groups (pair_code (codes "e") v w)
+  pub strong : IsDefined groups (pair_code (codes "b") v w)
+
 -- those of the edges that some still has
 abbrev pub HasEdges : List Grouped → Film → Network → Type 0
 HasEdges groups film net =
-    (w : ℕ) → w < net.nodes → (v : ℕ) → v < w → IsTrue (joins_in film v w) → IsDefined groups (pair_code (codes "e") v w)
+    (w : ℕ) → w < net.nodes → (v : ℕ) → v < w → IsTrue (joins_in film v w) → HasEdge groups v w
+
+-- a network is small enough that its frames are shown
+abbrev pub is_framed : Network → Bool
+is_framed net = nat_le net.nodes 12
+
+-- an event does this with a frame from a node to another
+abbrev pub is_done : Deed → Option Event → ℕ → ℕ → Bool
+is_done Sent (Some (Send a b)) u v = (a == u) && (b == v)
+is_done Taken (Some (Take a b)) u v = (a == u) && (b == v)
+is_done Lost (Some (Lose a b item)) u v = (a == u) && (b == v)
+is_done _ _ u v = false
+
+-- the last event of some still does it
+abbrev pub done_in : Film → Deed → ℕ → ℕ → Bool
+done_in film deed u v = is_done deed film.opening.event u v || list_any (λ still. is_done deed still.event u v) film.later
+
+-- how the name of its symbol begins
+abbrev pub deed_code : Deed → List ℕ
+deed_code Sent = codes "o"
+deed_code Taken = codes "i"
+deed_code Lost = codes "x"
+
+-- those of what the last events of stills do with frames from a node to another
+abbrev pub HasFrame : List Grouped → Film → ℕ → ℕ → Type 0
+HasFrame groups film u v = (deed : Deed) → IsTrue (done_in film deed u v) → IsDefined groups (pair_code (deed_code deed) u v)
+
+abbrev pub HasFrames : List Grouped → Film → Network → Type 0
+HasFrames groups film net = (u : ℕ) → u < net.nodes → (v : ℕ) → v < net.nodes → HasFrame groups film u v
 
 pub record HasSymbols (groups : List Grouped) (film : Film) (net : Network) : Type 0 where
   pub marks : HasMarks groups
   pub distances : HasDistances groups net
   pub arrows : HasArrows groups film net
   pub edges : HasEdges groups film net
+  pub frames : IsTrue (is_framed net) → HasFrames groups film net

@@ -1,5 +1,5 @@
 -- What the parts of a film show of a still, and beat by beat.
-use Rattle.std.specs.Prelude.{ℕ, Bool, false, true, ◌+◌, ◌*◌, ◌==◌, ◌&&◌, if◌then◌else◌, List, [], ◌∷◌, ◌++◌, Option, None, Some, codes, decimal, slice_index_or}
+use Rattle.std.specs.Prelude.{ℕ, Bool, false, true, ◌+◌, ◌*◌, ◌==◌, ◌&&◌, ◌||◌, if◌then◌else◌, List, [], ◌∷◌, ◌++◌, Option, None, Some, codes, decimal, slice_index_or}
 use Rattle.std.specs.List.{flat_map}
 use Rattle.svg_drawing.specs.Drawn.{Given, Shown as Drawn, numbered, with_given}
 use Rattle.topology.specs.Network.{are_joined}
@@ -9,6 +9,7 @@ use Rattle.run_recording.specs.run_model.declared.event.Event.TheVariants.{Damag
 use Rattle.run_recording.specs.run_model.declared.event.Harm.{Harm}
 use Rattle.run_recording.specs.run_model.declared.event.Harm.TheVariants as harm
 use Rattle.run_recording.specs.film_stills.declared.look.Look.{Look}
+use Rattle.run_recording.specs.film_stills.declared.look.Place.{Place}
 use Rattle.run_recording.specs.film_stills.declared.still.Still.{Still}
 use Rattle.run_film.specs.declared.pace.Pace.{Pace}
 use Rattle.run_film.specs.declared.track.Track.{Track}
@@ -65,9 +66,26 @@ ticket_code None = codes "#n"
 abbrev pub pair_code : List ℕ → ℕ → ℕ → List ℕ
 pair_code name u v = name ++ (decimal u ++ (codes "-" ++ decimal v))
 
--- the symbol of an edge, if it is there
-abbrev pub edge_code : Bool → ℕ → ℕ → List ℕ
-edge_code there v w = if there then pair_code (codes "#e") v w else codes "#n"
+-- a node is another's parent
+abbrev pub is_named : Option ℕ → ℕ → Bool
+is_named None v = false
+is_named (Some w) v = w == v
+
+-- the true parent of a node in a still; none at an id that is none
+abbrev pub nowhere : Place
+nowhere = record { distance = 0; parent = None }
+
+abbrev pub true_parent : Still → ℕ → Option ℕ
+true_parent still v = (slice_index_or still.places v nowhere).parent
+
+-- in a still one of two nodes is the other's true parent, so that the edge between them is one of the
+-- true tree
+abbrev pub is_strong : Still → ℕ → ℕ → Bool
+is_strong still v w = is_named (true_parent still v) w || is_named (true_parent still w) v
+
+-- the symbol of an edge, if it is there: a strong line if it is one of the true tree, else a thin one
+abbrev pub edge_code : Bool → Bool → ℕ → ℕ → List ℕ
+edge_code there strong v w = if there then pair_code (if strong then codes "#b" else codes "#e") v w else codes "#n"
 
 -- the symbol of a frame that the event sends, takes or loses, or of none
 abbrev pub frame_code : Option Event → List ℕ
@@ -85,7 +103,7 @@ value_of (Ticket v) still = ticket_code (look_in still v).lent
 value_of (Strike v) still = if strikes still v then codes "#z" else codes "#n"
 value_of Damaged still = if still.damaged then codes "#y" else codes "#n"
 value_of Sweeps still = codes "#s" ++ decimal still.sweeps
-value_of (Edge v w) still = edge_code (are_joined still.edges v w) v w
+value_of (Edge v w) still = edge_code (are_joined still.edges v w) (is_strong still v w) v w
 value_of Frame still = frame_code still.event
 
 -- those of stills, each after a semicolon

@@ -153,7 +153,7 @@ fn curve_line(
         Curve::Privileged => line
             .with(alloc, "class", "curve-privileged")?
             .with(alloc, "stroke", "#f2b705")?
-            .with(alloc, "stroke-width", "3")?,
+            .with(alloc, "stroke-width", "2")?,
         Curve::Lending => line
             .with(alloc, "class", "curve-lending")?
             .with(alloc, "stroke", "#c3263f")?

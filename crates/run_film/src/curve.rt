@@ -71,7 +71,7 @@ pub fn middle_of(stage: &Stage, v: u16, w: u16) -> Point
 }
 
 /// The place a quarter of the way along the line from a node to another.
-fn quarter_of(stage: &Stage, v: u16, w: u16) -> Point {
+pub fn quarter_of(stage: &Stage, v: u16, w: u16) -> Point {
     let (from, to) = (stage.at(v), stage.at(w));
     let across = (from.x * 27 + to.x * 5).half().half().half().half().half();
     match bend_of(stage, from, to) {

@@ -6,15 +6,18 @@ ghost use Rattle.run_film.specs.Heads.{attributes_of, line_shown, stills_text, t
 ghost use Rattle.run_film.specs.Heads.{told_text, IsHeaded};
 ghost use Rattle.run_film.specs.Words.{alone};
 
+use crate::frames::MOST_FRAMED;
 use crate::stage::Stage;
 use crate::words::words;
 use std::alloc::{AllocError, Global};
 use svg_drawing::{Attribute, Element, Group, Point, Px};
 
-/// Colours of dark pages.
+/// A ground round the words, so that no line goes through them; and the colours of dark pages.
 const STYLE: &str = "\
+text.ink { paint-order: stroke; stroke: #ffffff; stroke-linejoin: round; stroke-width: 4px }
 @media (prefers-color-scheme: dark) {
 .ground { fill: #16191c }
+text.ink { stroke: #16191c }
 text, .ink { fill: #e8eaec }
 .settled { fill: #3a4854; stroke: #cfd6dc }
 .wrong { fill: #6d7378; stroke: #e8eaec }
@@ -113,8 +116,29 @@ fn under_title(alloc: Global, stage: &Stage, told: Told) -> Result<Vec<Group>, A
     groups.push(written_line(alloc, Px(26), title.as_str())?)?;
     groups.push(written_line(alloc, Px(46), was.as_str())?)?;
     groups.push(written_line(alloc, stage.floor + Px(140), stills.as_str())?)?;
+    put_key(alloc, &mut groups, told)?;
     put_legend(alloc, &mut groups)?;
     Ok(groups)
+}
+
+/// What the numbers, the lines and the signs mean that the legend does not draw.
+const KEY: &str = "in a node: its distance; arrow: to its parent; thick: the true tree";
+
+/// Draws what they mean, beside the title.
+fn put_key(alloc: Global, groups: &mut Vec<Group>, told: Told) -> Result<(), AllocError> {
+    let signs = if told.nodes <= MOST_FRAMED {
+        "lightning: damage; dot: a frame that goes; cross: one that is lost"
+    } else {
+        "lightning: damage"
+    };
+    groups.push(key_line(alloc, Px(26), KEY)?)?;
+    groups.push(key_line(alloc, Px(46), signs)?)?;
+    Ok(())
+}
+
+/// A line of that.
+fn key_line(alloc: Global, y: Px, text: &str) -> Result<Group, AllocError> {
+    Ok(Group::alone(alloc, words(alloc, Point { x: Px(300), y }, text)?))
 }
 
 /// An element that says something of the film.

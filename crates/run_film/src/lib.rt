@@ -19,6 +19,7 @@
 
 mod counts;
 mod curve;
+mod frames;
 mod head;
 mod nodes;
 mod pace;

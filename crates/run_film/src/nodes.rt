@@ -5,12 +5,12 @@ ghost use Rattle.run_film.specs.declared.track.Track.TheVariants.{Parent, Edge, 
 ghost use Rattle.run_film.specs.declared.track.Track.TheVariants.{Sweeps, Damage};
 ghost use Rattle.run_film.specs.Beats.{film_of, joins_in};
 ghost use Rattle.run_film.specs.Films.{AddsNode, IsPlayed, Keeps, ShowsEdges, ShowsNodes};
-ghost use Rattle.run_film.specs.Films.{is_framed};
+ghost use Rattle.run_film.specs.Symbols.{is_framed};
 ghost use Rattle.run_film.specs.Tracks.{track_shown};
 
+use crate::frames::MOST_FRAMED;
 use crate::pace::Shown;
 use crate::stage::Stage;
-use crate::symbols::MOST_FRAMED;
 use crate::track::Track;
 use crate::words::words;
 use std::alloc::{AllocError, Global};
@@ -154,7 +154,7 @@ fn put_node(
 {
     let at = stage.at(v);
     let beside = Point {
-        x: at.x + Px(24),
+        x: at.x + Px(26),
         y: at.y + Px(20),
     };
     put_track(alloc, groups, shown, Track::Mark(v), at)?;
@@ -174,8 +174,8 @@ fn node_name(alloc: Global, stage: &Stage, v: u16) -> Result<Group, AllocError> 
         format!(in alloc; "node {v}")?
     };
     let at = Point {
-        x: x + Px(22),
-        y: y - Px(14),
+        x: x + Px(26),
+        y: y - Px(8),
     };
     let text = words(alloc, at, name.as_str())?;
     Ok(Group::alone(alloc, text))

@@ -20,6 +20,9 @@ const MOST_BEATS: u16 = 600;
 /// The most changes of nodes from beat to beat, so that a film stays below 1 MB.
 const MOST_CHANGES: u16 = 10_000;
 
+/// The most bytes of what changes from beat to beat, so that one with many edges does too.
+const MOST_BYTES: usize = 700_000;
+
 /// How many beats a film has, and how long it plays.
 #[derive(Clone, Copy, Debug, PartialEq, Eq)]
 pub struct Pace {
@@ -39,7 +42,7 @@ impl Pace {
         ensures some { 10 ≤ result.beats }
         ensures few { result.beats ≤ 600 }
     {
-        let most = MOST_CHANGES / net.nodes().max(1);
+        let most = (MOST_CHANGES / net.nodes().max(1)).min(beats_within(net));
         let all = seconds.saturating_mul(10).min(MOST_BEATS).min(most).max(20);
         let held = u32::from(all) * HELD / u32::from(seconds.max(1));
         Pace {
@@ -70,6 +73,13 @@ impl Pace {
     {
         u32::from(self.seconds) * 1000 + 3000
     }
+}
+
+/// How many beats have room in these bytes: in each beat a node has about 24, and an edge 9.
+fn beats_within(net: &Net) -> u16 {
+    let nodes = usize::from(net.nodes()).saturating_mul(24);
+    let edges = net.edges().len().saturating_mul(9);
+    (MOST_BYTES / nodes.saturating_add(edges).max(1)).min(usize::from(MOST_BEATS)) as u16
 }
 
 /// The stills of a film in their order, and how many beats there are for them.

@@ -32,6 +32,10 @@ document.addEventListener('DOMContentLoaded', function () {
     done += count;
     return start;
   });
+  // The middle of a step's time, in which a dot travels for ten beats at most.
+  var middles = beats.map(function (count, step) {
+    return starts[step] + length * Math.min(10, count) / all / 2;
+  });
   var last = steps.length - 1;
   var at = 0;
   var playing = false;
@@ -60,7 +64,7 @@ document.addEventListener('DOMContentLoaded', function () {
   function show(step) {
     pause();
     var next = Math.min(last, Math.max(0, step));
-    film.setCurrentTime(starts[next]);
+    film.setCurrentTime(middles[next]);
     say(next);
   }
 
@@ -114,8 +118,9 @@ document.addEventListener('DOMContentLoaded', function () {
   document.getElementById('next').addEventListener('click', function () { show(at + 1); });
   slider.addEventListener('input', function () { show(Number(slider.value)); });
   document.addEventListener('keydown', function (event) {
-    var name = event.target.nodeName;
-    var own = name === 'INPUT' || (name === 'BUTTON' ? event.key === ' ' : false);
+    // What a button or the slider does with a key by itself.
+    var uses = { BUTTON: [' '], INPUT: ['ArrowRight', 'ArrowLeft', 'Home', 'End'] }[event.target.nodeName] || [];
+    var own = uses.indexOf(event.key) !== -1;
     if (keys[event.key]) {
       if (!own) {
         event.preventDefault();
@@ -125,7 +130,11 @@ document.addEventListener('DOMContentLoaded', function () {
   });
   film.setCurrentTime(0);
   say(0);
-  start();
+  if (window.matchMedia('(prefers-reduced-motion: reduce)').matches) {
+    pause();
+  } else {
+    start();
+  }
 });
 ";
 
@@ -133,10 +142,12 @@ document.addEventListener('DOMContentLoaded', function () {
 const STYLE: &str = "\
 :root { color-scheme: light dark }
 body { font: 16px sans-serif; margin: 1em auto; max-width: 60em; padding: 0 1em }
-svg { display: block; height: auto; max-width: 100% }
+svg { display: block; height: auto; width: 100% }
+div, #told { background: Canvas; position: sticky }
+div { bottom: 5em; display: flex; flex-wrap: wrap; gap: 0.5em; padding: 0.5em 0 }
 button { font: inherit; min-width: 5em; padding: 0.3em 0.6em }
-input { display: inline-block; min-width: 20em; vertical-align: middle; width: 50% }
-#told { min-height: 3em }
+input { flex: 1 1 20em; min-width: 10em }
+#told { bottom: 0; margin: 0; min-height: 5em }
 ";
 
 /// What stands in front of the film.

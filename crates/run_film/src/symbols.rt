@@ -7,23 +7,20 @@ ghost use Rattle.run_film.specs.Beats.{film_of, joins_in};
 ghost use Rattle.run_film.specs.Films.{Keeps};
 ghost use Rattle.run_film.specs.Shapes.{symbol_shown};
 ghost use Rattle.run_film.specs.Symbols.{has_parent, parents_in, HasArrows, HasDistances, HasEdges};
-ghost use Rattle.run_film.specs.Symbols.{HasMarks, HasSymbols, IsDefined};
+ghost use Rattle.run_film.specs.Symbols.{HasEdge, HasMarks, HasSymbols, IsDefined};
 ghost use Rattle.run_film.specs.Tracks.{pair_code};
 
-use crate::curve::{first_quarter, half, last_quarter, middle_of, whole};
+use crate::curve::{half, whole};
+use crate::frames::put_frame_symbols;
 use crate::pace::Shown;
 use crate::shapes::{circle, form, outline, symbol};
 use crate::stage::Stage;
-use crate::track::look_of;
+use crate::track::{is_named, look_of};
 use crate::words::words;
-use run_recording::run_model::Event;
-use run_recording::{Still, is_tree_edge};
+use run_recording::Still;
 use std::alloc::{AllocError, Global};
 use svg_drawing::{Element, Group, Point, Px};
 use topology::Net;
-
-/// The most nodes of a network whose frames are shown.
-pub const MOST_FRAMED: u16 = 12;
 
 /// The most tickets that have a symbol.
 const MOST_TICKETS: usize = 256;
@@ -51,20 +48,20 @@ pub fn put_symbols(
     ensures { OnOk result (HasSymbols (map grouped_of groups.new.items)
         (film_of shown.entry) net.now) }
 {
-    put_others(alloc, groups, net, stage, shown)?;
+    put_others(alloc, groups, net, shown)?;
     put_marks(alloc, groups)?;
     put_distances(alloc, groups, net)?;
     put_arrows(alloc, groups, net, stage, shown)?;
     put_edges(alloc, groups, net, stage, shown)?;
+    put_frame_symbols(alloc, groups, net, stage, shown)?;
     Ok(())
 }
 
-/// Those of tickets, of sweeps and of frames, and what stands at the ends of lines.
+/// Those of tickets and of sweeps, and what stands at the ends of lines.
 fn put_others(
     alloc: Global,
     groups: &mut Vec<Group>,
     net: &Net,
-    stage: &Stage,
     shown: Shown<'_>,
 ) -> Result<(), AllocError> {
     let head = form(alloc, "M-8 -6L4 0L-8 6z", "blue", "#0b5394")?;
@@ -72,8 +69,7 @@ fn put_others(
     let dot = circle(alloc, MIDDLE, 6, "dot", "#22262a")?;
     groups.push(line_end(alloc, "f", dot)?)?;
     put_tickets(alloc, groups, net, shown)?;
-    put_sweeps(alloc, groups, net, shown)?;
-    put_frame_symbols(alloc, groups, net, stage, shown)
+    put_sweeps(alloc, groups, net, shown)
 }
 
 /// A symbol that holds one element.
@@ -105,7 +101,7 @@ fn put_marks(alloc: Global, groups: &mut Vec<Group>) -> Result<(), AllocError>
 }
 
 /// Adds a symbol.
-fn put_symbol(groups: &mut Vec<Group>, group: Group) -> Result<(), AllocError>
+pub fn put_symbol(groups: &mut Vec<Group>, group: Group) -> Result<(), AllocError>
     ensures defined { OnOk result ((name : List ℕ) → (grouped_of group).element ≡ symbol_shown name
         → IsDefined (map grouped_of groups.new.items) name) }
     ensures keeps { OnOk result (Keeps (map grouped_of groups.old.items) (map grouped_of groups.new.items)) }
@@ -258,10 +254,7 @@ fn any_has_parent(stills: &[Still], v: u16, parent: u16) -> bool
 fn has_parent(still: &Still, v: u16, parent: u16) -> bool
     ensures { result ≡ has_parent still.now v parent }
 {
-    match look_of(still, v).own.parent {
-        Some(w) => w == parent,
-        None => false,
-    }
+    is_named(look_of(still, v).own.parent, parent)
 }
 
 /// The arrow from a node to a parent.
@@ -279,7 +272,7 @@ fn arrow(alloc: Global, stage: &Stage, v: u16, parent: u16) -> Result<Group, All
     symbol_of(alloc, name.as_str(), line)
 }
 
-/// The line of each edge that some still has: those of the true tree thick.
+/// The lines of each edge that some still has.
 fn put_edges(
     alloc: Global,
     groups: &mut Vec<Group>,
@@ -292,7 +285,7 @@ fn put_edges(
     ensures keeps { OnOk result (Keeps (map grouped_of groups.old.items) (map grouped_of groups.new.items)) }
 {
     for w in 0..net.nodes() {
-        put_edges_of(alloc, groups, net, stage, shown, w)?;
+        put_edges_of(alloc, groups, stage, shown, w)?;
     }
     Ok(())
 }
@@ -301,49 +294,55 @@ fn put_edges(
 fn put_edges_of(
     alloc: Global,
     groups: &mut Vec<Group>,
-    net: &Net,
     stage: &Stage,
     shown: Shown<'_>,
     w: u16,
 ) -> Result<(), AllocError>
     ensures edges { OnOk result ((v : ℕ) → v < w → IsTrue (joins_in (film_of shown.entry) v w)
-        → IsDefined (map grouped_of groups.new.items) (pair_code (codes "e") v w)) }
+        → HasEdge (map grouped_of groups.new.items) v w) }
     ensures keeps { OnOk result (Keeps (map grouped_of groups.old.items) (map grouped_of groups.new.items)) }
 {
     for v in 0..w {
-        put_edge(alloc, groups, net, stage, shown, v, w)?;
+        put_edge(alloc, groups, stage, shown, v, w)?;
     }
     Ok(())
 }
 
-/// The line of the edge between two nodes, if some still has it.
+/// The lines of the edge between two nodes, if some still has it: a thin one, and a strong one for the
+/// time in which it is one of the true tree.
 fn put_edge(
     alloc: Global,
     groups: &mut Vec<Group>,
-    net: &Net,
     stage: &Stage,
     shown: Shown<'_>,
     v: u16,
     w: u16,
 ) -> Result<(), AllocError>
     ensures edge { OnOk result (IsTrue (joins_in (film_of shown.entry) v w)
-        → IsDefined (map grouped_of groups.new.items) (pair_code (codes "e") v w)) }
+        → HasEdge (map grouped_of groups.new.items) v w) }
     ensures keeps { OnOk result (Keeps (map grouped_of groups.old.items) (map grouped_of groups.new.items)) }
 {
     if shown.joins(v, w) {
-        put_symbol(groups, edge(alloc, net, stage, v, w)?)?;
+        put_symbol(groups, edge(alloc, stage, "e", 2, v, w)?)?;
+        put_symbol(groups, edge(alloc, stage, "b", 5, v, w)?)?;
     }
     Ok(())
 }
 
-/// The line of an edge.
-fn edge(alloc: Global, net: &Net, stage: &Stage, v: u16, w: u16) -> Result<Group, AllocError>
+/// The line of an edge, under a name that begins so.
+fn edge(
+    alloc: Global,
+    stage: &Stage,
+    start: &str,
+    width: u32,
+    v: u16,
+    w: u16,
+) -> Result<Group, AllocError>
     ensures { IfOk result (λ group. (grouped_of group).element
-        ≡ symbol_shown (pair_code (codes "e") v w)) }
+        ≡ symbol_shown (pair_code start.now v w)) }
 {
-    let name = format!(in alloc; "e{v}-{w}")?;
+    let name = format!(in alloc; "{start}{v}-{w}")?;
     let steps = whole(alloc, stage, v, w)?;
-    let width = if is_tree_edge(net, v, w) { 5 } else { 2 };
     symbol_of(
         alloc,
         name.as_str(),
@@ -424,83 +423,4 @@ fn sweeps_text(alloc: Global, net: &Net, sweeps: u64) -> Result<Group, AllocErro
         "sweeps since the last damage: {sweeps}; proved to suffice: {sharp} (bound: {bound})"
     )?;
     symbol_of(alloc, name.as_str(), words(alloc, MIDDLE, told.as_str())?)
-}
-
-/// What the last event of some still does with a frame, if the network is small enough to show it.
-fn put_frame_symbols(
-    alloc: Global,
-    groups: &mut Vec<Group>,
-    net: &Net,
-    stage: &Stage,
-    shown: Shown<'_>,
-) -> Result<(), AllocError> {
-    if net.nodes() > MOST_FRAMED {
-        return Ok(());
-    }
-    for from in 0..net.nodes() {
-        for to in 0..net.nodes() {
-            put_frame_symbols_of(alloc, groups, stage, shown, from, to)?;
-        }
-    }
-    Ok(())
-}
-
-/// The same for the frames from a node to another: one that is sent has left it, one that is taken
-/// comes in, and a cross stands in the middle if one is lost.
-fn put_frame_symbols_of(
-    alloc: Global,
-    groups: &mut Vec<Group>,
-    stage: &Stage,
-    shown: Shown<'_>,
-    from: u16,
-    to: u16,
-) -> Result<(), AllocError> {
-    if happens(shown, Event::Send { from, to }) {
-        let name = format!(in alloc; "o{from}-{to}")?;
-        let way = first_quarter(alloc, stage, from, to)?;
-        groups.push(frame(alloc, name.as_str(), way.as_str())?)?;
-    }
-    if happens(shown, Event::Take { from, to }) {
-        let name = format!(in alloc; "i{from}-{to}")?;
-        let way = last_quarter(alloc, stage, from, to)?;
-        groups.push(frame(alloc, name.as_str(), way.as_str())?)?;
-    }
-    if loses(shown.opening(), from, to)
-        || shown.later().iter().any(|still| loses(still, from, to))
-    {
-        groups.push(loss(alloc, stage, from, to)?)?;
-    }
-    Ok(())
-}
-
-/// Whether the last event of some still is this one.
-fn happens(shown: Shown<'_>, event: Event) -> bool {
-    shown.opening().event == Some(event)
-        || shown.later().iter().any(|still| still.event == Some(event))
-}
-
-/// Whether the last event of a still loses a frame from a node to another.
-fn loses(still: &Still, v: u16, w: u16) -> bool {
-    match still.event {
-        Some(Event::Lose { from, to, .. }) => from == v && to == w,
-        _ => false,
-    }
-}
-
-/// A frame that has come along a way, as a dot at its end.
-fn frame(alloc: Global, name: &str, steps: &str) -> Result<Group, AllocError> {
-    let way = outline(alloc, steps, "way", "#22262a", 2)?.with(alloc, "marker-end", "url(#f)")?;
-    symbol_of(alloc, name, way)
-}
-
-/// A cross where a frame from a node to another is lost.
-fn loss(alloc: Global, stage: &Stage, from: u16, to: u16) -> Result<Group, AllocError> {
-    let name = format!(in alloc; "x{from}-{to}")?;
-    let Point { x, y } = middle_of(stage, from, to);
-    let steps = format!(in alloc; "M{} {}m-6 -6l12 12m0 -12l-12 12", x.0, y.0)?;
-    symbol_of(
-        alloc,
-        name.as_str(),
-        outline(alloc, steps.as_str(), "cross", "#c3263f", 4)?,
-    )
 }

@@ -4,12 +4,13 @@ ghost use Rattle.svg_drawing.specs.Drawn.{shown_of};
 ghost use Rattle.svg_drawing.specs.Grouped.{grouped_of};
 ghost use Rattle.run_film.specs.Tracks.{look_in, mark_code, strikes, place_of, value_of};
 ghost use Rattle.run_film.specs.Tracks.{values_of, more_values, repeated_shown, track_shown};
-ghost use Rattle.run_film.specs.Tracks.{frame_code};
+ghost use Rattle.run_film.specs.Tracks.{edge_code, frame_code, is_named, is_strong, true_parent};
+ghost use Rattle.topology.specs.Network.{are_joined};
 ghost use Rattle.run_film.specs.Beats.{beats_of, film_of, later_beats, last_of};
 
 use crate::pace::Shown;
 use run_recording::run_model::{Event, Harm};
-use run_recording::{Look, Still};
+use run_recording::{Look, Place, Still};
 use std::alloc::{AllocError, Global};
 use std::fmt::Write;
 use svg_drawing::{Element, Group};
@@ -99,6 +100,47 @@ fn push_frame(text: &mut String, event: Option<Event>) -> Result<(), AllocError>
     }
 }
 
+/// The true parent of a node in a still.
+fn true_parent(still: &Still, v: u16) -> Option<u16>
+    ensures { result ≡ true_parent still.now v }
+{
+    still
+        .places
+        .get(usize::from(v))
+        .copied()
+        .unwrap_or(Place::NOWHERE)
+        .parent
+}
+
+/// Whether a node is another's parent.
+pub fn is_named(parent: Option<u16>, v: u16) -> bool
+    ensures { result ≡ is_named parent v }
+{
+    match parent {
+        Some(w) => w == v,
+        None => false,
+    }
+}
+
+/// Whether the edge between two nodes is one of the true tree in a still.
+fn is_strong(still: &Still, v: u16, w: u16) -> bool
+    ensures { result ≡ is_strong still.now v w }
+{
+    is_named(true_parent(still, v), w) || is_named(true_parent(still, w), v)
+}
+
+/// Adds the name of the symbol of the edge between two nodes.
+fn push_edge(text: &mut String, still: &Still, v: u16, w: u16) -> Result<(), AllocError>
+    ensures { OnOk result (string_bytes text.new ≡ string_bytes text.old
+        ++ edge_code (are_joined still.now.edges v w) (is_strong still.now v w) v w) }
+{
+    match (still.joins(v, w), is_strong(still, v, w)) {
+        (true, true) => write!(text, "#b{v}-{w}"),
+        (true, false) => write!(text, "#e{v}-{w}"),
+        _ => text.push_str("#n"),
+    }
+}
+
 impl Track {
     /// Adds the name of the symbol that it shows of a still.
     fn push_value(self, text: &mut String, still: &Still) -> Result<(), AllocError>
@@ -119,8 +161,7 @@ impl Track {
             Track::Strike(v) => text.push_str(if strikes(still, v) { "#z" } else { "#n" }),
             Track::Damage => text.push_str(if still.damaged { "#y" } else { "#n" }),
             Track::Sweeps => write!(text, "#s{}", still.sweeps),
-            Track::Edge(v, w) if still.joins(v, w) => write!(text, "#e{v}-{w}"),
-            Track::Edge(..) => text.push_str("#n"),
+            Track::Edge(v, w) => push_edge(text, still, v, w),
             Track::Frame => push_frame(text, still.event),
         }
     }

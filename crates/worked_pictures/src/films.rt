@@ -149,10 +149,11 @@ fn lightning_strikes_with_damage(rt: HostRuntime) -> Result<(), Fail> {
     as_told(has_values(rt.alloc(), "#n", "#z"), &true)
 }
 
-/// The edge is there all the time, so no part of the film shows it go.
+/// The edge is there all the time, and it is the tree's: the line is strong, and no part of the film shows
+/// it go.
 #[test]
 fn an_edge_that_stays_stays(rt: HostRuntime) -> Result<(), Fail> {
-    as_told(has_values(rt.alloc(), "#e0-1", "#n"), &false)
+    as_told(has_values(rt.alloc(), "#b0-1", "#b0-1"), &true)
 }
 
 /// A page says what happened.

@@ -1,10 +1,8 @@
 use Rattle.std.proofs.Common.{◌≡◌, ℕ, ◌<◌, ◌++◌, IsTrue, List, map, codes, decimal, arith}
 use Rattle.svg_drawing.specs.Grouped.{Grouped, grouped_of}
 use Rattle.run_film.specs.Beats.{film_of, joins_in}
-use Rattle.run_film.specs.Films.{Keeps}
-use Rattle.run_film.specs.Symbols.{parents_in, IsDefined}
-use Rattle.run_film.specs.Tracks.{pair_code}
-use Rattle.run_film.proofs.Films.{defined_here, defined_kept, keeps_itself, keeps_on, keeps_pushed, next_below}
+use Rattle.run_film.specs.Symbols.{HasEdge}
+use Rattle.run_film.proofs.Films.{edge_kept, keeps_itself, keeps_on, next_below}
 use Rattle.run_film.proofs.symbols.put_edges.Goals as goal
 
 pub loop-w-init : goal.loop-w-init
@@ -13,8 +11,8 @@ loop-w-init c = (λ u below. absurd (omega (arith, below)), keeps_itself _)
 pub loop-w-preserved : goal.loop-w-preserved
 loop-w-preserved c =
     let film = film_of c.args.shown in (
-      next_below (λ gs u. (v : ℕ) → v < u → IsTrue (joins_in film v u) → IsDefined gs (pair_code (codes "e") v u))
-          (λ old new u keeps was v below there. defined_kept old new _ keeps (was v below there))
+      next_below (λ gs u. (v : ℕ) → v < u → IsTrue (joins_in film v u) → HasEdge gs v u)
+          (λ old new u keeps was v below there. edge_kept old new v u keeps (was v below there))
           _ _ c.loop-w.w c.in_ok-put_edges_of.ensures.keeps c.loop-w.invariant.0 c.in_ok-put_edges_of.ensures.edges,
       keeps_on _ _ _ c.loop-w.invariant.1 c.in_ok-put_edges_of.ensures.keeps,
     )

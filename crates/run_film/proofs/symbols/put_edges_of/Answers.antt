@@ -1,10 +1,8 @@
 use Rattle.std.proofs.Common.{◌≡◌, ℕ, ◌<◌, ◌++◌, IsTrue, List, map, codes, decimal, arith}
 use Rattle.svg_drawing.specs.Grouped.{Grouped, grouped_of}
 use Rattle.run_film.specs.Beats.{film_of, joins_in}
-use Rattle.run_film.specs.Films.{Keeps}
-use Rattle.run_film.specs.Symbols.{parents_in, IsDefined}
-use Rattle.run_film.specs.Tracks.{pair_code}
-use Rattle.run_film.proofs.Films.{defined_here, defined_kept, keeps_itself, keeps_on, keeps_pushed, next_below}
+use Rattle.run_film.specs.Symbols.{HasEdge}
+use Rattle.run_film.proofs.Films.{edge_kept, keeps_itself, keeps_on, next_below}
 use Rattle.run_film.proofs.symbols.put_edges_of.Goals as goal
 
 pub loop-v-init : goal.loop-v-init
@@ -13,8 +11,8 @@ loop-v-init c = (λ u below. absurd (omega (arith, below)), keeps_itself _)
 pub loop-v-preserved : goal.loop-v-preserved
 loop-v-preserved c =
     let film = film_of c.args.shown in (
-      next_below (λ gs u. IsTrue (joins_in film u c.args.w) → IsDefined gs (pair_code (codes "e") u c.args.w))
-          (λ old new u keeps was there. defined_kept old new _ keeps (was there))
+      next_below (λ gs u. IsTrue (joins_in film u c.args.w) → HasEdge gs u c.args.w)
+          (λ old new u keeps was there. edge_kept old new u c.args.w keeps (was there))
           _ _ c.loop-v.v c.in_ok-put_edge.ensures.keeps c.loop-v.invariant.0 c.in_ok-put_edge.ensures.edge,
       keeps_on _ _ _ c.loop-v.invariant.1 c.in_ok-put_edge.ensures.keeps,
     )

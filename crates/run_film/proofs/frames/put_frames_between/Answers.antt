@@ -1,0 +1,19 @@
+use Rattle.std.proofs.Common.{IsTrue, map}
+use Rattle.svg_drawing.specs.Grouped.{grouped_of}
+use Rattle.run_film.specs.Beats.{film_of}
+use Rattle.run_film.specs.Symbols.{deed_code, done_in, IsDefined}
+use Rattle.run_film.specs.Tracks.{pair_code}
+use Rattle.run_film.proofs.Films.{defined_kept, each_deed, keeps_on}
+use Rattle.run_film.proofs.frames.put_frames_between.Goals as goal
+
+pub returns-clause-frames : goal.returns-clause-frames
+returns-clause-frames c =
+    let first = c.in_ok-put_frame.ensures in
+    let second = c.in_ok-put_frame-2.ensures in
+    let third = c.in_ok-put_frame-3.ensures in
+    each_deed _ (λ there. defined_kept _ _ _ third.keeps (defined_kept _ _ _ second.keeps (first.frame there)))
+    (λ there. defined_kept _ _ _ third.keeps (second.frame there)) third.frame
+
+pub returns-clause-keeps : goal.returns-clause-keeps
+returns-clause-keeps c =
+    keeps_on _ _ _ c.in_ok-put_frame.ensures.keeps (keeps_on _ _ _ c.in_ok-put_frame-2.ensures.keeps c.in_ok-put_frame-3.ensures.keeps)

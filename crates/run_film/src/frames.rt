@@ -1,0 +1,375 @@
+//! The frames: each is a dot that travels along the half of its edge on which an event shows it.
+ghost use Rattle.std.specs.Prelude.{◌≡◌, ◌<◌, ℕ, IfOk, OnOk, IsTrue, codes, map};
+ghost use Rattle.std.specs.List.{list_any};
+ghost use Rattle.svg_drawing.specs.Grouped.{grouped_of};
+ghost use Rattle.run_film.specs.Beats.{film_of};
+ghost use Rattle.run_film.specs.Films.{Keeps};
+ghost use Rattle.run_film.specs.Shapes.{symbol_shown};
+ghost use Rattle.run_film.specs.Symbols.{deed_code, done_in, is_done, is_framed};
+ghost use Rattle.run_film.specs.Symbols.{HasFrame, HasFrames, IsDefined};
+ghost use Rattle.run_film.specs.Tracks.{pair_code};
+
+use crate::curve::{first_quarter, last_quarter, middle_of, quarter_of};
+use crate::pace::Shown;
+use crate::shapes::{outline, symbol};
+use crate::stage::Stage;
+use crate::symbols::put_symbol;
+use crate::track::repeated;
+use run_recording::Still;
+use run_recording::run_model::Event;
+use std::alloc::{AllocError, Global};
+use std::fmt::Write;
+use svg_drawing::{Element, Group, Point};
+use topology::Net;
+
+/// The most nodes of a network whose frames are shown.
+pub const MOST_FRAMED: u16 = 12;
+
+/// For how many beats a dot travels at most; then it rests where it has come to.
+const MOST_TRAVELLED: usize = 10;
+
+/// What an event does with a frame.
+#[derive(Clone, Copy, Debug, PartialEq, Eq)]
+pub enum Deed {
+    /// It is sent.
+    Sent,
+    /// It is taken.
+    Taken,
+    /// It is lost.
+    Lost,
+}
+
+/// What the last event of some still does with a frame, if the network is small enough to show it.
+pub fn put_frame_symbols(
+    alloc: Global,
+    groups: &mut Vec<Group>,
+    net: &Net,
+    stage: &Stage,
+    shown: Shown<'_>,
+) -> Result<(), AllocError>
+    ensures frames { OnOk result (IsTrue (is_framed net.now)
+        → HasFrames (map grouped_of groups.new.items) (film_of shown.entry) net.now) }
+    ensures keeps { OnOk result (Keeps (map grouped_of groups.old.items) (map grouped_of groups.new.items)) }
+{
+    if net.nodes() <= MOST_FRAMED {
+        put_all_frames(alloc, groups, net, stage, shown)?;
+    }
+    Ok(())
+}
+
+/// What the last event of some still does with a frame.
+fn put_all_frames(
+    alloc: Global,
+    groups: &mut Vec<Group>,
+    net: &Net,
+    stage: &Stage,
+    shown: Shown<'_>,
+) -> Result<(), AllocError>
+    ensures frames { OnOk result (HasFrames (map grouped_of groups.new.items) (film_of shown.entry) net.now) }
+    ensures keeps { OnOk result (Keeps (map grouped_of groups.old.items) (map grouped_of groups.new.items)) }
+{
+    for from in 0..net.nodes() {
+        put_frames_from(alloc, groups, net, stage, shown, from)?;
+    }
+    Ok(())
+}
+
+/// The same for the frames from a node.
+fn put_frames_from(
+    alloc: Global,
+    groups: &mut Vec<Group>,
+    net: &Net,
+    stage: &Stage,
+    shown: Shown<'_>,
+    from: u16,
+) -> Result<(), AllocError>
+    ensures frames { OnOk result ((to : ℕ) → to < net.now.nodes
+        → HasFrame (map grouped_of groups.new.items) (film_of shown.entry) from to) }
+    ensures keeps { OnOk result (Keeps (map grouped_of groups.old.items) (map grouped_of groups.new.items)) }
+{
+    for to in 0..net.nodes() {
+        put_frames_between(alloc, groups, stage, shown, from, to)?;
+    }
+    Ok(())
+}
+
+/// The same for the frames from a node to another: one that is sent goes to the middle of the edge, one
+/// that is taken comes from there, and a cross stands there if one is lost.
+fn put_frames_between(
+    alloc: Global,
+    groups: &mut Vec<Group>,
+    stage: &Stage,
+    shown: Shown<'_>,
+    from: u16,
+    to: u16,
+) -> Result<(), AllocError>
+    ensures frames { OnOk result (HasFrame (map grouped_of groups.new.items) (film_of shown.entry) from to) }
+    ensures keeps { OnOk result (Keeps (map grouped_of groups.old.items) (map grouped_of groups.new.items)) }
+{
+    put_frame(alloc, groups, stage, shown, Deed::Sent, from, to)?;
+    put_frame(alloc, groups, stage, shown, Deed::Taken, from, to)?;
+    put_frame(alloc, groups, stage, shown, Deed::Lost, from, to)?;
+    Ok(())
+}
+
+/// What is done with a frame from a node to another, if the last event of some still does it.
+fn put_frame(
+    alloc: Global,
+    groups: &mut Vec<Group>,
+    stage: &Stage,
+    shown: Shown<'_>,
+    deed: Deed,
+    from: u16,
+    to: u16,
+) -> Result<(), AllocError>
+    ensures frame { OnOk result (IsTrue (done_in (film_of shown.entry) deed from to)
+        → IsDefined (map grouped_of groups.new.items) (pair_code (deed_code deed) from to)) }
+    ensures keeps { OnOk result (Keeps (map grouped_of groups.old.items) (map grouped_of groups.new.items)) }
+{
+    if is_done_in(shown, deed, from, to) {
+        put_symbol(groups, frame_symbol(alloc, stage, shown, deed, from, to)?)?;
+    }
+    Ok(())
+}
+
+/// Whether an event does this with a frame from a node to another.
+fn is_done(deed: Deed, event: Option<Event>, u: u16, v: u16) -> bool
+    ensures { result ≡ is_done deed event u v }
+{
+    match (deed, event) {
+        (Deed::Sent, Some(Event::Send { from, to })) => from == u && to == v,
+        (Deed::Taken, Some(Event::Take { from, to })) => from == u && to == v,
+        (Deed::Lost, Some(Event::Lose { from, to, .. })) => from == u && to == v,
+        _ => false,
+    }
+}
+
+/// Whether the last event of some still does it.
+fn is_done_in(shown: Shown<'_>, deed: Deed, u: u16, v: u16) -> bool
+    ensures { result ≡ done_in (film_of shown.entry) deed u v }
+{
+    is_done(deed, shown.opening().event, u, v) || any_does(shown.later(), deed, u, v)
+}
+
+/// Whether the last event of some of these stills does it.
+fn any_does(stills: &[Still], deed: Deed, u: u16, v: u16) -> bool
+    ensures { result ≡ list_any (λ still. is_done deed still.event u v) stills.now }
+{
+    stills.iter().any(|still| is_done(deed, still.event, u, v))
+}
+
+/// The symbol of what is done with a frame from a node to another.
+fn frame_symbol(
+    alloc: Global,
+    stage: &Stage,
+    shown: Shown<'_>,
+    deed: Deed,
+    from: u16,
+    to: u16,
+) -> Result<Group, AllocError>
+    ensures { IfOk result (λ group. (grouped_of group).element
+        ≡ symbol_shown (pair_code (deed_code deed) from to)) }
+{
+    match deed {
+        Deed::Sent => sent_frame(alloc, stage, shown, from, to),
+        Deed::Taken => taken_frame(alloc, stage, shown, from, to),
+        Deed::Lost => loss(alloc, stage, from, to),
+    }
+}
+
+/// A frame that is sent: it goes from a node to the middle of the line to another.
+fn sent_frame(
+    alloc: Global,
+    stage: &Stage,
+    shown: Shown<'_>,
+    from: u16,
+    to: u16,
+) -> Result<Group, AllocError>
+    ensures { IfOk result (λ group. (grouped_of group).element
+        ≡ symbol_shown (pair_code (codes "o") from to)) }
+{
+    let travel = Travel {
+        deed: Deed::Sent,
+        from,
+        to,
+        start: stage.at(from),
+        between: quarter_of(stage, from, to),
+        end: middle_of(stage, from, to),
+    };
+    let name = format!(in alloc; "o{from}-{to}")?;
+    let steps = first_quarter(alloc, stage, from, to)?;
+    frame(alloc, shown, travel, name.as_str(), steps.as_str())
+}
+
+/// A frame that is taken: it goes from the middle of the line from a node to another to that one.
+fn taken_frame(
+    alloc: Global,
+    stage: &Stage,
+    shown: Shown<'_>,
+    from: u16,
+    to: u16,
+) -> Result<Group, AllocError>
+    ensures { IfOk result (λ group. (grouped_of group).element
+        ≡ symbol_shown (pair_code (codes "i") from to)) }
+{
+    let travel = Travel {
+        deed: Deed::Taken,
+        from,
+        to,
+        start: middle_of(stage, from, to),
+        between: quarter_of(stage, to, from),
+        end: stage.at(to),
+    };
+    let name = format!(in alloc; "i{from}-{to}")?;
+    let steps = last_quarter(alloc, stage, from, to)?;
+    frame(alloc, shown, travel, name.as_str(), steps.as_str())
+}
+
+/// A frame as a dot at the end of the way that it has come. It travels while the film plays, and stands
+/// between if nothing plays.
+fn frame(
+    alloc: Global,
+    shown: Shown<'_>,
+    travel: Travel,
+    name: &str,
+    steps: &str,
+) -> Result<Group, AllocError>
+    ensures { IfOk result (λ group. (grouped_of group).element ≡ symbol_shown name.now) }
+{
+    let id = format!(in alloc; "{name}w")?;
+    let way = outline(alloc, steps, "way", "#22262a", 2)?
+        .with(alloc, "marker-end", "url(#f)")?
+        .with(alloc, "id", id.as_str())?;
+    symbol(alloc, name)?
+        .holding(way)?
+        .holding(travel.play(alloc, shown, id.as_str())?)
+}
+
+/// How a dot travels in each still whose last event does this with a frame.
+#[derive(Clone, Copy)]
+struct Travel {
+    /// What is done.
+    deed: Deed,
+    /// Where the frame comes from.
+    from: u16,
+    /// Where it goes.
+    to: u16,
+    /// Where it begins.
+    start: Point,
+    /// Where it is in the middle of its time.
+    between: Point,
+    /// Where it ends.
+    end: Point,
+}
+
+impl Travel {
+    /// The animation of the way that a dot has come, which has this id.
+    fn play(self, alloc: Global, shown: Shown<'_>, id: &str) -> Result<Element, AllocError> {
+        let way = format!(in alloc; "#{id}")?;
+        let times = self.times(alloc, shown)?;
+        let steps = self.steps(alloc, shown)?;
+        let play = Element::new(alloc, "animate")
+            .with(alloc, "href", way.as_str())?
+            .with(alloc, "attributeName", "d")?
+            .with(alloc, "keyTimes", times.as_str())?
+            .with(alloc, "values", steps.as_str())?;
+        repeated(alloc, play, shown)
+    }
+
+    /// When it begins, is between, and ends, in each of these stills, as parts of the film.
+    fn times(self, alloc: Global, shown: Shown<'_>) -> Result<String, AllocError> {
+        let mut text = format!(in alloc; "0")?;
+        let mut done = shown.beats_at(0);
+        if self.is_in(shown.opening()) {
+            push_times(&mut text, shown, 0, done)?;
+        }
+        for (place, still) in shown.later().iter().enumerate() {
+            let beats = shown.beats_at(place.saturating_add(1));
+            if self.is_in(still) {
+                push_times(&mut text, shown, done, beats)?;
+            }
+            done = done.saturating_add(beats);
+        }
+        text.push_str(";1")?;
+        Ok(text)
+    }
+
+    /// The way that it has come at these times, with what is before the first and after the last of them.
+    fn steps(self, alloc: Global, shown: Shown<'_>) -> Result<String, AllocError> {
+        let mut text = String::new(alloc);
+        self.push_way(&mut text, self.start, self.start)?;
+        if self.is_in(shown.opening()) {
+            self.push_ways(&mut text)?;
+        }
+        for still in shown.later() {
+            if self.is_in(still) {
+                self.push_ways(&mut text)?;
+            }
+        }
+        text.push_str(";")?;
+        self.push_way(&mut text, self.between, self.end)?;
+        Ok(text)
+    }
+
+    /// Whether a still shows it.
+    fn is_in(self, still: &Still) -> bool {
+        is_done(self.deed, still.event, self.from, self.to)
+    }
+
+    /// Adds the way that it has come at its beginning, between, and at its end.
+    fn push_ways(self, text: &mut String) -> Result<(), AllocError> {
+        text.push_str(";")?;
+        self.push_way(text, self.start, self.start)?;
+        text.push_str(";")?;
+        self.push_way(text, self.between, self.between)?;
+        text.push_str(";")?;
+        self.push_way(text, self.between, self.end)
+    }
+
+    /// Adds the way from its beginning to a place and on to another.
+    fn push_way(self, text: &mut String, by: Point, to: Point) -> Result<(), AllocError> {
+        let (x, y) = (self.start.x.0, self.start.y.0);
+        write!(text, "M{x} {y}L{} {}L{} {}", by.x.0, by.y.0, to.x.0, to.y.0)
+    }
+}
+
+/// Adds when a dot begins, is between, and ends, in a still of so many beats after so many.
+fn push_times(
+    text: &mut String,
+    shown: Shown<'_>,
+    done: usize,
+    beats: usize,
+) -> Result<(), AllocError> {
+    let start = done.saturating_mul(2);
+    let travelled = beats.min(MOST_TRAVELLED);
+    push_time(text, shown, start)?;
+    push_time(text, shown, start.saturating_add(travelled))?;
+    push_time(
+        text,
+        shown,
+        start.saturating_add(travelled.saturating_mul(2)),
+    )
+}
+
+/// Adds which part of the film is over after so many halves of a beat.
+fn push_time(text: &mut String, shown: Shown<'_>, halves: usize) -> Result<(), AllocError> {
+    let all = (shown.pace().all().max(1) as u64).saturating_mul(2);
+    let part = (halves as u64).saturating_mul(100_000) / all.max(1);
+    if part < 100_000 {
+        write!(text, ";0.{part:05}")
+    } else {
+        text.push_str(";1")
+    }
+}
+
+/// A cross where a frame from a node to another is lost.
+fn loss(alloc: Global, stage: &Stage, from: u16, to: u16) -> Result<Group, AllocError>
+    ensures { IfOk result (λ group. (grouped_of group).element
+        ≡ symbol_shown (pair_code (codes "x") from to)) }
+{
+    let name = format!(in alloc; "x{from}-{to}")?;
+    let Point { x, y } = middle_of(stage, from, to);
+    let steps = format!(in alloc; "M{} {}m-6 -6l12 12m0 -12l-12 12", x.0, y.0)?;
+    let cross = outline(alloc, steps.as_str(), "cross", "#c3263f", 4)?;
+    symbol(alloc, name.as_str())?.holding(cross)
+}
