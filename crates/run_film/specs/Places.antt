@@ -1,5 +1,5 @@
 -- Where the nodes stand, and lines between them.
-use Rattle.std.specs.Prelude.{◌≡◌, ℕ, ◌+◌, ◌*◌, ◌/◌, ◌≤◌, ◌<◌, List, ◌++◌, codes, decimal, slice_index_or}
+use Rattle.std.specs.Prelude.{◌≡◌, ℕ, ◌+◌, ◌*◌, ◌/◌, ◌≤◌, ◌<◌, ◌⊎◌, List, ◌++◌, codes, decimal, slice_index_or}
 use Rattle.topology.specs.Network.{Network}
 use Rattle.topology.specs.Tree.{distance_of}
 use Rattle.svg_drawing.specs.Lengths.{px}
@@ -34,3 +34,15 @@ IsWay from to text =
 -- they begin between two places
 abbrev pub IsWayFromMiddle : Point → Point → List ℕ → Type 0
 IsWayFromMiddle a b text = (from : Point) × (from.x.0 ≡ px (a.x.0 + b.x.0) / 2) × IsWayFrom from text
+
+-- a quarter of the way from one length to another, rounded down twice
+abbrev pub quarter : ℕ → ℕ → ℕ
+quarter a b = px (px (a * 3) + b) / 2 / 2
+
+-- five parts of 32 of the way, rounded down at each half
+abbrev pub bent_quarter : ℕ → ℕ → ℕ
+bent_quarter a b = px (px (a * 27) + px (b * 5)) / 2 / 2 / 2 / 2 / 2
+
+-- how far across a line has come at a quarter of its way: a straight one a quarter, a bent one less
+abbrev pub IsQuarterWay : ℕ → ℕ → ℕ → Type 0
+IsQuarterWay a b x = (x ≡ quarter a b) ⊎ (x ≡ bent_quarter a b)

@@ -2,6 +2,7 @@
 ghost use Rattle.std.specs.Prelude.{◌≡◌, ◌+◌, ◌/◌, IfOk, string_bytes};
 ghost use Rattle.svg_drawing.specs.Lengths.{px};
 ghost use Rattle.run_film.specs.Places.{place_in, IsWay, IsWayFrom, IsWayFromMiddle};
+ghost use Rattle.run_film.specs.Places.{quarter, bent_quarter, IsQuarterWay};
 
 use crate::stage::Stage;
 use std::alloc::{AllocError, Global};
@@ -51,7 +52,9 @@ fn middle(a: Px, b: Px) -> Px
 }
 
 /// A length a quarter of the way from one to another.
-fn quarter(a: Px, b: Px) -> Px {
+fn quarter(a: Px, b: Px) -> Px
+    ensures { result.0 ≡ quarter a.0 b.0 }
+{
     (a * 3 + b).half().half()
 }
 
@@ -70,10 +73,20 @@ pub fn middle_of(stage: &Stage, v: u16, w: u16) -> Point
     }
 }
 
+/// A length five parts of 32 of the way from one to another: as far has a bent line come across in a
+/// quarter of its time.
+fn bent_quarter(a: Px, b: Px) -> Px
+    ensures { result.0 ≡ bent_quarter a.0 b.0 }
+{
+    (a * 27 + b * 5).half().half().half().half().half()
+}
+
 /// The place a quarter of the way along the line from a node to another.
-pub fn quarter_of(stage: &Stage, v: u16, w: u16) -> Point {
+pub fn quarter_of(stage: &Stage, v: u16, w: u16) -> Point
+    ensures { IsQuarterWay (place_in stage.now v).x.0 (place_in stage.now w).x.0 result.x.0 }
+{
     let (from, to) = (stage.at(v), stage.at(w));
-    let across = (from.x * 27 + to.x * 5).half().half().half().half().half();
+    let across = bent_quarter(from.x, to.x);
     match bend_of(stage, from, to) {
         Bend::Straight => Point {
             x: quarter(from.x, to.x),

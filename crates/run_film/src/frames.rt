@@ -242,7 +242,7 @@ fn frame(
         .with(alloc, "id", id.as_str())?;
     symbol(alloc, name)?
         .holding(way)?
-        .holding(travel.play(alloc, shown, id.as_str())?)
+        .holding(travel.animation(alloc, shown, id.as_str())?)
 }
 
 /// How a dot travels in each still whose last event does this with a frame.
@@ -264,10 +264,10 @@ struct Travel {
 
 impl Travel {
     /// The animation of the way that a dot has come, which has this id.
-    fn play(self, alloc: Global, shown: Shown<'_>, id: &str) -> Result<Element, AllocError> {
+    fn animation(self, alloc: Global, shown: Shown<'_>, id: &str) -> Result<Element, AllocError> {
         let way = format!(in alloc; "#{id}")?;
-        let times = self.times(alloc, shown)?;
-        let steps = self.steps(alloc, shown)?;
+        let times = self.key_times(alloc, shown)?;
+        let steps = self.key_ways(alloc, shown)?;
         let play = Element::new(alloc, "animate")
             .with(alloc, "href", way.as_str())?
             .with(alloc, "attributeName", "d")?
@@ -277,15 +277,15 @@ impl Travel {
     }
 
     /// When it begins, is between, and ends, in each of these stills, as parts of the film.
-    fn times(self, alloc: Global, shown: Shown<'_>) -> Result<String, AllocError> {
+    fn key_times(self, alloc: Global, shown: Shown<'_>) -> Result<String, AllocError> {
         let mut text = format!(in alloc; "0")?;
         let mut done = shown.beats_at(0);
-        if self.is_in(shown.opening()) {
+        if self.is_shown_in(shown.opening()) {
             push_times(&mut text, shown, 0, done)?;
         }
         for (place, still) in shown.later().iter().enumerate() {
             let beats = shown.beats_at(place.saturating_add(1));
-            if self.is_in(still) {
+            if self.is_shown_in(still) {
                 push_times(&mut text, shown, done, beats)?;
             }
             done = done.saturating_add(beats);
@@ -295,14 +295,14 @@ impl Travel {
     }
 
     /// The way that it has come at these times, with what is before the first and after the last of them.
-    fn steps(self, alloc: Global, shown: Shown<'_>) -> Result<String, AllocError> {
+    fn key_ways(self, alloc: Global, shown: Shown<'_>) -> Result<String, AllocError> {
         let mut text = String::new(alloc);
         self.push_way(&mut text, self.start, self.start)?;
-        if self.is_in(shown.opening()) {
+        if self.is_shown_in(shown.opening()) {
             self.push_ways(&mut text)?;
         }
         for still in shown.later() {
-            if self.is_in(still) {
+            if self.is_shown_in(still) {
                 self.push_ways(&mut text)?;
             }
         }
@@ -312,7 +312,7 @@ impl Travel {
     }
 
     /// Whether a still shows it.
-    fn is_in(self, still: &Still) -> bool {
+    fn is_shown_in(self, still: &Still) -> bool {
         is_done(self.deed, still.event, self.from, self.to)
     }
 
