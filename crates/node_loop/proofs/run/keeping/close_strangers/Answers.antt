@@ -1,7 +1,7 @@
 use Rattle.std.proofs.Common.{◌≡◌, ◌<◌, ◌≤◌, Bool, true, false, Contains, length, arith, refl, rules}
 use Rattle.node_loop.proofs.Loose.{all-closed, closed-next, closed-on, closed-start}
-use Rattle.node_loop.proofs.run.close_strangers.Goals.{then-not-is_neighbour, else-not-is_neighbour}
-use Rattle.node_loop.proofs.run.close_strangers.Goals as goal
+use Rattle.node_loop.proofs.run.keeping.close_strangers.Goals.{then-not-is_neighbour, else-not-is_neighbour}
+use Rattle.node_loop.proofs.run.keeping.close_strangers.Goals as goal
 
 pub loop-id-init : goal.loop-id-init
 loop-id-init g c = closed-start c.args.node.now.registers.neighbours c.args.ports.now.items
