@@ -84,7 +84,7 @@ fn copy_of(rt: &HostRuntime) -> Result<Command, Fail> {
 }
 
 /// Starts a copy that does these words, one a line, as often as asked.
-fn copy(rt: &HostRuntime, words: &str, times: &str) -> Result<Child, Fail> {
+pub fn copy(rt: &HostRuntime, words: &str, times: &str) -> Result<Child, Fail> {
     let mut command = copy_of(rt)?;
     tell_words(&mut command, words, times)?;
     Ok(command.spawn(rt)?)
@@ -125,7 +125,7 @@ fn tells(rt: &HostRuntime, child: Child, lines: [&str; 2]) -> Result<bool, Fail>
 }
 
 /// A folder that is not there yet, beside a network file.
-fn fresh_folder(rt: &HostRuntime, name: &str, network: &str) -> Result<String, Fail> {
+pub fn fresh_folder(rt: &HostRuntime, name: &str, network: &str) -> Result<String, Fail> {
     let tmp = env::temp_dir(rt)?;
     let place = tmp.as_path().display();
     let dir = format!(in rt.alloc(); "{place}/tokentree-{name}")?;
