@@ -64,19 +64,22 @@ only the moments at which that many sweeps have ended since the start. If lines
 were refused of a text with carriage returns, whose lines end in CRLF, a line on
 standard error says so.
 
-With --film it writes a picture that moves: the network, the root at the top and
-each node as far below as its true distance. In each node stands the distance
-that it has, and an arrow goes towards the parent that it has. A node that is
-wrong is dashed, a privileged one has two circles, one that lends has a frame
-with its ticket, and lightning shows where damage strikes. In networks of at
-most 12 nodes dots show the frame that was sent or taken last. It plays in a
-browser and on pages that show pictures, holds the end for three seconds, and
-begins again; what plays no film shows the end. Moments that look alike share a
-still. If there are more than fit, calm stretches are shown by their last
-moment. Moments with damage, or with two privileged or two lending nodes, are
-joined last, and the film says so then. With --page the film stands in a page,
-which plays and pauses by a button, a slider and the keys: space, the arrows,
-Home and End. It says each still in a sentence.
+With --film it writes a picture that moves. It shows the network as a graph: the
+root at the top, and each node as many rows below it as its true distance. In
+each node stands the distance that it has, and an arrow goes towards the parent
+that it has. A wrong node is dashed, a privileged one has two circles, and one
+that lends has a frame, with its ticket beside it. Lightning shows where damage
+strikes. In networks of at most 12 nodes a dot travels along an edge: the frame
+that was sent or taken last. The film plays in browsers and on pages that show
+pictures. It holds its end for three seconds, and begins again. A viewer that
+plays nothing shows the end.
+
+Moments that look alike share a still. If there are more stills than fit, calm
+stretches are shown by their last moment. Moments with damage, or with two
+privileged or two lending nodes, are joined last, and the film says so then.
+With --page the film stands in a page, which plays and pauses by a button, a
+slider and the keys: space, the arrows, Home and End. The page describes each
+still in a sentence.
 
   $ tokentree draw examples/two-nodes.toml examples/forged-tokens.txt > run.svg
   $ tokentree draw examples/two-nodes.toml examples/forged-tokens.txt \\

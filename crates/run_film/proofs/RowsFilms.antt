@@ -83,6 +83,13 @@ values-two = refl
 value-edge : value_of (Edge 0 1) (still_of wrong) ≡ codes "#e" ++ (decimal 0 ++ (codes "-" ++ decimal 1))
 value-edge = refl
 
+-- it is strong if one of its ends is the other's true parent, and else thin
+value-strong : value_of (Edge 0 1) (record (still_of wrong) { places = record { distance = 0; parent = None } ∷ record { distance = 1; parent = Some 0 } ∷ [] }) ≡ codes "#b" ++ (decimal 0 ++ (codes "-" ++ decimal 1))
+value-strong = refl
+
+value-thin : value_of (Edge 0 1) (record (still_of wrong) { places = record { distance = 0; parent = None } ∷ record { distance = 1; parent = Some 2 } ∷ [] }) ≡ codes "#e" ++ (decimal 0 ++ (codes "-" ++ decimal 1))
+value-thin = refl
+
 value-no_edge : value_of (Edge 0 2) (still_of wrong) ≡ codes "#n"
 value-no_edge = refl
 

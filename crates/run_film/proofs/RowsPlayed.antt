@@ -69,6 +69,15 @@ stage_not-beside stands =
     let least = stands.some in
     omega (arith, level, least)
 
+way-straight : IsWay (at 1 2) (at 3 4) (codes "M" ++ (decimal 1 ++ (codes " " ++ (decimal 2 ++ (codes "L" ++ (decimal 3 ++ (codes " " ++ decimal 4)))))))
+way-straight = (codes "L", refl)
+
+way-begins : IsWayFrom (at 1 2) (codes "M" ++ (decimal 1 ++ (codes " " ++ (decimal 2 ++ codes "L3 4"))))
+way-begins = (codes "L3 4", refl)
+
+way-middle : IsWayFromMiddle (at 1 2) (at 3 4) (codes "M" ++ (decimal 2 ++ (codes " " ++ (decimal 5 ++ codes "L3 4"))))
+way-middle = (at 2 5, refl, (codes "L3 4", refl))
+
 -- ---- symbols
 
 abbrev one_node : Network
@@ -143,6 +152,18 @@ parts_not-none film net shows = played_not-empty _ shows.sweeps
 abbrev told_of : ℕ → Told
 told_of refused = record { nodes = 4; events = 12; refused = refused; stills = 3; crowded = false }
 
+title-four : title_text (told_of 0) ≡ codes "A run of a lock on " ++ (decimal 4 ++ codes " nodes, as a film")
+title-four = refl
+
+told-refused : told_text (told_of 2) ≡ decimal 12 ++ (codes " events, " ++ (decimal 2 ++ codes " lines refused"))
+told-refused = refl
+
+stills-calm : stills_text (told_of 0) ≡ decimal 3 ++ codes " stills; calm stretches are shown by their last moment"
+stills-calm = refl
+
+stills-crowded : stills_text (record (told_of 0) { crowded = true }) ≡ decimal 3 ++ codes " stills, fewer than moments that count: each is the last of a stretch"
+stills-crowded = refl
+
 headed_not-none : (told : Told) → ¬ IsHeaded [] told
 headed_not-none told (front, are) = ended_not-none _ _ (sym are)
 
@@ -200,6 +221,10 @@ page_not-empty net window es page = some_not-none _ _ (sym page.spelled)
 
 event-start : event_told (still_of wrong) ≡ codes "The start: "
 event-start = refl
+
+counts-damage : counts_told (record (still_of wrong) { damaged = true; privileged = 2 }) ≡ codes "damage, "
+    ++ (decimal 1 ++ (codes " wrong, " ++ (decimal 2 ++ (codes " privileged, " ++ (decimal 0 ++ (codes " lending; " ++ (decimal 0 ++ codes " sweeps since the last damage.")))))))
+counts-damage = refl
 
 steps-three : length (steps_shown three).inside ≡ 3
 steps-three = refl

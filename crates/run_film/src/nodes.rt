@@ -153,16 +153,28 @@ fn put_node(
         (map grouped_of groups.new.items) (film_of shown.entry) v) }
 {
     let at = stage.at(v);
-    let beside = Point {
-        x: at.x + Px(26),
-        y: at.y + Px(20),
-    };
+    let beside = ticket_place(stage, at);
     put_track(alloc, groups, shown, Track::Mark(v), at)?;
     put_track(alloc, groups, shown, Track::Distance(v), at)?;
     put_track(alloc, groups, shown, Track::Ticket(v), beside)?;
     put_track(alloc, groups, shown, Track::Strike(v), at)?;
     groups.push(node_name(alloc, stage, v)?)?;
     Ok(())
+}
+
+/// Where the ticket stands to which a node lends: beside the node, or below it if its neighbours are near.
+fn ticket_place(stage: &Stage, at: Point) -> Point {
+    if stage.stride.0 < 90 {
+        Point {
+            x: at.x - Px(19),
+            y: at.y + Px(36),
+        }
+    } else {
+        Point {
+            x: at.x + Px(26),
+            y: at.y + Px(20),
+        }
+    }
 }
 
 /// The name of a node, beside it.
