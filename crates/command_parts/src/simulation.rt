@@ -1,7 +1,10 @@
 //! A simulation whose text is all written, and the status of a run of events.
-ghost use Rattle.std.specs.Prelude.{◌≡◌, ℕ, List, [], Some, ◌==◌, if◌then◌else◌, OnOk};
+ghost use Rattle.std.specs.Prelude.{◌≡◌, ℕ, List, [], Some, ◌==◌, if◌then◌else◌, IfOk, OnOk};
 ghost use Rattle.std.specs.Process.{exit_status};
-ghost use Rattle.world.specs.SimulatedText.{simulated_start};
+ghost use Rattle.world.specs.Simulating.{summary_in};
+ghost use Rattle.world.specs.SimulatedText.{events_of, simulated_start};
+ghost use Rattle.world.specs.judge.configuration.ConfigurationView.{world_of};
+ghost use Rattle.world.specs.run_model.Run.{run};
 ghost use Rattle.command_parts.specs.Simulated.{IsCaused, IsDone};
 
 use crate::fault::Fault;
@@ -9,7 +12,7 @@ use crate::streams::Flush;
 use std::alloc::Global;
 use std::process::ExitCode;
 use topology::Net;
-use world::simulation::{Summary, simulate};
+use world::simulation::{Simulated, simulate_to};
 use world::streams::Source;
 
 /// The name of standard input, in place of a file of events.
@@ -23,7 +26,7 @@ const LINES_REFUSED: u8 = 3;
 ///
 /// What is unproved: that the events of a file, or of standard input, are the bytes that were
 /// simulated, and that the text stands in standard output. Neither end shows its bytes, so of them
-/// the contract says when a fault comes; of ends that show theirs it says all that [`simulate`]
+/// the contract says when a fault comes; of ends that show theirs it says all that [`simulate_to`]
 /// says.
 ///
 /// # Errors
@@ -33,21 +36,25 @@ pub fn simulate_between<S: Source, W: Flush>(
     net: &Net,
     source: &mut S,
     sink: &mut W,
-) -> Result<Summary, Fault>
+) -> Result<Simulated, Fault>
     // If both ends show their bytes, the answer is that of a simulation of them.
     ensures text { (bytes : List ℕ) → S.rest source.old ≡ Some bytes
         → IsDone (simulated_start net.now) bytes (S.rest source.new) (W.taken sink.old)
-        (W.taken sink.new) result }
+        (W.taken sink.new) (summary_in (λ simulated. simulated.summary) result) }
+    // The world is the one that the events lead to.
+    ensures led { (bytes : List ℕ) → S.rest source.old ≡ Some bytes
+        → IfOk result (λ simulated. world_of simulated.world
+        ≡ run (simulated_start net.now) (events_of bytes)) }
     ensures written { OnOk result (W.unwritten sink.new ≡ []) }
     // A fault of the events only if the source failed, one of the output only if the sink did.
     ensures cause { IsCaused result (S.failures source.old) (S.failures source.new)
         (W.failures sink.old) (W.failures sink.new) }
 {
-    let simulated = simulate(alloc, net, source, sink);
+    let simulated = simulate_to(alloc, net, source, sink);
     let flushed = sink.flush();
-    let summary = simulated?;
+    let simulated = simulated?;
     match flushed {
-        Ok(()) => Ok(summary),
+        Ok(()) => Ok(simulated),
         Err(_) => Err(Fault::Output),
     }
 }

@@ -10,3 +10,4 @@ pub mod MeasuredData
 pub use Rattle.command_parts.specs as command_parts
 pub use Rattle.experiments.specs as experiments
 pub mod Hints
+pub mod LayersText

@@ -174,7 +174,7 @@ fn first_simulated_otherwise(
     rows: &[(&str, &str, Option<Fault>)],
 ) -> Option<usize> {
     for (at, (network, events, want)) in rows.iter().enumerate() {
-        if simulate::run(rt, network, events).err() != *want {
+        if simulate::run(rt, network, events, false).err() != *want {
             return Some(at);
         }
     }

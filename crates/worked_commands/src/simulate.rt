@@ -66,7 +66,7 @@ fn simulate<W: Write + Drop>(
     source: &mut ReadSource<Answers<'_>>,
     sink: &mut WriteSink<W>,
 ) -> Result<Summary, Fault> {
-    simulate_between(alloc, net, source, sink)
+    simulate_between(alloc, net, source, sink).map(|simulated| simulated.summary)
 }
 
 /// Simulates what these reads answer, on a network, and writes to a shelf.

@@ -10,7 +10,7 @@ use subcommands::bound;
 use test_parts::{as_told, is_told};
 
 /// A command line, and its status.
-const ROWS: [(&str, u8); 79] = [
+const ROWS: [(&str, u8); 81] = [
     ("tokentree bound two.toml", 0),
     ("tokentree bound -- two.toml", 0),
     ("tokentree bound --sharp two.toml", 0),
@@ -28,6 +28,8 @@ const ROWS: [(&str, u8); 79] = [
     ("tokentree bound --sharp", 2),
     ("tokentree Bound two.toml", 2),
     ("tokentree simulate two.toml good.events", 0),
+    ("tokentree simulate two.toml good.events --layers", 0),
+    ("tokentree simulate two.toml good.events --layers --layers", 2),
     ("tokentree simulate --help", 0),
     ("tokentree help simulate", 0),
     ("tokentree simulate two.toml refused.events", 3),

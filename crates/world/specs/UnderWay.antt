@@ -1,5 +1,5 @@
 -- What a simulation keeps between two pieces of its text, and what is to hold of it.
-use Rattle.std.specs.Prelude.{◌≡◌, ℕ, ◌≤◌, List, [], ◌∷◌, ◌++◌, Option, Some, Result, Ok, Err, length, ◌⊎◌}
+use Rattle.std.specs.Prelude.{◌≡◌, ℕ, ◌≤◌, List, [], ◌∷◌, ◌++◌, Option, Some, Result, Ok, Err, OnOk, length, ◌⊎◌}
 use Rattle.judge.specs.run_model.World.{World}
 use Rattle.judge.specs.run_model.declared.event.Event.{Event}
 use Rattle.events_text.specs.declared.text_line.TextLine.{TextLine}
@@ -10,7 +10,9 @@ use Rattle.events_text.specs.EventsText.{ended_lines, text_lines}
 use Rattle.judge.specs.JudgeView.{JudgeView, HasSeen}
 use Rattle.judge.specs.Judging.{counted_up_to}
 use Rattle.byte_lines.specs.Kept.{Kept, StandsAfter}
-use Rattle.world.specs.SimulatedText.{refused_lines, told_events, refusals_of}
+use Rattle.judge.specs.configuration.ConfigurationView.{world_of}
+use Rattle.judge.specs.run_model.Run.{run}
+use Rattle.world.specs.SimulatedText.{refused_lines, told_events, refusals_of, events_of}
 use Rattle.world.specs.Simulating.{longest_text, IsShown, IsHalfShown, IsCutShort, IsTooLong, IsStopped}
 use Rattle.byte_streams.specs.Streams.{Takes, TakesABeginning}
 
@@ -89,3 +91,10 @@ Finishes (Err _) start bytes before now = TakesABeginning (refusals_of start (te
 abbrev pub EndsThere : {E : Type 0} → SimulationView → Option (List ℕ) → Result Summary E → Option (List ℕ) → Type 0
 EndsThere old taken result taken_now =
     (start : World) (bytes : List ℕ) (before : Option (List ℕ)) → IsUnderWay start bytes before taken old → Finishes result start bytes before taken_now
+
+-- whatever bytes have been taken, if the text of the world was written it is the one that their
+-- events lead to
+abbrev pub LeadsThere : {T E : Type 0} → SimulationView → Option (List ℕ) → Result T E → SimulationView → Type 0
+LeadsThere old taken result new =
+    (start : World) (bytes : List ℕ) (before : Option (List ℕ)) → IsUnderWay start bytes before taken old
+    → OnOk result (world_of new.judge.configuration ≡ run start (events_of bytes))
