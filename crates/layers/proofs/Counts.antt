@@ -2,7 +2,7 @@
 use Rattle.std.proofs.Common.{◌≡◌, ◌∙◌, ap, sym, refl, subst, ℕ, ◌+◌, ◌<◌, ◌≤◌, ◌↔◌, zero, suc, IsTrue, List, [], ◌∷◌, ◌++◌, length, take, map, get_or, Contains, arith, count_by}
 use Rattle.std.specs.List.{AllByRecursion, All, flat_map, range_with_len}
 use Rattle.std.proofs.lemmas.Grind.{common_steps}
-use Rattle.std.proofs.lemmas.List.{append-nil}
+use Rattle.std.proofs.lemmas.List.{map-append}
 use Rattle.std.proofs.lemmas.List.Elements.{All-from_recursion, recursion_from_All, All-from_get_or, All-contains, Contains-get_or}
 use Rattle.std.proofs.lemmas.List.FromFn.{get_or-range_with_len, length-range_with_len}
 use Rattle.std.proofs.lemmas.List.Sums.{length-filter, count_by-le-length}
@@ -40,6 +40,22 @@ pub all-such : {X : Type 0} (P : X → Type 0) {xs : List X} {n : ℕ} → AreSu
 all-such P Nothing_left all = omega arith
 all-such P (One_more p a) all = omega (arith, all-such P a all.1)
 all-such P (Not_this fails a) all = absurd (fails all.0)
+
+-- one link more is counted, or not
+more-taken : (f : ℕ → ℕ × ℕ) (xs : List ℕ) (i : ℕ) → i < length xs → map f (take (i + 1) xs) ≡ map f (take i xs) ++ f (get_or xs i 0) ∷ []
+more-taken f xs i there =
+    let one : take (i + 1) xs ≡ take i xs ++ get_or xs i 0 ∷ [] = grind (arith, common_steps) in
+    ap (map f) one ∙ map-append f (take i xs) (get_or xs i 0 ∷ [])
+
+pub counted-yes : (P : ℕ × ℕ → Type 0) (f : ℕ → ℕ × ℕ) (xs : List ℕ) (i m : ℕ) → i < length xs → AreSuch P (map f (take i xs)) m → P (f (get_or xs i 0))
+    → AreSuch P (map f (take (i + 1) xs)) (m + 1)
+counted-yes P f xs i m there a p =
+    subst (λ ys. AreSuch P ys (m + 1)) (sym (more-taken f xs i there)) (one-such P (map f (take i xs)) m (f (get_or xs i 0)) a p)
+
+pub counted-no : (P : ℕ × ℕ → Type 0) (f : ℕ → ℕ × ℕ) (xs : List ℕ) (i m : ℕ) → i < length xs → AreSuch P (map f (take i xs)) m → (P (f (get_or xs i 0)) → ⊥)
+    → AreSuch P (map f (take (i + 1) xs)) m
+counted-no P f xs i m there a fails =
+    subst (λ ys. AreSuch P ys m) (sym (more-taken f xs i there)) (none-such P (map f (take i xs)) m (f (get_or xs i 0)) a fails)
 
 -- ---- all links
 

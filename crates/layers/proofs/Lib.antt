@@ -1,6 +1,7 @@
-pub mod Rings
-pub mod Payloads
-pub mod Counts
-pub mod Tours
-pub mod Stages
-pub mod LegitimateWorlds
+mod Rings
+mod Payloads
+mod Counts
+mod Tours
+mod Stages
+mod LegitimateWorlds
+mod RowsLayers

@@ -69,3 +69,18 @@ numbers-go_on f items left x start old new is next so_far rest =
     let n = next (newest ++ rest) in
     let s = subst (λ ys. MayFollow old ys ↔ MayFollow start (newest_first f items ++ rest)) parts (so_far rest) in
     (λ m. s.0 (n.0 m), λ m. n.1 (s.1 m))
+
+-- three values are read one after the other
+pub three-follow : (a b c d : RingReading) (x y z u v t : ℕ) → x ≡ u → y ≡ v → z ≡ t
+    → ((rest : List ℕ) → MayFollow b rest ↔ MayFollow a (x ∷ rest))
+    → ((rest : List ℕ) → MayFollow c rest ↔ MayFollow b (y ∷ rest))
+    → ((rest : List ℕ) → MayFollow d rest ↔ MayFollow c (z ∷ rest))
+    → (rest : List ℕ) → MayFollow d rest ↔ MayFollow a (u ∷ v ∷ t ∷ rest)
+three-follow a b c d x y z u v t first second third f g h rest =
+    let all : MayFollow d rest ↔ MayFollow a (x ∷ y ∷ z ∷ rest) = (
+      λ m. (f (y ∷ z ∷ rest)).0 ((g (z ∷ rest)).0 ((h rest).0 m)),
+      λ m. (h rest).1 ((g (z ∷ rest)).1 ((f (y ∷ z ∷ rest)).1 m)),
+    ) in
+    subst (λ p. MayFollow d rest ↔ MayFollow a (p ∷ v ∷ t ∷ rest)) first
+    (subst (λ p. MayFollow d rest ↔ MayFollow a (x ∷ p ∷ t ∷ rest)) second
+    (subst (λ p. MayFollow d rest ↔ MayFollow a (x ∷ y ∷ p ∷ rest)) third all))

@@ -9,9 +9,9 @@ use Rattle.layers.proofs.items.after_numbers.Given as goal
 abbrev pub invariant-loop-left : goal.invariant-loop-left
 invariant-loop-left g l =
     (l.left ≤ length ((world_of l.configuration).link l.from l.to))
-    × (l.reading.modulus ≡ l.start.modulus)
+    × (l.reading.modulus ≡ l.fn.start.modulus)
     × ((rest : List ℕ) → MayFollow l.reading (newest_first (number_of l.number) (take l.left ((world_of l.configuration).link l.from l.to)) ++ rest)
-    ↔ MayFollow l.start (newest_first (number_of l.number) ((world_of l.configuration).link l.from l.to) ++ rest))
+    ↔ MayFollow l.fn.start (newest_first (number_of l.number) ((world_of l.configuration).link l.from l.to) ++ rest))
 
 abbrev pub decreases-loop-left : goal.decreases-loop-left
 decreases-loop-left g l = l.left

@@ -11,8 +11,8 @@ use Rattle.layers.proofs.items.after_payloads.Given as goal
 abbrev pub invariant-loop-index : goal.invariant-loop-index
 invariant-loop-index g l =
     (l.index ≤ length ((world_of l.configuration).link l.from l.to))
-    × (l.reading.seq ≡ l.start.seq)
-    × (l.reading.staged ≡ l.start.staged)
-    × ((port : PortState) (other : Payload) → port.seq ≡ l.start.seq → port.staged ≡ l.start.staged
+    × (l.reading.seq ≡ l.fn.start.seq)
+    × (l.reading.staged ≡ l.fn.start.staged)
+    × ((port : PortState) (other : Payload) → port.seq ≡ l.fn.start.seq → port.staged ≡ l.fn.start.staged
     → (Admits l.reading other × AllByRecursion (CarriesItsPayload port other) (drop l.index ((world_of l.configuration).link l.from l.to)))
-    ↔ (Admits l.start other × AllByRecursion (CarriesItsPayload port other) ((world_of l.configuration).link l.from l.to)))
+    ↔ (Admits l.fn.start other × AllByRecursion (CarriesItsPayload port other) ((world_of l.configuration).link l.from l.to)))
