@@ -1,8 +1,9 @@
 -- How many items of a list are such, and the links of a network one by one.
 use Rattle.std.proofs.Common.{◌≡◌, ◌∙◌, ap, sym, refl, subst, ℕ, ◌+◌, ◌<◌, ◌≤◌, ◌↔◌, zero, suc, IsTrue, List, [], ◌∷◌, ◌++◌, length, take, map, get_or, Contains, arith, count_by}
 use Rattle.std.specs.List.{AllByRecursion, All, flat_map, range_with_len}
-use Rattle.std.proofs.lemmas.Grind.{common_steps}
-use Rattle.std.proofs.lemmas.List.{map-append}
+use Rattle.std.proofs.lemmas.Grind.{common_steps, flat_map-append}
+use Rattle.std.proofs.Math.Seq.{take-length}
+use Rattle.std.proofs.lemmas.List.{append-nil, map-append}
 use Rattle.std.proofs.lemmas.List.Elements.{All-from_recursion, recursion_from_All, All-from_get_or, All-contains, Contains-get_or}
 use Rattle.std.proofs.lemmas.List.FromFn.{get_or-range_with_len, length-range_with_len}
 use Rattle.std.proofs.lemmas.List.Sums.{length-filter, count_by-le-length}
@@ -119,3 +120,36 @@ pub few-neighbours : (net : Network) (u : ℕ) → length (neighbours_of net u) 
 few-neighbours net u =
     let nodes = range_with_len 0 net.nodes in
     omega (arith, length-filter (are_joined net.edges u) nodes, count_by-le-length (are_joined net.edges u) nodes, length-range_with_len 0 net.nodes)
+
+-- the links of one node more
+pub links-more : (net : Network) (u : ℕ) → u < net.nodes
+    → flat_map (links_from net) (take (u + 1) (range_with_len 0 net.nodes)) ≡ flat_map (links_from net) (take u (range_with_len 0 net.nodes)) ++ links_from net u
+links-more net u below =
+    let nodes = range_with_len 0 net.nodes in
+    let f = links_from net in
+    let there : u < length nodes = rw (length-range_with_len 0 net.nodes) below in
+    let one : take (u + 1) nodes ≡ take u nodes ++ get_or nodes u 0 ∷ [] = grind (arith, common_steps) in
+    ap (flat_map f) one ∙ flat_map-append f (take u nodes) (get_or nodes u 0 ∷ []) ∙ ap (λ ys. flat_map f (take u nodes) ++ ys) (append-nil (f (get_or nodes u 0)))
+    ∙ ap (λ v. flat_map f (take u nodes) ++ f v) (number-at net.nodes u below)
+
+-- those of all nodes
+pub links-whole : (net : Network) (n : ℕ) → n ≡ net.nodes → flat_map (links_from net) (take n (range_with_len 0 net.nodes)) ≡ links_of net
+links-whole net n all =
+    let nodes = range_with_len 0 net.nodes in
+    ap (λ k. flat_map (links_from net) (take k nodes)) (all ∙ sym (length-range_with_len 0 net.nodes)) ∙ ap (flat_map (links_from net)) (take-length nodes)
+
+links-length : (net : Network) (u : ℕ) (xs : List ℕ) → length (map (λ v. (u, v)) xs) ≡ length xs
+links-length net u [] = refl
+links-length net u (x ∷ xs) = ap suc (links-length net u xs)
+
+join-length : (xs ys : List (ℕ × ℕ)) → length (xs ++ ys) ≡ length xs + length ys
+join-length xs ys = grind (arith, common_steps)
+
+-- and how many these are
+pub more-links : (net : Network) (u count len : ℕ) → u < net.nodes → count ≡ length (flat_map (links_from net) (take u (range_with_len 0 net.nodes)))
+    → len ≡ length (neighbours_of net u)
+    → count + len ≡ length (flat_map (links_from net) (take (u + 1) (range_with_len 0 net.nodes)))
+more-links net u count len below counted is =
+    let before = flat_map (links_from net) (take u (range_with_len 0 net.nodes)) in
+    let sum : length before + length (links_from net u) ≡ count + len = omega (arith, counted, is, links-length net u (neighbours_of net u)) in
+    sym (ap length (links-more net u below) ∙ join-length before (links_from net u) ∙ sum)

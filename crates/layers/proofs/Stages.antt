@@ -1,9 +1,8 @@
 -- The tree node by node and neighbour by neighbour, and its stages.
-use Rattle.std.proofs.Common.{◌≡◌, subst, ℕ, ◌+◌, ◌<◌, ◌≤◌, IsTrue, Contains, length, take, get_or, arith}
+use Rattle.std.proofs.Common.{◌≡◌, subst, ℕ, ◌+◌, ◌<◌, ◌≤◌, IsTrue, List, Contains, length, take, get_or, arith}
 use Rattle.std.specs.List.{All}
 use Rattle.std.proofs.lemmas.Bool.Decides.{nat_tests}
 use Rattle.std.proofs.lemmas.Grind.{common_steps}
-use Rattle.std.proofs.lemmas.List.{take_all}
 use Rattle.std.proofs.lemmas.List.Elements.{All-contains, Contains-get_or}
 use Rattle.topology.specs.Network.{Network, IsAcceptedNetwork, are_joined, neighbours_of}
 use Rattle.topology.specs.Laws.{NeighboursAreJoined, JoinedAreNodes}
@@ -16,13 +15,16 @@ use Rattle.layers.specs.Stages.{IsNodeAtStage, AreLinksAtStage, IsStageOf, IsNod
 
 -- ---- neighbour by neighbour
 
+whole : (i : ℕ) (xs : List ℕ) → length xs ≤ i → take i xs ≡ xs
+whole i xs end = grind (arith, common_steps)
+
 -- what holds of the first neighbours holds of each, if these are all
 pub each-joined : NeighboursAreJoined → JoinedAreNodes → (net : Network) → IsAcceptedNetwork net → (v i : ℕ) (P : ℕ → Type 0)
-    → (i < length (neighbours_of net v) → ⊥) → All P (take i (neighbours_of net v)) → (u : ℕ) → IsTrue (are_joined net.edges v u) → P u
+    → length (neighbours_of net v) ≤ i → All P (take i (neighbours_of net v)) → (u : ℕ) → IsTrue (are_joined net.edges v u) → P u
 each-joined joined ends net accepted v i P end all u are =
     let near = neighbours_of net v in
     let has : Contains near u = (joined net v u).1 ((ends net v u accepted are).1, are) in
-    All-contains P near u (subst (λ xs. All P xs) (take_all i near (grind (arith, end))) all) has
+    All-contains P near u (subst (λ xs. All P xs) (whole i near end) all) has
 
 -- a neighbour at a place is joined
 pub joined-there : NeighboursAreJoined → (net : Network) (v i : ℕ) → i < length (neighbours_of net v)

@@ -1,5 +1,5 @@
 -- The tour of the true tree, stop by stop, and the legs of the token ring along it.
-use Rattle.std.proofs.Common.{◌≡◌, ◌∙◌, ap, sym, subst, refl, ℕ, zero, suc, ◌+◌, ◌<◌, inl, inr, IsTrue, List, [], ◌∷◌, Option, Some, Contains, IsSome, length, drop, arith}
+use Rattle.std.proofs.Common.{◌≡◌, ◌∙◌, ◌↔◌, ◌++◌, ap, sym, subst, refl, ℕ, zero, suc, ◌+◌, ◌<◌, inl, inr, IsTrue, List, [], ◌∷◌, Option, Some, Contains, IsSome, length, drop, arith}
 use Rattle.std.proofs.lemmas.Grind.{common_steps}
 use Rattle.topology.specs.Network.{Network, neighbours_of, IsAcceptedNetwork}
 use Rattle.topology.specs.Laws.{NeighboursAreJoined}
@@ -10,6 +10,8 @@ use Rattle.std.specs.List.{flat_map}
 use Rattle.k_state.specs.Ring.{head_of}
 use Rattle.configuration.specs.run_model.World.{World}
 use Rattle.convergence.specs.Ring.{Leg, leg_values, legs_to, first_here}
+use Rattle.layers.specs.declared.ring_reading.RingReading.{RingReading}
+use Rattle.layers.specs.RingReading.{MayFollow}
 use Rattle.layers.specs.Stops.{GoesRound, first_of, first_stop}
 
 -- a stretch of the tour is gone along from its first stop to its end
@@ -90,3 +92,19 @@ pub head-there : (w : World) (net : Network) (stop end : Stop) (stops : List Sto
 head-there w net stop end [] onward some along = absurd (omega (arith, some))
 head-there w net stop end (p ∷ []) onward some along = ap (λ s. (w.node s.1).value s.0) (sym along.0)
 head-there w net stop end (p ∷ q ∷ rest) onward some along = ap (λ s. (w.node s.1).value s.0) (sym along.0)
+
+-- one leg more is read, and the rest of the ring is that of the stops that are left
+pub ring-goes_on : (w : World) (end stop next : Stop) (stops : List Stop) (i onward : ℕ) (old new : RingReading) (Good : Type 0) → onward ≡ end.1 → i < length stops
+    → GoesRound w.net stop end (drop i stops) → next ≡ stop_after w.net stop
+    → ((rest : List ℕ) → MayFollow new rest ↔ MayFollow old (leg_values w (leg_of stop next.1) ++ rest))
+    → MayFollow old (flat_map (leg_values w) (legs_to onward (drop i stops))) ↔ Good
+    → MayFollow new (flat_map (leg_values w) (legs_to onward (drop (suc i) stops))) ↔ Good
+ring-goes_on w end stop next stops i onward old new Good same within along is read so_far =
+    let leg = leg-passed w.net stop end stops i within along in
+    let here : legs_to onward (drop i stops) ≡ leg_of stop (stop_after w.net stop).1 ∷ legs_to onward (drop (suc i) stops) =
+    subst (λ e. legs_to e (drop i stops) ≡ leg_of stop (stop_after w.net stop).1 ∷ legs_to e (drop (suc i) stops)) (sym same) leg in
+    let parts : legs_to onward (drop i stops) ≡ leg_of stop next.1 ∷ legs_to onward (drop (suc i) stops) =
+    here ∙ ap (λ s. leg_of stop s.1 ∷ legs_to onward (drop (suc i) stops)) (sym is) in
+    let before = subst (λ ls. MayFollow old (flat_map (leg_values w) ls) ↔ Good) parts so_far in
+    let n = read (flat_map (leg_values w) (legs_to onward (drop (suc i) stops))) in
+    (λ m. before.0 (n.0 m), λ good. n.1 (before.1 good))

@@ -17,7 +17,7 @@ use topology::Net;
 
 /// How many links there are, both directions of an edge being one each.
 pub fn link_count<A: Allocator + Copy>(net: &Net<A>) -> usize
-    ensures count { result ≡ length (links_of net.now) }
+    ensures { result ≡ length (links_of net.now) }
 {
     let mut count = 0;
     for from in 0..net.nodes() {

@@ -18,8 +18,9 @@ pub fn stage_of<A: Allocator + Copy>(configuration: &Configuration<A>) -> u16
     ensures { IsStageOf (world_of configuration.now) result }
 {
     topology::laws::eccentricity();
-    let _known_nodes = configuration.net().nodes();
-    let last = configuration.net().eccentricity() + 1;
+    let net = configuration.net();
+    let _known_nodes = net.nodes();
+    let last = net.eccentricity() + 1;
     for stage in 0..last {
         if !is_at_stage(configuration, stage + 1) {
             return stage;
@@ -69,7 +70,9 @@ fn are_links_at_stage<A: Allocator + Copy>(
 {
     topology::laws::neighbours();
     topology::laws::joined();
-    for &u in configuration.net().neighbours(v) {
+    let net = configuration.net();
+    let _known_nodes = net.nodes();
+    for &u in net.neighbours(v) {
         if !is_link_at_stage(configuration, v, u, stage, distance) {
             return false;
         }
@@ -147,7 +150,9 @@ fn are_links_true<A: Allocator + Copy>(
 {
     topology::laws::neighbours();
     topology::laws::joined();
-    for &u in configuration.net().neighbours(v) {
+    let net = configuration.net();
+    let _known_nodes = net.nodes();
+    for &u in net.neighbours(v) {
         if !is_link_true(configuration, v, u, distance, parent) {
             return false;
         }

@@ -1,5 +1,5 @@
 //! All layers at once.
-ghost use Rattle.std.specs.Prelude.{◌↔◌, IsTrue};
+ghost use Rattle.std.specs.Prelude.{◌≡◌, ◌↔◌, ◌&&◌, IsTrue};
 ghost use Rattle.configuration.specs.ConfigurationView.{world_of};
 ghost use Rattle.convergence.specs.Legitimate.{IsLegitimate};
 ghost use Rattle.layers.specs.LayersOf.{AreLayersOf};
@@ -39,7 +39,9 @@ impl Layers {
     {
         topology::laws::joined();
         topology::laws::neighbours();
+        topology::laws::eccentricity();
         let net = configuration.net();
+        let _known_nodes = net.nodes();
         let links = link_count(net);
         let stable = stable_count(configuration);
         let tree = is_tree_reached(configuration);
@@ -53,7 +55,14 @@ impl Layers {
             tree,
             ring,
             loans,
-            legitimate: stable == links && tree && ring && loans,
+            legitimate: all_stand(stable == links, tree, ring, loans),
         }
     }
+}
+
+/// Whether all four conditions of a legitimate world hold.
+fn all_stand(links: bool, tree: bool, ring: bool, loans: bool) -> bool
+    ensures { result ≡ (links && (tree && (ring && loans))) }
+{
+    links && tree && ring && loans
 }
