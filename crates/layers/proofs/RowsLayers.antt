@@ -49,8 +49,11 @@ own-number = refl
 noise-has_none : numbers_of (number_of Acknowledged) item.Noise ≡ []
 noise-has_none = refl
 
-two-such : AreSuch (λ x. x ≡ 2) (2 ∷ 1 ∷ 2 ∷ []) (suc (suc zero))
+abbrev is-two : ℕ → Type 0
+is-two x = x ≡ 2
+
+two-such : AreSuch is-two (2 ∷ 1 ∷ 2 ∷ []) (suc (suc zero))
 two-such = One_more refl (Not_this (λ e. grind (arith, e)) (One_more refl Nothing_left))
 
-such_not-none : ¬ AreSuch (λ x. x ≡ 2) (2 ∷ []) zero
+such_not-none : ¬ AreSuch is-two (2 ∷ []) zero
 such_not-none (Not_this fails a) = fails refl

@@ -28,12 +28,14 @@ loop-index-preserved g c =
     )
 
 pub returns : goal.returns
-returns g c = λ port other seq staged.
-    let items = (world_of c.args.configuration.now).link c.args.from c.args.to in
-    let P = CarriesItsPayload port other in
-    let C = Admits c.args.start other × AllByRecursion P items in
-    let within = c.loop-index.invariant.0 in
-    let end : length items ≡ c.loop-index.index = omega (arith, within, c.loop-index-test.false, c.under_way.ensures.items) in
-    let all : (Admits c.loop-index.reading other × AllByRecursion P []) ↔ C =
-    subst (λ ys. (Admits c.loop-index.reading other × AllByRecursion P ys) ↔ C) (none-left items c.loop-index.index end) (c.loop-index.invariant.3 port other seq staged) in
-    (λ a. all.0 (a, tt), λ both. (all.1 both).0)
+returns g c = record {
+  admits = λ port other seq staged.
+      let items = (world_of c.args.configuration.now).link c.args.from c.args.to in
+      let P = CarriesItsPayload port other in
+      let C : Type 0 = Admits c.args.start other × AllByRecursion P items in
+      let within = c.loop-index.invariant.0 in
+      let end : length items ≡ c.loop-index.index = omega (arith, within, c.loop-index-test.false, c.under_way-index-end.ensures.items) in
+      let all : (Admits c.loop-index.reading other × AllByRecursion P []) ↔ C =
+      subst (λ ys. (Admits c.loop-index.reading other × AllByRecursion P ys) ↔ C) (none-left items c.loop-index.index end) (c.loop-index.invariant.3 port other seq staged) in
+      (λ a. all.0 (a, tt), λ both. (all.1 both).0);
+}

@@ -1,4 +1,4 @@
-use Rattle.std.proofs.Common.{◌≡◌, ◌∙◌, ap, sym, subst, ◌<◌, ◌≤◌, length, get_or, arith, Contains}
+use Rattle.std.proofs.Common.{ℕ, ◌≡◌, ◌∙◌, ap, sym, subst, ◌<◌, ◌≤◌, length, get_or, arith, Contains}
 use Rattle.std.proofs.lemmas.List.Elements.{Contains-get_or}
 use Rattle.topology.specs.Network.{neighbours_of}
 use Rattle.configuration.specs.ConfigurationView.{world_of}
@@ -22,8 +22,8 @@ is_stable-requires-clause-to_in g c =
 pub loop-to-preserved : goal.loop-to-preserved
 loop-to-preserved g c =
     let w = world_of c.args.configuration.now in
-    let P = IsLinkStable w in
-    let f = λ v. (c.args.from, v) in
+    let P : ℕ × ℕ → Type 0 = IsLinkStable w in
+    let f : ℕ → ℕ × ℕ = λ v. (c.args.from, v) in
     let near = neighbours_of w.net c.args.from in
     let same : c.neighbours-to-items.result.now ≡ near = c.neighbours-to-items.ensures ∙ ap (λ n. neighbours_of n c.args.from) c.net.ensures in
     let i = c.loop-to.to-index in
