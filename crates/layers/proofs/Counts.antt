@@ -3,7 +3,7 @@ use Rattle.std.proofs.Common.{◌≡◌, ◌∙◌, ap, sym, refl, subst, ℕ, �
 use Rattle.std.specs.List.{AllByRecursion, All, flat_map, range_with_len}
 use Rattle.std.proofs.lemmas.Grind.{common_steps, flat_map-append}
 use Rattle.std.proofs.Math.Seq.{take-length}
-use Rattle.std.proofs.lemmas.List.{append-nil, map-append}
+use Rattle.std.proofs.lemmas.List.{append-nil, length-append, length-map, map-append}
 use Rattle.std.proofs.lemmas.List.Elements.{All-from_recursion, recursion_from_All, All-from_get_or, All-contains, Contains-get_or}
 use Rattle.std.proofs.lemmas.List.FromFn.{get_or-range_with_len, length-range_with_len}
 use Rattle.std.proofs.lemmas.List.Sums.{length-filter, count_by-le-length}
@@ -138,12 +138,14 @@ links-whole net n all =
     let nodes = range_with_len 0 net.nodes in
     ap (λ k. flat_map (links_from net) (take k nodes)) (all ∙ sym (length-range_with_len 0 net.nodes)) ∙ ap (flat_map (links_from net)) (take-length nodes)
 
-links-length : (net : Network) (u : ℕ) (xs : List ℕ) → length (map (λ v. (u, v)) xs) ≡ length xs
-links-length net u [] = refl
-links-length net u (x ∷ xs) = ap suc (links-length net u xs)
+pair-length : (f : ℕ → ℕ × ℕ) (xs : List ℕ) → length (map f xs) ≡ length xs
+pair-length f xs = length-map xs f
+
+links-length : (net : Network) (u : ℕ) → length (links_from net u) ≡ length (neighbours_of net u)
+links-length net u = pair-length (λ v. (u, v)) (neighbours_of net u)
 
 join-length : (xs ys : List (ℕ × ℕ)) → length (xs ++ ys) ≡ length xs + length ys
-join-length xs ys = grind (arith, common_steps)
+join-length xs ys = length-append xs ys
 
 -- and how many these are
 pub more-links : (net : Network) (u count len : ℕ) → u < net.nodes → count ≡ length (flat_map (links_from net) (take u (range_with_len 0 net.nodes)))
@@ -151,5 +153,5 @@ pub more-links : (net : Network) (u count len : ℕ) → u < net.nodes → count
     → count + len ≡ length (flat_map (links_from net) (take (u + 1) (range_with_len 0 net.nodes)))
 more-links net u count len below counted is =
     let before = flat_map (links_from net) (take u (range_with_len 0 net.nodes)) in
-    let sum : length before + length (links_from net u) ≡ count + len = omega (arith, counted, is, links-length net u (neighbours_of net u)) in
+    let sum : length before + length (links_from net u) ≡ count + len = omega (arith, counted, is, links-length net u) in
     sym (ap length (links-more net u below) ∙ join-length before (links_from net u) ∙ sum)

@@ -21,6 +21,6 @@ returns g c =
       ring = c.is_token_ring_good-ring.ensures;
       loans = c.are_loans_privileged-loans.ensures;
       legitimate = stands-legitimate c.neighbours.ensures.joined c.joined.ensures.nodes w accepted c.stable_count-stable.result c.link_count-links.result
-          c.stable_count-stable.ensures links c.is_tree_reached-tree.result c.is_token_ring_good-ring.result c.are_loans_privileged-loans.result
-          c.all_stand.result c.all_stand.ensures c.is_tree_reached-tree.ensures c.is_token_ring_good-ring.ensures c.are_loans_privileged-loans.ensures;
+          c.stable_count-stable.ensures links c.all_stand.result c.is_tree_reached-tree.result c.is_token_ring_good-ring.result
+          c.are_loans_privileged-loans.result c.all_stand.ensures c.is_tree_reached-tree.ensures c.is_token_ring_good-ring.ensures c.are_loans_privileged-loans.ensures;
     }
