@@ -15,9 +15,9 @@ loop-from-preserved g c =
     let accepted : IsAcceptedNetwork w.net = subst (λ n. IsAcceptedNetwork n) c.net.ensures c.nodes-from-end.ensures.network in
     let nodes : c.nodes-from-end.result ≡ w.net.nodes = c.nodes-from-end.ensures.nodes ∙ ap (λ n. n.nodes) c.net.ensures in
     let below : c.loop-from.from < w.net.nodes = omega (arith, c.loop-from-test.true, nodes) in (
-      subst (λ ys. AreSuch P ys (c.loop-from.count + c.stable_count_from.result)) (sym (links-more w.net c.loop-from.from below))
-          (such-join P c.loop-from.invariant.0 c.stable_count_from.ensures.count),
-      omega (arith, c.loop-from.invariant.1, c.stable_count_from.ensures.few, accepted.limits.most),
+      subst (λ ys. AreSuch P ys (c.loop-from.count + c.stable_count_from-count.result)) (sym (links-more w.net c.loop-from.from below))
+          (such-join P c.loop-from.invariant.0 c.stable_count_from-count.ensures.count),
+      omega (arith, c.loop-from.invariant.1, c.stable_count_from-count.ensures.few, accepted.limits.most),
     )
 
 pub returns : goal.returns
