@@ -17,7 +17,7 @@ use Rattle.command_parts.specs.EventText.{GrowsByText, text_of}
 use Rattle.command_parts.specs.FaultText.{fault_text}
 use Rattle.command_parts.specs.PathFaultText.{path_fault_text}
 use Rattle.command_parts.specs.Returns.{gave_return, has_return, return_hint}
-use Rattle.command_parts.specs.Simulated.{IsCaused, IsDone, IsFailed, IsToldAs}
+use Rattle.command_parts.specs.Simulated.{IsCaused, IsDone, IsFailed, IsReportedAs}
 use Rattle.command_parts.specs.SimulationFault.{fault_of}
 
 zero-is : decimal 0 ≡ codes "0"
@@ -86,10 +86,10 @@ abbrev start : World
 start = default_world (record { nodes = 2; root = 0; capacity = 1; lease = 0; edges = (0, 1) ∷ [] })
 
 -- a failure of the output after the simulation is reported as one of the output
-tells-output : (summary : Summary) → IsToldAs (Ok summary) fault.Output
+tells-output : (summary : Summary) → IsReportedAs (Ok summary) fault.Output
 tells-output summary = refl
 
-tells_not-long : (summary : Summary) → ¬ IsToldAs (Ok summary) fault.EventsLong
+tells_not-long : (summary : Summary) → ¬ IsReportedAs (Ok summary) fault.EventsLong
 tells_not-long summary told = grind (arith, told)
 
 -- if memory is refused, nothing is read or written, and memory is reported

@@ -34,8 +34,8 @@ two_digits tens ones low high is =
     decimal_step n (omega (arith, within.0)) (omega (arith, within.1))
     ∙ ap (λ ds. ds ++ (48 + n % 10) ∷ []) (decimal_digit (n / 10) small ∙ ap (λ x. x ∷ []) front) ∙ ap (λ x. tens ∷ x ∷ []) last
 
-all_behind : (s : List ℕ) (i : ℕ) → take (length s - i) (drop i s) ≡ drop i s
-all_behind s i = grind (arith, common_steps)
+all_after : (s : List ℕ) (i : ℕ) → take (length s - i) (drop i s) ≡ drop i s
+all_after s i = grind (arith, common_steps)
 
 -- a text of at least so many bytes begins with them
 pub one_byte : (s : List ℕ) (a : ℕ) → 1 ≤ length s → get_or s 0 0 ≡ a → s ≡ a ∷ drop 1 s
@@ -56,7 +56,7 @@ five_bytes [] a b c d e some p q r t u = absurd (omega arith)
 five_bytes (x ∷ []) a b c d e some p q r t u = absurd (omega arith)
 five_bytes (x ∷ y ∷ s) a b c d e some p q r t u =
     ap (λ z. z ∷ y ∷ s) p ∙ ap (λ z. a ∷ z ∷ s) q ∙ ap (λ z. a ∷ b ∷ z) (three_bytes s c d e (omega (arith, some)) r t u)
-    ∙ ap (λ z. a ∷ b ∷ c ∷ d ∷ e ∷ z) (sym (all_behind (x ∷ y ∷ s) 5))
+    ∙ ap (λ z. a ∷ b ∷ c ∷ d ∷ e ∷ z) (sym (all_after (x ∷ y ∷ s) 5))
 
 -- one digit and the byte that ends it, and two digits and that byte
 pub one_in_front : (s : List ℕ) (end n : ℕ) → 2 ≤ length s → is_ascii_digit (get_or s 0 0) ≡ true → get_or s 1 0 ≡ end → n ≡ get_or s 0 0 - 48
@@ -65,7 +65,7 @@ one_in_front s end n some digit last value =
     let small : n < 100 = grind (arith, nat_tests) in
     let spelled : decimal n ≡ get_or s 0 0 ∷ [] = ap decimal value ∙ one_digit (get_or s 0 0) digit in (
       small,
-      two_bytes s (get_or s 0 0) end some refl last ∙ ap (λ t. get_or s 0 0 ∷ end ∷ t) (sym (all_behind s 2))
+      two_bytes s (get_or s 0 0) end some refl last ∙ ap (λ t. get_or s 0 0 ∷ end ∷ t) (sym (all_after s 2))
           ∙ ap (λ ds. ds ++ end ∷ take (length s - 2) (drop 2 s)) (sym spelled),
     )
 
@@ -78,7 +78,7 @@ two_in_front s end n some low high digit last value =
     let spelled : decimal n ≡ get_or s 0 0 ∷ get_or s 1 0 ∷ [] = ap decimal value ∙ two_digits (get_or s 0 0) (get_or s 1 0) low high digit in (
       small,
       three_bytes s (get_or s 0 0) (get_or s 1 0) end some refl refl last
-          ∙ ap (λ t. get_or s 0 0 ∷ get_or s 1 0 ∷ end ∷ t) (sym (all_behind s 3))
+          ∙ ap (λ t. get_or s 0 0 ∷ get_or s 1 0 ∷ end ∷ t) (sym (all_after s 3))
           ∙ ap (λ ds. ds ++ end ∷ take (length s - 3) (drop 3 s)) (sym spelled),
     )
 

@@ -15,8 +15,8 @@ in_front line rest piece is =
     ap (λ n. take n piece) used ∙ ap (take (length line + 1)) is ∙ take-append-add line (newline ∷ rest) 1
 
 module _ (cut : LinesAreCut) (grow : LinesGrow) (bytes line : List ℕ) (none : half_line bytes ≡ []) (one : HasNoNewline line) where
-  pub stands_behind : (k : Kept) → k ≡ kept 64 [] → StandsAfter 64 (bytes ++ (line ++ newline ∷ [])) k
-  stands_behind k empty =
+  pub stands_after : (k : Kept) → k ≡ kept 64 [] → StandsAfter 64 (bytes ++ (line ++ newline ∷ [])) k
+  stands_after k empty =
       empty ∙ ap (kept 64) (sym (cut.half [] bytes (line ++ newline ∷ []) ∙ ap (λ half. half_after half (line ++ newline ∷ [])) none
       ∙ grow.begun [] line [] one))
 

@@ -15,8 +15,8 @@ use Rattle.experiments.specs.Recovery.{FailedLast, counted_from}
 module _ (network : NetworkStays) (splits : UndamagedSplits) (leads : MomentLeads) (fewer : FewerSweeps) (sharp : SharpHeadline) (start : World)
     (ok : IsWorldInRange start) where
   -- as many sweeps as the bound of the network that stands lead to a world that serves
-  serves-behind : (es : List Event) (count : ℕ) → IsSweepCount start es count → sharp_of (run start es).net ≤ count → IsServing (run start es)
-  serves-behind es count counted enough =
+  serves-after : (es : List Event) (count : ℕ) → IsSweepCount start es count → sharp_of (run start es).net ≤ count → IsServing (run start es)
+  serves-after es count counted enough =
       let m = after_damage start es in
       let l = leads start es ok in
       let same : m.world.net ≡ (run start es).net = sym (network m.world m.rest l.1) ∙ ap (λ (w : World). w.net) l.2 in
@@ -31,7 +31,7 @@ module _ (network : NetworkStays) (splits : UndamagedSplits) (leads : MomentLead
       elim (below-or-not count (sharp_of start.net)) [
         | inl less ↦ less
         | inr enough ↦
-            absurd (fails (serves-behind es count counted (subst (λ (n : Network). sharp_of n ≤ count) (sym (network start es harmless)) enough)))
+            absurd (fails (serves-after es count counted (subst (λ (n : Network). sharp_of n ≤ count) (sym (network start es harmless)) enough)))
       ]
 
   pub recovers-within : (es : List Event) (last : Option ℕ) → IsUndamaged start es → FailedLast start es last → counted_from last ≤ sharp_of start.net

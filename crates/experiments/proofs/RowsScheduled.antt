@@ -14,7 +14,7 @@ use Rattle.damage_tool.specs.Draws.{draw}
 use Rattle.judge.specs.JudgeView.{JudgeView, HasSeen}
 use Rattle.experiments.specs.declared.plan.Order.TheVariants as order
 use Rattle.experiments.specs.Plan.{ordered}
-use Rattle.experiments.specs.Recovery.{IsWatched, ServesBehindEach}
+use Rattle.experiments.specs.Recovery.{IsWatched, ServesAfterEach}
 use Rattle.experiments.specs.Scheduled.{plain, plain_steps, lent_at, leave_of}
 use Rattle.experiments.specs.Shown.{scrambled, seeded}
 use Rattle.experiments.specs.Watched.{GoesOn, GoesOnBy}
@@ -95,11 +95,11 @@ scrambles_not-start = grind arith
 -- ---- watched runs
 
 -- after an event that is refused all is as before
-serves-behind : ServesBehindEach calm (Tick 2 ∷ [])
-serves-behind = (calm-serves, tt)
+serves-after : ServesAfterEach calm (Tick 2 ∷ [])
+serves-after = (calm-serves, tt)
 
-serves_not-behind : ¬ ServesBehindEach two_tokens (Tick 2 ∷ [])
-serves_not-behind serves = two_tokens-do_not_serve serves.0
+serves_not-after : ¬ ServesAfterEach two_tokens (Tick 2 ∷ [])
+serves_not-after serves = two_tokens-do_not_serve serves.0
 
 watches : (judge : JudgeView) → HasSeen judge calm [] → IsWatched calm [] judge None
 watches judge seen = record { seen = seen; failed = (calm-serves, tt) }

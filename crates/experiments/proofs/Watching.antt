@@ -12,13 +12,13 @@ use Rattle.configuration.specs.ConfigurationView.{ConfigurationView, world_of}
 use Rattle.judge.specs.Judging.{counted_up_to}
 use Rattle.configuration.specs.Sight.{IsTouchedSight}
 use Rattle.configuration.specs.declared.sight.Sight.{Sight}
-use Rattle.experiments.specs.Recovery.{ServesBehindEach, IsLastFailure, FailedLast, IsLastNow}
+use Rattle.experiments.specs.Recovery.{ServesAfterEach, IsLastFailure, FailedLast, IsLastNow}
 
 pub run-append : (w : World) (xs ys : List Event) → run w (xs ++ ys) ≡ run (run w xs) ys
 run-append w [] ys = refl
 run-append w (x ∷ xs) ys = run-append (step w x) xs ys
 
-pub serves-more : (w : World) (es : List Event) (e : Event) → ServesBehindEach w es → IsServing (run w (es ++ e ∷ [])) → ServesBehindEach w (es ++ e ∷ [])
+pub serves-more : (w : World) (es : List Event) (e : Event) → ServesAfterEach w es → IsServing (run w (es ++ e ∷ [])) → ServesAfterEach w (es ++ e ∷ [])
 serves-more w [] e each last = (last, tt)
 serves-more w (x ∷ es) e each last = (each.0, serves-more (step w x) es e each.1 last)
 
@@ -49,10 +49,10 @@ abbrev pub IsExact : Bool → World → Type 0
 IsExact serves w = IsTrue serves ↔ IsServing w
 
 -- whatever keeps a flag exact over an event by the sight of the touched node keeps it so here
-pub exact-behind : (old new read after : ConfigurationView) (e : Event) (sight : Option Sight) (served serves : Bool) → read ≡ old → after ≡ new
+pub exact-after : (old new read after : ConfigurationView) (e : Event) (sight : Option Sight) (served serves : Bool) → read ≡ old → after ≡ new
     → world_of new ≡ step (world_of old) e → IsTouchedSight (world_of read) e sight → IsExact served (world_of old)
     → ((w : World) → world_of after ≡ step w e → IsTouchedSight w e sight → IsExact served w → IsExact serves (world_of after)) → IsExact serves (world_of after)
-exact-behind old new read after e sight served serves is_read is_after happens touched exact keeps =
+exact-after old new read after e sight served serves is_read is_after happens touched exact keeps =
     keeps (world_of old) (ap world_of is_after ∙ happens) (subst (λ j. IsTouchedSight (world_of j) e sight) is_read touched) exact
 
 -- the last failure by such a flag

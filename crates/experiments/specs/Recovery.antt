@@ -16,9 +16,9 @@ pub record WatchView : Type 0 where
   pub last : Option ℕ
 
 -- the network serves after each of these events
-abbrev pub ServesBehindEach : World → List Event → Type 0
-ServesBehindEach w [] = Unit {0}
-ServesBehindEach w (e ∷ es) = IsServing (step w e) × ServesBehindEach (step w e) es
+abbrev pub ServesAfterEach : World → List Event → Type 0
+ServesAfterEach w [] = Unit {0}
+ServesAfterEach w (e ∷ es) = IsServing (step w e) × ServesAfterEach (step w e) es
 
 -- The run failed to serve after these first events, among which there were that many sweeps, and
 -- not any more from then on.
@@ -30,11 +30,11 @@ pub record IsLastFailure (start : World) (es : List Event) (sweeps : ℕ) : Type
   pub counted : IsSweepCount start front count
   pub sweeps_are : sweeps ≡ counted_up_to count
   pub fails : ¬ IsServing (run start front)
-  pub serves_then : ServesBehindEach (run start front) back
+  pub serves_then : ServesAfterEach (run start front) back
 
 -- what is known of the last failure of a run: if there is none, it serves at every moment
 abbrev pub FailedLast : World → List Event → Option ℕ → Type 0
-FailedLast start es None = IsServing start × ServesBehindEach start es
+FailedLast start es None = IsServing start × ServesAfterEach start es
 FailedLast start es (Some sweeps) = IsLastFailure start es sweeps
 
 -- The judge has seen the events, and `last` says how many sweeps there had been at the last moment

@@ -81,7 +81,7 @@ pub fn measure_run<A: Allocator + Copy>(
     give_stretches(net, scheduler, &mut generator, &mut watch);
     Ok(Recovery {
         seed,
-        sweeps: watch.served_behind(),
+        sweeps: watch.served_after(),
         seen: watch.sweeps(),
     })
 }

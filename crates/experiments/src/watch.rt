@@ -69,7 +69,7 @@ impl<A: Allocator + Copy> Watch<A> {
     }
 
     /// After how many sweeps the network has served at every moment: the least such number.
-    pub fn served_behind(&self) -> u64
+    pub fn served_after(&self) -> u64
         ensures { result ≡ counted_from self.now.last }
     {
         match self.last {

@@ -22,7 +22,7 @@ use Rattle.run_recording.specs.Filmed.{still_of, take_of, filmed_if, ended_with,
 use Rattle.run_recording.proofs.Strips.{as_empty}
 use Rattle.run_recording.specs.Recordings.{moment_of, shown_if, ended_at, AreMoments, IsBeforeAny, RecordingView, IsRecorded, IsReading}
 use Rattle.run_recording.specs.Recordings.AreMoments.{Start, Next}
-use Rattle.run_recording.specs.Recordings.IsFirstHeld.{AtStart, Behind}
+use Rattle.run_recording.specs.Recordings.IsFirstHeld.{AtStart, Following}
 
 -- an event is accepted if its step says so
 pub accepted_is : (result : Result (Unit {0}) EventFault) (refusal : Option EventFault) → OnOk result (refusal ≡ None) → IfErr result (λ fault. refusal ≡ Some fault)
@@ -60,7 +60,7 @@ before_more window start es e sweeps ended [] (moment ∷ []) was now are next f
   front = es ++ e ∷ [];
   back = [];
   are = sym (append-nil (es ++ e ∷ []));
-  first = rw (ap (λ b. b.sweeps) is) (Behind e moment are next);
+  first = rw (ap (λ b. b.sweeps) is) (Following e moment are next);
   events_are = grind (arith, common_steps, is);
 }
 before_more window start es e sweeps ended [] (moment ∷ more ∷ shown) was now are next few before is = let no : ⊥ = grind (arith, few) in elim no [ ]

@@ -59,7 +59,7 @@ pub data AreMoments (window : Window) (start : World) : List Event → ℕ → L
 -- is held.
 pub data IsFirstHeld (window : Window) (start : World) : List Event → ℕ → Type 0 where
   AtStart : (moment : Column) → AreMoments window start [] 0 (moment ∷ []) → IsFirstHeld window start [] 0
-  Behind : {es : List Event} {sweeps ended : ℕ} (e : Event) (moment : Column)
+  Following : {es : List Event} {sweeps ended : ℕ} (e : Event) (moment : Column)
       → AreMoments window start es sweeps [] → AreMoments window start (es ++ e ∷ []) ended (moment ∷ [])
       → IsFirstHeld window start (es ++ e ∷ []) sweeps
 

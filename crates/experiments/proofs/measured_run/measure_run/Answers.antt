@@ -50,10 +50,10 @@ returns g c =
         undamaged = harmless;
         last = c.give_stretches.new.watch.last;
         failed = w.failed;
-        sweeps_are = c.served_behind.ensures;
+        sweeps_are = c.served_after.ensures;
         count = count.0;
         counted = count.1;
         seen_are = count.2;
       };
-      within = omega (arith, c.served_behind.ensures, subst (λ (n : Network). counted_from c.give_stretches.new.watch.last ≤ sharp_of n) same less);
+      within = omega (arith, c.served_after.ensures, subst (λ (n : Network). counted_from c.give_stretches.new.watch.last ≤ sharp_of n) same less);
     }

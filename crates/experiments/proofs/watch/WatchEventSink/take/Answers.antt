@@ -1,6 +1,6 @@
 use Rattle.std.proofs.Common.{◌∙◌, ◌∷◌, [], ◌++◌, ap, subst}
 use Rattle.configuration.specs.ConfigurationView.{world_of}
-use Rattle.experiments.proofs.Watching.{IsExact, exact-behind, last-goes_on, last-by}
+use Rattle.experiments.proofs.Watching.{IsExact, exact-after, last-goes_on, last-by}
 use Rattle.experiments.proofs.watch.WatchEventSink.take.Goals as goal
 
 pub returns-clause-taken : goal.returns-clause-taken
@@ -10,7 +10,7 @@ returns-clause-taken g c = rw (← c.self.view_is) (λ start before watched.
     let seen = c.step-answer.ensures.judging start before watched.seen in
     let count = c.sweeps.ensures.sweeps start (before ++ e ∷ []) seen in
     let exact : IsExact c.serves_after-self-inside.result now =
-    exact-behind _ _ _ _ e _ _ _ c.configuration.ensures c.configuration-now.ensures c.step-answer.ensures.world c.touched_sight-before.ensures c.self.invariant
+    exact-after _ _ _ _ e _ _ _ c.configuration.ensures c.configuration-now.ensures c.step-answer.ensures.world c.touched_sight-before.ensures c.self.invariant
     c.serves_after-self-inside.ensures
     in
     record {
@@ -24,5 +24,5 @@ returns-clause-taken g c = rw (← c.self.view_is) (λ start before watched.
 pub invariant_of-self : goal.invariant_of-self
 invariant_of-self g c =
     subst (λ j. IsExact c.serves_after-self-inside.result (world_of j)) c.configuration-now.ensures
-    (exact-behind _ _ _ _ c.args.event.now _ _ _ c.configuration.ensures c.configuration-now.ensures c.step-answer.ensures.world c.touched_sight-before.ensures
+    (exact-after _ _ _ _ c.args.event.now _ _ _ c.configuration.ensures c.configuration-now.ensures c.step-answer.ensures.world c.touched_sight-before.ensures
     c.self.invariant c.serves_after-self-inside.ensures)
