@@ -21,10 +21,7 @@ const LOCK: Grammar<'static> = Grammar {
             "SECONDS",
             "Give up after 0 to 65535 seconds, as 5 or 0.2",
         ),
-        Parameter::Flag(
-            "no-wait",
-            "Give up at once, after half a second (-n)",
-        ),
+        Parameter::Flag("no-wait", "Give up at once, after half a second (-n)"),
         Parameter::ValueOr(
             "lost-status",
             "STATUS",

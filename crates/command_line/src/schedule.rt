@@ -30,26 +30,15 @@ const SCHEDULE: Grammar<'static> = Grammar {
             "SEED",
             "Begin with damage to everything, drawn from this seed",
         ),
-        Parameter::Value(
-            "rounds",
-            "N",
-            "Rounds; in each every node and link acts",
-        ),
-        Parameter::Value(
-            "random",
-            "EVENTS",
-            "Random steps: ticks, sends and takes",
-        ),
+        Parameter::Value("rounds", "N", "Rounds; in each every node and link acts"),
+        Parameter::Value("random", "EVENTS", "Random steps: ticks, sends and takes"),
         Parameter::Value("seed", "SEED", "The seed of the random steps"),
         Parameter::Value(
             "loss",
             "PERCENT",
             "How many of a hundred takes are losses, 0 to 100",
         ),
-        Parameter::Flag(
-            "clients",
-            "Random steps of clients too: they ask and leave",
-        ),
+        Parameter::Flag("clients", "Random steps of clients too: they ask and leave"),
         Parameter::Value(
             "give-back",
             "TICKS",

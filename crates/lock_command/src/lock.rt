@@ -46,7 +46,7 @@ pub struct Request<'a> {
 /// own, or 128 plus the number of the signal that ended it; `lost` if the lock was lost; 124 if it
 /// was not granted in time; 125 if there is no lock service, or no guard could be started; 126 if
 /// the command cannot be run, and 127 if there is none. A line on standard error explains each
-/// status that is not the command's.
+/// status of its own.
 ///
 /// While the command runs, a guard holds the lock too, so that nobody else gets it if this process
 /// is killed. A [`LockClient`](lock_client::LockClient), whose laws are proved, decides what it

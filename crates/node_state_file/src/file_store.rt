@@ -1,6 +1,7 @@
 //! A store over a file, which is written in place.
 ghost use Rattle.std.specs.Prelude.{◌≡◌, ◌≤◌, ◌<◌, length, IfOk};
 
+use crate::layout::LOADED_BYTES;
 use crate::store::{Store, StoreFault};
 use std::fs::{OpenFile, OpenOptions};
 use std::io::{ErrorKind, Read, Write};
@@ -42,7 +43,7 @@ impl<'a, F: Files> Store for FileStore<'a, F> {
 
     ghost failures = { λ s. s.failures };
 
-    fn load(&mut self, buffer: &mut [u8; 1277]) -> Result<usize, StoreFault> {
+    fn load(&mut self, buffer: &mut [u8; LOADED_BYTES]) -> Result<usize, StoreFault> {
         match read_front(self.files, self.path, buffer) {
             Ok(count) => Ok(count),
             Err(error) if error.kind() == ErrorKind::NotFound => Err(StoreFault::Absent),
@@ -65,7 +66,7 @@ impl<'a, F: Files> Store for FileStore<'a, F> {
 }
 
 /// Reads the first bytes of a plain file, and says how many.
-fn read_front<F: Files>(files: &F, path: &str, buffer: &mut [u8; 1277]) -> io::Result<usize>
+fn read_front<F: Files>(files: &F, path: &str, buffer: &mut [u8; LOADED_BYTES]) -> io::Result<usize>
     ensures { IfOk result (λ count. count ≤ 1277) }
 {
     if !fs::metadata(files, path)?.is_file() {
@@ -73,7 +74,7 @@ fn read_front<F: Files>(files: &F, path: &str, buffer: &mut [u8; 1277]) -> io::R
     }
     let mut file = fs::File::open(files, path)?;
     let mut count = 0;
-    while count < 1277 {
+    while count < LOADED_BYTES {
         let read = file.read(&mut buffer[count..])?;
         if read == 0 {
             break;

@@ -5,6 +5,13 @@ ghost use Rattle.node_state_file.specs.Spelling.{magic};
 ghost use Rattle.node_state_file.specs.Reading.{layout_of, header_length};
 ghost use Rattle.node_state_file.specs.declared.fault.FileFault.TheVariants.{Short, Magic};
 
+/// The most bytes of a state: 16, and 20 for each of at most 63 neighbours, since a network has at
+/// most 64 nodes.
+pub const MOST_BYTES: usize = 1276;
+
+/// How many bytes a load reads at most: one more, so that a longer file shows.
+pub const LOADED_BYTES: usize = 1277;
+
 /// How the bytes of a state file are laid out.
 #[derive(Clone, Copy, Debug, PartialEq, Eq)]
 pub(crate) enum Layout {

@@ -39,6 +39,7 @@ mod writing;
 
 pub use fault::FileFault;
 pub use file_store::FileStore;
+pub use layout::{LOADED_BYTES, MOST_BYTES};
 pub use memory_store::{FusedStore, MemoryStore};
 pub use node_core;
 pub use reading::decode;

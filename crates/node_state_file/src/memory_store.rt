@@ -5,6 +5,7 @@ ghost use Rattle.std.specs.Prelude.{option_map};
 ghost use Rattle.byte_streams.specs.Fuse.{failures_of, left_after};
 ghost use Rattle.node_state_file.specs.Stores.{Loads, Saves};
 
+use crate::layout::LOADED_BYTES;
 use crate::store::{Store, StoreFault};
 use byte_streams::Fuse;
 use std::alloc::{AllocError, Allocator, Global};
@@ -51,7 +52,7 @@ impl<A: Allocator + Copy> Store for MemoryStore<A> {
 
     ghost failures = { λ s. s.failures };
 
-    fn load(&mut self, buffer: &mut [u8; 1277]) -> Result<usize, StoreFault> {
+    fn load(&mut self, buffer: &mut [u8; LOADED_BYTES]) -> Result<usize, StoreFault> {
         if !self.is_present {
             return Err(StoreFault::Absent);
         }
@@ -115,7 +116,7 @@ impl<S: Store> Store for FusedStore<S> {
 
     ghost failures = { λ s. S.failures s.inner + failures_of s.fuse };
 
-    fn load(&mut self, buffer: &mut [u8; 1277]) -> Result<usize, StoreFault>
+    fn load(&mut self, buffer: &mut [u8; LOADED_BYTES]) -> Result<usize, StoreFault>
         ensures loads { Loads result (S.stored self.old.inner) (S.stored self.new.inner) buffer.new
             (S.failures self.old.inner + failures_of self.old.fuse)
             (S.failures self.new.inner + failures_of self.new.fuse) }

@@ -9,6 +9,7 @@ ghost use Rattle.node_state_file.specs.Reading.{decoded, fields_fit, matched};
 ghost use Rattle.node_state_file.specs.Stores.{AreStored, Starts};
 
 use crate::fault::FileFault;
+use crate::layout::LOADED_BYTES;
 use crate::reading::{SavedState, read_file, restore};
 use crate::store::{Store, StoreFault};
 use node_core::NodeState;
@@ -79,7 +80,7 @@ fn read_store<N: Allocator + Copy, S: Store>(
         Starts net.now id (S.stored store.old) (S.failures store.old) (S.failures store.new) (Some fault) (default_node (ranges_of net.now))) }
     ensures stored { S.stored store.new ≡ S.stored store.old }
 {
-    let mut buffer = [0; 1277];
+    let mut buffer = [0; LOADED_BYTES];
     match store.load(&mut buffer) {
         Ok(count) => match read_file(&buffer[..count], net, id) {
             Ok(saved) => Ok(saved),

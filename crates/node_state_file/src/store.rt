@@ -2,6 +2,7 @@
 ghost use Rattle.std.specs.Prelude.{◌≡◌, ℕ, List, Option};
 ghost use Rattle.node_state_file.specs.Stores.{Loads, Saves};
 
+use crate::layout::LOADED_BYTES;
 use thiserror::Error;
 
 /// Why a store gives or takes no bytes.
@@ -28,7 +29,7 @@ pub trait Store {
     ///
     /// # Errors
     /// `Absent` only if nothing is stored; `Device` only if the store failed in this call.
-    fn load(&mut self, buffer: &mut [u8; 1277]) -> Result<usize, StoreFault>
+    fn load(&mut self, buffer: &mut [u8; LOADED_BYTES]) -> Result<usize, StoreFault>
         ensures { Loads result (stored self.old) (stored self.new) buffer.new (failures self.old)
             (failures self.new) };
 

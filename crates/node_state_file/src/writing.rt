@@ -8,7 +8,7 @@ ghost use Rattle.node_core.specs.View.{site_in, state_of};
 ghost use Rattle.node_state_file.specs.Spelling.{spelling, header_numbers, port_numbers};
 ghost use Rattle.node_state_file.specs.declared.layout.Layout.TheVariants.{Tkt2};
 
-use crate::layout::Layout;
+use crate::layout::{Layout, MOST_BYTES};
 use crate::number::parent_number;
 use arrayvec::ArrayVec;
 use byteorder::{BigEndian, ByteOrder};
@@ -25,7 +25,7 @@ type Numbers = ArrayVec<u16, 636>;
 pub fn encode<A: Allocator, N: Allocator + Copy>(
     node: &NodeState<A>,
     net: &Net<N>,
-    bytes: &mut [u8; 1276],
+    bytes: &mut [u8; MOST_BYTES],
 ) -> usize
     requires id { (site_in node.now).id < net.now.nodes }
     requires site { site_in node.now ≡ site_of net.now (site_in node.now).id }
