@@ -1,6 +1,8 @@
 //! A node that starts from a store with any content, and stores that fail.
 use crate::calls::{File, NEWER, OLDER, started, two};
-use node_state_file::{FileFault, FusedStore, MemoryStore, StartFault, Store, StoreFault};
+use node_state_file::{
+    FileFault, FusedStore, LOADED_BYTES, MemoryStore, StartFault, Store, StoreFault,
+};
 use std::alloc::{AllocError, Global};
 use std::test::Fail;
 use test_parts::as_told;
@@ -65,7 +67,7 @@ const LONG: &[u8; 38] = b"TKT2\0\x02\0\x01\0\x01\0\x01\0\x01\0\0\
 const STORED: [(&[u8], &[u8], Option<FileFault>); 3] = [
     (OTHER, OTHER, None),
     (LONG, NEWER, Some(FileFault::Long)),
-    (&[b'T'; 1277], NEWER, Some(FileFault::Magic)),
+    (&[b'T'; LOADED_BYTES], NEWER, Some(FileFault::Magic)),
 ];
 
 /// The place of the first row that is wrong.

@@ -5,7 +5,7 @@ use crate::stage::{
 use crate::wires::{MemoryDoors, Pair, Queue, Trip};
 use node_core::Node;
 use node_loop::NodeRun;
-use node_state_file::{FusedStore, MemoryStore, StoreFault};
+use node_state_file::{FusedStore, MOST_BYTES, MemoryStore, StoreFault};
 use std::alloc::{AllocError, Global};
 use std::test::Fail;
 use test_parts::as_told;
@@ -99,7 +99,7 @@ type Fused<'a> = NodeRun<MemoryDoors<'a>, FusedStore<MemoryStore>>;
 
 /// A store whose first save fails.
 fn fused(alloc: Global) -> Result<FusedStore<MemoryStore>, Fail> {
-    Ok(FusedStore::new(MemoryStore::new(alloc, 1276)?, 0))
+    Ok(FusedStore::new(MemoryStore::new(alloc, MOST_BYTES)?, 0))
 }
 
 /// Node 1 of two; its first save fails.

@@ -8,7 +8,7 @@ use crate::wires::{MemoryDoors, Pair, Queue, Trip};
 use linked_list_allocator::LocalHeap;
 use node_core::Node;
 use node_loop::{NodeRun, Unmade};
-use node_state_file::MemoryStore;
+use node_state_file::{MOST_BYTES, MemoryStore};
 use pace::Manner;
 use std::alloc::{AllocError, Global};
 use std::test::Fail;
@@ -92,7 +92,7 @@ fn root_of<'a, 'h>(
     edges: &[(i64, i64)],
     doors: MemoryDoors<'a>,
 ) -> Result<Begun<'a, 'h>, Fail> {
-    let store = MemoryStore::new(alloc, 1276)?;
+    let store = MemoryStore::new(alloc, MOST_BYTES)?;
     let net = Net::make(alloc, nodes, 0, 1, 0, edges)?;
     Ok(begun_on(heap, net, doors, store))
 }

@@ -1,7 +1,7 @@
 //! A node that starts again from a meaningless state, among running nodes.
 use crate::stage::{Run, doors, doors_between, doors_to, over_new, run_with, turn_once, with_made};
 use crate::wires::{MemoryDoors, Pair, Queue, Trip};
-use node_state_file::{FileFault, MemoryStore, StartFault, Store, start};
+use node_state_file::{FileFault, MOST_BYTES, MemoryStore, StartFault, Store, start};
 use std::alloc::{AllocError, Global};
 use std::test::Fail;
 use test_parts::as_told;
@@ -32,7 +32,7 @@ fn row(alloc: Global) -> Result<Net, Fail> {
 
 /// A store with these bytes.
 fn stored(alloc: Global, bytes: Option<&[u8]>) -> Result<MemoryStore, Fail> {
-    let mut store = MemoryStore::new(alloc, 1276)?;
+    let mut store = MemoryStore::new(alloc, MOST_BYTES)?;
     if let Some(bytes) = bytes {
         store.save(bytes)?;
     }
