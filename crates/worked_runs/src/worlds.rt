@@ -16,6 +16,11 @@ pub fn net_of(
     Net::make(alloc, nodes, 0, 1, lease, edges)
 }
 
+/// A square: node 3 lies opposite the root.
+pub fn square(alloc: Global) -> Result<Net, NetFault> {
+    net_of(alloc, 4, 0, &[(0, 1), (0, 2), (1, 3), (2, 3)])
+}
+
 /// A network's default world.
 pub fn start<A: Allocator + Copy>(alloc: A, net: &Net) -> Result<World<A>, AllocError> {
     World::new(alloc, net)

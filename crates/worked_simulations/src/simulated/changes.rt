@@ -5,12 +5,7 @@ use run_model::EventFault;
 use std::test::Fail;
 use test_parts::as_told;
 use worked_runs::texts::round_of;
-use worked_runs::worlds::{self, simulated_start};
-
-/// A square: node 3 lies opposite the root.
-fn square(alloc: Global) -> Result<Net, Fail> {
-    Ok(net_of(alloc, 4, 0, &[(0, 1), (0, 2), (1, 3), (2, 3)])?)
-}
+use worked_runs::worlds::{self, simulated_start, square};
 
 /// The edge between 1 and 3 goes. Then it cannot go again, nor can the last edge of node 3; and no
 /// edge can join a node to itself, to a node that is joined already, or to a missing node.
