@@ -1,7 +1,7 @@
 //! The words of `node`.
 use crate::node_words::{
-    FOLDER, GROUP_HELP, HOLD_HELP, LOG_HELP, REPEAT_HELP, TURN_HELP, ended, late_after, log_level,
-    manner, rights,
+    FOLDER, GROUP_HELP, HOLD_HELP, LOG_HELP, RECORD_HELP, RECORD_SIZE_HELP, REPEAT_HELP, TURN_HELP,
+    ended, late_after, log_level, manner, record_size, rights,
 };
 use crate::program::{NETWORK_FILE, Runtime, TOKENTREE};
 use crate::refusal::Refusal;
@@ -25,12 +25,14 @@ const NODE: Grammar<'static> = Grammar {
         Parameter::Value("turn", "MILLISECONDS", TURN_HELP),
         Parameter::Flag("group-locks", GROUP_HELP),
         Parameter::Value("log", "LEVEL", LOG_HELP),
+        Parameter::Flag("record", RECORD_HELP),
+        Parameter::Value("record-size", "KIB", RECORD_SIZE_HELP),
         Parameter::Flag(
             "child",
             "Name the node in each line, and end as standard input does, for `up`",
         ),
     ],
-    needs: &[],
+    needs: &[("record-size", "record")],
     excludes: &[],
     choice: None,
 };
@@ -85,6 +87,12 @@ back, and when clients are refused since 64 wait; --log 5 leaves out grants, and
 many it left out. If JOURNAL_STREAM is set, a line begins with its priority, as
 <4>.
 
+With --record the node keeps a record of what it does in DIR/record-ID.0 and
+DIR/record-ID.1, written in turn, each of at most --record-size KiB (64 to
+1048576): its whole state, and from then on what it takes, sends and ticks, who
+asks and who leaves, each with its instant. If a record cannot be written, a
+line says so, and the node runs on without it.
+
 Statuses: 0 ended by the stop file; 1 it cannot run, with the reason on standard
 error; 2 invalid arguments.";
 
@@ -107,6 +115,7 @@ pub fn run<R: Runtime>(rt: &R, given: &ArgMatches) -> Result<ExitCode, Refusal> 
         version: TOKENTREE.version,
         rights: rights(given),
         log: log_level(given)?,
+        record: record_size(given)?,
         is_child: given.get_flag("child"),
     };
     let done = node::run(rt, &words);

@@ -69,6 +69,33 @@ pub fn log_level(given: &ArgMatches) -> Result<Option<Level>, WordFault<'static>
     }
 }
 
+/// What `--record` does, as the help says it.
+pub const RECORD_HELP: &str = "Keep a record of what the node does";
+
+/// How many KiB each of the two files of a record has.
+pub const RECORD_SIZE: Number<'static> = Number {
+    id: "record-size",
+    name: "--record-size",
+    least: 64,
+    most: 1_048_576,
+};
+
+/// The same, as the help says it.
+pub const RECORD_SIZE_HELP: &str = "Of two files of so many KiB [default: 8192]";
+
+/// How many KiB each file of a node's record has, as the words of `node` or `up` say; nothing if they
+/// ask for no record.
+///
+/// # Errors
+/// If a word spells no number from 64 to 1048576.
+pub fn record_size(given: &ArgMatches) -> Result<Option<u64>, WordFault<'static>>
+    ensures left_out { one_text (found_of given.now) (codes "record") ≡ None
+        → IfOk result (λ size. size ≡ None) }
+{
+    let size = number_if_given(given, RECORD_SIZE)?.unwrap_or(8_192);
+    Ok(given.get_flag("record").then_some(size))
+}
+
 /// What `--group-locks` does, as the help says it.
 pub const GROUP_HELP: &str = "Let the group take the lock, and do nothing else";
 

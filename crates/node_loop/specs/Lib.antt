@@ -1,6 +1,8 @@
 pub mod Doors
 pub mod Greetings
 pub mod Deeds
+pub mod NotesView
+pub mod Noting
 pub mod Answers
 pub mod Clients
 pub mod Lives

@@ -38,6 +38,7 @@ mod clients;
 mod doors;
 mod greeting;
 mod lobby;
+mod notes;
 mod port;
 mod run;
 mod service;
@@ -45,5 +46,6 @@ mod sight;
 mod turned;
 
 pub use doors::{Door, Doors};
+pub use flight_records;
 pub use run::{NodeRun, Unmade};
 pub use turned::Turned;

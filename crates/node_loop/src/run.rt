@@ -1,7 +1,7 @@
 //! A node that runs: what one turn of its process does.
 ghost use Rattle.std.specs.Prelude.{◌≡◌, ◌↔◌, ◌<◌, ◌≤◌, ◌+◌, ◌%◌, true, false, is_some, length};
 ghost use Rattle.std.specs.Prelude.{IfOk, IfErr, IfSome, IsSome, IsTrue, Some, Contains, slice_get};
-ghost use Rattle.std.specs.Prelude.{◌≢◌, ℕ, []};
+ghost use Rattle.std.specs.Prelude.{◌≢◌, ℕ, [], not};
 ghost use Rattle.data_link.specs.Port.{frame_of};
 ghost use Rattle.pace.specs.Nodes.{may_tick};
 ghost use Rattle.pace.specs.Plans.{port_of};
@@ -21,10 +21,12 @@ ghost use Rattle.node_loop.specs.Speaking.{SpeaksTo, sent_if};
 use crate::clients::Clients;
 use crate::doors::{Door, Doors};
 use crate::lobby::{self, Lobby};
+use crate::notes::{DeskBefore, Notes};
 use crate::port::NodePort;
 use crate::service;
 use crate::sight::{self, NODES};
 use crate::turned::Turned;
+use flight_records::Deed;
 use node_core::{Item, Node, Ticked};
 use node_state_file::{Store, StoreFault, encode};
 use pace::{Manner, Pace, Plan};
@@ -68,6 +70,8 @@ pub struct NodeRun<D: Doors, S: Store + Drop, A: Allocator + Copy = Global> {
     has_ticked: bool,
     /// The next turn is not to wait: something that came may wait to be read, or a tick is due.
     has_more: bool,
+    /// What it did in the last turn, if somebody keeps a record of it.
+    notes: Notes<A>,
     ghost site: { (site_in node).id < net.nodes },
     ghost wired: { site_in node ≡ site_of net (site_in node).id },
     ghost ports_are: { (length ports.items ≡ net.nodes) × (net.nodes ≤ 64) },
@@ -120,6 +124,7 @@ impl<D: Doors, S: Store + Drop, A: Allocator + Copy> NodeRun<D, S, A> {
                 let_go: false,
                 has_ticked: false,
                 has_more: false,
+                notes: Notes::none(alloc),
             }),
             Err(AllocError) => Err(Unmade {
                 net,
@@ -331,14 +336,17 @@ impl<D: Doors, S: Store + Drop, A: Allocator + Copy> NodeRun<D, S, A> {
             × (self.new.store ≡ self.old.store) }
     {
         self.has_more = false;
+        self.notes.begin();
         self.accept_links();
         self.accept_clients();
         self.hear_hellos();
         self.connect();
         self.pull_all(now);
+        let before = DeskBefore::of(&self.node);
         let was_lent = self.node.lent().is_some();
         self.has_more |= service::serve_all(&mut self.node, &mut self.clients);
         service::leave_absent(&mut self.node, &self.clients);
+        self.notes.desk(&before, &self.node);
         let lets_go = was_lent && self.node.lent().is_none();
         self.let_go = lets_go || (self.let_go && !self.has_ticked);
         self.has_ticked = false;
@@ -545,6 +553,7 @@ impl<D: Doors, S: Store + Drop, A: Allocator + Copy> NodeRun<D, S, A> {
             Pull::Broken => return false,
         };
         self.node.take(id, &Item::Frame(frame));
+        self.notes.note(Deed::Takes { from: id, frame });
         let trees = sight::trees(&self.node, &self.net);
         let _hearing = self.pace.heard(id as usize, &frame, &trees, now);
         true
@@ -565,6 +574,7 @@ impl<D: Doors, S: Store + Drop, A: Allocator + Copy> NodeRun<D, S, A> {
     {
         let before = sight::values(&self.node);
         let ticked = service::tick(&mut self.node, &mut self.clients);
+        self.notes.tick(&ticked, &self.node);
         let moved = sight::values(&self.node) != before;
         let outlook = sight::outlook(&self.node, self.let_go);
         let trees = sight::trees(&self.node, &self.net);
@@ -599,7 +609,9 @@ impl<D: Doors, S: Store + Drop, A: Allocator + Copy> NodeRun<D, S, A> {
         for id in 0..self.net.nodes() {
             let _accepted = self.speak_to(id, offers[id as usize], now);
         }
+        let before = DeskBefore::of(&self.node);
         service::write_all(&mut self.node, &mut self.clients);
+        self.notes.desk(&before, &self.node);
     }
 
     /// Writes what is left of the last line to a neighbour, and then a frame, if one is offered.
@@ -630,7 +642,9 @@ impl<D: Doors, S: Store + Drop, A: Allocator + Copy> NodeRun<D, S, A> {
             return false;
         }
         let frame = self.node.frame_for(id);
-        speak_at(&mut self.ports, &mut self.pace, id, &frame, offered, now)
+        let is_accepted = speak_at(&mut self.ports, &mut self.pace, id, &frame, offered, now);
+        self.notes.offered(id, &frame, is_accepted);
+        is_accepted
     }
 
     /// Last part of a turn: each 256th time, the state is saved.
@@ -718,6 +732,34 @@ impl<D: Doors, S: Store + Drop, A: Allocator + Copy> NodeRun<D, S, A> {
         ensures { result.now ≡ self.now.store }
     {
         &self.store
+    }
+
+    /// From now on the deeds of each turn are noted. `AllocError` comes only where memory is refused, and
+    /// then nothing changes.
+    pub fn keep_deeds(&mut self, alloc: A) -> Result<(), AllocError>
+        ensures node { (self.new.node ≡ self.old.node) × (self.new.net ≡ self.old.net)
+            × (self.new.pace ≡ self.old.pace) × (self.new.let_go ≡ self.old.let_go) }
+        ensures rest { (self.new.ports ≡ self.old.ports) × (self.new.lobby ≡ self.old.lobby)
+            × (self.new.clients ≡ self.old.clients) × (self.new.store ≡ self.old.store)
+            × (self.new.doors ≡ self.old.doors) × (self.new.turns ≡ self.old.turns) }
+    {
+        self.notes = Notes::with_room(alloc)?;
+        Ok(())
+    }
+
+    /// What it did in the last turn, or in what it did last between two turns, deed by deed, if deeds are
+    /// noted.
+    pub fn deeds(&self) -> &[Deed]
+        ensures { result.now ≡ self.now.notes.deeds }
+    {
+        self.notes.deeds()
+    }
+
+    /// Whether these are all.
+    pub fn has_all_deeds(&self) -> bool
+        ensures { result ≡ not self.now.notes.is_torn }
+    {
+        self.notes.are_whole()
     }
 
     /// The doors.

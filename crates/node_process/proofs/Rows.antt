@@ -9,7 +9,7 @@ use Rattle.node_process.specs.declared.fault.NodeFault.TheVariants.{NoNode, Long
 use Rattle.node_process.specs.declared.start.Stage.TheVariants.{Begun, Checked, Entered, Held, Listening}
 use Rattle.node_process.specs.Start.{may_end}
 use Rattle.node_process.specs.declared.rights.Rights.TheVariants.{Usual, GroupLocks}
-use Rattle.node_process.specs.Children.{rights_options, log_options, child_options, child_words, end_of}
+use Rattle.node_process.specs.Children.{rights_options, log_options, record_options, child_options, child_words, end_of}
 use Rattle.node_log.specs.declared.event.Level.TheVariants.{Notice}
 use Rattle.node_process.specs.Rights.{folder_mode, own_mode, clients_mode}
 use Rattle.node_process.specs.Ends.{end_fault, ends_by}
@@ -81,9 +81,10 @@ says-blocked : blocked_line (codes "run/desk-1.sock")
 says-blocked = refl
 
 -- a child gets all options, its turns' time in milliseconds
-tells-child : child_words (record { hold = 2000; repeat = 8000 }) 2250 GroupLocks (Some Notice) (codes "ring.toml") 1 (codes "run")
+tells-child : child_words (record { hold = 2000; repeat = 8000 }) 2250 GroupLocks (Some Notice) (Some 64) (codes "ring.toml") 1 (codes "run")
     ≡ codes "node" ∷ codes "--child" ∷ codes "--hold" ∷ codes "2000" ∷ codes "--repeat" ∷ codes "8000"
-    ∷ codes "--turn" ∷ codes "2.250" ∷ codes "--group-locks" ∷ codes "--log" ∷ codes "5" ∷ codes "--" ∷ codes "ring.toml" ∷ codes "1" ∷ codes "run" ∷ []
+    ∷ codes "--turn" ∷ codes "2.250" ∷ codes "--group-locks" ∷ codes "--log" ∷ codes "5"
+    ∷ codes "--record" ∷ codes "--record-size" ∷ codes "64" ∷ codes "--" ∷ codes "ring.toml" ∷ codes "1" ∷ codes "run" ∷ []
 unfolding digits
 tells-child = refl
 
@@ -92,6 +93,9 @@ says_not-rights = refl
 
 says_not-log : log_options None ≡ []
 says_not-log = refl
+
+says_not-record : record_options None ≡ []
+says_not-record = refl
 
 -- octal 0750, 0660 and 0600
 mode-folder : folder_mode GroupLocks ≡ 488

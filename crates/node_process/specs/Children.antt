@@ -30,10 +30,17 @@ abbrev pub log_options : Option Level → List (List ℕ)
 log_options None = []
 log_options (Some level) = codes "--log" ∷ decimal (priority_of level) ∷ []
 
+-- and whether it keeps a record, in two files of so many KiB each
+abbrev pub record_options : Option ℕ → List (List ℕ)
+record_options None = []
+record_options (Some size) = codes "--record" ∷ codes "--record-size" ∷ decimal size ∷ []
+
 -- the words of node `id` of a network; after `--` a FILE or DIR that begins with a hyphen is one too
-abbrev pub child_words : Manner → ℕ → Rights → Option Level → List ℕ → ℕ → List ℕ → List (List ℕ)
-child_words manner turn rights log file id dir =
-    child_options manner turn ++ (rights_options rights ++ (log_options log ++ codes "--" ∷ file ∷ decimal id ∷ dir ∷ []))
+abbrev pub child_words : Manner → ℕ → Rights → Option Level → Option ℕ → List ℕ → ℕ → List ℕ → List (List ℕ)
+child_words manner turn rights log size file id dir =
+    child_options manner turn
+    ++ (rights_options rights
+    ++ (log_options log ++ (record_options size ++ codes "--" ∷ file ∷ decimal id ∷ dir ∷ [])))
 
 -- how a process ended, by POSIX's wait status: the low seven bits are 0 if it ended by itself, with
 -- the status in the next byte, and else the signal that ended it; 127 there is no end

@@ -34,6 +34,7 @@ pub mod node;
 mod observer;
 mod rights;
 mod start;
+mod tape;
 pub mod up;
 mod window;
 

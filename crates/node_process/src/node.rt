@@ -23,7 +23,7 @@ use look_window::{COMERS, is_let_in, show};
 use network_file::{NetworkFault, read_network};
 use network_news::{FileNews, found_in, news_line};
 use node_keeping::{AfterSave, Sights, StopSight, after_save, looks_for_stop};
-use node_log::{Event, Level};
+use node_log::Level;
 use node_loop::NodeRun;
 use node_state_file::{FileStore, start};
 use node_texts::{CapacityLine, NodePaths, Note, NoteLine, SOCKET_FRAMES};
@@ -57,6 +57,8 @@ pub struct NodeWords<'a> {
     pub rights: Rights,
     /// How urgent what it says of itself is at least, if it says anything.
     pub log: Option<Level>,
+    /// How many KiB each file of its record has at most, if it keeps one.
+    pub record: Option<u64>,
     /// Whether `up` has started it: its lines begin with its name, and it ends with its input.
     pub is_child: bool,
 }
@@ -136,10 +138,11 @@ where
     requires held { stage ≡ Held }
 {
     let (mut run, mut names) = start_node(rt, words, paths, place, net, &mut stage)?;
-    let end = match Stopwatch::start(rt) {
-        Ok(watch) => run_turns(rt, words, watch, &mut names, &mut run),
-        Err(_) => return Err(NodeFault::System),
+    let Ok(watch) = Stopwatch::start(rt) else {
+        return Err(NodeFault::System);
     };
+    let mut observer = Observer::open(rt, words, watch, &mut run)?;
+    let end = run_turns(rt, words, &mut observer, &mut names, &mut run);
     if end != AfterSave::Displaced {
         remove_sockets(rt, paths);
     }
@@ -244,25 +247,24 @@ fn make_doors<'a, R: Sockets + AllocGlobal>(
 }
 
 /// Takes turns until the node is to end, and says how it is to.
-fn run_turns<'a, R: Files + Sockets + Clock + Env + Input + Eprint + AllocGlobal>(
+fn run_turns<'a, R: Files<File = File> + Sockets + Clock + Env + Input + Eprint + AllocGlobal>(
     rt: &'a R,
     words: &NodeWords<'_>,
-    watch: Stopwatch<'a, R>,
+    observer: &mut Observer<'a, '_, R>,
     names: &mut Names<'a>,
     run: &mut Run<'a, R>,
 ) -> AfterSave {
-    let mut observer = Observer::open(rt, words, watch);
     for _ in 0..u64::MAX {
         run.wait(observer.watch.last());
         let now = observer.watch.now();
         if !run.is_turn_due(now) {
             run.attend(now);
-            let ended = observer.watch.now();
-            observer.window.attended(run, ended);
-        } else if take_turn(rt.alloc(), &mut observer, run, now) {
+            observer.attended(run, now);
+        } else if take_turn(rt.alloc(), observer, run, now) {
             let next = look(rt, words, names, run);
+            observer.rewired(run);
             if ends(next) {
-                observer.journal.say(Event::Ends, now);
+                observer.ends(now);
                 return next;
             }
         }
@@ -272,7 +274,7 @@ fn run_turns<'a, R: Files + Sockets + Clock + Env + Input + Eprint + AllocGlobal
 
 /// Takes a turn, notes it, says what happened in it, and shows whoever looks how the node stands then. Whether
 /// the node's files are looked at now: after each 256th turn, whatever the store answered.
-fn take_turn<'a, R: Files + Sockets + Clock + Eprint>(
+fn take_turn<'a, R: Files<File = File> + Sockets + Clock + Eprint + AllocGlobal>(
     alloc: Global,
     observer: &mut Observer<'a, '_, R>,
     run: &mut Run<'a, R>,
@@ -284,6 +286,7 @@ fn take_turn<'a, R: Files + Sockets + Clock + Eprint>(
     let ended = observer.watch.now();
     observer.window.turn_ended(run, &turned, ended);
     observer.journal.turn_ended(run, &turned, ended);
+    observer.record(run, now);
     if run.doors().may_be_looked_at() {
         show_all(alloc, &observer.window, run, ended);
     }

@@ -10,7 +10,8 @@ ghost use Rattle.node_keeping.specs.declared.keeper.Seen.{Seen};
 ghost use Rattle.node_keeping.specs.declared.keeper.Seen.TheVariants.{Nothing};
 ghost use Rattle.node_keeping.specs.declared.keeper.Deed.TheVariants.{Start};
 ghost use Rattle.node_texts.specs.PremisesText.{millis_text};
-ghost use Rattle.node_process.specs.Children.{child_options, rights_options, log_options, child_words, end_of};
+ghost use Rattle.node_process.specs.Children.{child_options, rights_options, log_options, record_options};
+ghost use Rattle.node_process.specs.Children.{child_words, end_of};
 ghost use Rattle.node_process.specs.Start.{may_end};
 ghost use Rattle.node_process.specs.declared.fault.NodeFault.TheVariants.{Lock, Running};
 ghost use Rattle.node_process.specs.declared.fault.NodeFault.TheVariants.{UpLock, UpRunning};
@@ -76,6 +77,8 @@ pub struct OwnProgram<'a> {
     rights: Rights,
     /// How urgent what nodes say of themselves is at least, if they say anything.
     log: Option<Level>,
+    /// How many KiB each file of a node's record has at most, if nodes keep records.
+    size: Option<u64>,
 }
 
 impl<'a> OwnProgram<'a> {
@@ -91,9 +94,11 @@ impl<'a> OwnProgram<'a> {
         turn: u64,
         rights: Rights,
         log: Option<Level>,
+        size: Option<u64>,
     ) -> Result<OwnProgram<'a>, NodeFault>
         ensures words { IfOk result (λ own. (own.file ≡ file.entry) × (own.dir ≡ dir.entry)
-            × (own.manner ≡ manner) × (own.turn ≡ turn) × (own.rights ≡ rights) × (own.log ≡ log)) }
+            × (own.manner ≡ manner) × (own.turn ≡ turn) × (own.rights ≡ rights) × (own.log ≡ log)
+            × (own.size ≡ size)) }
         ensures fault { IfErr result (λ fault. fault ≡ System) }
     {
         match env::current_exe(rt) {
@@ -106,6 +111,7 @@ impl<'a> OwnProgram<'a> {
                 turn,
                 rights,
                 log,
+                size,
             }),
             Err(_) => Err(NodeFault::System),
         }
@@ -119,7 +125,7 @@ impl NodeProgram for OwnProgram<'_> {
         } else {
             Command::new(alloc, self.program.as_path())?
         };
-        let options = (self.manner, self.turn, self.rights, self.log);
+        let options = (self.manner, self.turn, self.rights, self.log, self.size);
         add_words(alloc, &mut command, options, self.file, id, self.dir)?;
         Ok(command)
     }
@@ -149,18 +155,20 @@ fn held_back(alloc: Global, program: &PathBuf) -> io::Result<Command> {
 fn add_words(
     alloc: Global,
     command: &mut Command,
-    options: (Manner, u64, Rights, Option<Level>),
+    options: (Manner, u64, Rights, Option<Level>, Option<u64>),
     file: &str,
     id: u16,
     dir: &str,
 ) -> io::Result<()>
     ensures { OnOk result (command_args command.new
-        ≡ command_args command.old ++ child_words options.0 options.1 options.2 options.3 file.now id dir.now) }
+        ≡ command_args command.old
+        ++ child_words options.0 options.1 options.2 options.3 options.4 file.now id dir.now) }
 {
-    let (manner, turn, rights, log) = options;
+    let (manner, turn, rights, log, size) = options;
     add_options(alloc, command, manner, turn)?;
     add_rights(command, rights)?;
     add_log(alloc, command, log)?;
+    add_record(alloc, command, size)?;
     add_place(alloc, command, file, id, dir)
 }
 
@@ -193,6 +201,18 @@ fn add_log(alloc: Global, command: &mut Command, log: Option<Level>) -> io::Resu
 {
     if let Some(level) = log {
         add_option(alloc, command, "--log", u64::from(level.priority()))?;
+    }
+    Ok(())
+}
+
+/// Adds whether nodes keep records.
+fn add_record(alloc: Global, command: &mut Command, size: Option<u64>) -> io::Result<()>
+    ensures { OnOk result (command_args command.new
+        ≡ command_args command.old ++ record_options size) }
+{
+    if let Some(size) = size {
+        command.arg("--record")?;
+        add_option(alloc, command, "--record-size", size)?;
     }
     Ok(())
 }

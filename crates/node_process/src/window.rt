@@ -133,7 +133,7 @@ fn own_process<F: Files + AllocGlobal>(files: &F) -> Option<u64> {
 }
 
 /// The milliseconds since the start of 1970, UTC, if the system says them.
-fn millis_now<C: Clock>(clock: &C) -> Option<u64> {
+pub fn millis_now<C: Clock>(clock: &C) -> Option<u64> {
     let now = SystemTime::now(clock).ok()?;
     let since = now.duration_since(UNIX_EPOCH).ok()?;
     u64::try_from(since.as_millis()).ok()

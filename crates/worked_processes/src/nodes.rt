@@ -61,6 +61,7 @@ fn run_node(
         version: "0.1.0",
         rights: Rights::Usual,
         log: None,
+        record: env::var(rt, "TOKENTREE_RECORD").is_ok().then_some(64),
         is_child,
     };
     Ok(node::run(rt, &words))
@@ -117,6 +118,17 @@ fn spawn_as(rt: &HostRuntime, dir: &str, number: &str) -> Result<Child, Fail> {
     started(rt, copy(rt, test, &variables)?, Stdio::null())
 }
 
+/// Starts a node's process, which is told its number, and keeps a record.
+pub fn spawn_recorded(rt: &HostRuntime, dir: &str, number: &str) -> Result<Child, Fail> {
+    let test = "nodes::acts_as_a_node";
+    let variables = [
+        ("TOKENTREE_ID", number),
+        ("TOKENTREE_DIR", dir),
+        ("TOKENTREE_RECORD", "64"),
+    ];
+    started(rt, copy(rt, test, &variables)?, Stdio::null())
+}
+
 /// Starts a node's process.
 fn spawn(rt: &HostRuntime, dir: &str, id: u16) -> Result<Child, Fail> {
     let number = format!(in rt.alloc(); "{id}")?;
@@ -133,7 +145,7 @@ fn prints(rt: &HostRuntime, child: &mut Child, lines: [&str; 2]) -> Result<bool,
 }
 
 /// Fails unless these are the next lines that a process prints.
-fn begins(rt: &HostRuntime, child: &mut Child, lines: [&str; 2]) -> Result<(), Fail> {
+pub fn begins(rt: &HostRuntime, child: &mut Child, lines: [&str; 2]) -> Result<(), Fail> {
     hold(
         prints(rt, child, lines)?,
         "a node prints something else first",

@@ -1,0 +1,38 @@
+-- What a follower does, as an account; and when two nodes stand in the same state.
+use Rattle.std.specs.Prelude.{◌≡◌, ℕ, List, [], ◌∷◌, All, flat_map}
+use Rattle.flight_records.specs.declared.entry.Deed.{Deed}
+use Rattle.flight_records.specs.declared.entry.Deed.TheVariants.{Ticks, Takes, TakesAgain, Sends}
+use Rattle.flight_records.specs.declared.entry.Deed.TheVariants.{SendsAgain, Asks, Leaves, Joins}
+use Rattle.flight_records.specs.declared.entry.Deed.TheVariants.{Parts, Connects, Disconnects}
+use Rattle.accounts.specs.Deeds as account
+use Rattle.node_core.specs.State.{LocalState}
+
+-- The account of a deed as a record has it, and of deeds: a connection is no deed of the node itself, a
+-- short form does not name its frame, and a node whose edges change begins another account.
+abbrev pub account_of_one : Deed → List account.Deed
+account_of_one Ticks = account.Ticks ∷ []
+account_of_one (Takes from frame) = account.Takes from frame ∷ []
+account_of_one (TakesAgain from) = []
+account_of_one (Sends to frame) = account.Sends to frame ∷ []
+account_of_one (SendsAgain to) = []
+account_of_one (Asks ticket) = account.Asks ticket ∷ []
+account_of_one (Leaves ticket) = account.Leaves ticket ∷ []
+account_of_one (Joins neighbour) = []
+account_of_one (Parts neighbour) = []
+account_of_one (Connects neighbour) = []
+account_of_one (Disconnects neighbour) = []
+
+abbrev pub account_of : List Deed → List account.Deed
+account_of ds = flat_map account_of_one ds
+
+-- distance, parent and desk are the same
+abbrev pub AreSameAlone : LocalState → LocalState → Type 0
+AreSameAlone s t = (s.distance ≡ t.distance) × (s.parent ≡ t.parent) × (s.desk ≡ t.desk)
+
+-- the port to w is the same, and the value of the machine that comes in from there
+abbrev pub AreSameAt : ℕ → LocalState → LocalState → Type 0
+AreSameAt w s t = (s.port w ≡ t.port w) × (s.value w ≡ t.value w)
+
+-- two states of a node with these neighbours are the same
+abbrev pub AreSame : List ℕ → LocalState → LocalState → Type 0
+AreSame neighbours s t = AreSameAlone s t × All (λ w. AreSameAt w s t) neighbours

@@ -1,0 +1,3 @@
+pub use Rattle.flight_recorder.specs as flight_recorder
+pub use Rattle.node_follower.specs as node_follower
+pub mod Turns

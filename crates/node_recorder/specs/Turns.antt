@@ -1,0 +1,59 @@
+-- What a turn becomes in a node's record.
+use Rattle.std.specs.Prelude.{◌≡◌, ℕ, ◌+◌, ◌*◌, ◌%◌, Bool, true, false, ◌||◌, List, fold, ◌⊎◌}
+use Rattle.topology.specs.Network.{Network}
+use Rattle.flight_records.specs.declared.entry.Noted.TheVariants as noted
+use Rattle.flight_records.specs.declared.entry.StatePart.{StatePart}
+use Rattle.flight_records.specs.declared.entry.StatePart.TheVariants.{Waits}
+use Rattle.flight_records.specs.declared.entry.Deed.{Deed}
+use Rattle.flight_recorder.specs.View.{RecorderView}
+use Rattle.flight_recorder.specs.Recorder.{after_note, is_at_start}
+use Rattle.accounts.specs.Deeds.{Leads}
+use Rattle.node_core.specs.State.{LocalState}
+use Rattle.node_core.specs.View.{NodeView, site_in, state_of}
+use Rattle.node_follower.specs.Following.{account_of, AreSame}
+use Rattle.node_follower.specs.Parts.{port_part, state_parts}
+use Rattle.node_recorder.specs.declared.recorder.NodeRecorder.{NodeRecorder}
+
+-- the number of a network: its nodes, root, capacity and lease, mixed
+abbrev pub mixed : ℕ → ℕ → ℕ
+mixed mark n = (mark * 65599 + n) % 4294967296
+
+abbrev pub network_mark : Network → ℕ
+network_mark net = mixed (mixed (mixed (mixed 0 net.nodes) net.root) net.capacity) net.lease
+
+-- deeds were noted, one after the other
+abbrev pub after_deeds : ℕ → List Deed → RecorderView → RecorderView
+after_deeds now ds r = fold (λ x d. after_note now (noted.Deed d) x) r ds
+
+-- the parts of a state were; the ports to these neighbours; these tickets that wait
+abbrev pub after_parts : ℕ → List StatePart → RecorderView → RecorderView
+after_parts now ps r = fold (λ x p. after_note now (noted.State p) x) r ps
+
+abbrev pub after_ports : ℕ → LocalState → List ℕ → RecorderView → RecorderView
+after_ports now s ws r = fold (λ x w. after_note now (noted.State (port_part s w)) x) r ws
+
+abbrev pub after_queue : ℕ → List ℕ → RecorderView → RecorderView
+after_queue now ts r = fold (λ x t. after_note now (noted.State (Waits t)) x) r ts
+
+module _ {A : Type 0} (now : ℕ) (deeds : List Deed) (has_all : Bool) (node : NodeView)
+    (old new : NodeRecorder A) where
+  -- The deeds are noted, and they lead the second node, by its own steps, to where the node stands.
+  pub record NotesDeeds : Type 0 where
+    pub all : has_all ≡ true
+    pub known : (old.is_lost || is_at_start old.pages) ≡ false
+    pub still : new.is_lost ≡ old.is_lost
+    pub pages : new.pages ≡ after_deeds now deeds old.pages
+    pub leads : Leads (site_in old.follower) (account_of deeds) (state_of old.follower)
+        (state_of new.follower)
+    pub stands : AreSame (site_in new.follower).neighbours (state_of new.follower) (state_of node)
+
+  -- The node's whole state is noted; and unless the recorder is lost, the second node stands there.
+  pub record NotesState : Type 0 where
+    pub pages : new.pages
+        ≡ after_parts now (state_parts old.network (site_in node) (state_of node)) old.pages
+    pub stands : new.is_lost ≡ false
+        → AreSame (site_in new.follower).neighbours (state_of new.follower) (state_of node)
+
+  -- a record that has stopped stays as it is
+  abbrev pub Records : Type 0
+  Records = ((old.pages.is_stopped ≡ true) × (new ≡ old)) ⊎ (NotesDeeds ⊎ NotesState)
