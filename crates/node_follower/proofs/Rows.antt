@@ -1,5 +1,5 @@
 -- Accounts and states that are small enough to see through.
-use Rattle.std.proofs.Common.{◌≡◌, ℕ, true, List, [], ◌∷◌, Some, None, refl}
+use Rattle.std.proofs.Common.{◌≡◌, true, [], ◌∷◌, Some, None, refl}
 use Rattle.topology.specs.declared.frame.Frame.{Frame}
 use Rattle.flight_records.specs.declared.entry.Deed.TheVariants.{Ticks, Takes, Asks, Connects}
 use Rattle.flight_records.specs.declared.entry.StatePart.TheVariants.{Start, Own, Waits, Loan, Whole}

@@ -148,7 +148,7 @@ impl<A: Allocator + Copy> Follower<A> {
         ensures { IsTrue result → AreSame (site_in self.now).neighbours (state_of self.now)
             (state_of node.now) }
     {
-        self.stands_alone_as(node) && self.ports_stand_as(node)
+        self.stands_alone_as(node) && ports_stand_as(&self.node, node)
     }
 
     /// Whether distance, parent and desk are the same.
@@ -158,20 +158,6 @@ impl<A: Allocator + Copy> Follower<A> {
         self.node.distance() == node.distance()
             && self.node.parent() == node.parent()
             && desk_stands_as(&self.node, node)
-    }
-
-    /// Whether the ports to its neighbours, and the values of the machines that come in there, are the
-    /// same.
-    fn ports_stand_as<B: Allocator>(&self, node: &Node<B>) -> bool
-        ensures { IsTrue result → All (λ w. AreSameAt w (state_of self.now) (state_of node.now))
-            (site_in self.now).neighbours }
-    {
-        for w in self.node.neighbours() {
-            if !port_stands_as(&self.node, node, *w) {
-                return false;
-            }
-        }
-        true
     }
 
     /// Has the neighbours that its node has in this network from now on, if it is of a network with the
@@ -211,9 +197,7 @@ impl<A: Allocator + Copy> Follower<A> {
         let _free = self.node.set_desk(None, 0, false);
         let _queue = self.node.set_waiting(node.tickets());
         let _loan = self.node.set_desk(node.lent(), node.left(), node.served());
-        for w in node.neighbours() {
-            take_over_port(&mut self.node, node, *w);
-        }
+        take_over_ports(&mut self.node, node);
         self.stands_as(node)
     }
 }
@@ -228,6 +212,20 @@ fn desk_stands_as<A: Allocator, B: Allocator>(one: &Node<A>, other: &Node<B>) ->
         && one.tickets() == other.tickets()
 }
 
+/// Whether the ports of a node to its neighbours, and the values of the machines that come in there, are
+/// those of another one.
+fn ports_stand_as<A: Allocator, B: Allocator>(one: &Node<A>, other: &Node<B>) -> bool
+    ensures { IsTrue result → All (λ w. AreSameAt w (state_of one.now) (state_of other.now))
+        (site_in one.now).neighbours }
+{
+    for w in one.neighbours() {
+        if !port_stands_as(one, other, *w) {
+            return false;
+        }
+    }
+    true
+}
+
 /// Whether the ports of two nodes to a third, and the values of the machines that come in there, are the
 /// same.
 fn port_stands_as<A: Allocator, B: Allocator>(one: &Node<A>, other: &Node<B>, w: u16) -> bool
@@ -240,6 +238,15 @@ fn port_stands_as<A: Allocator, B: Allocator>(one: &Node<A>, other: &Node<B>, w:
         && same_payload(&one.staged_for(w), &other.staged_for(w))
         && same_payload(&one.copy_of(w), &other.copy_of(w))
         && one.value(w) == other.value(w)
+}
+
+/// Takes over the ports and the values of a node's neighbours.
+fn take_over_ports<A: Allocator + Copy, B: Allocator>(to: &mut Node<A>, from: &Node<B>)
+    ensures { site_in to.new ≡ site_in to.old }
+{
+    for w in from.neighbours() {
+        take_over_port(to, from, *w);
+    }
 }
 
 /// Takes over the port to a node, and the value of the machine that comes in there, if both have it as a

@@ -33,6 +33,7 @@ pub fn port_part<A: Allocator>(node: &Node<A>, w: u16) -> StatePart
     requires { Contains (site_in node.now).neighbours w }
     ensures { result ≡ port_part (state_of node.now) w }
 {
+    let _known = node.is_neighbour(w);
     StatePart::Port {
         neighbour: w,
         seq: node.seq(w),

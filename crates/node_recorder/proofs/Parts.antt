@@ -11,10 +11,10 @@ use Rattle.flight_recorder.specs.Recorder.{after_note}
 use Rattle.node_core.specs.Site.{Site}
 use Rattle.node_core.specs.State.{LocalState}
 use Rattle.node_follower.specs.Parts.{loan_part, own_part, port_part, state_parts}
-use Rattle.node_recorder.specs.Turns.{after_parts, after_ports, after_queue}
+use Rattle.node_recorder.specs.Turns.{after_parts, after_ports, after_queue, after_state}
 
 module _ (now : ℕ) where
-  abbrev pub note : RecorderView → StatePart → RecorderView
+  abbrev note : RecorderView → StatePart → RecorderView
   note r p = after_note now (noted.State p) r
 
   -- the ports, the queue, and the rest, after what was noted first
@@ -31,6 +31,5 @@ module _ (now : ℕ) where
 
   pub all-parts : (network : ℕ) (site : Site) (s : LocalState) (r : RecorderView)
       → after_parts now (state_parts network site s) r
-      ≡ note (note (after_queue now s.desk.waiting (after_ports now s site.neighbours
-      (note (note r (Start network site.id)) (own_part s)))) (loan_part s)) Whole
+      ≡ after_state now network site s r
   all-parts network site s r = later s site.neighbours (note (note r (Start network site.id)) (own_part s)) (loan_part s ∷ Whole ∷ [])

@@ -3,15 +3,16 @@ use Rattle.std.specs.Prelude.{◌≡◌, ℕ, ◌+◌, ◌*◌, ◌%◌, Bool, t
 use Rattle.topology.specs.Network.{Network}
 use Rattle.flight_records.specs.declared.entry.Noted.TheVariants as noted
 use Rattle.flight_records.specs.declared.entry.StatePart.{StatePart}
-use Rattle.flight_records.specs.declared.entry.StatePart.TheVariants.{Waits}
+use Rattle.flight_records.specs.declared.entry.StatePart.TheVariants.{Start, Waits, Whole}
 use Rattle.flight_records.specs.declared.entry.Deed.{Deed}
 use Rattle.flight_recorder.specs.View.{RecorderView}
 use Rattle.flight_recorder.specs.Recorder.{after_note, is_at_start}
 use Rattle.accounts.specs.Deeds.{Leads}
+use Rattle.node_core.specs.Site.{Site}
 use Rattle.node_core.specs.State.{LocalState}
 use Rattle.node_core.specs.View.{NodeView, site_in, state_of}
 use Rattle.node_follower.specs.Following.{account_of, AreSame}
-use Rattle.node_follower.specs.Parts.{port_part, state_parts}
+use Rattle.node_follower.specs.Parts.{loan_part, own_part, port_part, state_parts}
 use Rattle.node_recorder.specs.declared.recorder.NodeRecorder.{NodeRecorder}
 
 -- the number of a network: its nodes, root, capacity and lease, mixed
@@ -34,6 +35,16 @@ after_ports now s ws r = fold (λ x w. after_note now (noted.State (port_part s 
 
 abbrev pub after_queue : ℕ → List ℕ → RecorderView → RecorderView
 after_queue now ts r = fold (λ x t. after_note now (noted.State (Waits t)) x) r ts
+
+-- the whole state of a node of the network with this number, part after part
+abbrev pub after_state : ℕ → ℕ → Site → LocalState → RecorderView → RecorderView
+after_state now network site s r =
+    after_note now (noted.State Whole)
+    (after_note now (noted.State (loan_part s))
+    (after_queue now s.desk.waiting
+    (after_ports now s site.neighbours
+    (after_note now (noted.State (own_part s))
+    (after_note now (noted.State (Start network site.id)) r)))))
 
 module _ {A : Type 0} (now : ℕ) (deeds : List Deed) (has_all : Bool) (node : NodeView)
     (old new : NodeRecorder A) where

@@ -6,7 +6,7 @@ ghost use Rattle.node_core.specs.View.{site_in, state_of};
 ghost use Rattle.flight_recorder.specs.Recorder.{at_start, after_failure, after_write, fills, is_at_start};
 ghost use Rattle.node_follower.specs.Following.{account_of, AreSame};
 ghost use Rattle.node_follower.specs.Parts.{state_parts};
-ghost use Rattle.node_recorder.specs.Turns.{after_deeds, after_parts, after_ports, after_queue};
+ghost use Rattle.node_recorder.specs.Turns.{after_deeds, after_parts, after_ports, after_queue, after_state};
 ghost use Rattle.node_recorder.specs.Turns.{mixed, network_mark, Records};
 
 use flight_recorder::flight_records::{Deed, Noted, StatePart};
@@ -152,6 +152,19 @@ fn note_state<A: Allocator, B: Allocator>(
 )
     ensures { pages.new ≡ after_parts now
         (state_parts network (site_in node.now) (state_of node.now)) pages.old }
+{
+    note_parts(pages, node, network, now);
+}
+
+/// Notes the parts of a node's state, one after the other.
+fn note_parts<A: Allocator, B: Allocator>(
+    pages: &mut Recorder<A>,
+    node: &Node<B>,
+    network: u32,
+    now: u64,
+)
+    ensures { pages.new
+        ≡ after_state now network (site_in node.now) (state_of node.now) pages.old }
 {
     pages.note(now, Noted::State(start_part(node, network)));
     pages.note(now, Noted::State(own_part(node)));

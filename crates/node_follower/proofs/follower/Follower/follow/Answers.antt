@@ -1,5 +1,5 @@
-use Rattle.std.proofs.Common.{◌≡◌, ◌∙◌, sym, subst, refl, take}
-use Rattle.std.proofs.lemmas.List.{take_more, take_all}
+use Rattle.std.proofs.Common.{◌∙◌, rules, sym, subst, take}
+use Rattle.std.proofs.lemmas.List.{take_more}
 use Rattle.accounts.specs.Deeds.{Leads}
 use Rattle.node_core.specs.View.{site_in, state_of}
 use Rattle.node_follower.specs.Following.{account_of}
