@@ -106,7 +106,7 @@ fn play(node: &mut Node, recorder: &mut NodeRecorder) {
 }
 
 /// What an entry is seen as; nothing for a part of a state after its start.
-fn seen(entry: &Entry) -> Option<Seen> {
+fn as_seen(entry: &Entry) -> Option<Seen> {
     match entry.noted {
         Noted::State(StatePart::Start { node: 1, .. }) => Some(Seen::State),
         Noted::State(StatePart::Start { .. }) => Some(Seen::Other),
@@ -126,7 +126,7 @@ fn first_other(page: &[u8]) -> Option<usize> {
     let mut at: usize = 0;
     while let Ok((entry, after)) = reader.next(rest) {
         rest = after;
-        if let Some(seen) = seen(&entry) {
+        if let Some(seen) = as_seen(&entry) {
             if wanted.next() != Some(&seen) {
                 return Some(at);
             }
