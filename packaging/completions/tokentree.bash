@@ -30,7 +30,7 @@ _tokentree() {
     local -a given=() kinds=()
     COMPREPLY=()
     if [ "$COMP_CWORD" -eq 1 ]; then
-        mapfile -t COMPREPLY < <(compgen -W 'bound simulate lock status scramble cut junk node up stop network schedule measure draw threads help --help --version' -- "$current")
+        mapfile -t COMPREPLY < <(compgen -W 'bound simulate lock status scramble cut junk node up stop network schedule measure worst draw threads help --help --version' -- "$current")
         return
     fi
     case ${COMP_WORDS[1]} in
@@ -47,10 +47,11 @@ _tokentree() {
     network) flags='--root --capacity --lease --edges --seed --help' valued='--root --capacity --lease --edges --seed' places='KIND N M' ;;
     schedule) flags='--scramble --rounds --random --seed --loss --clients --give-back --help' valued='--scramble --rounds --random --seed --loss --give-back' places='FILE' ;;
     measure) flags='--runs --seed --rounds --random --table --json --help' valued='--runs --seed' places='FILE' ;;
+    worst) flags='--searches --steps --seed --events --help' valued='--searches --steps --seed --events' places='FILE' ;;
     draw) flags='--columns --from --to --film --page --seconds --help' valued='--columns --from --to --seconds' places='FILE EVENTS' ;;
     threads) flags='--events --help' valued='--events' places='FILE TURNS' ;;
     help)
-        [ "$COMP_CWORD" -gt 2 ] || mapfile -t COMPREPLY < <(compgen -W 'bound simulate lock status scramble cut junk node up stop network schedule measure draw threads' -- "$current")
+        [ "$COMP_CWORD" -gt 2 ] || mapfile -t COMPREPLY < <(compgen -W 'bound simulate lock status scramble cut junk node up stop network schedule measure worst draw threads' -- "$current")
         return
         ;;
     esac

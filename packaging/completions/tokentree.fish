@@ -2,7 +2,7 @@
 complete -c tokentree -n __fish_use_subcommand -l help -d 'Print help'
 complete -c tokentree -n __fish_use_subcommand -l version -d 'Print version'
 complete -c tokentree -n __fish_use_subcommand -f -a help -d 'Shows the help of a command'
-complete -c tokentree -n '__fish_seen_subcommand_from help' -f -a 'bound simulate lock status scramble cut junk node up stop network schedule measure draw threads'
+complete -c tokentree -n '__fish_seen_subcommand_from help' -f -a 'bound simulate lock status scramble cut junk node up stop network schedule measure worst draw threads'
 # Completes the command after `--`, whose flags are its own.
 function __tokentree_command
     set -l tokens (commandline -opc)
@@ -73,6 +73,11 @@ complete -c tokentree -n '__fish_seen_subcommand_from measure; and not contains 
 complete -c tokentree -n '__fish_seen_subcommand_from measure; and not contains -- -- (commandline -opc)' -l random -d 'Run by random steps'
 complete -c tokentree -n '__fish_seen_subcommand_from measure; and not contains -- -- (commandline -opc)' -l table -d 'Also show a line for each run'
 complete -c tokentree -n '__fish_seen_subcommand_from measure; and not contains -- -- (commandline -opc)' -l json -d 'Print one JSON object, on one line'
+complete -c tokentree -n __fish_use_subcommand -f -a worst -d 'Searches for runs that recover late, and shows after how many sweeps'
+complete -c tokentree -n '__fish_seen_subcommand_from worst; and not contains -- -- (commandline -opc)' -l searches -x -d 'How many searches, 1 to 1000000 [default: 16]'
+complete -c tokentree -n '__fish_seen_subcommand_from worst; and not contains -- -- (commandline -opc)' -l steps -x -d 'Changes in each search, 0 to 1000000000 [default: 10000]'
+complete -c tokentree -n '__fish_seen_subcommand_from worst; and not contains -- -- (commandline -opc)' -l seed -x -d 'The first seed; each search has the next one [default: 0]'
+complete -c tokentree -n '__fish_seen_subcommand_from worst; and not contains -- -- (commandline -opc)' -l events -x -d 'Write the latest run to this file, as an events text'
 complete -c tokentree -n __fish_use_subcommand -f -a draw -d 'Draws a picture of a run: which nodes were wrong or lent, and when'
 complete -c tokentree -n '__fish_seen_subcommand_from draw; and not contains -- -- (commandline -opc)' -l columns -x -d 'The most columns, 1 to 1200'
 complete -c tokentree -n '__fish_seen_subcommand_from draw; and not contains -- -- (commandline -opc)' -l from -x -d 'Begin once this many sweeps have ended'

@@ -23,7 +23,7 @@ const WORST: Grammar<'static> = Grammar {
             "steps",
             "N",
             "10000",
-            "How many changes each search tries, 0 to 1000000000",
+            "Changes in each search, 0 to 1000000000",
         ),
         Parameter::ValueOr(
             "seed",
