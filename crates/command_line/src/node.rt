@@ -25,10 +25,7 @@ const NODE: Grammar<'static> = Grammar {
         Parameter::Value("turn", "MILLISECONDS", TURN_HELP),
         Parameter::Flag("group-locks", GROUP_HELP),
         Parameter::Value("log", "LEVEL", LOG_HELP),
-        Parameter::Flag(
-            "child",
-            "For `up`: name the node in each line, and end with standard input",
-        ),
+        Parameter::Flag("child", "For `up`: name the node, and end with its input"),
     ],
     needs: &[],
     excludes: &[],

@@ -17,7 +17,7 @@ const STOP: Grammar<'static> = Grammar {
             "timeout",
             "SECONDS",
             "10",
-            "How long each node is waited for, 0 to 65535",
+            "How long to wait for each, 0 to 65535",
         ),
         Parameter::Place("DIR", SOCKETS_FOLDER),
         Parameter::Places(
