@@ -10,7 +10,7 @@ use subcommands::bound;
 use test_parts::{as_told, is_told};
 
 /// A command line, and its status.
-const ROWS: [(&str, u8); 79] = [
+const ROWS: [(&str, u8); 85] = [
     ("tokentree bound two.toml", 0),
     ("tokentree bound -- two.toml", 0),
     ("tokentree bound --sharp two.toml", 0),
