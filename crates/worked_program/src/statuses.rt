@@ -97,10 +97,10 @@ const ROWS: [(&str, u8); 85] = [
     ("tokentree measure two.toml --runs 0", 2),
     ("tokentree worst two.toml --searches 2 --steps 3", 0),
     (
-        "tokentree worst two.toml --searches 1 --steps 0 --events late.txt",
+        "tokentree worst two.toml --searches 1 --steps 0 --events good.events",
         0,
     ),
-    ("tokentree simulate two.toml late.txt", 0),
+    ("tokentree simulate two.toml good.events", 0),
     (
         "tokentree worst two.toml --searches 1 --steps 0 --events absent/late.txt",
         1,
