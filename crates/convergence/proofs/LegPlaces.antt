@@ -34,6 +34,6 @@ place-of l p ls (inl e) = (0, omega arith, e)
 place-of l p [] (inr a) = absurd a
 place-of l p (k ∷ ks) (inr a) = let r = place-of l k ks a in (suc r.0, omega (arith, r.1), r.2)
 
-pub place-behind : (l p : Leg) (ls : List Leg) → IsAmong l ls → (i : ℕ) × (i < length ls) × (l ≡ leg_at p ls (suc i))
-place-behind l p [] a = absurd a
-place-behind l p (k ∷ ks) a = let r = place-of l k ks a in (r.0, omega (arith, r.1), r.2)
+pub place-after : (l p : Leg) (ls : List Leg) → IsAmong l ls → (i : ℕ) × (i < length ls) × (l ≡ leg_at p ls (suc i))
+place-after l p [] a = absurd a
+place-after l p (k ∷ ks) a = let r = place-of l k ks a in (r.0, omega (arith, r.1), r.2)

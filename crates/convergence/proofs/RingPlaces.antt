@@ -10,7 +10,7 @@ use Rattle.k_state.specs.Ring.{IsGood, IsRing, is_privileged_at, last_of, sees_a
 use Rattle.run_model.specs.World.{World}
 use Rattle.convergence.specs.Ring.{Leg, leg_values}
 use Rattle.convergence.specs.Legs.{is_special_leg, machine_value, staged_value, copied_value, seen_value, coming_value, IsFollowed, last_leg, IsAmong}
-use Rattle.convergence.proofs.LegPlaces.{leg_at, among-later, followed-at, last-at, place-of, place-behind}
+use Rattle.convergence.proofs.LegPlaces.{leg_at, among-later, followed-at, last-at, place-of, place-after}
 
 -- the values of some legs
 abbrev pub values_of : World → List Leg → List ℕ
@@ -98,6 +98,6 @@ module _ (one : OneItemIsPrivileged) (w : World) (q : ℕ) (first : Leg) (others
       let stands = subst (λ p. copied_value w p ≡ staged_value w p) (sym (last-at first others)) (copies-stand l (inl e) h (length others) (omega arith)) in
       subst (λ k. coming_value w k ≡ seen_value w k) (sym e) (fed-by (last_leg first others) first closed.0 stands)
   mover-is_fed l (inr a) h =
-      let r = place-behind l first others a in
+      let r = place-after l first others a in
       subst (λ k. coming_value w k ≡ seen_value w k) (sym r.2)
       (fed-by (leg_at first others r.0) (leg_at first others (suc r.0)) (followed-at first others r.0 closed.1 r.1) (copies-stand l (inr a) h r.0 (omega (arith, r.1))))

@@ -11,8 +11,8 @@ use topology::{Frame, Payload};
 /// The most nodes of a network.
 const NODES: usize = 64;
 
-/// The frames that were noted last on the links of a node, since the start of its state. Who writes a
-/// record and who reads it have one each.
+/// The frames that were noted last on the links of a node, since the start of its state. Whoever
+/// writes a record has one, and whoever reads it.
 #[derive(Drop)]
 pub struct LastFrames {
     /// By the neighbour's id, the frame that was last taken.

@@ -109,10 +109,10 @@ mode-own = refl
 mode_not-usual : own_mode Usual ≡ None
 mode_not-usual = refl
 
-tells-options : child_options (record { hold = 0; repeat = 5 }) 7 ≡ codes "node" ∷ codes "--child" ∷ codes "--hold" ∷ codes "0" ∷ codes "--repeat" ∷ codes "5"
+gives-options : child_options (record { hold = 0; repeat = 5 }) 7 ≡ codes "node" ∷ codes "--child" ∷ codes "--hold" ∷ codes "0" ∷ codes "--repeat" ∷ codes "5"
     ∷ codes "--turn" ∷ codes "0.007" ∷ []
 unfolding digits
-tells-options = refl
+gives-options = refl
 
 -- why a node does not run: which file, and what to do
 refuses-node : refusal_text (codes "ring.toml") (codes "run") 7 (NoNode 3) ≡ codes "no node 7 is in ring.toml: its 3 nodes are numbered from 0"
