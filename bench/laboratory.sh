@@ -24,11 +24,20 @@ title "1. Damage, and recovery"
 
 title "2. One layer above the other"
 for rounds in 0 2 4 6 8 10 15 20 30 40; do
-    "$tokentree" schedule ring.toml --scramble 7 --rounds "$rounds" | "$tokentree" simulate ring.toml - |
+    "$tokentree" schedule ring.toml --scramble 7 --rounds "$rounds" | "$tokentree" simulate ring.toml - --layers |
         awk -v rounds="$rounds" '
             $1 == "node" { said = said " " $4 "/" $6 }
-            $1 == "privileged" { print "rounds " rounds ": distance/parent" said "; " $0 }'
+            $1 == "links" { said = said "; links " $2 " of " $4 }
+            $1 == "distances" { said = said ", stage " $6 " of " $8 }
+            $1 ~ /^(tree|ring|loans|legitimate)$/ { said = said ", " $0 }
+            $1 == "privileged" { said = said "; " $0 }
+            END { print "rounds " rounds ": distance/parent" said }'
 done
+
+"$tokentree" measure ring.toml --runs 200 --csv | awk -F, '
+    NR == 1 { for (i = 3; i <= NF; i++) name[i] = $i; next }
+    { for (i = 3; i <= NF; i++) { sum[i] += $i; if ($i > most[i]) most[i] = $i } }
+    END { for (i = 3; i in name; i++) print name[i] ": mean " sum[i] / (NR - 1) ", most " most[i] }'
 
 title "3. Six places, seven values"
 "$tokentree" network line 2 > two.toml

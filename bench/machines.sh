@@ -565,7 +565,7 @@ def speed(delays):
     right = []
     for delay in delays:
         network = Network(delay)
-        for repeat in [8000, 100000] if delay > 8 else [8000]:
+        for repeat in [8000, 100000] if delay > 10 else [8000]:
             right.append(speed_row(network, delay, repeat))
         network.end()
     return all(right)

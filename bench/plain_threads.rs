@@ -307,7 +307,7 @@ struct Runner {
     journal: Vec<Entry>,
 }
 
-fn stamp_behind(one: u64, other: u64) -> Option<u64> {
+fn stamp_after(one: u64, other: u64) -> Option<u64> {
     let last = one.max(other);
     if last < LAST_STAMP { Some(last + 1) } else { None }
 }
@@ -318,11 +318,11 @@ impl Ends {
             return None;
         }
         let stamp = if self.free > 0 {
-            let stamp = stamp_behind(clock, 0)?;
+            let stamp = stamp_after(clock, 0)?;
             self.free -= 1;
             stamp
         } else {
-            let stamp = stamp_behind(clock, self.places.peek()?)?;
+            let stamp = stamp_after(clock, self.places.peek()?)?;
             self.places.drop_first();
             stamp
         };

@@ -214,7 +214,7 @@ for name in a b; do
     row "$name takes the longer repetition" on "$name" "systemctl daemon-reload && systemctl restart 'tokentree@*' 'tokentree-link@*'"
 done
 row "the lock at b with it" within 20 granted b "$lock"
-row "the node at a runs with it" shows a 'pgrep -a -x tokentree' 'node --group-locks --repeat 100000'
+row "the node at a runs with it" shows a 'pgrep -a -x tokentree' 'node --group-locks --repeat 20000'
 
 left='/var/lib/tokentree /run/tokentree-link /etc/tokentree /usr/lib/tokentree /etc/systemd/system/*/tokentree*'
 is_left() { [ -n "$(on "$1" "ls -d $left" 2> /dev/null)" ]; }

@@ -198,13 +198,18 @@ def under_way(begin):
 
 certificates()
 # A connection that does not move may not end so soon, either: filling such buffers takes longer.
-USUAL = [("sndbuf=1,rcvbuf=1,", ""), ("setsockopt-int=6:18:5000", "setsockopt-int=6:18:60000")]
+LEAST_SENT = [("setsockopt-int=6:25:1,rcvbuf=3072", "sndbuf=1,rcvbuf=1")]
+USUAL = [
+    (",setsockopt-int=6:25:1,rcvbuf=3072", ""),
+    ("setsockopt-int=6:18:5000", "setsockopt-int=6:18:60000"),
+]
 WAYS = [
     ("a Unix socket alone", alone, 1, True),
     ("plain TCP by `socat`, least buffers, blocks of 22 bytes", plain(["-b", "22"]), times, False),
     ("plain TCP by `socat`, least buffers, its usual blocks", plain([]), times, False),
-    ("TLS by `tokentree-link`: least buffers, blocks of 22 bytes", by_link(), times, True),
+    ("TLS by `tokentree-link`", by_link(), times, True),
     ("the same with the usual blocks of `socat`", by_link([("socat -b 22", "socat")]), times, True),
+    ("the same with the least send buffer of TCP in place of the limit", by_link(LEAST_SENT), times, False),
     ("the same with the system's usual buffers of TCP", by_link(USUAL), 1, False),
 ]
 if all(shutil.which(name, path="/usr/sbin:" + os.environ["PATH"]) for name in ("ssh", "sshd", "ssh-keygen")):

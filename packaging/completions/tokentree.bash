@@ -35,7 +35,7 @@ _tokentree() {
     fi
     case ${COMP_WORDS[1]} in
     bound) flags='--sharp --json --time --turn --delay --loan --repeat --help' valued='--turn --delay --loan --repeat' places='FILE' ;;
-    simulate) flags='--help' valued='' places='FILE EVENTS' ;;
+    simulate) flags='--layers --help' valued='' places='FILE EVENTS' ;;
     lock) flags='--timeout --no-wait --lost-status --verbose --keep --wait-children --help' valued='--timeout --lost-status' places='DIR ID COMMAND' ;;
     status) flags='--json --check --premises --links --watch --every --help' valued='--check --every' places='DIR ID' ;;
     scramble) flags='--help' valued='' places='FILE ID PATH SEED' ;;
@@ -46,7 +46,7 @@ _tokentree() {
     stop) flags='--timeout --help' valued='--timeout' places='DIR ID' ;;
     network) flags='--root --capacity --lease --edges --seed --help' valued='--root --capacity --lease --edges --seed' places='KIND N M' ;;
     schedule) flags='--scramble --rounds --random --seed --loss --clients --give-back --help' valued='--scramble --rounds --random --seed --loss --give-back' places='FILE' ;;
-    measure) flags='--runs --seed --rounds --random --table --json --help' valued='--runs --seed' places='FILE' ;;
+    measure) flags='--runs --seed --rounds --random --table --csv --json --help' valued='--runs --seed' places='FILE' ;;
     worst) flags='--searches --steps --seed --events --help' valued='--searches --steps --seed --events' places='FILE' ;;
     draw) flags='--columns --from --to --film --page --seconds --help' valued='--columns --from --to --seconds' places='FILE EVENTS' ;;
     threads) flags='--events --help' valued='--events' places='FILE TURNS' ;;

@@ -18,12 +18,12 @@ pub are_cut : LinesAreCut
 are_cut = record { lines = lines_cut; half = half_cut }
 
 -- a reader that stood after bytes has then read more
-pub reads_on : {X : Type 0} (n : ℕ) (reading : List ℕ → X) (old new : Kept) (more : List ℕ) (told : List X)
-    → Reads n reading old new more told → ReadsOn n reading old new more told
-reads_on n reading old new more told reads bytes stands =
+pub reads_on : {X : Type 0} (n : ℕ) (reading : List ℕ → X) (old new : Kept) (more : List ℕ) (said : List X)
+    → Reads n reading old new more said → ReadsOn n reading old new more said
+reads_on n reading old new more said reads bytes stands =
     let half = half_line bytes in
     let kept_now : new ≡ kept n (half_line (bytes ++ more)) = reads.half half stands ∙ ap (kept n) (sym (half_cut [] bytes more)) in
-    let lines : map reading (whole_lines (bytes ++ more)) ≡ map reading (whole_lines bytes) ++ told =
+    let lines : map reading (whole_lines (bytes ++ more)) ≡ map reading (whole_lines bytes) ++ said =
     ap (map reading) (lines_cut [] bytes more) ∙ map-append reading (whole_lines bytes) (lines_after half more)
     ∙ ap (λ ys. map reading (whole_lines bytes) ++ ys) (sym (reads.lines half stands)) in
     (kept_now, lines)

@@ -83,9 +83,9 @@ up_to line rest piece is = ap (take (length line + 1)) is ∙ take-append-add li
 
 module _ {X : Type 0} (n : ℕ) (reading : List ℕ → X) (old : Kept) where
   -- a newline ends the half line with what stands in front of it
-  pub line_read : (new : Kept) (line bytes : List ℕ) (told : X) → new ≡ kept n [] → HasNoNewline line → bytes ≡ line ++ newline ∷ []
-      → ((half : List ℕ) → old ≡ kept n half → told ≡ reading (half ++ line)) → Reads n reading old new bytes (told ∷ [])
-  line_read new line bytes told none one is read = record {
+  pub line_read : (new : Kept) (line bytes : List ℕ) (said : X) → new ≡ kept n [] → HasNoNewline line → bytes ≡ line ++ newline ∷ []
+      → ((half : List ℕ) → old ≡ kept n half → said ≡ reading (half ++ line)) → Reads n reading old new bytes (said ∷ [])
+  line_read new line bytes said none one is read = record {
     half = λ half kept_is. none ∙ ap (kept n) (sym (ap (half_after half) is ∙ grow.begun half line [] one));
     lines = λ half kept_is. ap (λ x. x ∷ []) (read half kept_is) ∙ ap (map reading) (sym (ap (lines_after half) is ∙ grow.ended half line [] one));
   }

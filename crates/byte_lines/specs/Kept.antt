@@ -22,9 +22,9 @@ kept_more n k more = record {
 -- Whatever half line was kept, what is kept now is the half line that then stands at the end of
 -- these bytes; and this is what the lines that end in them are read as.
 pub record Reads {X : Type 0} (n : ℕ) (reading : List ℕ
-    → X) (old new : Kept) (bytes : List ℕ) (told : List X) : Type 0 where
+    → X) (old new : Kept) (bytes : List ℕ) (said : List X) : Type 0 where
   pub half : (half : List ℕ) → old ≡ kept n half → new ≡ kept n (half_after half bytes)
-  pub lines : (half : List ℕ) → old ≡ kept n half → told ≡ map reading (lines_after half bytes)
+  pub lines : (half : List ℕ) → old ≡ kept n half → said ≡ map reading (lines_after half bytes)
 
 -- a reader stands after these bytes if it keeps their half line
 abbrev pub StandsAfter : ℕ → List ℕ → Kept → Type 0
@@ -33,7 +33,7 @@ StandsAfter n bytes k = k ≡ kept n (half_line bytes)
 -- whatever bytes a reader stood after, it now stands after those and these, and has said what each
 -- line that these ended is read as
 abbrev pub ReadsOn : {X : Type 0} → ℕ → (List ℕ → X) → Kept → Kept → List ℕ → List X → Type 0
-ReadsOn n reading old new more told =
+ReadsOn n reading old new more said =
     (bytes : List ℕ) → StandsAfter n bytes old
     → StandsAfter n (bytes ++ more) new
-    × (map reading (whole_lines (bytes ++ more)) ≡ map reading (whole_lines bytes) ++ told)
+    × (map reading (whole_lines (bytes ++ more)) ≡ map reading (whole_lines bytes) ++ said)

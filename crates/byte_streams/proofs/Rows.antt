@@ -21,8 +21,8 @@ gives-no_room : Gives 0 (Some (1 ∷ [])) (Some (1 ∷ [])) []
 gives-no_room = (omega arith, refl, refl, λ none room. absurd (grind arith))
 
 -- a sink takes after what it took before
-takes-behind : Takes (3 ∷ []) (Some (1 ∷ 2 ∷ [])) (Some (1 ∷ 2 ∷ 3 ∷ []))
-takes-behind = refl
+takes-after : Takes (3 ∷ []) (Some (1 ∷ 2 ∷ [])) (Some (1 ∷ 2 ∷ 3 ∷ []))
+takes-after = refl
 
 takes_not-in_front : ¬ Takes (3 ∷ []) (Some (1 ∷ 2 ∷ [])) (Some (3 ∷ 1 ∷ 2 ∷ []))
 takes_not-in_front = λ t. grind arith

@@ -1,5 +1,6 @@
 //! The words of `measure`.
-ghost use Rattle.std.specs.Prelude.{IfOk, IfErr};
+ghost use Rattle.std.specs.Prelude.{◌≡◌, ◌⊎◌, IfOk, IfErr};
+ghost use Rattle.std.specs.Process.{exit_status};
 ghost use Rattle.clap.specs.Matches.{found_of};
 ghost use Rattle.command_line.specs.Plan.{IsPlanOf, IsPlanRefused};
 
@@ -13,7 +14,7 @@ use std::rt::Files;
 use std::thread::Threads;
 use std::time::Clock;
 use subcommands::measure::Plan;
-use subcommands::{Scheduler, measure, measure_json};
+use subcommands::{Scheduler, measure, measure_csv, measure_json};
 
 /// What `measure` takes.
 const MEASURE: Grammar<'static> = Grammar {
@@ -32,10 +33,11 @@ const MEASURE: Grammar<'static> = Grammar {
         Parameter::Flag("rounds", "Run by rounds, the default"),
         Parameter::Flag("random", "Run by random steps"),
         Parameter::Flag("table", "Also show a line for each run"),
+        Parameter::Flag("csv", "Print a row for each run: when each layer stood"),
         Parameter::Flag("json", "Print one JSON object, on one line"),
     ],
     needs: &[],
-    excludes: &[("random", "rounds")],
+    excludes: &[("random", "rounds"), ("csv", "table"), ("csv", "json")],
     choice: None,
 };
 
@@ -67,6 +69,21 @@ steps, for each sweep of the bound. Such a run is always shown, and the status
 is 1. 'schedule FILE --scramble S --rounds N --give-back 1' prints the events of
 such a run by rounds.
 
+With --csv it prints a row for each run, under the names of the columns:
+
+  $ tokentree measure two-nodes.toml --runs 2 --csv
+  seed,events,links,tree,ring,served
+  0,361,1,2,3,1
+  1,361,1,3,5,2
+
+A row has the run's seed, and how many events it had. The other numbers are the
+least from which on, at each moment, every link was stable, the tree was
+reached, the token ring was good, and the network served. Each layer is that of
+the proof (see simulate). A run has its links by 6 sweeps, its tree by 4e + 14,
+e being the greatest distance of a node from the root, and its ring by one less
+than the sharper bound. If it has 'sweeps none', these four are empty. Such a
+measurement takes longer.
+
 With --json it prints one JSON object: runs, least, median, most, sharp and
 sweeps-bound, and seeds. That is a list with the seed and the sweeps of each run
 that would have a line. null means none.
@@ -95,10 +112,15 @@ pub fn run<R: Files + Print + Eprint + Clock + AllocGlobal + Threads + Sync>(
     rt: &R,
     given: &ArgMatches,
     progress: bool,
-) -> Result<ExitCode, Refusal> {
+) -> Result<ExitCode, Refusal>
+    ensures { IfOk result (λ status. (exit_status status ≡ 0) ⊎ (exit_status status ≡ 1)) }
+{
     let (file, plan) = (word(given, "FILE")?, plan(given, progress)?);
     if given.get_flag("json") {
         return Ok(measure_json::run(rt, file, plan)?);
+    }
+    if given.get_flag("csv") {
+        return Ok(measure_csv::run(rt, file, plan)?);
     }
     Ok(measure::run(rt, file, plan)?)
 }

@@ -17,6 +17,7 @@ const SIMULATE: Grammar<'static> = Grammar {
     parameters: &[
         Parameter::Place("FILE", NETWORK_FILE),
         Parameter::Place("EVENTS", EVENTS_TEXT),
+        Parameter::Flag("layers", "Show what has settled at the end, too"),
     ],
     needs: &[],
     excludes: &[],
@@ -102,6 +103,21 @@ lines.
   privileged 0 lending 0
   sweeps 0 of 69
 
+With --layers six lines more show what has settled at the end, each layer on top
+of those before it, and each as the proof means it:
+
+  links 2 of 4 stable                    how many links count rightly, an edge
+                                         being one in each direction
+  distances right up to stage 1 of 3     each distance below 1 is right, where
+                                         it is written, sent and copied, and
+                                         each other is at least 1; stage 3: all
+  tree no                                all distances and parents are right
+  ring no                                the values round the tree are one, and
+                                         then the one before it: one token
+  loans yes                              each node that lends has the token
+  legitimate no                          all of these: the network serves until
+                                         something is damaged
+
 The output is buffered: refusals come when the buffer is full, and at the end.
 
 Statuses: 0 done; 1 a file, memory or standard output failed, and a line on
@@ -113,5 +129,10 @@ pub fn run<R: Files + Input + Print + Eprint + AllocGlobal>(
     rt: &R,
     given: &ArgMatches,
 ) -> Result<ExitCode, Refusal> {
-    Ok(simulate::run(rt, word(given, "FILE")?, word(given, "EVENTS")?)?)
+    Ok(simulate::run(
+        rt,
+        word(given, "FILE")?,
+        word(given, "EVENTS")?,
+        given.get_flag("layers"),
+    )?)
 }

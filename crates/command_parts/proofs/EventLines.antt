@@ -9,8 +9,8 @@ pub line-appended : (a b : Option (List ℕ)) (e : Event) → Appends a b (event
 line-appended a b e more = subst (Appends a b) (sym (append-nil (event_line e))) more
 
 -- bytes that are added after the text leave it there
-pub kept-behind : (a b c : Option (List ℕ)) (es : List Event) → GrowsByText a es b → Keeps b c → GrowsByText a es c
-kept-behind None b c es grown kept = tt
-kept-behind (Some bytes) None c es grown kept = absurd grown
-kept-behind (Some bytes) (Some more) None es grown kept = absurd kept
-kept-behind (Some bytes) (Some more) (Some same) es grown kept = kept ∙ grown
+pub kept-after : (a b c : Option (List ℕ)) (es : List Event) → GrowsByText a es b → Keeps b c → GrowsByText a es c
+kept-after None b c es grown kept = tt
+kept-after (Some bytes) None c es grown kept = absurd grown
+kept-after (Some bytes) (Some more) None es grown kept = absurd kept
+kept-after (Some bytes) (Some more) (Some same) es grown kept = kept ∙ grown

@@ -17,7 +17,7 @@ use Rattle.command_parts.specs.EventText.{GrowsByText, text_of}
 use Rattle.command_parts.specs.FaultText.{fault_text}
 use Rattle.command_parts.specs.PathFaultText.{path_fault_text}
 use Rattle.command_parts.specs.Returns.{gave_return, has_return, return_hint}
-use Rattle.command_parts.specs.Simulated.{IsCaused, IsDone, IsFailed, IsToldAs}
+use Rattle.command_parts.specs.Simulated.{IsCaused, IsDone, IsFailed, IsReportedAs}
 use Rattle.command_parts.specs.SimulationFault.{fault_of}
 
 zero-is : decimal 0 ≡ codes "0"
@@ -52,33 +52,33 @@ grows_not-silent e = grind (arith, one-is, e)
 
 -- ---- faults
 
-tells-network : fault_text (fault.Network Unreadable) ≡ codes "network Unreadable"
-tells-network = refl
+says-network : fault_text (fault.Network Unreadable) ≡ codes "network Unreadable"
+says-network = refl
 
-tells-refused : fault_text (fault.Network (Refused NotToml)) ≡ codes "network NotToml"
-tells-refused = refl
+says-refused : fault_text (fault.Network (Refused NotToml)) ≡ codes "network NotToml"
+says-refused = refl
 
-tells-node : fault_text fault.NoNode ≡ codes "id NoNode"
-tells-node = refl
+says-node : fault_text fault.NoNode ≡ codes "id NoNode"
+says-node = refl
 
-tells-long : fault_text fault.EventsLong ≡ codes "events Long"
-tells-long = refl
+says-long : fault_text fault.EventsLong ≡ codes "events Long"
+says-long = refl
 
-tells_not-output : fault_text fault.Output ≢ fault_text fault.Memory
-tells_not-output = grind arith
+says_not-output : fault_text fault.Output ≢ fault_text fault.Memory
+says_not-output = grind arith
 
-tells-path : path_fault_text (path.Fault fault.Threads) ≡ codes "threads Refused"
-tells-path = refl
+says-path : path_fault_text (path.Fault fault.Threads) ≡ codes "threads Refused"
+says-path = refl
 
 -- each fault of a simulation is reported as its own
-told-read : fault_of simulation.Read ≡ fault.EventsUnreadable
-told-read = refl
+said-read : fault_of simulation.Read ≡ fault.EventsUnreadable
+said-read = refl
 
-told-long : fault_of simulation.Long ≡ fault.EventsLong
-told-long = refl
+said-long : fault_of simulation.Long ≡ fault.EventsLong
+said-long = refl
 
-told_not-write : fault_of simulation.Write ≢ fault.Memory
-told_not-write = grind arith
+said_not-write : fault_of simulation.Write ≢ fault.Memory
+said_not-write = grind arith
 
 -- ---- simulations
 
@@ -86,11 +86,11 @@ abbrev start : World
 start = default_world (record { nodes = 2; root = 0; capacity = 1; lease = 0; edges = (0, 1) ∷ [] })
 
 -- a failure of the output after the simulation is reported as one of the output
-tells-output : (summary : Summary) → IsToldAs (Ok summary) fault.Output
-tells-output summary = refl
+says-output : (summary : Summary) → IsReportedAs (Ok summary) fault.Output
+says-output summary = refl
 
-tells_not-long : (summary : Summary) → ¬ IsToldAs (Ok summary) fault.EventsLong
-tells_not-long summary told = grind (arith, told)
+says_not-long : (summary : Summary) → ¬ IsReportedAs (Ok summary) fault.EventsLong
+says_not-long summary said = grind (arith, said)
 
 -- if memory is refused, nothing is read or written, and memory is reported
 fails-memory : IsFailed start (codes "tick 0") (Some (codes "tick 0")) (Some []) (Some []) fault.Memory

@@ -11,16 +11,16 @@ use Rattle.command_parts.specs.SimulationFault.{fault_of}
 
 -- a simulation's fault is reported as the program's fault for it; if the simulation is done, the
 -- fault is the output's
-abbrev pub IsToldAs : Result Summary SimFault → Fault → Type 0
-IsToldAs (Ok _) told = told ≡ Output
-IsToldAs (Err fault) told = told ≡ fault_of fault
+abbrev pub IsReportedAs : Result Summary SimFault → Fault → Type 0
+IsReportedAs (Ok _) said = said ≡ Output
+IsReportedAs (Err fault) said = said ≡ fault_of fault
 
 -- Something was simulated, and its fault is reported, or the failure of its output.
 pub record IsFailed (start : World) (bytes : List ℕ) (rest before after : Option (List ℕ))
-    (told : Fault) : Type 0 where
+    (said : Fault) : Type 0 where
   pub answer : Result Summary SimFault
   pub simulated : IsSimulated start bytes rest before after answer
-  pub cause : IsToldAs answer told
+  pub cause : IsReportedAs answer said
 
 -- these bytes were simulated and the summary is theirs, or a fault is reported
 abbrev pub IsDone : World → List ℕ → Option (List ℕ) → Option (List ℕ) → Option (List ℕ)

@@ -30,4 +30,5 @@ pub use progress::Progress;
 pub use returns::{Returns, return_hint, say_hint};
 pub use simulation::{STANDARD_INPUT, events_status, simulate_between};
 pub use streams::{Flush, ReadSource, WriteSink};
-pub use world::simulation::Summary;
+pub use world;
+pub use world::simulation::{Simulated, Summary};

@@ -35,9 +35,9 @@ impl std::error::Error for PathFault<'_> {}
 impl From<NetworkFault> for PathFault<'_> {
     ghost use Rattle.std.specs.Prelude.{◌≡◌};
     ghost use Rattle.command_parts.specs.declared.fault.Fault.TheVariants.{Network};
-    ghost use Rattle.command_parts.specs.declared.path_fault.PathFault.TheVariants.{Fault as Told};
+    ghost use Rattle.command_parts.specs.declared.path_fault.PathFault.TheVariants.{Fault as Said};
 
-    ghost from_gives = { λ refused told. told ≡ Told (Network refused) };
+    ghost from_gives = { λ refused said. said ≡ Said (Network refused) };
 
     fn from(refused: NetworkFault) -> Self {
         PathFault::Fault(Fault::Network(refused))
@@ -46,9 +46,9 @@ impl From<NetworkFault> for PathFault<'_> {
 
 impl From<Fault> for PathFault<'_> {
     ghost use Rattle.std.specs.Prelude.{◌≡◌};
-    ghost use Rattle.command_parts.specs.declared.path_fault.PathFault.TheVariants.{Fault as Told};
+    ghost use Rattle.command_parts.specs.declared.path_fault.PathFault.TheVariants.{Fault as Said};
 
-    ghost from_gives = { λ fault told. told ≡ Told fault };
+    ghost from_gives = { λ fault said. said ≡ Said fault };
 
     fn from(fault: Fault) -> Self {
         PathFault::Fault(fault)

@@ -17,7 +17,7 @@ pub struct Progress {
     /// How many are done, if they are counted here.
     done: AtomicU64,
     /// The last tenth of a second in which it showed something; 0 if it has shown nothing.
-    told: AtomicU64,
+    said: AtomicU64,
 }
 
 impl Progress {
@@ -29,7 +29,7 @@ impl Progress {
             things,
             most,
             done: AtomicU64::new(0),
-            told: AtomicU64::new(0),
+            said: AtomicU64::new(0),
         })
     }
 
@@ -48,14 +48,14 @@ impl Progress {
         let Ok(tenth) = u64::try_from(elapsed.as_millis() / MILLISECONDS_A_TENTH) else {
             return;
         };
-        if self.told.fetch_max(tenth, Ordering::SeqCst) < tenth {
+        if self.said.fetch_max(tenth, Ordering::SeqCst) < tenth {
             let _ = eprint!(rt; "\r{done} of {} {}", self.most, self.things);
         }
     }
 
     /// All is done: removes the line.
     pub fn end<R: Eprint>(&self, rt: &R) {
-        if self.told.load(Ordering::SeqCst) > 0 {
+        if self.said.load(Ordering::SeqCst) > 0 {
             let _ = eprint!(rt; "\r\x1b[K");
         }
     }

@@ -1,7 +1,10 @@
 //! A simulation that writes all its text, and the status of a run of events.
-ghost use Rattle.std.specs.Prelude.{◌≡◌, ℕ, List, [], Some, ◌==◌, if◌then◌else◌, OnOk};
+ghost use Rattle.std.specs.Prelude.{◌≡◌, ℕ, List, [], Some, ◌==◌, if◌then◌else◌, IfOk, OnOk};
 ghost use Rattle.std.specs.Process.{exit_status};
-ghost use Rattle.world.specs.SimulatedText.{simulated_start};
+ghost use Rattle.world.specs.Simulating.{summary_in};
+ghost use Rattle.world.specs.SimulatedText.{events_of, simulated_start};
+ghost use Rattle.world.specs.judge.configuration.ConfigurationView.{world_of};
+ghost use Rattle.world.specs.run_model.Run.{run};
 ghost use Rattle.command_parts.specs.Simulated.{IsCaused, IsDone};
 
 use crate::fault::Fault;
@@ -9,7 +12,7 @@ use crate::streams::Flush;
 use std::alloc::Global;
 use std::process::ExitCode;
 use topology::Net;
-use world::simulation::{Summary, simulate};
+use world::simulation::{Simulated, simulate_to};
 use world::streams::Source;
 
 /// The name that means standard input, in place of a file of events.
@@ -23,7 +26,7 @@ const LINES_REFUSED: u8 = 3;
 ///
 /// What is unproved: that the bytes that were simulated are those of the file or of standard
 /// input, and that the text reaches standard output. Neither end shows its bytes, so for them the
-/// contract only says when a fault comes. For ends that show theirs it says all that [`simulate`]
+/// contract only says when a fault comes. For ends that show theirs it says all that [`simulate_to`]
 /// says.
 ///
 /// # Errors
@@ -33,22 +36,26 @@ pub fn simulate_between<S: Source, W: Flush>(
     net: &Net,
     source: &mut S,
     sink: &mut W,
-) -> Result<Summary, Fault>
+) -> Result<Simulated, Fault>
     // If both ends show their bytes, this is a simulation of them.
     ensures text { (bytes : List ℕ) → S.rest source.old ≡ Some bytes
         → IsDone (simulated_start net.now) bytes (S.rest source.new) (W.taken sink.old)
-        (W.taken sink.new) result }
+        (W.taken sink.new) (summary_in (λ simulated. simulated.summary) result) }
+    // The world is the one that the events lead to.
+    ensures led { (bytes : List ℕ) → S.rest source.old ≡ Some bytes
+        → IfOk result (λ simulated. world_of simulated.world
+        ≡ run (simulated_start net.now) (events_of bytes)) }
     ensures written { OnOk result (W.unwritten sink.new ≡ []) }
     // A fault of the events comes only if the source failed, one of the output only if the sink
     // did.
     ensures cause { IsCaused result (S.failures source.old) (S.failures source.new)
         (W.failures sink.old) (W.failures sink.new) }
 {
-    let simulated = simulate(alloc, net, source, sink);
+    let simulated = simulate_to(alloc, net, source, sink);
     let flushed = sink.flush();
-    let summary = simulated?;
+    let simulated = simulated?;
     match flushed {
-        Ok(()) => Ok(summary),
+        Ok(()) => Ok(simulated),
         Err(_) => Err(Fault::Output),
     }
 }

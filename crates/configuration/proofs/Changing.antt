@@ -27,9 +27,9 @@ must-ok (Ok x) fault none err ok = ok
 must-ok (Err x) fault none err ok = absurd cc
 
 -- the places of links do not depend on how the edges are listed
-pub placed-anew : (net : Network) (edges : List Edge) (is_joined : ℕ → ℕ → Bool) (places : PairTableView) (links : List LinkView) (spares : List ℕ)
+pub placed-again : (net : Network) (edges : List Edge) (is_joined : ℕ → ℕ → Bool) (places : PairTableView) (links : List LinkView) (spares : List ℕ)
     → ArePlaced net is_joined places links spares → ArePlaced (record net { edges = edges }) is_joined places links spares
-placed-anew net edges is_joined places links spares placed = record {
+placed-again net edges is_joined places links spares placed = record {
   table = placed.table;
   inside = placed.inside;
   apart = placed.apart;
@@ -149,7 +149,7 @@ module _ (l : LinksView) (u v : ℕ) (second third : PairTableView) (one two : L
   pub joined-links : IsLinks with-edge
   joined-links = record {
     network = accepted;
-    placed = placed-anew l.net (l.net.edges ++ (u, v) ∷ []) (are_joined (l.net.edges ++ (u, v) ∷ [])) third l.links two
+    placed = placed-again l.net (l.net.edges ++ (u, v) ∷ []) (are_joined (l.net.edges ++ (u, v) ∷ [])) third l.links two
         (placed-edge l.net l.net.edges u v l.places second third l.links l.spares one two ok.placed enough same also out one-is back two-is);
     count = (let c = ok.count in let g = gone in let e = length-append l.net.edges ((u, v) ∷ []) in omega (arith, c, g, e));
     within = ok.within;
@@ -228,7 +228,7 @@ module _ (l : LinksView) (u v : ℕ) (second third : PairTableView) (one two : L
   pub parted-links : IsLinks without-edge
   parted-links = record {
     network = accepted;
-    placed = placed-anew l.net (edges_without l.net.edges u v) (are_joined (edges_without l.net.edges u v)) third l.links two
+    placed = placed-again l.net (edges_without l.net.edges u v) (are_joined (edges_without l.net.edges u v)) third l.links two
         (subst (λ j. ArePlaced l.net j third l.links two) (fun_ext (λ i. fun_ext (λ j. but-both (are_joined l.net.edges) u v i j ∙ sym (who l.net u v i j)))) whole);
     count = (let c = ok.count in let m = more in let e = one-less l.net u v ok.network joined in omega (arith, c, m, e));
     within = ok.within;

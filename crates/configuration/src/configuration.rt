@@ -1,6 +1,6 @@
 //! What all nodes and links of a network hold at one moment.
 ghost use Rattle.std.specs.Prelude.{◌≡◌, ◌<◌, ◌≤◌, IsTrue, if◌then◌else◌, IfOk, IfErr, OnOk, None};
-ghost use Rattle.std.specs.Prelude.{Some, Contains, length};
+ghost use Rattle.std.specs.Prelude.{Some, Contains, length, slice_get};
 ghost use Rattle.topology.specs.Network.{are_joined, neighbours_of};
 ghost use Rattle.run_model.specs.node_core.View.{state_of, site_in};
 ghost use Rattle.run_model.specs.World.{IsWorldInRange, site};
@@ -163,6 +163,16 @@ impl<A: Allocator + Copy> Configuration<A> {
         ensures few { result ≤ 4096 }
     {
         self.links.len(from, to)
+    }
+
+    /// The item at an index of what is under way from one node to another, 0 being the oldest.
+    pub fn item(&self, from: u16, to: u16, index: usize) -> Item
+        requires from_in { from < (world_of self.now).net.nodes }
+        requires to_in { to < (world_of self.now).net.nodes }
+        requires there { index < length ((world_of self.now).link from to) }
+        ensures { slice_get ((world_of self.now).link from to) index ≡ Some result }
+    {
+        self.links.get(from, to, index)
     }
 
     /// How many nodes are privileged.

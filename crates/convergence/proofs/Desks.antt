@@ -63,7 +63,7 @@ module _ (b : Below) where
   abbrev good_course : ℕ → Course
   good_course v = record {
     holds = λ w es. IsUndamaged w es × IsGoodWorld w × (v < w.net.nodes);
-    tells = λ w e. (is_damage w e ≡ false) × IsGoodWorld w × (v < w.net.nodes);
+    says = λ w e. (is_damage w e ≡ false) × IsGoodWorld w × (v < w.net.nodes);
     now = λ w e es h. ((undamaged-front w e es h.0).0, h.1, h.2);
     later = λ w e es h.
         let d = undamaged-front w e es h.0 in

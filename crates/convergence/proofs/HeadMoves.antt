@@ -159,13 +159,13 @@ module _ (b : Below) where
   -- ---- a move of the head
 
   module _ (net : Network) (tour : IsTour net) where
-    abbrev behind : ℕ
-    behind = length tour.others
+    abbrev other_legs : ℕ
+    other_legs = length tour.others
 
     -- If the values up to the j-th machine are the head's, the head moves within four sweeps for
     -- each machine from there on: without a move all values would be its own, and a full tick of
     -- the root would move it.
-    pub moves-ahead : (j k : ℕ) (w : World) (es : List Event) (small : 0 < ring_of net) → IsSettledOn net w → IsUndamaged w es → j + k ≡ behind
+    pub moves-ahead : (j k : ℕ) (w : World) (es : List Event) (small : 0 < ring_of net) → IsSettledOn net w → IsUndamaged w es → j + k ≡ other_legs
         → IsKnown (leg b net tour (machine_value w tour.first) 0 small) (old b net tour (machine_value w tour.first) 0 small) w j
         → Sweeps w ((4 * k + 3) + 1) es → 0 < head_moves w es
     moves-ahead j k w es small s u e known sweeps =
@@ -184,12 +184,12 @@ module _ (b : Below) where
             let all = copied-ahead net tour start 0 small k w x.0 j (first-within net tour start 0 small w es x.0 x.1 h p) e known x.3 in
             let y = x.4 in
             let q = parted mid x.1 y.0 y.1 y.2 p.late in
-            ticked (within_course b net tour start 0 small) (λ v. IsCopied (leg b net tour start 0 small) (old b net tour start 0 small) v behind) (λ v. ⊥) tour.first.here
-            (copied-stays b net tour start 0 small behind (omega arith)) (λ v e now c no. no) (λ v e now c f. moves start small v e now c f)
+            ticked (within_course b net tour start 0 small) (λ v. IsCopied (leg b net tour start 0 small) (old b net tour start 0 small) v other_legs) (λ v. ⊥) tour.first.here
+            (copied-stays b net tour start 0 small other_legs (omega arith)) (λ v e now c no. no) (λ v e now c f. moves start small v e now c f)
             mid y.0 (first-within net tour start 0 small mid x.1 y.0 y.1 h1 q) all (ticked-in net tour start 0 small mid y.0 0 h1.0 (omega arith) y.3)
           where
             moves : (start : ℕ) (small : 0 < ring_of net) (v : World) (e : Event) → IsEventWithin b net tour start 0 small v e
-                → IsCopied (leg b net tour start 0 small) (old b net tour start 0 small) v behind → is_full_tick v e tour.first.here ≡ true → ⊥
+                → IsCopied (leg b net tour start 0 small) (old b net tour start 0 small) v other_legs → is_full_tick v e tour.first.here ≡ true → ⊥
             moves start small v e now c f =
                 let least = last-copy b net tour start 0 small v c in
                 let same = b.ages_differ (ring_of net) start (machine_value v tour.first) (seen_value v tour.first) (head-in b net tour v now.0) (seen-in_range b net tour v now.0)
@@ -201,8 +201,8 @@ module _ (b : Below) where
     moves-in_round w es s u sweeps =
         let two = two-values-at-least b net tour w s in
         let small : 0 < ring_of net = omega (arith, two) in
-        moves-ahead 0 behind w es small s u (omega arith) (nothing-known net tour (machine_value w tour.first) 0 small w)
-        (other-number w (8 * (net.nodes - 1)) ((4 * behind + 3) + 1) es (omega (arith, tour.count)) sweeps)
+        moves-ahead 0 other_legs w es small s u (omega arith) (nothing-known net tour (machine_value w tour.first) 0 small w)
+        (other-number w (8 * (net.nodes - 1)) ((4 * other_legs + 3) + 1) es (omega (arith, tour.count)) sweeps)
 
     pub moves-in_rounds : (k : ℕ) (w : World) (es : List Event) → IsSettledOn net w → IsUndamaged w es → Sweeps w (k * (8 * (net.nodes - 1))) es → k ≤ head_moves w es
     moves-in_rounds zero w es s u sweeps = omega arith
@@ -226,7 +226,7 @@ module _ (b : Below) where
 
     -- if all values are known, a move of the head makes the ring good
     good-by_ages : (start bound : ℕ) (small : bound < ring_of net) (w : World) (es : List Event) → IsSettledOn net w → IsUndamaged w es
-        → IsCopied (leg b net tour start bound small) (old b net tour start bound small) w behind → 0 < head_moves w es → IsTokenRingGood (run w es)
+        → IsCopied (leg b net tour start bound small) (old b net tour start bound small) w other_legs → 0 < head_moves w es → IsTokenRingGood (run w es)
     good-by_ages start bound small w es s u c one =
         let z = settled-run b net w es s u in
         let g = b.ages_turn_good (ring_of net) start (head_moves w es) (token_ring w) (token_ring (run w es)) (ring-run b net tour w es s u) (ring-in b net tour w s)
@@ -236,7 +236,7 @@ module _ (b : Below) where
     pub good-in_twice : (w : World) (es : List Event) → IsSettledOn net w → IsUndamaged w es → Sweeps w (16 * (net.nodes - 1)) es → IsTokenRingGood (run w es)
     good-in_twice w es s u sweeps =
         let round = 8 * (net.nodes - 1) in
-        let x = b.split w (4 * behind + 3) (round + 1) es (other-number w (16 * (net.nodes - 1)) ((4 * behind + 3) + (round + 1)) es (omega (arith, tour.count)) sweeps) in
+        let x = b.split w (4 * other_legs + 3) (round + 1) es (other-number w (16 * (net.nodes - 1)) ((4 * other_legs + 3) + (round + 1)) es (omega (arith, tour.count)) sweeps) in
         let p = parted w es x.0 x.1 x.2 u in
         let mid = run w x.0 in
         let s1 = settled-run b net w x.0 s p.early in

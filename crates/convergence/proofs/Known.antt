@@ -119,7 +119,7 @@ module _ (b : Below) (net : Network) (tour : IsTour net) (start bound : ℕ) (sm
       (settled-event b net w e s d, (undamaged-front w e es u).1, omega (arith, h, now))
 
   abbrev pub within_course : Course
-  within_course = record { holds = IsWithin; tells = IsEventWithin; now = event-within; later = rest-within }
+  within_course = record { holds = IsWithin; says = IsEventWithin; now = event-within; later = rest-within }
 
   pub head-run : (w : World) (es : List Event) → IsWithin w es → head_age (run w es) ≡ head_age w + head_moves w es
   head-run w [] h = omega arith

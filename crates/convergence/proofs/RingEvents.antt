@@ -81,11 +81,11 @@ module _ (b : Below) (net : Network) (tour : IsTour net) where
       )
 
   -- all that follows the head makes a parallel step
-  abbrev behind : World → List ℕ
-  behind w = staged_value w tour.first ∷ copied_value w tour.first ∷ values_of w tour.others
+  abbrev followers : World → List ℕ
+  followers w = staged_value w tour.first ∷ copied_value w tour.first ∷ values_of w tour.others
 
-  behind-event : (w : World) (e : Event) → IsSettledOn net w → is_damage w e ≡ false → IsParallel (machine_value w tour.first) (behind w) (behind (step w e))
-  behind-event w e s d =
+  followers-event : (w : World) (e : Event) → IsSettledOn net w → is_damage w e ≡ false → IsParallel (machine_value w tour.first) (followers w) (followers (step w e))
+  followers-event w e s d =
       let t = tour.tree tour.first (inl refl) in
       (staged-event b net w e tour.first s d t, (copied-event b net w e tour.first s d t, others-event w e s d tour.first tour.others tour.closed.1 (λ l i. i)))
 
@@ -111,16 +111,16 @@ module _ (b : Below) (net : Network) (tour : IsTour net) where
       let x = machine_value w tour.first in
       let y = machine_value (step w e) tour.first in
       let new = step w e in
-      let copies : Run q 0 (x ∷ behind w) (x ∷ behind new) = b.parallel q x (behind w) (behind new) (behind-event w e s d) in
+      let copies : Run q 0 (x ∷ followers w) (x ∷ followers new) = b.parallel q x (followers w) (followers new) (followers-event w e s d) in
       elim (special-event w e s d) [
         | inl k ↦ (let zero : (if y == x then 0 else 1) ≡ 0 = ap (λ c. if c then 0 else 1) (eq-eqb y x k) in
-            subst (λ n. Run q n (x ∷ behind w) (y ∷ behind new)) (sym zero) (subst (λ h. Run q 0 (x ∷ behind w) (h ∷ behind new)) (sym k) copies))
+            subst (λ n. Run q n (x ∷ followers w) (y ∷ followers new)) (sym zero) (subst (λ h. Run q 0 (x ∷ followers w) (h ∷ followers new)) (sym k) copies))
         | inr m ↦ (let ne : y ≢ x = λ k. head-goes-on q x (two-values-at-least w s) (head-in w s) (sym m.0 ∙ k) in
             let one : (if y == x then 0 else 1) ≡ 1 = ap (λ c. if c then 0 else 1) (ne_eqb y x ne) in
-            let end : last_of x (behind new) ≡ x = last-value new tour.first tour.others ∙ sym (first-sees new) ∙ m.1 in
-            let move : Run q 1 (x ∷ behind new) (root_moved x q ∷ behind new) = b.step_run q 1 (x ∷ behind new) (root_moved x q ∷ behind new) (Moves (Moved end)) in
-            let both : Run q 1 (x ∷ behind w) (root_moved x q ∷ behind new) = b.ring_join q 0 1 (x ∷ behind w) (x ∷ behind new) (root_moved x q ∷ behind new) copies move in
-            subst (λ n. Run q n (x ∷ behind w) (y ∷ behind new)) (sym one) (subst (λ h. Run q 1 (x ∷ behind w) (h ∷ behind new)) (sym m.0) both))
+            let end : last_of x (followers new) ≡ x = last-value new tour.first tour.others ∙ sym (first-sees new) ∙ m.1 in
+            let move : Run q 1 (x ∷ followers new) (root_moved x q ∷ followers new) = b.step_run q 1 (x ∷ followers new) (root_moved x q ∷ followers new) (Moves (Moved end)) in
+            let both : Run q 1 (x ∷ followers w) (root_moved x q ∷ followers new) = b.ring_join q 0 1 (x ∷ followers w) (x ∷ followers new) (root_moved x q ∷ followers new) copies move in
+            subst (λ n. Run q n (x ∷ followers w) (y ∷ followers new)) (sym one) (subst (λ h. Run q 1 (x ∷ followers w) (h ∷ followers new)) (sym m.0) both))
       ]
 
   pub ring-event : (w : World) (e : Event) → IsSettledOn net w → is_damage w e ≡ false → Run (ring_of net) (head_move w e) (token_ring w) (token_ring (step w e))

@@ -127,9 +127,9 @@ module _ (b : Below) (net : Network) (tour : IsTour net) where
       (early w m.first (m.event ∷ m.rest) (place k) (changed-at w m.first (place k) (λ same. ne (sym same ∙ all ∙ stands))))
 
   -- and within 4 sweeps for each leg before it, it changes in any case
-  behind-head : (w : World) (es : List Event) (k : ℕ) → IsSettledOn net w → IsUndamaged w es → IsTokenRingGood w → k ≤ count
+  after-head : (w : World) (es : List Event) (k : ℕ) → IsSettledOn net w → IsUndamaged w es → IsTokenRingGood w → k ≤ count
       → machine_value w (place k) ≢ machine_value w tour.first → Sweeps w (4 * k) es → Moment w es (place k)
-  behind-head w es k s u g h ne sweeps = elim (cases_eq (head_moves w es) 0) [
+  after-head w es k s u g h ne sweeps = elim (cases_eq (head_moves w es) 0) [
     | inr more ↦ catches-up w es k s u g h ne (omega (arith, more))
     | inl none ↦ changed-at w es (place k) (λ same. ne (sym same ∙ taken none))
   ]
@@ -207,7 +207,7 @@ module _ (b : Below) (net : Network) (tour : IsTour net) where
                       let ne4 : machine_value (run w xs) (place k) ≢ machine_value (run w xs) tour.first =
                       subst (λ x. machine_value x (place k) ≢ machine_value x tour.first) (sym p.leads) ne3 in
                       late w xs ys (place k)
-                      (behind-head (run w xs) ys k (settled-run b net w xs s u) v (good-run b net tour w xs s u g) h ne4 more))
+                      (after-head (run w xs) ys k (settled-run b net w xs s u) v (good-run b net tour w xs s u g) h ne4 more))
                 ]
               ])
         ]
@@ -216,7 +216,7 @@ module _ (b : Below) (net : Network) (tour : IsTour net) where
   moves-at : (w : World) (es : List Event) (k : ℕ) → IsSettledOn net w → IsUndamaged w es → IsTokenRingGood w → k ≤ count
       → Sweeps w (4 * (suc count)) es → Moment w es (place k)
   moves-at w es k s u g h sweeps = elim (cases_eq (machine_value w (place k)) (machine_value w tour.first)) [
-    | inr ne ↦ behind-head w es k s u g h ne (b.fewer w (4 * k) (4 * (suc count)) es (omega (arith, h)) sweeps)
+    | inr ne ↦ after-head w es k s u g h ne (b.fewer w (4 * k) (4 * (suc count)) es (omega (arith, h)) sweeps)
     | inl same ↦ (let x = b.split w ((4 * (count - k) + 3) + 1) (4 * k) es
         (other-number w (4 * suc count) (((4 * (count - k) + 3) + 1) + 4 * k) es (omega (arith, h)) sweeps) in
         let p = parted b w es x.0 x.1 x.2 u in

@@ -9,8 +9,8 @@ second = refl
 not-first : IsAtPlace 7 0 (3 ∷ 7 ∷ []) → ⊥
 not-first h = grind arith
 
-not-behind : IsAtPlace 7 2 (3 ∷ 7 ∷ []) → ⊥
-not-behind h = h
+not-after : IsAtPlace 7 2 (3 ∷ 7 ∷ []) → ⊥
+not-after h = h
 
 leaves : is_leave (Leave 1 7) 1 7 ≡ true
 leaves = refl

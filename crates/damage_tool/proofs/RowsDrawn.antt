@@ -12,7 +12,7 @@ use Rattle.run_model.specs.declared.event.Event.TheVariants.{Tick, Send, Damage}
 use Rattle.run_model.specs.declared.event.Harm.TheVariants as harm
 use Rattle.run_model.proofs.RowsTwo.{two_nodes, each-node}
 use Rattle.damage_tool.specs.declared.draws.PortDraw.{PortDraw}
-use Rattle.damage_tool.specs.Behind.{behind}
+use Rattle.damage_tool.specs.Appended.{appended}
 use Rattle.damage_tool.specs.Draws.{number_or_none}
 use Rattle.damage_tool.specs.Harms.{draw_each, port_harms}
 use Rattle.damage_tool.specs.Laws.{AreAccepted, WaitsNowhere}
@@ -32,8 +32,8 @@ tick_of v g = (Tick v ∷ [], record g { state = v })
 in-their_order : (g : Lcg) → draw_each tick_of (4 ∷ 2 ∷ 7 ∷ []) g ≡ (Tick 4 ∷ Tick 2 ∷ Tick 7 ∷ [], record g { state = 7 })
 in-their_order g = refl
 
-behind-the_others : (g : Lcg) → behind (Tick 0 ∷ []) (Tick 1 ∷ [], g) ≡ (Tick 0 ∷ Tick 1 ∷ [], g)
-behind-the_others g = refl
+appended-the_others : (g : Lcg) → appended (Tick 0 ∷ []) (Tick 1 ∷ [], g) ≡ (Tick 0 ∷ Tick 1 ∷ [], g)
+appended-the_others g = refl
 
 -- a port is written whole: its numbers, what is staged, what is copied, and the machine's value
 abbrev says : ℕ → Payload

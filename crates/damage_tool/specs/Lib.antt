@@ -1,4 +1,4 @@
-pub mod Behind
+pub mod Appended
 pub mod Draws
 pub mod Harms
 pub mod Laws

@@ -6,7 +6,7 @@ ghost use Rattle.topology.specs.Ranges.{ranges_of};
 ghost use Rattle.run_model.specs.declared.event.Event.{Event};
 ghost use Rattle.damage_tool.specs.Harms.{draw_own, port_harms, draw_desk, draw_item, draw_node};
 ghost use Rattle.damage_tool.specs.Harms.{draw_link, draw_links_from, draw_world};
-ghost use Rattle.damage_tool.specs.Behind.{behind};
+ghost use Rattle.damage_tool.specs.Appended.{appended};
 
 use crate::draws::{PortDraw, draw_below, draw_parent, draw_payload, draw_port, draw_to};
 use link_model::Item;
@@ -103,7 +103,7 @@ fn push_node<A: Allocator, N: Allocator + Copy>(
 ) -> Result<(), AllocError>
     requires { node < net.now.nodes }
     ensures drawn { OnOk result ((out.new.items, generator.new)
-        ≡ behind out.old.items (draw_node net.now node generator.old)) }
+        ≡ appended out.old.items (draw_node net.now node generator.old)) }
     ensures kept { (more : List Event) × (out.new.items ≡ out.old.items ++ more) }
 {
     let ranges = net.ranges();
@@ -126,7 +126,7 @@ fn push_link<A: Allocator, N: Allocator + Copy>(
     out: &mut Vec<Event, A>,
 ) -> Result<(), AllocError>
     ensures drawn { OnOk result ((out.new.items, generator.new)
-        ≡ behind out.old.items (draw_link net.now from to generator.old)) }
+        ≡ appended out.old.items (draw_link net.now from to generator.old)) }
     ensures kept { (more : List Event) × (out.new.items ≡ out.old.items ++ more) }
 {
     let ranges = net.ranges();
@@ -148,7 +148,7 @@ fn push_links_from<A: Allocator, N: Allocator + Copy>(
 ) -> Result<(), AllocError>
     requires { from < net.now.nodes }
     ensures drawn { OnOk result ((out.new.items, generator.new)
-        ≡ behind out.old.items (draw_links_from net.now from generator.old)) }
+        ≡ appended out.old.items (draw_links_from net.now from generator.old)) }
     ensures kept { (more : List Event) × (out.new.items ≡ out.old.items ++ more) }
 {
     let neighbours = net.neighbours(from);
@@ -165,7 +165,7 @@ fn push_world<A: Allocator, N: Allocator + Copy>(
     out: &mut Vec<Event, A>,
 ) -> Result<(), AllocError>
     ensures drawn { OnOk result ((out.new.items, generator.new)
-        ≡ behind out.old.items (draw_world net.now generator.old)) }
+        ≡ appended out.old.items (draw_world net.now generator.old)) }
     ensures kept { (more : List Event) × (out.new.items ≡ out.old.items ++ more) }
 {
     for node in 0..net.nodes() {
@@ -189,7 +189,7 @@ pub fn scramble_world<A: Allocator, N: Allocator + Copy>(
 ) -> Result<(), AllocError>
     // It is what the generator's next words say.
     ensures drawn { OnOk result ((out.new.items, generator.new)
-        ≡ behind out.old.items (draw_world net.now generator.old)) }
+        ≡ appended out.old.items (draw_world net.now generator.old)) }
     ensures refused { OnErr result ((out.new.items ≡ out.old.items)
         × (generator.new ≡ generator.old)) }
 {

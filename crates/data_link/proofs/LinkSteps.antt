@@ -40,8 +40,8 @@ over_and_out q h p s x y = rw append_assoc (Changes (Further (further p Written)
 lose_front : (q h : ℕ) (p s r : List ℕ) (y : ℕ) → Step q 0 (h ∷ ((p ++ y ∷ s) ++ r)) (h ∷ ((p ++ s) ++ r))
 lose_front q h p s r y = rw (append_assoc p (y ∷ s) r, append_assoc p s r) (Changes (removed h p y (s ++ r)) Stays)
 
-lose_behind : (q h : ℕ) (front p s : List ℕ) (l y : ℕ) → Step q 0 (h ∷ (front ++ l ∷ (p ++ y ∷ s))) (h ∷ (front ++ l ∷ (p ++ s)))
-lose_behind q h front p s l y = Changes (Further (further front (removed l p y s))) Stays
+lose_after : (q h : ℕ) (front p s : List ℕ) (l y : ℕ) → Step q 0 (h ∷ (front ++ l ∷ (p ++ y ∷ s))) (h ∷ (front ++ l ∷ (p ++ s)))
+lose_after q h front p s l y = Changes (Further (further front (removed l p y s))) Stays
 
 -- the last item equals the head, which moves on, and goes
 drop_last : (q h : ℕ) (zs : List ℕ) (y : ℕ) → y ≡ h → Step q 1 (h ∷ (zs ++ y ∷ [])) (root_moved h q ∷ zs)
@@ -94,7 +94,7 @@ take_back-step q s present (item.Frame f ∷ items) e = rw (e, heard-seq (port_a
     go true t = rw (← append_assoc (newest_first (λ x. x.seq) s.out) (s.far.last ∷ newest_first (λ x. x.ack) items) (f.ack ∷ []))
         (drop_last q s.near.seq (newest_first (λ x. x.seq) s.out ++ s.far.last ∷ newest_first (λ x. x.ack) items) f.ack (eqb-true f.ack s.near.seq t))
     go false t = subst (λ l. Step q 0 (s.near.seq ∷ (newest_first (λ x. x.seq) s.out ++ s.far.last ∷ (newest_first (λ x. x.ack) items ++ f.ack ∷ []))) (s.near.seq ∷ (newest_first (λ x. x.seq) s.out ++ s.far.last ∷ l)))
-        (append-nil (newest_first (λ x. x.ack) items)) (lose_behind q s.near.seq (newest_first (λ x. x.seq) s.out) (newest_first (λ x. x.ack) items) [] s.far.last f.ack)
+        (append-nil (newest_first (λ x. x.ack) items)) (lose_after q s.near.seq (newest_first (λ x. x.seq) s.out) (newest_first (λ x. x.ack) items) [] s.far.last f.ack)
 
 pub event-step : (modulus capacity : ℕ) (s : EdgeState) (e : EdgeEvent) → Step modulus (moves s e) (link_ring s) (link_ring (edge_step_with modulus capacity s e))
 event-step q capacity s SendOut = by_test (λ items. Step q 0 (link_ring s) (link_ring (record s { out = items }))) (nat_lt (length s.out) capacity) (s.out ++ item.Frame (frame_of s.near) ∷ []) s.out
@@ -109,6 +109,6 @@ event-step q capacity s (LoseOut i) = elim (newest-remove (λ f. f.seq) s.out i)
 ]
 event-step q capacity s (LoseBack i) = elim (newest-remove (λ f. f.ack) s.back i) [
   | inl e ↦ rw (← e) Stays
-  | inr v ↦ rw (v.3, v.4) (lose_behind q s.near.seq (newest_first (λ f. f.seq) s.out) v.0 v.1 s.far.last v.2)
+  | inr v ↦ rw (v.3, v.4) (lose_after q s.near.seq (newest_first (λ f. f.seq) s.out) v.0 v.1 s.far.last v.2)
 ]
 event-step q capacity s Elsewhere = Stays

@@ -88,9 +88,9 @@ each_way_once : IsSweep 1 empty (SendOut ∷ TakeOut old ∷ SendBack ∷ TakeBa
 each_way_once = record { out = refl; back = refl }
 
 -- what stood there is taken first, and then what was sent
-behind_an_old_item : IsSweep 1 (loaded (item.Frame (frame 0 0 old)))
+after_an_old_item : IsSweep 1 (loaded (item.Frame (frame 0 0 old)))
     (TakeOut old ∷ SendOut ∷ TakeOut old ∷ TakeBack new ∷ SendBack ∷ TakeBack new ∷ [])
-behind_an_old_item = record { out = refl; back = refl }
+after_an_old_item = record { out = refl; back = refl }
 
 -- only items that stood there are taken
 not_by_an_old_item : is_out_renewed 1 (loaded (item.Frame (frame 0 0 old))) (TakeOut old ∷ TakeBack new ∷ []) ≡ false

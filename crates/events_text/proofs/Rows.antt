@@ -3,7 +3,7 @@ use Rattle.std.proofs.Common.{◌≡◌, true, false, [], ◌∷◌, ◌++◌, S
 use Rattle.link_model.specs.declared.item.Item.TheVariants as item
 use Rattle.run_model.specs.declared.event.Event.TheVariants.{Send, Take, Lose, Tick, Ask, Leave, Damage}
 use Rattle.run_model.specs.declared.event.Harm.TheVariants as harm
-use Rattle.events_text.specs.declared.text_line.TextLine.TheVariants.{Passed, Unread, Told}
+use Rattle.events_text.specs.declared.text_line.TextLine.TheVariants.{Passed, Unread, Said}
 use Rattle.events_text.specs.EventLine.{line_event}
 use Rattle.events_text.specs.EventsText.{text_line, text_lines}
 
@@ -102,10 +102,10 @@ unread-part : line_event (codes "harm part 0 1 2") ≡ None
 unread-part = refl
 
 -- an empty line and a comment are passed over, and a last line without a newline counts
-text-four : text_lines (codes "tick 0" ++ 10 ∷ 10 ∷ codes "# 1" ++ 10 ∷ codes "x") ≡ Told (Tick 0) ∷ Passed ∷ Passed ∷ Unread ∷ []
+text-four : text_lines (codes "tick 0" ++ 10 ∷ 10 ∷ codes "# 1" ++ 10 ∷ codes "x") ≡ Said (Tick 0) ∷ Passed ∷ Passed ∷ Unread ∷ []
 text-four = refl
 
-text-ended : text_lines (codes "tick 0" ++ 10 ∷ []) ≡ Told (Tick 0) ∷ []
+text-ended : text_lines (codes "tick 0" ++ 10 ∷ []) ≡ Said (Tick 0) ∷ []
 text-ended = refl
 
 text-none : text_lines [] ≡ []

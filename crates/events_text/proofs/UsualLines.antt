@@ -9,7 +9,7 @@ use Rattle.std.proofs.lemmas.List.{length-append}
 use Rattle.byte_lines.specs.Lines.{newline, HasNoNewline}
 use Rattle.run_model.specs.declared.event.Event.{Event}
 use Rattle.run_model.specs.declared.event.Event.TheVariants.{Send, Take, Tick}
-use Rattle.events_text.specs.declared.text_line.TextLine.TheVariants.{Told}
+use Rattle.events_text.specs.declared.text_line.TextLine.TheVariants.{Said}
 use Rattle.events_text.specs.EventLine.{line_event}
 use Rattle.events_text.specs.EventLaws.{is_small}
 use Rattle.events_text.specs.EventsText.{text_line}
@@ -34,8 +34,8 @@ two_digits tens ones low high is =
     decimal_step n (omega (arith, within.0)) (omega (arith, within.1))
     ∙ ap (λ ds. ds ++ (48 + n % 10) ∷ []) (decimal_digit (n / 10) small ∙ ap (λ x. x ∷ []) front) ∙ ap (λ x. tens ∷ x ∷ []) last
 
-all_behind : (s : List ℕ) (i : ℕ) → take (length s - i) (drop i s) ≡ drop i s
-all_behind s i = grind (arith, common_steps)
+all_after : (s : List ℕ) (i : ℕ) → take (length s - i) (drop i s) ≡ drop i s
+all_after s i = grind (arith, common_steps)
 
 -- a text of at least so many bytes begins with them
 pub one_byte : (s : List ℕ) (a : ℕ) → 1 ≤ length s → get_or s 0 0 ≡ a → s ≡ a ∷ drop 1 s
@@ -56,7 +56,7 @@ five_bytes [] a b c d e some p q r t u = absurd (omega arith)
 five_bytes (x ∷ []) a b c d e some p q r t u = absurd (omega arith)
 five_bytes (x ∷ y ∷ s) a b c d e some p q r t u =
     ap (λ z. z ∷ y ∷ s) p ∙ ap (λ z. a ∷ z ∷ s) q ∙ ap (λ z. a ∷ b ∷ z) (three_bytes s c d e (omega (arith, some)) r t u)
-    ∙ ap (λ z. a ∷ b ∷ c ∷ d ∷ e ∷ z) (sym (all_behind (x ∷ y ∷ s) 5))
+    ∙ ap (λ z. a ∷ b ∷ c ∷ d ∷ e ∷ z) (sym (all_after (x ∷ y ∷ s) 5))
 
 -- one digit and the byte that ends it, and two digits and that byte
 pub one_in_front : (s : List ℕ) (end n : ℕ) → 2 ≤ length s → is_ascii_digit (get_or s 0 0) ≡ true → get_or s 1 0 ≡ end → n ≡ get_or s 0 0 - 48
@@ -65,7 +65,7 @@ one_in_front s end n some digit last value =
     let small : n < 100 = grind (arith, nat_tests) in
     let spelled : decimal n ≡ get_or s 0 0 ∷ [] = ap decimal value ∙ one_digit (get_or s 0 0) digit in (
       small,
-      two_bytes s (get_or s 0 0) end some refl last ∙ ap (λ t. get_or s 0 0 ∷ end ∷ t) (sym (all_behind s 2))
+      two_bytes s (get_or s 0 0) end some refl last ∙ ap (λ t. get_or s 0 0 ∷ end ∷ t) (sym (all_after s 2))
           ∙ ap (λ ds. ds ++ end ∷ take (length s - 2) (drop 2 s)) (sym spelled),
     )
 
@@ -78,7 +78,7 @@ two_in_front s end n some low high digit last value =
     let spelled : decimal n ≡ get_or s 0 0 ∷ get_or s 1 0 ∷ [] = ap decimal value ∙ two_digits (get_or s 0 0) (get_or s 1 0) low high digit in (
       small,
       three_bytes s (get_or s 0 0) (get_or s 1 0) end some refl refl last
-          ∙ ap (λ t. get_or s 0 0 ∷ get_or s 1 0 ∷ end ∷ t) (sym (all_behind s 3))
+          ∙ ap (λ t. get_or s 0 0 ∷ get_or s 1 0 ∷ end ∷ t) (sym (all_after s 3))
           ∙ ap (λ ds. ds ++ end ∷ take (length s - 3) (drop 3 s)) (sym spelled),
     )
 
@@ -100,8 +100,8 @@ small : (n : ℕ) → n < 100 → is_small n ≡ true
 small n h = grind (arith, nat_tests)
 
 -- a line that is short and no comment means its event
-told_line : (x : ℕ) (xs : List ℕ) (e : Event) → (x == 35) ≡ false → length (x ∷ xs) ≤ 64 → line_event (x ∷ xs) ≡ Some e → text_line (x ∷ xs) ≡ Told e
-told_line x xs e other short event = grind (arith, nat_tests)
+said_line : (x : ℕ) (xs : List ℕ) (e : Event) → (x == 35) ≡ false → length (x ∷ xs) ≤ 64 → line_event (x ∷ xs) ≡ Some e → text_line (x ∷ xs) ≡ Said e
+said_line x xs e other short event = grind (arith, nat_tests)
 
 -- two numbers with a space between them
 pair-no_newline : (u v : ℕ) → u < 100 → v < 100 → HasNoNewline (decimal u ++ 32 ∷ decimal v)
@@ -119,31 +119,31 @@ module _ (read : NumbersAreRead) where
   -- `send U V`, `take U V` and `tick V`, each with its newline, in front of a text
   pub send_line : (u v : ℕ) (text ids more rest : List ℕ) → u < 100 → v < 100 → text ≡ 115 ∷ 101 ∷ 110 ∷ 100 ∷ 32 ∷ ids
       → ids ≡ decimal u ++ 32 ∷ more → more ≡ decimal v ++ newline ∷ rest
-      → (line : List ℕ) × (text ≡ line ++ newline ∷ rest) × HasNoNewline line × (text_line line ≡ Told (Send u v))
+      → (line : List ℕ) × (text ≡ line ++ newline ∷ rest) × HasNoNewline line × (text_line line ≡ Said (Send u v))
   send_line u v text ids more rest a b is first second = (
     115 ∷ 101 ∷ 110 ∷ 100 ∷ 32 ∷ (decimal u ++ 32 ∷ decimal v),
     is ∙ ap (λ xs. 115 ∷ 101 ∷ 110 ∷ 100 ∷ 32 ∷ xs) (pair-in_front u v ids more rest first second),
     no_newline-both (codes "send ") (decimal u ++ 32 ∷ decimal v) (grind arith) (pair-no_newline u v a b),
-    told_line 115 (101 ∷ 110 ∷ 100 ∷ 32 ∷ (decimal u ++ 32 ∷ decimal v)) (Send u v) refl (omega (arith, pair-short u v a b))
+    said_line 115 (101 ∷ 110 ∷ 100 ∷ 32 ∷ (decimal u ++ 32 ∷ decimal v)) (Send u v) refl (omega (arith, pair-short u v a b))
         (events-read read (Send u v) (grind (arith, small u a, small v b))),
   )
 
   pub take_line : (u v : ℕ) (text ids more rest : List ℕ) → u < 100 → v < 100 → text ≡ 116 ∷ 97 ∷ 107 ∷ 101 ∷ 32 ∷ ids
       → ids ≡ decimal u ++ 32 ∷ more → more ≡ decimal v ++ newline ∷ rest
-      → (line : List ℕ) × (text ≡ line ++ newline ∷ rest) × HasNoNewline line × (text_line line ≡ Told (Take u v))
+      → (line : List ℕ) × (text ≡ line ++ newline ∷ rest) × HasNoNewline line × (text_line line ≡ Said (Take u v))
   take_line u v text ids more rest a b is first second = (
     116 ∷ 97 ∷ 107 ∷ 101 ∷ 32 ∷ (decimal u ++ 32 ∷ decimal v),
     is ∙ ap (λ xs. 116 ∷ 97 ∷ 107 ∷ 101 ∷ 32 ∷ xs) (pair-in_front u v ids more rest first second),
     no_newline-both (codes "take ") (decimal u ++ 32 ∷ decimal v) (grind arith) (pair-no_newline u v a b),
-    told_line 116 (97 ∷ 107 ∷ 101 ∷ 32 ∷ (decimal u ++ 32 ∷ decimal v)) (Take u v) refl (omega (arith, pair-short u v a b))
+    said_line 116 (97 ∷ 107 ∷ 101 ∷ 32 ∷ (decimal u ++ 32 ∷ decimal v)) (Take u v) refl (omega (arith, pair-short u v a b))
         (events-read read (Take u v) (grind (arith, small u a, small v b))),
   )
 
   pub tick_line : (v : ℕ) (text ids rest : List ℕ) → v < 100 → text ≡ 116 ∷ 105 ∷ 99 ∷ 107 ∷ 32 ∷ ids → ids ≡ decimal v ++ newline ∷ rest
-      → (line : List ℕ) × (text ≡ line ++ newline ∷ rest) × HasNoNewline line × (text_line line ≡ Told (Tick v))
+      → (line : List ℕ) × (text ≡ line ++ newline ∷ rest) × HasNoNewline line × (text_line line ≡ Said (Tick v))
   tick_line v text ids rest b is first = (
     116 ∷ 105 ∷ 99 ∷ 107 ∷ 32 ∷ decimal v,
     is ∙ ap (λ xs. 116 ∷ 105 ∷ 99 ∷ 107 ∷ 32 ∷ xs) first,
     no_newline-both (codes "tick ") (decimal v) (grind arith) (number-no_newline v b),
-    told_line 116 (105 ∷ 99 ∷ 107 ∷ 32 ∷ decimal v) (Tick v) refl (omega (arith, number-short v b)) (events-read read (Tick v) (small v b)),
+    said_line 116 (105 ∷ 99 ∷ 107 ∷ 32 ∷ decimal v) (Tick v) refl (omega (arith, number-short v b)) (events-read read (Tick v) (small v b)),
   )

@@ -15,13 +15,13 @@ in_front line rest piece is =
     ap (λ n. take n piece) used ∙ ap (take (length line + 1)) is ∙ take-append-add line (newline ∷ rest) 1
 
 module _ (cut : LinesAreCut) (grow : LinesGrow) (bytes line : List ℕ) (none : half_line bytes ≡ []) (one : HasNoNewline line) where
-  pub stands_behind : (k : Kept) → k ≡ kept 64 [] → StandsAfter 64 (bytes ++ (line ++ newline ∷ [])) k
-  stands_behind k empty =
+  pub stands_after : (k : Kept) → k ≡ kept 64 [] → StandsAfter 64 (bytes ++ (line ++ newline ∷ [])) k
+  stands_after k empty =
       empty ∙ ap (kept 64) (sym (cut.half [] bytes (line ++ newline ∷ []) ∙ ap (λ half. half_after half (line ++ newline ∷ [])) none
       ∙ grow.begun [] line [] one))
 
-  pub line_told : ended_lines (bytes ++ (line ++ newline ∷ [])) ≡ ended_lines bytes ++ text_line line ∷ []
-  line_told =
+  pub line_said : ended_lines (bytes ++ (line ++ newline ∷ [])) ≡ ended_lines bytes ++ text_line line ∷ []
+  line_said =
       ap (map text_line) (cut.lines [] bytes (line ++ newline ∷ []))
       ∙ map-append text_line (whole_lines bytes) (lines_after (half_line bytes) (line ++ newline ∷ []))
       ∙ ap (λ lines. ended_lines bytes ++ map text_line lines) (ap (λ half. lines_after half (line ++ newline ∷ [])) none ∙ grow.ended [] line [] one)

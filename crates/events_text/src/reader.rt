@@ -4,7 +4,7 @@ ghost use Rattle.std.specs.Prelude.{OnSome};
 ghost use Rattle.std.specs.Option.{option_to_list};
 ghost use Rattle.byte_lines.specs.Kept.{StandsAfter};
 ghost use Rattle.events_text.specs.EventsText.{text_line, ended_lines, text_lines};
-ghost use Rattle.events_text.specs.declared.text_line.TextLine.TheVariants.{Told};
+ghost use Rattle.events_text.specs.declared.text_line.TextLine.TheVariants.{Said};
 
 use super::text_line::{LONGEST, TextLine, text_line};
 use super::usual::usual_line;
@@ -67,7 +67,7 @@ impl EventReader {
             if let Some((event, rest)) = usual_line(piece) {
                 return Taken {
                     used: piece.len() - rest.len(),
-                    line: Some(TextLine::Told(event)),
+                    line: Some(TextLine::Said(event)),
                 };
             }
         }
@@ -87,7 +87,7 @@ impl EventReader {
         // What it answers is the event of the one line that these bytes end.
         ensures line { IfSome result (λ taken. (bytes : List ℕ) → StandsAfter 64 bytes self.now
             → ended_lines (bytes ++ take taken.1 piece.now)
-            ≡ ended_lines bytes ++ Told taken.0 ∷ []) }
+            ≡ ended_lines bytes ++ Said taken.0 ∷ []) }
     {
         byte_lines::laws::any_cutting();
         byte_lines::laws::lines_grow();

@@ -16,7 +16,7 @@ pub enum TextLine {
     /// A line that spells no event.
     Unread,
     /// A line that spells an event.
-    Told(Event),
+    Said(Event),
 }
 
 /// What a line is. The line is without its newline.
@@ -27,6 +27,6 @@ pub fn text_line(line: &[u8]) -> TextLine
         [] => TextLine::Passed,
         [b'#', ..] => TextLine::Passed,
         _ if line.len() > LONGEST => TextLine::Unread,
-        _ => parse_line(line).map_or(TextLine::Unread, TextLine::Told),
+        _ => parse_line(line).map_or(TextLine::Unread, TextLine::Said),
     }
 }

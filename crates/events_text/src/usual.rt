@@ -2,7 +2,7 @@
 ghost use Rattle.std.specs.Prelude.{◌≡◌, ◌<◌, ◌∷◌, ◌++◌, ℕ, List, IfSome, decimal};
 ghost use Rattle.byte_lines.specs.Lines.{newline, HasNoNewline};
 ghost use Rattle.events_text.specs.EventsText.{text_line};
-ghost use Rattle.events_text.specs.declared.text_line.TextLine.TheVariants.{Told};
+ghost use Rattle.events_text.specs.declared.text_line.TextLine.TheVariants.{Said};
 
 use run_model::Event;
 
@@ -12,7 +12,7 @@ use run_model::Event;
 #[inline(always)]
 pub fn usual_line(text: &[u8]) -> Option<(Event, &[u8])>
     ensures { IfSome result (λ front. (line : List ℕ) × (text.now ≡ line ++ newline ∷ front.1.now)
-        × HasNoNewline line × (text_line line ≡ Told front.0)) }
+        × HasNoNewline line × (text_line line ≡ Said front.0)) }
 {
     line_words::laws::one_spelling();
     match text {

@@ -27,7 +27,7 @@ late-one = record {
   within = omega (arith, sharp-two);
 }
 
-needs-some : (last : Option ℕ) → FailedLast two_tokens [] last → counted_from last ≢ 0
+pub needs-some : (last : Option ℕ) → FailedLast two_tokens [] last → counted_from last ≢ 0
 needs-some None failed = absurd (two_tokens-do_not_serve failed.0)
 needs-some (Some sweeps) failed = grind (arith, common_steps)
 

@@ -98,17 +98,17 @@ last_not-never : ¬ FailedLast two_tokens [] None
 last_not-never failed = two_tokens-do_not_serve failed.0
 
 -- if it fails now, the last failure is now, and else the one before
-now-fails : IsLastNow two_tokens 4 None (Some 4)
+now-fails : IsLastNow IsServing two_tokens 4 None (Some 4)
 now-fails = inr (two_tokens-do_not_serve, refl)
 
-now_not-serves : ¬ IsLastNow two_tokens 4 (Some 2) (Some 2)
+now_not-serves : ¬ IsLastNow IsServing two_tokens 4 (Some 2) (Some 2)
 now_not-serves (inl serves) = two_tokens-do_not_serve serves.0
 now_not-serves (inr fails) = grind (arith, fails.1)
 
-now-serves : IsLastNow calm 4 (Some 2) (Some 2)
+now-serves : IsLastNow IsServing calm 4 (Some 2) (Some 2)
 now-serves = inl (calm-serves, refl)
 
-now_not-fails : ¬ IsLastNow calm 4 (Some 2) (Some 4)
+now_not-fails : ¬ IsLastNow IsServing calm 4 (Some 2) (Some 4)
 now_not-fails (inl serves) = grind (arith, serves.1)
 now_not-fails (inr fails) = fails.0 calm-serves
 
@@ -144,7 +144,7 @@ last-now = record {
   counted = none-counted two_tokens (omega arith);
   sweeps_are = refl;
   fails = two_tokens-do_not_serve;
-  serves_then = tt;
+  holds_then = tt;
 }
 
 front-serves : (front back : List Event) → [] ≡ front ++ back → IsServing (run calm front)

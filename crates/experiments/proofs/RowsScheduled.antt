@@ -1,20 +1,22 @@
 -- Rows: what an order says, what is scrambled, who gives the lock back, and when a watched run goes on.
 -- The words of the generators were worked out apart from this code, by the rules of O'Neill, "PCG", 2014, and of
 -- `seed_from_u64` in `rand_core`.
-use Rattle.std.proofs.Common.{◌≡◌, ◌≢◌, [], ◌∷◌, Some, None, refl, arith}
+use Rattle.std.proofs.Common.{◌≡◌, ◌≢◌, ℕ, true, false, [], ◌∷◌, Option, Some, None, refl, arith}
 use Rattle.rand_core.specs.Pcg32Seed.{pcg32_seed}
 use Rattle.rand_core.specs.Steps.{u32_at, word_bytes}
 use Rattle.rand_pcg.specs.Lcg.{Lcg}
 use Rattle.run_model.specs.World.{World}
 use Rattle.run_model.specs.Start.{default_world}
+use Rattle.run_model.specs.Headline.{IsServing}
 use Rattle.run_model.specs.declared.event.Event.TheVariants.{Leave, Send, Take, Tick}
 use Rattle.run_model.proofs.RowsTwo.{two_nodes, calm}
 use Rattle.run_model.proofs.RowsServing.{calm-serves, two_tokens, two_tokens-do_not_serve}
 use Rattle.damage_tool.specs.Draws.{draw}
 use Rattle.judge.specs.JudgeView.{JudgeView, HasSeen}
 use Rattle.experiments.specs.declared.plan.Order.TheVariants as order
+use Rattle.experiments.specs.declared.watch.LastFailures.{LastFailures}
 use Rattle.experiments.specs.Plan.{ordered}
-use Rattle.experiments.specs.Recovery.{IsWatched, ServesBehindEach}
+use Rattle.experiments.specs.Recovery.{beginning, Beginning, HoldsAfterEach, IsWatched}
 use Rattle.experiments.specs.Scheduled.{plain, plain_steps, lent_at, leave_of}
 use Rattle.experiments.specs.Shown.{scrambled, seeded}
 use Rattle.experiments.specs.Watched.{GoesOn, GoesOnBy}
@@ -95,24 +97,35 @@ scrambles_not-start = grind arith
 -- ---- watched runs
 
 -- after an event that is refused all is as before
-serves-behind : ServesBehindEach calm (Tick 2 ∷ [])
-serves-behind = (calm-serves, tt)
+serves-after : HoldsAfterEach IsServing calm (Tick 2 ∷ [])
+serves-after = (calm-serves, tt)
 
-serves_not-behind : ¬ ServesBehindEach two_tokens (Tick 2 ∷ [])
-serves_not-behind serves = two_tokens-do_not_serve serves.0
+serves_not-after : ¬ HoldsAfterEach IsServing two_tokens (Tick 2 ∷ [])
+serves_not-after serves = two_tokens-do_not_serve serves.0
 
-watches : (judge : JudgeView) → HasSeen judge calm [] → IsWatched calm [] judge None
-watches judge seen = record { seen = seen; failed = (calm-serves, tt) }
+-- a watch that does not look at the layers
+abbrev last : Option ℕ → LastFailures
+last serving = record { serving = serving; layers = None }
 
-watches_not-serving : (judge : JudgeView) → ¬ IsWatched two_tokens [] judge None
+abbrev from : World → Beginning
+from w = beginning w false
+
+watches : (judge : JudgeView) → HasSeen judge calm [] → IsWatched (from calm) [] judge (last None)
+watches judge seen = record { seen = seen; failed = (calm-serves, tt); layers = tt }
+
+watches_not-serving : (judge : JudgeView) → ¬ IsWatched (from two_tokens) [] judge (last None)
 watches_not-serving judge watched = two_tokens-do_not_serve watched.failed.0
 
-watches_not-failing : (judge : JudgeView) → ¬ IsWatched calm [] judge (Some 4)
+watches_not-failing : (judge : JudgeView) → ¬ IsWatched (from calm) [] judge (last (Some 4))
 watches_not-failing judge watched = last_not-now 4 watched.failed
 
--- what has served all the time is no run that has failed
-goes_not-back : (judge : JudgeView) → HasSeen judge calm [] → ¬ GoesOn judge None [] judge (Some 4)
-goes_not-back judge seen goes = watches_not-failing judge (goes calm [] (watches judge seen))
+-- nor is it one that looks at them
+watches_not-layers : (judge : JudgeView) → ¬ IsWatched (beginning calm true) [] judge (last None)
+watches_not-layers judge watched = watched.layers
 
-goes_not-by : (judge : JudgeView) → HasSeen judge calm [] → ¬ GoesOnBy (λ w. []) judge None judge (Some 4)
-goes_not-by judge seen goes = watches_not-failing judge (goes calm [] (watches judge seen))
+-- what has served all the time is no run that has failed
+goes_not-back : (judge : JudgeView) → HasSeen judge calm [] → ¬ GoesOn judge (last None) [] judge (last (Some 4))
+goes_not-back judge seen goes = watches_not-failing judge (goes (from calm) [] (watches judge seen))
+
+goes_not-by : (judge : JudgeView) → HasSeen judge calm [] → ¬ GoesOnBy (λ w. []) judge (last None) judge (last (Some 4))
+goes_not-by judge seen goes = watches_not-failing judge (goes (from calm) [] (watches judge seen))

@@ -17,21 +17,22 @@ use Rattle.schedules.specs.Random.{draw_step}
 use Rattle.experiments.specs.Recovery.{IsWatched}
 use Rattle.experiments.specs.Scheduled.{plain, plain_steps, stretch_of, lent_at, leave_of, leave_at, leaves, stretches}
 use Rattle.experiments.specs.Watched.{GoesOn, GoesOnBy, goes-both}
+use Rattle.experiments.specs.declared.watch.LastFailures.{LastFailures}
 use Rattle.experiments.specs.declared.measured_run.Scheduler.{Scheduler}
 use Rattle.experiments.proofs.Watching.{run-append}
 
 -- what is said of the world first, and then of that to which it leads
-pub by-both : (f g : World → List Event) (a b c : JudgeView) (p q r : Option ℕ) → GoesOnBy f a p b q → GoesOnBy g b q c r
+pub by-both : (f g : World → List Event) (a b c : JudgeView) (p q r : LastFailures) → GoesOnBy f a p b q → GoesOnBy g b q c r
     → GoesOnBy (λ w. f w ++ g (run w (f w))) a p c r
 by-both f g a b c p q r one two start before watched =
-    let w : World = run start before in
+    let w : World = run start.world before in
     subst (λ es. IsWatched start es c r) (append_assoc before (f w) (g (run w (f w))))
-    (subst (λ (v : World). IsWatched start ((before ++ f w) ++ g v) c r) (run-append start before (f w)) (two start (before ++ f w) (one start before watched)))
+    (subst (λ (v : World). IsWatched start ((before ++ f w) ++ g v) c r) (run-append start.world before (f w)) (two start (before ++ f w) (one start before watched)))
 
 -- ---- steps
 
 -- one step more
-pub steps-more : (net : Network) (i : ℕ) (first now : Lcg) (drawn : Event × Lcg) (a b c : JudgeView) (p q r : Option ℕ)
+pub steps-more : (net : Network) (i : ℕ) (first now : Lcg) (drawn : Event × Lcg) (a b c : JudgeView) (p q r : LastFailures)
     → GoesOn a p (plain_steps net i first).0 b q → now ≡ (plain_steps net i first).1 → drawn ≡ draw_step net plain now → GoesOn b q (drawn.0 ∷ []) c r
     → GoesOn a p (plain_steps net (i + 1) first).0 c r × (drawn.1 ≡ (plain_steps net (i + 1) first).1)
 steps-more net i first now drawn a b c p q r so_far is_now is_drawn one =
@@ -81,29 +82,29 @@ leaves-more w n =
     ∙ sym (rw zero_more at (leaves-last (leave_at w) 0 n))
     ∙ ap (λ k. leaves_below k w) one_more
 
-pub by-leaves : (n : ℕ) (a b c : JudgeView) (p q r : Option ℕ) → GoesOnBy (leaves_below n) a p b q → GoesOnBy (λ w. leave_at w n) b q c r
+pub by-leaves : (n : ℕ) (a b c : JudgeView) (p q r : LastFailures) → GoesOnBy (leaves_below n) a p b q → GoesOnBy (λ w. leave_at w n) b q c r
     → GoesOnBy (leaves_below (n + 1)) a p c r
 by-leaves n a b c p q r so_far one start before watched =
-    let w : World = run start before in
+    let w : World = run start.world before in
     subst (λ es. IsWatched start (before ++ es) c r) (leaves-more w n) (by-both (leaves_below n) (λ v. leave_at v n) a b c p q r so_far one start before watched)
 
 -- at all nodes of the world that the watch has come to
-pub by-all_leaves : (n : ℕ) (a c : JudgeView) (p r : Option ℕ) → n ≡ (world_of a.configuration).net.nodes → GoesOnBy (leaves_below n) a p c r → GoesOnBy leaves a p c r
+pub by-all_leaves : (n : ℕ) (a c : JudgeView) (p r : LastFailures) → n ≡ (world_of a.configuration).net.nodes → GoesOnBy (leaves_below n) a p c r → GoesOnBy leaves a p c r
 by-all_leaves n a c p r all on start before watched =
-    let w : World = run start before in
+    let w : World = run start.world before in
     let same : n ≡ w.net.nodes = all ∙ ap (λ (x : World). x.net.nodes) watched.seen.judging.now_is in
     subst (λ k. IsWatched start (before ++ leaves_below k w) c r) same (on start before watched)
 
 -- a leave if the watch's world lends
-pub by-leave : (v : ℕ) (lent : Option ℕ) (a c : JudgeView) (p r : Option ℕ) → lent ≡ lent_at (world_of a.configuration) v → GoesOn a p (leave_of v lent) c r
+pub by-leave : (v : ℕ) (lent : Option ℕ) (a c : JudgeView) (p r : LastFailures) → lent ≡ lent_at (world_of a.configuration) v → GoesOn a p (leave_of v lent) c r
     → GoesOnBy (λ w. leave_at w v) a p c r
 by-leave v lent a c p r is on start before watched =
-    let same : lent ≡ lent_at (run start before) v = is ∙ ap (λ (x : World). lent_at x v) watched.seen.judging.now_is in
+    let same : lent ≡ lent_at (run start.world before) v = is ∙ ap (λ (x : World). lent_at x v) watched.seen.judging.now_is in
     subst (λ l. IsWatched start (before ++ leave_of v l) c r) same (on start before watched)
 
 -- ---- stretches
 
-pub by-stretch : (scheduler : Scheduler) (net : Network) (first now next : Lcg) (n : ℕ) (a b c d : JudgeView) (p q r s : Option ℕ)
+pub by-stretch : (scheduler : Scheduler) (net : Network) (first now next : Lcg) (n : ℕ) (a b c d : JudgeView) (p q r s : LastFailures)
     → GoesOnBy (λ w. (stretches scheduler net w first n).0) a p b q → ((w : World) → now ≡ (stretches scheduler net w first n).1)
     → GoesOn b q (stretch_of scheduler net now).0 c r → next ≡ (stretch_of scheduler net now).1 → GoesOnBy leaves c r d s
     → GoesOnBy (λ w. (stretches scheduler net w first (n + 1)).0) a p d s × ((w : World) → next ≡ (stretches scheduler net w first (n + 1)).1)
@@ -115,7 +116,7 @@ by-stretch scheduler net first now next n a b c d p q r s so_far is_now stretch 
     let all = by-both (λ w. done w ++ (stretch_of scheduler net now).0) leaves a c d p r s both back in
     subst (λ k. GoesOnBy (λ w. (stretches scheduler net w first k).0) a p d s × ((w : World) → next ≡ (stretches scheduler net w first k).1)) more (
       λ start before watched.
-          let w : World = run start before in
+          let w : World = run start.world before in
           subst (λ (g : Lcg).
           IsWatched start (before ++ ((done w ++ (stretch_of scheduler net g).0) ++ leaves (run w (done w ++ (stretch_of scheduler net g).0)))) d s) (is_now w)
           (all start before watched),

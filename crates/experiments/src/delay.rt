@@ -56,7 +56,7 @@ pub fn replay<A: Allocator + Copy, N: Allocator + Copy>(
     let mut watch = Watch::new(start);
     watch_all(events, &mut watch);
     Ok(Some(Delay {
-        sweeps: watch.served_behind(),
+        sweeps: watch.served_after(),
         seen: watch.sweeps(),
     }))
 }

@@ -2,7 +2,8 @@
 //!
 //! A [`Watch`] lets events happen, one by one, and keeps after how many sweeps the network has
 //! served ever since. [`measure_run`] watches one run: a world that is scrambled by a seed, and a
-//! schedule up to the sharper bound. [`summary_of`] gives the least, the median and the most of many.
+//! schedule up to the sharper bound. [`measure_layers`] also says when each layer of the proof stood
+//! for good. [`summary_of`] gives the least, the median and the most of many.
 //!
 //! ```
 //! let run = measure_run(alloc, &net, Scheduler::Rounds, 7)?;
@@ -16,6 +17,8 @@
 
 mod delay;
 mod giving_back;
+mod layered_run;
+mod layers_seen;
 pub mod laws;
 mod measured_run;
 mod plan;
@@ -23,6 +26,7 @@ mod summary;
 mod watch;
 
 pub use delay::{Delay, replay};
+pub use layered_run::{Settling, measure_layers};
 pub use measured_run::{Recovery, Scheduler, measure_run};
 pub use plan::{Order, PlanFault, give_plan};
 pub use schedules;

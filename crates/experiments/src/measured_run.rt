@@ -81,13 +81,13 @@ pub fn measure_run<A: Allocator + Copy>(
     give_stretches(net, scheduler, &mut generator, &mut watch);
     Ok(Recovery {
         seed,
-        sweeps: watch.served_behind(),
+        sweeps: watch.served_after(),
         seen: watch.sweeps(),
     })
 }
 
 /// The default world with the harms that a scramble draws from a seed.
-fn scrambled_world<A: Allocator + Copy>(
+pub(crate) fn scrambled_world<A: Allocator + Copy>(
     alloc: A,
     net: &Net<A>,
     seed: u64,
@@ -113,7 +113,7 @@ pub(crate) fn happen<A: Allocator + Copy>(world: &mut World<A>, harms: &[Event])
 
 /// Gives the watch stretches, until it has seen as many sweeps as the sharper bound says, or had
 /// 1000 stretches for each of them.
-fn give_stretches<A: Allocator + Copy>(
+pub(crate) fn give_stretches<A: Allocator + Copy>(
     net: &Net<A>,
     scheduler: Scheduler,
     generator: &mut Lcg64Xsh32,

@@ -1,10 +1,12 @@
 //! A run under way, and since when it serves.
-ghost use Rattle.std.specs.Prelude.{◌≡◌, ◌∷◌, [], IsOk, if◌then◌else◌, Some};
+ghost use Rattle.std.specs.Prelude.{◌≡◌, ◌∷◌, [], true, false, IsOk, if◌then◌else◌, Some};
 ghost use Rattle.configuration.specs.ConfigurationView.{world_of};
 ghost use Rattle.judge.specs.JudgeView.{AreSweepsSeen};
-ghost use Rattle.experiments.specs.Recovery.{counted_from, IsWatched};
+ghost use Rattle.experiments.specs.Recovery.{beginning, counted_from, AnyLayersGoOn, AreAnyLayersFirst};
+ghost use Rattle.experiments.specs.Recovery.{IsWatched};
 ghost use Rattle.experiments.specs.Watched.{GoesOn};
 
+use crate::layers_seen::{LayersSeen, last_failure, sweeps_after};
 use byte_streams::Failed;
 use configuration::{Configuration, serves, serves_after, touched_sight};
 use judge::{Judge, World};
@@ -13,13 +15,21 @@ use schedules::EventSink;
 use std::alloc::{Allocator, Global};
 use std::marker::Model;
 
+/// When a run under way last failed.
+#[derive(Clone, Copy, Debug, PartialEq, Eq)]
+pub(crate) struct LastFailures {
+    /// How many sweeps there had been at the last moment at which it did not serve.
+    serving: Option<u64>,
+    /// What has been seen of the layers of the proof, if they are looked at.
+    pub(crate) layers: Option<LayersSeen>,
+}
+
 /// Lets events happen from a world on, counts their sweeps, and keeps after how many of them the
-/// network last did not serve.
+/// network last did not serve. It may look at the layers of the proof, too.
 #[derive(Drop)]
 pub struct Watch<A: Allocator + Copy = Global> {
     judge: Judge<A>,
-    /// How many sweeps there had been at the last moment at which it did not serve.
-    last: Option<u64>,
+    last: LastFailures,
     /// Whether it serves now. It is kept so that an event need be asked of the node alone that it
     /// touches.
     serves: bool,
@@ -41,11 +51,34 @@ impl<A: Allocator + Copy> Model for Watch<A> {
 impl<A: Allocator + Copy> Watch<A> {
     /// A watch over what happens from a world on.
     pub fn new(world: World<A>) -> Watch<A>
-        ensures { IsWatched (world_of world) [] result.judge result.last }
+        ensures { IsWatched (beginning (world_of world) false) [] result.judge
+            result.last }
+    {
+        Watch::begin(world, false)
+    }
+
+    /// The same, which also looks at the layers after each event until all of them stand. They stand
+    /// then until something is damaged, so it looks again only after a harm.
+    pub fn with_layers(world: World<A>) -> Watch<A>
+        ensures { IsWatched (beginning (world_of world) true) [] result.judge
+            result.last }
+    {
+        Watch::begin(world, true)
+    }
+
+    /// A watch that looks at the layers, or does not.
+    fn begin(world: World<A>, layered: bool) -> Watch<A>
+        ensures { IsWatched (beginning (world_of world) layered) [] result.judge
+            result.last }
     {
         let judge = Judge::new(world);
-        let serves = serves(judge.configuration());
-        let last = last_failure(serves, judge.sweeps(), None);
+        let now = judge.configuration();
+        let sweeps = judge.sweeps();
+        let serves = serves(now);
+        let last = LastFailures {
+            serving: last_failure(serves, sweeps, None),
+            layers: first_layers(now, sweeps, layered),
+        };
         Watch {
             judge,
             last,
@@ -69,21 +102,48 @@ impl<A: Allocator + Copy> Watch<A> {
     }
 
     /// After how many sweeps the network has served at every moment: the least such number.
-    pub fn served_behind(&self) -> u64
-        ensures { result ≡ counted_from self.now.last }
+    pub fn served_after(&self) -> u64
+        ensures { result ≡ counted_from self.now.last.serving }
     {
-        match self.last {
-            Some(sweeps) => sweeps.saturating_add(1),
-            None => 0,
-        }
+        sweeps_after(self.last.serving)
+    }
+
+    /// What has been seen of the layers, if they are looked at.
+    pub(crate) fn layers(&self) -> Option<LayersSeen>
+        ensures { result ≡ self.now.last.layers }
+    {
+        self.last.layers
     }
 }
 
-/// The sweeps at the last moment at which a network did not serve, with one moment more.
-fn last_failure(serves: bool, sweeps: u64, last: Option<u64>) -> Option<u64>
-    ensures { result ≡ (if serves then last else Some sweeps) }
+/// What is seen of the layers at the first moment, if they are looked at.
+fn first_layers<A: Allocator + Copy>(
+    configuration: &Configuration<A>,
+    sweeps: u64,
+    layered: bool,
+) -> Option<LayersSeen>
+    ensures { AreAnyLayersFirst (world_of configuration.now) sweeps layered result }
 {
-    if serves { last } else { Some(sweeps) }
+    if layered {
+        Some(LayersSeen::first(configuration, sweeps))
+    } else {
+        None
+    }
+}
+
+/// What has been seen of the layers after one more event, if they are looked at.
+fn next_layers<A: Allocator + Copy>(
+    layers: Option<LayersSeen>,
+    configuration: &Configuration<A>,
+    event: &Event,
+    sweeps: u64,
+) -> Option<LayersSeen>
+    ensures { AnyLayersGoOn (world_of configuration.now) event.now sweeps layers result }
+{
+    match layers {
+        Some(seen) => Some(seen.after(configuration, event, sweeps)),
+        None => None,
+    }
 }
 
 impl<A: Allocator + Copy> EventSink for Watch<A> {
@@ -103,8 +163,12 @@ impl<A: Allocator + Copy> EventSink for Watch<A> {
         let before = touched_sight(self.judge.configuration(), event);
         let _answer = self.judge.step(event);
         let now = self.judge.configuration();
+        let sweeps = self.judge.sweeps();
         self.serves = serves_after(now, event, self.serves, before);
-        self.last = last_failure(self.serves, self.judge.sweeps(), self.last);
+        self.last = LastFailures {
+            serving: last_failure(self.serves, sweeps, self.last.serving),
+            layers: next_layers(self.last.layers, now, event, sweeps),
+        };
         Ok(())
     }
 

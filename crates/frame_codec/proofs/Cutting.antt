@@ -32,5 +32,5 @@ module _ (cut : LinesAreCut) (r : Ranges) where
   reads_on old new piece frames reads text stands =
       let half = half_line text in (
         reads.half half stands ∙ ap (kept 21) (sym (cut.half [] text piece)),
-        frames_cut [] text piece ∙ ap (λ fs. good_lines r text ++ fs) (sym (reads.told half stands)),
+        frames_cut [] text piece ∙ ap (λ fs. good_lines r text ++ fs) (sym (reads.said half stands)),
       )

@@ -1,6 +1,6 @@
 pub mod Readings
 pub mod TooLong
 pub mod Cutting
-pub mod ToldFrames
+pub mod SaidFrames
 mod Rows
 mod RowsReader

@@ -64,11 +64,11 @@ empty-half (b ∷ half) was = let e = ap (λ k. k.first) was in absurd (grind (a
 frames-read : ReadsFrames line (kept 21 []) (kept 21 (codes "F0")) (codes "F0") []
 frames-read = record {
   half = λ half was. subst (λ h. kept 21 (codes "F0") ≡ kept 21 (half_after h (codes "F0"))) (sym (empty-half half was)) refl;
-  told = λ half was. subst (λ h. [] ≡ frames_after line h (codes "F0")) (sym (empty-half half was)) refl;
+  said = λ half was. subst (λ h. [] ≡ frames_after line h (codes "F0")) (sym (empty-half half was)) refl;
 }
 
 frames_not-made : ¬ ReadsFrames line (kept 21 []) (kept 21 []) [] (first ∷ [])
-frames_not-made reads = let e = reads.told [] refl in grind (arith, e)
+frames_not-made reads = let e = reads.said [] refl in grind (arith, e)
 
 frames_not-forgotten : ¬ ReadsFrames line (kept 21 []) (kept 21 []) (codes "F0") []
 frames_not-forgotten reads = let e = ap (λ k. k.first) (reads.half [] refl) in grind (arith, e)

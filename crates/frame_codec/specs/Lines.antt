@@ -20,7 +20,7 @@ good_lines r text = frames_after r [] text
 pub record ReadsFrames (r : Ranges) (old new : Kept) (piece : List ℕ) (frames : List Frame)
     : Type 0 where
   pub half : (half : List ℕ) → old ≡ kept 21 half → new ≡ kept 21 (half_after half piece)
-  pub told : (half : List ℕ) → old ≡ kept 21 half → frames ≡ frames_after r half piece
+  pub said : (half : List ℕ) → old ≡ kept 21 half → frames ≡ frames_after r half piece
 
 -- whatever text a reader had read, it has now read the piece too, and the frames are the good lines
 -- that this adds

@@ -15,7 +15,7 @@ use Rattle.configuration.specs.run_model.declared.happened.Happened.TheVariants.
 use Rattle.configuration.specs.run_model.declared.event.EventFault.{EventFault}
 use Rattle.configuration.specs.run_model.declared.event.EventFault.TheVariants.{NoItem}
 use Rattle.link_model.specs.declared.item.Item.{Item}
-use Rattle.judge.specs.Tallies.{has_place, no_tally, tally_of, tally_behind}
+use Rattle.judge.specs.Tallies.{has_place, no_tally, tally_of, tally_happened}
 use Rattle.configuration.specs.ConfigurationView.{world_of}
 use Rattle.judge.specs.JudgeView.{JudgeView, HasSeenSame}
 use Rattle.judge.specs.Stretch.{StretchView, with_looks, IsRoomFor, has_bit, is_full_tick_of, names_below, names_place, IsComplete, IsKept}
@@ -75,7 +75,7 @@ pub room-cleared : (net : Network) (s before : StretchView) → before ≡ clear
 room-cleared net s before is_before room = rw is_before (record { nodes = room.nodes; placed = room.placed; apart = room.apart })
 
 pub room-noted : (net : Network) (did : Happened) (s new : StretchView) → IsRoomFor net s → new.tallies.table ≡ s.tallies.table
-    → ((u v : ℕ) → v < s.tallies.table.nodes → tally_of new.tallies u v ≡ tally_behind u v did (tally_of s.tallies u v)) → IsRoomFor net new
+    → ((u v : ℕ) → v < s.tallies.table.nodes → tally_of new.tallies u v ≡ tally_happened u v did (tally_of s.tallies u v)) → IsRoomFor net new
 room-noted net did s new room table tallies = record {
   nodes = ap (λ t. t.nodes) table ∙ room.nodes;
   placed = λ u v joined. rw table (room.placed u v joined);
@@ -112,9 +112,9 @@ names w (Leave v t) fits = refl
 names w (Damage h) fits = refl
 
 -- after it there are as many nodes as before
-pub names-behind : Below → (now next : World) (e : Event) (did : Happened) → next ≡ step now e → did ≡ happened now e → refusal now e ≡ None
+pub names-after : Below → (now next : World) (e : Event) (did : Happened) → next ≡ step now e → did ≡ happened now e → refusal now e ≡ None
     → IsTrue (names_below next.net.nodes did)
-names-behind laws now next e did is_next is fits =
+names-after laws now next e did is_next is fits =
     let same : next.net.nodes ≡ now.net.nodes = ap (λ w. w.net.nodes) is_next ∙ (laws.frame now (e ∷ [])).nodes in
     subst (λ n. IsTrue (names_below n did)) (sym same) (subst (λ d. IsTrue (names_below now.net.nodes d)) (sym is) (names now e fits))
 
@@ -146,10 +146,10 @@ undamaged-one w e none = rw none refl
 
 -- room for a network is still room for it after an event without damage whose take or loss was
 -- noted
-pub room-behind : Below → (now next : World) (e : Event) (did : Happened) (s before new : StretchView) → next ≡ step now e → is_damage now e ≡ false
+pub room-after : Below → (now next : World) (e : Event) (did : Happened) (s before new : StretchView) → next ≡ step now e → is_damage now e ≡ false
     → before ≡ cleared s → IsRoomFor now.net s → new.tallies.table ≡ before.tallies.table
-    → ((u v : ℕ) → v < before.tallies.table.nodes → tally_of new.tallies u v ≡ tally_behind u v did (tally_of before.tallies u v)) → IsRoomFor next.net new
-room-behind laws now next e did s before new is_next calm is_before room table tallies =
+    → ((u v : ℕ) → v < before.tallies.table.nodes → tally_of new.tallies u v ≡ tally_happened u v did (tally_of before.tallies u v)) → IsRoomFor next.net new
+room-after laws now next e did s before new is_next calm is_before room table tallies =
     let same : now.net ≡ next.net = sym (ap (λ w. w.net) is_next ∙ laws.network now (e ∷ []) (undamaged-one now e calm)) in
     subst (λ net. IsRoomFor net new) same (room-noted now.net did before new (room-cleared now.net s before is_before room) table tallies)
 
@@ -188,7 +188,7 @@ module _ (laws : Below) (start : World) (es : List Event) (e : Event) (now next 
   module _ (fits : refusal now e ≡ None) (other : is_damage now e ≡ false) (new : StretchView) (did : Happened) (is : did ≡ happened now e)
       (nodes : new.tallies.table.nodes ≡ before.tallies.table.nodes)
       (lacking : (v : ℕ) → has_bit new.lacking v ≡ (has_bit before.lacking v && not (is_full_tick_of v did)))
-      (tallies : (u v : ℕ) → v < before.tallies.table.nodes → tally_of new.tallies u v ≡ tally_behind u v did (tally_of before.tallies u v)) where
+      (tallies : (u v : ℕ) → v < before.tallies.table.nodes → tally_of new.tallies u v ≡ tally_happened u v did (tally_of before.tallies u v)) where
     is-noted : IsNoted now e before new
     is-noted = noted now e did before new is nodes lacking tallies
 

@@ -15,7 +15,7 @@ use Rattle.configuration.specs.run_model.declared.event.Event.TheVariants.{Send,
 use Rattle.configuration.specs.data_link.Sweep.{Puts, Takes, Loses, Rests}
 use Rattle.link_model.specs.declared.item.Item.{Item}
 use Rattle.judge.specs.declared.tallies.Tally.{Tally}
-use Rattle.judge.specs.Tallies.{tally_of, tally_after, tally_behind}
+use Rattle.judge.specs.Tallies.{tally_of, tally_after, tally_happened}
 use Rattle.judge.specs.Stretch.{StretchView, has_bit, is_full_tick_of, IsComplete, IsKept}
 use Rattle.judge.specs.Below.{Below}
 
@@ -158,7 +158,7 @@ lost-after : (b : Bool) (i n : ℕ) (t : Tally) → (if b then tally_after (Lose
 lost-after true i n t = refl
 lost-after false i n t = rests-after n t
 
-tick-after : (b : Bool) (a u v n : ℕ) (t : Tally) → tally_behind u v (if b then FullTick a else LendingTick a) t ≡ tally_after Rests n t
+tick-after : (b : Bool) (a u v n : ℕ) (t : Tally) → tally_happened u v (if b then FullTick a else LendingTick a) t ≡ tally_after Rests n t
 tick-after true a u v n t = rests-after n t
 tick-after false a u v n t = rests-after n t
 
@@ -169,18 +169,18 @@ empty-after t few = grind (arith, common_steps)
 one-after : (n : ℕ) (t : Tally) → tally_after Takes 1 t ≡ tally_after Takes (suc n) t
 one-after n t = grind (arith, common_steps)
 
-same-take : (u v : ℕ) (items : List Item) (t : Tally) → t.old ≤ length items → tally_behind u v (taken_of u v items) t ≡ tally_after Takes (length items) t
+same-take : (u v : ℕ) (items : List Item) (t : Tally) → t.old ≤ length items → tally_happened u v (taken_of u v items) t ≡ tally_after Takes (length items) t
 same-take u v [] t few = empty-after t few
 same-take u v (item ∷ items) t few =
     let here : is_link u v u v ≡ true = grind (arith, common_steps) in
     rw here (one-after (length items) t)
 
-other-take : (u v a b : ℕ) (items : List Item) (n : ℕ) (t : Tally) → is_link u v a b ≡ false → tally_behind u v (taken_of a b items) t ≡ tally_after Rests n t
+other-take : (u v a b : ℕ) (items : List Item) (n : ℕ) (t : Tally) → is_link u v a b ≡ false → tally_happened u v (taken_of a b items) t ≡ tally_after Rests n t
 other-take u v a b [] n t other = rests-after n t
 other-take u v a b (item ∷ items) n t other = rw other (rests-after n t)
 
 take-after : (link : ℕ → ℕ → List Item) (u v a b : ℕ) (t : Tally) → t.old ≤ length (link u v) → (test : Bool) → is_link u v a b ≡ test
-    → tally_behind u v (taken_of a b (link a b)) t ≡ tally_after (if test then Takes else Rests) (length (link u v)) t
+    → tally_happened u v (taken_of a b (link a b)) t ≡ tally_after (if test then Takes else Rests) (length (link u v)) t
 take-after link u v a b t few true is =
     let one : a ≡ u = grind (arith, common_steps, is) in
     let two : b ≡ v = grind (arith, common_steps, is) in
@@ -188,7 +188,7 @@ take-after link u v a b t few true is =
 take-after link u v a b t few false is = other-take u v a b (link a b) (length (link u v)) t is
 
 same-after : (now : World) (e : Event) (u v : ℕ) (t : Tally) → t.old ≤ length (now.link u v)
-    → tally_behind u v (happened now e) t ≡ tally_after (link_act u v e) (length (now.link u v)) t
+    → tally_happened u v (happened now e) t ≡ tally_after (link_act u v e) (length (now.link u v)) t
 same-after now (Send a b) u v t few = put-after (is_link u v a b) (length (now.link u v)) t
 same-after now (Take a b) u v t few = take-after now.link u v a b t few (is_link u v a b) refl
 same-after now (Lose a b i) u v t few = lost-after (is_link u v a b) i (length (now.link u v)) t
@@ -197,16 +197,16 @@ same-after now (Ask a x) u v t few = rests-after (length (now.link u v)) t
 same-after now (Leave a x) u v t few = rests-after (length (now.link u v)) t
 same-after now (Damage h) u v t few = rests-after (length (now.link u v)) t
 
-pub still-renewed : (did : Happened) (u v : ℕ) (t : Tally) → t.renewed ≡ true → (tally_behind u v did t).renewed ≡ true
+pub still-renewed : (did : Happened) (u v : ℕ) (t : Tally) → t.renewed ≡ true → (tally_happened u v did t).renewed ≡ true
 still-renewed did u v t renewed = grind (arith, common_steps)
 
 pub noted : (now : World) (e : Event) (did : Happened) (s new : StretchView) → did ≡ happened now e → new.tallies.table.nodes ≡ s.tallies.table.nodes
     → ((v : ℕ) → has_bit new.lacking v ≡ (has_bit s.lacking v && not (is_full_tick_of v did)))
-    → ((u v : ℕ) → v < s.tallies.table.nodes → tally_of new.tallies u v ≡ tally_behind u v did (tally_of s.tallies u v))
+    → ((u v : ℕ) → v < s.tallies.table.nodes → tally_of new.tallies u v ≡ tally_happened u v did (tally_of s.tallies u v))
     → IsNoted now e s new
 noted now e did s new is nodes lacking tallies = record {
   nodes = nodes;
   lacking = λ v. lacking v ∙ ap (λ d. has_bit s.lacking v && not (is_full_tick_of v d)) is ∙ ap (λ b. has_bit s.lacking v && not b) (full-tick now e v);
-  tallies = λ u v within few. tallies u v within ∙ ap (λ d. tally_behind u v d (tally_of s.tallies u v)) is ∙ same-after now e u v (tally_of s.tallies u v) few;
+  tallies = λ u v within few. tallies u v within ∙ ap (λ d. tally_happened u v d (tally_of s.tallies u v)) is ∙ same-after now e u v (tally_of s.tallies u v) few;
   still = λ u v within renewed. ap (λ t. t.renewed) (tallies u v within) ∙ still-renewed did u v (tally_of s.tallies u v) renewed;
 }

@@ -20,7 +20,7 @@ use Rattle.judge.specs.Below.{Below}
 use Rattle.judge.specs.Stretch.{has_bit, names_below}
 use Rattle.judge.specs.Visited.{AreVisited, ticked_or_took}
 use Rattle.judge.proofs.Judging.{damage-refused}
-use Rattle.judge.proofs.JudgeSteps.{names-behind, no-damage}
+use Rattle.judge.proofs.JudgeSteps.{names-after, no-damage}
 
 -- ---- which nodes an event may make privileged
 
@@ -184,7 +184,7 @@ module _ (laws : Below) (start : World) (es : List Event) (e : Event) (now next 
         inside : ticked_or_took v did ≡ true → nat_lt v start.net.nodes ≡ true
         inside moved =
             subst (λ n. nat_lt v n ≡ true) (ap (λ w. w.net.nodes) is_next ∙ as-many_next)
-            (named did next.net.nodes (names-behind laws now next e did is_next is fits) moved)
+            (named did next.net.nodes (names-after laws now next e did is_next is fits) moved)
 
 -- at the start the privileged nodes are visited
 pub visited-starts : (start : World) (mask : ℕ) → ((v : ℕ) → has_bit mask v ≡ (nat_lt v start.net.nodes && is_privileged start v)) → AreVisited start [] mask

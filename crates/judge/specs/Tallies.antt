@@ -33,10 +33,10 @@ abbrev pub tally_after : LinkAct → ℕ → Tally → Tally
 tally_after act under_way t = record { old = old_after act t.old; renewed = t.renewed || takes_new act t.old under_way }
 
 -- the tally of the link from u to v after what happened: only items that leave the link change it
-abbrev pub tally_behind : ℕ → ℕ → Happened → Tally → Tally
-tally_behind u v (Taken a b) t = if is_link u v a b then tally_after Takes 1 t else t
-tally_behind u v (Lost a b i) t = if is_link u v a b then tally_after (Loses i) 0 t else t
-tally_behind u v _ t = t
+abbrev pub tally_happened : ℕ → ℕ → Happened → Tally → Tally
+tally_happened u v (Taken a b) t = if is_link u v a b then tally_after Takes 1 t else t
+tally_happened u v (Lost a b i) t = if is_link u v a b then tally_after (Loses i) 0 t else t
+tally_happened u v _ t = t
 
 -- the place belongs to two nodes
 abbrev pub IsOfNodes : PairTableView → ℕ → Type 0

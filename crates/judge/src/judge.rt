@@ -16,7 +16,7 @@ ghost use Rattle.judge.specs.JudgeView.{IsLackingSeen, IsTallySeen};
 use crate::laws::below;
 use crate::stretch::Stretch;
 use crate::tallies::Tally;
-use crate::visited::{privileged_nodes, visited_behind};
+use crate::visited::{privileged_nodes, visited_after};
 use crate::world::World;
 use configuration::Configuration;
 use configuration::run_model::{Event, EventFault, Happened};
@@ -159,7 +159,7 @@ impl<A: Allocator + Copy> Judge<A> {
             begin(&self.configuration, &mut self.stretch);
             return Ok(());
         }
-        self.visited = visited_behind(&self.configuration, self.visited, &happened);
+        self.visited = visited_after(&self.configuration, self.visited, &happened);
         self.stretch.note(&happened);
         if self.stretch.is_complete() {
             self.sweeps = self.sweeps.saturating_add(1);

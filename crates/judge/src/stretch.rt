@@ -5,7 +5,7 @@ ghost use Rattle.std.specs.Prelude.{IsTrue};
 ghost use Rattle.configuration.specs.data_link.Sweep.{Takes, Loses};
 ghost use Rattle.topology.specs.Network.{are_joined};
 ghost use Rattle.configuration.specs.run_model.World.{at_pair};
-ghost use Rattle.judge.specs.Tallies.{has_place, no_tally, tally_of, tally_after, tally_behind};
+ghost use Rattle.judge.specs.Tallies.{has_place, no_tally, tally_of, tally_after, tally_happened};
 ghost use Rattle.judge.specs.Stretch.{has_bit, is_full_tick_of, names_below, names_place};
 ghost use Rattle.judge.specs.Stretch.{IsComplete, with_looks};
 
@@ -110,7 +110,7 @@ impl<A: Allocator> Stretch<A> {
             ≡ (has_bit self.old.lacking v && not (is_full_tick_of v happened.now)) }
         ensures tallies { (u v : ℕ) → v < self.old.tallies.table.nodes
             → tally_of self.new.tallies u v
-            ≡ tally_behind u v happened.now (tally_of self.old.tallies u v) }
+            ≡ tally_happened u v happened.now (tally_of self.old.tallies u v) }
         // Reads and writes at most one tally.
         ensures looked { self.new.tallies.looked ≤ self.old.tallies.looked + 2 }
     {

@@ -53,7 +53,7 @@ fn visit<A: Allocator + Copy>(configuration: &Configuration<A>, mask: u64, node:
 /// The visited nodes after what happened, if that is no damage. Looks only at the node that ticked
 /// or took, if any: no other node's machines or copies have changed.
 #[inline(always)]
-pub fn visited_behind<A: Allocator + Copy>(
+pub fn visited_after<A: Allocator + Copy>(
     configuration: &Configuration<A>,
     visited: u64,
     happened: &Happened,

@@ -32,16 +32,16 @@ boundary-within q a (suc b) (x ∷ xs) h = omega (arith, boundary-within q a b x
 
 -- ---- some item is privileged
 
-some-behind : (left : ℕ) (xs : List ℕ) → (last_of left xs ≡ left) ⊎ ((i : ℕ) × (i < length xs) × (sees_another left xs i ≡ true))
-some-behind left [] = inl refl
-some-behind left (x ∷ xs) = elim (cases_eq x left) [
-  | inl e ↦ elim (some-behind x xs) [ inl h ↦ inl (h ∙ e) | inr w ↦ inr (suc w.0, omega (arith, w.1), w.2) ]
+some-after : (left : ℕ) (xs : List ℕ) → (last_of left xs ≡ left) ⊎ ((i : ℕ) × (i < length xs) × (sees_another left xs i ≡ true))
+some-after left [] = inl refl
+some-after left (x ∷ xs) = elim (cases_eq x left) [
+  | inl e ↦ elim (some-after x xs) [ inl h ↦ inl (h ∙ e) | inr w ↦ inr (suc w.0, omega (arith, w.1), w.2) ]
   | inr ne ↦ inr (0, omega arith, grind arith)
 ]
 
 pub some-privileged : (ring : List ℕ) → 0 < length ring → (i : ℕ) × (i < length ring) × IsTrue (is_privileged_at ring i)
 some-privileged [] l = absurd (omega arith)
-some-privileged (x ∷ xs) l = elim (some-behind x xs) [ inl e ↦ (0, omega arith, eq-eqb x (last_of x xs) (sym e)) | inr w ↦ (suc w.0, omega (arith, w.1), w.2) ]
+some-privileged (x ∷ xs) l = elim (some-after x xs) [ inl e ↦ (0, omega arith, eq-eqb x (last_of x xs) (sym e)) | inr w ↦ (suc w.0, omega (arith, w.1), w.2) ]
 
 -- ---- where privilege is in a good ring
 
@@ -61,21 +61,21 @@ module _ (q : ℕ) (l : 1 < q) where
   ]
 
   -- after items that are one less than a, none sees another
-  none-behind : (a left : ℕ) (xs : List ℕ) (i : ℕ) → IsRing q (left ∷ xs) → root_moved left q ≡ a → AllByRecursion (λ x. root_moved x q ≡ a) xs → sees_another left xs i ≡ true → ⊥
-  none-behind a left [] i r e h t = absurd cc
-  none-behind a left (x ∷ xs) zero r e h t = let s : x ≡ left = one-less a x left r.1.1.0 r.1.0 h.0 e in grind arith
-  none-behind a left (x ∷ xs) (suc i) r e h t = none-behind a x xs i (omega arith, r.1.1) h.0 h.1 t
+  none-after : (a left : ℕ) (xs : List ℕ) (i : ℕ) → IsRing q (left ∷ xs) → root_moved left q ≡ a → AllByRecursion (λ x. root_moved x q ≡ a) xs → sees_another left xs i ≡ true → ⊥
+  none-after a left [] i r e h t = absurd cc
+  none-after a left (x ∷ xs) zero r e h t = let s : x ≡ left = one-less a x left r.1.1.0 r.1.0 h.0 e in grind arith
+  none-after a left (x ∷ xs) (suc i) r e h t = none-after a x xs i (omega arith, r.1.1) h.0 h.1 t
 
-  one-behind : (a left b : ℕ) (xs : List ℕ) (i : ℕ) → IsRing q (left ∷ xs) → left ≡ a → IsBoundary q a b xs → sees_another left xs i ≡ true → (i ≡ b) × (i < length xs)
-  one-behind a left zero [] i r e h t = absurd cc
-  one-behind a left (suc b) [] i r e h t = absurd h
-  one-behind a left zero (x ∷ xs) zero r e h t = (refl, omega arith)
-  one-behind a left zero (x ∷ xs) (suc i) r e h t = absurd (none-behind a x xs i (omega arith, r.1.1) h.0 h.1 t)
-  one-behind a left (suc b) (x ∷ xs) zero r e h t = absurd (same a left x e h.0 t)
+  one-after : (a left b : ℕ) (xs : List ℕ) (i : ℕ) → IsRing q (left ∷ xs) → left ≡ a → IsBoundary q a b xs → sees_another left xs i ≡ true → (i ≡ b) × (i < length xs)
+  one-after a left zero [] i r e h t = absurd cc
+  one-after a left (suc b) [] i r e h t = absurd h
+  one-after a left zero (x ∷ xs) zero r e h t = (refl, omega arith)
+  one-after a left zero (x ∷ xs) (suc i) r e h t = absurd (none-after a x xs i (omega arith, r.1.1) h.0 h.1 t)
+  one-after a left (suc b) (x ∷ xs) zero r e h t = absurd (same a left x e h.0 t)
     where
       same : (a left x : ℕ) → left ≡ a → x ≡ a → not (x == left) ≡ true → ⊥
       same a left x e i t = grind arith
-  one-behind a left (suc b) (x ∷ xs) (suc i) r e h t = let w = one-behind a x b xs i (omega arith, r.1.1) h.0 h.1 t in (ap suc w.0, omega (arith, w.1))
+  one-after a left (suc b) (x ∷ xs) (suc i) r e h t = let w = one-after a x b xs i (omega arith, r.1.1) h.0 h.1 t in (ap suc w.0, omega (arith, w.1))
 
   last-less : (a left b : ℕ) (xs : List ℕ) → IsBoundary q a b xs → b < length xs → root_moved (last_of left xs) q ≡ a
   last-less a left b [] h k = absurd (omega arith)
@@ -94,16 +94,16 @@ module _ (q : ℕ) (l : 1 < q) where
   one-privileged zero zero (x ∷ xs) r g t u = refl
   one-privileged zero (suc j) (x ∷ xs) r g t u =
       let w = boundary-of_good q x xs l r g in
-      let v = one-behind x x w.0 xs j r refl w.2.1 u in
+      let v = one-after x x w.0 xs j r refl w.2.1 u in
       absurd (omega (arith, v.0, v.1, whole x w.0 xs r w.2.1 (sym (eqb-true x (last_of x xs) t))))
   one-privileged (suc i) zero (x ∷ xs) r g t u =
       let w = boundary-of_good q x xs l r g in
-      let v = one-behind x x w.0 xs i r refl w.2.1 t in
+      let v = one-after x x w.0 xs i r refl w.2.1 t in
       absurd (omega (arith, v.0, v.1, whole x w.0 xs r w.2.1 (sym (eqb-true x (last_of x xs) u))))
   one-privileged (suc i) (suc j) (x ∷ xs) r g t u =
       let w = boundary-of_good q x xs l r g in
-      let v = one-behind x x w.0 xs i r refl w.2.1 t in
-      let v' = one-behind x x w.0 xs j r refl w.2.1 u in
+      let v = one-after x x w.0 xs i r refl w.2.1 t in
+      let v' = one-after x x w.0 xs j r refl w.2.1 u in
       ap suc (v.0 ∙ sym v'.0)
 
   -- the item at the boundary is privileged; if there is none after it, the head is

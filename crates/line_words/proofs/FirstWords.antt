@@ -32,12 +32,12 @@ to-the-end : (line : List ℕ) (i : ℕ) → slice_range line i (length line) �
 to-the-end line i = grind (arith, common_steps)
 
 -- what is left after a first word of this length, as `get` gives it
-pub behind-first : (line : List ℕ) (k : ℕ) (r : Option (Bor (List ℕ))) → k ≡ word_len line → k ≤ length line
+pub after-first : (line : List ℕ) (k : ℕ) (r : Option (Bor (List ℕ))) → k ≡ word_len line → k ≤ length line
     → PartBy (λ (x : Bor (List ℕ)). x.now) line (k + 1) (length line) r
     → option_map_or (λ rest. words rest.now) r [] ≡ other_words (words line)
-behind-first line k None e w (inl few, some) = sym (no-words line (omega arith))
-behind-first line k None e w (inr never, some) = absurd (omega arith)
-behind-first line k (Some x) e w ((more, all, is, len), some) =
+after-first line k None e w (inl few, some) = sym (no-words line (omega arith))
+after-first line k None e w (inr never, some) = absurd (omega arith)
+after-first line k (Some x) e w ((more, all, is, len), some) =
     rw (is, to-the-end line (k + 1), add-one, e) (sym (other-words line (omega arith)))
 
 ends-onto : {Y : Type 0} → (y : Y) (x : ℕ) (ws : List Word) → ends y (onto_first x ws) ≡ None

@@ -14,11 +14,11 @@ use Rattle.line_words.specs.Numbers.{number, are_digits, has_leading_zero}
 abbrev pub AreDigits : List ℕ → Type 0
 AreDigits ds = list_all is_ascii_digit ds ≡ true
 
-tells : IsDigitsTest AreDigits
-tells = search rules
+says : IsDigitsTest AreDigits
+says = search rules
 
 pub own : IsNumeralModel AreDigits (digits_value 10)
-own = numerals_by_value AreDigits tells
+own = numerals_by_value AreDigits says
 
 -- what decimal spells are digits with no leading zero
 digits-decimal : (n : ℕ) → n < 65536 → are_digits (decimal n) ≡ true

@@ -99,7 +99,7 @@ idle = record {
   journal = λ v. [];
   woven = record { placed = []; are_events = refl; ordered = tt; complete = λ v. refl };
   rising = λ v. tt;
-  told = λ v. refl;
+  said = λ v. refl;
   matched = record {
     network = refl;
     spares = refl;

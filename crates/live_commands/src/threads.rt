@@ -45,13 +45,13 @@ pub fn run<R: Files + Clock + Print + Eprint + Threads + Wait + Sync + AllocGlob
     network: &str,
     turns: u32,
     events: Option<&str>,
-    tells: bool,
+    says: bool,
 ) -> Result<ExitCode, Fault>
     ensures { IfOk result (λ status. exit_status status ≡ 0) }
 {
     let net = read_network(rt, network)?;
     let start = new_world(rt.alloc(), &net)?;
-    let woven = run_watched(rt, &net, turns, tells)?;
+    let woven = run_watched(rt, &net, turns, says)?;
     show(rt, start, &woven, events)
 }
 
@@ -60,11 +60,11 @@ fn run_watched<R: Clock + Eprint + Threads + Wait + Sync + AllocGlobal>(
     rt: &R,
     net: &Net,
     turns: u32,
-    tells: bool,
+    says: bool,
 ) -> Result<Woven, Fault>
     ensures { IfOk result (AllRan turns net.now) }
 {
-    let watch = Watch::start(rt, net.nodes(), turns, tells);
+    let watch = Watch::start(rt, net.nodes(), turns, says);
     let ran = run_nodes(rt, rt.alloc(), net, turns, &watch);
     watch.end();
     ran

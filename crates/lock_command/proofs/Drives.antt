@@ -27,16 +27,16 @@ at_start keeps from none = ([], none, refl)
 
 pub goes_on : (keeps : Bool) (from now next : Option (List Event)) (stage : Stage) (e : Event) → IsUnderWay keeps from now stage
     → next ≡ option_map (λ events. events ++ e ∷ []) now → IsUnderWay keeps from next (stage_after keeps e stage)
-goes_on keeps from now next stage e under told none =
+goes_on keeps from now next stage e under reported none =
     let so : (events : List Event) × (now ≡ Some events) × (stage_after_all keeps Asking events ≡ stage) = under none in
-    (so.0 ++ e ∷ [], rw told (rw so.1 refl), rw (one_more keeps Asking so.0 e) (rw so.2 refl))
+    (so.0 ++ e ∷ [], rw reported (rw so.1 refl), rw (one_more keeps Asking so.0 e) (rw so.2 refl))
 
 -- the same of a client that takes a step, and of what it then knows
 pub steps : (keeps had : Bool) (from now next after : Option (List Event)) (stage new : Stage) (e : Event) → had ≡ keeps → IsUnderWay keeps from now stage
     → next ≡ option_map (λ events. events ++ e ∷ []) now → after ≡ next → new ≡ stage_after had e stage → IsUnderWay keeps from after new
-steps keeps had from now next after stage new e same under told acted is none =
+steps keeps had from now next after stage new e same under reported acted is none =
     let so : (events : List Event) × (next ≡ Some events) × (stage_after_all keeps Asking events ≡ stage_after keeps e stage) =
-    goes_on keeps from now next stage e under told none in
+    goes_on keeps from now next stage e under reported none in
     let end : stage_after keeps e stage ≡ new = grind arith in
     (so.0, rw acted so.1, rw so.2 end)
 

@@ -22,17 +22,17 @@ IsOnGuard keeps from now stage =
 pub goes_on : (keeps : Bool) (from now next : Option (List GuardEvent)) (stage : GuardStage) (e : GuardEvent)
     → IsOnGuard keeps from now stage
     → next ≡ option_map (λ events. events ++ e ∷ []) now → IsOnGuard keeps from next (guard_after keeps e stage)
-goes_on keeps from now next stage e under told none =
+goes_on keeps from now next stage e under reported none =
     let so : (events : List GuardEvent) × (now ≡ Some events) × (guard_after_all keeps Idle events ≡ stage) = under none in
-    (so.0 ++ e ∷ [], rw told (rw so.1 refl), rw (one_more keeps Idle so.0 e) (rw so.2 refl))
+    (so.0 ++ e ∷ [], rw reported (rw so.1 refl), rw (one_more keeps Idle so.0 e) (rw so.2 refl))
 
 -- the same of a guard that takes a step, and of what it then knows
 pub watches : (keeps had : Bool) (from now next after : Option (List GuardEvent)) (stage new : GuardStage)
     (e : GuardEvent) → had ≡ keeps → IsOnGuard keeps from now stage
     → next ≡ option_map (λ events. events ++ e ∷ []) now → after ≡ next → new ≡ guard_after had e stage → IsOnGuard keeps from after new
-watches keeps had from now next after stage new e same under told acted is none =
+watches keeps had from now next after stage new e same under reported acted is none =
     let so : (events : List GuardEvent) × (next ≡ Some events) × (guard_after_all keeps Idle events ≡ guard_after keeps e stage) =
-    goes_on keeps from now next stage e under told none in
+    goes_on keeps from now next stage e under reported none in
     let end : guard_after keeps e stage ≡ new = grind arith in
     (so.0, rw acted so.1, rw so.2 end)
 

@@ -53,17 +53,17 @@ is-outcome = (Line answer.Granted ∷ Ended (Exited 3) ∷ Line answer.Released 
 
 -- the node went away: a client may not say that the command held the lock
 outcome_not-gone : ¬ IsOutcomeOf false (Some (Line answer.Granted ∷ Ended (Exited 0) ∷ Gone ∷ [])) (Done (Exited 0))
-outcome_not-gone (events, told, over) = grind (arith, told, over)
+outcome_not-gone (events, reported, over) = grind (arith, reported, over)
 
 -- nor may one of which nobody knows what happened to it
 outcome_not-unknown : ¬ IsOutcomeOf false None Lost
-outcome_not-unknown (events, told, over) = grind (arith, told)
+outcome_not-unknown (events, reported, over) = grind (arith, reported)
 
 is-over : IsOver false (Some (Said word.Start ∷ Said word.Done ∷ []))
 is-over = (Said word.Start ∷ Said word.Done ∷ [], refl, refl)
 
 over_not-searching : ¬ IsOver false (Some (Said word.Start ∷ Closed ∷ []))
-over_not-searching (events, told, over) = grind (arith, told, over)
+over_not-searching (events, reported, over) = grind (arith, reported, over)
 
 names-last : named (word.Runs 71) (Some 70) ≡ Some 71
 names-last = refl
@@ -96,16 +96,16 @@ later_not-broken = refl
 watched-always : IsWatched Always
 watched-always = inr refl
 
-watched_not-told : ¬ IsWatched Ready
-watched_not-told (inl e) = grind (arith, e)
-watched_not-told (inr e) = grind (arith, e)
+watched_not-said : ¬ IsWatched Ready
+watched_not-said (inl e) = grind (arith, e)
+watched_not-said (inr e) = grind (arith, e)
 
 taken-ready : IsTaken Ready Waiting
 taken-ready = inl refl
 
 -- what the system said counts only once
 taken_not-ready : ¬ IsTaken Ready Ready
-taken_not-ready taken = watched_not-told taken
+taken_not-ready taken = watched_not-said taken
 
 taken_not-begun : ¬ IsTaken Not Waiting
 taken_not-begun e = grind (arith, e)

@@ -7,6 +7,6 @@ use Rattle.lock_client.specs.Steps.{stage_after_all}
 
 -- a client to which exactly these things happened is over with this outcome
 abbrev pub IsOutcomeOf : Bool → Option (List Event) → Outcome → Type 0
-IsOutcomeOf keeps told outcome =
-    (events : List Event) × (told ≡ Some events)
+IsOutcomeOf keeps reported outcome =
+    (events : List Event) × (reported ≡ Some events)
     × (stage_after_all keeps Asking events ≡ Over outcome)

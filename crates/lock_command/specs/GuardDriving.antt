@@ -8,8 +8,8 @@ use Rattle.lock_client.specs.Guards.{guard_after_all}
 
 -- a guard to which exactly these things happened has released the lock
 abbrev pub IsOver : Bool → Option (List GuardEvent) → Type 0
-IsOver keeps told =
-    (events : List GuardEvent) × (told ≡ Some events)
+IsOver keeps reported =
+    (events : List GuardEvent) × (reported ≡ Some events)
     × (guard_after_all keeps Idle events ≡ Over)
 
 -- the command's process: the last that the client named

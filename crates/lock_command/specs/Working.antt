@@ -20,14 +20,14 @@ is_family _ = false
 abbrev pub EndsSo : {P A B C : Type 0} → Work P A B C → Bool → Option CommandEnd → Type 0
 EndsSo work.None has_input end = end ≡ None
 EndsSo (work.Running child) has_input end = Unit {0}
-EndsSo (work.Family told) has_input end = end ≡ None
+EndsSo (work.Family reported) has_input end = end ≡ None
 EndsSo work.Input false end = end ≡ None
 EndsSo work.Input true end = (end ≡ None) ⊎ (end ≡ Some (Exited 0))
-EndsSo (work.Done told) has_input end = end ≡ Some told
+EndsSo (work.Done reported) has_input end = end ≡ Some reported
 
 -- once what the command started is gone, its end is reported
 abbrev pub FamilyEndsSo : {P A B C : Type 0} → Work P A B C → Option CommandEnd → Type 0
-FamilyEndsSo (work.Family told) end = (end ≡ None) ⊎ (end ≡ Some told)
+FamilyEndsSo (work.Family reported) end = (end ≡ None) ⊎ (end ≡ Some reported)
 FamilyEndsSo _ end = end ≡ None
 
 -- what has ended is over; else it goes on, and a command keeps running

@@ -13,7 +13,7 @@ use std::sync::Wait;
 /// What is around a client: a connection, a command, a clock. They act on their own.
 pub trait Surroundings {
     /// The events that it reported, in order; none if nobody records them.
-    ghost told: { Self → Option (List Event) };
+    ghost reported: { Self → Option (List Event) };
 
     /// Whether a command runs.
     ghost runs: { Self → Bool };
@@ -21,13 +21,13 @@ pub trait Surroundings {
     /// Waits for the next event, and says what it is. No command starts meanwhile, and after the
     /// event that reports its end none runs.
     fn next_event(&mut self) -> Event
-        ensures told { told self.new ≡ option_map (λ events. events ++ result ∷ []) (told self.old) }
+        ensures reported { reported self.new ≡ option_map (λ events. events ++ result ∷ []) (reported self.old) }
         ensures starts_none { runs self.new ≡ true → runs self.old ≡ true }
         ensures ended { (end : CommandEnd) → result ≡ Ended end → runs self.new ≡ false };
 
     /// Does this deed after this event. A command starts only by the deed for it.
     fn act(&mut self, event: Event, deed: Deed)
-        ensures told { told self.new ≡ told self.old }
+        ensures reported { reported self.new ≡ reported self.old }
         ensures starts { deed ≢ Start → runs self.new ≡ runs self.old };
 }
 
@@ -50,8 +50,8 @@ impl Driven {
 /// Runs until all is over: a client hears each event, and its answer is done. The outcome is the
 /// client's own word on all that happened. It does not end while a command that it started runs.
 pub fn drive<R: Wait, S: Surroundings>(rt: &R, surroundings: &mut S, keeps_running: bool) -> Driven
-    ensures outcome { S.told surroundings.old ≡ Some []
-        → IsOutcomeOf keeps_running (S.told surroundings.new) result.outcome }
+    ensures outcome { S.reported surroundings.old ≡ Some []
+        → IsOutcomeOf keeps_running (S.reported surroundings.new) result.outcome }
     ensures over { S.runs surroundings.old ≡ false → S.runs surroundings.new ≡ false }
 {
     let mut client = LockClient::new(keeps_running);

@@ -53,7 +53,7 @@ pub fn run<R: Env + Files + Processes + Clock + Input + Eprint + AllocGlobal + W
 ) -> u8
     ensures { (result ≡ 0) ⊎ (result ≡ 2) }
 {
-    run_marked(rt, told_mark(rt), keeps_running)
+    run_marked(rt, guarded_mark(rt), keeps_running)
 }
 
 /// The same for the command with this mark: the status is 2 if there is none.
@@ -80,11 +80,11 @@ pub fn run_marked<R: Files + Processes + Clock + Input + Eprint + AllocGlobal + 
 }
 
 /// The mark of the command. The environment has it without the semicolon at its end.
-pub fn told_mark<R: Env + AllocGlobal>(rt: &R) -> Option<String>
+pub fn guarded_mark<R: Env + AllocGlobal>(rt: &R) -> Option<String>
     ensures { IfSome result (λ mark. IsClosed (string_bytes mark)) }
 {
-    let told = env::var(rt, GUARDED).ok()?;
-    format!(in rt.alloc(); "{told};").ok()
+    let marked = env::var(rt, GUARDED).ok()?;
+    format!(in rt.alloc(); "{marked};").ok()
 }
 
 /// What the guard of a command needs of the system.
@@ -98,7 +98,7 @@ where
 impl<R: GuardSystem> Guarded for Watch<'_, R> {
     ghost use Rattle.std.specs.Prelude.{None, is_some};
 
-    ghost told = { λ _. None };
+    ghost reported = { λ _. None };
 
     ghost grants = { λ watch. is_some watch.kill_due };
 

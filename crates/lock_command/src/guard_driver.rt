@@ -12,7 +12,7 @@ use std::sync::Wait;
 /// What is around a guard: a client, its command, a clock. They act on their own.
 pub trait Guarded {
     /// The events that it reported, in order; none if nobody records them.
-    ghost told: { Self → Option (List GuardEvent) };
+    ghost reported: { Self → Option (List GuardEvent) };
 
     /// Whether a grace runs in which a command must end.
     ghost grants: { Self → Bool };
@@ -21,19 +21,19 @@ pub trait Guarded {
     /// look finds after a rest of `rest` milliseconds. A grace ends only if one runs, and only
     /// once.
     fn next_event(&mut self, deed: GuardDeed, rest: u64) -> GuardEvent
-        ensures told { told self.new ≡ option_map (λ events. events ++ result ∷ []) (told self.old) }
+        ensures reported { reported self.new ≡ option_map (λ events. events ++ result ∷ []) (reported self.old) }
         ensures over { result ≡ GraceIsOver → (grants self.old ≡ true) × (grants self.new ≡ false) };
 
     /// Does this deed. A grace begins only if the command is asked to end.
     fn act(&mut self, deed: GuardDeed)
-        ensures told { told self.new ≡ told self.old }
+        ensures reported { reported self.new ≡ reported self.old }
         ensures grace { deed ≢ Ask → grants self.new ≡ grants self.old };
 }
 
 /// Runs until the lock is released: a guard hears each event, and its answer is done. It ends only
 /// when the guard is over, by all that happened.
 pub fn drive_guard<R: Wait, S: Guarded>(rt: &R, guarded: &mut S, keeps_running: bool)
-    ensures { S.told guarded.old ≡ Some [] → IsOver keeps_running (S.told guarded.new) }
+    ensures { S.reported guarded.old ≡ Some [] → IsOver keeps_running (S.reported guarded.new) }
 {
     let mut guard = Guard::new(keeps_running);
     let mut deed = GuardDeed::Listen;

@@ -79,7 +79,7 @@ pub struct Live<'a, R, S> {
 }
 
 impl<'a, R: System> Surroundings for Live<'_, R, Session<'a, R::Started>> {
-    ghost told = { λ _. None };
+    ghost reported = { λ _. None };
 
     ghost runs = { λ live. is_running live.session.work };
 

@@ -29,8 +29,8 @@ RunsOnInPlace =
     × (lost ≡ lost_of sights)
 
 -- a node ends well by its stop file or as it is asked to, and by nothing else
-abbrev pub StopsWhenTold : Type 0
-StopsWhenTold =
+abbrev pub StopsWhenAsked : Type 0
+StopsWhenAsked =
     (sights : Sights) → after_save sights ≡ Stop
     → (sights.stop ≡ Absent) → sights.is_asked ≡ true
 

@@ -1,5 +1,5 @@
 //! Laws of what a node's process and `up` decide, each the contract of a function that does nothing.
-ghost use Rattle.node_keeping.specs.Laws.{EndsWhereDisplaced, RunsOnInPlace, StopsWhenTold};
+ghost use Rattle.node_keeping.specs.Laws.{EndsWhereDisplaced, RunsOnInPlace, StopsWhenAsked};
 ghost use Rattle.node_keeping.specs.Laws.{NobodyStartsAfterTheEnd, IsStartedAgain};
 ghost use Rattle.node_keeping.specs.Laws.{IsLeftAfterThreeFailures, IsKilledOnce, IsKilledInTime};
 ghost use Rattle.node_keeping.specs.Laws.{IsNamedAtItsEnd, IsKilledAtOnce};
@@ -10,7 +10,7 @@ ghost use Rattle.node_keeping.specs.CourseLaws.{RunsUnasked, AsksOnce, UrgesOnce
 pub fn a_node_runs_on_in_its_place()
     ensures displaced { EndsWhereDisplaced }
     ensures on { RunsOnInPlace }
-    ensures told { StopsWhenTold }
+    ensures asked { StopsWhenAsked }
 {}
 
 /// A node that ended is started again, but for one that fails at its start three times in a row.

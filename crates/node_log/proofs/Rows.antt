@@ -59,9 +59,9 @@ counts-left_out : rate_after 2999999 full ≡ record { second = 2; said = 20; le
 unfolding full
 counts-left_out = refl
 
-counts-anew : rate_after 3000000 full ≡ record { second = 3; said = 1; left_out = 0 }
+counts-again : rate_after 3000000 full ≡ record { second = 3; said = 1; left_out = 0 }
 unfolding full
-counts-anew = refl
+counts-again = refl
 
 says-both : answers full (2999999 ∷ 3000000 ∷ []) ≡ false ∷ true ∷ []
 unfolding full

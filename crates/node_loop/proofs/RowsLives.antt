@@ -105,8 +105,8 @@ module _ {P A : Type 0} (gave took : P → Option (List ℕ)) (counts : P → Co
   admits_not-taken was is f = (let e : ◌≡◌ {A = Option (Client P)} None (Some a) = rw (was, is) at ((f t).0 (rw was refl)).0 in absurd cc)
 
   -- and nothing for an earlier client with that ticket waits for it
-  admits_not-told : get old.table t ≡ None → get new.table t ≡ Some b → answers_of new t ≡ codes "lost\n" → ¬ Admits old new
-  admits_not-told was is waits f = (let e : ◌≡◌ {A = List ℕ} (codes "lost\n") [] = rw waits at ((f t).1 (rw was refl) (rw is refl)) in absurd cc)
+  admits_not-reported : get old.table t ≡ None → get new.table t ≡ Some b → answers_of new t ≡ codes "lost\n" → ¬ Admits old new
+  admits_not-reported was is waits f = (let e : ◌≡◌ {A = List ℕ} (codes "lost\n") [] = rw waits at ((f t).1 (rw was refl) (rw is refl)) in absurd cc)
 
   others_not-changed : (u : ℕ) → t ≢ u → get old.table t ≡ Some a → get new.table t ≡ None → ¬ OthersStay u old new
   others_not-changed u other was is f = (let e : ◌≡◌ {A = Option (Client P)} None (Some a) = rw (was, is) at (f t other) in absurd cc)

@@ -97,7 +97,7 @@ module _ {P : Type 0} (gave took : P → Option (List ℕ)) (counts : P → Coun
 
     -- of a frame that was not offered nothing is sent, and the pace notes nothing
     silent-to : (was : PortPace) (now : ℕ) → unsent old.link ≡ [] → old.is_stuck ≡ false → SpeaksTo gave took counts some_frame false now was was [] old old
-    silent-to was now written free = record { is_taken = false; port = silent _ written free; told = refl; sends = refl }
+    silent-to was now written free = record { is_taken = false; port = silent _ written free; reported = refl; sends = refl }
 
     -- nothing comes on it
     come_not-loose : (r : Ranges) (f : Frame) → ¬ HasCome r gave took (f ∷ []) old.link new.link

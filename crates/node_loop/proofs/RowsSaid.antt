@@ -19,7 +19,7 @@ use Rattle.node_loop.specs.Answers.{answer_text, lock_answer}
 use Rattle.node_loop.specs.Clients.{answers_of, is_connected, IsTold, Tells}
 use Rattle.node_loop.specs.Said.{answers_to, AreAnswered, HasAnswered, IsSaid, NothingSaid, said, SaidAt, SaidTo, TurnSays}
 use Rattle.node_loop.proofs.Lives.{admits-none}
-use Rattle.node_loop.proofs.Saying.{is-said-join, nothing-same, told-said}
+use Rattle.node_loop.proofs.Saying.{is-said-join, nothing-same, reported-said}
 
 abbrev bytes-of : Option (List ℕ) → List ℕ
 bytes-of None = []
@@ -57,15 +57,15 @@ plain-said took a b more waits before after f =
 
 module _ {P A : Type 0} (old new : Clients P A) where
   -- the text waits, and of no other client anything changes
-  tells-lost : answers_of old 3 ≡ [] → answers_of new 3 ≡ codes "lost\n" → new.table ≡ old.table → ((t : ℕ) → t ≢ 3 → answers_of new t ≡ answers_of old t) → Tells (codes "lost\n") 3 old new
-  tells-lost before after table others = (inl (rw (before, after) refl, ap (λ x. get x 3) table), λ t o. (others t o, ap (λ x. get x t) table))
+  reports-lost : answers_of old 3 ≡ [] → answers_of new 3 ≡ codes "lost\n" → new.table ≡ old.table → ((t : ℕ) → t ≢ 3 → answers_of new t ≡ answers_of old t) → Tells (codes "lost\n") 3 old new
+  reports-lost before after table others = (inl (rw (before, after) refl, ap (λ x. get x 3) table), λ t o. (others t o, ap (λ x. get x t) table))
 
-  tells_not-silent : answers_of old 3 ≡ [] → answers_of new 3 ≡ [] → is_connected new 3 ≡ true → ¬ Tells (codes "lost\n") 3 old new
-  tells_not-silent before after there (inl told, others) = grind (arith, common_steps, before, after, told.0)
-  tells_not-silent before after there (inr closed, others) = grind (arith, there, closed.1)
+  reports_not-silent : answers_of old 3 ≡ [] → answers_of new 3 ≡ [] → is_connected new 3 ≡ true → ¬ Tells (codes "lost\n") 3 old new
+  reports_not-silent before after there (inl reported, others) = grind (arith, common_steps, before, after, reported.0)
+  reports_not-silent before after there (inr closed, others) = grind (arith, there, closed.1)
 
-  tells_not-elsewhere : get old.table 4 ≡ None → is_connected new 4 ≡ true → ¬ Tells (codes "lost\n") 3 old new
-  tells_not-elsewhere before after (_, others) = grind (arith, common_steps, before, after, (others 4 (λ e. omega (arith, e))).1)
+  reports_not-elsewhere : get old.table 4 ≡ None → is_connected new 4 ≡ true → ¬ Tells (codes "lost\n") 3 old new
+  reports_not-elsewhere before after (_, others) = grind (arith, common_steps, before, after, (others 4 (λ e. omega (arith, e))).1)
 
 abbrev first-of : List ℕ → ℕ
 first-of [] = 0
@@ -107,16 +107,16 @@ module _ {P A : Type 0} (took : P → Option (List ℕ)) (site : Site) (old new 
   has-answered : HasAnswered took site old old
   has-answered = record { came = old; admits = admits-none old; answers = answered-still }
 
-  said-to-told : Tells (codes "full\n") 3 old new → SaidTo took (codes "full\n") 3 old new
-  said-to-told tells = told-said took (codes "full\n") 3 old new tells
+  said-to-reported : Tells (codes "full\n") 3 old new → SaidTo took (codes "full\n") 3 old new
+  said-to-reported reports = reported-said took (codes "full\n") 3 old new reports
 
   -- a turn in which nothing is said
   turn-quiet : TurnSays took site Quiet old old
-  turn-quiet = record { heard = old; acted = old; answers = has-answered; told = refl; goes_out = nothing-still }
+  turn-quiet = record { heard = old; acted = old; answers = has-answered; reported = refl; goes_out = nothing-still }
 
   -- and one in which a client hears that it lost the lock
   turn-lost : Tells (codes "lost\n") 3 old new → TurnSays took site (Lost 3) old new
-  turn-lost tells = record { heard = old; acted = new; answers = has-answered; told = tells; goes_out = nothing-same took new new refl refl }
+  turn-lost reports = record { heard = old; acted = new; answers = has-answered; reported = reports; goes_out = nothing-same took new new refl refl }
 
   module _ (was : get old.table 3 ≡ Some a) (is : get new.table 3 ≡ Some b) (before : took a.pipe ≡ Some []) (after : took b.pipe ≡ Some []) (waits : answers_of old 3 ≡ []) where
     -- what waits now is what was said
@@ -129,7 +129,7 @@ module _ {P A : Type 0} (took : P → Option (List ℕ)) (site : Site) (old new 
     -- what was said in a turn
     said-in : (act : DeskAct) (text : List ℕ) → ((x y : Clients P A) → IsTold act x y → IsSaid took text 3 x y) → (x : TurnSays took site act old new)
         → answers_of new 3 ≡ answers_to site 3 (x.answers.answers 3).0 ++ text
-    said-in act text tells x =
+    said-in act text reports x =
         let lines = (x.answers.answers 3).0 in
         let came = x.answers.came in
         let there : is_connected old 3 ≡ true = rw was refl in
@@ -137,20 +137,20 @@ module _ {P A : Type 0} (took : P → Option (List ℕ)) (site : Site) (old new 
         let answered : IsSaid took (answers_to site 3 lines) 3 old x.heard =
         subst (λ o. SaidAt took (answers_to site 3 lines) o (answers_of old 3) (get x.heard.table 3) (answers_of x.heard 3)) same.0
         (subst (λ xs. SaidAt took (answers_to site 3 lines) (get came.table 3) xs (get x.heard.table 3) (answers_of x.heard 3)) same.1 (x.answers.answers 3).1) in
-        let told = is-said-join took (answers_to site 3 lines) text 3 old x.heard x.acted answered (tells x.heard x.acted x.told) in
+        let reported = is-said-join took (answers_to site 3 lines) text 3 old x.heard x.acted answered (reports x.heard x.acted x.reported) in
         waits-said (answers_to site 3 lines ++ text)
-        (subst (λ all. IsSaid took all 3 old new) (append-nil (answers_to site 3 lines ++ text)) (is-said-join took (answers_to site 3 lines ++ text) [] 3 old x.acted new told (x.goes_out 3)))
+        (subst (λ all. IsSaid took all 3 old new) (append-nil (answers_to site 3 lines ++ text)) (is-said-join took (answers_to site 3 lines ++ text) [] 3 old x.acted new reported (x.goes_out 3)))
 
     -- a client that lost the lock hears so
     turn_not-silent : answers_of new 3 ≡ [] → ¬ TurnSays took site (Lost 3) old new
     turn_not-silent silent x =
-        let all = said-in (Lost 3) (codes "lost\n") (λ c d told. (told-said took (codes "lost\n") 3 c d told).0) x in
+        let all = said-in (Lost 3) (codes "lost\n") (λ c d reported. (reported-said took (codes "lost\n") 3 c d reported).0) x in
         not-nothing (answers_to site 3 (x.answers.answers 3).0) 108 (codes "ost\n") (sym all ∙ silent)
 
     -- no client hears that it has the lock if no loan began
     turn_not-granted : answers_of new 3 ≡ codes "granted\n" → ¬ TurnSays took site Quiet old new
     turn_not-granted text x =
-        let all = said-in Quiet [] (λ c d told. nothing-same took c d (ap (λ z. z.table) told) (ap (λ z. z.answers) told) 3) x in
+        let all = said-in Quiet [] (λ c d reported. nothing-same took c d (ap (λ z. z.table) reported) (ap (λ z. z.answers) reported) 3) x in
         let lines = (x.answers.answers 3).0 in
         not-granted site lines (sym (append-nil (answers_to site 3 lines)) ∙ (sym all ∙ text))
 

@@ -277,18 +277,18 @@ lines_not-unknown = grind arith
 
 module _ {P A : Type 0} (old new : Clients P A) where
   -- the client of a loan that ended hears so, unless there is no room or it is closed
-  told_not-silent : answers_of old 3 ≡ [] → answers_of new 3 ≡ [] → is_connected new 3 ≡ true → ¬ IsTold (Lost 3) old new
-  told_not-silent before after there (inl told, others) = grind (arith, common_steps, before, after, told.0)
-  told_not-silent before after there (inr closed, others) = grind (arith, there, closed.1)
+  reported_not-silent : answers_of old 3 ≡ [] → answers_of new 3 ≡ [] → is_connected new 3 ≡ true → ¬ IsTold (Lost 3) old new
+  reported_not-silent before after there (inl reported, others) = grind (arith, common_steps, before, after, reported.0)
+  reported_not-silent before after there (inr closed, others) = grind (arith, there, closed.1)
 
   -- nor is it closed if there is room
-  told_not-closed : room_of old 3 ≡ 256 → is_connected old 3 ≡ true → is_connected new 3 ≡ false → ¬ IsTold (Granted 3) old new
-  told_not-closed room was closed (inl told, others) = grind (arith, was, closed, told.1)
-  told_not-closed room was closed (inr full, others) = grind (arith, room, full.0 (omega arith))
+  reported_not-closed : room_of old 3 ≡ 256 → is_connected old 3 ≡ true → is_connected new 3 ≡ false → ¬ IsTold (Granted 3) old new
+  reported_not-closed room was closed (inl reported, others) = grind (arith, was, closed, reported.1)
+  reported_not-closed room was closed (inr full, others) = grind (arith, room, full.0 (omega arith))
 
   -- and no other client hears anything
-  told_not-other : answers_of old 4 ≡ [] → answers_of new 4 ≡ codes "lost\n" → ¬ IsTold (Lost 3) old new
-  told_not-other before after (_, others) = grind (arith, before, after, (others 4 (λ e. omega (arith, e))).0)
+  reported_not-other : answers_of old 4 ≡ [] → answers_of new 4 ≡ codes "lost\n" → ¬ IsTold (Lost 3) old new
+  reported_not-other before after (_, others) = grind (arith, before, after, (others 4 (λ e. omega (arith, e))).0)
 
 gives : GivesWithin (read.Got 64) 64
 gives = omega arith

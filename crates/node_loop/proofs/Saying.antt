@@ -128,10 +128,10 @@ module _ {P A : Type 0} (took : P → Option (List ℕ)) where
       (others-nothing k old new others (λ t o. answers-same old new answers t))
 
   -- a client that heard of it, or was closed for lack of room
-  pub told-said : (text : List ℕ) (k : ℕ) (old new : Clients P A) → Tells text k old new → SaidTo took text k old new
-  told-said text k old new (inl told, others) =
-      (said-text took text (get old.table k) (get new.table k) (answers_of old k) (answers_of new k) told.1 told.0, others-nothing k old new (λ t o. (others t o).1) (λ t o. (others t o).0))
-  told-said text k old new (inr closed, others) =
+  pub reported-said : (text : List ℕ) (k : ℕ) (old new : Clients P A) → Tells text k old new → SaidTo took text k old new
+  reported-said text k old new (inl reported, others) =
+      (said-text took text (get old.table k) (get new.table k) (answers_of old k) (answers_of new k) reported.1 reported.0, others-nothing k old new (λ t o. (others t o).1) (λ t o. (others t o).0))
+  reported-said text k old new (inr closed, others) =
       (said-gone took text (get old.table k) (get new.table k) (answers_of old k) (answers_of new k) (nobody (get new.table k) closed.1), others-nothing k old new (λ t o. (others t o).1) (λ t o. (others t o).0))
 
   pub answered-nothing : (site : Site) (old new : Clients P A) → NothingSaid took old new → AreAnswered took site old new

@@ -91,19 +91,19 @@ module _ {P : Type 0} (gave took : P → Option (List ℕ)) (counts : P → Coun
   }
 
   -- the same is said if the port and what is kept of it stand as before the call, and as after it
-  told-moves : (old mid new : Moment P) (sent : List Frame) (w : ℕ) → StaysAt mid new w → TellsAt gave took counts offers now old mid sent w → TellsAt gave took counts offers now old new sent w
-  told-moves old mid new sent w stays told = rw (stays.0, stays.1) told
+  reported-moves : (old mid new : Moment P) (sent : List Frame) (w : ℕ) → StaysAt mid new w → TellsAt gave took counts offers now old mid sent w → TellsAt gave took counts offers now old new sent w
+  reported-moves old mid new sent w stays reported = rw (stays.0, stays.1) reported
 
-  told-from : (old mid new : Moment P) (sent : List Frame) (w : ℕ) → mid.node ≡ old.node → StaysAt old mid w → TellsAt gave took counts offers now mid new sent w
+  reported-from : (old mid new : Moment P) (sent : List Frame) (w : ℕ) → mid.node ≡ old.node → StaysAt old mid w → TellsAt gave took counts offers now mid new sent w
       → TellsAt gave took counts offers now old new sent w
-  told-from old mid new sent w node stays told = rw (node, stays.0, stays.1) at told
+  reported-from old mid new sent w node stays reported = rw (node, stays.0, stays.1) at reported
 
   pub spoken-next : (old mid new : Moment P) (i : ℕ) (is_taken : Bool) → SpokenTo gave took counts offers now old mid i → new.node ≡ mid.node → new.let_go ≡ mid.let_go
       → (Contains (site_in mid.node).neighbours i → TellsAt gave took counts offers now mid new (sent_if is_taken (frame_of ((state_of mid.node).port i))) i)
       → ((¬ Contains (site_in mid.node).neighbours i) → StaysAt mid new i) → (is_taken ≡ true → Contains (site_in mid.node).neighbours i)
       → ((w : ℕ) → w ≢ i → StaysAt mid new w) → (new.pace.node ≡ mid.pace.node) × (new.pace.manner ≡ mid.pace.manner)
       → SpokenTo gave took counts offers now old new (i + 1)
-  spoken-next old mid new i is_taken so node let_go tells silent taken others pace =
+  spoken-next old mid new i is_taken so node let_go reports silent taken others pace =
       let frame = frame_of ((state_of old.node).port i) in
       let last = sends_if is_taken i frame in
       let sent : (w : ℕ) → sent_to w (so.sends ++ last) ≡ sent_to w so.sends ++ sent_to w last = λ w. sent-join w so.sends last in
@@ -118,11 +118,11 @@ module _ {P : Type 0} (gave took : P → Option (List ℕ)) (counts : P → Coun
         below = λ w below has.
             elim (below-or-last w i below) [
               | inl less ↦ (let other : w ≢ i = λ same. elim (apart w i less same) [ ] in
-                  rw (sent w, sent-other is_taken i w frame other, append-nil (sent_to w so.sends)) (told-moves old mid new (sent_to w so.sends) w (others w other) (so.below w less has)))
+                  rw (sent w, sent-other is_taken i w frame other, append-nil (sent_to w so.sends)) (reported-moves old mid new (sent_to w so.sends) w (others w other) (so.below w less has)))
               | inr same ↦ (let there : TellsAt gave took counts offers now mid new (sent_if is_taken (frame_of ((state_of mid.node).port i))) i =
-                  tells (subst (λ x. Contains (site_in x).neighbours i) (sym so.node) (subst (λ x. Contains (site_in old.node).neighbours x) same has)) in
+                  reports (subst (λ x. Contains (site_in x).neighbours i) (sym so.node) (subst (λ x. Contains (site_in old.node).neighbours x) same has)) in
                   let all : sent_to i (so.sends ++ last) ≡ sent_if is_taken frame = sent i ∙ (ap (λ zs. zs ++ sent_to i last) (so.unsent i (omega arith)) ∙ sent-same is_taken i frame) in
-                  rw (same, all) (told-from old mid new (sent_if is_taken frame) i so.node (so.above i (omega arith))
+                  rw (same, all) (reported-from old mid new (sent_if is_taken frame) i so.node (so.above i (omega arith))
                   (subst (λ x. TellsAt gave took counts offers now mid new (sent_if is_taken (frame_of ((state_of x).port i))) i) so.node there)))
             ];
         others = λ w below not.

@@ -11,6 +11,11 @@ pub record Moment (P : Type 0) : Type 0 where
   pub pace : Pace
   pub let_go : Bool
 
+-- the moment of a node that runs
+abbrev pub moment_of : {P : Type 0} → NodeView → List (NodePort P) → Pace → Bool → Moment P
+moment_of node ports pace let_go =
+    record { node = node; ports = ports; pace = pace; let_go = let_go }
+
 -- both places of two lists have a port, and these are so related; or neither has one
 abbrev pub AtBoth : {P : Type 0} → (NodePort P → NodePort P → Type 0) → Option (NodePort P)
     → Option (NodePort P) → Type 0

@@ -61,5 +61,5 @@ module _ {P A : Type 0} (took : P → Option (List ℕ)) where
     pub heard : Clients P A
     pub acted : Clients P A
     pub answers : HasAnswered site old heard
-    pub told : IsTold act heard acted
+    pub reported : IsTold act heard acted
     pub goes_out : NothingSaid acted new

@@ -84,7 +84,7 @@ pub record SpeaksTo {P : Type 0} (gave took : P → Option (List ℕ)) (counts :
   pub is_taken : Bool
   pub port : PortSpeaks gave took counts (spelling frame ++ newline ∷ []) is_offered old new
       is_taken
-  pub told : is ≡ (if is_taken then given_port frame now was else was)
+  pub reported : is ≡ (if is_taken then given_port frame now was else was)
   pub sends : sent ≡ sent_if is_taken frame
 
 -- The node spoke to each neighbour, and offered its frame on those ports that the plan names; no

@@ -1,43 +1,32 @@
 //! A node that runs: what one turn of its process does.
-ghost use Rattle.std.specs.Prelude.{◌≡◌, ◌↔◌, ◌<◌, ◌≤◌, ◌+◌, ◌%◌, true, false, is_some, length};
-ghost use Rattle.std.specs.Prelude.{IfOk, IfErr, IfSome, IsSome, IsTrue, Some, Contains, slice_get};
-ghost use Rattle.std.specs.Prelude.{◌≢◌, ℕ, []};
-ghost use Rattle.data_link.specs.Port.{frame_of};
-ghost use Rattle.pace.specs.Nodes.{may_tick};
-ghost use Rattle.pace.specs.Plans.{port_of};
-ghost use Rattle.topology.specs.Change.{is_same_frame};
-ghost use Rattle.topology.specs.Network.{neighbours_of};
-ghost use Rattle.node_core.specs.Rewire.{rewired};
+ghost use Rattle.std.specs.Prelude.{◌≡◌, ◌↔◌, ◌<◌, ◌≤◌, ◌+◌, ◌%◌, false, length};
+ghost use Rattle.std.specs.Prelude.{IfOk, IfErr, IfSome, IsSome};
+ghost use Rattle.std.specs.Prelude.{ℕ, []};
 ghost use Rattle.node_core.specs.Site.{site_of};
 ghost use Rattle.node_core.specs.View.{site_in, state_of};
 ghost use Rattle.node_state_file.specs.Files.{file_of};
 ghost use Rattle.node_state_file.specs.Stores.{Saves};
 ghost use Rattle.node_loop.specs.Clients.{is_connected};
-ghost use Rattle.node_loop.specs.LinkSights.{link_at};
-ghost use Rattle.node_loop.specs.Loose.{AreKept, AreLoose};
-ghost use Rattle.node_loop.specs.Moments.{AtBoth};
-ghost use Rattle.node_loop.specs.Speaking.{SpeaksTo, sent_if};
+ghost use Rattle.node_loop.specs.Loose.{AreLoose};
+
+mod connecting;
+mod keeping;
+mod listening;
+mod pacing;
+mod pulling;
+mod speaking;
 
 use crate::clients::Clients;
-use crate::doors::{Door, Doors};
-use crate::lobby::{self, Lobby};
+use crate::doors::Doors;
+use crate::lobby::Lobby;
 use crate::port::NodePort;
-use crate::service;
-use crate::sight::{self, NODES};
 use crate::turned::Turned;
-use node_core::{Item, Node, Ticked};
-use node_state_file::{Store, StoreFault, encode};
-use pace::{Manner, Pace, Plan};
-use socket_links::{Pipe, Pull};
+use node_core::{Node, Ticked};
+use node_state_file::Store;
+use pace::{Manner, Pace};
+use socket_links::Pipe;
 use std::alloc::{AllocError, Allocator, Global};
-use topology::{Frame, Net};
-use turn_watch::LinkSight;
-
-/// At most so many connections are accepted at each door in a turn.
-const COMERS: usize = 64;
-
-/// At most so many frames are taken at each port in a turn.
-const FRAMES: usize = 64;
+use topology::Net;
 
 /// What was passed in for a node that could not be made, for lack of memory.
 #[derive(Drop)]
@@ -76,15 +65,11 @@ pub struct NodeRun<D: Doors, S: Store + Drop, A: Allocator + Copy = Global> {
 }
 
 impl<D: Doors, S: Store + Drop, A: Allocator + Copy> NodeRun<D, S, A> {
-    ghost use Rattle.node_loop.specs.Clients.{AreConnected, IsTold};
-    ghost use Rattle.node_loop.specs.Loose.{is_linked};
-    ghost use Rattle.node_loop.specs.Deeds.{Acts, Became, IsLeave};
-    ghost use Rattle.node_loop.specs.Hearing.{AreWired, Comes, Hears, Listens, Pulls, TakesAt, Wires};
-    ghost use Rattle.node_loop.specs.Lives.{Admits, LiveOn, StillLive};
-    ghost use Rattle.node_loop.specs.Remembering.{Remembers};
-    ghost use Rattle.node_loop.specs.Said.{NothingSaid, HasAnswered, TurnSays};
-    ghost use Rattle.node_loop.specs.Speaking.{IsPlanOf, outlook_of, Speaks};
+    ghost use Rattle.node_loop.specs.Clients.{AreConnected};
+    ghost use Rattle.node_loop.specs.Lives.{StillLive};
+    ghost use Rattle.node_loop.specs.Said.{HasAnswered, TurnSays};
     ghost use Rattle.node_loop.specs.Turns.{Attends, Turns};
+    ghost use Rattle.node_loop.specs.Moments.{moment_of};
 
     /// A node of this network that runs over these doors. All memory that turns ever need is
     /// reserved here. Only if that is refused do all four come back.
@@ -130,52 +115,13 @@ impl<D: Doors, S: Store + Drop, A: Allocator + Copy> NodeRun<D, S, A> {
         }
     }
 
-    /// Waits at the doors until something may have come: as long as the pace allows, at most 2
-    /// milliseconds. `now` is microseconds of a clock that never goes back.
-    pub fn wait(&mut self, now: u64)
-        // The doors may change, and nothing else.
-        ensures node { (self.new.node ≡ self.old.node) × (self.new.net ≡ self.old.net)
-            × (self.new.pace ≡ self.old.pace) }
-        ensures rest { (self.new.ports ≡ self.old.ports) × (self.new.lobby ≡ self.old.lobby)
-            × (self.new.clients ≡ self.old.clients) × (self.new.store ≡ self.old.store) }
-        ensures marks { (self.new.turns ≡ self.old.turns) × (self.new.let_go ≡ self.old.let_go)
-            × (self.new.has_ticked ≡ self.old.has_ticked)
-            × (self.new.has_more ≡ self.old.has_more) }
-    {
-        let rest = self.rest(now);
-        self.doors.wait(rest);
-    }
-
-    /// How long it rests if nothing comes, in microseconds: not at all if the next turn must not wait.
-    fn rest(&self, now: u64) -> u64
-        ensures longest { result ≤ 2000 }
-        ensures at_once { self.now.has_more ≡ true → result ≡ 0 }
-    {
-        if self.has_more {
-            return 0;
-        }
-        let sights = sight::sights(&self.node, &self.net, &self.ports);
-        let outlook = sight::outlook(&self.node, self.let_go);
-        self.pace.rest(&sights, &outlook, now)
-    }
-
     /// One turn: the node takes all that came, ticks once, and speaks by the plan that the pace
     /// makes then. `now` is microseconds of a clock that never goes back.
     pub fn turn(&mut self, now: u64) -> Turned
         // All that it did is one list of deeds, which are the node's own steps.
         ensures turns { Turns D.P.gave D.P.took D.P.counts result.ticked now
-            (record {
-              node = self.old.node;
-              ports = self.old.ports.items;
-              pace = self.old.pace;
-              let_go = self.old.let_go;
-            })
-            (record {
-              node = self.new.node;
-              ports = self.new.ports.items;
-              pace = self.new.pace;
-              let_go = self.new.let_go;
-            }) }
+            (moment_of self.old.node self.old.ports.items self.old.pace self.old.let_go)
+            (moment_of self.new.node self.new.ports.items self.new.pace self.new.let_go) }
         // Each ticket that waits or borrows is a connected client's.
         ensures connected { AreConnected self.new.clients self.new.node }
         // A client that was connected and still is lives on: no read and no write said that its pipe
@@ -205,18 +151,8 @@ impl<D: Doors, S: Store + Drop, A: Allocator + Copy> NodeRun<D, S, A> {
     /// A turn but for its save.
     fn act(&mut self, now: u64) -> Ticked
         ensures turns { Turns D.P.gave D.P.took D.P.counts result now
-            (record {
-              node = self.old.node;
-              ports = self.old.ports.items;
-              pace = self.old.pace;
-              let_go = self.old.let_go;
-            })
-            (record {
-              node = self.new.node;
-              ports = self.new.ports.items;
-              pace = self.new.pace;
-              let_go = self.new.let_go;
-            }) }
+            (moment_of self.old.node self.old.ports.items self.old.pace self.old.let_go)
+            (moment_of self.new.node self.new.ports.items self.new.pace self.new.let_go) }
         ensures connected { AreConnected self.new.clients self.new.node }
         ensures lives { StillLive D.P.gave D.P.took D.P.counts self.old.clients self.new.clients }
         ensures says { TurnSays D.P.took (site_in self.old.node) result.act self.old.clients
@@ -238,18 +174,8 @@ impl<D: Doors, S: Store + Drop, A: Allocator + Copy> NodeRun<D, S, A> {
         // All that it did is one list of deeds, which are the node's own steps; no tick is among
         // them.
         ensures attends { Attends D.P.gave D.P.took D.P.counts now
-            (record {
-              node = self.old.node;
-              ports = self.old.ports.items;
-              pace = self.old.pace;
-              let_go = self.old.let_go;
-            })
-            (record {
-              node = self.new.node;
-              ports = self.new.ports.items;
-              pace = self.new.pace;
-              let_go = self.new.let_go;
-            }) }
+            (moment_of self.old.node self.old.ports.items self.old.pace self.old.let_go)
+            (moment_of self.new.node self.new.ports.items self.new.pace self.new.let_go) }
         // Each ticket that waits or borrows is a connected client's.
         ensures connected { AreConnected self.new.clients self.new.node }
         // A client that was connected and still is lives on: no read and no write said that its pipe
@@ -266,437 +192,6 @@ impl<D: Doors, S: Store + Drop, A: Allocator + Copy> NodeRun<D, S, A> {
         let plan = self.plan(now);
         self.speak(&plan.offers, now);
         self.has_more |= plan.ticks;
-    }
-
-    /// Whether a turn is due: once in 2 milliseconds while a loan with a lease runs, and else always.
-    /// `now` is as for [`NodeRun::turn`].
-    pub fn is_turn_due(&self, now: u64) -> bool
-        ensures { result ≡ may_tick (outlook_of self.now.node self.now.let_go) now
-            self.now.pace.node }
-    {
-        let outlook = sight::outlook(&self.node, self.let_go);
-        self.pace.plan(&[], &outlook, now).ticks
-    }
-
-    /// What the pace would do now, in microseconds as for [`NodeRun::turn`].
-    pub fn plan(&self, now: u64) -> Plan
-        ensures { IsPlanOf now
-            (record {
-              node = self.now.node;
-              ports = self.now.ports.items;
-              pace = self.now.pace;
-              let_go = self.now.let_go;
-            })
-            result }
-    {
-        let sights = sight::sights(&self.node, &self.net, &self.ports);
-        let outlook = sight::outlook(&self.node, self.let_go);
-        self.pace.plan(&sights, &outlook, now)
-    }
-
-    /// Its pace remembers this from now on, as after damage. Nothing else changes.
-    pub fn set_pace(&mut self, pace: Pace)
-        ensures pace { self.new.pace ≡ pace }
-        ensures rest { (self.new.node ≡ self.old.node) × (self.new.net ≡ self.old.net)
-            × (self.new.ports ≡ self.old.ports) × (self.new.clients ≡ self.old.clients)
-            × (self.new.turns ≡ self.old.turns) × (self.new.store ≡ self.old.store) }
-        ensures marks { (self.new.doors ≡ self.old.doors) × (self.new.lobby ≡ self.old.lobby)
-            × (self.new.let_go ≡ self.old.let_go) × (self.new.has_ticked ≡ self.old.has_ticked)
-            × (self.new.has_more ≡ self.old.has_more) }
-    {
-        self.pace = pace;
-    }
-
-    /// First part of a turn: the node takes all that came, and clients that are gone leave.
-    fn listen(&mut self, now: u64)
-        ensures listens { Listens D.P.gave D.P.took D.P.counts
-            (record {
-              node = self.old.node;
-              ports = self.old.ports.items;
-              pace = self.old.pace;
-              let_go = self.old.let_go;
-            })
-            (record {
-              node = self.new.node;
-              ports = self.new.ports.items;
-              pace = self.new.pace;
-              let_go = self.new.let_go;
-            }) }
-        ensures connected { AreConnected self.new.clients self.new.node }
-        ensures lives { StillLive D.P.gave D.P.took D.P.counts self.old.clients self.new.clients }
-        ensures answers { HasAnswered D.P.took (site_in self.old.node) self.old.clients
-            self.new.clients }
-        ensures pace { Remembers self.old.pace self.new.pace }
-        ensures rest { (self.new.net ≡ self.old.net) × (self.new.turns ≡ self.old.turns)
-            × (self.new.store ≡ self.old.store) }
-    {
-        self.has_more = false;
-        self.accept_links();
-        self.accept_clients();
-        self.hear_hellos();
-        self.connect();
-        self.pull_all(now);
-        let was_lent = self.node.lent().is_some();
-        self.has_more |= service::serve_all(&mut self.node, &mut self.clients);
-        service::leave_absent(&mut self.node, &self.clients);
-        let lets_go = was_lent && self.node.lent().is_none();
-        self.let_go = lets_go || (self.let_go && !self.has_ticked);
-        self.has_ticked = false;
-    }
-
-    /// Lets neighbours in until none comes.
-    fn accept_links(&mut self)
-        ensures node { self.new.node ≡ self.old.node }
-        // No port changes, whatever the door answers.
-        ensures ports { self.new.ports ≡ self.old.ports }
-        ensures pace { self.new.pace ≡ self.old.pace }
-        ensures rest { (self.new.net ≡ self.old.net) × (self.new.turns ≡ self.old.turns)
-            × (self.new.store ≡ self.old.store) × (self.new.clients ≡ self.old.clients) }
-    {
-        for _ in 0..COMERS {
-            match self.doors.link() {
-                Door::Came(pipe) => self.lobby.admit(pipe),
-                Door::Nobody | Door::Failed => return,
-            }
-        }
-    }
-
-    /// Lets clients in until none comes.
-    fn accept_clients(&mut self)
-        ensures node { self.new.node ≡ self.old.node }
-        // No port changes, whatever the door answers.
-        ensures ports { self.new.ports ≡ self.old.ports }
-        // A client that was connected is as before.
-        ensures admits { Admits self.old.clients self.new.clients }
-        ensures pace { self.new.pace ≡ self.old.pace }
-        ensures rest { (self.new.net ≡ self.old.net) × (self.new.turns ≡ self.old.turns)
-            × (self.new.store ≡ self.old.store) }
-    {
-        for _ in 0..COMERS {
-            match self.doors.client() {
-                Door::Came(pipe) => self.clients.admit(pipe),
-                Door::Nobody | Door::Failed => return,
-            }
-        }
-    }
-
-    /// Listens to all who have not said who they are.
-    fn hear_hellos(&mut self)
-        ensures node { self.new.node ≡ self.old.node }
-        ensures wires { AreWired self.old.ports.items self.new.ports.items }
-        ensures pace { Remembers self.old.pace self.new.pace }
-        ensures rest { (self.new.net ≡ self.old.net) × (self.new.turns ≡ self.old.turns)
-            × (self.new.store ≡ self.old.store) × (self.new.clients ≡ self.old.clients) }
-    {
-        for place in 0..lobby::PLACES {
-            if let Some((id, pipe)) = self.lobby.listen(place, &self.net) {
-                self.welcome(id, pipe);
-            }
-        }
-    }
-
-    /// A connection has said whose it is. If that is a higher neighbour, it is the port's from now on;
-    /// else it is closed.
-    fn welcome(&mut self, id: u16, pipe: D::P)
-        ensures node { self.new.node ≡ self.old.node }
-        ensures welcome { (site_in self.old.node).id < id
-            → Contains (site_in self.old.node).neighbours id
-            → IfSome (slice_get self.new.ports.items id) (λ port. port.link.pipe ≡ Some pipe) }
-        ensures unwelcome { ¬ ((site_in self.old.node).id < id
-            × Contains (site_in self.old.node).neighbours id) → self.new.ports ≡ self.old.ports }
-        ensures wires { AtBoth Wires (slice_get self.old.ports.items id)
-            (slice_get self.new.ports.items id) }
-        ensures others { (w : ℕ) → w ≢ id
-            → slice_get self.new.ports.items w ≡ slice_get self.old.ports.items w }
-        ensures pace { Remembers self.old.pace self.new.pace }
-        ensures rest { (self.new.net ≡ self.old.net) × (self.new.turns ≡ self.old.turns)
-            × (self.new.store ≡ self.old.store) × (self.new.clients ≡ self.old.clients) }
-    {
-        if id > self.node.id() && self.node.is_neighbour(id) {
-            self.ports[id as usize].attach(pipe);
-            self.pace.attached(id as usize);
-        }
-    }
-
-    /// Connects loose ports to lower neighbours, and goes on with hellos that are not out.
-    fn connect(&mut self)
-        ensures node { self.new.node ≡ self.old.node }
-        ensures wires { AreWired self.old.ports.items self.new.ports.items }
-        ensures pace { Remembers self.old.pace self.new.pace }
-        ensures rest { (self.new.net ≡ self.old.net) × (self.new.turns ≡ self.old.turns)
-            × (self.new.store ≡ self.old.store) × (self.new.clients ≡ self.old.clients) }
-    {
-        for id in 0..self.node.id() {
-            self.connect_to(id);
-        }
-    }
-
-    /// Connects the port to a lower neighbour, if it is loose, and goes on with its hello.
-    fn connect_to(&mut self, id: u16)
-        ensures node { self.new.node ≡ self.old.node }
-        ensures wires { AtBoth Wires (slice_get self.old.ports.items id)
-            (slice_get self.new.ports.items id) }
-        ensures others { (w : ℕ) → w ≢ id
-            → slice_get self.new.ports.items w ≡ slice_get self.old.ports.items w }
-        ensures pace { Remembers self.old.pace self.new.pace }
-        ensures rest { (self.new.net ≡ self.old.net) × (self.new.turns ≡ self.old.turns)
-            × (self.new.store ≡ self.old.store) × (self.new.clients ≡ self.old.clients) }
-    {
-        if !self.node.is_neighbour(id) {
-            return;
-        }
-        self.call_on(id);
-        self.go_on_greeting(id);
-    }
-
-    /// Makes a connection to a lower neighbour, if its port is loose. Unless one came, no port
-    /// changes.
-    fn call_on(&mut self, id: u16)
-        requires node { id < self.old.net.nodes }
-        requires neighbour { Contains (site_in self.old.node).neighbours id }
-        ensures node { self.new.node ≡ self.old.node }
-        // Whatever the door answers, no link changes, and no port that is not loose.
-        ensures links { AtBoth (λ old new. (new.link ≡ old.link) × (new.is_stuck ≡ old.is_stuck))
-            (slice_get self.old.ports.items id) (slice_get self.new.ports.items id) }
-        ensures linked { is_linked (slice_get self.old.ports.items id) ≡ true
-            → self.new.ports ≡ self.old.ports }
-        ensures wires { AtBoth Wires (slice_get self.old.ports.items id)
-            (slice_get self.new.ports.items id) }
-        ensures others { (w : ℕ) → w ≢ id
-            → slice_get self.new.ports.items w ≡ slice_get self.old.ports.items w }
-        ensures pace { self.new.pace ≡ self.old.pace }
-        ensures rest { (self.new.net ≡ self.old.net) × (self.new.turns ≡ self.old.turns)
-            × (self.new.store ≡ self.old.store) × (self.new.clients ≡ self.old.clients) }
-    {
-        if !self.ports[id as usize].is_loose() {
-            return;
-        }
-        if let Door::Came(pipe) = self.doors.connect(id) {
-            self.ports[id as usize].greet(pipe);
-        }
-    }
-
-    /// Goes on with the hello to a lower neighbour, if there is one.
-    fn go_on_greeting(&mut self, id: u16)
-        requires node { id < self.old.net.nodes }
-        requires neighbour { Contains (site_in self.old.node).neighbours id }
-        ensures node { self.new.node ≡ self.old.node }
-        ensures wires { AtBoth Wires (slice_get self.old.ports.items id)
-            (slice_get self.new.ports.items id) }
-        ensures others { (w : ℕ) → w ≢ id
-            → slice_get self.new.ports.items w ≡ slice_get self.old.ports.items w }
-        ensures pace { Remembers self.old.pace self.new.pace }
-        ensures rest { (self.new.net ≡ self.old.net) × (self.new.turns ≡ self.old.turns)
-            × (self.new.store ≡ self.old.store) × (self.new.clients ≡ self.old.clients) }
-    {
-        let own = self.node.id();
-        if self.ports[id as usize].go_on_greeting(own) {
-            self.pace.attached(id as usize);
-        }
-    }
-
-    /// Takes the frames that neighbours sent.
-    fn pull_all(&mut self, now: u64)
-        ensures hears { Hears D.P.gave D.P.took D.P.counts self.old.node self.new.node
-            self.old.ports.items self.new.ports.items }
-        ensures pace { Remembers self.old.pace self.new.pace }
-        ensures rest { (self.new.net ≡ self.old.net) × (self.new.turns ≡ self.old.turns)
-            × (self.new.store ≡ self.old.store) × (self.new.clients ≡ self.old.clients) }
-    {
-        for id in 0..self.net.nodes() {
-            self.pull(id, now);
-        }
-    }
-
-    /// Takes the frames that one neighbour sent.
-    fn pull(&mut self, id: u16, now: u64)
-        ensures takes { TakesAt (Pulls (site_in self.old.node).ranges D.P.gave D.P.took D.P.counts)
-            id self.old.node self.new.node self.old.ports.items self.new.ports.items }
-        ensures pace { Remembers self.old.pace self.new.pace }
-        ensures rest { (self.new.net ≡ self.old.net) × (self.new.turns ≡ self.old.turns)
-            × (self.new.store ≡ self.old.store) × (self.new.clients ≡ self.old.clients) }
-    {
-        for _ in 0..FRAMES {
-            if !self.pull_one(id, now) {
-                return;
-            }
-        }
-        self.has_more = true;
-    }
-
-    /// Takes the next frame that a neighbour sent. Returns false if there is none.
-    fn pull_one(&mut self, id: u16, now: u64) -> bool
-        ensures came { IsTrue result
-            → TakesAt (Comes (site_in self.old.node).ranges D.P.gave D.P.took)
-            id self.old.node self.new.node self.old.ports.items self.new.ports.items }
-        ensures ended { result ≡ false
-            → TakesAt (Pulls (site_in self.old.node).ranges D.P.gave D.P.took D.P.counts)
-            id self.old.node self.new.node self.old.ports.items self.new.ports.items }
-        ensures pace { Remembers self.old.pace self.new.pace }
-        ensures rest { (self.new.net ≡ self.old.net) × (self.new.turns ≡ self.old.turns)
-            × (self.new.store ≡ self.old.store) × (self.new.clients ≡ self.old.clients) }
-    {
-        if !self.node.is_neighbour(id) {
-            return false;
-        }
-        let frame = match self.ports[id as usize].pull(&self.net) {
-            Pull::Frame(frame) => frame,
-            Pull::Later => return false,
-            Pull::Broken => return false,
-        };
-        self.node.take(id, &Item::Frame(frame));
-        let trees = sight::trees(&self.node, &self.net);
-        let _hearing = self.pace.heard(id as usize, &frame, &trees, now);
-        true
-    }
-
-    /// Second part of a turn: one tick.
-    fn tick(&mut self, now: u64) -> Ticked
-        ensures node { Acts result self.old.node self.new.node }
-        // The client whose loan it began or ended hears of it.
-        ensures told { IsTold result.act self.old.clients self.new.clients }
-        ensures ports { (self.new.ports ≡ self.old.ports) × (self.new.let_go ≡ self.old.let_go) }
-        ensures connected { AreConnected self.old.clients self.old.node
-            → AreConnected self.new.clients self.new.node }
-        ensures lives { LiveOn D.P.gave D.P.took D.P.counts self.old.clients self.new.clients }
-        ensures pace { Remembers self.old.pace self.new.pace }
-        ensures rest { (self.new.net ≡ self.old.net) × (self.new.turns ≡ self.old.turns)
-            × (self.new.store ≡ self.old.store) }
-    {
-        let before = sight::values(&self.node);
-        let ticked = service::tick(&mut self.node, &mut self.clients);
-        let moved = sight::values(&self.node) != before;
-        let outlook = sight::outlook(&self.node, self.let_go);
-        let trees = sight::trees(&self.node, &self.net);
-        self.pace.ticked(&outlook, moved, &trees, now);
-        self.has_ticked = true;
-        ticked
-    }
-
-    /// Third part of a turn: frames on the ports of the plan, and answers to clients.
-    fn speak(&mut self, offers: &[bool; NODES], now: u64)
-        ensures spoken { Speaks D.P.gave D.P.took D.P.counts offers.now now
-            (record {
-              node = self.old.node;
-              ports = self.old.ports.items;
-              pace = self.old.pace;
-              let_go = self.old.let_go;
-            })
-            (record {
-              node = self.new.node;
-              ports = self.new.ports.items;
-              pace = self.new.pace;
-              let_go = self.new.let_go;
-            }) }
-        ensures node { Became IsLeave self.old.node self.new.node }
-        ensures connected { AreConnected self.old.clients self.old.node
-            → AreConnected self.new.clients self.new.node }
-        ensures lives { LiveOn D.P.gave D.P.took D.P.counts self.old.clients self.new.clients }
-        ensures nothing { NothingSaid D.P.took self.old.clients self.new.clients }
-        ensures rest { (self.new.net ≡ self.old.net) × (self.new.turns ≡ self.old.turns)
-            × (self.new.store ≡ self.old.store) }
-    {
-        for id in 0..self.net.nodes() {
-            let _accepted = self.speak_to(id, offers[id as usize], now);
-        }
-        service::write_all(&mut self.node, &mut self.clients);
-    }
-
-    /// Writes what is left of the last line to a neighbour, and then a frame, if one is offered.
-    /// Returns whether it was accepted.
-    fn speak_to(&mut self, id: u16, offered: bool, now: u64) -> bool
-        ensures spoken { Contains (site_in self.old.node).neighbours id
-            → AtBoth (SpeaksTo D.P.gave D.P.took D.P.counts
-            (frame_of ((state_of self.old.node).port id)) offered now
-            (port_of self.old.pace.ports id) (port_of self.new.pace.ports id)
-            (sent_if result (frame_of ((state_of self.old.node).port id))))
-            (slice_get self.old.ports.items id) (slice_get self.new.ports.items id) }
-        ensures silent { ¬ Contains (site_in self.old.node).neighbours id
-            → (slice_get self.new.ports.items id ≡ slice_get self.old.ports.items id)
-            × (port_of self.new.pace.ports id ≡ port_of self.old.pace.ports id) }
-        ensures known { IsTrue result → Contains (site_in self.old.node).neighbours id }
-        ensures others { (w : ℕ) → w ≢ id
-            → (slice_get self.new.ports.items w ≡ slice_get self.old.ports.items w)
-            × (port_of self.new.pace.ports w ≡ port_of self.old.pace.ports w) }
-        ensures pace { (self.new.pace.node ≡ self.old.pace.node)
-            × (self.new.pace.manner ≡ self.old.pace.manner) }
-        ensures node { self.new.node ≡ self.old.node }
-        ensures let_go { self.new.let_go ≡ self.old.let_go }
-        ensures clients { self.new.clients ≡ self.old.clients }
-        ensures rest { (self.new.net ≡ self.old.net) × (self.new.turns ≡ self.old.turns)
-            × (self.new.store ≡ self.old.store) }
-    {
-        if !self.node.is_neighbour(id) {
-            return false;
-        }
-        let frame = self.node.frame_for(id);
-        speak_at(&mut self.ports, &mut self.pace, id, &frame, offered, now)
-    }
-
-    /// Last part of a turn: each 256th time, the state is saved.
-    fn save(&mut self) -> Option<Result<(), StoreFault>>
-        ensures when { IsSome result ↔ (self.old.turns ≡ 255) }
-        ensures turns { self.new.turns ≡ (self.old.turns + 1) % 256 }
-        ensures stores { IfSome result (λ saved.
-            Saves saved (file_of self.old.net (site_in self.old.node).id (state_of self.old.node))
-            (S.stored self.old.store) (S.stored self.new.store)
-            (S.failures self.old.store) (S.failures self.new.store)) }
-        ensures same { (self.new.node ≡ self.old.node) × (self.new.clients ≡ self.old.clients)
-            × (self.new.net ≡ self.old.net) }
-        ensures ports { (self.new.ports ≡ self.old.ports) × (self.new.pace ≡ self.old.pace)
-            × (self.new.let_go ≡ self.old.let_go) }
-    {
-        self.turns = self.turns.wrapping_add(1);
-        if self.turns != 0 {
-            return None;
-        }
-        let mut bytes = [0; 1276];
-        let count = encode(&self.node, &self.net, &mut bytes);
-        Some(self.store.save(&bytes[..count]))
-    }
-
-    /// Takes up a network with other edges, if its nodes, root, capacity and lease are the same;
-    /// else returns false and changes nothing. The connections of edges that are gone are closed;
-    /// new edges have none yet.
-    pub fn rewire(&mut self, net: &Net) -> bool
-        ensures answer { result ≡ is_same_frame self.old.net net.now }
-        ensures net { IsTrue result → self.new.net ≡ net.now }
-        ensures site { IsTrue result
-            → site_in self.new.node ≡ site_of net.now (site_in self.old.node).id }
-        ensures node { IsTrue result → state_of self.new.node
-            ≡ rewired (site_in self.old.node).ranges (site_in self.old.node).neighbours
-            (neighbours_of net.now (site_in self.old.node).id) (state_of self.old.node) }
-        // The ports of those who are neighbours then stay, and all others have no connection.
-        ensures kept { IsTrue result
-            → AreKept (neighbours_of net.now (site_in self.old.node).id)
-            self.old.ports.items self.new.ports.items }
-        ensures closed { IsTrue result
-            → AreLoose (neighbours_of net.now (site_in self.old.node).id) self.new.ports.items }
-        ensures rest { (self.new.clients ≡ self.old.clients) × (self.new.turns ≡ self.old.turns)
-            × (self.new.pace ≡ self.old.pace) × (self.new.let_go ≡ self.old.let_go)
-            × (self.new.store ≡ self.old.store) }
-        ensures marks { (self.new.doors ≡ self.old.doors) × (self.new.lobby ≡ self.old.lobby)
-            × (self.new.has_ticked ≡ self.old.has_ticked)
-            × (self.new.has_more ≡ self.old.has_more) }
-        ensures refused { result ≡ false → self.new ≡ self.old }
-    {
-        if !self.net.same_frame(net) {
-            return false;
-        }
-        self.net.copy_from(net);
-        self.node.rewire(net);
-        close_strangers(&mut self.ports, &self.node);
-        true
-    }
-
-    /// What is seen of the link to a node; none if there is no such node in the network. A node that is
-    /// no neighbour has a link that is down.
-    pub fn link(&self, id: u16) -> Option<LinkSight>
-        ensures sight { result ≡ link_at (slice_get self.now.ports.items id) }
-        ensures strangers { ¬ Contains (site_in self.now.node).neighbours id
-            → IfSome result (λ sight. sight.is_up ≡ false) }
-    {
-        link_seen(&self.ports, id)
     }
 
     /// The network.
@@ -725,55 +220,6 @@ impl<D: Doors, S: Store + Drop, A: Allocator + Copy> NodeRun<D, S, A> {
         ensures { result.now ≡ self.old.doors }
     {
         &mut self.doors
-    }
-}
-
-/// Writes what is left of the last line at a port, and then a frame, if it is offered. The pace notes a
-/// frame that is accepted. Returns whether it was.
-fn speak_at<P: Pipe, A: Allocator + Copy>(
-    ports: &mut Vec<NodePort<P>, A>,
-    pace: &mut Pace,
-    id: u16,
-    frame: &Frame,
-    offered: bool,
-    now: u64,
-) -> bool
-    requires { (id < length ports.old.items) × (length ports.old.items ≤ 64) }
-    ensures spoken { AtBoth (SpeaksTo P.gave P.took P.counts frame.now offered now
-        (port_of pace.old.ports id) (port_of pace.new.ports id) (sent_if result frame.now))
-        (slice_get ports.old.items id) (slice_get ports.new.items id) }
-    ensures others { (w : ℕ) → w ≢ id
-        → (slice_get ports.new.items w ≡ slice_get ports.old.items w)
-        × (port_of pace.new.ports w ≡ port_of pace.old.ports w) }
-    ensures count { length ports.new.items ≡ length ports.old.items }
-    ensures pace { (pace.new.node ≡ pace.old.node) × (pace.new.manner ≡ pace.old.manner) }
-{
-    let is_accepted = ports[id as usize].speak(frame, offered);
-    if is_accepted {
-        pace.gave(id as usize, frame, now);
-    }
-    is_accepted
-}
-
-/// What is seen of the link to a node; none if it has no port.
-fn link_seen<P: Pipe>(ports: &[NodePort<P>], id: u16) -> Option<LinkSight>
-    ensures { result ≡ link_at (slice_get ports.now id) }
-{
-    let port = ports.get(usize::from(id))?;
-    Some(port.sight())
-}
-
-/// Closes the connections of those who are no neighbours of the node.
-fn close_strangers<P: Pipe, A: Allocator + Copy>(ports: &mut Vec<NodePort<P>, A>, node: &Node<A>)
-    requires { length ports.old.items ≤ 64 }
-    ensures kept { AreKept (site_in node.now).neighbours ports.old.items ports.new.items }
-    ensures closed { AreLoose (site_in node.now).neighbours ports.new.items }
-    ensures count { length ports.new.items ≡ length ports.old.items }
-{
-    for id in 0..ports.len() {
-        if !node.is_neighbour(id as u16) {
-            ports[id].close();
-        }
     }
 }
 

@@ -54,7 +54,7 @@ fn tell<P: Pipe, A: Allocator + Copy>(
 )
     ensures node { Became IsLeave node.old node.new }
     ensures connected { AreConnected clients.old node.old → AreConnected clients.new node.new }
-    ensures told { Tells text.now ticket clients.old clients.new }
+    ensures reported { Tells text.now ticket clients.old clients.new }
     ensures lives { LiveOn P.gave P.took P.counts clients.old clients.new }
 {
     if !clients.say(ticket, text) {
@@ -203,7 +203,7 @@ pub(crate) fn tick<P: Pipe, A: Allocator + Copy>(
 ) -> Ticked
     // One tick, and then nothing but leaves.
     ensures node { Acts result node.old node.new }
-    ensures told { IsTold result.act clients.old clients.new }
+    ensures reported { IsTold result.act clients.old clients.new }
     ensures lives { LiveOn P.gave P.took P.counts clients.old clients.new }
     ensures connected { AreConnected clients.old node.old → AreConnected clients.new node.new }
 {

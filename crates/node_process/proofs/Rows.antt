@@ -81,11 +81,11 @@ says-blocked : blocked_line (codes "run/desk-1.sock")
 says-blocked = refl
 
 -- a child gets all options; the time of a turn is in milliseconds
-tells-child : child_words (record { hold = 2000; repeat = 8000 }) 2250 GroupLocks (Some Notice) (codes "ring.toml") 1 (codes "run")
+names-child : child_words (record { hold = 2000; repeat = 8000 }) 2250 GroupLocks (Some Notice) (codes "ring.toml") 1 (codes "run")
     ≡ codes "node" ∷ codes "--child" ∷ codes "--hold" ∷ codes "2000" ∷ codes "--repeat" ∷ codes "8000"
     ∷ codes "--turn" ∷ codes "2.250" ∷ codes "--group-locks" ∷ codes "--log" ∷ codes "5" ∷ codes "--" ∷ codes "ring.toml" ∷ codes "1" ∷ codes "run" ∷ []
 unfolding digits
-tells-child = refl
+names-child = refl
 
 says_not-rights : rights_options Usual ≡ []
 says_not-rights = refl

@@ -421,7 +421,7 @@ where
     R: Print + Processes + AllocGlobal,
     ensures id { kept.new.id ≡ kept.old.id }
     // What was seen of `up` itself comes to the keeper.
-    ensures told { (seen : Seen) → word ≡ Some seen
+    ensures taken { (seen : Seen) → word ≡ Some seen
         → deed_at seen kept.old.keeper.failures kept.old.keeper.stage ≢ Start
         → kept.new.keeper.stage
         ≡ stage_after seen kept.old.keeper.failures kept.old.keeper.stage }

@@ -9,7 +9,7 @@ use Rattle.weaving.specs.Woven.{AreRising}
 use Rattle.weaving.specs.Account.{Note, entry_of, Leads}
 use Rattle.node_runner.specs.declared.runner.Runner.{Runner}
 use Rattle.node_runner.specs.Stamps.{last_stamp}
-use Rattle.node_runner.specs.Runner.{IsTold, IsPortTold, IsReady, Does, AreSamePorts, port_ids}
+use Rattle.node_runner.specs.Runner.{IsNoted, IsPortNoted, IsReady, Does, AreSamePorts, port_ids}
 use Rattle.node_runner.proofs.Accounts.{leads-on, entries-on, all-push, all-below, rising-push}
 
 -- what a deed of a node changes beside its ports
@@ -24,13 +24,13 @@ pub record Noted {A : Type 0} (d : Note) (a b : Runner A) : Type 0 where
   pub neighbours : port_ids b ≡ port_ids a
   pub ports : AreSamePorts a.ports.items b.ports.items
   pub leads : (net : Network) (v : ℕ) → a.id ≡ v → site_in a.node ≡ site_of net v → Leads net v (state_of a.node) (d ∷ []) (state_of b.node)
-  pub told : (w : World) (v : ℕ) (past : List Note) → IsTold w v past a → All (IsPortTold w v (past ++ d ∷ [])) b.ports.items
+  pub said : (w : World) (v : ℕ) (past : List Note) → IsNoted w v past a → All (IsPortNoted w v (past ++ d ∷ [])) b.ports.items
 
 pub does-one : {A : Type 0} (d : Note) (a b : Runner A) → IsReady a → Noted d a b → Does (d ∷ []) a b
 does-one {A} d a b ready n =
     let longer : length b.journal.entries.items ≡ length a.journal.entries.items + 1 = ap length n.entries ∙ length-append a.journal.entries.items (entry_of a.id d ∷ []) in
     record {
-      told = λ w v past was.
+      said = λ w v past was.
           let e = entry_of a.id d in
           let at : entry_of v d ≡ e = ap (λ i. entry_of i d) (sym was.id) in
           let old = map (entry_of v) past in
@@ -44,7 +44,7 @@ does-one {A} d a b ready n =
             rising = subst AreRising (sym listed) (rising-push old a.clock e was.rising was.before n.later);
             before = subst (AllByRecursion (λ x. x.stamp ≤ b.clock)) (sym listed)
                 (all-push (λ x. x.stamp ≤ b.clock) old e (all-below old a.clock b.clock up was.before) (let c = n.clock in omega arith));
-            ports = n.told w v past was;
+            ports = n.said w v past was;
           };
       ready = record { clock = let h = n.bound in omega (arith, longer); ports = n.neighbours ∙ (ready.ports ∙ ap (λ s. s.neighbours) (sym n.site)) };
       id = n.id;

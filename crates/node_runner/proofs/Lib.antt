@@ -2,7 +2,7 @@ pub mod Stamps
 pub mod Spends
 pub mod Accounts
 pub mod AccountEvents
-pub mod FirstRows
+pub mod RowsFirst
 pub mod Chances
 pub mod Deeds
 pub mod PortLists

@@ -11,8 +11,8 @@ use Rattle.run_model.specs.World.{World}
 use Rattle.weaving.specs.Account.{Note, sent_to, taken_from, entry_of, Leads}
 use Rattle.node_runner.specs.declared.runner.Port.{Port}
 use Rattle.node_runner.specs.declared.runner.Runner.{Runner}
-use Rattle.node_runner.specs.Runner.{IsTold, IsPortTold, IsReady, Does, IsSamePort, AreSamePorts, port_ids}
-use Rattle.node_runner.proofs.PortLists.{default-free, port-is-known, ports-same, ids-set, ports-told}
+use Rattle.node_runner.specs.Runner.{IsNoted, IsPortNoted, IsReady, Does, IsSamePort, AreSamePorts, port_ids}
+use Rattle.node_runner.proofs.PortLists.{default-free, port-is-known, ports-same, ids-set, ports-said}
 
 -- p is the port at a place of the node
 pub record IsAt {A : Type 0} (a : Runner A) (k : ℕ) (p : Port A) : Type 0 where
@@ -32,8 +32,8 @@ module _ {A : Type 0} (a : Runner A) (k : ℕ) (p : Port A) (at : IsAt a k p) wh
   ascends : NeighboursAscend → (net : Network) (v : ℕ) → site_in a.node ≡ site_of net v → IsStrictlyIncreasing (port_ids a)
   ascends law net v site = subst IsStrictlyIncreasing (sym (at.ready.ports ∙ ap (λ s. s.neighbours) site)) (law net v)
 
-  pub port-was : (w : World) (v : ℕ) (past : List Note) → IsTold w v past a → IsPortTold w v past p
-  port-was w v past was = subst (IsPortTold w v past) (sym at.value) (was.ports k p at.within)
+  pub port-was : (w : World) (v : ℕ) (past : List Note) → IsNoted w v past a → IsPortNoted w v past p
+  port-was w v past was = subst (IsPortNoted w v past) (sym at.value) (was.ports k p at.within)
 
   module _ (x : Port A) (same : IsSamePort p x) where
     there : p ≡ slice_index_or a.ports.items k x
@@ -48,30 +48,30 @@ module _ {A : Type 0} (a : Runner A) (k : ℕ) (p : Port A) (at : IsAt a k p) wh
     pub now-ids : map (λ q. q.neighbour) (set a.ports.items k x) ≡ port_ids a
     now-ids = ids-set a.ports.items k x at.within at-place
 
-    pub now-told : (w : World) (v : ℕ) (past es : List Note) → NeighboursAscend → IsTold w v past a
-        → ((u : ℕ) → u ≢ x.neighbour → (sent_to u es ≡ []) × (taken_from u es ≡ [])) → IsPortTold w v (past ++ es) x
-        → All (IsPortTold w v (past ++ es)) (set a.ports.items k x)
-    now-told w v past es law was others one =
-        ports-told w v past es a.ports.items k x at.within (ascends law w.net v was.site) at-place others was.ports one
+    pub now-said : (w : World) (v : ℕ) (past es : List Note) → NeighboursAscend → IsNoted w v past a
+        → ((u : ℕ) → u ≢ x.neighbour → (sent_to u es ≡ []) × (taken_from u es ≡ [])) → IsPortNoted w v (past ++ es) x
+        → All (IsPortNoted w v (past ++ es)) (set a.ports.items k x)
+    now-said w v past es law was others one =
+        ports-said w v past es a.ports.items k x at.within (ascends law w.net v was.site) at-place others was.ports one
 
     pub does-none : (b : Runner A) → NeighboursAscend → b.id ≡ a.id → b.node ≡ a.node → b.clock ≡ a.clock → b.journal ≡ a.journal → b.ports.items ≡ set a.ports.items k x
-        → ((w : World) (v : ℕ) (past : List Note) → IsTold w v past a → IsPortTold w v (past ++ []) x) → Does [] a b
+        → ((w : World) (v : ℕ) (past : List Note) → IsNoted w v past a → IsPortNoted w v (past ++ []) x) → Does [] a b
     does-none b law id node clock journal ports one =
         let count = ap (λ j. length j.entries.items) journal in
         record {
-          told = λ w v past was.
-              let all = now-told w v past [] law was (λ u apart. (refl, refl)) (one w v past was) in
+          said = λ w v past was.
+              let all = now-said w v past [] law was (λ u apart. (refl, refl)) (one w v past was) in
               let same-list = append-nil past in
-              let told : IsTold w v past b = record {
+              let said : IsNoted w v past b = record {
                 id = id ∙ was.id;
                 site = ap site_in node ∙ was.site;
                 leads = subst (λ n. Leads w.net v (w.node v) past (state_of n)) (sym node) was.leads;
                 journal = ap (λ j. j.entries.items) journal ∙ was.journal;
                 rising = was.rising;
                 before = subst (λ t. AllByRecursion (λ e. e.stamp ≤ t) (map (entry_of v) past)) (sym clock) was.before;
-                ports = subst (λ ds. All (IsPortTold w v ds) b.ports.items) same-list (subst (λ ps. All (IsPortTold w v (past ++ [])) ps) (sym ports) all);
+                ports = subst (λ ds. All (IsPortNoted w v ds) b.ports.items) same-list (subst (λ ps. All (IsPortNoted w v (past ++ [])) ps) (sym ports) all);
               } in
-              subst (λ ds. IsTold w v ds b) (sym same-list) told;
+              subst (λ ds. IsNoted w v ds b) (sym same-list) said;
           ready = record {
             clock = let r = at.ready.clock in omega (arith, clock, count);
             ports = ap (λ ps. map (λ q. q.neighbour) ps) ports ∙ (now-ids ∙ (at.ready.ports ∙ ap (λ n. (site_in n).neighbours) (sym node)));

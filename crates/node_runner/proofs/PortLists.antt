@@ -9,7 +9,7 @@ use Rattle.run_model.specs.World.{World}
 use Rattle.weaving.specs.Account.{Note, sent_to, taken_from}
 use Rattle.node_runner.specs.declared.runner.Port.{Port}
 use Rattle.node_runner.specs.Ports.{IsSender, IsReceiver}
-use Rattle.node_runner.specs.Runner.{IsPortTold, IsSamePort, AreSamePorts}
+use Rattle.node_runner.specs.Runner.{IsPortNoted, IsSamePort, AreSamePorts}
 use Rattle.node_runner.proofs.Accounts.{sent-on, taken-on}
 
 module _ {A : Type 0} where
@@ -64,7 +64,7 @@ module _ {A : Type 0} where
   ids-set (p ∷ ps) (suc k) x within same = ap (λ ns. p.neighbour ∷ ns) (ids-set ps k x (omega arith) same)
 
   module _ (w : World) (v : ℕ) (past es : List Note) where
-    pub port-stays : (p : Port A) → sent_to p.neighbour es ≡ [] → taken_from p.neighbour es ≡ [] → IsPortTold w v past p → IsPortTold w v (past ++ es) p
+    pub port-stays : (p : Port A) → sent_to p.neighbour es ≡ [] → taken_from p.neighbour es ≡ [] → IsPortNoted w v past p → IsPortNoted w v (past ++ es) p
     port-stays p none-sent none-taken was =
         let n = p.neighbour in
         let sends : sent_to n past ≡ sent_to n (past ++ es) = sym (sent-on n past es ∙ (ap (λ xs. sent_to n past ++ xs) none-sent ∙ append-nil (sent_to n past))) in
@@ -73,21 +73,21 @@ module _ {A : Type 0} where
           subst (λ xs. IsReceiver w.net.capacity (length (w.link n v)) xs p.incoming) takes was.1,
         )
 
-    pub ports-stay : (ps : List (Port A)) → ((u : ℕ) → (sent_to u es ≡ []) × (taken_from u es ≡ [])) → All (IsPortTold w v past) ps → All (IsPortTold w v (past ++ es)) ps
+    pub ports-stay : (ps : List (Port A)) → ((u : ℕ) → (sent_to u es ≡ []) × (taken_from u es ≡ [])) → All (IsPortNoted w v past) ps → All (IsPortNoted w v (past ++ es)) ps
     ports-stay ps none was = λ k d within.
         let p = slice_index_or ps k d in port-stays p (none p.neighbour).0 (none p.neighbour).1 (was k d within)
 
-    pub ports-told : (ps : List (Port A)) (k : ℕ) (x : Port A) → k < length ps → IsStrictlyIncreasing (map neighbour ps) → x.neighbour ≡ (slice_index_or ps k x).neighbour
-        → ((u : ℕ) → u ≢ x.neighbour → (sent_to u es ≡ []) × (taken_from u es ≡ [])) → All (IsPortTold w v past) ps → IsPortTold w v (past ++ es) x
-        → All (IsPortTold w v (past ++ es)) (set ps k x)
-    ports-told ps k x within ascend same others was one = λ j d below. elim (cases_eq j k) [
+    pub ports-said : (ps : List (Port A)) (k : ℕ) (x : Port A) → k < length ps → IsStrictlyIncreasing (map neighbour ps) → x.neighbour ≡ (slice_index_or ps k x).neighbour
+        → ((u : ℕ) → u ≢ x.neighbour → (sent_to u es ≡ []) × (taken_from u es ≡ [])) → All (IsPortNoted w v past) ps → IsPortNoted w v (past ++ es) x
+        → All (IsPortNoted w v (past ++ es)) (set ps k x)
+    ports-said ps k x within ascend same others was one = λ j d below. elim (cases_eq j k) [
       | inl e ↦
           let here : slice_index_or (set ps k x) j d ≡ x = ap (λ i. slice_index_or (set ps k x) i d) e ∙ get_or-set_same ps k x d within in
-          subst (IsPortTold w v (past ++ es)) (sym here) one
+          subst (IsPortNoted w v (past ++ es)) (sym here) one
       | inr apart ↦
           let p = slice_index_or ps j d in
           let l = length-set ps k x in
           let other : p.neighbour ≢ x.neighbour = λ e. differs ps j k d x ascend apart (omega arith) within (e ∙ same) in
-          subst (IsPortTold w v (past ++ es)) (sym (get_or-set_other ps k j x d apart))
+          subst (IsPortNoted w v (past ++ es)) (sym (get_or-set_other ps k j x d apart))
           (port-stays p (others p.neighbour other).0 (others p.neighbour other).1 (was j d (omega arith)))
     ]

@@ -13,7 +13,7 @@ use Rattle.rtrb.specs.declared.consumer.Consumer.{Consumer}
 use Rattle.weaving.specs.Account.{Note, Ticked, sent_to, taken_from}
 use Rattle.node_runner.specs.declared.runner.Port.{Port}
 use Rattle.node_runner.specs.declared.runner.Runner.{Runner}
-use Rattle.node_runner.specs.Runner.{IsTold, IsReady, Does, IsSamePort, AreSamePorts, IsOneSend, IsOneTake, port_ids, round_room}
+use Rattle.node_runner.specs.Runner.{IsNoted, IsReady, Does, IsSamePort, AreSamePorts, IsOneSend, IsOneTake, port_ids, round_room}
 use Rattle.node_runner.specs.Rounds.{AreSendsTo, AreTakesFrom, IsRound, AreRounds}
 use Rattle.node_runner.specs.Stamps.{last_place, last_stamp}
 use Rattle.node_runner.specs.FirstTurn.{IsFirstTurn}
@@ -44,7 +44,7 @@ module _ {A : Type 0} where
 
   pub does-nothing : (a : Runner A) → IsReady a → Does [] a a
   does-nothing a ready = record {
-    told = λ w v past was. subst (λ ds. IsTold w v ds a) (sym (append-nil past)) was;
+    said = λ w v past was. subst (λ ds. IsNoted w v ds a) (sym (append-nil past)) was;
     ready = ready;
     id = refl;
     site = refl;
@@ -55,7 +55,7 @@ module _ {A : Type 0} where
 
   pub does-both : (a b c : Runner A) (ds es : List Note) → Does ds a b → Does es b c → Does (ds ++ es) a c
   does-both a b c ds es x y = record {
-    told = λ w v past was. subst (λ all. IsTold w v all c) (append_assoc past ds es) (y.told w v (past ++ ds) (x.told w v past was));
+    said = λ w v past was. subst (λ all. IsNoted w v all c) (append_assoc past ds es) (y.said w v (past ++ ds) (x.said w v past was));
     ready = y.ready;
     id = y.id ∙ x.id;
     site = y.site ∙ x.site;
@@ -173,11 +173,11 @@ module _ {A : Type 0} where
   -- one more port has had its send, which was due
   sends-due : (a b : Runner A) (us : List ℕ) (k : ℕ) (ds es : List Note) → k < length us → Does ds a b → IsSlow (length ds) a b → length ds ≤ k → k < length a.ports.items
       → AreSendsDue (take k us) a ds → IsOneSend (slice_index_or us k 0) es → IsSendDue (slice_index_or us k 0) b es → AreSendsDue (take (k + 1) us) a (ds ++ es)
-  sends-due a b us k ds es within does slow few ports due one next = λ w v past told none start most.
+  sends-due a b us k ds es within does slow few ports due one next = λ w v past said none start most.
       let u = slice_index_or us k 0 in
       let more : take (k + 1) us ≡ take k us ++ u ∷ [] = rw add-one (take-suc us k 0 within) in
       let Given : ℕ → Type 0 = λ x. IsTrue (has_room w v x) → 0 < length (sent_to x (ds ++ es)) in
-      let before : All Given (take k us) = λ j d below room. more-sent _ 0 ds es (due w v past told none start most j d below room) in
+      let before : All Given (take k us) = λ j d below room. more-sent _ 0 ds es (due w v past said none start most j d below room) in
       let here : Given u = λ room.
       let cases : (0 < length (sent_to u ds)) ⊎ (length (sent_to u ds) ≡ 0) = grind arith in
       elim cases [
@@ -186,7 +186,7 @@ module _ {A : Type 0} where
             let unsent : sent_to u (past ++ ds) ≡ [] = sent-on u past ds ∙ (ap (λ xs. xs ++ sent_to u ds) (none u) ∙ nothing (sent_to u ds) nought) in
             let clock = slow (last_place + 1) (omega arith) start in
             let soon = early in
-            let some = next w v (past ++ ds) (does.told w v past told) room unsent (omega (arith, clock, few, ports, most, soon)) in
+            let some = next w v (past ++ ds) (does.said w v past said) room unsent (omega (arith, clock, few, ports, most, soon)) in
             let a = ap length (sent-on u ds es) in
             let b = length-append (sent_to u ds) (sent_to u es) in
             let c = one-sent u es one in
@@ -198,16 +198,16 @@ module _ {A : Type 0} where
   takes-due : (a b c : Runner A) (us : List ℕ) (k : ℕ) (ds es fs : List Note) → k < length us → Does ds a b → Does es b c
       → AreTakesDue (take k us) a ds → IsOneTake (slice_index_or us k 0) es → IsTakeDue (slice_index_or us k 0) b es
       → IsOneTake (slice_index_or us k 0) fs → IsTakeDue (slice_index_or us k 0) c fs → AreTakesDue (take (k + 1) us) a (ds ++ (es ++ fs))
-  takes-due a b c us k ds es fs within does does' due one next two next' = λ w v past told links none.
+  takes-due a b c us k ds es fs within does does' due one next two next' = λ w v past said links none.
       let u = slice_index_or us k 0 in
       let more : take (k + 1) us ≡ take k us ++ u ∷ [] = rw add-one (take-suc us k 0 within) in
       let Taken : ℕ → Type 0 = λ x. min 2 (length (w.link x v)) ≤ length (taken_from x (ds ++ (es ++ fs))) in
-      let before : All Taken (take k us) = λ j d below. more-taken _ _ ds (es ++ fs) (due w v past told links none j d below) in
+      let before : All Taken (take k us) = λ j d below. more-taken _ _ ds (es ++ fs) (due w v past said links none j d below) in
       let first : length (taken_from u (past ++ ds)) ≡ length (taken_from u ds) = ap length (taken-on u past ds ∙ ap (λ xs. xs ++ taken_from u ds) (none u)) in
       let second : length (taken_from u ((past ++ ds) ++ es)) ≡ length (taken_from u ds) + length es =
       ap length (taken-on u (past ++ ds) es) ∙ (length-append (taken_from u (past ++ ds)) (taken_from u es) ∙ (let x = first in let y = one-taken u es one in omega (arith, x, y))) in
-      let told' = does.told w v past told in
-      let told'' = does'.told w v (past ++ ds) told' in
+      let told' = does.said w v past said in
+      let told'' = does'.said w v (past ++ ds) told' in
       let count = two-takes (length (w.link u v)) (length (taken_from u ds)) (length es) (length fs)
       (λ less. next w v (past ++ ds) told' links (omega (arith, first, less)))
       (λ less. next' w v ((past ++ ds) ++ es) told'' links (omega (arith, second, less)))
@@ -310,14 +310,14 @@ module _ {A : Type 0} where
         does-both a b d (Ticked tick.0 ∷ []) rest tick.1 (does-both b c d sends.0 takes.0 sends.1 takes.1),
         round,
         omega arith,
-        λ clock most w v told links.
-            let told-b = tick.1.told w v [] told in
-            let told-c = sends.1.told w v (Ticked tick.0 ∷ []) told-b in
+        λ clock most w v said links.
+            let said-b = tick.1.said w v [] said in
+            let said-c = sends.1.said w v (Ticked tick.0 ∷ []) said-b in
             let start = tick.2 last_place (omega arith) (omega (arith, clock)) in
             let untaken : (u : ℕ) → taken_from u (Ticked tick.0 ∷ sends.0) ≡ [] = λ u. sends-untaken u (port_ids b) sends.0 sends.2 in
-            let sent = sends.4 w v (Ticked tick.0 ∷ []) told-b (λ u. refl) start (omega (arith, many, most)) in
-            let taken = takes.4 w v (Ticked tick.0 ∷ sends.0) told-c links untaken in
-            let same : port_ids a ≡ neighbours_of w.net v = ready.ports ∙ ap (λ s. s.neighbours) told.site in
+            let sent = sends.4 w v (Ticked tick.0 ∷ []) said-b (λ u. refl) start (omega (arith, many, most)) in
+            let taken = takes.4 w v (Ticked tick.0 ∷ sends.0) said-c links untaken in
+            let same : port_ids a ≡ neighbours_of w.net v = ready.ports ∙ ap (λ s. s.neighbours) said.site in
             first-of-round w v (port_ids a) sends.0 takes.0 round.are_sends round.are_takes tick.0 same
             (subst (All (λ u. IsTrue (has_room w v u) → 0 < length (sent_to u sends.0))) ids sent)
             (subst (All (λ u. min 2 (length (w.link u v)) ≤ length (taken_from u takes.0))) (ids' ∙ ids) taken),
@@ -326,16 +326,16 @@ module _ {A : Type 0} where
   -- the first round is whole, and later ones leave it so
   whole-turn : (a b : Runner A) (n : ℕ) (ds es : List Note) → Does ds a b → AreRounds (port_ids a) n ds → IsRound (port_ids a) es → (n ≡ 0 → b.clock ≡ a.clock)
       → (0 < n → BeginsWhole a ds) → BeginsWhole b es → BeginsWhole a (ds ++ es)
-  whole-turn a b zero ds es does are round same was one = λ clock most w v told links.
+  whole-turn a b zero ds es does are round same was one = λ clock most w v said links.
       let c = same refl in
       let many = does.ports.0 in
-      let told-b : IsTold w v [] b = subst (λ xs. IsTold w v xs b) are (does.told w v [] told) in
-      subst (λ xs. IsFirstTurn w v (events_of v (xs ++ es))) (sym are) (one (omega (arith, c, clock)) (omega (arith, many, most)) w v told-b links)
-  whole-turn a b (suc n) ds es does are round same was one = λ clock most w v told links.
+      let said-b : IsNoted w v [] b = subst (λ xs. IsNoted w v xs b) are (does.said w v [] said) in
+      subst (λ xs. IsFirstTurn w v (events_of v (xs ++ es))) (sym are) (one (omega (arith, c, clock)) (omega (arith, many, most)) w v said-b links)
+  whole-turn a b (suc n) ds es does are round same was one = λ clock most w v said links.
       let rest = round.sends ++ round.takes in
       let next : events_of v es ≡ Tick v ∷ events_of v rest = ap (events_of v) round.are in
       let all : events_of v (ds ++ es) ≡ events_of v ds ++ (Tick v ∷ events_of v rest) = events-on v ds es ∙ ap (λ xs. events_of v ds ++ xs) next in
-      subst (IsFirstTurn w v) (sym all) (first-stays w v (events_of v ds) (events_of v rest) (was (omega arith) clock most w v told links))
+      subst (IsFirstTurn w v) (sym all) (first-stays w v (events_of v ds) (events_of v rest) (was (omega arith) clock most w v said links))
 
   -- one more round is done
   pub round-turn : (a b c : Runner A) (n : ℕ) → IsReady a

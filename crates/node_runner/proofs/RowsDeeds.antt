@@ -48,8 +48,8 @@ takes-on = refl
 takes_not-sent : is_take_on 0 1 (Send 0 1) ≡ false
 takes_not-sent = refl
 
-tells-events : events_of 0 (Ticked 1 ∷ Sent 1 (noise 2) ∷ Took 1 (noise 3) ∷ []) ≡ Tick 0 ∷ Send 0 1 ∷ Take 1 0 ∷ []
-tells-events = refl
+says-events : events_of 0 (Ticked 1 ∷ Sent 1 (noise 2) ∷ Took 1 (noise 3) ∷ []) ≡ Tick 0 ∷ Send 0 1 ∷ Take 1 0 ∷ []
+says-events = refl
 
 -- ---- one send, and one take
 

@@ -3,7 +3,7 @@ use Rattle.std.proofs.Common.{◌≡◌, ℕ, List, [], ◌∷◌, ◌++◌, Opt
 use Rattle.link_model.specs.declared.item.Item.TheVariants.{Noise}
 use Rattle.weaving.specs.declared.journal.Stamped.{Stamped}
 use Rattle.weaving.specs.Account.{Note, Ticked, Sent, Took, sent_to, taken_from}
-use Rattle.node_runner.specs.Stamps.{stamp_behind, given_back, IsTakeOf}
+use Rattle.node_runner.specs.Stamps.{stamp_after, given_back, IsTakeOf}
 use Rattle.node_runner.specs.Runner.{IsOneSend, IsOneTake}
 use Rattle.node_runner.specs.Rounds.{AreSendsTo, AreTakesFrom, IsRound, AreRounds}
 use Rattle.node_runner.specs.FirstTurn.{count_of, is_tick_of}
@@ -106,13 +106,13 @@ not-three_takes (first, second, later, are, one, two, none) =
 -- ---- clocks
 
 -- an event is later than both events that it waited for; after the last stamp there is none
-row-behind : stamp_behind 3 5 ≡ Some 6
-row-behind = refl
+row-after : stamp_after 3 5 ≡ Some 6
+row-after = refl
 
-row-behind-other : stamp_behind 5 3 ≡ Some 6
-row-behind-other = refl
+row-after-other : stamp_after 5 3 ≡ Some 6
+row-after-other = refl
 
-row-last : stamp_behind 4611686018427387904 0 ≡ None
+row-last : stamp_after 4611686018427387904 0 ≡ None
 row-last = refl
 
 -- a take is later than its item, not at the same time

@@ -14,21 +14,21 @@ use Rattle.node_runner.specs.Ports.{IsSender, IsReceiver, SameOutgoing, SameInco
 
 -- The ends of v's links to and from a neighbour have seen what the account says, in a run that
 -- began with this world.
-abbrev pub IsPortTold : {A : Type 0} → World → ℕ → List Note → Port A → Type 0
-IsPortTold w v account p =
+abbrev pub IsPortNoted : {A : Type 0} → World → ℕ → List Note → Port A → Type 0
+IsPortNoted w v account p =
     IsSender w.net.capacity (w.link v p.neighbour) (sent_to p.neighbour account) p.outgoing
     × IsReceiver w.net.capacity (length (w.link p.neighbour v)) (taken_from p.neighbour account) p.incoming
 
 -- The account says all that v did since this world: the journal has its entries, with rising
 -- stamps up to the clock; the state is where it leads; and the ends of its links have seen it.
-pub record IsTold {A : Type 0} (w : World) (v : ℕ) (account : List Note) (r : Runner A) : Type 0 where
+pub record IsNoted {A : Type 0} (w : World) (v : ℕ) (account : List Note) (r : Runner A) : Type 0 where
   pub id : r.id ≡ v
   pub site : site_in r.node ≡ site_of w.net v
   pub leads : Leads w.net v (w.node v) account (state_of r.node)
   pub journal : r.journal.entries.items ≡ map (entry_of v) account
   pub rising : AreRising (map (entry_of v) account)
   pub before : AllByRecursion (λ e. e.stamp ≤ r.clock) (map (entry_of v) account)
-  pub ports : All (IsPortTold w v account) r.ports.items
+  pub ports : All (IsPortNoted w v account) r.ports.items
 
 -- the neighbours of its ports
 abbrev pub port_ids : {A : Type 0} → Runner A → List ℕ
@@ -55,7 +55,7 @@ AreSamePorts {A} ps qs = (length qs ≡ length ps) × ((k : ℕ) (d : Port A) �
 -- Between two moments a node did this: any account that held before holds now with these notes
 -- added. Each note has an entry, in room that was there.
 pub record Does {A : Type 0} (notes : List Note) (old new : Runner A) : Type 0 where
-  pub told : (w : World) (v : ℕ) (past : List Note) → IsTold w v past old → IsTold w v (past ++ notes) new
+  pub said : (w : World) (v : ℕ) (past : List Note) → IsNoted w v past old → IsNoted w v (past ++ notes) new
   pub ready : IsReady new
   pub id : new.id ≡ old.id
   pub site : site_in new.node ≡ site_in old.node

@@ -13,8 +13,8 @@ abbrev pub last_place : ℕ
 last_place = 2 ^ 61
 
 -- the stamp of an event after two others, if it is not above the last stamp
-abbrev pub stamp_behind : ℕ → ℕ → Option ℕ
-stamp_behind a b = if nat_lt (max a b) last_stamp then Some (max a b + 1) else None
+abbrev pub stamp_after : ℕ → ℕ → Option ℕ
+stamp_after a b = if nat_lt (max a b) last_stamp then Some (max a b + 1) else None
 
 -- the take took what came in, and is later
 pub record IsTakeOf (taken came : Stamped) : Type 0 where

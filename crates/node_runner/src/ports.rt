@@ -4,7 +4,7 @@ ghost use Rattle.std.specs.Prelude.{IfSome, IfNone, IsSome};
 ghost use Rattle.rtrb.specs.Ring.{received, known_free, known_items, SameConsumer};
 ghost use Rattle.link_model.specs.declared.item.Item.{Item};
 ghost use Rattle.weaving.specs.declared.journal.Stamped.{Stamped};
-ghost use Rattle.node_runner.specs.Stamps.{last_stamp, last_place, stamp_behind};
+ghost use Rattle.node_runner.specs.Stamps.{last_stamp, last_place, stamp_after};
 ghost use Rattle.node_runner.specs.Ports.{with_sent, with_taken, SameOutgoing, SameIncoming};
 ghost use Rattle.node_runner.specs.Ports.{IsSender, IsReceiver};
 
@@ -38,8 +38,8 @@ impl Protocol<u64> for StampBound {
 }
 
 /// The stamp of an event after two others; none if that were above 2^62.
-fn stamp_behind(one: u64, other: u64) -> Option<u64>
-    ensures { result ≡ stamp_behind one other }
+fn stamp_after(one: u64, other: u64) -> Option<u64>
+    ensures { result ≡ stamp_after one other }
 {
     let last = one.max(other);
     if last < LAST_STAMP {
@@ -88,14 +88,14 @@ impl<A: Allocator> Outgoing<A> {
         ensures succeeds { 0 < self.old.free → clock < last_stamp → IsSome result }
     {
         if self.free > 0 {
-            let stamp = stamp_behind(clock, 0)?;
+            let stamp = stamp_after(clock, 0)?;
             self.free -= 1;
             return Some(stamp);
         }
         if self.places.is_empty() {
             return None;
         }
-        let stamp = stamp_behind(clock, *self.places.peek_known())?;
+        let stamp = stamp_after(clock, *self.places.peek_known())?;
         self.places.pop_known();
         Some(stamp)
     }

@@ -42,10 +42,10 @@ layout_read : (l : Layout) (net : Network) (id : ℕ) (ids : List ℕ) (s : Loca
 layout_read Tkt1 net id ids s = refl
 layout_read Tkt2 net id ids s = refl
 
-ports_behind : (l : Layout) (net : Network) (id : ℕ) (ids : List ℕ) (s : LocalState)
+ports_after : (l : Layout) (net : Network) (id : ℕ) (ids : List ℕ) (s : LocalState)
     → drop (header_length l) (spelling l net id ids s) ≡ bytes_of (flat_map (port_numbers s) ids)
-ports_behind Tkt1 net id ids s = refl
-ports_behind Tkt2 net id ids s = refl
+ports_after Tkt1 net id ids s = refl
+ports_after Tkt2 net id ids s = refl
 
 header_there : (l : Layout) (net : Network) (id : ℕ) (ids : List ℕ) (s : LocalState) → header_length l ≤ length (spelling l net id ids s)
 header_there Tkt1 net id ids s = omega arith
@@ -172,7 +172,7 @@ accepted limits net id l ids s good inside may fits =
     let parent : IsTrue (parent_fits net.nodes s.parent) = grind (arith, own) in
     let small = header_small l net id degree s most good.limits.most_capacity inside may.few near (parent_small net.nodes s.parent most parent) in
     let h_is = header_read l net id ids s small (parent_again net.nodes s.parent most parent) in
-    let rest_is = ports_behind l net id ids s in
+    let rest_is = ports_after l net id ids s in
     let ports_are = ports_read s ids (plain r s id ids most counter ring may.others port_list value_list) in
     let ascending : are_ascending (ids_of ports) ≡ true = ap are_ascending (ids_again s ids) ∙ may.ascending in
     let all_others = others_again s net.nodes id ids ∙ may.others in

@@ -3,5 +3,5 @@ pub mod StatusSpelling
 pub mod NumbersRead
 pub mod NodeLines
 mod RowsTexts
-pub mod LookRows
-pub mod PremisesRows
+pub mod RowsLook
+pub mod RowsPremises

@@ -59,20 +59,20 @@ module _ (paths : NodePaths) where
 
 -- ---- what processes print
 
-tells-loaded : note_line None (Started None) ≡ codes "start loaded"
-tells-loaded = refl
+says-loaded : note_line None (Started None) ≡ codes "start loaded"
+says-loaded = refl
 
-tells-default : note_line (Some 1) (Started (Some (File read.Magic))) ≡ codes "node 1 start default Magic"
-tells-default = rw one-is
+says-default : note_line (Some 1) (Started (Some (File read.Magic))) ≡ codes "node 1 start default Magic"
+says-default = rw one-is
 
-tells-absent : note_line None (Started (Some Absent)) ≡ codes "start default Absent"
-tells-absent = refl
+says-absent : note_line None (Started (Some Absent)) ≡ codes "start default Absent"
+says-absent = refl
 
-tells-ready : note_line (Some 1) Ready ≡ codes "node 1 ready"
-tells-ready = rw one-is
+says-ready : note_line (Some 1) Ready ≡ codes "node 1 ready"
+says-ready = rw one-is
 
-tells_not-loaded : note_line None (Started (Some Absent)) ≢ codes "start loaded"
-tells_not-loaded = grind arith
+says_not-loaded : note_line None (Started (Some Absent)) ≢ codes "start loaded"
+says_not-loaded = grind arith
 
 ends-status : end_line 1 (Status 2) ≡ codes "node 1 ended with status 2, and is started again"
 ends-status = rw (one-is, two-is)

@@ -104,33 +104,33 @@ line_of node distance parent token lent waiting =
           = waiting;
     }
 
-abbrev behind_lent : ℕ → ℕ → Option ℕ → Bool → Option ℕ → List Word → Option StatusLine
-behind_lent v d p t l = field (codes "waiting") number (λ w. ends (line_of v d p t l w))
+abbrev after_lent : ℕ → ℕ → Option ℕ → Bool → Option ℕ → List Word → Option StatusLine
+after_lent v d p t l = field (codes "waiting") number (λ w. ends (line_of v d p t l w))
 
-abbrev behind_token : ℕ → ℕ → Option ℕ → Bool → List Word → Option StatusLine
-behind_token v d p t = field (codes "lent") number_or_none (behind_lent v d p t)
+abbrev after_token : ℕ → ℕ → Option ℕ → Bool → List Word → Option StatusLine
+after_token v d p t = field (codes "lent") number_or_none (after_lent v d p t)
 
-abbrev behind_parent : ℕ → ℕ → Option ℕ → List Word → Option StatusLine
-behind_parent v d p = field (codes "token") yes_or_no (behind_token v d p)
+abbrev after_parent : ℕ → ℕ → Option ℕ → List Word → Option StatusLine
+after_parent v d p = field (codes "token") yes_or_no (after_token v d p)
 
-abbrev behind_distance : ℕ → ℕ → List Word → Option StatusLine
-behind_distance v d = field (codes "parent") number_or_none (behind_parent v d)
+abbrev after_distance : ℕ → ℕ → List Word → Option StatusLine
+after_distance v d = field (codes "parent") number_or_none (after_parent v d)
 
-abbrev behind_node : ℕ → List Word → Option StatusLine
-behind_node v = field (codes "distance") number (behind_distance v)
+abbrev after_node : ℕ → List Word → Option StatusLine
+after_node v = field (codes "distance") number (after_distance v)
 
 words-of : NumbersHaveOneSpelling → (ws : List Word) (s : StatusLine) → status_of ws ≡ Some s
     → ws ≡ status_words s
-words-of spelled ws s = named number decimal (number-one spelled) (codes "node") behind_node
+words-of spelled ws s = named number decimal (number-one spelled) (codes "node") after_node
     (λ ws. ws ≡ status_words s) ws s
-    (λ v rest. named number decimal (number-one spelled) (codes "distance") (behind_distance v)
+    (λ v rest. named number decimal (number-one spelled) (codes "distance") (after_distance v)
     (λ ws. codes "node" ∷ decimal v ∷ ws ≡ status_words s) rest s
-    (λ d rest. named number_or_none or_none_text (or_none-one spelled) (codes "parent") (behind_parent v d)
+    (λ d rest. named number_or_none or_none_text (or_none-one spelled) (codes "parent") (after_parent v d)
     (λ ws. codes "node" ∷ decimal v ∷ codes "distance" ∷ decimal d ∷ ws ≡ status_words s) rest s
-    (λ p rest. named yes_or_no yes_or_no_text yes_or_no-one (codes "token") (behind_token v d p)
+    (λ p rest. named yes_or_no yes_or_no_text yes_or_no-one (codes "token") (after_token v d p)
     (λ ws. codes "node" ∷ decimal v ∷ codes "distance" ∷ decimal d ∷ codes "parent"
     ∷ or_none_text p ∷ ws ≡ status_words s) rest s
-    (λ t rest. named number_or_none or_none_text (or_none-one spelled) (codes "lent") (behind_lent v d p t)
+    (λ t rest. named number_or_none or_none_text (or_none-one spelled) (codes "lent") (after_lent v d p t)
     (λ ws. codes "node" ∷ decimal v ∷ codes "distance" ∷ decimal d ∷ codes "parent"
     ∷ or_none_text p ∷ codes "token" ∷ yes_or_no_text t ∷ ws ≡ status_words s) rest s
     (λ l rest. named number decimal (number-one spelled) (codes "waiting") (λ w. ends (line_of v d p t l w))

@@ -4,7 +4,7 @@ use Rattle.node_texts.specs.declared.paths.NodePaths.{NodePaths}
 
 -- the folder, a slash, and the node's id with what stands before and after it
 abbrev pub file_name : List ℕ → List ℕ → ℕ → List ℕ → List ℕ
-file_name dir before id behind = dir ++ (codes "/" ++ (before ++ (decimal id ++ behind)))
+file_name dir before id after = dir ++ (codes "/" ++ (before ++ (decimal id ++ after)))
 
 -- the names of node `id`'s files
 abbrev pub AreNamed : List ℕ → ℕ → NodePaths → Type 0

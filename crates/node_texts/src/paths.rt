@@ -60,12 +60,12 @@ fn file_name(
     dir: &str,
     before: &str,
     id: u16,
-    behind: &str,
+    after: &str,
 ) -> Result<String, AllocError>
     ensures { IfOk result
-        (λ name. string_bytes name ≡ file_name dir.now before.now id behind.now) }
+        (λ name. string_bytes name ≡ file_name dir.now before.now id after.now) }
 {
-    format!(in alloc; "{dir}/{before}{id}{behind}")
+    format!(in alloc; "{dir}/{before}{id}{after}")
 }
 
 /// How many bytes the longest name of a socket in a folder has, for a network of this many nodes.

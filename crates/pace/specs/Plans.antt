@@ -49,9 +49,9 @@ goes_on Call trees now node = not (was_called trees now node)
 goes_on _ trees now node = false
 
 -- what a node makes of a frame's further meaning
-abbrev pub node_told : Hearing → ℕ → ℕ → NodePace → NodePace
-node_told Call trees now node = called trees now node
-node_told _ trees now node = node
+abbrev pub node_said : Hearing → ℕ → ℕ → NodePace → NodePace
+node_said Call trees now node = called trees now node
+node_said _ trees now node = node
 
 -- a node that ticked, and may then have called
 abbrev pub node_ticked : Outlook → Bool → ℕ → Manner → ℕ → NodePace → NodePace

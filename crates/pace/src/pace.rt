@@ -5,7 +5,7 @@ ghost use Rattle.pace.specs.Ports.{fresh_port, heard_port, given_port, hearing_o
 ghost use Rattle.pace.specs.Ports.{is_due};
 ghost use Rattle.pace.specs.Nodes.{quiet_node, holds, may_tick, moved_on, calls_for_haste};
 ghost use Rattle.pace.specs.Plans.{port_of, sight_of, is_tree, is_other, tree_count, called_port};
-ghost use Rattle.pace.specs.Plans.{goes_on, node_told, node_ticked, rest_at, node_rest};
+ghost use Rattle.pace.specs.Plans.{goes_on, node_said, node_ticked, rest_at, node_rest};
 
 use crate::node::{NodePace, Outlook};
 use crate::port::{Hearing, PortPace, PortSight};
@@ -129,7 +129,7 @@ impl Pace {
         requires few { length trees.now ≤ 64 }
         ensures hearing { result
             ≡ hearing_of (times_heard frame.now (port_of self.old.ports port)) }
-        ensures node { self.new.node ≡ node_told result (tree_count trees.now) now self.old.node }
+        ensures node { self.new.node ≡ node_said result (tree_count trees.now) now self.old.node }
         ensures port { port_of self.new.ports port
             ≡ heard_port frame.now (port_of self.old.ports port) }
         ensures others { (p : ℕ) → p ≢ port → port_of self.new.ports p ≡ called_port

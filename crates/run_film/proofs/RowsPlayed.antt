@@ -16,7 +16,7 @@ use Rattle.run_recording.specs.Filmed.AreFilmed.{Start, Next}
 use Rattle.run_recording.specs.SimulatedText.{simulated_start}
 use Rattle.run_film.specs.declared.frames.Deed.{Deed}
 use Rattle.run_film.specs.declared.frames.Deed.TheVariants.{Sent, Taken, Lost}
-use Rattle.run_film.specs.declared.head.Told.{Told}
+use Rattle.run_film.specs.declared.head.Said.{Said}
 use Rattle.run_film.specs.declared.pace.Pace.{Pace}
 use Rattle.run_film.specs.declared.stage.Stage.{Stage}
 use Rattle.run_film.specs.declared.track.Track.TheVariants.{Mark}
@@ -24,8 +24,8 @@ use Rattle.run_film.specs.Beats.{Film}
 use Rattle.run_film.specs.Curves.{IsCounted}
 use Rattle.run_film.specs.Films.{IsPlayed, ShowsParts}
 use Rattle.run_film.specs.FilmTexts.{IsEachShown, IsFilm, IsPage, IsReelOf}
-use Rattle.run_film.specs.Heads.{stills_text, title_text, told_text, IsHeaded}
-use Rattle.run_film.specs.Pages.{counts_told, event_told, steps_shown, HoldsSteps, IsPageHead}
+use Rattle.run_film.specs.Heads.{stills_text, title_text, said_text, IsHeaded}
+use Rattle.run_film.specs.Pages.{counts_said, event_said, steps_shown, HoldsSteps, IsPageHead}
 use Rattle.run_film.specs.Places.{place_in, IsStage, IsWay, IsWayFrom, IsWayFromMiddle}
 use Rattle.run_film.specs.Shapes.{symbol_shown}
 use Rattle.run_film.specs.Symbols.{done_in, is_done, parents_in, HasSymbols, IsDefined}
@@ -149,23 +149,23 @@ parts_not-none film net shows = played_not-empty _ shows.sweeps
 
 -- ---- what stands round the graph
 
-abbrev told_of : ℕ → Told
-told_of refused = record { nodes = 4; events = 12; refused = refused; stills = 3; crowded = false }
+abbrev said_of : ℕ → Said
+said_of refused = record { nodes = 4; events = 12; refused = refused; stills = 3; crowded = false }
 
-title-four : title_text (told_of 0) ≡ codes "A run of a lock on " ++ (decimal 4 ++ codes " nodes, as a film")
+title-four : title_text (said_of 0) ≡ codes "A run of a lock on " ++ (decimal 4 ++ codes " nodes, as a film")
 title-four = refl
 
-told-refused : told_text (told_of 2) ≡ decimal 12 ++ (codes " events, " ++ (decimal 2 ++ codes " lines refused"))
-told-refused = refl
+said-refused : said_text (said_of 2) ≡ decimal 12 ++ (codes " events, " ++ (decimal 2 ++ codes " lines refused"))
+said-refused = refl
 
-stills-calm : stills_text (told_of 0) ≡ decimal 3 ++ codes " stills; calm stretches are shown by their last moment"
+stills-calm : stills_text (said_of 0) ≡ decimal 3 ++ codes " stills; calm stretches are shown by their last moment"
 stills-calm = refl
 
-stills-crowded : stills_text (record (told_of 0) { crowded = true }) ≡ decimal 3 ++ codes " stills, fewer than moments that count: each is the last of a stretch"
+stills-crowded : stills_text (record (said_of 0) { crowded = true }) ≡ decimal 3 ++ codes " stills, fewer than moments that count: each is the last of a stretch"
 stills-crowded = refl
 
-headed_not-none : (told : Told) → ¬ IsHeaded [] told
-headed_not-none told (front, are) = ended_not-none _ _ (sym are)
+headed_not-none : (said : Said) → ¬ IsHeaded [] said
+headed_not-none said (front, are) = ended_not-none _ _ (sym are)
 
 counted_not-none : (stage : Stage) (pace : Pace) → ¬ IsCounted [] stage pace
 counted_not-none stage pace (front, are) = ended_not-none _ _ (sym are)
@@ -219,10 +219,10 @@ page_not-empty net window es page = some_not-none _ _ (sym page.spelled)
 
 -- ---- the sentences of a page
 
-event-start : event_told (still_of wrong) ≡ codes "The start: "
+event-start : event_said (still_of wrong) ≡ codes "The start: "
 event-start = refl
 
-counts-damage : counts_told (record (still_of wrong) { damaged = true; privileged = 2 }) ≡ codes "damage, "
+counts-damage : counts_said (record (still_of wrong) { damaged = true; privileged = 2 }) ≡ codes "damage, "
     ++ (decimal 1 ++ (codes " wrong, " ++ (decimal 2 ++ (codes " privileged, " ++ (decimal 0 ++ (codes " lending; " ++ (decimal 0 ++ codes " sweeps since the last damage.")))))))
 counts-damage = refl
 

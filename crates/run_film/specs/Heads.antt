@@ -4,24 +4,24 @@ use Rattle.svg_drawing.specs.Drawn.{Given, Shown as Drawn, numbered, note_shown}
 use Rattle.svg_drawing.specs.declared.px.Px.{Px}
 use Rattle.svg_drawing.specs.Grouped.{Grouped}
 use Rattle.svg_drawing.specs.Lengths.{px}
-use Rattle.run_film.specs.declared.head.Told.{Told}
+use Rattle.run_film.specs.declared.head.Said.{Said}
 use Rattle.run_film.specs.declared.stage.Stage.{Stage}
 use Rattle.run_film.specs.Tracks.{given}
 use Rattle.run_film.specs.Words.{alone, words_shown}
 
 -- the title of a film
-abbrev pub title_text : Told → List ℕ
-title_text told = codes "A run of a lock on " ++ (decimal told.nodes ++ codes " nodes, as a film")
+abbrev pub title_text : Said → List ℕ
+title_text said = codes "A run of a lock on " ++ (decimal said.nodes ++ codes " nodes, as a film")
 
 -- what the run was
-abbrev pub told_text : Told → List ℕ
-told_text told = decimal told.events ++ (codes " events, " ++ (decimal told.refused ++ codes " lines refused"))
+abbrev pub said_text : Said → List ℕ
+said_text said = decimal said.events ++ (codes " events, " ++ (decimal said.refused ++ codes " lines refused"))
 
 -- how many stills there are, and that stretches are shown by their last state
-abbrev pub stills_text : Told → List ℕ
-stills_text told =
-    decimal told.stills
-    ++ (if told.crowded then codes " stills, fewer than moments that count: each is the last of a stretch"
+abbrev pub stills_text : Said → List ℕ
+stills_text said =
+    decimal said.stills
+    ++ (if said.crowded then codes " stills, fewer than moments that count: each is the last of a stretch"
     else codes " stills; calm stretches are shown by their last moment")
 
 -- a line of text
@@ -29,8 +29,8 @@ abbrev pub line_shown : Px → List ℕ → Drawn
 line_shown height text = words_shown (record { x = record { 0 = 16 }; y = height }) text
 
 -- a film has its title
-abbrev pub IsHeaded : List Grouped → Told → Type 0
-IsHeaded groups told = (front : List Grouped) × (groups ≡ front ++ (alone (note_shown (codes "title") (title_text told)) ∷ []))
+abbrev pub IsHeaded : List Grouped → Said → Type 0
+IsHeaded groups said = (front : List Grouped) × (groups ≡ front ++ (alone (note_shown (codes "title") (title_text said)) ∷ []))
 
 -- the width and the height of a film
 abbrev pub attributes_of : Stage → List Given

@@ -14,17 +14,17 @@ use Rattle.svg_drawing.specs.declared.element.Document.{Document}
 use Rattle.run_film.specs.Tracks.{given}
 
 -- how many events led to a still, and the last of them, as the line that spells it
-abbrev pub event_told_by : ℕ → Option Event → List ℕ
-event_told_by events (Some e) = codes "Event " ++ (decimal events ++ (codes ", " ++ (join_with_byte 32 (event_words e) ++ codes ": ")))
-event_told_by events None = codes "The start: "
+abbrev pub event_said_by : ℕ → Option Event → List ℕ
+event_said_by events (Some e) = codes "Event " ++ (decimal events ++ (codes ", " ++ (join_with_byte 32 (event_words e) ++ codes ": ")))
+event_said_by events None = codes "The start: "
 
-abbrev pub event_told : Still → List ℕ
-event_told still = event_told_by still.events still.event
+abbrev pub event_said : Still → List ℕ
+event_said still = event_said_by still.events still.event
 
 -- what is counted in a still: the nodes that have not their true places, the privileged and the
 -- lending ones, and the sweeps
-abbrev pub counts_told : Still → List ℕ
-counts_told still =
+abbrev pub counts_said : Still → List ℕ
+counts_said still =
     (if still.damaged then codes "damage, " else [])
     ++ (decimal (count_by (λ look. not look.settled) still.looks) ++ (codes " wrong, " ++ (decimal still.privileged ++ (codes " privileged, "
     ++ (decimal still.lending ++ (codes " lending; " ++ (decimal still.sweeps ++ codes " sweeps since the last damage.")))))))
@@ -34,7 +34,7 @@ abbrev pub step_shown : Still → ℕ → Drawn
 step_shown still beats = record {
   name = codes "li";
   attributes = given (codes "data-beats") (decimal beats) ∷ [];
-  text = event_told still ++ counts_told still;
+  text = event_said still ++ counts_said still;
 }
 
 -- those of the stills from a place on

@@ -3,7 +3,7 @@ ghost use Rattle.std.specs.Prelude.{◌≡◌, IfOk, codes, map, string_bytes};
 ghost use Rattle.svg_drawing.specs.Drawn.{given_of, note_shown};
 ghost use Rattle.svg_drawing.specs.Grouped.{grouped_of};
 ghost use Rattle.run_film.specs.Heads.{attributes_of, line_shown, stills_text, title_text};
-ghost use Rattle.run_film.specs.Heads.{told_text, IsHeaded};
+ghost use Rattle.run_film.specs.Heads.{said_text, IsHeaded};
 ghost use Rattle.run_film.specs.Words.{alone};
 
 use crate::frames::MOST_FRAMED;
@@ -39,7 +39,7 @@ pub const BELOW: Px = Px(150);
 
 /// What a film says of its run.
 #[derive(Clone, Copy, Debug, PartialEq, Eq)]
-pub struct Told {
+pub struct Said {
     /// How many nodes there are.
     pub nodes: u16,
     /// How many events there were.
@@ -71,44 +71,44 @@ pub fn attributes(alloc: Global, stage: &Stage) -> Result<Vec<Attribute>, AllocE
 
 /// What stands first: the title and what the run was, which a screen reader says; and below all else
 /// the ground, with these words, how the stills stand for the run, and the legend.
-pub fn head(alloc: Global, stage: &Stage, told: Told) -> Result<Vec<Group>, AllocError>
-    ensures { IfOk result (λ groups. IsHeaded (map grouped_of groups.items) told) }
+pub fn head(alloc: Global, stage: &Stage, said: Said) -> Result<Vec<Group>, AllocError>
+    ensures { IfOk result (λ groups. IsHeaded (map grouped_of groups.items) said) }
 {
-    let mut groups = under_title(alloc, stage, told)?;
-    groups.push(film_title(alloc, told)?)?;
+    let mut groups = under_title(alloc, stage, said)?;
+    groups.push(film_title(alloc, said)?)?;
     Ok(groups)
 }
 
 /// The title.
-fn film_title(alloc: Global, told: Told) -> Result<Group, AllocError>
+fn film_title(alloc: Global, said: Said) -> Result<Group, AllocError>
     ensures { IfOk result (λ group. grouped_of group
-        ≡ alone (note_shown (codes "title") (title_text told))) }
+        ≡ alone (note_shown (codes "title") (title_text said))) }
 {
-    let title = title_told(alloc, told)?;
+    let title = title_said(alloc, said)?;
     said_note(alloc, "title", title.as_str())
 }
 
 /// The words of the title.
-fn title_told(alloc: Global, told: Told) -> Result<String, AllocError>
-    ensures { IfOk result (λ text. string_bytes text ≡ title_text told) }
+fn title_said(alloc: Global, said: Said) -> Result<String, AllocError>
+    ensures { IfOk result (λ text. string_bytes text ≡ title_text said) }
 {
-    let nodes = told.nodes;
+    let nodes = said.nodes;
     format!(in alloc; "A run of a lock on {nodes} nodes, as a film")
 }
 
 /// What the run was.
-fn run_told(alloc: Global, told: Told) -> Result<String, AllocError>
-    ensures { IfOk result (λ text. string_bytes text ≡ told_text told) }
+fn run_said(alloc: Global, said: Said) -> Result<String, AllocError>
+    ensures { IfOk result (λ text. string_bytes text ≡ said_text said) }
 {
-    let (events, refused) = (told.events, told.refused);
+    let (events, refused) = (said.events, said.refused);
     format!(in alloc; "{events} events, {refused} lines refused")
 }
 
 /// What follows the title.
-fn under_title(alloc: Global, stage: &Stage, told: Told) -> Result<Vec<Group>, AllocError> {
-    let title = title_told(alloc, told)?;
-    let was = run_told(alloc, told)?;
-    let stills = stills_told(alloc, told)?;
+fn under_title(alloc: Global, stage: &Stage, said: Said) -> Result<Vec<Group>, AllocError> {
+    let title = title_said(alloc, said)?;
+    let was = run_said(alloc, said)?;
+    let stills = stills_said(alloc, said)?;
     let mut groups = Vec::new(alloc);
     groups.push(said_note(alloc, "desc", was.as_str())?)?;
     groups.push(said_note(alloc, "style", STYLE)?)?;
@@ -116,7 +116,7 @@ fn under_title(alloc: Global, stage: &Stage, told: Told) -> Result<Vec<Group>, A
     groups.push(written_line(alloc, Px(26), title.as_str())?)?;
     groups.push(written_line(alloc, Px(46), was.as_str())?)?;
     groups.push(written_line(alloc, stage.floor + Px(140), stills.as_str())?)?;
-    put_key(alloc, &mut groups, told)?;
+    put_key(alloc, &mut groups, said)?;
     put_legend(alloc, &mut groups)?;
     Ok(groups)
 }
@@ -125,8 +125,8 @@ fn under_title(alloc: Global, stage: &Stage, told: Told) -> Result<Vec<Group>, A
 const KEY: &str = "in a node: its distance; arrow: to its parent; thick: the true tree";
 
 /// Draws what they mean, beside the title.
-fn put_key(alloc: Global, groups: &mut Vec<Group>, told: Told) -> Result<(), AllocError> {
-    let signs = if told.nodes <= MOST_FRAMED {
+fn put_key(alloc: Global, groups: &mut Vec<Group>, said: Said) -> Result<(), AllocError> {
+    let signs = if said.nodes <= MOST_FRAMED {
         "lightning: damage; dot: a frame that goes; cross: one that is lost"
     } else {
         "lightning: damage"
@@ -156,11 +156,11 @@ fn written_line(alloc: Global, y: Px, text: &str) -> Result<Group, AllocError>
 }
 
 /// How many stills there are, and whether stretches are shown by their last state.
-fn stills_told(alloc: Global, told: Told) -> Result<String, AllocError>
-    ensures { IfOk result (λ text. string_bytes text ≡ stills_text told) }
+fn stills_said(alloc: Global, said: Said) -> Result<String, AllocError>
+    ensures { IfOk result (λ text. string_bytes text ≡ stills_text said) }
 {
-    let stills = told.stills;
-    if told.crowded {
+    let stills = said.stills;
+    if said.crowded {
         format!(in alloc;
             "{stills} stills, fewer than moments that count: each is the last of a stretch"
         )

@@ -104,7 +104,7 @@ pub fn put_frames(
 }
 
 /// Says how many sweeps there were, and whether there was damage.
-pub fn put_told(
+pub fn put_said(
     alloc: Global,
     groups: &mut Vec<Group>,
     stage: &Stage,

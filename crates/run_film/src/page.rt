@@ -3,7 +3,7 @@ ghost use Rattle.std.specs.Prelude.{◌≡◌, ◌++◌, [], IfOk, OnOk, codes, 
 ghost use Rattle.svg_drawing.specs.Drawn.{note_shown, shown_of};
 ghost use Rattle.svg_drawing.specs.Grouped.{grouped_of};
 ghost use Rattle.run_film.specs.Beats.{film_of};
-ghost use Rattle.run_film.specs.Pages.{counts_told, event_told, step_shown, steps_shown};
+ghost use Rattle.run_film.specs.Pages.{counts_said, event_said, step_shown, steps_shown};
 ghost use Rattle.run_film.specs.Pages.{HoldsSteps, IsPageHead};
 
 use crate::pace::Shown;
@@ -188,13 +188,13 @@ pub fn controls(alloc: Global, shown: Shown<'_>) -> Result<Vec<Group>, AllocErro
 
 /// What does not change from film to film.
 fn under_steps(alloc: Global) -> Result<Vec<Group>, AllocError> {
-    let told = Element::new(alloc, "p")
+    let said = Element::new(alloc, "p")
         .with(alloc, "id", "told")?
         .with(alloc, "role", "status")?
         .with(alloc, "aria-live", "polite")?;
     let mut groups = Vec::new(alloc);
     groups.push(buttons(alloc)?)?;
-    groups.push(Group::alone(alloc, told))?;
+    groups.push(Group::alone(alloc, said))?;
     groups.push(Group::alone(alloc, Element::new(alloc, "script").saying(SCRIPT)?))?;
     Ok(groups)
 }
@@ -260,7 +260,7 @@ fn step(alloc: Global, still: &Still, beats: usize) -> Result<Element, AllocErro
 
 /// Adds how many events there were, and the last of them.
 fn push_event(text: &mut String, still: &Still) -> Result<(), AllocError>
-    ensures { OnOk result (string_bytes text.new ≡ string_bytes text.old ++ event_told still.now) }
+    ensures { OnOk result (string_bytes text.new ≡ string_bytes text.old ++ event_said still.now) }
 {
     match still.event {
         Some(event) => write!(text, "Event {}, {}: ", still.events, EventLine(event)),
@@ -270,7 +270,7 @@ fn push_event(text: &mut String, still: &Still) -> Result<(), AllocError>
 
 /// Adds what is counted.
 fn push_counts(text: &mut String, still: &Still) -> Result<(), AllocError>
-    ensures { OnOk result (string_bytes text.new ≡ string_bytes text.old ++ counts_told still.now) }
+    ensures { OnOk result (string_bytes text.new ≡ string_bytes text.old ++ counts_said still.now) }
 {
     let damage = if still.damaged { "damage, " } else { "" };
     let wrong = still.looks.iter().filter(|look| !look.settled).count();

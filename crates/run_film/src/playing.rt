@@ -9,8 +9,8 @@ ghost use Rattle.run_film.specs.Films.{Keeps, ShowsFilm, ShowsParts};
 ghost use Rattle.run_film.specs.Pages.{ShowsPage};
 
 use crate::counts::counts;
-use crate::head::{Told, attributes, head};
-use crate::nodes::{put_edges, put_frames, put_nodes, put_told};
+use crate::head::{Said, attributes, head};
+use crate::nodes::{put_edges, put_frames, put_nodes, put_said};
 use crate::pace::{EMPTY, Pace, Shown};
 use crate::page::{controls, page_head};
 use crate::stage::Stage;
@@ -97,14 +97,14 @@ fn scene(
 {
     let order = first_visits(alloc, net)?;
     let stage = Stage::of(net, order.as_slice());
-    let told = Told {
+    let said = Said {
         nodes: net.nodes(),
         events: recording.events(),
         refused: recording.refused(),
         stills: shown.later().len().saturating_add(1),
         crowded: recording.reel().is_some_and(|reel| reel.is_crowded()),
     };
-    let mut groups = head(alloc, &stage, told)?;
+    let mut groups = head(alloc, &stage, said)?;
     groups.extend(counts(alloc, &stage, shown)?)?;
     put_symbols(alloc, &mut groups, net, &stage, shown)?;
     put_parts(alloc, &mut groups, net, &stage, shown)?;
@@ -125,7 +125,7 @@ fn put_parts(
     ensures plays { OnOk result (ShowsParts (map grouped_of groups.new.items) (film_of shown.entry) net.now) }
     ensures keeps { OnOk result (Keeps (map grouped_of groups.old.items) (map grouped_of groups.new.items)) }
 {
-    put_told(alloc, groups, stage, shown)?;
+    put_said(alloc, groups, stage, shown)?;
     put_edges(alloc, groups, net, shown)?;
     put_frames(alloc, groups, net, shown)?;
     put_nodes(alloc, groups, net, stage, shown)?;

@@ -376,8 +376,8 @@ fn put_tickets(
     }
     for ticket in tickets.as_slice() {
         let name = format!(in alloc; "t{ticket}")?;
-        let told = format!(in alloc; "lends to {ticket}")?;
-        groups.push(symbol_of(alloc, name.as_str(), words(alloc, MIDDLE, told.as_str())?)?)?;
+        let said = format!(in alloc; "lends to {ticket}")?;
+        groups.push(symbol_of(alloc, name.as_str(), words(alloc, MIDDLE, said.as_str())?)?)?;
     }
     Ok(())
 }
@@ -419,8 +419,8 @@ fn put_sweeps(
 fn sweeps_text(alloc: Global, net: &Net, sweeps: u64) -> Result<Group, AllocError> {
     let name = format!(in alloc; "s{sweeps}")?;
     let (sharp, bound) = (net.sharp_bound(), net.bound());
-    let told = format!(in alloc;
+    let said = format!(in alloc;
         "sweeps since the last damage: {sweeps}; proved to suffice: {sharp} (bound: {bound})"
     )?;
-    symbol_of(alloc, name.as_str(), words(alloc, MIDDLE, told.as_str())?)
+    symbol_of(alloc, name.as_str(), words(alloc, MIDDLE, said.as_str())?)
 }

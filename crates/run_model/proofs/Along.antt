@@ -22,13 +22,13 @@ undamaged-one w e d = or_from (is_damage w e) false d refl
 -- next event, and still holds after that event.
 pub record Course : Type 1 where
   pub holds : World → List Event → Type 0
-  pub tells : World → Event → Type 0
-  pub now : (w : World) (e : Event) (es : List Event) → holds w (e ∷ es) → tells w e
+  pub says : World → Event → Type 0
+  pub now : (w : World) (e : Event) (es : List Event) → holds w (e ∷ es) → says w e
   pub later : (w : World) (e : Event) (es : List Event) → holds w (e ∷ es) → holds (step w e) es
 
 -- a fact that each event of a course keeps
 abbrev pub IsKept : Course → (World → Type 0) → Type 0
-IsKept c P = (w : World) (e : Event) → c.tells w e → P w → P (step w e)
+IsKept c P = (w : World) (e : Event) → c.says w e → P w → P (step w e)
 
 pub kept : (c : Course) (P : World → Type 0) → IsKept c P → (w : World) (es : List Event) → c.holds w es → P w → P (run w es)
 kept c P k w [] h p = p
@@ -37,8 +37,8 @@ kept c P k w (e ∷ es) h p = kept c P k (step w e) es (c.later w e es h) (k w e
 -- if P is kept, Q is kept while P holds, and a full tick of v brings Q about while P holds: a
 -- list with a full tick of v brings Q about
 pub ticked : (c : Course) (P Q : World → Type 0) (v : ℕ) → IsKept c P
-    → ((w : World) (e : Event) → c.tells w e → P w → Q w → Q (step w e))
-    → ((w : World) (e : Event) → c.tells w e → P w → is_full_tick w e v ≡ true → Q (step w e))
+    → ((w : World) (e : Event) → c.says w e → P w → Q w → Q (step w e))
+    → ((w : World) (e : Event) → c.says w e → P w → is_full_tick w e v ≡ true → Q (step w e))
     → (w : World) (es : List Event) → c.holds w es → P w → has_full_tick w es v ≡ true → Q (run w es)
 ticked c P Q v kp kq tick w [] h p t = absurd (false≢true t)
 ticked c P Q v kp kq tick w (e ∷ es) h p t =
@@ -56,7 +56,7 @@ IsUndamagedEvent w e = IsWorldInRange w × (is_damage w e ≡ false)
 abbrev pub in_range : RangesStay → Course
 in_range ranges = record {
   holds = λ w es. IsWorldInRange w × IsUndamaged w es;
-  tells = IsUndamagedEvent;
+  says = IsUndamagedEvent;
   now = λ w e es h. (h.0, (undamaged-front w e es h.1).0);
   later = λ w e es h. (ranges w (e ∷ []) h.0, (undamaged-front w e es h.1).1);
 }

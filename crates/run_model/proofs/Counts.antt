@@ -55,13 +55,13 @@ two-beginnings (x ∷ a) b (y ∷ c) d e = elim (two-beginnings a b c d cc) [
 -- the rest after the earliest sweep holds all the other sweeps
 pub earliest-best : (w : World) (r : ℕ) (first rest : List Event) → AreEdges w.net → IsUndamaged w (first ++ rest) → IsEarliest w first
     → Sweeps w (suc r) (first ++ rest) → Sweeps (run w first) r rest
-earliest-best w r first rest edges fine earliest (other, behind, e, sweep, s) = elim (two-beginnings first rest other behind e) [
+earliest-best w r first rest edges fine earliest (other, later, e, sweep, s) = elim (two-beginnings first rest other later e) [
   | Shorter event mid f g ↦ absurd (let none = earliest other (event ∷ mid) f sweep in cc)
   | Longer mid f g ↦
-      let after : Sweeps (run (run w first) mid) r behind = subst (λ x. Sweeps x r behind) (ap (run w) f ∙ runs-join w first mid) s in
+      let after : Sweeps (run (run w first) mid) r later = subst (λ x. Sweeps x r later) (ap (run w) f ∙ runs-join w first mid) s in
       subst (Sweeps (run w first) r) (sym g)
-      (sweeps-late (run w first) r mid behind (subst AreEdges (sym (run-network w first (undamaged-splits w first rest fine).0)) edges)
-      (undamaged-splits (run w first) mid behind (subst (IsUndamaged (run w first)) g (undamaged-splits w first rest fine).1)).0 after)
+      (sweeps-late (run w first) r mid later (subst AreEdges (sym (run-network w first (undamaged-splits w first rest fine).0)) edges)
+      (undamaged-splits (run w first) mid later (subst (IsUndamaged (run w first)) g (undamaged-splits w first rest fine).1)).0 after)
 ]
 
 pub greedy-count : (w : World) (r : ℕ) (first rest : List Event) → AreEdges w.net → IsUndamaged w (first ++ rest) → IsSweep w first → IsEarliest w first

@@ -164,15 +164,15 @@ child = record { distance = 1; parent = Some 0; ring = 3 }
 abbrev met : World
 met = step (step start (Damage (harm.Own 0 0 None))) (Damage (harm.Value 0 1 5))
 
-abbrev told : World
-told = step (step met (Damage (harm.Item 1 0 (Frame (record { seq = 1; ack = 0; payload = child }))))) (Take 1 0)
+abbrev said : World
+said = step (step met (Damage (harm.Item 1 0 (Frame (record { seq = 1; ack = 0; payload = child }))))) (Take 1 0)
 
-told-copies : ((told.node 0).port 1).copy ≡ child
-told-copies = refl
+said-copies : ((said.node 0).port 1).copy ≡ child
+said-copies = refl
 
-told-stages_before : ((told.node 0).port 1).staged ≡ record { distance = 0; parent = None; ring = 0 }
-told-stages_before = refl
+said-stages_before : ((said.node 0).port 1).staged ≡ record { distance = 0; parent = None; ring = 0 }
+said-stages_before = refl
 
 -- afterwards, 0 would say its value for its child
-told-says_now : present told 0 1 ≡ record { distance = 0; parent = None; ring = 5 }
-told-says_now = refl
+said-says_now : present said 0 1 ≡ record { distance = 0; parent = None; ring = 5 }
+said-says_now = refl

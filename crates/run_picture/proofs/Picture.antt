@@ -8,7 +8,7 @@ use Rattle.run_picture.specs.Added.{Adds}
 use Rattle.run_picture.specs.Axis.{IsAxis}
 use Rattle.run_picture.specs.Curves.{curves_shown, levels_shown}
 use Rattle.svg_drawing.specs.Drawn.{Shown}
-use Rattle.run_picture.specs.Head.{head_shown, told_words}
+use Rattle.run_picture.specs.Head.{head_shown, said_words}
 use Rattle.run_picture.specs.Lanes.{AreLanes}
 use Rattle.run_picture.specs.Legend.{legend_shown}
 use Rattle.run_picture.specs.Page.{page_of}
@@ -20,11 +20,11 @@ use Rattle.run_recording.specs.Visits.{first_visits}
 
 -- what the parts show, by what they are given
 abbrev Parts : Page → Network → List ℕ → List Column → ℕ → Before → List ℕ → List Shown → Type 0
-Parts page net order columns width before told shown =
+Parts page net order columns width before said shown =
     (lanes : List Shown) × AreLanes page columns 0 order lanes × ((axis : List Shown) × IsAxis page before.events width axis
     × ((ruler : List Shown) × IsRuler page before.sweeps columns ruler
     × (shown
-    ≡ head_shown page net told
+    ≡ head_shown page net said
     ++ (legend_shown width
     ++ (tree_shown page net order ++ (lanes ++ (levels_shown page columns ++ (curves_shown page columns ++ (axis ++ ruler)))))))))
 
@@ -40,12 +40,12 @@ eight a b c d e f g h x₁ x₂ x₃ x₄ x₅ x₆ x₇ x₈ i₁ i₂ i₃ i�
     ∙ ap (λ x. x ++ (b ++ (c ++ (d ++ (e ++ (f ++ (g ++ h))))))) i₁
 
 -- what is added, one part over the other
-added_parts : (page : Page) (net : Network) (order : List ℕ) (columns : List Column) (width : ℕ) (before : Before) (told : List ℕ)
-    (x₀ x₁ x₂ x₃ x₄ x₅ x₆ x₇ x₈ : List Shown) → x₀ ≡ [] → x₁ ≡ x₀ ++ head_shown page net told → x₂ ≡ x₁ ++ legend_shown width
+added_parts : (page : Page) (net : Network) (order : List ℕ) (columns : List Column) (width : ℕ) (before : Before) (said : List ℕ)
+    (x₀ x₁ x₂ x₃ x₄ x₅ x₆ x₇ x₈ : List Shown) → x₀ ≡ [] → x₁ ≡ x₀ ++ head_shown page net said → x₂ ≡ x₁ ++ legend_shown width
     → x₃ ≡ x₂ ++ tree_shown page net order → Adds (AreLanes page columns 0 order) x₃ x₄ → x₅ ≡ x₄ ++ levels_shown page columns
     → x₆ ≡ x₅ ++ curves_shown page columns → Adds (IsAxis page before.events width) x₆ x₇ → Adds (IsRuler page before.sweeps columns) x₇ x₈
-    → Parts page net order columns width before told x₈
-added_parts page net order columns width before told x₀ x₁ x₂ x₃ x₄ x₅ x₆ x₇ x₈ nothing head legend tree (lanes, are_lanes, i₄) levels curves (axis, is_axis, i₇) (ruler, is_ruler, i₈) = (
+    → Parts page net order columns width before said x₈
+added_parts page net order columns width before said x₀ x₁ x₂ x₃ x₄ x₅ x₆ x₇ x₈ nothing head legend tree (lanes, are_lanes, i₄) levels curves (axis, is_axis, i₇) (ruler, is_ruler, i₈) = (
   lanes,
   are_lanes,
   (
@@ -54,8 +54,8 @@ added_parts page net order columns width before told x₀ x₁ x₂ x₃ x₄ x�
     (
       ruler,
       is_ruler,
-      eight (head_shown page net told) (legend_shown width) (tree_shown page net order) lanes
-          (levels_shown page columns) (curves_shown page columns) axis ruler x₁ x₂ x₃ x₄ x₅ x₆ x₇ x₈ (head ∙ ap (λ x. x ++ head_shown page net told) nothing)
+      eight (head_shown page net said) (legend_shown width) (tree_shown page net order) lanes
+          (levels_shown page columns) (curves_shown page columns) axis ruler x₁ x₂ x₃ x₄ x₅ x₆ x₇ x₈ (head ∙ ap (λ x. x ++ head_shown page net said) nothing)
           legend tree i₄ levels curves i₇ i₈,
     ),
   ),
@@ -63,7 +63,7 @@ added_parts page net order columns width before told x₀ x₁ x₂ x₃ x₄ x�
 
 -- what is given is what was recorded
 shows_run : (net : Network) (r : RecordingView) (shown : List Shown)
-    → Parts (page_of net (length r.strip.columns)) net (first_visits net) r.strip.columns r.strip.width r.before (told_words r) shown
+    → Parts (page_of net (length r.strip.columns)) net (first_visits net) r.strip.columns r.strip.width r.before (said_words r) shown
     → ShowsRun (page_of net (length r.strip.columns)) net r shown
 shows_run net r shown (lanes, are_lanes, (axis, is_axis, (ruler, is_ruler, are))) =
     record { lanes = lanes; are_lanes = are_lanes; axis = axis; is_axis = is_axis; ruler = ruler; is_ruler = is_ruler; are = are }
@@ -71,16 +71,16 @@ shows_run net r shown (lanes, are_lanes, (axis, is_axis, (ruler, is_ruler, are))
 -- the parts, drawn one over the other with what was recorded, show the run
 pub drawn_run : (net : Network) (r : RecordingView) (page : Page) (order : List ℕ) (columns : List Column) (width : ℕ) (before : Before)
     (x₀ x₁ x₂ x₃ x₄ x₅ x₆ x₇ x₈ : List Shown) → page ≡ page_of net (length columns) → order ≡ first_visits net → columns ≡ r.strip.columns
-    → width ≡ r.strip.width → before ≡ r.before → x₀ ≡ [] → x₁ ≡ x₀ ++ head_shown page net (told_words r) → x₂ ≡ x₁ ++ legend_shown width
+    → width ≡ r.strip.width → before ≡ r.before → x₀ ≡ [] → x₁ ≡ x₀ ++ head_shown page net (said_words r) → x₂ ≡ x₁ ++ legend_shown width
     → x₃ ≡ x₂ ++ tree_shown page net order → Adds (AreLanes page columns 0 order) x₃ x₄ → x₅ ≡ x₄ ++ levels_shown page columns
     → x₆ ≡ x₅ ++ curves_shown page columns → Adds (IsAxis page before.events width) x₆ x₇ → Adds (IsRuler page before.sweeps columns) x₇ x₈
     → ShowsRun (page_of net (length r.strip.columns)) net r x₈
 drawn_run net r page order columns width before x₀ x₁ x₂ x₃ x₄ x₅ x₆ x₇ x₈ is_page is_order is_columns is_width is_before nothing head legend tree lanes levels curves axis ruler =
-    let parts = added_parts page net order columns width before (told_words r) x₀ x₁ x₂ x₃ x₄ x₅ x₆ x₇ x₈ nothing head legend tree lanes levels curves
+    let parts = added_parts page net order columns width before (said_words r) x₀ x₁ x₂ x₃ x₄ x₅ x₆ x₇ x₈ nothing head legend tree lanes levels curves
     axis ruler in
     shows_run net r x₈
-    (subst (λ b. Parts (page_of net (length r.strip.columns)) net (first_visits net) r.strip.columns r.strip.width b (told_words r) x₈) is_before
-    (subst (λ w. Parts (page_of net (length r.strip.columns)) net (first_visits net) r.strip.columns w before (told_words r) x₈) is_width
-    (subst (λ cs. Parts (page_of net (length cs)) net (first_visits net) cs width before (told_words r) x₈) is_columns
-    (subst (λ o. Parts (page_of net (length columns)) net o columns width before (told_words r) x₈) is_order
-    (subst (λ p. Parts p net order columns width before (told_words r) x₈) is_page parts)))))
+    (subst (λ b. Parts (page_of net (length r.strip.columns)) net (first_visits net) r.strip.columns r.strip.width b (said_words r) x₈) is_before
+    (subst (λ w. Parts (page_of net (length r.strip.columns)) net (first_visits net) r.strip.columns w before (said_words r) x₈) is_width
+    (subst (λ cs. Parts (page_of net (length cs)) net (first_visits net) cs width before (said_words r) x₈) is_columns
+    (subst (λ o. Parts (page_of net (length columns)) net o columns width before (said_words r) x₈) is_order
+    (subst (λ p. Parts p net order columns width before (said_words r) x₈) is_page parts)))))

@@ -5,7 +5,7 @@ use Rattle.svg_drawing.specs.declared.colours.Colour.TheVariants.{Pale, Ink}
 use Rattle.run_picture.specs.declared.layout.legend.Sign.TheVariants.{Bar}
 use Rattle.run_picture.specs.declared.layout.page.Page.{Page}
 use Rattle.svg_drawing.specs.Drawn.{rect_shown, path_shown, whole}
-use Rattle.run_picture.specs.Legend.{sign_shown, behind}
+use Rattle.run_picture.specs.Legend.{sign_shown, later}
 use Rattle.run_picture.specs.Page.{page_of, page_width}
 use Rattle.run_picture.specs.Picture.{ShowsRun}
 use Rattle.run_recording.specs.Recordings.{RecordingView}
@@ -52,7 +52,7 @@ first_bar : sign_shown 16 68 (Bar Pale 12) ≡ rect_shown 16 58 16 12 Pale
 first_bar = refl
 
 -- a meaning of 24 letters at 38, and then room
-second_sign : behind 38 (codes "distance and parent true") ≡ 198
+second_sign : later 38 (codes "distance and parent true") ≡ 198
 second_sign = refl
 
 -- ---- the picture

@@ -11,7 +11,7 @@ use Rattle.run_recording.specs.declared.column.Column.{Column}
 use Rattle.run_picture.specs.declared.layout.page.Page.{Page}
 use Rattle.run_picture.specs.declared.layout.ruler.SweepNumber.{SweepNumber}
 use Rattle.run_picture.specs.Page.{middle_of}
-use Rattle.run_picture.specs.Ruler.{ended_in, HasTick, IsSweepNumber, room_behind, HaveRoom, IsTaken, AreNumbers, has_room, with_number}
+use Rattle.run_picture.specs.Ruler.{ended_in, HasTick, IsSweepNumber, room_after, HaveRoom, IsTaken, AreNumbers, has_room, with_number}
 
 -- ---- how many sweeps have ended
 
@@ -142,14 +142,14 @@ no_numbers page before columns = record { right = tt; apart = tt; taken = λ p b
 
 -- ---- the last number
 
-behind_room : (page : Page) (a : SweepNumber) (numbers : List SweepNumber) (place : ℕ) (d : SweepNumber)
-    → has_room page (a ∷ numbers) place ≡ nat_le (room_behind page (slice_index_or (a ∷ numbers) (length numbers) d).place) (middle_of page place)
-behind_room page a [] place d = refl
-behind_room page a (b ∷ numbers) place d = behind_room page b numbers place d
+after_room : (page : Page) (a : SweepNumber) (numbers : List SweepNumber) (place : ℕ) (d : SweepNumber)
+    → has_room page (a ∷ numbers) place ≡ nat_le (room_after page (slice_index_or (a ∷ numbers) (length numbers) d).place) (middle_of page place)
+after_room page a [] place d = refl
+after_room page a (b ∷ numbers) place d = after_room page b numbers place d
 
 pub last_room : (page : Page) (numbers : List SweepNumber) (place : ℕ) (d : SweepNumber) → 0 < length numbers
-    → has_room page numbers place ≡ nat_le (room_behind page (slice_index_or numbers (length numbers - 1) d).place) (middle_of page place)
+    → has_room page numbers place ≡ nat_le (room_after page (slice_index_or numbers (length numbers - 1) d).place) (middle_of page place)
 last_room page [] place d some = grind (arith, common_steps)
 last_room page (a ∷ numbers) place d some =
     let last : length (a ∷ numbers) - 1 ≡ length numbers = omega arith in
-    rw last (behind_room page a numbers place d)
+    rw last (after_room page a numbers place d)

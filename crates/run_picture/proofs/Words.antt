@@ -14,10 +14,10 @@ use Rattle.run_picture.specs.Words.{event_words, node_words, sweep_words, descri
 refused_twice : (a b : ℕ) → counted_up_to (a + counted_up_to b) ≡ counted_up_to (a + b)
 refused_twice a b = grind (arith, common_steps)
 
-pub tells_of : (start : World) (es : List Event) (r : RecordingView) (sweeps : ℕ) (words : List ℕ) → AreSweepsSeen r.judge sweeps
+pub says_of : (start : World) (es : List Event) (r : RecordingView) (sweeps : ℕ) (words : List ℕ) → AreSweepsSeen r.judge sweeps
     → words ≡ description_words r.events (counted_up_to (r.unread + r.judge.refused)) (world_of r.judge.configuration) sweeps
     → IsRecorded start es r → TellsOf start es r.unread words
-tells_of start es r sweeps words seen is recorded =
+says_of start es r sweeps words seen is recorded =
     let judging = recorded.seen.judging in
     let counted = seen start es recorded.seen in
     let refused : counted_up_to (r.unread + r.judge.refused) ≡ counted_up_to (r.unread + refused_in start es) =
@@ -25,7 +25,7 @@ tells_of start es r sweeps words seen is recorded =
     record {
       sweeps = counted.0;
       are_sweeps = counted.1;
-      tells = is
+      says = is
           ∙ ap (λ n. description_words n (counted_up_to (r.unread + r.judge.refused)) (world_of r.judge.configuration) sweeps) recorded.events_are
           ∙ ap (λ n. description_words (length es) n (world_of r.judge.configuration) sweeps) refused
           ∙ ap (λ w. description_words (length es) (counted_up_to (r.unread + refused_in start es)) w sweeps) judging.now_is

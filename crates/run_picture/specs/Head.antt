@@ -13,12 +13,12 @@ use Rattle.run_recording.specs.Recordings.{RecordingView}
 use Rattle.run_picture.specs.Words.{title_words, headline_words, description_words}
 
 -- what a recording says of its run
-abbrev pub told_words : RecordingView → List ℕ
-told_words r = description_words r.events (counted_up_to (r.unread + r.judge.refused)) (world_of r.judge.configuration) r.judge.sweeps
+abbrev pub said_words : RecordingView → List ℕ
+said_words r = description_words r.events (counted_up_to (r.unread + r.judge.refused)) (world_of r.judge.configuration) r.judge.sweeps
 
 -- the title and what is reported, which are not seen; the white ground of the page; over it the headline,
 -- and below that what is reported
 abbrev pub head_shown : Page → Network → List ℕ → List Shown
-head_shown page net told =
-    note_shown (codes "title") (title_words net) ∷ note_shown (codes "desc") told ∷ rect_shown 0 0 (page_width page) (page_height page) Paper
-    ∷ heading_shown 16 26 (headline_words net) ∷ words_shown 16 46 Start Ink told ∷ []
+head_shown page net said =
+    note_shown (codes "title") (title_words net) ∷ note_shown (codes "desc") said ∷ rect_shown 0 0 (page_width page) (page_height page) Paper
+    ∷ heading_shown 16 26 (headline_words net) ∷ words_shown 16 46 Start Ink said ∷ []

@@ -23,8 +23,8 @@ room_of (Upright colour width) = 16
 room_of _ = 22
 
 -- where the next sign stands, after a meaning: 6 for each letter, and 16
-abbrev pub behind : ℕ → List ℕ → ℕ
-behind x meaning = px (px (x + px (6 * length meaning)) + 16)
+abbrev pub later : ℕ → List ℕ → ℕ
+later x meaning = px (px (x + px (6 * length meaning)) + 16)
 
 -- a sign, and after it what it means
 pub record Meaning : Type 0 where
@@ -36,7 +36,7 @@ abbrev pub meanings_shown : ℕ → ℕ → List Meaning → List Shown
 meanings_shown x y [] = []
 meanings_shown x y (m ∷ meanings) =
     sign_shown x y m.sign ∷ words_shown (px (x + room_of m.sign)) y Start Ink m.words
-    ∷ meanings_shown (behind (px (x + room_of m.sign)) m.words) y meanings
+    ∷ meanings_shown (later (px (x + room_of m.sign)) m.words) y meanings
 
 -- what the colours of the lanes mean
 abbrev pub colour_meanings : List Meaning

@@ -6,7 +6,7 @@ use Rattle.run_picture.specs.declared.layout.page.Page.{Page}
 use Rattle.run_picture.specs.Axis.{IsAxis}
 use Rattle.run_picture.specs.Curves.{curves_shown, levels_shown}
 use Rattle.svg_drawing.specs.Drawn.{Given, Shown, given_of, shown_of, numbered}
-use Rattle.run_picture.specs.Head.{head_shown, told_words}
+use Rattle.run_picture.specs.Head.{head_shown, said_words}
 use Rattle.run_picture.specs.Lanes.{AreLanes}
 use Rattle.run_picture.specs.Legend.{legend_shown}
 use Rattle.run_picture.specs.Page.{page_of, page_width, page_height}
@@ -36,7 +36,7 @@ pub record ShowsRun (page : Page) (net : Network) (r : RecordingView) (shown : L
   pub ruler : List Shown
   pub is_ruler : IsRuler page r.before.sweeps r.strip.columns ruler
   pub are : shown
-      ≡ head_shown page net (told_words r)
+      ≡ head_shown page net (said_words r)
       ++ (legend_shown r.strip.width
       ++ (tree_shown page net (first_visits net)
       ++ (lanes ++ (levels_shown page r.strip.columns ++ (curves_shown page r.strip.columns ++ (axis ++ ruler))))))

@@ -44,21 +44,21 @@ IsSweepNumber before columns upto number =
     (number.place < upto) × HasTick columns number.place × (number.ended ≡ ended_in before (take (suc number.place) columns))
 
 -- from where on there is room for the next number: 30 right of the one over a column
-abbrev pub room_behind : Page → ℕ → ℕ
-room_behind page place = px (middle_of page place + 30)
+abbrev pub room_after : Page → ℕ → ℕ
+room_after page place = px (middle_of page place + 30)
 
 -- neighbours are far enough apart
 abbrev pub HaveRoom : Page → List SweepNumber → Type 0
 HaveRoom page [] = Unit {0}
 HaveRoom page (number ∷ []) = Unit {0}
-HaveRoom page (number ∷ next ∷ numbers) = (room_behind page number.place ≤ middle_of page next.place) × HaveRoom page (next ∷ numbers)
+HaveRoom page (number ∷ next ∷ numbers) = (room_after page number.place ≤ middle_of page next.place) × HaveRoom page (next ∷ numbers)
 
 -- one of the numbers stands over a column, or so near left of it that it leaves no room there
 abbrev pub IsTaken : Page → List SweepNumber → ℕ → Type 0
 IsTaken page [] place = ⊥
 IsTaken page (number ∷ numbers) place =
     (number.place ≡ place)
-    ⊎ ((number.place < place) × (middle_of page place < room_behind page number.place))
+    ⊎ ((number.place < place) × (middle_of page place < room_after page number.place))
     ⊎ IsTaken page numbers place
 
 -- These are the numbers over the first columns, of which there are as many: each stands over a tick,
@@ -117,7 +117,7 @@ pub record IsRuler (page : Page) (before : ℕ) (columns : List Column) (shown :
 -- the last number, if there is one, leaves room for one over a column
 abbrev pub has_room : Page → List SweepNumber → ℕ → Bool
 has_room page [] place = true
-has_room page (number ∷ []) place = nat_le (room_behind page number.place) (middle_of page place)
+has_room page (number ∷ []) place = nat_le (room_after page number.place) (middle_of page place)
 has_room page (number ∷ next ∷ numbers) place = has_room page (next ∷ numbers) place
 
 -- where as many sweeps end in the number's column, and there is room, the number stands after the others

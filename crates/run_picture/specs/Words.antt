@@ -54,7 +54,7 @@ description_words events refused end sweeps = event_words events refused ++ (nod
 pub record TellsOf (start : World) (es : List Event) (unread : ℕ) (words : List ℕ) : Type 0 where
   pub sweeps : ℕ
   pub are_sweeps : IsSweepCount start es sweeps
-  pub tells : words ≡ description_words (length es) (counted_up_to (unread + refused_in start es)) (run start es) (counted_up_to sweeps)
+  pub says : words ≡ description_words (length es) (counted_up_to (unread + refused_in start es)) (run start es) (counted_up_to sweeps)
 
 -- how many moments a column shows
 abbrev pub column_words : ℕ → List ℕ

@@ -44,14 +44,14 @@ even_length (a ∷ b ∷ columns) =
     ap (λ n. nat_eq n 0) two ∙ even_length columns
 
 -- writing the last of some columns
-behind_written : (a : Column) (columns : List Column) (moment d : Column)
+written_at_end : (a : Column) (columns : List Column) (moment d : Column)
     → slice_set (a ∷ columns) (length columns) (worse_column (slice_index_or (a ∷ columns) (length columns) d) moment) ≡ with_last (a ∷ columns) moment
-behind_written a [] moment d = refl
-behind_written a (b ∷ columns) moment d = ap (λ cs. a ∷ cs) (behind_written b columns moment d)
+written_at_end a [] moment d = refl
+written_at_end a (b ∷ columns) moment d = ap (λ cs. a ∷ cs) (written_at_end b columns moment d)
 
 pub last_written : (columns : List Column) (moment d : Column) → 0 < length columns
     → slice_set columns (length columns - 1) (worse_column (slice_index_or columns (length columns - 1) d) moment) ≡ with_last columns moment
 last_written [] moment d some = grind (arith, common_steps)
 last_written (a ∷ columns) moment d some =
     let place : length (a ∷ columns) - 1 ≡ length columns = omega arith in
-    rw place (behind_written a columns moment d)
+    rw place (written_at_end a columns moment d)

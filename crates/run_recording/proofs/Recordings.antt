@@ -12,7 +12,7 @@ use Rattle.world.specs.events_text.declared.text_line.TextLine.{TextLine}
 use Rattle.world.specs.events_text.EventsText.{ended_lines}
 use Rattle.world.specs.judge.JudgeView.{HasSeen}
 use Rattle.world.specs.judge.Judging.{counted_up_to}
-use Rattle.world.specs.SimulatedText.{told_event, told_events}
+use Rattle.world.specs.SimulatedText.{said_event, said_events}
 use Rattle.run_recording.specs.declared.column.Column.{Column}
 use Rattle.run_recording.specs.declared.recording.Before.{Before}
 use Rattle.run_recording.specs.declared.window.Window.{Window}
@@ -22,7 +22,7 @@ use Rattle.run_recording.specs.Filmed.{still_of, take_of, filmed_if, ended_with,
 use Rattle.run_recording.proofs.Strips.{as_empty}
 use Rattle.run_recording.specs.Recordings.{moment_of, shown_if, ended_at, AreMoments, IsBeforeAny, RecordingView, IsRecorded, IsReading}
 use Rattle.run_recording.specs.Recordings.AreMoments.{Start, Next}
-use Rattle.run_recording.specs.Recordings.IsFirstHeld.{AtStart, Behind}
+use Rattle.run_recording.specs.Recordings.IsFirstHeld.{AtStart, Following}
 
 -- an event is accepted if its step says so
 pub accepted_is : (result : Result (Unit {0}) EventFault) (refusal : Option EventFault) → OnOk result (refusal ≡ None) → IfErr result (λ fault. refusal ≡ Some fault)
@@ -60,7 +60,7 @@ before_more window start es e sweeps ended [] (moment ∷ []) was now are next f
   front = es ++ e ∷ [];
   back = [];
   are = sym (append-nil (es ++ e ∷ []));
-  first = rw (ap (λ b. b.sweeps) is) (Behind e moment are next);
+  first = rw (ap (λ b. b.sweeps) is) (Following e moment are next);
   events_are = grind (arith, common_steps, is);
 }
 before_more window start es e sweeps ended [] (moment ∷ more ∷ shown) was now are next few before is = let no : ⊥ = grind (arith, few) in elim no [ ]
@@ -159,11 +159,11 @@ reader_moves start es r reader h = record {
 -- one more line has ended, and its event is recorded
 pub line_ends : (start : World) (bytes more : List ℕ) (line : TextLine) (old new : RecordingView) (reader : Kept)
     → IsReading start bytes old → StandsAfter 64 (bytes ++ more) reader → ended_lines (bytes ++ more) ≡ ended_lines bytes ++ line ∷ []
-    → (IsRecorded start (told_events (ended_lines bytes)) (record old { reader = reader }) → IsRecorded start (told_events (ended_lines bytes) ++ told_events (line ∷ [])) new)
+    → (IsRecorded start (said_events (ended_lines bytes)) (record old { reader = reader }) → IsRecorded start (said_events (ended_lines bytes) ++ said_events (line ∷ [])) new)
     → new.reader ≡ reader → IsReading start (bytes ++ more) new
 line_ends start bytes more line old new reader h stands ends records same = record {
   stands = rw same stands;
-  recorded = rw (ends, flat_map-append told_event (ended_lines bytes) (line ∷ [])) (records (reader_moves start (told_events (ended_lines bytes)) old reader h.recorded));
+  recorded = rw (ends, flat_map-append said_event (ended_lines bytes) (line ∷ [])) (records (reader_moves start (said_events (ended_lines bytes)) old reader h.recorded));
 }
 
 -- no line has ended, and more is kept of the one under way
@@ -172,5 +172,5 @@ pub half_line_grows : (start : World) (bytes more : List ℕ) (old : RecordingVi
     → IsReading start (bytes ++ more) (record old { reader = reader })
 half_line_grows start bytes more old reader h stands ends = record {
   stands = stands;
-  recorded = rw ends (reader_moves start (told_events (ended_lines bytes)) old reader h.recorded);
+  recorded = rw ends (reader_moves start (said_events (ended_lines bytes)) old reader h.recorded);
 }

@@ -6,7 +6,7 @@ use Rattle.world.specs.run_model.World.{World}
 use Rattle.world.specs.run_model.declared.event.Event.{Event}
 use Rattle.run_recording.specs.Recordings.{moment_of, AreMoments, IsFirstHeld, IsBefore}
 use Rattle.run_recording.specs.Recordings.AreMoments.{Start}
-use Rattle.run_recording.specs.Recordings.IsFirstHeld.{AtStart, Behind}
+use Rattle.run_recording.specs.Recordings.IsFirstHeld.{AtStart, Following}
 use Rattle.run_recording.specs.TreeEdges.{is_on_tree}
 use Rattle.run_recording.specs.Visits.{first_of_each, first_visits}
 use Rattle.run_recording.specs.Runs.{AreRuns}
@@ -76,7 +76,7 @@ none_before start = record { front = []; back = []; are = refl; first = AtStart 
 -- and no sweep either
 none_at_start : (window : Window) (start : World) (es : List Event) (sweeps : ℕ) → IsFirstHeld window start es sweeps → length es ≡ 0 → sweeps ≡ 0
 none_at_start window start es sweeps (AtStart moment are) none = refl
-none_at_start window start es sweeps (Behind e moment before are) none = grind (arith, common_steps)
+none_at_start window start es sweeps (Following e moment before are) none = grind (arith, common_steps)
 
 no_sweep_before : (window : Window) (start : World) → ¬ IsBefore window start [] (before_of 0 1)
 no_sweep_before window start before =

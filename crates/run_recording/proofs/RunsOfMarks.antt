@@ -63,8 +63,8 @@ added_stand : (place : ℕ) (runs : List Run) (new : Run) → StandFrom place ru
     → StandFrom place (runs ++ new ∷ [])
 added_stand place [] new stand first one = (omega (arith, first), omega (arith, one), tt)
 added_stand place (run ∷ runs) new stand first one =
-    let behind : new.first ≡ place + run.count + length (flat_map marks_along runs) = omega (arith, first, both_lengths run runs) in
-    (stand.0, stand.1, added_stand (place + run.count) runs new stand.2 behind one)
+    let columns_after : new.first ≡ place + run.count + length (flat_map marks_along runs) = omega (arith, first, both_lengths run runs) in
+    (stand.0, stand.1, added_stand (place + run.count) runs new stand.2 columns_after one)
 
 added_apart : (runs : List Run) (new : Run) → AreApart runs → ¬ EndIn new.mark runs → AreApart (runs ++ new ∷ [])
 added_apart [] new apart other = tt
@@ -113,11 +113,11 @@ all_marks f columns place runs all so_far =
 -- ---- the last run
 
 -- writing the last run
-behind_written : (a : Run) (runs : List Run) (d : Run) (new : ℕ)
+written_at_end : (a : Run) (runs : List Run) (d : Run) (new : ℕ)
     → new ≡ min ((slice_index_or (a ∷ runs) (length runs) d).count + 1) (2 ^ 64 - 1)
     → slice_set (a ∷ runs) (length runs) (record (slice_index_or (a ∷ runs) (length runs) d) { count = new }) ≡ longer (a ∷ runs)
-behind_written a [] d new is = rw is refl
-behind_written a (b ∷ runs) d new is = ap (λ rs. a ∷ rs) (behind_written b runs d new is)
+written_at_end a [] d new is = rw is refl
+written_at_end a (b ∷ runs) d new is = ap (λ rs. a ∷ rs) (written_at_end b runs d new is)
 
 pub last_written : (runs : List Run) (d : Run) (new : ℕ) → 0 < length runs
     → new ≡ min ((slice_index_or runs (length runs - 1) d).count + 1) (2 ^ 64 - 1)
@@ -125,18 +125,18 @@ pub last_written : (runs : List Run) (d : Run) (new : ℕ) → 0 < length runs
 last_written [] d new some is = grind (arith, common_steps)
 last_written (a ∷ runs) d new some is =
     let place : length (a ∷ runs) - 1 ≡ length runs = omega arith in
-    rw place (behind_written a runs d new (rw place at is))
+    rw place (written_at_end a runs d new (rw place at is))
 
 -- the mark of the last run
-behind_ends : (m : Mark) (a : Run) (runs : List Run) (d : Run) → EndIn m (a ∷ runs) ↔ ((slice_index_or (a ∷ runs) (length runs) d).mark ≡ m)
-behind_ends m a [] d = ((λ e. e), (λ e. e))
-behind_ends m a (b ∷ runs) d = behind_ends m b runs d
+ends_when_written : (m : Mark) (a : Run) (runs : List Run) (d : Run) → EndIn m (a ∷ runs) ↔ ((slice_index_or (a ∷ runs) (length runs) d).mark ≡ m)
+ends_when_written m a [] d = ((λ e. e), (λ e. e))
+ends_when_written m a (b ∷ runs) d = ends_when_written m b runs d
 
 pub last_ends : (m : Mark) (runs : List Run) (d : Run) → 0 < length runs → EndIn m runs ↔ ((slice_index_or runs (length runs - 1) d).mark ≡ m)
 last_ends m [] d some = grind (arith, common_steps)
 last_ends m (a ∷ runs) d some =
     let place : length (a ∷ runs) - 1 ≡ length runs = omega arith in
-    rw place (behind_ends m a runs d)
+    rw place (ends_when_written m a runs d)
 
 -- the runs after the last one was written through a slice
 longer_length : (runs : List Run) → length (longer runs) ≡ length runs

@@ -20,9 +20,9 @@ pub shown_new : (width : ℕ) (last : ℕ) (moments columns : List Column) (mome
 shown_new width last moments columns moment some full None = Last moment [] refl (omega (arith, some))
 shown_new width last moments columns moment some full (Last first later is few) =
     Further first later (is ∙ full) (Last moment [] refl (omega (arith, some)))
-shown_new width last moments columns moment some full (Further first later {moments = others} {columns = behind} is rest) =
-    subst (λ ms. AreShown width 1 (first ∷ ms) (worst first later ∷ (behind ++ moment ∷ []))) (sym (append_assoc later others (moment ∷ [])))
-    (Further first later is (shown_new width last others behind moment some full rest))
+shown_new width last moments columns moment some full (Further first later {moments = others} {columns = columns_after} is rest) =
+    subst (λ ms. AreShown width 1 (first ∷ ms) (worst first later ∷ (columns_after ++ moment ∷ []))) (sym (append_assoc later others (moment ∷ [])))
+    (Further first later is (shown_new width last others columns_after moment some full rest))
 
 -- one more moment, if the last column has room for it
 pub shown_last : (width : ℕ) (last : ℕ) (moments columns : List Column) (moment : Column) → last < width
@@ -38,11 +38,11 @@ shown_last width last moments columns moment room (Further first later is (Last 
     (sym (append_assoc later (next ∷ more) (moment ∷ [])))
     (Further first later is (shown_last width last (next ∷ more) (worst next more ∷ []) moment room (Last next more long few)))
 shown_last width last moments columns moment room
-    (Further first later is (Further next more {moments = others} {columns = behind} long rest)) =
-    subst (λ ms. AreShown width (last + 1) (first ∷ ms) (worst first later ∷ with_last (worst next more ∷ behind) moment))
+    (Further first later is (Further next more {moments = others} {columns = columns_after} long rest)) =
+    subst (λ ms. AreShown width (last + 1) (first ∷ ms) (worst first later ∷ with_last (worst next more ∷ columns_after) moment))
     (sym (append_assoc later (next ∷ (more ++ others)) (moment ∷ [])))
     (Further first later is
-    (shown_last width last (next ∷ (more ++ others)) (worst next more ∷ behind) moment room (Further next more long rest)))
+    (shown_last width last (next ∷ (more ++ others)) (worst next more ∷ columns_after) moment room (Further next more long rest)))
 
 -- the same moments, when each two columns become one
 pub shown_folded : (width : ℕ) (last : ℕ) (moments columns : List Column) → 0 < width
@@ -58,12 +58,12 @@ shown_folded width last moments columns some (Further first later is (Last next 
     subst (λ c. AreShown (width + width) (last + width) (first ∷ (later ++ next ∷ more)) (c ∷ [])) (worst_both first later next more)
     (Last first (later ++ next ∷ more) both (omega (arith, few)))
 shown_folded width last moments columns some
-    (Further first later is (Further next more {moments = others} {columns = behind} long rest)) =
+    (Further first later is (Further next more {moments = others} {columns = columns_after} long rest)) =
     let both : suc (length (later ++ next ∷ more)) ≡ width + width = grind (arith, common_steps) in
-    subst (λ c. AreShown (width + width) (last_folded (is_even behind) width last) (first ∷ (later ++ next ∷ (more ++ others))) (c ∷ folded behind)) (worst_both first later next more)
-    (subst (λ ms. AreShown (width + width) (last_folded (is_even behind) width last) (first ∷ ms) (worst first (later ++ next ∷ more) ∷ folded behind))
+    subst (λ c. AreShown (width + width) (last_folded (is_even columns_after) width last) (first ∷ (later ++ next ∷ (more ++ others))) (c ∷ folded columns_after)) (worst_both first later next more)
+    (subst (λ ms. AreShown (width + width) (last_folded (is_even columns_after) width last) (first ∷ ms) (worst first (later ++ next ∷ more) ∷ folded columns_after))
     (append_assoc later (next ∷ more) others)
-    (Further first (later ++ next ∷ more) both (shown_folded width last others behind some rest)))
+    (Further first (later ++ next ∷ more) both (shown_folded width last others columns_after some rest)))
 
 -- there are at least as many moments as the last column shows
 pub last_few : (width : ℕ) (last : ℕ) (moments columns : List Column) → 0 < length columns
@@ -73,15 +73,15 @@ last_few width last moments columns some (Last first later is few) = omega (arit
 last_few width last moments columns some (Further first later is None) = grind (arith, common_steps)
 last_few width last moments columns some (Further first later is (Last next more long few)) = grind (arith, common_steps)
 last_few width last moments columns some
-    (Further first later is (Further next more {moments = others} {columns = behind} long rest)) =
-    let fewer = last_few width last (next ∷ (more ++ others)) (worst next more ∷ behind) (omega arith) (Further next more long rest) in
+    (Further first later is (Further next more {moments = others} {columns = columns_after} long rest)) =
+    let fewer = last_few width last (next ∷ (more ++ others)) (worst next more ∷ columns_after) (omega arith) (Further next more long rest) in
     grind (arith, common_steps)
 
 -- the last column shows at most as many moments as the others
 pub last_within : (width : ℕ) (last : ℕ) (moments columns : List Column) → AreShown width last moments columns → last ≤ width
 last_within width last moments columns None = omega arith
 last_within width last moments columns (Last first later is few) = few
-last_within width last moments columns (Further first later {moments = others} {columns = behind} is rest) = last_within width last others behind rest
+last_within width last moments columns (Further first later {moments = others} {columns = columns_after} is rest) = last_within width last others columns_after rest
 
 -- columns folded in pairs are fewer
 pub folded_few : (columns : List Column) → length (folded columns) ≤ length columns

@@ -11,7 +11,7 @@ use Rattle.byte_lines.specs.Kept.{Kept, StandsAfter}
 use Rattle.world.specs.events_text.EventsText.{ended_lines}
 use Rattle.world.specs.judge.JudgeView.{JudgeView, HasSeen}
 use Rattle.world.specs.judge.Judging.{counted_up_to}
-use Rattle.world.specs.SimulatedText.{told_events}
+use Rattle.world.specs.SimulatedText.{said_events}
 use Rattle.run_recording.specs.declared.column.Column.{Column}
 use Rattle.run_recording.specs.declared.recording.Before.{Before}
 use Rattle.run_recording.specs.declared.window.Window.{Window}
@@ -59,7 +59,7 @@ pub data AreMoments (window : Window) (start : World) : List Event → ℕ → L
 -- is held.
 pub data IsFirstHeld (window : Window) (start : World) : List Event → ℕ → Type 0 where
   AtStart : (moment : Column) → AreMoments window start [] 0 (moment ∷ []) → IsFirstHeld window start [] 0
-  Behind : {es : List Event} {sweeps ended : ℕ} (e : Event) (moment : Column)
+  Following : {es : List Event} {sweeps ended : ℕ} (e : Event) (moment : Column)
       → AreMoments window start es sweeps [] → AreMoments window start (es ++ e ∷ []) ended (moment ∷ [])
       → IsFirstHeld window start (es ++ e ∷ []) sweeps
 
@@ -111,4 +111,4 @@ RecordsNext old more new = (start : World) (es : List Event) → IsRecorded star
 -- the events of the whole lines in these bytes are recorded, and the line under way is kept
 pub record IsReading (start : World) (bytes : List ℕ) (r : RecordingView) : Type 0 where
   pub stands : StandsAfter 64 bytes r.reader
-  pub recorded : IsRecorded start (told_events (ended_lines bytes)) r
+  pub recorded : IsRecorded start (said_events (ended_lines bytes)) r

@@ -5,7 +5,7 @@ ghost use Rattle.world.specs.judge.configuration.ConfigurationView.{world_of};
 ghost use Rattle.run_recording.specs.Filmed.{room_of, IsReeled};
 ghost use Rattle.world.specs.judge.Judging.{counted_up_to};
 ghost use Rattle.world.specs.judge.JudgeView.{AreSweepsSeen};
-ghost use Rattle.world.specs.SimulatedText.{events_of, simulated_start, told_events};
+ghost use Rattle.world.specs.SimulatedText.{events_of, simulated_start, said_events};
 ghost use Rattle.run_recording.specs.declared.column.Column.{Column};
 ghost use Rattle.run_recording.specs.Strips.{Shows};
 ghost use Rattle.run_recording.specs.Recordings.{shown_if, RecordsNext, IsRecorded};
@@ -328,7 +328,7 @@ impl<A: Allocator + Copy> Recording<A> {
     /// The next line: lets its event happen.
     fn line(&mut self, line: TextLine)
         requires { self.old.events < 2 ^ 61 }
-        ensures records { RecordsNext self.old (told_events (line ∷ [])) self.new }
+        ensures records { RecordsNext self.old (said_events (line ∷ [])) self.new }
         ensures reader { self.new.reader ≡ self.old.reader }
         ensures window { self.new.window ≡ self.old.window }
         ensures limit { self.new.strip.limit ≡ self.old.strip.limit }
@@ -338,7 +338,7 @@ impl<A: Allocator + Copy> Recording<A> {
         match line {
             TextLine::Passed => {}
             TextLine::Unread => self.unread = self.unread.saturating_add(1),
-            TextLine::Told(event) => self.happens(&event),
+            TextLine::Said(event) => self.happens(&event),
         }
     }
 

@@ -32,7 +32,7 @@ module _ {P : Type 0} (gave took : P → Option (List ℕ)) where
   pushed : (r : Ranges) (c : Stood P) (taken : List ℕ) → IsStood r gave took c → TookSince took c taken → taken ≡ lines_of c.sent
   pushed r c taken h t =
       let is : t.taken ++ unsent c.link ≡ c.start.taken ++ lines_of c.sent
-      = matched (λ bytes. bytes ++ unsent c.link ≡ c.start.taken ++ lines_of c.sent) (took t.pipe) t.taken t.tells
+      = matched (λ bytes. bytes ++ unsent c.link ≡ c.start.taken ++ lines_of c.sent) (took t.pipe) t.taken t.reports
       (matched (λ pipe. MatchOption (took pipe) ⊤ (λ bytes. bytes ++ unsent c.link ≡ c.start.taken ++ lines_of c.sent)) c.link.pipe t.pipe t.stands h.pushed) in
       cancel c.start.taken taken (lines_of c.sent) (sym t.all ∙ is)
 

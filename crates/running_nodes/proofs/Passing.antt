@@ -121,21 +121,21 @@ module _ {P : Type 0} (r : Ranges) (gave took : P → Option (List ℕ)) where
   })
 
   -- a new one, of which nothing is kept
-  told : Option (List ℕ) → List ℕ
-  told None = []
-  told (Some bytes) = bytes
+  reported : Option (List ℕ) → List ℕ
+  reported None = []
+  reported (Some bytes) = bytes
 
   bytes-of : (P → Option (List ℕ)) → Option P → List ℕ
   bytes-of f None = []
-  bytes-of f (Some p) = told (f p)
+  bytes-of f (Some p) = reported (f p)
 
-  pulled-none : (reader : Kept) (waits : List ℕ) → reader ≡ kept 21 [] → waits ≡ [] → (o : Option (List ℕ)) → MatchOption o ⊤ (λ bytes. HasPulled r (told o) [] bytes reader waits)
-  unfolding told
+  pulled-none : (reader : Kept) (waits : List ℕ) → reader ≡ kept 21 [] → waits ≡ [] → (o : Option (List ℕ)) → MatchOption o ⊤ (λ bytes. HasPulled r (reported o) [] bytes reader waits)
+  unfolding reported
   pulled-none reader waits e none None = tt
   pulled-none reader waits e none (Some bytes) = record { read = []; parts = sym (ap (λ xs. bytes ++ xs) none ∙ append-nil bytes); stands = e; frames_are = refl }
 
-  pushed-none : (left : List ℕ) → left ≡ [] → (o : Option (List ℕ)) → MatchOption o ⊤ (λ bytes. bytes ++ left ≡ told o ++ [])
-  unfolding told
+  pushed-none : (left : List ℕ) → left ≡ [] → (o : Option (List ℕ)) → MatchOption o ⊤ (λ bytes. bytes ++ left ≡ reported o ++ [])
+  unfolding reported
   pushed-none left none None = tt
   pushed-none left none (Some bytes) = ap (λ xs. bytes ++ xs) none
 

@@ -123,14 +123,14 @@ module _ {P : Type 0} (gave took : P → Option (List ℕ)) (counts : P → Coun
       → ((sent ≢ []) × (is.given_at ≡ now)) ⊎ ((offered ≡ false) × (is.given_at ≡ was.given_at))
   spoke f offered now was is sent None y takes at accepts = absurd cc
   spoke f offered now was is sent (Some a) None takes at accepts = elim at [ ]
-  spoke f true now was is sent (Some a) (Some b) takes at accepts = inl (accepts refl, taken at.is_taken at.sends at.told) where
+  spoke f true now was is sent (Some a) (Some b) takes at accepts = inl (accepts refl, taken at.is_taken at.sends at.reported) where
     taken : (t : Bool) → sent ≡ sent_if t f → is ≡ (if t then given_port f now was else was) → is.given_at ≡ now
-    taken true e told = ap (λ x. x.given_at) told
-    taken false e told = absurd (accepts refl e)
-  spoke f false now was is sent (Some a) (Some b) takes at accepts = inr (refl, untaken at.is_taken at.port.offers.1 at.told) where
+    taken true e reported = ap (λ x. x.given_at) reported
+    taken false e reported = absurd (accepts refl e)
+  spoke f false now was is sent (Some a) (Some b) takes at accepts = inr (refl, untaken at.is_taken at.port.offers.1 at.reported) where
     untaken : (t : Bool) → t ≡ false → is ≡ (if t then given_port f now was else was) → is.given_at ≡ was.given_at
-    untaken true e told = absurd cc
-    untaken false e told = ap (λ x. x.given_at) told
+    untaken true e reported = absurd cc
+    untaken false e reported = ap (λ x. x.given_at) reported
 
   -- what a turn made of a port: a frame was accepted, and when is noted; or none was due yet
   abbrev Came : ℕ → ℕ → List Deed → ℕ → PortPace → PortPace → Type 0

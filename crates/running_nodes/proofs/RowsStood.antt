@@ -119,11 +119,11 @@ module _ {P : Type 0} (gave took : P → Option (List ℕ)) (counts : P → Coun
     gave_not-before said g = grind (arith, pipe, said, g.stands, g.all)
 
     took-since : took p ≡ Some (72 ∷ 1 ∷ []) → TookSince took (stood link [] []) (1 ∷ [])
-    took-since wrote = record { pipe = p; taken = 72 ∷ 1 ∷ []; stands = pipe; tells = wrote; all = rw written refl }
+    took-since wrote = record { pipe = p; taken = 72 ∷ 1 ∷ []; stands = pipe; reports = wrote; all = rw written refl }
 
     took_not-more : took p ≡ Some (72 ∷ 1 ∷ []) → ¬ TookSince took (stood link [] []) (1 ∷ 2 ∷ [])
     took_not-more wrote t =
-        let taken : t.taken ≡ 72 ∷ 1 ∷ [] = grind (arith, pipe, wrote, t.stands, t.tells) in
+        let taken : t.taken ≡ 72 ∷ 1 ∷ [] = grind (arith, pipe, wrote, t.stands, t.reports) in
         let all : (72 ∷ 1 ∷ []) ++ unsent link ≡ 72 ∷ 1 ∷ 2 ∷ [] = rw taken at t.all in
         let e : ◌≡◌ {A = List ℕ} (72 ∷ 1 ∷ []) (72 ∷ 1 ∷ 2 ∷ []) = rw written at all in absurd cc
 
@@ -159,7 +159,7 @@ module _ {P : Type 0} (gave took : P → Option (List ℕ)) (counts : P → Coun
       taken = 1 ∷ 2 ∷ [];
       ahead = 2 ∷ [];
       gives = record { pipe = q; stands = into; all = said };
-      takes = record { pipe = p; taken = 72 ∷ 1 ∷ 2 ∷ []; stands = out; tells = wrote; all = rw written refl };
+      takes = record { pipe = p; taken = 72 ∷ 1 ∷ 2 ∷ []; stands = out; reports = wrote; all = rw written refl };
       beginning = refl;
     }
 
@@ -167,7 +167,7 @@ module _ {P : Type 0} (gave took : P → Option (List ℕ)) (counts : P → Coun
     stream_not-other : took p ≡ Some (72 ∷ 1 ∷ []) → gave q ≡ Some (72 ∷ 2 ∷ []) → ¬ IsOneStream gave took [] (stood a [] []) (stood b [] [])
     stream_not-other wrote said s =
         let given : s.given ≡ 2 ∷ [] = grind (arith, into, said, s.gives.stands, s.gives.all) in
-        let taken : s.takes.taken ≡ 72 ∷ 1 ∷ [] = grind (arith, out, wrote, s.takes.stands, s.takes.tells) in
+        let taken : s.takes.taken ≡ 72 ∷ 1 ∷ [] = grind (arith, out, wrote, s.takes.stands, s.takes.reports) in
         let all : (72 ∷ 1 ∷ []) ++ unsent a ≡ 72 ∷ s.taken = rw taken at s.takes.all in
         let same : ◌≡◌ {A = List ℕ} (72 ∷ 1 ∷ []) (72 ∷ s.taken) = rw written at all in
         let beginning : (2 ∷ s.ahead) ≡ s.taken = rw given at s.beginning in

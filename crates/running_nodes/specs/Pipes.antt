@@ -49,7 +49,7 @@ module _ {P : Type 0} where
     pub pipe : P
     pub taken : List ℕ
     pub stands : c.link.pipe ≡ Some pipe
-    pub tells : took pipe ≡ Some taken
+    pub reports : took pipe ≡ Some taken
     pub all : taken ++ unsent c.link ≡ c.start.taken ++ bytes
 
   -- Junk stood between the two ends at first, and then came what the sender's pipe took: what the

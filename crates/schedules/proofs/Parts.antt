@@ -41,11 +41,11 @@ module _ {S : Type 0} (P : S → List Event → S → Type 0) (both : TakesBoth 
       goes-on P both a b c whole (flat_map f (range_with_len i (n - i))) (f i) (flat_map f (range_with_len (i + 1) (n - (i + 1)))) done
       (ap (flat_map f) (range-front i n h)) more
 
-  pub tick-goes_on : (a b c : S) (i n : ℕ) (whole behind : List Event) → i < n → IsUnderWay P a whole (map Tick (range_with_len i (n - i)) ++ behind) b
-      → P b (Tick i ∷ []) c → IsUnderWay P a whole (map Tick (range_with_len (i + 1) (n - (i + 1))) ++ behind) c
-  tick-goes_on a b c i n whole behind h done more =
-      goes-on P both a b c whole (map Tick (range_with_len i (n - i)) ++ behind) (Tick i ∷ []) (map Tick (range_with_len (i + 1) (n - (i + 1))) ++ behind) done
-      (ap (λ xs. map Tick xs ++ behind) (range-front i n h)) more
+  pub tick-goes_on : (a b c : S) (i n : ℕ) (whole later : List Event) → i < n → IsUnderWay P a whole (map Tick (range_with_len i (n - i)) ++ later) b
+      → P b (Tick i ∷ []) c → IsUnderWay P a whole (map Tick (range_with_len (i + 1) (n - (i + 1))) ++ later) c
+  tick-goes_on a b c i n whole later h done more =
+      goes-on P both a b c whole (map Tick (range_with_len i (n - i)) ++ later) (Tick i ∷ []) (map Tick (range_with_len (i + 1) (n - (i + 1))) ++ later) done
+      (ap (λ xs. map Tick xs ++ later) (range-front i n h)) more
 
   pub round-goes_on : (a b c : S) (net : Network) (i n : ℕ) (whole : List Event) → i < n → IsUnderWay P a whole (rounds net (n - i)) b
       → P b (round net) c → IsUnderWay P a whole (rounds net (n - (i + 1))) c

@@ -85,7 +85,7 @@ impl Playing {
         ensures { result.events ≡ self.now.late }
     {
         Score {
-            sweeps: self.watch.served_behind(),
+            sweeps: self.watch.served_after(),
             events: self.late,
         }
     }
@@ -94,7 +94,7 @@ impl Playing {
     /// patience says.
     fn is_over(&self) -> bool {
         let sweeps = self.watch.sweeps();
-        sweeps.saturating_sub(self.watch.served_behind()) >= (sweeps / 3).max(PATIENCE)
+        sweeps.saturating_sub(self.watch.served_after()) >= (sweeps / 3).max(PATIENCE)
     }
 
     /// Lets an event happen that is no harm.
@@ -103,10 +103,10 @@ impl Playing {
         requires event { is_harm event ≡ false }
         ensures { OnOk result (AreMoves self.new.events.items) }
     {
-        let before = self.watch.served_behind();
+        let before = self.watch.served_after();
         let _taken = self.watch.take(&event);
         self.events.push(event)?;
-        if self.watch.served_behind() > before {
+        if self.watch.served_after() > before {
             self.late = self.events.len();
         }
         Ok(())

@@ -32,13 +32,13 @@ pub fell_on : (a b c : Counts) → NoneFell a b → NoneFell b c → NoneFell a 
 fell_on a b c first second = (omega (arith, first.0, second.0), omega (arith, first.1, second.1), omega (arith, first.2, second.2))
 
 -- the front of a slice was looked at
-pub looks : (r : Ranges) (old new : Kept) (slice waited waits : List ℕ) (used : ℕ) (told : List Frame) → slice ≡ waited → drop used waited ≡ waits
-    → ReadsFrames r old new (take used slice) told → ReadsOn r old new (take used slice) told → Looks r old new waited waits told
-looks r old new slice waited waits used told same left reads on = record {
+pub looks : (r : Ranges) (old new : Kept) (slice waited waits : List ℕ) (used : ℕ) (said : List Frame) → slice ≡ waited → drop used waited ≡ waits
+    → ReadsFrames r old new (take used slice) said → ReadsOn r old new (take used slice) said → Looks r old new waited waits said
+looks r old new slice waited waits used said same left reads on = record {
   front = take used slice;
   parts = sym (take-append-drop used waited) ∙ ap (λ xs. take used waited ++ xs) left ∙ ap (λ xs. take used xs ++ waits) (sym same);
   on = on;
-  told = reads.told;
+  said = reads.said;
 }
 
 module _ (r : Ranges) (start : List ℕ) where

@@ -32,7 +32,7 @@ pub record Looks (r : Ranges) (old new : Kept) (waited waits : List ℕ) (frames
   pub front : List ℕ
   pub parts : waited ≡ front ++ waits
   pub on : ReadsOn r old new front frames
-  pub told : (half : List ℕ) → old ≡ kept 21 half → frames ≡ frames_after r half front
+  pub said : (half : List ℕ) → old ≡ kept 21 half → frames ≡ frames_after r half front
 
 -- the answer is a frame
 abbrev pub IsFrame : Pull → Type 0

@@ -1,4 +1,4 @@
 pub mod Lists
 pub mod Texts
 mod Rows
-mod WindowRows
+mod RowsWindow

@@ -5,7 +5,7 @@ ghost use Rattle.status_command.specs.Asking.{text_or_empty, text_in, loans_in};
 use crate::answering::first_line;
 use crate::asking::{Asked, ask_all};
 use crate::folder::nodes_asked;
-use crate::notice::{Notice, told};
+use crate::notice::{Notice, reported};
 use crate::question::Question;
 use crate::status::{NO_ANSWER, WAIT, why_not_asked};
 use node_texts::{PremisesLine, TurnsSaid, premises_report};
@@ -37,7 +37,7 @@ pub fn run<R: Net + Files + Clock + Print + Eprint + AllocGlobal>(
     match print_part(rt, folder, nodes, part) {
         Ok(true) => 0,
         Ok(false) => NO_ANSWER,
-        Err(notice) => told(rt, notice),
+        Err(notice) => reported(rt, notice),
     }
 }
 

@@ -96,7 +96,7 @@ impl fmt::Display for NoticeLine<'_> {
 }
 
 /// Reports why nothing is shown, and returns the exit status.
-pub fn told<R: Eprint>(rt: &R, notice: Notice<'_>) -> u8
+pub fn reported<R: Eprint>(rt: &R, notice: Notice<'_>) -> u8
     ensures { result ≡ 1 }
 {
     let _ = rt.eprintln(NoticeLine(notice));

@@ -6,7 +6,7 @@ ghost use Rattle.status_command.specs.Reasons.{why_not_asked};
 
 use crate::asking::ask_all;
 use crate::folder::{nodes_asked, was_never};
-use crate::notice::{Notice, NoticeLine, told};
+use crate::notice::{Notice, NoticeLine, reported};
 use crate::question::Question;
 use crate::windows::{answers_with, without_room};
 use node_texts::{NodeAnswer, all_answered, report};
@@ -52,7 +52,7 @@ pub fn run<R: Net + Files + Clock + Print + Eprint + AllocGlobal>(
     match print_status(rt, folder, nodes, form) {
         Ok(true) => 0,
         Ok(false) => NO_ANSWER,
-        Err(notice) => told(rt, notice),
+        Err(notice) => reported(rt, notice),
     }
 }
 

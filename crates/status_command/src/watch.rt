@@ -7,7 +7,7 @@ ghost use Rattle.status_command.specs.Shown.{minute_after};
 use crate::asking::ask_all;
 use crate::folder::nodes_asked;
 use crate::looks::loans_of;
-use crate::notice::{Notice, told};
+use crate::notice::{Notice, reported};
 use crate::question::Question;
 use crate::screen::{End, Screen};
 use crate::status::{Form, answers_of, text_of, why_not_asked};
@@ -52,7 +52,7 @@ pub fn run<R: Net + Files<File = File> + Clock + Input + Print + Eprint + Proces
     screen.end(rt);
     match done {
         Ok(()) => 0,
-        Err(notice) => told(rt, notice),
+        Err(notice) => reported(rt, notice),
     }
 }
 

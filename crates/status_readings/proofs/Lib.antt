@@ -1,5 +1,5 @@
 pub mod Trees
 pub mod Verdicts
 pub mod Examples
-pub mod MinuteRows
-mod StandingRows
+pub mod RowsMinute
+mod RowsStanding

@@ -1,9 +1,11 @@
 -- Small examples of the texts of `bound` and `measure` and of cut files, with some that fail.
-use Rattle.std.proofs.Common.{◌≡◌, ◌≢◌, ℕ, ◌++◌, true, false, IsTrue, [], ◌∷◌, Some, None, codes, decimal, refl, arith}
+use Rattle.std.proofs.Common.{◌≡◌, ◌≢◌, ◌∙◌, sym, ℕ, ◌++◌, true, false, IsTrue, [], ◌∷◌, Some, None, codes, decimal, refl, arith}
 use Rattle.std.proofs.lemmas.Fmt.{decimal_digit}
 use Rattle.std.proofs.lemmas.List.Elements.{All-head, All-tail}
 use Rattle.rand_pcg.specs.Lcg.{Lcg}
 use Rattle.topology.specs.Network.{Network}
+use Rattle.experiments.specs.Shown.{IsRunOf}
+use Rattle.experiments.specs.declared.layered_run.Settling.{Settling}
 use Rattle.experiments.specs.declared.measured_run.Recovery.{Recovery}
 use Rattle.experiments.specs.declared.measured_run.Scheduler.TheVariants as scheduler
 use Rattle.experiments.specs.declared.plan.Order.TheVariants as order
@@ -15,6 +17,7 @@ use Rattle.subcommands.specs.Bound.{bound_text, nodes_line, parent_word, shown_t
 use Rattle.subcommands.specs.Cut.{IsCutTo}
 use Rattle.subcommands.specs.Damaged.{junk_text}
 use Rattle.subcommands.specs.Measured.{AreRunsOf, has_served, HaveServed, run_line, run_lines, served_sweeps, summary_line}
+use Rattle.subcommands.specs.MeasuredCsv.{csv_row, csv_text}
 use Rattle.subcommands.specs.PlanFault.{fault_of}
 use Rattle.subcommands.specs.Turns.{order_of}
 
@@ -112,22 +115,41 @@ all_not-served h =
 abbrev two_runs : Plan
 two_runs = record { runs = 2; seed = 4; scheduler = scheduler.Rounds; table = false; progress = false }
 
-runs_not-one : (r : Recovery) → ¬ AreRunsOf two_nodes two_runs (r ∷ [])
+runs_not-one : (r : Recovery) → ¬ AreRunsOf (IsRunOf two_nodes two_runs.scheduler) two_runs (r ∷ [])
 runs_not-one r are = grind (arith, are.all)
 
-runs_not-same : (r : Recovery) → ¬ AreRunsOf two_nodes two_runs (r ∷ r ∷ [])
+runs_not-same : (r : Recovery) → ¬ AreRunsOf (IsRunOf two_nodes two_runs.scheduler) two_runs (r ∷ r ∷ [])
 runs_not-same r are = omega (arith, are.each.0.seed_is, are.each.1.0.seed_is)
+
+-- ---- rows
+
+-- a run of seed 7 with 5 events, whose links were stable after 2 sweeps, and which served after 5
+abbrev settling : ℕ → Settling
+settling seen = record { seed = 7; events = 5; links = 2; tree = 4; ring = 5; served = 5; seen = seen }
+
+rows-served : csv_row 8 (settling 8) ≡ codes "7,5,2,4,5,5\n"
+rows-served = rw (seven-is, five-is, two-is, four-is) refl
+
+-- with fewer sweeps than the bound its four last cells are empty
+rows-short : csv_row 8 (settling 7) ≡ codes "7,5,,,,\n"
+rows-short = rw (seven-is, five-is) refl
+
+rows_not-short : csv_row 8 (settling 7) ≢ codes "7,5,2,4,5,5\n"
+rows_not-short same = grind (arith, sym rows-short ∙ same)
+
+rows-none : csv_text 8 [] ≡ codes "seed,events,links,tree,ring,served\n"
+rows-none = refl
 
 -- ---- schedules and files
 
 orders-rounds : order_of (turns.Rounds 3) ≡ order.Rounds 3
 orders-rounds = refl
 
-told-memory : fault_of plan.Memory ≡ fault.Memory
-told-memory = refl
+said-memory : fault_of plan.Memory ≡ fault.Memory
+said-memory = refl
 
-told_not-sink : fault_of plan.Sink ≢ fault.Memory
-told_not-sink = grind arith
+said_not-sink : fault_of plan.Sink ≢ fault.Memory
+said_not-sink = grind arith
 
 -- a file of four bytes is cut to two, and not to four
 cuts : IsCutTo (Some 2) (codes "abcd") (codes "ab")

@@ -1,6 +1,6 @@
 -- What `bound --json` prints for a network, as data. An object's members stand in the order of
 -- their names.
-use Rattle.std.specs.Prelude.{ℕ, zero, suc, Bool, if◌then◌else◌, List, [], ◌∷◌, ◌++◌, length, map, Option, Some, None, codes}
+use Rattle.std.specs.Prelude.{ℕ, Bool, if◌then◌else◌, List, length, map, Option, Some, None, codes}
 use Rattle.std.specs.List.{range_with_len}
 use Rattle.serde_json.specs.Data.{Data, Members, null, number, unsigned, array, object, no_members, put}
 use Rattle.serde_json.specs.View.{items_of}

@@ -8,6 +8,8 @@ pub mod Turns
 pub mod Worst
 pub mod BoundData
 pub mod MeasuredData
+pub mod MeasuredCsv
 pub use Rattle.command_parts.specs as command_parts
 pub use Rattle.experiments.specs as experiments
 pub mod Hints
+pub mod LayersText

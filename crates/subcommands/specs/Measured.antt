@@ -3,7 +3,6 @@ use Rattle.std.specs.Prelude.{◌≡◌, ℕ, Bool, ◌||◌, ◌&&◌, not, nat
 use Rattle.topology.specs.Network.{Network, bound_of}
 use Rattle.topology.specs.Eccentricity.{sharp_of}
 use Rattle.experiments.specs.declared.measured_run.Recovery.{Recovery}
-use Rattle.experiments.specs.declared.measured_run.Scheduler.{Scheduler}
 use Rattle.experiments.specs.declared.summary.Summary.{Summary}
 use Rattle.experiments.specs.Shown.{IsRunOf}
 use Rattle.experiments.specs.Summary.{IsSummaryOf}
@@ -54,15 +53,15 @@ pub record IsMeasured (net : Network) (runs : List Recovery) (table : Bool) (tex
   pub sums_up : IsSummaryOf (served_sweeps runs (sharp_of net)) summary
   pub text_is : text ≡ run_lines (sharp_of net) table runs ++ totals net (length runs) summary
 
--- runs of successive seeds under a scheduler, from this seed on
-abbrev pub AreRunsFrom : Network → Scheduler → ℕ → List Recovery → Type 0
-AreRunsFrom net scheduler seed [] = Unit {0}
-AreRunsFrom net scheduler seed (r ∷ rs) = IsRunOf net scheduler seed r × AreRunsFrom net scheduler (seed + 1) rs
+-- such runs of successive seeds, from this seed on
+abbrev pub AreOfSeeds : {R : Type 0} → (ℕ → R → Type 0) → ℕ → List R → Type 0
+AreOfSeeds IsRun seed [] = Unit {0}
+AreOfSeeds IsRun seed (r ∷ rs) = IsRun seed r × AreOfSeeds IsRun (seed + 1) rs
 
--- all runs of a plan: as many as it says, from its first seed on
-pub record AreRunsOf (net : Network) (plan : Plan) (runs : List Recovery) : Type 0 where
+-- all such runs of a plan: as many as it says, from its first seed on
+pub record AreRunsOf {R : Type 0} (IsRun : ℕ → R → Type 0) (plan : Plan) (runs : List R) : Type 0 where
   pub all : length runs ≡ plan.runs
-  pub each : AreRunsFrom net plan.scheduler plan.seed runs
+  pub each : AreOfSeeds IsRun plan.seed runs
 
 -- each run has served
 abbrev pub HaveServed : List Recovery → ℕ → Type 0
@@ -71,6 +70,6 @@ HaveServed runs bound = All (λ r. IsTrue (has_served r bound)) runs
 -- the text is that of the runs of a plan on a network, and the flag says whether each has served
 pub record IsPlanMeasured (net : Network) (plan : Plan) (text : List ℕ) (served : Bool) : Type 0 where
   pub runs : List Recovery
-  pub are_runs : AreRunsOf net plan runs
+  pub are_runs : AreRunsOf (IsRunOf net plan.scheduler) plan runs
   pub measured : IsMeasured net runs plan.table text
   pub served_is : IsTrue served ↔ HaveServed runs (sharp_of net)

@@ -1,16 +1,18 @@
 -- What `measure --json` prints, as data. An object's members stand in the order of their names.
-use Rattle.std.specs.Prelude.{ℕ, Bool, ◌||◌, not, if◌then◌else◌, List, [], ◌∷◌, length, Option, None, Some, codes}
+use Rattle.std.specs.Prelude.{◌↔◌, IsTrue, ℕ, Bool, ◌||◌, not, if◌then◌else◌, List, [], ◌∷◌, length, Option, codes}
 use Rattle.std.specs.Option.{option_map}
-use Rattle.serde_json.specs.Data.{Data, Members, null, number, unsigned, array, object, no_members, put}
+use Rattle.serde_json.specs.Data.{Data, Members, null, array, object, no_members, put}
 use Rattle.serde_json.specs.View.{items_of}
 use Rattle.serde_json.specs.Written.{IsInOrder}
 use Rattle.topology.specs.Network.{Network, bound_of}
 use Rattle.topology.specs.Eccentricity.{sharp_of}
 use Rattle.experiments.specs.declared.measured_run.Recovery.{Recovery}
 use Rattle.experiments.specs.declared.summary.Summary.{Summary}
+use Rattle.experiments.specs.Shown.{IsRunOf}
 use Rattle.experiments.specs.Summary.{IsSummaryOf}
 use Rattle.subcommands.specs.BoundData.{count, or_null}
-use Rattle.subcommands.specs.Measured.{has_served, served_sweeps}
+use Rattle.subcommands.specs.Measured.{AreRunsOf, has_served, HaveServed, served_sweeps}
+use Rattle.subcommands.specs.declared.measure.Plan.{Plan}
 
 -- after how many sweeps a run served, or null
 abbrev pub sweeps_data : ℕ → Recovery → Data
@@ -51,3 +53,10 @@ pub record IsMeasuredJson (net : Network) (runs : List Recovery) (table : Bool) 
   pub summary : Option Summary
   pub sums_up : IsSummaryOf (served_sweeps runs (sharp_of net)) summary
   pub in_order : IsInOrder text (measured_data net runs table summary)
+
+-- the text is the object of the runs of a plan on a network, and the flag says whether each has served
+pub record IsPlanMeasuredJson (net : Network) (plan : Plan) (text : List ℕ) (served : Bool) : Type 0 where
+  pub runs : List Recovery
+  pub are_runs : AreRunsOf (IsRunOf net plan.scheduler) plan runs
+  pub measured : IsMeasuredJson net runs plan.table text
+  pub served_is : IsTrue served ↔ HaveServed runs (sharp_of net)

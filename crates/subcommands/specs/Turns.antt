@@ -1,5 +1,4 @@
 -- What follows a scramble, in the order of its events.
-use Rattle.std.specs.Prelude.{ℕ}
 use Rattle.experiments.specs.declared.plan.Order.{Order}
 use Rattle.experiments.specs.declared.plan.Order.TheVariants.{Rounds as InRounds, Random as AtRandom}
 use Rattle.subcommands.specs.declared.schedule.Turns.{Turns}

@@ -7,8 +7,8 @@
 //!
 //! ```
 //! let status = bound::run(rt, "two-nodes.toml", false, None)?;         // prints eight lines
-//! // prints what the events lead to; "-" is standard input
-//! let status = simulate::run(rt, "two-nodes.toml", "events.txt")?;
+//! // prints what the events lead to, and what has settled then; "-" is standard input
+//! let status = simulate::run(rt, "two-nodes.toml", "events.txt", true)?;
 //! // writes a state file of node 1, of seed 7; cuts it; prints ten lines of junk
 //! let status = scramble::run(rt, "two-nodes.toml", 1, "node-1.state", 7)?;
 //! let status = cut::run(rt, "node-1.state", 33)?;
@@ -27,7 +27,9 @@ pub mod bound;
 pub mod bound_json;
 pub mod cut;
 pub mod junk;
+pub mod layers_text;
 pub mod measure;
+pub mod measure_csv;
 pub mod measure_json;
 pub mod network;
 pub mod schedule;

@@ -61,7 +61,7 @@ fn plan_text<R: Eprint + Clock + Threads + Sync>(
     net: &Net,
     plan: Plan,
 ) -> Result<(String, bool), AllocError>
-    ensures { IfOk result (λ told. IsPlanMeasured net.now plan (string_bytes told.0) told.1) }
+    ensures { IfOk result (λ said. IsPlanMeasured net.now plan (string_bytes said.0) said.1) }
 {
     let runs = measured(rt, alloc, net, plan)?;
     let text = measured_text(alloc, net, runs.as_slice(), plan.table)?;
@@ -93,7 +93,7 @@ pub(crate) fn measured<R: Eprint + Clock + Threads + Sync>(
     net: &Net,
     plan: Plan,
 ) -> Result<Vec<Recovery>, AllocError>
-    ensures { IfOk result (λ runs. AreRunsOf net.now plan runs.items) }
+    ensures { IfOk result (λ runs. AreRunsOf (IsRunOf net.now plan.scheduler) plan runs.items) }
 {
     let progress = if plan.progress {
         Progress::begin(rt, "runs", plan.runs)
@@ -115,7 +115,7 @@ fn make_runs<R: Eprint + Clock + Threads + Sync>(
     plan: Plan,
     progress: &Option<Progress>,
 ) -> Result<Vec<Recovery>, AllocError>
-    ensures { IfOk result (λ runs. AreRunsOf net.now plan runs.items) }
+    ensures { IfOk result (λ runs. AreRunsOf (IsRunOf net.now plan.scheduler) plan runs.items) }
 {
     (0..plan.runs)
         .into_par_iter()

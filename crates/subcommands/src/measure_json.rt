@@ -6,6 +6,7 @@ ghost use Rattle.serde_json.specs.View.{view, items_of, members_view};
 ghost use Rattle.subcommands.specs.MeasuredData.{run_data, runs_data, summary_members, measured_members};
 ghost use Rattle.subcommands.specs.BoundData.{or_null};
 ghost use Rattle.subcommands.specs.MeasuredData.{sweeps_data, measured_data, IsMeasuredJson};
+ghost use Rattle.subcommands.specs.MeasuredData.{IsPlanMeasuredJson};
 
 use crate::measure::{Plan, ending, has_served, have_served, measured, served_sweeps};
 use command_parts::{Fault, read_network};
@@ -43,7 +44,9 @@ fn plan_json<R: Eprint + Clock + Threads + Sync>(
     alloc: Global,
     net: &Net,
     plan: Plan,
-) -> Result<(String, bool), AllocError> {
+) -> Result<(String, bool), AllocError>
+    ensures { IfOk result (λ said. IsPlanMeasuredJson net.now plan (string_bytes said.0) said.1) }
+{
     let runs = measured(rt, alloc, net, plan)?;
     let text = measured_json(alloc, net, runs.as_slice(), plan.table)?;
     let served = have_served(runs.as_slice(), net.sharp_bound());

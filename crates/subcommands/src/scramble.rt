@@ -8,7 +8,7 @@ ghost use Rattle.command_parts.specs.declared.fault.Fault.TheVariants.{NoNode, M
 use command_parts::{Fault, PathFault, read_network};
 use damage_tool::scramble_node;
 use node_core::NodeState;
-use node_state_file::{FileStore, Store, StoreFault, encode};
+use node_state_file::{FileStore, MOST_BYTES, Store, StoreFault, encode};
 use rand_core::SeedableRng;
 use rand_pcg::Lcg64Xsh32;
 use std::alloc::Global;
@@ -57,7 +57,7 @@ pub fn save_scrambled<S: Store>(
         (λ fault. fault ≡ (if nat_lt id net.now.nodes then Memory else NoNode)) }
     ensures spares { IfErr result (λ _. store.new ≡ store.old) }
 {
-    let mut bytes = [0; 1276];
+    let mut bytes = [0; MOST_BYTES];
     let count = write_scrambled(alloc, net, id, seed, &mut bytes)?;
     Ok(store.save(&bytes[..count]))
 }
@@ -68,7 +68,7 @@ fn write_scrambled(
     net: &Net,
     id: u16,
     seed: u32,
-    bytes: &mut [u8; 1276],
+    bytes: &mut [u8; MOST_BYTES],
 ) -> Result<usize, Fault>
     ensures ok { IfOk result (λ count. take count bytes.new ≡ scrambled_file net.now id seed) }
     ensures room { IfOk result (λ count. count ≤ 1276) }

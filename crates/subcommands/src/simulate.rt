@@ -3,9 +3,11 @@ ghost use Rattle.std.specs.Prelude.{◌≡◌, ◌⊎◌, IfOk, option_map};
 ghost use Rattle.std.specs.Process.{exit_status};
 ghost use Rattle.subcommands.specs.Hints.{loan_hint};
 
+use crate::layers_text::layers_text;
+use command_parts::world::World;
 use command_parts::{
-    Fault, ReadSource, Returns, STANDARD_INPUT, Summary, WriteSink, events_status, read_network,
-    return_hint, say_hint, simulate_between,
+    Fault, ReadSource, Returns, STANDARD_INPUT, Simulated, Summary, WriteSink, events_status,
+    read_network, return_hint, say_hint, simulate_between,
 };
 use std::fs;
 use std::io::{BufWriter, Input, Read, writer};
@@ -14,8 +16,8 @@ use std::rt::Files;
 use topology::Net;
 
 /// Prints what the events of a file, or of standard input for `-`, lead to on the network of a
-/// file. Then, in a line each on standard error, it says that lines were refused because they end
-/// in a carriage return, and what holds up the sweeps.
+/// file, and with `layers` what has settled. Then it says on standard error, in a line each, that
+/// lines were refused because they end in a carriage return, and what holds up the sweeps.
 ///
 /// # Errors
 /// If the file gives no network, the events cannot be read or are too long, memory runs out, or
@@ -24,15 +26,16 @@ pub fn run<R: Files + Input + Print + Eprint + AllocGlobal>(
     rt: &R,
     network: &str,
     events: &str,
+    layers: bool,
 ) -> Result<ExitCode, Fault>
     ensures { IfOk result (λ status. (exit_status status ≡ 0) ⊎ (exit_status status ≡ 3)) }
 {
     let net = read_network(rt, network)?;
     let summary = if events == STANDARD_INPUT {
-        print_simulation(rt, &net, rt.reader())?
+        print_simulation(rt, &net, rt.reader(), layers)?
     } else {
         let file = fs::open(rt, events).map_err(|_| Fault::EventsUnreadable)?;
-        print_simulation(rt, &net, file)?
+        print_simulation(rt, &net, file, layers)?
     };
     Ok(events_status(summary.refused))
 }
@@ -42,16 +45,26 @@ fn print_simulation<R: Print + Eprint + AllocGlobal, E: Read + Drop>(
     rt: &R,
     net: &Net,
     events: E,
+    layers: bool,
 ) -> Result<Summary, Fault> {
     let Ok(output) = BufWriter::new(rt.alloc(), writer(rt)) else {
         return Err(Fault::Memory);
     };
     let mut source = Returns::new(ReadSource::new(events));
     let mut sink = WriteSink::new(output);
-    let summary = simulate_between(rt.alloc(), net, &mut source, &mut sink)?;
+    let Simulated { summary, world } = simulate_between(rt.alloc(), net, &mut source, &mut sink)?;
+    if layers {
+        print_layers(rt, &world)?;
+    }
     say_hint(rt, return_hint(summary.refused, source.were_seen()));
     say_hint(rt, loan_hint(net.lease(), net.bound(), &summary));
     Ok(summary)
+}
+
+/// Prints what has settled of a world.
+fn print_layers<R: Print + AllocGlobal>(rt: &R, world: &World) -> Result<(), Fault> {
+    let text = layers_text(rt.alloc(), world).map_err(|_| Fault::Memory)?;
+    rt.print(text.as_str()).map_err(|_| Fault::Output)
 }
 
 /// The hint if there were too few sweeps so far, and a loan that no lease ends holds them up.

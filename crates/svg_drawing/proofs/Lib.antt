@@ -1,3 +1,4 @@
 pub mod Drawn
 pub mod Nesting
 mod RowsDrawn
+mod RowsGrouped

@@ -1,5 +1,5 @@
 -- What is drawn where elements hold others, as it is meant, before it is spelled.
-use Rattle.std.specs.Prelude.{ℕ, List, [], ◌∷◌, ◌++◌, map}
+use Rattle.std.specs.Prelude.{List, [], ◌∷◌, ◌++◌, map}
 use Rattle.svg_drawing.specs.Drawn.{Given, Shown, given_of, shown_of}
 use Rattle.svg_drawing.specs.declared.element.Group.{Group}
 use Rattle.svg_drawing.specs.declared.element.Scene.{Scene}

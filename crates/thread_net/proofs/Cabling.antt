@@ -9,7 +9,7 @@ use Rattle.std.proofs.lemmas.List.FromFn.{filter_of_map_range_with_len_more, len
 use Rattle.topology.specs.Network.{Network, are_joined}
 use Rattle.run_model.specs.World.{World}
 use Rattle.node_runner.specs.declared.runner.Port.{Port}
-use Rattle.node_runner.specs.Runner.{IsPortTold}
+use Rattle.node_runner.specs.Runner.{IsPortNoted}
 use Rattle.thread_net.specs.Cables.{IsCable, IsCabledOn, AreCabled, AreLaid, AreFurnished, ids_in, row, reach, rows_reach, neighbours_below, port_to}
 use Rattle.thread_net.proofs.Maps.{map-long}
 
@@ -257,16 +257,16 @@ module _ {A : Type 0} (w : World) where
           on-as IsCabledOn (port_to (row more i) j) (port_to (row more j) i) (port_to (row rows i) j) (port_to (row rows j) i) (find-more i j one two) (find-more j i (λ x y. two y x) (λ x y. one y x))
           (laid.cabled i j))
 
-      pub laid-more : are_joined w.net.edges u v ≡ true → are_joined w.net.edges v u ≡ true → IsPortTold w u [] a → IsPortTold w v [] b → AreLaid w (reach w.net.nodes u (v + 1)) more
-      laid-more joined joined-back told-a told-b = record {
+      pub laid-more : are_joined w.net.edges u v ≡ true → are_joined w.net.edges v u ≡ true → IsPortNoted w u [] a → IsPortNoted w v [] b → AreLaid w (reach w.net.nodes u (v + 1)) more
+      laid-more joined joined-back said-a said-b = record {
         ids = by-node (λ x. x < w.net.nodes → ids_in (row more x) ≡ neighbours_below w.net x (reach w.net.nodes u (v + 1) x)) u v
             (λ xn. ap ids_in pushed.row_u ∙ (push-id w.net u v (row rows u) a joined ids-u to-v ∙ ap (neighbours_below w.net u) (sym (next-u w.net.nodes u v order))))
             (λ xn. ap ids_in pushed.row_v ∙ (push-id w.net v u (row rows v) b joined-back ids-v to-u ∙ ap (neighbours_below w.net v) (sym (next-v w.net.nodes u v order))))
             (λ x no-u no-v xn. ap ids_in (pushed.row_x x no-u no-v) ∙ (laid.ids x xn ∙ ap (neighbours_below w.net x) (sym (next-x w.net.nodes u v order x no-u no-v))));
-        told = by-node (λ x. x < w.net.nodes → All (IsPortTold w x []) (row more x)) u v
-            (λ xn. subst (All (IsPortTold w u [])) (sym pushed.row_u) (All-push (IsPortTold w u []) (row rows u) a (laid.told u xn) told-a))
-            (λ xn. subst (All (IsPortTold w v [])) (sym pushed.row_v) (All-push (IsPortTold w v []) (row rows v) b (laid.told v xn) told-b))
-            (λ x no-u no-v xn. subst (All (IsPortTold w x [])) (sym (pushed.row_x x no-u no-v)) (laid.told x xn));
+        said = by-node (λ x. x < w.net.nodes → All (IsPortNoted w x []) (row more x)) u v
+            (λ xn. subst (All (IsPortNoted w u [])) (sym pushed.row_u) (All-push (IsPortNoted w u []) (row rows u) a (laid.said u xn) said-a))
+            (λ xn. subst (All (IsPortNoted w v [])) (sym pushed.row_v) (All-push (IsPortNoted w v []) (row rows v) b (laid.said v xn) said-b))
+            (λ x no-u no-v xn. subst (All (IsPortNoted w x [])) (sym (pushed.row_x x no-u no-v)) (laid.said x xn));
         cabled = cabled;
       }
 
@@ -274,7 +274,7 @@ module _ {A : Type 0} (w : World) where
   pub laid-as : (f g : ℕ → ℕ) (rows : List (List (Port A))) → ((x : ℕ) → x < w.net.nodes → IsSameBound w.net x (f x) (g x)) → AreLaid w g rows → AreLaid w f rows
   laid-as f g rows same laid = record {
     ids = λ x xn. laid.ids x xn ∙ sym (below-same w.net x (f x) (g x) (same x xn));
-    told = laid.told;
+    said = laid.said;
     cabled = laid.cabled;
   }
 
@@ -282,7 +282,7 @@ module _ {A : Type 0} (w : World) where
   pub laid-nothing : (rows : List (List (Port A))) → ((x : ℕ) → row rows x ≡ []) → AreLaid w (rows_reach w.net.nodes 0) rows
   laid-nothing rows none = record {
     ids = λ x xn. ap ids_in (none x) ∙ ap (neighbours_below w.net x) (sym (zero-reach x));
-    told = λ x xn. subst (All (IsPortTold w x [])) (sym (none x)) (All-nil (IsPortTold w x []));
+    said = λ x xn. subst (All (IsPortNoted w x [])) (sym (none x)) (All-nil (IsPortNoted w x []));
     cabled = λ i j. on-as IsCabledOn (port_to (row rows i) j) (port_to (row rows j) i) None None (ap (λ ps. port_to ps j) (none i)) (ap (λ ps. port_to ps i) (none j)) tt;
   }
     where
@@ -293,6 +293,6 @@ module _ {A : Type 0} (w : World) where
   pub laid-all : (rows : List (List (Port A))) → AreLaid w (rows_reach w.net.nodes w.net.nodes) rows → AreFurnished w rows
   laid-all rows laid = record {
     ids = λ x xn. laid.ids x xn ∙ ap (neighbours_below w.net x) (all-reach w.net.nodes x xn);
-    told = laid.told;
+    said = laid.said;
     cabled = laid.cabled;
   }

@@ -31,7 +31,7 @@ use Rattle.node_runner.specs.declared.runner.Port.{Port}
 use Rattle.node_runner.specs.declared.runner.Runner.{Runner}
 use Rattle.thread_net.specs.declared.threads.Outcome.{Outcome}
 use Rattle.node_runner.specs.Ports.{SameOutgoing, SameIncoming}
-use Rattle.node_runner.specs.Runner.{IsTold, AreSamePorts, IsSamePort, port_ids, round_room}
+use Rattle.node_runner.specs.Runner.{IsNoted, AreSamePorts, IsSamePort, port_ids, round_room}
 use Rattle.node_runner.specs.Rounds.{AreRounds}
 use Rattle.thread_net.specs.Cables.{AreCabled, AreEnds, IsCabledOn, IsOver, AreSettleable, IsFlushedBetween, ids_in, port_to, row, rows_of, settled}
 use Rattle.thread_net.specs.Seats.{AreAtStart, IsAtStart, degree_of, entries_of_all, nodes_of, total_room}
@@ -61,7 +61,7 @@ start-of view range = record {
 pub may-run : {A : Type 0} (w : World) (turns : ℕ) (rs : List (Runner A)) → AreAtStart w turns rs → All (MayRun turns) rs
 may-run w turns rs start k d within =
     let one = start.each k d (let c = start.count in omega (arith, c, within)) in
-    let none = ap length one.told.journal in
+    let none = ap length one.said.journal in
     let room = one.room in
     (one.ready, omega (arith, none, room))
 
@@ -73,7 +73,7 @@ get-some (x ∷ xs) (suc k) within = get-some xs k (omega (arith, within))
 -- ---- one runner that came back
 
 port-ids-are : (w : World) (turns v : ℕ) (r : Runner Global) → IsAtStart w turns v r → port_ids r ≡ neighbours_of w.net v
-port-ids-are w turns v r start = start.ready.ports ∙ ap (λ s. s.neighbours) start.told.site
+port-ids-are w turns v r start = start.ready.ports ∙ ap (λ s. s.neighbours) start.said.site
 
 -- a node has at most 64 neighbours
 few-ports : (w : World) (turns v : ℕ) (r : Runner Global) → IsWorldInRange w → IsAtStart w turns v r → length r.ports.items ≤ 64
@@ -87,11 +87,11 @@ few-ports w turns v r range start =
 done-as : (w : World) (turns v : ℕ) (r now : Runner Global) (ran : Bool) → IsWorldInRange w → IsAtStart w turns v r → Keeps turns r now ran → HasDone w v (if ran then turns else 0) now
 done-as w turns v r now true range start (deeds, does, rounds, few, first) = record {
   notes = deeds;
-  told = does.told w v [] start.told;
+  said = does.said w v [] start.said;
   rounds = subst (λ us. AreRounds us turns deeds) (port-ids-are w turns v r start) rounds;
-  first = λ some. first some start.clock (few-ports w turns v r range start) w v start.told range.capacity;
+  first = λ some. first some start.clock (few-ports w turns v r range start) w v start.said range.capacity;
 }
-done-as w turns v r now false range start same = record { notes = []; told = subst (IsTold w v []) (sym same) start.told; rounds = refl; first = λ some. absurd (omega (arith, some)) }
+done-as w turns v r now false range start same = record { notes = []; said = subst (IsNoted w v []) (sym same) start.said; rounds = refl; first = λ some. absurd (omega (arith, some)) }
 
 ids-as : (w : World) (turns v : ℕ) (r now : Runner Global) (ran : Bool) → IsAtStart w turns v r → Keeps turns r now ran → port_ids now ≡ neighbours_of w.net v
 ids-as w turns v r now true start (deeds, does, rounds, few, first) = does.ready.ports ∙ (ap (λ s. s.neighbours) does.site ∙ (sym start.ready.ports ∙ port-ids-are w turns v r start))
@@ -110,13 +110,13 @@ ports-as turns r now false same = subst (λ n. AreSamePorts r.ports.items n.port
 entries-as : (w : World) (turns v : ℕ) (r now : Runner Global) (ran : Bool) → IsAtStart w turns v r → Keeps turns r now ran
     → length now.journal.entries.items ≤ turns * (1 + 3 * degree_of r.node)
 entries-as w turns v r now true start (deeds, does, rounds, few, first) =
-    let none = ap length start.told.journal in
+    let none = ap length start.said.journal in
     let count = does.entries in
     let same : round_room r ≡ 1 + 3 * degree_of r.node = ap (λ k. 1 + 3 * k) (sym (map-long (λ p. p.neighbour) r.ports.items) ∙ ap length start.ready.ports) in
     let most = subst (λ k. length deeds ≤ turns * k) same few in
     omega (arith, none, count, most)
 entries-as w turns v r now false start same =
-    let none = ap length start.told.journal in
+    let none = ap length start.said.journal in
     let count = ap (λ n. length n.journal.entries.items) same in
     omega (arith, none, count)
 
@@ -260,7 +260,7 @@ run-as some other w last events same run = record {
   journal = run.journal;
   woven = run.woven;
   rising = run.rising;
-  told = run.told;
+  said = run.said;
   matched = run.matched;
   rounds = λ v vn. subst (λ t. AreRounds (neighbours_of w.net v) t (run.account v)) (same v vn) (run.rounds v vn);
   ticks = λ v vn. run.ticks v vn ∙ same v vn;
@@ -314,7 +314,7 @@ one-worlds w turns rs links now nodes room done over are net judged =
             let vn' : v < w.net.nodes = (let d = ap (λ n. n.nodes) same in omega (arith, vn, d)) in
             let g = get-some rs v (let c = done.count in omega (arith, c, vn')) in
             let one = done.each v g.0 g.1 in
-            ap (λ ns. site_in (node_at ns v)) are ∙ (ap site_in (get-mapped (λ r. r.node) rs v g.0 no_node g.1) ∙ (one.told.site ∙ ap (λ n. site_of n v) (sym same)));
+            ap (λ ns. site_in (node_at ns v)) are ∙ (ap site_in (get-mapped (λ r. r.node) rs v g.0 no_node g.1) ∙ (one.said.site ∙ ap (λ n. site_of n v) (sym same)));
       };
       room_is = subst (λ n. HasRoomFor n room) (sym same) judged;
     }

@@ -25,7 +25,7 @@ use Rattle.weaving.specs.Woven.{AreRising, IsWoven}
 use Rattle.node_runner.specs.declared.runner.Port.{Port}
 use Rattle.node_runner.specs.declared.runner.Runner.{Runner}
 use Rattle.node_runner.specs.Ports.{IsSender, IsReceiver}
-use Rattle.node_runner.specs.Runner.{IsTold, IsPortTold}
+use Rattle.node_runner.specs.Runner.{IsNoted, IsPortNoted}
 use Rattle.node_runner.specs.Rounds.{AreRounds}
 use Rattle.thread_net.specs.Cables.{row, rows_of, port_to, left_between, left_on_ports, settled, IsFlushedOn, IsFlushedBetween, AreSettleable}
 use Rattle.thread_net.specs.Seats.{nodes_of, entries_of_all}
@@ -120,12 +120,12 @@ module _ {A : Type 0} where
   -- what is known of a node: its runner and its account, or that it is none
   abbrev Known : World → (ℕ → ℕ) → ℕ → Option (Runner A) → List Note → Type 0
   Known w turns v o account =
-      ((r : Runner A) × (o ≡ Some r) × IsTold w v account r × AreRounds (neighbours_of w.net v) (turns v) account × (0 < turns v → IsFirstTurn w v (events_of v account)))
+      ((r : Runner A) × (o ≡ Some r) × IsNoted w v account r × AreRounds (neighbours_of w.net v) (turns v) account × (0 < turns v → IsFirstTurn w v (events_of v account)))
       ⊎ ((o ≡ None) × (account ≡ []))
 
   known-from : (w : World) (turns : ℕ → ℕ) (v : ℕ) (o : Option (Runner A)) (f : (r : Runner A) → o ≡ Some r → HasDone w v (turns v) r) → Known w turns v o (account-from w turns v o f)
   known-from w turns v None f = inr (refl, refl)
-  known-from w turns v (Some r) f = inl (r, refl, (f r refl).told, (f r refl).rounds, (f r refl).first)
+  known-from w turns v (Some r) f = inl (r, refl, (f r refl).said, (f r refl).rounds, (f r refl).first)
 
   module _ (w : World) (turns : ℕ → ℕ) (rs : List (Runner A)) (done : HaveDone w turns rs) (start : IsStart w) where
     abbrev pub account : ℕ → List Note
@@ -145,12 +145,12 @@ module _ {A : Type 0} where
 
     leads : (v : ℕ) → Leads w.net v (w.node v) (account v) (last.node v)
     leads v = elim (known v) [
-      | inl (r, is, told, rounds, first) ↦
+      | inl (r, is, said, rounds, first) ↦
           let lt = within v r is in
           let test : nat_lt v w.net.nodes ≡ true = grind (arith, common_steps, lt) in
           let node : last.node v ≡ state_of r.node =
           ap (λ b. if b then state_of (slice_index_or (nodes_of rs) v no_node) else default_node (ranges_of w.net)) test ∙ ap state_of (get-mapped (λ r. r.node) rs v r no_node is) in
-          subst (Leads w.net v (w.node v) (account v)) (sym node) told.leads
+          subst (Leads w.net v (w.node v) (account v)) (sym node) said.leads
       | inr (is, none) ↦
           let le = beyond v is in
           let test : nat_lt v w.net.nodes ≡ false = grind (arith, common_steps, le) in
@@ -160,14 +160,14 @@ module _ {A : Type 0} where
 
     nobody : (v : ℕ) → w.net.nodes ≤ v → account v ≡ []
     nobody v le = elim (known v) [
-      | inl (r, is, told, rounds, first) ↦ absurd (let lt = within v r is in omega (arith, lt, le))
+      | inl (r, is, said, rounds, first) ↦ absurd (let lt = within v r is in omega (arith, lt, le))
       | inr (is, none) ↦ none
     ]
 
     -- the link of two nodes that are joined
     on-ports : (u v : ℕ) (a b : Option (Port A)) (acc-u acc-v : List Note) → IsFlushedOn a b
-        → ((p : Port A) → a ≡ Some p → (p.neighbour ≡ v) × IsPortTold w u acc-u p)
-        → ((q : Port A) → b ≡ Some q → (q.neighbour ≡ u) × IsPortTold w v acc-v q)
+        → ((p : Port A) → a ≡ Some p → (p.neighbour ≡ v) × IsPortNoted w u acc-u p)
+        → ((q : Port A) → b ≡ Some q → (q.neighbour ≡ u) × IsPortNoted w v acc-v q)
         → Rise (stamps (taken_from u acc-v))
         → IsLinkMatched w.net.capacity (w.link u v) (sent_to v acc-u) (taken_from u acc-v) (left_on_ports a b)
     on-ports u v None b acc-u acc-v is P Q rise = elim is [ ]
@@ -182,34 +182,34 @@ module _ {A : Type 0} where
     row-is : (v : ℕ) (r : Runner A) → slice_get rs v ≡ Some r → row (rows_of rs) v ≡ r.ports.items
     row-is v r is = get-mapped (λ r. r.ports.items) rs v r [] is
 
-    told-port : (u v : ℕ) (r : Runner A) → slice_get rs u ≡ Some r → IsTold w u (account u) r → (p : Port A) → port_to (row (rows_of rs) u) v ≡ Some p
-        → (p.neighbour ≡ v) × IsPortTold w u (account u) p
-    told-port u v r is told p at = found (IsPortTold w u (account u)) r.ports.items v p (ap (λ ps. port_to ps v) (sym (row-is u r is)) ∙ at) told.ports
+    said-port : (u v : ℕ) (r : Runner A) → slice_get rs u ≡ Some r → IsNoted w u (account u) r → (p : Port A) → port_to (row (rows_of rs) u) v ≡ Some p
+        → (p.neighbour ≡ v) × IsPortNoted w u (account u) p
+    said-port u v r is said p at = found (IsPortNoted w u (account u)) r.ports.items v p (ap (λ ps. port_to ps v) (sym (row-is u r is)) ∙ at) said.ports
 
-    rise-of : (v u : ℕ) (r : Runner A) → IsTold w v (account v) r → Rise (stamps (taken_from u (account v)))
-    rise-of v u r told = taken-rise v u (account v) told.rising
+    rise-of : (v u : ℕ) (r : Runner A) → IsNoted w v (account v) r → Rise (stamps (taken_from u (account v)))
+    rise-of v u r said = taken-rise v u (account v) said.rising
 
-    pub told-of : AreOf account (journal_of (entries_of_all rs))
-    told-of v = elim (known v) [
-      | inl (r, is, told, rounds, first) ↦ get-mapped (λ r. r.journal.entries.items) rs v r [] is ∙ told.journal
+    pub said-of : AreOf account (journal_of (entries_of_all rs))
+    said-of v = elim (known v) [
+      | inl (r, is, said, rounds, first) ↦ get-mapped (λ r. r.journal.entries.items) rs v r [] is ∙ said.journal
       | inr (is, none) ↦ none-mapped (λ r. r.journal.entries.items) rs v [] is ∙ ap (map (entry_of v)) (sym none)
     ]
 
     pub all-rising : (v : ℕ) → AreRising (journal_of (entries_of_all rs) v)
     all-rising v = elim (known v) [
-      | inl (r, is, told, rounds, first) ↦ subst AreRising (sym (told-of v)) told.rising
+      | inl (r, is, said, rounds, first) ↦ subst AreRising (sym (said-of v)) said.rising
       | inr (is, none) ↦ subst AreRising (sym (none-mapped (λ r. r.journal.entries.items) rs v [] is)) tt
     ]
 
     all-rounds : (v : ℕ) → v < w.net.nodes → AreRounds (neighbours_of w.net v) (turns v) (account v)
     all-rounds v lt = elim (known v) [
-      | inl (r, is, told, rounds, first) ↦ rounds
+      | inl (r, is, said, rounds, first) ↦ rounds
       | inr (is, none) ↦ absurd (let le = beyond v is in omega (arith, lt, le))
     ]
 
     all-first : (v : ℕ) → v < w.net.nodes → 0 < turns v → IsFirstTurn w v (events_of v (account v))
     all-first v lt = elim (known v) [
-      | inl (r, is, told, rounds, first) ↦ first
+      | inl (r, is, said, rounds, first) ↦ first
       | inr (is, none) ↦ absurd (let le = beyond v is in omega (arith, lt, le))
     ]
 
@@ -220,11 +220,11 @@ module _ {A : Type 0} where
           let both = nodes w.net u v start.range.network joined in
           elim (known u) [
             | inr (is, none) ↦ absurd (let le = beyond u is in let lt = both.0 in omega (arith, le, lt))
-            | inl (r, is-u, told-u, rounds-u, first-u) ↦ elim (known v) [
+            | inl (r, is-u, said-u, rounds-u, first-u) ↦ elim (known v) [
               | inr (is, none) ↦ absurd (let le = beyond v is in let lt = both.1 in omega (arith, le, lt))
-              | inl (s, is-v, told-v, rounds-v, first-v) ↦
+              | inl (s, is-v, said-v, rounds-v, first-v) ↦
                   on-ports u v (port_to (row (rows_of rs) u) v) (port_to (row (rows_of rs) v) u) (account u) (account v) (flushed u v joined)
-                  (told-port u v r is-u told-u) (told-port v u s is-v told-v) (rise-of v u s told-v)
+                  (said-port u v r is-u said-u) (said-port v u s is-v said-v) (rise-of v u s said-v)
             ]
           ]
 
@@ -251,7 +251,7 @@ module _ {A : Type 0} where
 
       module _ (events : List Event) (woven : IsWoven (journal_of (entries_of_all rs)) events) (law : WovenIsRun) where
         both-laws : (run w events ≡ last) × GoesThrough w events
-        both-laws = law w last account (journal_of (entries_of_all rs)) events start.range matched told-of woven
+        both-laws = law w last account (journal_of (entries_of_all rs)) events start.range matched said-of woven
 
         pub is-run : EachRoundTicks → IsThreadRun turns w events last
         is-run rounds-tick = record {
@@ -261,13 +261,13 @@ module _ {A : Type 0} where
           journal = journal_of (entries_of_all rs);
           woven = woven;
           rising = all-rising;
-          told = told-of;
+          said = said-of;
           matched = matched;
           rounds = all-rounds;
           ticks = λ v lt.
               own-ticks v events
-              ∙ (ap (count_of (is_tick_of v)) (own-deeds account (journal_of (entries_of_all rs)) events v told-of woven) ∙ rounds-tick v (neighbours_of w.net v) (turns v) (account v) (all-rounds v lt));
-          first = λ v lt some. subst (IsFirstTurn w v) (sym (own-deeds account (journal_of (entries_of_all rs)) events v told-of woven)) (all-first v lt some);
+              ∙ (ap (count_of (is_tick_of v)) (own-deeds account (journal_of (entries_of_all rs)) events v said-of woven) ∙ rounds-tick v (neighbours_of w.net v) (turns v) (account v) (all-rounds v lt));
+          first = λ v lt some. subst (IsFirstTurn w v) (sym (own-deeds account (journal_of (entries_of_all rs)) events v said-of woven)) (all-first v lt some);
         }
 
         pub settleable : RangesStay → AreSettleable w.net (rows_of rs)

@@ -57,10 +57,10 @@ note-events v (d ∷ ds) = ap (λ es. (entry_of v d).event ∷ es) (note-events 
 
 pub own-deeds : (account : ℕ → List Note) (journal : ℕ → List Entry) (events : List Event) (v : ℕ) → AreOf account journal → IsWoven journal events
     → deeds_of v events ≡ events_of v (account v)
-own-deeds account journal events v told woven =
-    let each : (u : ℕ) → AllByRecursion (IsOwn u) (entries_of u woven.placed) = λ u. subst (AllByRecursion (IsOwn u)) (sym (woven.complete u ∙ told u)) (account-own u (account u)) in
+own-deeds account journal events v said woven =
+    let each : (u : ℕ) → AllByRecursion (IsOwn u) (entries_of u woven.placed) = λ u. subst (AllByRecursion (IsOwn u)) (sym (woven.complete u ∙ said u)) (account-own u (account u)) in
     ap (deeds_of v) (sym woven.are_events)
-    ∙ (placed-own v woven.placed (all-own woven.placed each) ∙ (ap (map (λ e. e.event)) (woven.complete v ∙ told v) ∙ note-events v (account v)))
+    ∙ (placed-own v woven.placed (all-own woven.placed each) ∙ (ap (map (λ e. e.event)) (woven.complete v ∙ said v) ∙ note-events v (account v)))
 
 -- a node's ticks are among its own events
 pub own-ticks : (v : ℕ) (es : List Event) → count_of (is_tick_of v) es ≡ count_of (is_tick_of v) (deeds_of v es)

@@ -54,10 +54,10 @@ in_order =
     record { node = 0; entry = record { stamp = 1; event = Tick 0 } } ∷ record { node = 1; entry = record { stamp = 1; event = Tick 1 } }
     ∷ record { node = 0; entry = record { stamp = 2; event = Send 0 1 } } ∷ record { node = 1; entry = record { stamp = 2; event = Send 1 0 } } ∷ []
 
-told : AreOf account journal
-told zero = refl
-told (suc zero) = refl
-told (suc (suc v)) = refl
+said : AreOf account journal
+said zero = refl
+said (suc zero) = refl
+said (suc (suc v)) = refl
 
 complete : (v : ℕ) → entries_of v in_order ≡ journal v
 complete zero = refl
@@ -147,7 +147,7 @@ one-turn_each = record {
   journal = journal;
   woven = woven;
   rising = rising;
-  told = told;
+  said = said;
   matched = matched;
   rounds = each-node (λ v. AreRounds (neighbours_of two_nodes v) 1 (account v)) (one-round 0 1) (one-round 1 0);
   ticks = each-node (λ v. count_of (is_tick_of v) events ≡ 1) refl refl;

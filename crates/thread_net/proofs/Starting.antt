@@ -14,7 +14,7 @@ use Rattle.run_model.specs.World.{World}
 use Rattle.configuration.specs.ConfigurationView.{AreNodesOf, no_node, node_at, world_of}
 use Rattle.configuration.specs.LinksView.{LinksView}
 use Rattle.node_runner.specs.declared.runner.Runner.{Runner}
-use Rattle.node_runner.specs.Runner.{IsPortTold, port_ids}
+use Rattle.node_runner.specs.Runner.{IsPortNoted, port_ids}
 use Rattle.thread_net.specs.Cables.{AreFurnished, neighbours_below, row, rows_of, seat_of, seats_of}
 use Rattle.thread_net.specs.Seats.{IsNew, HasRoom, AreAtStart, AreShort, IsAtStart, degree_of, nodes_of}
 use Rattle.thread_net.proofs.Maps.{map-long}
@@ -81,14 +81,14 @@ module _ {A : Type 0} (nodes : List NodeView) (links : LinksView) (turns : ℕ) 
 
     pub at-start : IsAtStart here turns v r
     at-start = record {
-      told = record {
+      said = record {
         id = new-is.id ∙ ap (λ s. s.id) site-is;
         site = site-is;
         leads = (tt, ap state_of node-is ∙ sym (ap (λ b. if b then state_of (node_at nodes v) else default_node (ranges_of links.net)) (let l = vn in lemma-lt v links.net.nodes l)));
         journal = new-is.journal;
         rising = tt;
         before = tt;
-        ports = subst (All (IsPortTold here v [])) row-is (furnished.told v vn);
+        ports = subst (All (IsPortNoted here v [])) row-is (furnished.said v vn);
       };
       ready = record {
         clock = let c = new-is.clock in omega (arith, c);

@@ -16,7 +16,7 @@ use Rattle.node_runner.specs.declared.ports.Outgoing.{Outgoing}
 use Rattle.node_runner.specs.declared.ports.Incoming.{Incoming}
 use Rattle.node_runner.specs.declared.runner.Port.{Port}
 use Rattle.node_runner.specs.declared.runner.Runner.{Runner}
-use Rattle.node_runner.specs.Runner.{IsPortTold}
+use Rattle.node_runner.specs.Runner.{IsPortNoted}
 
 -- they are the two ends of one link
 abbrev pub AreEnds : {A : Type 0} → Outgoing A → Incoming A → Type 0
@@ -88,13 +88,13 @@ rows_reach n u x = if nat_lt x u then n else u
 -- world begins, and ports that lead to each other are the ends of the same links.
 pub record AreLaid {A : Type 0} (w : World) (bound : ℕ → ℕ) (rows : List (List (Port A))) : Type 0 where
   pub ids : (x : ℕ) → x < w.net.nodes → ids_in (row rows x) ≡ neighbours_below w.net x (bound x)
-  pub told : (x : ℕ) → x < w.net.nodes → All (IsPortTold w x []) (row rows x)
+  pub said : (x : ℕ) → x < w.net.nodes → All (IsPortNoted w x []) (row rows x)
   pub cabled : AreCabled rows
 
 -- the same with a port to each neighbour
 pub record AreFurnished {A : Type 0} (w : World) (rows : List (List (Port A))) : Type 0 where
   pub ids : (x : ℕ) → x < w.net.nodes → ids_in (row rows x) ≡ neighbours_of w.net x
-  pub told : (x : ℕ) → x < w.net.nodes → All (IsPortTold w x []) (row rows x)
+  pub said : (x : ℕ) → x < w.net.nodes → All (IsPortNoted w x []) (row rows x)
   pub cabled : AreCabled rows
 
 -- what was sent at the one end and not yet taken at the other

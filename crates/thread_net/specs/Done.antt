@@ -12,7 +12,7 @@ use Rattle.weaving.specs.Account.{Note}
 use Rattle.weaving.specs.Journals.{entry_count}
 use Rattle.node_runner.specs.declared.runner.Runner.{Runner}
 use Rattle.thread_net.specs.declared.seats.Seats.{Seats}
-use Rattle.node_runner.specs.Runner.{IsTold}
+use Rattle.node_runner.specs.Runner.{IsNoted}
 use Rattle.node_runner.specs.Rounds.{AreRounds}
 use Rattle.node_runner.specs.FirstTurn.{IsFirstTurn}
 use Rattle.node_runner.specs.Due.{events_of}
@@ -24,7 +24,7 @@ use Rattle.thread_net.specs.ThreadRun.{IsThreadRun}
 -- v did as many rounds since it was as in the world, of which the first is a whole turn
 pub record HasDone {A : Type 0} (w : World) (v turns : ℕ) (r : Runner A) : Type 0 where
   pub notes : List Note
-  pub told : IsTold w v notes r
+  pub said : IsNoted w v notes r
   pub rounds : AreRounds (neighbours_of w.net v) turns notes
   pub first : 0 < turns → IsFirstTurn w v (events_of v notes)
 

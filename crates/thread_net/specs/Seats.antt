@@ -4,7 +4,7 @@ use Rattle.node_core.specs.View.{NodeView, site_in}
 use Rattle.run_model.specs.World.{World}
 use Rattle.weaving.specs.declared.journal.Entry.{Entry}
 use Rattle.node_runner.specs.declared.runner.Runner.{Runner}
-use Rattle.node_runner.specs.Runner.{IsTold, IsReady, round_room}
+use Rattle.node_runner.specs.Runner.{IsNoted, IsReady, round_room}
 use Rattle.thread_net.specs.Cables.{AreCabled, rows_of, Seat}
 
 -- the node of each
@@ -44,7 +44,7 @@ HasRoom turns s = entry_room turns (degree_of s.1) ≤ vec_capacity s.3.entries
 
 -- v is as in the world, has done nothing yet, and has room for its turns
 pub record IsAtStart {A : Type 0} (w : World) (turns v : ℕ) (r : Runner A) : Type 0 where
-  pub told : IsTold w v [] r
+  pub said : IsNoted w v [] r
   pub ready : IsReady r
   pub clock : r.clock ≡ 0
   pub room : turns * round_room r ≤ vec_capacity r.journal.entries

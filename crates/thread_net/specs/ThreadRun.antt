@@ -24,7 +24,7 @@ pub record IsThreadRun (turns : ℕ → ℕ) (start : World) (events : List Even
   pub journal : ℕ → List Entry
   pub woven : IsWoven journal events
   pub rising : (v : ℕ) → AreRising (journal v)
-  pub told : AreOf account journal
+  pub said : AreOf account journal
   pub matched : AreMatched start account last
   pub rounds : (v : ℕ) → v < start.net.nodes → AreRounds (neighbours_of start.net v) (turns v) (account v)
   pub ticks : (v : ℕ) → v < start.net.nodes → count_of (is_tick_of v) events ≡ turns v

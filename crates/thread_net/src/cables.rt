@@ -6,7 +6,7 @@ ghost use Rattle.run_model.specs.World.{World};
 ghost use Rattle.configuration.specs.LinksView.{LinksView, under_way};
 ghost use Rattle.rtrb.specs.Ring.{sent, known_free, SameProducer};
 ghost use Rattle.node_runner.specs.Ports.{opening, IsSender, IsReceiver};
-ghost use Rattle.node_runner.specs.Runner.{IsPortTold};
+ghost use Rattle.node_runner.specs.Runner.{IsPortNoted};
 ghost use Rattle.thread_net.specs.Cables.{AreEnds, IsCable, AreLaid, AreFurnished, rows_of, row};
 ghost use Rattle.thread_net.specs.Cables.{reach, seats_of, AreWithin, IsOver};
 
@@ -83,8 +83,8 @@ fn cable<A: Allocator + Copy>(
     requires joined { IsTrue (are_joined links.now.net.edges one other) }
     requires within { AreWithin links.now }
     ensures neighbours { IfOk result (λ r. (r.0.neighbour ≡ other) × (r.1.neighbour ≡ one)) }
-    ensures told { IfOk result (λ r. (w : World) → IsOver w links.now
-        → IsPortTold w one [] r.0 × IsPortTold w other [] r.1) }
+    ensures said { IfOk result (λ r. (w : World) → IsOver w links.now
+        → IsPortNoted w one [] r.0 × IsPortNoted w other [] r.1) }
     ensures cable { IfOk result (λ r. IsCable r.0 r.1) }
 {
     topology::laws::joined();

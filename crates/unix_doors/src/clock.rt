@@ -32,7 +32,7 @@ impl<'a, C: Clock> Stopwatch<'a, C> {
     /// The microseconds since the start, at least as many as it gave before.
     pub fn now(&mut self) -> u64
         ensures never_back { self.old.last ≤ result }
-        ensures told { self.new.last ≡ result }
+        ensures said { self.new.last ≡ result }
     {
         if let Ok(elapsed) = self.start.elapsed(self.clock) {
             let micros = u64::try_from(elapsed.as_micros()).unwrap_or(u64::MAX);

@@ -10,9 +10,9 @@ use Rattle.weaving.specs.Woven.{AreRising, Placed, IsNoLater, entries_of, IsWove
 use Rattle.weaving.proofs.Changed.{at-each, at-here, at-other}
 
 -- what holds for the entries of a node holds for those after the first
-behind : (P : Placed → Type 0) (v : ℕ) (p : Placed) (ps : List Placed) → AllByRecursion (λ e. P (record { node = v; entry = e })) (entries_of v (p ∷ ps))
+after-first : (P : Placed → Type 0) (v : ℕ) (p : Placed) (ps : List Placed) → AllByRecursion (λ e. P (record { node = v; entry = e })) (entries_of v (p ∷ ps))
     → AllByRecursion (λ e. P (record { node = v; entry = e })) (entries_of v ps)
-behind P v p ps all = go (p.node == v) all where
+after-first P v p ps all = go (p.node == v) all where
   go : (b : Bool) → AllByRecursion (λ e. P (record { node = v; entry = e })) (if b then p.entry ∷ entries_of v ps else entries_of v ps)
       → AllByRecursion (λ e. P (record { node = v; entry = e })) (entries_of v ps)
   go true both = both.1
@@ -24,7 +24,7 @@ of-all P [] each = tt
 of-all P (p ∷ ps) each =
     let here : entries_of p.node (p ∷ ps) ≡ p.entry ∷ entries_of p.node ps = grind (arith, common_steps) in
     let both = subst (AllByRecursion (λ e. P (record { node = p.node; entry = e }))) here (each p.node) in
-    (both.0, of-all P ps (λ v. behind P v p ps (each v)))
+    (both.0, of-all P ps (λ v. after-first P v p ps (each v)))
 
 grows : (p : Placed) (v : ℕ) (e x : Entry) → IsNoLater p (record { node = v; entry = e }) → e.stamp < x.stamp → IsNoLater p (record { node = v; entry = x })
 grows p v e x (inl l) more = inl (omega arith)

@@ -21,15 +21,15 @@ noise = record { stamp = 3; item = Noise }
 
 -- ---- what a journal says
 
-tells-send : entry_of 0 (Sent 1 frame) ≡ record { stamp = 2; event = Send 0 1 }
-tells-send = refl
+says-send : entry_of 0 (Sent 1 frame) ≡ record { stamp = 2; event = Send 0 1 }
+says-send = refl
 
 -- a take is named by the link, so by the other node first
-tells-take : entry_of 0 (Took 1 noise) ≡ record { stamp = 3; event = Take 1 0 }
-tells-take = refl
+says-take : entry_of 0 (Took 1 noise) ≡ record { stamp = 3; event = Take 1 0 }
+says-take = refl
 
-tells_not-turned : entry_of 0 (Took 1 noise) ≢ record { stamp = 3; event = Take 0 1 }
-tells_not-turned = grind arith
+says_not-turned : entry_of 0 (Took 1 noise) ≢ record { stamp = 3; event = Take 0 1 }
+says_not-turned = grind arith
 
 abbrev notes : ℕ → List Note
 notes zero = Ticked 1 ∷ Took 1 noise ∷ []
@@ -39,12 +39,12 @@ abbrev entries : ℕ → List Entry
 entries zero = record { stamp = 1; event = Tick 0 } ∷ record { stamp = 3; event = Take 1 0 } ∷ []
 entries (suc v) = []
 
-tells-all : AreOf notes entries
-tells-all zero = refl
-tells-all (suc v) = refl
+says-all : AreOf notes entries
+says-all zero = refl
+says-all (suc v) = refl
 
-tells_not-nothing : ¬ AreOf notes (λ v. [])
-tells_not-nothing told = let all = told 0 in grind (arith, all)
+says_not-nothing : ¬ AreOf notes (λ v. [])
+says_not-nothing said = let all = said 0 in grind (arith, all)
 
 -- ---- deeds
 

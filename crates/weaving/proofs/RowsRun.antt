@@ -104,8 +104,8 @@ no-send_to_itself : Leads two_nodes 0 (start.node 0) (Sent 0 sent ∷ []) (start
 no-send_to_itself leads = false≢true leads.0.0
 
 -- and its state is what its deeds make it
-no-tick_untold : Leads two_nodes 0 (start.node 0) [] ticked_0 → ⊥
-no-tick_untold leads = let distance : 0 ≡ 2 = ap (λ (s : LocalState). s.distance) leads.1 in omega (arith, distance)
+no-tick_unsaid : Leads two_nodes 0 (start.node 0) [] ticked_0 → ⊥
+no-tick_unsaid leads = let distance : 0 ≡ 2 = ap (λ (s : LocalState). s.distance) leads.1 in omega (arith, distance)
 
 -- ---- what both did
 

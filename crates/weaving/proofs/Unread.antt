@@ -6,18 +6,18 @@ use Rattle.weaving.specs.declared.journal.Entry.{Entry}
 use Rattle.weaving.specs.Journals.{journal_of, unread, entry_count}
 
 -- what is after the first of what is left
-pub drop-behind : {X : Type 0} (k : ℕ) (xs : List X) (x : X) (rest : List X) → drop k xs ≡ x ∷ rest → drop (suc k) xs ≡ rest
-drop-behind zero [] x rest h = absurd cc
-drop-behind zero (y ∷ ys) x rest h = cc
-drop-behind (suc k) [] x rest h = absurd cc
-drop-behind (suc k) (y ∷ ys) x rest h = drop-behind k ys x rest h
+pub drop-after : {X : Type 0} (k : ℕ) (xs : List X) (x : X) (rest : List X) → drop k xs ≡ x ∷ rest → drop (suc k) xs ≡ rest
+drop-after zero [] x rest h = absurd cc
+drop-after zero (y ∷ ys) x rest h = cc
+drop-after (suc k) [] x rest h = absurd cc
+drop-after (suc k) (y ∷ ys) x rest h = drop-after k ys x rest h
 
 drop-nil : (k : ℕ) → ◌≡◌ {A = List Entry} (drop k []) []
 drop-nil zero = refl
 drop-nil (suc k) = refl
 
-at-behind : (f : ℕ → List Entry) (v : ℕ) (rest : List Entry) (u : ℕ) → at (λ i. f (suc i)) v rest u ≡ at f (suc v) rest (suc u)
-at-behind f v rest u = grind (arith, common_steps)
+at-after : (f : ℕ → List Entry) (v : ℕ) (rest : List Entry) (u : ℕ) → at (λ i. f (suc i)) v rest u ≡ at f (suc v) rest (suc u)
+at-after f v rest u = grind (arith, common_steps)
 
 at-first : (f : ℕ → List Entry) (v : ℕ) (rest : List Entry) → f zero ≡ at f (suc v) rest zero
 at-first f v rest = grind (arith, common_steps)
@@ -41,19 +41,19 @@ pub read-on : (js : List (List Entry)) (ks : List ℕ) (v : ℕ) (e : Entry) (re
     → (u : ℕ) → journal_of (unread js (slice_set ks v (suc (slice_index ks v)))) u ≡ at (journal_of (unread js ks)) v rest u
 read-on [] ks v e rest l h u = absurd cc
 read-on (j ∷ js) [] v e rest l h u = absurd (omega arith)
-read-on (j ∷ js) (k ∷ ks) zero e rest l h zero = drop-behind k j e rest h
+read-on (j ∷ js) (k ∷ ks) zero e rest l h zero = drop-after k j e rest h
 read-on (j ∷ js) (k ∷ ks) zero e rest l h (suc u) = at-later (journal_of (drop k j ∷ unread js ks)) rest u
 read-on (j ∷ js) (k ∷ ks) (suc v) e rest l h zero = at-first (journal_of (drop k j ∷ unread js ks)) v rest
-read-on (j ∷ js) (k ∷ ks) (suc v) e rest l h (suc u) = read-on js ks v e rest (omega arith) h u ∙ at-behind (journal_of (drop k j ∷ unread js ks)) v rest u
+read-on (j ∷ js) (k ∷ ks) (suc v) e rest l h (suc u) = read-on js ks v e rest (omega arith) h u ∙ at-after (journal_of (drop k j ∷ unread js ks)) v rest u
 
 pub read-one-less : (js : List (List Entry)) (ks : List ℕ) (v : ℕ) (e : Entry) (rest : List Entry) → v < length ks → journal_of (unread js ks) v ≡ e ∷ rest
     → entry_count (unread js ks) ≡ suc (entry_count (unread js (slice_set ks v (suc (slice_index ks v)))))
 read-one-less [] ks v e rest l h = absurd cc
 read-one-less (j ∷ js) [] v e rest l h = absurd (omega arith)
 read-one-less (j ∷ js) (k ∷ ks) zero e rest l h =
-    let behind = drop-behind k j e rest h in
+    let after = drop-after k j e rest h in
     let now : length (drop k j) ≡ suc (length rest) = ap length h in
-    let next : length (drop (suc k) j) ≡ length rest = ap length behind in omega (arith, now, next)
+    let next : length (drop (suc k) j) ≡ length rest = ap length after in omega (arith, now, next)
 read-one-less (j ∷ js) (k ∷ ks) (suc v) e rest l h =
     let less = read-one-less js ks v e rest (omega arith) h in omega (arith, less)
 

@@ -83,6 +83,6 @@ journals-all-read js read none =
     all-read (entries_in js) read (subst (λ n. IsFirst (unread (entries_in js) read) n None) (sym (entries-length js)) none)
 
 -- what is woven before it, too
-pub behind-it : (js left : ℕ → List Entry) (out : List Event) (e : Event) (events : List Event)
+pub after-it : (js left : ℕ → List Entry) (out : List Event) (e : Event) (events : List Event)
     → ((later : List Event) → IsWoven left later → IsWoven js (out ++ later)) → IsWoven left (e ∷ events) → IsWoven js ((out ++ e ∷ []) ++ events)
-behind-it js left out e events before w = subst (IsWoven js) (sym (append_assoc out (e ∷ []) events)) (before (e ∷ events) w)
+after-it js left out e events before w = subst (IsWoven js) (sym (append_assoc out (e ∷ []) events)) (before (e ∷ events) w)

@@ -100,24 +100,24 @@ reached w last account m none =
 weaves : (ps : List Placed) (w last : World) (account : ℕ → List Note) → AreNodes w → IsWithin w → AreMatched w account last → AreOrdered ps
     → ((v : ℕ) → entries_of v ps ≡ map (entry_of v) (account v))
     → (run w (map (λ p. p.entry.event) ps) ≡ last) × GoesThrough w (map (λ p. p.entry.event) ps)
-weaves [] w last account nodes within m ordered told =
-    let none : (v : ℕ) → account v ≡ [] = λ v. no-deeds v (account v) (told v) in (reached w last account m none, tt)
-weaves (p ∷ ps) w last account nodes within m ordered told =
+weaves [] w last account nodes within m ordered said =
+    let none : (v : ℕ) → account v ≡ [] = λ v. no-deeds v (account v) (said v) in (reached w last account m none, tt)
+weaves (p ∷ ps) w last account nodes within m ordered said =
     let v = p.node in
-    let one = first-deed v p.entry (entries_of v ps) (account v) (sym (entries-here p ps) ∙ told v) in
+    let one = first-deed v p.entry (entries_of v ps) (account v) (sym (entries-here p ps) ∙ said v) in
     let d = one.0 in
     let ds = one.1 in
     let next = at account v ds in
-    let told-next : (a : ℕ) → entries_of a ps ≡ map (entry_of a) (next a)
-    = at-each (λ a xs. entries_of a ps ≡ map (entry_of a) xs) account v ds one.4 (λ a apart. sym (entries-there p ps a apart) ∙ told a) in
+    let said-next : (a : ℕ) → entries_of a ps ≡ map (entry_of a) (next a)
+    = at-each (λ a xs. entries_of a ps ≡ map (entry_of a) xs) account v ds one.4 (λ a apart. sym (entries-there p ps a apart) ∙ said a) in
     let late : (a : ℕ) → AllByRecursion (λ e. p.entry.stamp ≤ e.stamp) (map (entry_of a) (next a))
-    = λ a. subst (AllByRecursion (λ e. p.entry.stamp ≤ e.stamp)) (told-next a) (no-earlier p a ps ordered.0) in
+    = λ a. subst (AllByRecursion (λ e. p.entry.stamp ≤ e.stamp)) (said-next a) (no-earlier p a ps ordered.0) in
     let goes = deed-goes-on w last account v d ds nodes within m one.2
     (subst (λ e. (a : ℕ) → AllByRecursion (λ x. e.stamp ≤ x.stamp) (map (entry_of a) (next a))) one.3 late) in
     let on : GoesOn w last p.entry.event next = subst (λ e. GoesOn w last e.event next) (sym one.3) goes in
     let now = step w p.entry.event in
     let nodes-next : AreNodes now = subst (λ net. (u a : ℕ) → IsTrue (are_joined net.edges u a) → (u < net.nodes) × (a < net.nodes)) (sym on.network) nodes in
-    let rest = weaves ps now last next nodes-next on.within on.matched ordered.1 told-next in
+    let rest = weaves ps now last next nodes-next on.within on.matched ordered.1 said-next in
     (rest.0, (on.fine, on.effect, rest.1))
 
 pub woven-is-run : JoinedAreNodes → WovenIsRun

@@ -4,7 +4,7 @@ use recovery_times::Premises;
 use std::alloc::{AllocError, Global};
 use std::test::Fail;
 use subcommands::bound::{bound_text, shown_text, timed_text};
-use test_parts::as_told;
+use test_parts::as_expected;
 use topology::Net;
 
 /// A network: its nodes, what its links hold, its edges; and its text.
@@ -55,7 +55,7 @@ fn first_other_text(alloc: Global, rows: &[Row<'_>]) -> Result<Option<usize>, Fa
 
 #[test]
 fn prints_numbers_distances_and_parents(rt: HostRuntime) -> Result<(), Fail> {
-    as_told(first_other_text(rt.alloc(), &TEXTS), &None)
+    as_expected(first_other_text(rt.alloc(), &TEXTS), &None)
 }
 
 /// The edges of a star of 64 nodes around the root.
@@ -95,7 +95,7 @@ fn star_has_its_text(alloc: Global) -> Result<bool, Fail> {
 
 #[test]
 fn prints_the_star_of_sixty_four(rt: HostRuntime) -> Result<(), Fail> {
-    as_told(star_has_its_text(rt.alloc()), &true)
+    as_expected(star_has_its_text(rt.alloc()), &true)
 }
 
 /// Networks, and the lines of their sharp bounds.
@@ -141,7 +141,7 @@ fn first_other_sharp(alloc: Global, rows: &[Row<'_>]) -> Result<Option<usize>, F
 
 #[test]
 fn shows_the_sharp_bound_where_it_is_asked_for(rt: HostRuntime) -> Result<(), Fail> {
-    as_told(first_other_sharp(rt.alloc(), &SHARP), &None)
+    as_expected(first_other_sharp(rt.alloc(), &SHARP), &None)
 }
 
 /// Whether the star is shown right with its sharp bound, and without it.
@@ -152,7 +152,7 @@ fn star_shows_sharp(alloc: Global) -> Result<bool, Fail> {
 
 #[test]
 fn shows_the_sharp_bound_of_the_star(rt: HostRuntime) -> Result<(), Fail> {
-    as_told(star_shows_sharp(rt.alloc()), &true)
+    as_expected(star_shows_sharp(rt.alloc()), &true)
 }
 
 /// A network, how long a loan lasts at most, in microseconds, and the lines of its times.
@@ -215,7 +215,7 @@ fn first_other_times(alloc: Global, rows: &[Timed<'_>]) -> Result<Option<usize>,
 
 #[test]
 fn shows_times_if_premises_are_given(rt: HostRuntime) -> Result<(), Fail> {
-    as_told(first_other_times(rt.alloc(), &TIMES), &None)
+    as_expected(first_other_times(rt.alloc(), &TIMES), &None)
 }
 
 /// Whether the star is shown with its times.
@@ -227,5 +227,5 @@ fn star_is_timed(alloc: Global) -> Result<bool, Fail> {
 
 #[test]
 fn shows_the_times_of_the_star(rt: HostRuntime) -> Result<(), Fail> {
-    as_told(star_is_timed(rt.alloc()), &true)
+    as_expected(star_is_timed(rt.alloc()), &true)
 }

@@ -5,7 +5,7 @@ use std::process::{Command, ExitCode};
 use std::test::Fail;
 use std::{fs, io};
 use subcommands::cut::run;
-use test_parts::is_told;
+use test_parts::is_expected;
 
 /// The lengths to which a file of six bytes is cut, one after the other, and what it then holds.
 const CUTS: [(u32, &str); 8] = [
@@ -45,7 +45,7 @@ fn cuts(rt: &HostRuntime) -> io::Result<Option<usize>> {
 
 #[test]
 fn cuts_a_longer_file_alone(rt: HostRuntime) -> Result<(), Fail> {
-    is_told(&cuts(&rt)?, &None)
+    is_expected(&cuts(&rt)?, &None)
 }
 
 /// Paths that name nothing that can be cut.
@@ -98,5 +98,5 @@ fn tries_other_things(rt: &HostRuntime) -> io::Result<(bool, Option<usize>, bool
 /// The command waits for none of these, and makes no absent file.
 #[test]
 fn other_things_are_not_cut(rt: HostRuntime) -> Result<(), Fail> {
-    is_told(&tries_other_things(&rt)?, &(true, None, false))
+    is_expected(&tries_other_things(&rt)?, &(true, None, false))
 }

@@ -10,7 +10,7 @@ use std::alloc::Global;
 use std::io::{Error, ErrorKind};
 use std::str;
 use std::test::Fail;
-use test_parts::{as_told, is_told};
+use test_parts::{as_expected, is_expected};
 use topology::NetFault;
 use world::streams::Source;
 
@@ -90,7 +90,7 @@ fn drawn_in_part(alloc: Global) -> Result<(Ended, Option<usize>), Fail> {
 
 #[test]
 fn draws_what_is_accepted_and_counts_what_is_refused(rt: HostRuntime) -> Result<(), Fail> {
-    as_told(drawn_in_part(rt.alloc()), &(Ok(2), None))
+    as_expected(drawn_in_part(rt.alloc()), &(Ok(2), None))
 }
 
 /// How the drawing of unreadable events ended, and how many bytes were drawn.
@@ -101,7 +101,7 @@ fn drawn_of_broken(alloc: Global) -> Result<(Ended, usize), NetFault> {
 
 #[test]
 fn draws_nothing_of_events_that_cannot_be_read(rt: HostRuntime) -> Result<(), Fail> {
-    is_told(
+    is_expected(
         &drawn_of_broken(rt.alloc())?,
         &(Err(Fault::EventsUnreadable), 0),
     )
@@ -153,5 +153,5 @@ fn drawn_without_room(alloc: Global) -> Result<(Ended, Option<usize>, bool), Net
 
 #[test]
 fn a_picture_without_room_is_a_fault(rt: HostRuntime) -> Result<(), Fail> {
-    is_told(&drawn_without_room(rt.alloc())?, &(Ok(0), None, true))
+    is_expected(&drawn_without_room(rt.alloc())?, &(Ok(0), None, true))
 }

@@ -5,7 +5,7 @@ use std::alloc::{AllocError, Global};
 use std::test::Fail;
 use std::{fs, io};
 use subcommands::simulate;
-use test_parts::is_told;
+use test_parts::is_expected;
 use topology::NetFault;
 use world::simulation::SimFault;
 
@@ -50,7 +50,7 @@ fn first_other_fault(alloc: Global, rows: &[(&[u8], &str)]) -> Result<Option<usi
 
 #[test]
 fn names_the_fault_of_a_file(rt: HostRuntime) -> Result<(), Fail> {
-    is_told(&first_other_fault(rt.alloc(), &FAULTS)?, &None)
+    is_expected(&first_other_fault(rt.alloc(), &FAULTS)?, &None)
 }
 
 /// Whether the most blanks that a file may have, and one more, have the right fault lines.
@@ -64,12 +64,12 @@ fn blanks_have_faults(alloc: Global) -> Result<bool, AllocError> {
 
 #[test]
 fn a_file_with_too_many_bytes_is_unreadable(rt: HostRuntime) -> Result<(), Fail> {
-    is_told(&blanks_have_faults(rt.alloc())?, &true)
+    is_expected(&blanks_have_faults(rt.alloc())?, &true)
 }
 
 #[test]
 fn names_the_fault_of_memory(rt: HostRuntime) -> Result<(), Fail> {
-    is_told(
+    is_expected(
         &is_named(
             rt.alloc(),
             Fault::Network(NetworkFault::Refused(NetFault::Memory)),
@@ -117,7 +117,7 @@ fn reads(rt: &HostRuntime) -> io::Result<Option<usize>> {
 
 #[test]
 fn reads_files(rt: HostRuntime) -> Result<(), Fail> {
-    is_told(&reads(&rt)?, &None)
+    is_expected(&reads(&rt)?, &None)
 }
 
 /// The faults of simulations, and their names.
@@ -140,7 +140,7 @@ fn first_other_name(alloc: Global, rows: &[(SimFault, &str)]) -> Result<Option<u
 
 #[test]
 fn names_the_fault_of_a_simulation(rt: HostRuntime) -> Result<(), Fail> {
-    is_told(&first_other_name(rt.alloc(), &NAMES)?, &None)
+    is_expected(&first_other_name(rt.alloc(), &NAMES)?, &None)
 }
 
 /// The files of simulations.
@@ -174,7 +174,7 @@ fn first_simulated_otherwise(
     rows: &[(&str, &str, Option<Fault>)],
 ) -> Option<usize> {
     for (at, (network, events, want)) in rows.iter().enumerate() {
-        if simulate::run(rt, network, events).err() != *want {
+        if simulate::run(rt, network, events, false).err() != *want {
             return Some(at);
         }
     }
@@ -191,7 +191,7 @@ fn simulates(rt: &HostRuntime) -> io::Result<Option<usize>> {
 
 #[test]
 fn looks_at_the_network_before_the_events(rt: HostRuntime) -> Result<(), Fail> {
-    is_told(&simulates(&rt)?, &None)
+    is_expected(&simulates(&rt)?, &None)
 }
 
 /// A word, the greatest allowed number, and the number that the word spells.
@@ -228,5 +228,5 @@ fn first_spelled_otherwise(rows: &[(&str, u64, Option<u64>)]) -> Option<usize> {
 
 #[test]
 fn a_number_has_one_spelling() -> Result<(), Fail> {
-    is_told(&first_spelled_otherwise(&SPELLINGS), &None)
+    is_expected(&first_spelled_otherwise(&SPELLINGS), &None)
 }

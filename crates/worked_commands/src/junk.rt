@@ -6,7 +6,7 @@ use std::alloc::Global;
 use std::io::{BufWriter, Error};
 use std::test::Fail;
 use subcommands::junk::write_junk;
-use test_parts::is_told;
+use test_parts::is_expected;
 
 /// Four lines of seed 7.
 const LINES: &[u8] = b"+(==lkMfO]!#B{X}whq}R*SbyZPz$`#?5I3\n\
@@ -62,7 +62,7 @@ fn first_other_text(alloc: Global, rows: &[(u32, u32, &[u8])]) -> Result<Option<
 
 #[test]
 fn writes_the_lines_of_a_seed(rt: HostRuntime) -> Result<(), Fail> {
-    is_told(&first_other_text(rt.alloc(), &TEXTS)?, &None)
+    is_expected(&first_other_text(rt.alloc(), &TEXTS)?, &None)
 }
 
 /// The answer if there is room for `room` bytes of the four lines.
@@ -86,5 +86,5 @@ fn first_other_room(alloc: Global) -> Result<Option<usize>, Error> {
 
 #[test]
 fn lines_without_room_are_a_fault(rt: HostRuntime) -> Result<(), Fail> {
-    is_told(&first_other_room(rt.alloc())?, &None)
+    is_expected(&first_other_room(rt.alloc())?, &None)
 }

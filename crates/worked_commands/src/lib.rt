@@ -15,6 +15,8 @@ mod files;
 #[cfg(test)]
 mod junk;
 #[cfg(test)]
+mod layers;
+#[cfg(test)]
 mod measure;
 #[cfg(test)]
 mod nets;

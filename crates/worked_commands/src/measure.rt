@@ -2,13 +2,14 @@
 //! sharper bound 35 and the bound 69.
 use crate::nets::two_nodes;
 use command_parts::Fault;
-use experiments::{Recovery, Scheduler, Watch, measure_run};
+use experiments::{Recovery, Scheduler, Settling, Watch, measure_layers, measure_run};
 use schedules::give_round;
 use std::alloc::Global;
 use std::process::ExitCode;
 use std::test::Fail;
 use subcommands::measure::{ending, has_served, measured_text};
-use test_parts::{as_told, is_told};
+use subcommands::measure_csv::{csv_text, have_settled};
+use test_parts::{as_expected, is_expected};
 use topology::Net;
 use world::World;
 
@@ -109,7 +110,7 @@ fn first_other_text(alloc: Global, rows: &[Row<'_>]) -> Result<Option<usize>, Fa
 
 #[test]
 fn shows_what_sums_runs_up(rt: HostRuntime) -> Result<(), Fail> {
-    as_told(first_other_text(rt.alloc(), &TEXTS), &None)
+    as_expected(first_other_text(rt.alloc(), &TEXTS), &None)
 }
 
 /// The answer of standard output, whether each run has served, and how the command ends.
@@ -135,7 +136,7 @@ fn first_other_ending(rows: &[Ending]) -> Option<usize> {
 
 #[test]
 fn ends_with_the_status() -> Result<(), Fail> {
-    is_told(&first_other_ending(&ENDINGS), &None)
+    is_expected(&first_other_ending(&ENDINGS), &None)
 }
 
 /// Plays this many rounds under a watch.
@@ -155,7 +156,7 @@ fn watch_of(alloc: Global, net: &Net) -> Result<Watch, Fail> {
 fn watched_in(alloc: Global, net: &Net, rounds: u64) -> Result<(u64, u64), Fail> {
     let mut watch = watch_of(alloc, net)?;
     play(net, &mut watch, rounds);
-    Ok((watch.sweeps(), watch.served_behind()))
+    Ok((watch.sweeps(), watch.served_after()))
 }
 
 /// The same for two nodes.
@@ -189,8 +190,8 @@ fn first_other_watched(alloc: Global, rows: &[(u64, (u64, u64))]) -> Result<Opti
 }
 
 #[test]
-fn two_nodes_serve_behind_three_sweeps(rt: HostRuntime) -> Result<(), Fail> {
-    as_told(first_other_watched(rt.alloc(), &WATCHED), &None)
+fn two_nodes_serve_after_three_sweeps(rt: HostRuntime) -> Result<(), Fail> {
+    as_expected(first_other_watched(rt.alloc(), &WATCHED), &None)
 }
 
 /// Measured runs have their seeds, as many sweeps as the sharper bound says, and are the same each
@@ -225,5 +226,96 @@ fn first_other_run(alloc: Global, rows: &[(Scheduler, u64)]) -> Result<Option<us
 
 #[test]
 fn measures_runs(rt: HostRuntime) -> Result<(), Fail> {
-    as_told(first_other_run(rt.alloc(), &MEASURED), &None)
+    as_expected(first_other_run(rt.alloc(), &MEASURED), &None)
+}
+
+/// A run of a seed with 350 events: links stable after 2 sweeps, the tree reached after 9, the token
+/// ring good after 10, and served after `served`.
+macro_rules! settling {
+    ($seed:expr, $served:expr, $seen:expr) => {
+        Settling {
+            seed: $seed,
+            events: 350,
+            links: 2,
+            tree: 9,
+            ring: 10,
+            served: $served,
+            seen: $seen,
+        }
+    };
+}
+
+/// Runs, their rows if the sharper bound is 35, and whether each has served. A run with fewer sweeps
+/// than that, or which served later, has four empty cells.
+static CSV: [(&[Settling], &str, bool); 4] = [
+    (&[], "seed,events,links,tree,ring,served\n", true),
+    (
+        &[settling!(7, 11, 35), settling!(8, 35, 36)],
+        "seed,events,links,tree,ring,served\n7,350,2,9,10,11\n8,350,2,9,10,35\n",
+        true,
+    ),
+    (
+        &[settling!(7, 11, 34), settling!(8, 12, 35)],
+        "seed,events,links,tree,ring,served\n7,350,,,,\n8,350,2,9,10,12\n",
+        false,
+    ),
+    (
+        &[settling!(9, 36, 40)],
+        "seed,events,links,tree,ring,served\n9,350,,,,\n",
+        false,
+    ),
+];
+
+/// Whether these are the rows of runs.
+fn is_csv(alloc: Global, runs: &[Settling], want: &str) -> Result<bool, Fail> {
+    Ok(csv_text(alloc, runs, 35)?.as_str() == want)
+}
+
+/// The place of the first row whose runs have other rows, or have not served as it says.
+fn first_other_csv(alloc: Global) -> Result<Option<usize>, Fail> {
+    for (at, (runs, want, served)) in CSV.iter().enumerate() {
+        if !is_csv(alloc, runs, want)? || have_settled(runs, 35) != *served {
+            return Ok(Some(at));
+        }
+    }
+    Ok(None)
+}
+
+#[test]
+fn shows_rows(rt: HostRuntime) -> Result<(), Fail> {
+    as_expected(first_other_csv(rt.alloc()), &None)
+}
+
+/// A run of two nodes with its layers.
+fn layered(alloc: Global, scheduler: Scheduler, seed: u64) -> Result<Settling, Fail> {
+    let net = two_nodes(alloc)?;
+    Ok(measure_layers(alloc, &net, scheduler, seed)?)
+}
+
+/// Whether it is the same run: two nodes have their links stable after at most 6 sweeps, the tree
+/// after at most 18, and the token ring good after at most 34.
+fn is_same_run(settling: Settling, run: Recovery) -> bool {
+    settling.seed == run.seed
+        && settling.served == run.sweeps
+        && settling.seen == run.seen
+        && settling.links <= 6
+        && settling.tree <= 18
+        && settling.ring <= 34
+}
+
+/// The place of the first row whose run is another with its layers, or differs when it is made again.
+fn first_other_layers(alloc: Global, rows: &[(Scheduler, u64)]) -> Result<Option<usize>, Fail> {
+    for (at, (scheduler, seed)) in rows.iter().enumerate() {
+        let run = measured(alloc, *scheduler, *seed)?;
+        let settling = layered(alloc, *scheduler, *seed)?;
+        if !is_same_run(settling, run) || layered(alloc, *scheduler, *seed)? != settling {
+            return Ok(Some(at));
+        }
+    }
+    Ok(None)
+}
+
+#[test]
+fn measures_layers(rt: HostRuntime) -> Result<(), Fail> {
+    as_expected(first_other_layers(rt.alloc(), &MEASURED), &None)
 }

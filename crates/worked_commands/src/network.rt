@@ -3,7 +3,7 @@ use network_kinds::{Kind, least_nodes, most_nodes};
 use std::alloc::Global;
 use std::test::Fail;
 use subcommands::network::{Wanted, named_text};
-use test_parts::as_told;
+use test_parts::as_expected;
 use topology::Net;
 
 /// A network with root 0, capacity 1 and no lease.
@@ -77,7 +77,7 @@ fn first_unlike(alloc: Global, rows: &[(Wanted, &str)]) -> Option<usize> {
 
 #[test]
 fn prints_the_file_of_a_kind(rt: HostRuntime) -> Result<(), Fail> {
-    as_told(Ok(first_unlike(rt.alloc(), &ROWS)), &None)
+    as_expected(Ok(first_unlike(rt.alloc(), &ROWS)), &None)
 }
 
 /// Whether a network's file can be read.
@@ -120,5 +120,5 @@ fn first_unread_of_all(alloc: Global) -> Option<u16> {
 
 #[test]
 fn every_number_of_nodes_has_a_file(rt: HostRuntime) -> Result<(), Fail> {
-    as_told(Ok(first_unread_of_all(rt.alloc())), &None)
+    as_expected(Ok(first_unread_of_all(rt.alloc())), &None)
 }

@@ -8,7 +8,7 @@ use std::io::{BufWriter, Error, Write};
 use std::str;
 use std::test::Fail;
 use subcommands::schedule::{Turns, write_plan};
-use test_parts::as_told;
+use test_parts::as_expected;
 use topology::Net;
 
 /// One round of two nodes whose links hold one item.
@@ -95,7 +95,7 @@ fn first_other_room(alloc: Global) -> Result<Option<usize>, Fail> {
 
 #[test]
 fn a_round_without_room_is_a_fault(rt: HostRuntime) -> Result<(), Fail> {
-    as_told(first_other_room(rt.alloc()), &None)
+    as_expected(first_other_room(rt.alloc()), &None)
 }
 
 /// Whether a text has losses, takes, asks and leaves, and how many lines it has.
@@ -149,5 +149,5 @@ fn first_other_kinds(
 /// A text of random steps has only the kinds of lines that were asked for.
 #[test]
 fn losses_and_clients_only_where_asked_for(rt: HostRuntime) -> Result<(), Fail> {
-    as_told(first_other_kinds(rt.alloc(), &KINDS), &None)
+    as_expected(first_other_kinds(rt.alloc(), &KINDS), &None)
 }

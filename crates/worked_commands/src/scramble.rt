@@ -8,7 +8,7 @@ use std::process::ExitCode;
 use std::test::Fail;
 use std::{fs, io};
 use subcommands::scramble::{run, save_scrambled};
-use test_parts::{as_told, is_told};
+use test_parts::{as_expected, is_expected};
 use topology::NetFault;
 
 /// Node 1 of two, with seed 7: distance 2, no parent; number 0, last heard 4; staged 0, parent 0,
@@ -51,7 +51,7 @@ fn scrambles(rt: &HostRuntime) -> io::Result<bool> {
 
 #[test]
 fn writes_the_scrambled_state(rt: HostRuntime) -> Result<(), Fail> {
-    is_told(&scrambles(&rt)?, &true)
+    is_expected(&scrambles(&rt)?, &true)
 }
 
 /// A network, a node, a file, and the fault of a scramble.
@@ -114,7 +114,7 @@ fn tries_faults(rt: &HostRuntime) -> io::Result<(Option<usize>, bool)> {
 
 #[test]
 fn looks_at_the_network_then_the_node_then_the_file(rt: HostRuntime) -> Result<(), Fail> {
-    is_told(&tries_faults(&rt)?, &(None, true))
+    is_expected(&tries_faults(&rt)?, &(None, true))
 }
 
 /// Whether a store holds these bytes.
@@ -162,7 +162,7 @@ fn saves_at_last(alloc: Global) -> Result<bool, Fail> {
 
 #[test]
 fn a_failed_save_leaves_what_was_stored(rt: HostRuntime) -> Result<(), Fail> {
-    as_told(saves_at_last(rt.alloc()), &true)
+    as_expected(saves_at_last(rt.alloc()), &true)
 }
 
 /// Faults, and how they are printed.
@@ -191,5 +191,5 @@ fn first_other_name(
 
 #[test]
 fn names_the_file_that_cannot_be_written(rt: HostRuntime) -> Result<(), Fail> {
-    is_told(&first_other_name(rt.alloc(), &NAMES)?, &None)
+    is_expected(&first_other_name(rt.alloc(), &NAMES)?, &None)
 }

@@ -5,7 +5,7 @@ use command_parts::{Fault, ReadSource, WriteSink, simulate_between};
 use std::alloc::Global;
 use std::io::{BufWriter, Error, ErrorKind, Read, Write};
 use std::test::Fail;
-use test_parts::as_told;
+use test_parts::as_expected;
 use topology::Net;
 use world::simulation::Summary;
 
@@ -66,7 +66,7 @@ fn simulate<W: Write + Drop>(
     source: &mut ReadSource<Answers<'_>>,
     sink: &mut WriteSink<W>,
 ) -> Result<Summary, Fault> {
-    simulate_between(alloc, net, source, sink)
+    simulate_between(alloc, net, source, sink).map(|simulated| simulated.summary)
 }
 
 /// Simulates what these reads answer, on a network, and writes to a shelf.
@@ -127,7 +127,7 @@ static INTERRUPTED: [Answer<'static>; 6] = [
 
 #[test]
 fn an_interrupted_read_is_tried_again(rt: HostRuntime) -> Result<(), Fail> {
-    as_told(
+    as_expected(
         simulates(rt.alloc(), &INTERRUPTED, 1000, Ok(THREE), OUTPUT),
         &true,
     )
@@ -144,8 +144,8 @@ static FAILED: [Answer<'static>; 3] = [
 const TOLD: &[u8] = b"line 1: NoNode\nline 2: NoLink\n";
 
 #[test]
-fn what_came_before_a_failed_read_is_told(rt: HostRuntime) -> Result<(), Fail> {
-    as_told(
+fn what_came_before_a_failed_read_is_said(rt: HostRuntime) -> Result<(), Fail> {
+    as_expected(
         simulates(
             rt.alloc(),
             &FAILED,
@@ -181,5 +181,5 @@ fn first_other_room(alloc: Global) -> Result<Option<usize>, Fail> {
 
 #[test]
 fn output_without_room_is_a_fault(rt: HostRuntime) -> Result<(), Fail> {
-    as_told(first_other_room(rt.alloc()), &None)
+    as_expected(first_other_room(rt.alloc()), &None)
 }

@@ -7,7 +7,7 @@ ghost use Rattle.node_core.specs.View.{site_in};
 use arrayvec::ArrayVec;
 use damage_tool::scramble_node;
 use node_core::NodeState;
-use node_state_file::{FileFault, StartFault, Store, decode, encode, start};
+use node_state_file::{FileFault, MOST_BYTES, StartFault, Store, decode, encode, start};
 use rand_pcg::Lcg64Xsh32;
 use std::alloc::{AllocError, Allocator, Global};
 use topology::{Net, NetFault};
@@ -24,7 +24,7 @@ pub const NEWER: &[u8; 36] = b"TKT2\0\x02\0\x01\0\x01\0\x01\0\x02\xff\xff\
     \0\0\0\0\0\0\0\x02\xff\xff\0\0\0\x02\xff\xff\0\0\0\0";
 
 /// The bytes of a state file, in an array that takes no memory.
-pub type File = ArrayVec<u8, 1276>;
+pub type File = ArrayVec<u8, MOST_BYTES>;
 
 /// A network whose links hold one item, with node 0 as its root.
 pub fn net_of(alloc: Global, nodes: i64, edges: &[(i64, i64)]) -> Result<Net, NetFault> {
@@ -65,7 +65,7 @@ pub fn written<A: Allocator>(node: &NodeState<A>, net: &Net, id: u16) -> File
     requires id { id < net.now.nodes }
     requires site { site_in node.now ≡ site_of net.now id }
 {
-    let mut bytes = [0; 1276];
+    let mut bytes = [0; MOST_BYTES];
     let count = encode(node, net, &mut bytes);
     let mut file = File::new();
     let _all = file.try_extend_from_slice(&bytes[..count]);

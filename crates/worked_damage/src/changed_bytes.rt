@@ -6,7 +6,7 @@ use rand_core::utils::NextWord;
 use rand_pcg::Lcg64Xsh32;
 use std::alloc::{AllocError, Global};
 use std::test::Fail;
-use test_parts::{as_told, is_told};
+use test_parts::{as_expected, is_expected};
 use topology::{Net, NetFault};
 
 /// How files are read.
@@ -104,7 +104,7 @@ const TO_OLDER: Tally = Tally {
 
 #[test]
 fn one_byte_has_changed(rt: HostRuntime) -> Result<(), Fail> {
-    is_told(&answers_of_both(rt.alloc())?, &[TO_NEWER, TO_OLDER])
+    is_expected(&answers_of_both(rt.alloc())?, &[TO_NEWER, TO_OLDER])
 }
 
 /// These bytes, and this many random ones after them.
@@ -150,16 +150,16 @@ fn have_faults(
     length: usize,
     generator: &mut Lcg64Xsh32,
 ) -> Result<bool, AllocError> {
-    let mut as_told = true;
+    let mut as_expected = true;
     for (front, enough, fault) in &ANY_FILES {
         let want = if length < *enough {
             FileFault::Short
         } else {
             *fault
         };
-        as_told &= fault_of(alloc, net, front, length, generator)? == Some(want);
+        as_expected &= fault_of(alloc, net, front, length, generator)? == Some(want);
     }
-    Ok(as_told)
+    Ok(as_expected)
 }
 
 /// The first number of bytes that have another fault.
@@ -178,7 +178,7 @@ fn first_unlike(alloc: Global) -> Result<Option<usize>, Fail> {
 /// that does not come up with this generator.
 #[test]
 fn any_bytes_of_each_length(rt: HostRuntime) -> Result<(), Fail> {
-    as_told(first_unlike(rt.alloc()), &None)
+    as_expected(first_unlike(rt.alloc()), &None)
 }
 
 /// Whether a node's scrambled state is read back as the same bytes.
@@ -225,5 +225,5 @@ fn read_again_of_five(alloc: Global) -> Result<[u16; 5], Fail> {
 
 #[test]
 fn ten_thousand_scrambled_states_are_read_again(rt: HostRuntime) -> Result<(), Fail> {
-    as_told(read_again_of_five(rt.alloc()), &[2000; 5])
+    as_expected(read_again_of_five(rt.alloc()), &[2000; 5])
 }

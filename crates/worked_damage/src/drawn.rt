@@ -8,7 +8,7 @@ use rand_pcg::Lcg64Xsh32;
 use run_model::Event;
 use std::alloc::{AllocError, Global};
 use std::test::Fail;
-use test_parts::{as_told, is_told};
+use test_parts::{as_expected, is_expected};
 use topology::{Frame, Net, NetFault, Payload};
 use world::World;
 
@@ -43,7 +43,7 @@ fn are_scrambled(alloc: Global) -> Result<[bool; 2], Fail> {
 
 #[test]
 fn scrambled_states(rt: HostRuntime) -> Result<(), Fail> {
-    as_told(are_scrambled(rt.alloc()), &[true; 2])
+    as_expected(are_scrambled(rt.alloc()), &[true; 2])
 }
 
 /// Lines of junk, each with its newline.
@@ -84,7 +84,7 @@ fn first_other_junk(alloc: Global) -> Result<Option<usize>, AllocError> {
 
 #[test]
 fn lines_of_junk(rt: HostRuntime) -> Result<(), Fail> {
-    is_told(&first_other_junk(rt.alloc())?, &None)
+    is_expected(&first_other_junk(rt.alloc())?, &None)
 }
 
 /// The line of a frame among three nodes that says the distance 1, the parent 0 and the ring value
@@ -118,7 +118,7 @@ fn first_frame(alloc: Global, text: &[u8]) -> Result<(usize, Option<Frame>), Fai
 
 /// How long ten thousand lines of junk are, and the frames that are read from them and the line
 /// after.
-fn behind_junk(alloc: Global) -> Result<(usize, (usize, Option<Frame>)), Fail> {
+fn after_junk(alloc: Global) -> Result<(usize, (usize, Option<Frame>)), Fail> {
     let mut text = junk(alloc, 7, 10_000)?;
     let length = text.len();
     text.extend_from_slice(GOOD_LINE)?;
@@ -127,8 +127,8 @@ fn behind_junk(alloc: Global) -> Result<(usize, (usize, Option<Frame>)), Fail> {
 
 /// Four of the lines of junk are as long as a frame's and begin like one; none is one.
 #[test]
-fn a_frame_behind_junk_is_read(rt: HostRuntime) -> Result<(), Fail> {
-    as_told(behind_junk(rt.alloc()), &(211_725, (1, Some(GOOD))))
+fn a_frame_after_junk_is_read(rt: HostRuntime) -> Result<(), Fail> {
+    as_expected(after_junk(rt.alloc()), &(211_725, (1, Some(GOOD))))
 }
 
 /// Lengths, and the bytes `abc` cut to them.
@@ -148,7 +148,7 @@ fn first_other_cut() -> Option<usize> {
 
 #[test]
 fn bytes_are_cut() -> Result<(), Fail> {
-    is_told(&first_other_cut(), &None)
+    is_expected(&first_other_cut(), &None)
 }
 
 /// The harms of a seed.
@@ -199,5 +199,5 @@ fn accepted_in_a_row(alloc: Global) -> Result<[(usize, usize); 5], Fail> {
 #[test]
 fn each_harm_of_a_world_is_accepted(rt: HostRuntime) -> Result<(), Fail> {
     let want = [(27, 27), (28, 28), (27, 27), (28, 28), (27, 27)];
-    as_told(accepted_in_a_row(rt.alloc()), &want)
+    as_expected(accepted_in_a_row(rt.alloc()), &want)
 }

@@ -8,7 +8,7 @@ use rand_core::SeedableRng;
 use rand_pcg::Lcg64Xsh32;
 use std::alloc::Global;
 use std::test::Fail;
-use test_parts::{as_told, fill};
+use test_parts::{as_expected, fill};
 use topology::Net;
 
 /// Node 1 of two nodes on a heap that has nothing free. Returns how much is free at the end, and
@@ -35,5 +35,5 @@ fn on_a_heap(alloc: Global) -> Result<(usize, bool, bool), Fail> {
 
 #[test]
 fn a_state_is_written_and_scrambled_without_memory(rt: HostRuntime) -> Result<(), Fail> {
-    as_told(on_a_heap(rt.alloc()), &(0, true, true))
+    as_expected(on_a_heap(rt.alloc()), &(0, true, true))
 }

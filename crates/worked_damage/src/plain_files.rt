@@ -1,18 +1,18 @@
 //! The store over a real file, and over what may be there instead of a file.
-use node_state_file::{FileStore, Store, StoreFault};
+use node_state_file::{FileStore, LOADED_BYTES, MOST_BYTES, Store, StoreFault};
 use std::alloc::{AllocError, Global};
 use std::fs;
 use std::os::unix::fs::PermissionsExt;
 use std::process::{Command, Processes};
 use std::rt::Files;
 use std::test::Fail;
-use test_parts::as_told;
+use test_parts::as_expected;
 
 /// What a load answers: the number of bytes, and the last of them.
 fn loaded<F: Files>(files: &F, path: &str) -> Result<(usize, Option<u8>), StoreFault> {
-    let mut buffer = [0; 1277];
+    let mut buffer = [0; LOADED_BYTES];
     let count = FileStore::new(files, path).load(&mut buffer)?;
-    Ok((count, buffer[..count.min(1277)].last().copied()))
+    Ok((count, buffer[..count.min(LOADED_BYTES)].last().copied()))
 }
 
 /// What a save answers.
@@ -40,7 +40,7 @@ fn goes_in_place<R: Files + AllocGlobal>(rt: &R, path: &str, bytes: &[u8]) -> Re
 }
 
 /// The states to save, one after the other: the longest, shorter ones, and an empty one.
-const STATES: [&[u8]; 4] = [&[1; 1276], &[2; 16], b"", &[3; 36]];
+const STATES: [&[u8]; 4] = [&[1; MOST_BYTES], &[2; 16], b"", &[3; 36]];
 
 /// Gives a file its other name. Returns the place of the first of these states that is not saved
 /// in place.
@@ -58,7 +58,7 @@ fn first_not_in_place<R: Files + AllocGlobal>(rt: &R, path: &str) -> Result<Opti
 /// that is saved over it leaves nothing of it.
 fn is_cut_down<R: Files + AllocGlobal>(rt: &R, path: &str) -> Result<bool, Fail> {
     fs::write(rt, path, &[9; 5000])?;
-    let is_long = loaded(rt, path) == Ok((1277, Some(9)));
+    let is_long = loaded(rt, path) == Ok((LOADED_BYTES, Some(9)));
     let is_saved = saved(rt, path, &[5; 36]) == Ok(());
     Ok(is_long && is_saved && has(rt, path, &[5; 36])?)
 }
@@ -99,7 +99,7 @@ fn in_place<R: Files + AllocGlobal>(
 #[test]
 fn a_file_is_written_in_place(rt: HostRuntime) -> Result<(), Fail> {
     let made = (Err(StoreFault::Absent), Ok(()), 0o600);
-    as_told(in_place(&rt, "node.state"), &(made, None, true))
+    as_expected(in_place(&rt, "node.state"), &(made, None, true))
 }
 
 /// The command that makes a pipe.
@@ -146,7 +146,7 @@ fn first_no_failure<R: Files + Processes + AllocGlobal>(
 /// Both calls fail, and neither waits for anybody at the other end.
 #[test]
 fn other_things_in_its_place_are_failures(rt: HostRuntime) -> Result<(), Fail> {
-    as_told(first_no_failure(&rt), &(true, None))
+    as_expected(first_no_failure(&rt), &(true, None))
 }
 
 /// What loads and saves answer at a link that leads nowhere, and in a missing folder.
@@ -172,5 +172,5 @@ fn at_a_dead_link<R: Files + AllocGlobal>(rt: &R) -> Result<(Nowhere, bool), Fai
 fn a_dead_link_is_absent(rt: HostRuntime) -> Result<(), Fail> {
     let loads = [Err(StoreFault::Absent); 2];
     let saves = [Err(StoreFault::Device), Ok(())];
-    as_told(at_a_dead_link(&rt), &((loads, saves), true))
+    as_expected(at_a_dead_link(&rt), &((loads, saves), true))
 }

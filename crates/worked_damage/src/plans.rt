@@ -12,7 +12,7 @@ use run_model::Event;
 use schedules::{Chances, EventSink};
 use std::alloc::{AllocError, Allocator, Global};
 use std::test::Fail;
-use test_parts::is_told;
+use test_parts::is_expected;
 use topology::{Net, NetFault};
 use world::streams::{Failed, Fuse};
 
@@ -150,27 +150,27 @@ fn first_uncut(alloc: Global, kind: Kind, whole: &[Event]) -> Result<Option<usiz
 }
 
 /// How many events a schedule has, and this number.
-fn cut_behind_each(alloc: Global, kind: Kind) -> Result<(usize, Option<usize>), Fail> {
+fn cut_after_each(alloc: Global, kind: Kind) -> Result<(usize, Option<usize>), Fail> {
     let events = whole_of_two(alloc, kind)?;
     Ok((events.len(), first_uncut(alloc, kind, &events)?))
 }
 
 #[test]
 fn each_event_of_rounds_is_once_not_taken(rt: HostRuntime) -> Result<(), Fail> {
-    let (count, uncut) = cut_behind_each(rt.alloc(), Kind::Rounds)?;
-    is_told(&(count >= 44, uncut), &(true, None))
+    let (count, uncut) = cut_after_each(rt.alloc(), Kind::Rounds)?;
+    is_expected(&(count >= 44, uncut), &(true, None))
 }
 
 #[test]
 fn each_event_of_rounds_with_loans_is_once_not_taken(rt: HostRuntime) -> Result<(), Fail> {
-    let (count, uncut) = cut_behind_each(rt.alloc(), Kind::GivenBack)?;
-    is_told(&(count >= 44, uncut), &(true, None))
+    let (count, uncut) = cut_after_each(rt.alloc(), Kind::GivenBack)?;
+    is_expected(&(count >= 44, uncut), &(true, None))
 }
 
 #[test]
 fn each_event_of_random_steps_is_once_not_taken(rt: HostRuntime) -> Result<(), Fail> {
-    let (count, uncut) = cut_behind_each(rt.alloc(), Kind::Random)?;
-    is_told(&(count >= 60, uncut), &(true, None))
+    let (count, uncut) = cut_after_each(rt.alloc(), Kind::Random)?;
+    is_expected(&(count >= 60, uncut), &(true, None))
 }
 
 /// Two nodes; the network, and whatever is done with it, has its memory from this allocator.
@@ -212,13 +212,13 @@ fn given_in_turn(alloc: Global, kind: Kind) -> Result<(End, u32), Fail> {
 #[test]
 fn a_schedule_of_rounds_meets_each_refusal(rt: HostRuntime) -> Result<(), Fail> {
     let (end, refused) = given_in_turn(rt.alloc(), Kind::Rounds)?;
-    is_told(&(end, refused > 20), &(End::Done, true))
+    is_expected(&(end, refused > 20), &(End::Done, true))
 }
 
 #[test]
 fn a_schedule_of_random_steps_meets_each_refusal(rt: HostRuntime) -> Result<(), Fail> {
     let (end, refused) = given_in_turn(rt.alloc(), Kind::Random)?;
-    is_told(&(end, refused > 20), &(End::Done, true))
+    is_expected(&(end, refused > 20), &(End::Done, true))
 }
 
 /// The run with the seed 7.
@@ -272,11 +272,11 @@ const RUN: (u64, u64) = (7, 35);
 #[test]
 fn measured_rounds_meet_each_refusal(rt: HostRuntime) -> Result<(), Fail> {
     let (run, (end, refused)) = measured_in_turn(rt.alloc(), Scheduler::Rounds)?;
-    is_told(&(run, end, refused > 20), &(RUN, End::Done, true))
+    is_expected(&(run, end, refused > 20), &(RUN, End::Done, true))
 }
 
 #[test]
 fn measured_random_steps_meet_each_refusal(rt: HostRuntime) -> Result<(), Fail> {
     let (run, (end, refused)) = measured_in_turn(rt.alloc(), Scheduler::Random)?;
-    is_told(&(run, end, refused > 20), &(RUN, End::Done, true))
+    is_expected(&(run, end, refused > 20), &(RUN, End::Done, true))
 }

@@ -10,7 +10,7 @@ use rand_pcg::Lcg64Xsh32;
 use run_model::Event;
 use std::alloc::{AllocError, Allocator, Global};
 use std::test::Fail;
-use test_parts::is_told;
+use test_parts::is_expected;
 use topology::Net;
 
 /// Whether a state was read, and is written as before; false if memory was refused.
@@ -47,7 +47,7 @@ fn read_in_turn(alloc: Global) -> Result<(End, u32), Fail> {
 #[test]
 fn decode_meets_each_refusal(rt: HostRuntime) -> Result<(), Fail> {
     let (end, refused) = read_in_turn(rt.alloc())?;
-    is_told(&(end, refused >= 8), &(End::Done, true))
+    is_expected(&(end, refused >= 8), &(End::Done, true))
 }
 
 /// How a node starts on a heap.
@@ -68,7 +68,7 @@ fn started_in_turn(alloc: Global) -> Result<(End, u32), Fail> {
 #[test]
 fn start_meets_each_refusal(rt: HostRuntime) -> Result<(), Fail> {
     let (end, refused) = started_in_turn(rt.alloc())?;
-    is_told(&(end, refused >= 11), &(End::Done, true))
+    is_expected(&(end, refused >= 11), &(End::Done, true))
 }
 
 /// Draws the harms of a world, and returns whether there was memory.
@@ -103,5 +103,5 @@ fn drawn_of_three(alloc: Global) -> Result<(End, u32), Fail> {
 #[test]
 fn harms_meet_each_refusal(rt: HostRuntime) -> Result<(), Fail> {
     let (end, refused) = drawn_of_three(rt.alloc())?;
-    is_told(&(end, refused >= 20), &(End::Done, true))
+    is_expected(&(end, refused >= 20), &(End::Done, true))
 }

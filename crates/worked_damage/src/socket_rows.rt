@@ -5,7 +5,7 @@ use frame_codec::decode;
 use socket_links::{MemoryPipe, Pull, SocketLink};
 use std::alloc::{AllocError, Global};
 use std::test::Fail;
-use test_parts::as_told;
+use test_parts::as_expected;
 use topology::Net;
 
 /// The bytes that a pipe gives, the most in one read, and whether it stays open after them and
@@ -71,7 +71,7 @@ fn end_with_their_pipes(alloc: Global) -> Result<[bool; 3], Fail> {
 
 #[test]
 fn half_a_line_ends_with_its_pipe(rt: HostRuntime) -> Result<(), Fail> {
-    as_told(end_with_their_pipes(rt.alloc()), &[true; 3])
+    as_expected(end_with_their_pipes(rt.alloc()), &[true; 3])
 }
 
 /// The frames of the lines of a text, each line by itself.
@@ -109,13 +109,13 @@ fn long_text(alloc: Global) -> Result<Vec<u8>, AllocError> {
 }
 
 /// What a link among three nodes gives of them.
-fn behind_junk(alloc: Global) -> Result<(Option<Pull>, bool), Fail> {
+fn after_junk(alloc: Global) -> Result<(Option<Pull>, bool), Fail> {
     let net = line(alloc)?;
     let text = long_text(alloc)?;
     Ok(last_given(alloc, &net, &text)?)
 }
 
 #[test]
-fn a_frame_behind_ten_thousand_lines_of_junk(rt: HostRuntime) -> Result<(), Fail> {
-    as_told(behind_junk(rt.alloc()), &(Some(Pull::Frame(GOOD)), true))
+fn a_frame_after_ten_thousand_lines_of_junk(rt: HostRuntime) -> Result<(), Fail> {
+    as_expected(after_junk(rt.alloc()), &(Some(Pull::Frame(GOOD)), true))
 }

@@ -3,7 +3,7 @@ use crate::calls::{File, NEWER, NONE, OLDER, file_of, line, net_of, reread, two}
 use node_state_file::FileFault;
 use std::alloc::Global;
 use std::test::Fail;
-use test_parts::is_told;
+use test_parts::is_expected;
 use topology::{Net, NetFault};
 
 /// The first word of the present layout.
@@ -70,7 +70,7 @@ const OF_TWO: [Row; 8] = [
 #[test]
 fn the_state_of_a_node_of_two(rt: HostRuntime) -> Result<(), Fail> {
     let unlike = first_unlike(rt.alloc(), two(rt.alloc()), &OF_TWO)?;
-    is_told(&unlike, &None)
+    is_expected(&unlike, &None)
 }
 
 /// Whether the default state's numbers make its file, in both layouts.
@@ -83,7 +83,7 @@ fn are_its_numbers() -> [bool; 2] {
 
 #[test]
 fn the_default_state_in_both_layouts() -> Result<(), Fail> {
-    is_told(&are_its_numbers(), &[true; 2])
+    is_expected(&are_its_numbers(), &[true; 2])
 }
 
 /// Node 2 of three in a line, saved when it was joined only to node 1.
@@ -104,13 +104,13 @@ const TRIANGLE: [(i64, i64); 3] = [(0, 1), (1, 2), (0, 2)];
 #[test]
 fn an_edge_that_has_joined_since(rt: HostRuntime) -> Result<(), Fail> {
     let net = net_of(rt.alloc(), 3, &TRIANGLE);
-    is_told(&first_unlike(rt.alloc(), net, &JOINED)?, &None)
+    is_expected(&first_unlike(rt.alloc(), net, &JOINED)?, &None)
 }
 
 #[test]
 fn links_that_hold_more_than_before(rt: HostRuntime) -> Result<(), Fail> {
     let wider = Net::make(rt.alloc(), 3, 0, 2, 0, &TRIANGLE);
-    is_told(&first_unlike(rt.alloc(), wider, &OF_OTHER_CAPACITY)?, &None)
+    is_expected(&first_unlike(rt.alloc(), wider, &OF_OTHER_CAPACITY)?, &None)
 }
 
 /// Node 0 of three in a line, saved when it was joined to node 2 as well.
@@ -125,7 +125,7 @@ const LEFT: [Row; 1] = [(0, IS_NEWER, &SAVED, Ok(&WITHOUT_TWO))];
 
 #[test]
 fn an_edge_that_has_left_since(rt: HostRuntime) -> Result<(), Fail> {
-    is_told(&first_unlike(rt.alloc(), line(rt.alloc()), &LEFT)?, &None)
+    is_expected(&first_unlike(rt.alloc(), line(rt.alloc()), &LEFT)?, &None)
 }
 
 /// Its file with one number changed.
@@ -208,7 +208,7 @@ fn first_without_each(alloc: Global) -> Result<[Option<(usize, u16)>; 2], NetFau
 
 #[test]
 fn each_number_has_its_range(rt: HostRuntime) -> Result<(), Fail> {
-    is_told(&first_without_each(rt.alloc())?, &[None; 2])
+    is_expected(&first_without_each(rt.alloc())?, &[None; 2])
 }
 
 /// Invalid files, and their faults.
@@ -260,6 +260,6 @@ fn first_other_faults(alloc: Global) -> Result<[Option<usize>; 2], NetFault> {
 }
 
 #[test]
-fn the_first_of_two_faults_is_told(rt: HostRuntime) -> Result<(), Fail> {
-    is_told(&first_other_faults(rt.alloc())?, &[None; 2])
+fn the_first_of_two_faults_is_said(rt: HostRuntime) -> Result<(), Fail> {
+    is_expected(&first_other_faults(rt.alloc())?, &[None; 2])
 }

@@ -1,9 +1,11 @@
 //! A node that starts from a store with any content, and stores that fail.
 use crate::calls::{File, NEWER, OLDER, started, two};
-use node_state_file::{FileFault, FusedStore, MemoryStore, StartFault, Store, StoreFault};
+use node_state_file::{
+    FileFault, FusedStore, LOADED_BYTES, MemoryStore, StartFault, Store, StoreFault,
+};
 use std::alloc::{AllocError, Global};
 use std::test::Fail;
-use test_parts::as_told;
+use test_parts::as_expected;
 use topology::Net;
 
 /// A store with these bytes in it.
@@ -30,9 +32,9 @@ fn is_started_so(
     bytes: &[u8],
     want: (&[u8], Option<FileFault>),
 ) -> Result<bool, Fail> {
-    let (file, told) = started_from(alloc, net, bytes)?;
+    let (file, said) = started_from(alloc, net, bytes)?;
     let (start, fault) = want;
-    Ok(file.as_slice() == start && told == fault.map(StartFault::File))
+    Ok(file.as_slice() == start && said == fault.map(StartFault::File))
 }
 
 /// The first length at which the front of the older file does not count as short, or the whole
@@ -50,7 +52,7 @@ fn first_not_short(alloc: Global) -> Result<Option<usize>, Fail> {
 
 #[test]
 fn a_file_of_each_length_is_short(rt: HostRuntime) -> Result<(), Fail> {
-    as_told(first_not_short(rt.alloc()), &None)
+    as_expected(first_not_short(rt.alloc()), &None)
 }
 
 /// The file of a state that is not the default one.
@@ -65,7 +67,7 @@ const LONG: &[u8; 38] = b"TKT2\0\x02\0\x01\0\x01\0\x01\0\x01\0\0\
 const STORED: [(&[u8], &[u8], Option<FileFault>); 3] = [
     (OTHER, OTHER, None),
     (LONG, NEWER, Some(FileFault::Long)),
-    (&[b'T'; 1277], NEWER, Some(FileFault::Magic)),
+    (&[b'T'; LOADED_BYTES], NEWER, Some(FileFault::Magic)),
 ];
 
 /// The place of the first row that is wrong.
@@ -80,8 +82,8 @@ fn first_other_start(alloc: Global) -> Result<Option<usize>, Fail> {
 }
 
 #[test]
-fn what_stands_in_the_way_is_told(rt: HostRuntime) -> Result<(), Fail> {
-    as_told(first_other_start(rt.alloc()), &None)
+fn what_stands_in_the_way_is_said(rt: HostRuntime) -> Result<(), Fail> {
+    as_expected(first_other_start(rt.alloc()), &None)
 }
 
 /// Whether node 1 starts from a store without room with the default state, the fault of the start,
@@ -91,8 +93,8 @@ type Empty = (bool, Option<StartFault>, Result<(), StoreFault>);
 /// The same for a node of this network.
 fn without_room(alloc: Global, net: &Net) -> Result<Empty, AllocError> {
     let mut empty = MemoryStore::new(alloc, 0)?;
-    let (file, told) = started(alloc, &mut empty, net, 1)?;
-    Ok((file.as_slice() == NEWER.as_slice(), told, empty.save(OTHER)))
+    let (file, said) = started(alloc, &mut empty, net, 1)?;
+    Ok((file.as_slice() == NEWER.as_slice(), said, empty.save(OTHER)))
 }
 
 /// The same for a node of two.
@@ -104,7 +106,7 @@ fn without_room_of_two(alloc: Global) -> Result<Empty, Fail> {
 #[test]
 fn nothing_stands_in_a_store_without_room(rt: HostRuntime) -> Result<(), Fail> {
     let want = (true, Some(StartFault::Absent), Err(StoreFault::Device));
-    as_told(without_room_of_two(rt.alloc()), &want)
+    as_expected(without_room_of_two(rt.alloc()), &want)
 }
 
 /// The answers of a node's store: at its start, and to two saves of the state that it started
@@ -186,5 +188,5 @@ fn first_other_failure(alloc: Global) -> Result<Option<usize>, Fail> {
 
 #[test]
 fn each_call_of_a_store_fails_once(rt: HostRuntime) -> Result<(), Fail> {
-    as_told(first_other_failure(rt.alloc()), &None)
+    as_expected(first_other_failure(rt.alloc()), &None)
 }

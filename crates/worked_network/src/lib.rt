@@ -1,7 +1,10 @@
-//! Copies of the program on networks of three processes: the lock as its users take it.
+//! Copies of the program on networks of three processes: the lock as its users take it;
+//! and what `threads` prints.
 //!
 //! Nothing but tests stands here, since a crate's tests prove all of that crate once more.
 #![tactic(auto)]
 
 #[cfg(test)]
 mod network;
+#[cfg(test)]
+mod threads;

@@ -9,7 +9,7 @@ use std::process::{Abort, Child, Command, ExitCode, Stdio};
 use std::test::Fail;
 use std::time::Duration;
 use std::{env, fs, str, thread};
-use test_parts::{as_told, is_told};
+use test_parts::{as_expected, is_expected};
 
 /// Three nodes in a ring, whose loans have no end.
 const RING: &str =
@@ -83,7 +83,7 @@ fn copy_of(rt: &HostRuntime) -> Result<Command, Fail> {
 }
 
 /// Starts a copy that does these words, one a line, this often.
-fn copy(rt: &HostRuntime, words: &str, times: &str) -> Result<Child, Fail> {
+pub fn copy(rt: &HostRuntime, words: &str, times: &str) -> Result<Child, Fail> {
     let mut command = copy_of(rt)?;
     tell_words(&mut command, words, times)?;
     Ok(command.spawn(rt)?)
@@ -109,14 +109,14 @@ fn count_of(text: &[u8], line: &str) -> Result<usize, Fail> {
 
 /// Waits until a copy has ended. Returns whether it reported this status once, and its standard
 /// error is exactly this.
-fn ends(rt: &HostRuntime, child: Child, status: &str, told: &str) -> Result<bool, Fail> {
+fn ends(rt: &HostRuntime, child: Child, status: &str, reported: &str) -> Result<bool, Fail> {
     let output = child.wait_with_output(rt.alloc())?;
     let count = count_of(output.stdout.as_slice(), status)?;
-    Ok(count == 1 && str::from_utf8(output.stderr.as_slice())? == told)
+    Ok(count == 1 && str::from_utf8(output.stderr.as_slice())? == reported)
 }
 
 /// Waits until a copy has ended. Returns whether it reported both lines, once each.
-fn tells(rt: &HostRuntime, child: Child, lines: [&str; 2]) -> Result<bool, Fail> {
+fn reports(rt: &HostRuntime, child: Child, lines: [&str; 2]) -> Result<bool, Fail> {
     let output = child.wait_with_output(rt.alloc())?;
     let first = count_of(output.stdout.as_slice(), lines[0])?;
     let second = count_of(output.stdout.as_slice(), lines[1])?;
@@ -124,7 +124,7 @@ fn tells(rt: &HostRuntime, child: Child, lines: [&str; 2]) -> Result<bool, Fail>
 }
 
 /// A new folder, next to a network file.
-fn fresh_folder(rt: &HostRuntime, name: &str, network: &str) -> Result<String, Fail> {
+pub fn fresh_folder(rt: &HostRuntime, name: &str, network: &str) -> Result<String, Fail> {
     let tmp = env::temp_dir(rt)?;
     let place = tmp.as_path().display();
     let dir = format!(in rt.alloc(); "{place}/tokentree-{name}")?;
@@ -180,14 +180,14 @@ fn start_nodes(rt: &HostRuntime, name: &str, network: &str) -> Result<Nodes, Fai
 }
 
 /// Ends a node by its stop file. Returns whether its standard error is exactly this.
-fn stops(rt: &HostRuntime, dir: &str, id: u16, child: Child, told: &str) -> Result<bool, Fail> {
+fn stops(rt: &HostRuntime, dir: &str, id: u16, child: Child, reported: &str) -> Result<bool, Fail> {
     let path = format!(in rt.alloc(); "{dir}/stop-{id}")?;
     fs::write(rt, path.as_str(), "")?;
-    ends(rt, child, "status 0", told)
+    ends(rt, child, "status 0", reported)
 }
 
 /// Ends all three nodes, and removes their folder. Returns whether each said just this.
-fn all_stop(rt: &HostRuntime, nodes: Nodes, told: &str) -> Result<bool, Fail> {
+fn all_stop(rt: &HostRuntime, nodes: Nodes, reported: &str) -> Result<bool, Fail> {
     let Nodes {
         folder,
         zero,
@@ -195,9 +195,9 @@ fn all_stop(rt: &HostRuntime, nodes: Nodes, told: &str) -> Result<bool, Fail> {
         two,
     } = nodes;
     let dir = folder.as_str();
-    let first = stops(rt, dir, 0, zero, told)?;
-    let second = stops(rt, dir, 1, one, told)?;
-    let third = stops(rt, dir, 2, two, told)?;
+    let first = stops(rt, dir, 0, zero, reported)?;
+    let second = stops(rt, dir, 1, one, reported)?;
+    let third = stops(rt, dir, 2, two, reported)?;
     clean(rt, dir)?;
     Ok(first && second && third)
 }
@@ -284,7 +284,7 @@ fn compete(rt: &HostRuntime, dir: &str) -> Result<(usize, usize), Fail> {
 fn holds_until_its_input_ends(rt: &HostRuntime, dir: &str) -> Result<bool, Fail> {
     let words = format!(in rt.alloc(); "tokentree\nlock\n{dir}\n1")?;
     let child = copy(rt, words.as_str(), "1")?;
-    tells(rt, child, ["granted", "status 0"])
+    reports(rt, child, ["granted", "status 0"])
 }
 
 /// Whether `lock` ends as its command does.
@@ -314,21 +314,21 @@ fn locked(rt: &HostRuntime, dir: &str) -> Result<Locked, Fail> {
 fn two_lockers_never_hold_it_at_once(rt: HostRuntime) -> Result<(), Fail> {
     let nodes = start_nodes(&rt, "witness", RING)?;
     let held = locked(&rt, nodes.folder.as_str())?;
-    as_told(all_stop(&rt, nodes, ""), &true)?;
-    is_told(&held, &(true, (20, 20), 40, [true; 2]))
+    as_expected(all_stop(&rt, nodes, ""), &true)?;
+    is_expected(&held, &(true, (20, 20), 40, [true; 2]))
 }
 
 /// No second process can be node 0 there.
 fn is_there_once(rt: &HostRuntime, dir: &str) -> Result<bool, Fail> {
     let words = format!(in rt.alloc(); "tokentree\nnode\n{dir}.toml\n0\n{dir}")?;
-    let told = format!(in rt.alloc();
+    let reported = format!(in rt.alloc();
         "tokentree: {dir}/lock-0: node 0 runs there already; stop it, or choose another DIR\n"
     )?;
     ends(
         rt,
         copy(rt, words.as_str(), "1")?,
         "status 1",
-        told.as_str(),
+        reported.as_str(),
     )
 }
 
@@ -339,8 +339,8 @@ fn is_waited_for_in_vain(rt: &HostRuntime, dir: &str) -> Result<bool, Fail> {
     let words = format!(in rt.alloc();
         "tokentree\nlock\n--guard-as\n{GUARD}\n--timeout\n1\n{dir}\n2\ntrue"
     )?;
-    let told = "tokentree: node 2 did not lend the lock within 1 s\n";
-    Ok(ends(rt, copy(rt, words.as_str(), "1")?, "status 124", told)? && is_held)
+    let reported = "tokentree: node 2 did not lend the lock within 1 s\n";
+    Ok(ends(rt, copy(rt, words.as_str(), "1")?, "status 124", reported)? && is_held)
 }
 
 /// Kills a node.
@@ -356,15 +356,15 @@ fn is_lost_with_its_node(rt: &HostRuntime, dir: &str, one: &mut Child) -> Result
     let path = format!(in rt.alloc(); "{dir}/held")?;
     let is_held = appears(rt, path.as_str())?;
     kill(one)?;
-    let told = "tokentree: the lock is lost, since node 1 went away: the command is ended\n";
-    Ok(ends(rt, held, "status 122", told)? && is_held)
+    let reported = "tokentree: the lock is lost, since node 1 went away: the command is ended\n";
+    Ok(ends(rt, held, "status 122", reported)? && is_held)
 }
 
 /// `status` misses node 1.
 fn is_missed(rt: &HostRuntime, dir: &str) -> Result<bool, Fail> {
     let words = format!(in rt.alloc(); "tokentree\nstatus\n{dir}")?;
     let child = copy(rt, words.as_str(), "1")?;
-    tells(rt, child, ["node 1 no answer", "status 1"])
+    reports(rt, child, ["node 1 no answer", "status 1"])
 }
 
 /// Nobody lends the lock at node 1.
@@ -403,25 +403,26 @@ fn lost_and_back(rt: &HostRuntime, nodes: &mut Nodes) -> Result<[bool; 6], Fail>
 fn a_lock_waits_is_lost_and_is_not_there(rt: HostRuntime) -> Result<(), Fail> {
     let mut nodes = start_nodes(&rt, "lost", RING)?;
     let held = lost_and_back(&rt, &mut nodes)?;
-    as_told(all_stop(&rt, nodes, ""), &true)?;
-    is_told(&held, &[true; 6])
+    as_expected(all_stop(&rt, nodes, ""), &true)?;
+    is_expected(&held, &[true; 6])
 }
 
 /// A loan of node 2 ends while a command runs.
 fn is_lost_by_its_lease(rt: &HostRuntime, dir: &str) -> Result<bool, Fail> {
     let held = locker(rt, dir, 2, "exec sleep 50", "1")?;
-    let told = "tokentree: the lock is lost, since node 2 ended the loan: the command is ended\n";
-    ends(rt, held, "status 122", told)
+    let reported =
+        "tokentree: the lock is lost, since node 2 ended the loan: the command is ended\n";
+    ends(rt, held, "status 122", reported)
 }
 
 #[test]
-fn a_lease_ends_and_a_small_capacity_is_told(rt: HostRuntime) -> Result<(), Fail> {
+fn a_lease_ends_and_a_small_capacity_is_reported(rt: HostRuntime) -> Result<(), Fail> {
     let nodes = start_nodes(&rt, "lease", LEASED)?;
     let is_lost = is_lost_by_its_lease(&rt, nodes.folder.as_str())?;
-    let told = "tokentree: capacity 63 is less than 64: 36 frames may be under way on a link; \
+    let reported = "tokentree: capacity 63 is less than 64: 36 frames may be under way on a link; \
         give the network capacity 64 or more\n";
-    as_told(all_stop(&rt, nodes, told), &true)?;
-    is_told(&is_lost, &true)
+    as_expected(all_stop(&rt, nodes, reported), &true)?;
+    is_expected(&is_lost, &true)
 }
 
 /// The node's file of this name in a folder.
@@ -484,13 +485,13 @@ fn takes_no_file_for_a_stream(rt: &HostRuntime) -> Result<bool, Fail> {
 fn ends_elsewhere(rt: &HostRuntime) -> Result<bool, Fail> {
     let dir = fresh_folder(rt, "moved", RING)?;
     let child = node(rt, dir.as_str(), 0)?;
-    let told = format!(in rt.alloc();
+    let reported = format!(in rt.alloc();
         "tokentree: {dir}/lock-0: is another file now, or gone; the node ends, start it again\n"
     )?;
     let old = format!(in rt.alloc(); "{dir}-old")?;
     fs::rename(rt, dir.as_str(), old.as_str())?;
     fs::create_dir(rt, dir.as_str())?;
-    let held = ends(rt, child, "status 1", told.as_str())?;
+    let held = ends(rt, child, "status 1", reported.as_str())?;
     fs::remove_dir_all(rt, old.as_str())?;
     clean(rt, dir.as_str())?;
     Ok(held)
@@ -502,10 +503,10 @@ fn ends_by_what_stays(rt: &HostRuntime) -> Result<bool, Fail> {
     let stop = file_of(rt.alloc(), dir.as_str(), "stop-0")?;
     fs::create_dir_all(rt, stop.as_str())?;
     let child = node(rt, dir.as_str(), 0)?;
-    let told = format!(in rt.alloc();
+    let reported = format!(in rt.alloc();
         "tokentree: {dir}/stop-0: cannot be removed; remove it, and start the node again\n"
     )?;
-    let held = ends(rt, child, "status 1", told.as_str())?;
+    let held = ends(rt, child, "status 1", reported.as_str())?;
     clean(rt, dir.as_str())?;
     Ok(held)
 }
@@ -524,14 +525,14 @@ fn says_that_it_is_blocked(
     rt: &HostRuntime,
     desk: &str,
     child: &mut Child,
-    told: &str,
+    reported: &str,
 ) -> Result<bool, Fail> {
     fs::remove_file(rt, desk)?;
     fs::create_dir(rt, desk)?;
     let said = next_error(rt, child)?;
     thread::sleep(rt, Duration::from_millis(1_000));
     fs::remove_dir(rt, desk)?;
-    Ok(said.as_str() == told)
+    Ok(said.as_str() == reported)
 }
 
 /// A node whose socket for clients cannot be made again runs on, says so once, and takes the name
@@ -540,10 +541,10 @@ fn takes_its_name_back(rt: &HostRuntime) -> Result<bool, Fail> {
     let dir = fresh_folder(rt, "blocked", RING)?;
     let mut child = node(rt, dir.as_str(), 0)?;
     let desk = file_of(rt.alloc(), dir.as_str(), "desk-0.sock")?;
-    let told = format!(in rt.alloc();
+    let reported = format!(in rt.alloc();
         "tokentree: {desk}: cannot be made again; remove what stands there: the node runs on, and tries again"
     )?;
-    let says = says_that_it_is_blocked(rt, desk.as_str(), &mut child, told.as_str())?;
+    let says = says_that_it_is_blocked(rt, desk.as_str(), &mut child, reported.as_str())?;
     let is_back = appears(rt, desk.as_str())?;
     let stops = stops(rt, dir.as_str(), 0, child, "")?;
     clean(rt, dir.as_str())?;
@@ -558,5 +559,5 @@ fn nodes_look_after_their_folder(rt: HostRuntime) -> Result<(), Fail> {
         ends_by_what_stays(&rt)?,
         takes_its_name_back(&rt)?,
     ];
-    is_told(&held, &[true; 4])
+    is_expected(&held, &[true; 4])
 }

@@ -57,7 +57,7 @@ fn is_done_at(pair: &Pair, deed: Deed<'_>) -> bool {
         }
         Deed::Hears(text) => pair.says(text),
         Deed::IsClosed(want) => pair.down.is_closed() == want,
-        Deed::IsSent(text) => pair.was_told(text),
+        Deed::IsSent(text) => pair.was_said(text),
         Deed::Shuts => {
             pair.down.close();
             true

@@ -7,7 +7,7 @@ use crate::stage::{Run, turn_once};
 use crate::wires::{Pair, Queue};
 use std::alloc::Global;
 use std::test::Fail;
-use test_parts::as_told;
+use test_parts::as_expected;
 
 /// The status of a root that had the token, was asked for the lock, and passed the token on.
 const PASSED_ON: &[u8] = b"node 0 distance 0 parent none token no lent none waiting 0\n";
@@ -29,7 +29,7 @@ const CLOSING: [Act<'static>; 11] = [
 
 #[test]
 fn a_client_that_closes_gives_the_lock_back(rt: HostRuntime) -> Result<(), Fail> {
-    as_told(wrong_act(rt.alloc(), Cast::Token, &CLOSING), &None)
+    as_expected(wrong_act(rt.alloc(), Cast::Token, &CLOSING), &None)
 }
 
 /// A client keeps the lock beyond its lease of one tick: the loan begins in the first turn, has
@@ -51,8 +51,8 @@ const LATE: [Act<'static>; 13] = [
 ];
 
 #[test]
-fn a_client_whose_lease_is_over_is_told(rt: HostRuntime) -> Result<(), Fail> {
-    as_told(wrong_act(rt.alloc(), Cast::Leased, &LATE), &None)
+fn a_client_whose_lease_is_over_is_said(rt: HostRuntime) -> Result<(), Fail> {
+    as_expected(wrong_act(rt.alloc(), Cast::Leased, &LATE), &None)
 }
 
 /// A client asks for the lock, and each write to it fails.
@@ -72,8 +72,8 @@ const CUT_OFF: [Act<'static>; 12] = [
 ];
 
 #[test]
-fn a_client_that_cannot_be_told_has_left(rt: HostRuntime) -> Result<(), Fail> {
-    as_told(wrong_act(rt.alloc(), Cast::Token, &CUT_OFF), &None)
+fn a_client_that_cannot_be_said_has_left(rt: HostRuntime) -> Result<(), Fail> {
+    as_expected(wrong_act(rt.alloc(), Cast::Token, &CUT_OFF), &None)
 }
 
 /// The place of the first act that is not as expected if a client writes this line and should hear
@@ -119,7 +119,7 @@ const LINES: [(&[u8], &[u8]); 11] = [
 
 #[test]
 fn each_line_has_its_answer(rt: HostRuntime) -> Result<(), Fail> {
-    as_told(wrong_line(rt.alloc(), &LINES), &None)
+    as_expected(wrong_line(rt.alloc(), &LINES), &None)
 }
 
 /// A client writes two lines in two parts, and closes its sending half.
@@ -139,7 +139,7 @@ const IN_PARTS: [Act<'static>; 11] = [
 
 #[test]
 fn a_line_comes_in_parts_and_the_sending_half_may_close(rt: HostRuntime) -> Result<(), Fail> {
-    as_told(wrong_act(rt.alloc(), Cast::Token, &IN_PARTS), &None)
+    as_expected(wrong_act(rt.alloc(), Cast::Token, &IN_PARTS), &None)
 }
 
 /// A client asks more often than there is room for answers.
@@ -157,7 +157,7 @@ const TOO_MUCH: [Act<'static>; 9] = [
 
 #[test]
 fn a_client_without_room_for_its_answers_has_left(rt: HostRuntime) -> Result<(), Fail> {
-    as_told(wrong_act(rt.alloc(), Cast::New, &TOO_MUCH), &None)
+    as_expected(wrong_act(rt.alloc(), Cast::New, &TOO_MUCH), &None)
 }
 
 /// The first of these clients with a wrong answer: 64 wait, 64 find no room, and the connection of
@@ -198,7 +198,7 @@ fn crowded(alloc: Global, count: usize) -> Result<(usize, Option<usize>), Fail> 
 
 #[test]
 fn the_hundred_and_twenty_ninth_client_is_closed(rt: HostRuntime) -> Result<(), Fail> {
-    as_told(crowded(rt.alloc(), 129), &(64, None))
+    as_expected(crowded(rt.alloc(), 129), &(64, None))
 }
 
 /// A client comes to a node with the tickets of strangers: then only ticket 0 waits, and nobody
@@ -207,5 +207,5 @@ const STRANGERS: [Act<'static>; 4] = [Comes, Attends, Has(1, None), Queues(&[0])
 
 #[test]
 fn tickets_that_no_client_has_leave(rt: HostRuntime) -> Result<(), Fail> {
-    as_told(wrong_act(rt.alloc(), Cast::Strangers, &STRANGERS), &None)
+    as_expected(wrong_act(rt.alloc(), Cast::Strangers, &STRANGERS), &None)
 }

@@ -4,7 +4,7 @@ use crate::wires::{Pair, Queue, Trip};
 use node_core::Node;
 use std::alloc::Global;
 use std::test::Fail;
-use test_parts::as_told;
+use test_parts::as_expected;
 use topology::Payload;
 
 /// A turn: how many of its calls come before the one that fails, if any; whether the node's port
@@ -92,7 +92,7 @@ fn coming(alloc: Global, pairs: &[Pair]) -> Result<Option<usize>, Fail> {
 
 #[test]
 fn a_port_is_loose_until_connecting_succeeds(rt: HostRuntime) -> Result<(), Fail> {
-    as_told(
+    as_expected(
         over_new(rt.alloc(), 2, |pairs| coming(rt.alloc(), pairs)),
         &None,
     )
@@ -125,7 +125,7 @@ fn letting_in(alloc: Global, pairs: &[Pair]) -> Result<Option<usize>, Fail> {
 
 #[test]
 fn a_door_that_fails_closes_no_port(rt: HostRuntime) -> Result<(), Fail> {
-    as_told(
+    as_expected(
         over_new(rt.alloc(), 1, |pairs| letting_in(rt.alloc(), pairs)),
         &None,
     )

@@ -5,10 +5,10 @@ use crate::stage::{
 use crate::wires::{MemoryDoors, Pair, Queue, Trip};
 use node_core::Node;
 use node_loop::NodeRun;
-use node_state_file::{FusedStore, MemoryStore, StoreFault};
+use node_state_file::{FusedStore, MOST_BYTES, MemoryStore, StoreFault};
 use std::alloc::{AllocError, Global};
 use std::test::Fail;
-use test_parts::as_told;
+use test_parts::as_expected;
 use topology::Net;
 
 /// Whether one of two nodes in a row has its true distance, and nobody waits or borrows.
@@ -91,7 +91,7 @@ fn first_unsettled(alloc: Global) -> Result<(Option<u64>, bool), Fail> {
 
 #[test]
 fn two_nodes_settle_whichever_call_fails(rt: HostRuntime) -> Result<(), Fail> {
-    as_told(first_unsettled(rt.alloc()), &(None, true))
+    as_expected(first_unsettled(rt.alloc()), &(None, true))
 }
 
 /// A node whose store fails once.
@@ -99,7 +99,7 @@ type Fused<'a> = NodeRun<MemoryDoors<'a>, FusedStore<MemoryStore>>;
 
 /// A store whose first save fails.
 fn fused(alloc: Global) -> Result<FusedStore<MemoryStore>, Fail> {
-    Ok(FusedStore::new(MemoryStore::new(alloc, 1276)?, 0))
+    Ok(FusedStore::new(MemoryStore::new(alloc, MOST_BYTES)?, 0))
 }
 
 /// Node 1 of two; its first save fails.
@@ -150,5 +150,5 @@ fn saved(alloc: Global) -> Result<(Option<u32>, bool), Fail> {
 
 #[test]
 fn each_256th_turn_saves_and_goes_on_where_that_fails(rt: HostRuntime) -> Result<(), Fail> {
-    as_told(saved(rt.alloc()), &(None, true))
+    as_expected(saved(rt.alloc()), &(None, true))
 }

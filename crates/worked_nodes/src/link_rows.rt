@@ -7,7 +7,7 @@ use crate::stage::{Run, attend_once, turn_once};
 use crate::wires::{Pair, Queue};
 use std::alloc::Global;
 use std::test::Fail;
-use test_parts::as_told;
+use test_parts::as_expected;
 use topology::Net;
 
 /// The first frame of a new node of three.
@@ -49,7 +49,7 @@ const HELLOS: [(&[u8], bool); 8] = [
 
 #[test]
 fn a_hello_of_a_higher_neighbour_alone_is_welcome(rt: HostRuntime) -> Result<(), Fail> {
-    as_told(wrong_hello(rt.alloc(), &HELLOS), &None)
+    as_expected(wrong_hello(rt.alloc(), &HELLOS), &None)
 }
 
 /// A hello in two parts, and a frame after it.
@@ -64,8 +64,8 @@ const IN_PARTS: [Act<'static>; 7] = [
 ];
 
 #[test]
-fn a_hello_comes_in_parts_and_frames_behind_it(rt: HostRuntime) -> Result<(), Fail> {
-    as_told(wrong_act(rt.alloc(), Cast::Row(0), &IN_PARTS), &None)
+fn a_hello_comes_in_parts_and_frames_after_it(rt: HostRuntime) -> Result<(), Fail> {
+    as_expected(wrong_act(rt.alloc(), Cast::Row(0), &IN_PARTS), &None)
 }
 
 /// A neighbour comes twice.
@@ -85,7 +85,7 @@ const TWICE: [Act<'static>; 11] = [
 
 #[test]
 fn a_newer_hello_replaces_the_older_connection(rt: HostRuntime) -> Result<(), Fail> {
-    as_told(wrong_act(rt.alloc(), Cast::Row(0), &TWICE), &None)
+    as_expected(wrong_act(rt.alloc(), Cast::Row(0), &TWICE), &None)
 }
 
 /// Lets a node attend 256 times. Returns the first time before which it closed a connection other
@@ -139,7 +139,7 @@ fn silent(alloc: Global, count: usize) -> Result<Silence, Fail> {
 
 #[test]
 fn silent_connections_are_few_and_go(rt: HostRuntime) -> Result<(), Fail> {
-    as_told(silent(rt.alloc(), 66), &(None, 65, true))
+    as_expected(silent(rt.alloc(), 66), &(None, 65, true))
 }
 
 /// A node comes to its lower neighbour, and again when that one closes.
@@ -156,7 +156,7 @@ const BELOW: [Act<'static>; 8] = [
 
 #[test]
 fn a_node_connects_to_a_lower_neighbour_and_says_who_it_is(rt: HostRuntime) -> Result<(), Fail> {
-    as_told(wrong_act(rt.alloc(), Cast::Last, &BELOW), &None)
+    as_expected(wrong_act(rt.alloc(), Cast::Last, &BELOW), &None)
 }
 
 /// What a node did with a network: whether it took it over, whether it then sent a frame to node
@@ -200,7 +200,7 @@ fn three(alloc: Global, capacity: i64, edges: &[(i64, i64)]) -> Result<Net, Fail
 }
 
 /// Whether the node does with this network what it should.
-fn is_as_told(
+fn is_as_expected(
     alloc: Global,
     run: &mut Run<'_>,
     links: &Queue<'_>,
@@ -219,7 +219,7 @@ fn first_unlike(
     rows: &[Handed<'_>],
 ) -> Result<Option<usize>, Fail> {
     for (place, row) in rows.iter().enumerate() {
-        if !is_as_told(alloc, run, links, *row)? {
+        if !is_as_expected(alloc, run, links, *row)? {
             return Ok(Some(place));
         }
     }
@@ -239,7 +239,7 @@ fn goes_back(alloc: Global, run: &mut Run<'_>, pairs: &[Pair]) -> Result<(bool, 
 }
 
 /// The first of those networks that goes wrong, and what the node then does with the row.
-type Told = (Option<usize>, (bool, bool));
+type Said = (Option<usize>, (bool, bool));
 
 /// Hands a node all of these.
 fn rewired_often(
@@ -247,13 +247,13 @@ fn rewired_often(
     run: &mut Run<'_>,
     links: &Queue<'_>,
     pairs: &[Pair],
-) -> Result<Told, Fail> {
+) -> Result<Said, Fail> {
     let unlike = first_unlike(alloc, run, links, &HANDED)?;
     Ok((unlike, goes_back(alloc, run, pairs)?))
 }
 
 /// What the root of a row did with them.
-fn rewired_anew(alloc: Global) -> Result<Told, Fail> {
+fn rewired_anew(alloc: Global) -> Result<Said, Fail> {
     on_stage(alloc, Cast::Row(0), 3, |run, links, pairs| {
         rewired_often(alloc, run, links, pairs)
     })
@@ -262,5 +262,5 @@ fn rewired_anew(alloc: Global) -> Result<Told, Fail> {
 #[test]
 fn a_network_with_other_edges_is_taken_up(rt: HostRuntime) -> Result<(), Fail> {
     // The connection of node 2 went with its edge.
-    as_told(rewired_anew(rt.alloc()), &(None, (true, true)))
+    as_expected(rewired_anew(rt.alloc()), &(None, (true, true)))
 }

@@ -8,11 +8,11 @@ use crate::wires::{MemoryDoors, Pair, Queue, Trip};
 use linked_list_allocator::LocalHeap;
 use node_core::Node;
 use node_loop::{NodeRun, Unmade};
-use node_state_file::MemoryStore;
+use node_state_file::{MOST_BYTES, MemoryStore};
 use pace::Manner;
 use std::alloc::{AllocError, Global};
 use std::test::Fail;
-use test_parts::{as_told, fill};
+use test_parts::{as_expected, fill};
 use topology::Net;
 
 /// A node that runs on a heap.
@@ -92,7 +92,7 @@ fn root_of<'a, 'h>(
     edges: &[(i64, i64)],
     doors: MemoryDoors<'a>,
 ) -> Result<Begun<'a, 'h>, Fail> {
-    let store = MemoryStore::new(alloc, 1276)?;
+    let store = MemoryStore::new(alloc, MOST_BYTES)?;
     let net = Net::make(alloc, nodes, 0, 1, 0, edges)?;
     Ok(begun_on(heap, net, doors, store))
 }
@@ -194,7 +194,7 @@ fn first_to_run(alloc: Global) -> Result<(bool, Outcome, bool), Fail> {
 
 #[test]
 fn only_new_asks_for_memory(rt: HostRuntime) -> Result<(), Fail> {
-    as_told(first_to_run(rt.alloc()), &(true, Outcome::Ran(true), true))
+    as_expected(first_to_run(rt.alloc()), &(true, Outcome::Ran(true), true))
 }
 
 /// Three nodes, the root first, with these edges.
@@ -236,7 +236,7 @@ const HANDED: [Handed<'static>; 4] = [
 ];
 
 /// Whether the node does with this network what it should.
-fn is_as_told(
+fn is_as_expected(
     alloc: Global,
     run: &mut RunOn<'_, '_>,
     links: &Queue<'_>,
@@ -257,7 +257,7 @@ fn first_unlike(
     rows: &[Handed<'_>],
 ) -> Result<Option<usize>, Fail> {
     for (place, row) in rows.iter().enumerate() {
-        if !is_as_told(alloc, run, links, heap, *row)? {
+        if !is_as_expected(alloc, run, links, heap, *row)? {
             return Ok(Some(place));
         }
     }
@@ -265,7 +265,7 @@ fn first_unlike(
 }
 
 /// What went wrong, and whether the third connection was then closed.
-type Told = (Option<usize>, bool);
+type Said = (Option<usize>, bool);
 
 /// The same for those networks on a heap that has nothing left.
 fn rewired_on_a_full_heap(
@@ -274,7 +274,7 @@ fn rewired_on_a_full_heap(
     links: &Queue<'_>,
     heap: &LocalHeap,
     pairs: &[Pair],
-) -> Result<Told, Fail> {
+) -> Result<Said, Fail> {
     let _full = fill(alloc, heap)?;
     let unlike = first_unlike(alloc, run, links, heap, &HANDED)?;
     let has_gone = match pairs.get(2) {
@@ -291,7 +291,7 @@ fn rewired_from(
     links: &Queue<'_>,
     heap: &LocalHeap,
     pairs: &[Pair],
-) -> Result<Told, Fail> {
+) -> Result<Said, Fail> {
     match begun {
         Begun::Whole(run) => rewired_on_a_full_heap(alloc, run, links, heap, pairs),
         _ => Err(Fail::from(AllocError)),
@@ -299,7 +299,7 @@ fn rewired_from(
 }
 
 /// What the root of a row does with them, on this heap.
-fn rewired_on(alloc: Global, heap: &LocalHeap, pairs: &[Pair]) -> Result<Told, Fail> {
+fn rewired_on(alloc: Global, heap: &LocalHeap, pairs: &[Pair]) -> Result<Said, Fail> {
     let (links, clients) = (Queue::new(pairs, 0, 4), Queue::new(pairs, 4, 4));
     let trip = Trip::never();
     let made = root_of(alloc, heap, 3, &ROW, doors(&links, &clients, &trip));
@@ -310,18 +310,18 @@ fn rewired_on(alloc: Global, heap: &LocalHeap, pairs: &[Pair]) -> Result<Told, F
 }
 
 /// The same on its own heap.
-fn rewired_over(alloc: Global, pairs: &[Pair]) -> Result<Told, Fail> {
+fn rewired_over(alloc: Global, pairs: &[Pair]) -> Result<Said, Fail> {
     let heap = LocalHeap::new(alloc, 524_288)?;
     rewired_on(alloc, &heap, pairs)
 }
 
 /// The same over new connections.
-fn rewired_anew(alloc: Global) -> Result<Told, Fail> {
+fn rewired_anew(alloc: Global) -> Result<Said, Fail> {
     over_new(alloc, 4, |pairs| rewired_over(alloc, pairs))
 }
 
 #[test]
 fn a_network_is_taken_up_without_memory(rt: HostRuntime) -> Result<(), Fail> {
     // The connection of node 2 went with its edge.
-    as_told(rewired_anew(rt.alloc()), &(None, true))
+    as_expected(rewired_anew(rt.alloc()), &(None, true))
 }

@@ -4,7 +4,7 @@ use crate::wires::{MemoryDoors, Pair, Queue, Trip};
 use pace::{Manner, NodePace, PORTS, Pace, PortPace};
 use std::alloc::Global;
 use std::test::Fail;
-use test_parts::as_told;
+use test_parts::as_expected;
 use topology::{Frame, Payload};
 
 /// The turns of a node in one stretch; they are 100 microseconds apart.
@@ -207,5 +207,5 @@ fn none_starves_anew(alloc: Global) -> Result<bool, Fail> {
 
 #[test]
 fn a_damaged_pace_costs_time_alone(rt: HostRuntime) -> Result<(), Fail> {
-    as_told(none_starves_anew(rt.alloc()), &true)
+    as_expected(none_starves_anew(rt.alloc()), &true)
 }

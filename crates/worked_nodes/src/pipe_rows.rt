@@ -3,7 +3,7 @@ use crate::wires::{End, Pair, Trip};
 use socket_links::{Flow, Offer, Pull, SocketLink};
 use std::alloc::{AllocError, Global};
 use std::test::Fail;
-use test_parts::as_told;
+use test_parts::as_expected;
 use topology::{Frame, Net, Payload};
 
 /// How many frames are offered.
@@ -54,7 +54,7 @@ impl Frames {
 
 /// What became of frames offered to one link and pulled from the other.
 #[derive(Clone, Copy)]
-struct Told {
+struct Said {
     taken: Frames,
     pulled: Frames,
     /// How often the first and the second link broke.
@@ -72,7 +72,7 @@ struct Ends<'a> {
     near_trip: &'a Trip,
     /// Which call of the second link's pipes fails.
     far_trip: &'a Trip,
-    told: Told,
+    said: Said,
 }
 
 impl<'a> Ends<'a> {
@@ -83,7 +83,7 @@ impl<'a> Ends<'a> {
             second,
             near_trip,
             far_trip,
-            told: Told {
+            said: Said {
                 taken: Frames::new(),
                 pulled: Frames::new(),
                 breaks: [0; 2],
@@ -102,7 +102,7 @@ impl<'a> Ends<'a> {
     /// One of the two broke: gives both the new pair.
     fn mend(&mut self, side: usize) {
         if side < 2 {
-            self.told.breaks[side] = self.told.breaks[side].saturating_add(1);
+            self.said.breaks[side] = self.said.breaks[side].saturating_add(1);
         }
         let second = self.second;
         self.attach(second);
@@ -111,7 +111,7 @@ impl<'a> Ends<'a> {
     /// Offers a frame to the first link and writes it.
     fn offer(&mut self, frame: Frame) {
         if self.near.offer(&frame) == Offer::Taken {
-            self.told.taken.push(frame);
+            self.said.taken.push(frame);
         }
         if self.near.push_out() == Flow::Broken {
             self.mend(0);
@@ -124,7 +124,7 @@ impl<'a> Ends<'a> {
             self.mend(0);
         }
         match self.far.pull(net) {
-            Pull::Frame(frame) => self.told.pulled.push(frame),
+            Pull::Frame(frame) => self.said.pulled.push(frame),
             Pull::Broken => self.mend(1),
             Pull::Later => {}
         }
@@ -145,11 +145,11 @@ fn exchange<'a>(
     net: &Net,
     (first, second): (&'a Pair, &'a Pair),
     (near_trip, far_trip): (&'a Trip, &'a Trip),
-) -> Told {
+) -> Said {
     let mut ends = Ends::new(second, near_trip, far_trip);
     ends.attach(first);
     offer_all(&mut ends, net);
-    ends.told
+    ends.said
 }
 
 /// Whether these frames are some of the others, in order.
@@ -166,14 +166,14 @@ fn is_part(part: &[Frame], whole: &[Frame]) -> bool {
 /// Whether the report is right if one call on this side failed, or none did: all frames were
 /// taken, the link on this side broke once, or none did, and those pulled are some of those taken,
 /// in order. A failing connection loses at most one frame.
-fn is_right(told: &Told, side: usize, has_failed: bool) -> bool {
+fn is_right(said: &Said, side: usize, has_failed: bool) -> bool {
     let lost = if has_failed { 1 } else { 0 };
     let want = if side == 0 { [lost, 0] } else { [0, lost] };
     let least = if has_failed { 2 } else { 3 };
-    told.breaks == want
-        && told.taken.count == 3
-        && told.pulled.count >= least
-        && is_part(told.pulled.all(), told.taken.all())
+    said.breaks == want
+        && said.taken.count == 3
+        && said.pulled.count >= least
+        && is_part(said.pulled.all(), said.taken.all())
 }
 
 /// Makes the call after `calls` others fail, on the first link's pipes or on the second's. Returns
@@ -185,9 +185,9 @@ fn with_a_failure(net: &Net, side: usize, calls: u64) -> (bool, bool) {
     } else {
         (Trip::never(), Trip::after(calls))
     };
-    let told = exchange(net, (&first, &second), (&near_trip, &far_trip));
+    let said = exchange(net, (&first, &second), (&near_trip, &far_trip));
     let has_failed = near_trip.is_over() && far_trip.is_over();
-    (has_failed, is_right(&told, side, has_failed))
+    (has_failed, is_right(&said, side, has_failed))
 }
 
 /// Makes each call of one side fail in turn. Returns how many calls there are, and the number of
@@ -216,5 +216,5 @@ fn first_wrong(alloc: Global) -> Result<Option<(usize, u64)>, Fail> {
 
 #[test]
 fn frames_are_some_of_those_taken_whichever_call_fails(rt: HostRuntime) -> Result<(), Fail> {
-    as_told(first_wrong(rt.alloc()), &None)
+    as_expected(first_wrong(rt.alloc()), &None)
 }

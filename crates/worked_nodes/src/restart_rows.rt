@@ -1,10 +1,10 @@
 //! A node that starts again from a meaningless state, among running nodes.
 use crate::stage::{Run, doors, doors_between, doors_to, over_new, run_with, turn_once, with_made};
 use crate::wires::{MemoryDoors, Pair, Queue, Trip};
-use node_state_file::{FileFault, MemoryStore, StartFault, Store, start};
+use node_state_file::{FileFault, MOST_BYTES, MemoryStore, StartFault, Store, start};
 use std::alloc::{AllocError, Global};
 use std::test::Fail;
-use test_parts::as_told;
+use test_parts::as_expected;
 use topology::Net;
 
 /// A state of node 2 of three nodes in a row: at distance 0, below node 1, with numbers of its port
@@ -32,7 +32,7 @@ fn row(alloc: Global) -> Result<Net, Fail> {
 
 /// A store with these bytes.
 fn stored(alloc: Global, bytes: Option<&[u8]>) -> Result<MemoryStore, Fail> {
-    let mut store = MemoryStore::new(alloc, 1276)?;
+    let mut store = MemoryStore::new(alloc, MOST_BYTES)?;
     if let Some(bytes) = bytes {
         store.save(bytes)?;
     }
@@ -252,10 +252,10 @@ fn starts_again(alloc: Global, pairs: &[Pair], bytes: &[u8]) -> Result<[Life; 2]
 
 /// Whether the second start has this fault if the store has this many bytes of the state, and
 /// nothing is missed.
-fn is_as_told(alloc: Global, kept: usize, want: Option<StartFault>) -> Result<bool, Fail> {
+fn is_as_expected(alloc: Global, kept: usize, want: Option<StartFault>) -> Result<bool, Fail> {
     let bytes = &SCRAMBLED[..kept.min(SCRAMBLED.len())];
-    let told = over_new(alloc, 9, |pairs| starts_again(alloc, pairs, bytes))?;
-    Ok(told == [(Some(StartFault::Absent), None), (want, None)])
+    let said = over_new(alloc, 9, |pairs| starts_again(alloc, pairs, bytes))?;
+    Ok(said == [(Some(StartFault::Absent), None), (want, None)])
 }
 
 /// The place of the first of these that is not as expected.
@@ -264,7 +264,7 @@ fn first_unlike(
     rows: &[(usize, Option<StartFault>)],
 ) -> Result<Option<usize>, Fail> {
     for (place, (kept, want)) in rows.iter().enumerate() {
-        if !is_as_told(alloc, *kept, *want)? {
+        if !is_as_expected(alloc, *kept, *want)? {
             return Ok(Some(place));
         }
     }
@@ -279,5 +279,5 @@ const FILES: [(usize, Option<StartFault>); 2] = [
 
 #[test]
 fn a_node_starts_again_whatever_its_file_holds(rt: HostRuntime) -> Result<(), Fail> {
-    as_told(first_unlike(rt.alloc(), &FILES), &None)
+    as_expected(first_unlike(rt.alloc(), &FILES), &None)
 }

@@ -6,7 +6,7 @@ ghost use Rattle.node_core.specs.View.{site_in};
 use crate::wires::{MemoryDoors, Pair, Queue, Trip};
 use node_core::Node;
 use node_loop::NodeRun;
-use node_state_file::{MemoryStore, Store, decode};
+use node_state_file::{MOST_BYTES, MemoryStore, Store, decode};
 use pace::Manner;
 use std::alloc::{AllocError, Global};
 use std::test::Fail;
@@ -168,6 +168,6 @@ pub fn run_of<'a>(
 ) -> Result<Run<'a>, Fail>
     requires { site_in node ≡ site_of net (site_in node).id }
 {
-    let store = MemoryStore::new(alloc, 1276)?;
+    let store = MemoryStore::new(alloc, MOST_BYTES)?;
     run_with(alloc, net, node, doors, store)
 }

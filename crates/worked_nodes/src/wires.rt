@@ -143,7 +143,7 @@ impl Pair {
     }
 
     /// Whether what went up is this.
-    pub fn was_told(&self, text: &[u8]) -> bool {
+    pub fn was_said(&self, text: &[u8]) -> bool {
         let mut bytes = [0; ROOM];
         let count = self.up.read(&mut bytes);
         &bytes[..count] == text

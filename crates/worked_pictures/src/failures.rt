@@ -5,7 +5,7 @@ use linked_list_allocator::LocalHeap;
 use run_picture::{Window, record};
 use std::alloc::{Allocator, Global};
 use std::test::Fail;
-use test_parts::as_told;
+use test_parts::as_expected;
 use topology::Net;
 use world::simulation::SimFault;
 
@@ -69,7 +69,7 @@ fn unlike_read(alloc: Global) -> Result<Option<(usize, u64)>, Fail> {
 
 #[test]
 fn each_read_of_a_recording_fails_once(rt: HostRuntime) -> Result<(), Fail> {
-    as_told(unlike_read(rt.alloc()), &None)
+    as_expected(unlike_read(rt.alloc()), &None)
 }
 
 /// What is recorded on a heap of this size, and how much of it stays allocated.
@@ -109,5 +109,5 @@ fn recorded_of_two(alloc: Global) -> Result<Option<(Recorded, bool)>, Fail> {
 #[test]
 fn refused_memory_leaves_the_source_unread(rt: HostRuntime) -> Result<(), Fail> {
     // The source still had all its bytes.
-    as_told(recorded_of_two(rt.alloc()), &Some((Ok(RECORDED), true)))
+    as_expected(recorded_of_two(rt.alloc()), &Some((Ok(RECORDED), true)))
 }

@@ -8,7 +8,7 @@ use run_film::{
 };
 use std::alloc::{AllocError, Global};
 use std::test::Fail;
-use test_parts::{as_told, is_told};
+use test_parts::{as_expected, is_expected};
 use topology::Net;
 
 /// A recording of the forged tokens with this many stills after the first moment.
@@ -66,13 +66,13 @@ fn end() -> Seen {
 
 #[test]
 fn a_film_ends_with_the_last_moment(rt: HostRuntime) -> Result<(), Fail> {
-    as_told(last_of(rt.alloc(), 20), &Some((end(), false)))
+    as_expected(last_of(rt.alloc(), 20), &Some((end(), false)))
 }
 
 /// Two stills are too few for nine moments that differ.
 #[test]
 fn a_crowded_film_ends_with_the_last_moment_too(rt: HostRuntime) -> Result<(), Fail> {
-    as_told(last_of(rt.alloc(), 2), &Some((end(), true)))
+    as_expected(last_of(rt.alloc(), 2), &Some((end(), true)))
 }
 
 /// How many events led to the first moment of a film, and how many nodes lend there.
@@ -87,7 +87,7 @@ fn first_of(alloc: Global) -> Result<Option<(u64, usize)>, Fail> {
 
 #[test]
 fn a_film_begins_with_the_start(rt: HostRuntime) -> Result<(), Fail> {
-    as_told(first_of(rt.alloc()), &Some((0, 0)))
+    as_expected(first_of(rt.alloc()), &Some((0, 0)))
 }
 
 /// One event that writes a distance and a parent.
@@ -135,25 +135,25 @@ fn holds(text: &[u8], part: &[u8]) -> bool {
 /// root.
 #[test]
 fn distances_are_those_of_the_beats(rt: HostRuntime) -> Result<(), Fail> {
-    as_told(has_values(rt.alloc(), "#d2", "#d1"), &true)
+    as_expected(has_values(rt.alloc(), "#d2", "#d1"), &true)
 }
 
 #[test]
 fn parents_are_those_of_the_beats(rt: HostRuntime) -> Result<(), Fail> {
-    as_told(has_values(rt.alloc(), "#n", "#a1-0"), &true)
+    as_expected(has_values(rt.alloc(), "#n", "#a1-0"), &true)
 }
 
 /// Damage strikes node 1, and not the root.
 #[test]
 fn lightning_strikes_with_damage(rt: HostRuntime) -> Result<(), Fail> {
-    as_told(has_values(rt.alloc(), "#n", "#z"), &true)
+    as_expected(has_values(rt.alloc(), "#n", "#z"), &true)
 }
 
 /// The edge is there all the time, and it is the tree's: the line is strong, and no part of the film shows
 /// it go.
 #[test]
 fn an_edge_that_stays_stays(rt: HostRuntime) -> Result<(), Fail> {
-    as_told(has_values(rt.alloc(), "#b0-1", "#b0-1"), &true)
+    as_expected(has_values(rt.alloc(), "#b0-1", "#b0-1"), &true)
 }
 
 /// A page says what happened.
@@ -164,5 +164,5 @@ fn a_page_says_each_still(rt: HostRuntime) -> Result<(), Fail> {
     let mut source = MemorySource::new(WRITTEN.as_bytes(), 7);
     let page = page_text(alloc, &net, &mut source, SHORT)?.text;
     let said = "<li data-beats=\"35\">Event 1, harm own 1 1 0: damage, 1 wrong, ";
-    is_told(&holds(page.as_slice(), said.as_bytes()), &true)
+    is_expected(&holds(page.as_slice(), said.as_bytes()), &true)
 }

@@ -7,7 +7,7 @@ use run_picture::{
 };
 use std::alloc::Global;
 use std::test::Fail;
-use test_parts::{as_told, is_told};
+use test_parts::{as_expected, is_expected};
 use topology::Net;
 
 /// What a fault may make of two nodes: each has a token, and lends it.
@@ -117,8 +117,8 @@ const MOMENTS: [MarksRow; 6] = [
 
 #[test]
 fn a_column_is_a_moment(rt: HostRuntime) -> Result<(), Fail> {
-    as_told(size(rt.alloc(), 9, Window::ALL), &(9, 1, 8, 0))?;
-    as_told(unlike_marks(rt.alloc(), 9, &MOMENTS), &None)
+    as_expected(size(rt.alloc(), 9, Window::ALL), &(9, 1, 8, 0))?;
+    as_expected(unlike_marks(rt.alloc(), 9, &MOMENTS), &None)
 }
 
 /// What a column of one moment counts.
@@ -126,7 +126,7 @@ const COUNTS: [CountsRow; 3] = [(0, (0, 0, false)), (7, (2, 1, true)), (8, (2, 2
 
 #[test]
 fn a_column_counts_tokens_and_loans(rt: HostRuntime) -> Result<(), Fail> {
-    as_told(unlike_counts(rt.alloc(), &COUNTS), &None)
+    as_expected(unlike_counts(rt.alloc(), &COUNTS), &None)
 }
 
 /// What a column of four moments shows.
@@ -138,14 +138,14 @@ const WORST: [MarksRow; 2] = [
 #[test]
 fn a_column_shows_the_worst_of_its_moments(rt: HostRuntime) -> Result<(), Fail> {
     // Nine moments in at most four columns: four, four and one.
-    as_told(size(rt.alloc(), 4, Window::ALL), &(3, 4, 8, 0))?;
-    as_told(unlike_marks(rt.alloc(), 4, &WORST), &None)
+    as_expected(size(rt.alloc(), 4, Window::ALL), &(3, 4, 8, 0))?;
+    as_expected(unlike_marks(rt.alloc(), 4, &WORST), &None)
 }
 
 #[test]
 fn nothing_is_shown_of_a_run_that_has_no_sweep(rt: HostRuntime) -> Result<(), Fail> {
     let (shown, _, events, refused) = size(rt.alloc(), 4, Window { from: 1, to: 9 })?;
-    is_told(&(shown, events, refused), &(0, 8, 0))
+    is_expected(&(shown, events, refused), &(0, 8, 0))
 }
 
 /// A sweep of two nodes: both tick, and each link hands over what was sent inside.
@@ -188,7 +188,7 @@ fn first_unlike_before(alloc: Global) -> Result<Option<usize>, Fail> {
 
 #[test]
 fn what_was_before_the_first_moment_shown(rt: HostRuntime) -> Result<(), Fail> {
-    as_told(first_unlike_before(rt.alloc()), &None)
+    as_expected(first_unlike_before(rt.alloc()), &None)
 }
 
 /// Whether the tour of the square comes to its nodes in this order.
@@ -199,7 +199,7 @@ fn is_tour_of_square(alloc: Global, want: &[u16]) -> Result<bool, Fail> {
 
 #[test]
 fn the_tour_comes_to_the_smallest_child_last(rt: HostRuntime) -> Result<(), Fail> {
-    as_told(is_tour_of_square(rt.alloc(), &[0, 2, 1, 3]), &true)
+    as_expected(is_tour_of_square(rt.alloc(), &[0, 2, 1, 3]), &true)
 }
 
 /// A text with every escaped byte, in an attribute and in an element.
@@ -231,7 +231,7 @@ const ESCAPED: &[u8] =
 
 #[test]
 fn a_text_is_escaped(rt: HostRuntime) -> Result<(), Fail> {
-    as_told(is_escaped_as(rt.alloc(), ESCAPED), &true)
+    as_expected(is_escaped_as(rt.alloc(), ESCAPED), &true)
 }
 
 /// The picture of the forged tokens.
@@ -288,5 +288,5 @@ fn first_undrawn(alloc: Global, parts: &[&str]) -> Result<Option<usize>, Fail> {
 
 #[test]
 fn the_lanes_are_drawn(rt: HostRuntime) -> Result<(), Fail> {
-    as_told(first_undrawn(rt.alloc(), &DRAWN), &None)
+    as_expected(first_undrawn(rt.alloc(), &DRAWN), &None)
 }

@@ -1,5 +1,5 @@
 //! Copies of the test program as clients, against desks that follow a script.
-use crate::copies::{copy, prints, prints_and_tells, shell, started};
+use crate::copies::{copy, prints, prints_and_reports, shell, started};
 use crate::hold::hold;
 use lock_command::{GUARDED, Request, Seconds, guard, lock};
 use status_command::{Form, status};
@@ -14,7 +14,7 @@ use std::sync::Wait;
 use std::test::Fail;
 use std::time::{Clock, Duration};
 use std::{env, fs, thread};
-use test_parts::as_told;
+use test_parts::as_expected;
 
 /// A step of a desk in the tests. After the last step it closes the connection.
 #[derive(Clone, Copy)]
@@ -44,7 +44,7 @@ struct Row {
     asked: Asked,
     steps: &'static [Step],
     status: &'static str,
-    told: &'static str,
+    reported: &'static str,
 }
 
 /// A copy that starts with lines takes the lock as they say, and prints its status.
@@ -219,7 +219,7 @@ fn serve_one(desk: &UnixListener, steps: &[Step]) -> Result<(), Fail> {
 fn goes_so(rt: &HostRuntime, folder: &str, desk: &UnixListener, row: &Row) -> Result<bool, Fail> {
     let client = client(rt, folder, row.asked, Stdio::null())?;
     serve_one(desk, row.steps)?;
-    prints_and_tells(rt, client, row.status, row.told)
+    prints_and_reports(rt, client, row.status, row.reported)
 }
 
 /// The place of the first row that goes otherwise.
@@ -284,7 +284,7 @@ const ENDS: [Row; 6] = [
         },
         steps: &WHOLE,
         status: "status 7\n",
-        told: "",
+        reported: "",
     },
     Row {
         asked: Asked {
@@ -293,7 +293,7 @@ const ENDS: [Row; 6] = [
         },
         steps: &WHOLE,
         status: "status 137\n",
-        told: "",
+        reported: "",
     },
     Row {
         asked: Asked {
@@ -302,7 +302,7 @@ const ENDS: [Row; 6] = [
         },
         steps: &WHOLE,
         status: "status 127\n",
-        told: "tokentree: there is no command /no/such/command\n",
+        reported: "tokentree: there is no command /no/such/command\n",
     },
     Row {
         asked: Asked {
@@ -311,7 +311,7 @@ const ENDS: [Row; 6] = [
         },
         steps: &WHOLE,
         status: "status 126\n",
-        told: "tokentree: / cannot be run\n",
+        reported: "tokentree: / cannot be run\n",
     },
     // There is no room at first, and the client asks again.
     Row {
@@ -321,7 +321,7 @@ const ENDS: [Row; 6] = [
         },
         steps: &[LOCK, Step::Says(b"full\n"), LOCK, GRANTED, UNLOCK, RELEASED],
         status: "status 0\n",
-        told: "",
+        reported: "",
     },
     // The lock is lost and the command runs on.
     Row {
@@ -333,14 +333,14 @@ const ENDS: [Row; 6] = [
         },
         steps: &[LOCK, GRANTED, LOST, Step::SeesOff],
         status: "status 3\n",
-        told: "tokentree: the lock is lost, since node 0 ended the loan: \
+        reported: "tokentree: the lock is lost, since node 0 ended the loan: \
                    the command runs on without it\n",
     },
 ];
 
 #[test]
 fn ends_as_its_command_does(rt: HostRuntime) -> Result<(), Fail> {
-    as_told(
+    as_expected(
         unlike_in(&rt, "lock-held", "lock-held/desk-0.sock", &ENDS),
         &None,
     )?;
@@ -358,7 +358,7 @@ const NOT_HELD: [Row; 8] = [
         },
         steps: &[LOCK, Step::SeesOff],
         status: "status 124\n",
-        told: "tokentree: node 0 did not lend the lock within 1 s\n",
+        reported: "tokentree: node 0 did not lend the lock within 1 s\n",
     },
     Row {
         asked: Asked {
@@ -367,7 +367,7 @@ const NOT_HELD: [Row; 8] = [
         },
         steps: &[LOCK, GRANTED, LOST, Step::SeesOff],
         status: "status 122\n",
-        told: "tokentree: the lock is lost, since node 0 ended the loan: \
+        reported: "tokentree: the lock is lost, since node 0 ended the loan: \
                    the command is ended\n",
     },
     Row {
@@ -377,7 +377,7 @@ const NOT_HELD: [Row; 8] = [
         },
         steps: &[LOCK, GRANTED],
         status: "status 122\n",
-        told: "tokentree: the lock is lost, since node 0 went away: the command is ended\n",
+        reported: "tokentree: the lock is lost, since node 0 went away: the command is ended\n",
     },
     // The loan ended before the release, and the command did not know.
     Row {
@@ -393,7 +393,7 @@ const NOT_HELD: [Row; 8] = [
             Step::SeesOff,
         ],
         status: "status 122\n",
-        told: "tokentree: the lock may have been lost: \
+        reported: "tokentree: the lock may have been lost: \
                    node 0 did not say that it was held to the end\n",
     },
     // The guard is killed, by the command that it guards.
@@ -405,7 +405,7 @@ const NOT_HELD: [Row; 8] = [
         },
         steps: &[LOCK, GRANTED, Step::SeesOff],
         status: "status 122\n",
-        told: "tokentree: the second process of this lock is gone, which guards the command: \
+        reported: "tokentree: the second process of this lock is gone, which guards the command: \
                    the command is ended\n",
     },
     // The command kills its client: the guard ends the command, and says so.
@@ -416,7 +416,7 @@ const NOT_HELD: [Row; 8] = [
         },
         steps: &[LOCK, GRANTED, Step::SeesOff],
         status: "",
-        told: "tokentree: the first process of this lock is gone, which ran the command: \
+        reported: "tokentree: the first process of this lock is gone, which ran the command: \
                    the command is ended\n",
     },
     // The same for a command that may run on: it ends by itself, and nobody asks it to.
@@ -428,7 +428,7 @@ const NOT_HELD: [Row; 8] = [
         },
         steps: &[LOCK, GRANTED, Step::SeesOff],
         status: "ends by itself\n",
-        told: "",
+        reported: "",
     },
     Row {
         asked: Asked {
@@ -437,13 +437,13 @@ const NOT_HELD: [Row; 8] = [
         },
         steps: &[LOCK, Step::Says(b"unknown\n"), Step::SeesOff],
         status: "status 125\n",
-        told: "tokentree: what answers for node 0 is no lock service\n",
+        reported: "tokentree: what answers for node 0 is no lock service\n",
     },
 ];
 
 #[test]
-fn tells_why_the_lock_is_not_held(rt: HostRuntime) -> Result<(), Fail> {
-    as_told(
+fn reports_why_the_lock_is_not_held(rt: HostRuntime) -> Result<(), Fail> {
+    as_expected(
         unlike_in(&rt, "lock-not-held", "lock-not-held/desk-0.sock", &NOT_HELD),
         &None,
     )?;
@@ -462,14 +462,14 @@ fn serves_nobody(rt: &HostRuntime, folder: &str) -> Result<(), Fail> {
 }
 
 /// A client of a folder where nobody serves ends with status 125, and says this.
-fn no_service(rt: &HostRuntime, folder: &str, told: &str) -> Result<(), Fail> {
+fn no_service(rt: &HostRuntime, folder: &str, reported: &str) -> Result<(), Fail> {
     let asked = Asked {
         script: "exit 0",
         ..SHELL
     };
     let client = client(rt, folder, asked, Stdio::null())?;
     hold(
-        prints_and_tells(rt, client, "status 125\n", told)?,
+        prints_and_reports(rt, client, "status 125\n", reported)?,
         "a client finds a service where there is none, or tells something else",
     )
 }
@@ -518,7 +518,7 @@ fn ends_with_its_input(rt: &HostRuntime, desk: &UnixListener) -> Result<bool, Fa
 #[test]
 fn holds_the_lock_until_its_input_ends(rt: HostRuntime) -> Result<(), Fail> {
     fs::create_dir_all(&rt, "lock-input")?;
-    as_told(
+    as_expected(
         at_desk(
             &rt,
             "lock-input/desk-0.sock",
@@ -546,13 +546,13 @@ fn asks_again(rt: &HostRuntime, desk: &UnixListener) -> Result<bool, Fail> {
     };
     let client = client(rt, "lock-room", asked, Stdio::null())?;
     lend_at_second(desk)?;
-    prints_and_tells(rt, client, "status 5\n", "")
+    prints_and_reports(rt, client, "status 5\n", "")
 }
 
 #[test]
 fn asks_again_where_there_is_no_room(rt: HostRuntime) -> Result<(), Fail> {
     fs::create_dir_all(&rt, "lock-room")?;
-    as_told(
+    as_expected(
         at_desk(&rt, "lock-room/desk-0.sock", |desk| asks_again(&rt, desk)),
         &true,
     )?;
@@ -578,9 +578,9 @@ fn left_alone(rt: &HostRuntime) -> Result<Child, Fail> {
 #[test]
 fn misses_a_node_that_went_away(rt: HostRuntime) -> Result<(), Fail> {
     fs::create_dir_all(&rt, "lock-away")?;
-    let told = "tokentree: node 0 went away before it lent the lock\n";
-    as_told(
-        prints_and_tells(&rt, left_alone(&rt)?, "status 125\n", told),
+    let reported = "tokentree: node 0 went away before it lent the lock\n";
+    as_expected(
+        prints_and_reports(&rt, left_alone(&rt)?, "status 125\n", reported),
         &true,
     )?;
     fs::remove_dir_all(&rt, "lock-away")?;
@@ -597,7 +597,7 @@ fn tell(stream: &mut UnixStream, pieces: &[&[u8]]) -> Result<(), Fail> {
 }
 
 /// The connection over which a desk has said how its node stands.
-fn told(desk: &UnixListener, pieces: &[&[u8]]) -> Result<UnixStream, Fail> {
+fn reported(desk: &UnixListener, pieces: &[&[u8]]) -> Result<UnixStream, Fail> {
     let mut stream = accepted(desk)?;
     tell(&mut stream, pieces)?;
     Ok(stream)
@@ -631,30 +631,30 @@ fn onlooker(rt: &HostRuntime) -> Result<Child, Fail> {
 }
 
 /// Whether an onlooker prints what it should see, once it has asked the third of three desks.
-fn sees_behind_third(
+fn sees_after_third(
     rt: &HostRuntime,
     desks: [&UnixListener; 3],
     onlooker: Child,
 ) -> Result<bool, Fail> {
-    let _stream = told(desks[2], TOLD[2])?;
+    let _stream = reported(desks[2], TOLD[2])?;
     prints(rt, onlooker, SEEN)
 }
 
 /// The same once it has asked the second and the third of them.
-fn sees_behind_second(
+fn sees_after_second(
     rt: &HostRuntime,
     desks: [&UnixListener; 3],
     onlooker: Child,
 ) -> Result<bool, Fail> {
-    let _stream = told(desks[1], TOLD[1])?;
-    sees_behind_third(rt, desks, onlooker)
+    let _stream = reported(desks[1], TOLD[1])?;
+    sees_after_third(rt, desks, onlooker)
 }
 
 /// The same once it has asked all.
 fn sees_all(rt: &HostRuntime, desks: [&UnixListener; 3]) -> Result<bool, Fail> {
     let onlooker = onlooker(rt)?;
-    let _stream = told(desks[0], TOLD[0])?;
-    sees_behind_second(rt, desks, onlooker)
+    let _stream = reported(desks[0], TOLD[0])?;
+    sees_after_second(rt, desks, onlooker)
 }
 
 /// The same with its own three desks.
@@ -669,10 +669,10 @@ fn sees_three(rt: &HostRuntime) -> Result<bool, Fail> {
 }
 
 #[test]
-fn tells_who_gave_no_answer(rt: HostRuntime) -> Result<(), Fail> {
+fn reports_who_gave_no_answer(rt: HostRuntime) -> Result<(), Fail> {
     fs::create_dir_all(&rt, "lock-status")?;
     fs::write(&rt, "lock-status/node-1.sock", "")?;
-    as_told(sees_three(&rt), &true)?;
+    as_expected(sees_three(&rt), &true)?;
     fs::remove_dir_all(&rt, "lock-status")?;
     Ok(())
 }

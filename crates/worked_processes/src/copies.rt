@@ -89,13 +89,13 @@ pub fn prints(rt: &HostRuntime, child: Child, begin: &[u8]) -> Result<bool, Fail
 
 /// Waits for the end of a process. Returns whether its output begins like this, and its standard
 /// error is exactly this.
-pub fn prints_and_tells(
+pub fn prints_and_reports(
     rt: &HostRuntime,
     child: Child,
     begin: &str,
-    told: &str,
+    reported: &str,
 ) -> Result<bool, Fail> {
     let output = child.wait_with_output(rt.alloc())?;
     let is_begun = output.stdout.as_slice().starts_with(begin.as_bytes());
-    Ok(is_begun && output.stderr.as_slice() == told.as_bytes())
+    Ok(is_begun && output.stderr.as_slice() == reported.as_bytes())
 }

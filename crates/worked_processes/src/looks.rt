@@ -5,7 +5,7 @@ use node_texts::desk_file::look_path;
 use std::os::unix::net::UnixStream;
 use std::process::Child;
 use std::test::Fail;
-use test_parts::{as_told, is_told};
+use test_parts::{as_expected, is_expected};
 
 /// How the line of node 0, the root, begins.
 const BEGIN: &[u8] = b"{\"node\":0,\"distance\":0,\"parent\":null,\"token\":";
@@ -72,8 +72,8 @@ fn seen_at_once(rt: &HostRuntime, dir: &str, node: &Child) -> Result<[u32; 3], F
 /// A node that runs alone shows 64 of 65 lookers how it stands, answers a client meanwhile, and stops.
 fn look_and_stop(rt: &HostRuntime, dir: &str) -> Result<(), Fail> {
     let mut node = start(rt, dir, 0, ABSENT)?;
-    is_told(&seen_at_once(rt, dir, &node)?, &[1, 64, 0])?;
-    as_told(stops(rt, dir, 0, &mut node), &true)
+    is_expected(&seen_at_once(rt, dir, &node)?, &[1, 64, 0])?;
+    as_expected(stops(rt, dir, 0, &mut node), &true)
 }
 
 #[test]

@@ -16,7 +16,7 @@ use std::test::Fail;
 use std::time::Duration;
 use std::{env, fs, io, process, thread};
 use subcommands::scramble;
-use test_parts::{as_told, is_told};
+use test_parts::{as_expected, is_expected};
 
 /// Three nodes in a line, with fewer frames under way than the capacity.
 pub const LINE: &str = "nodes = 3\nroot = 0\ncapacity = 64\nlease = 0\nedges = [[0, 1], [1, 2]]\n";
@@ -37,7 +37,7 @@ fn network_file(alloc: Global, dir: &str) -> Result<String, AllocError> {
 }
 
 /// Which node this copy is, by its environment.
-fn told_id(rt: &HostRuntime) -> Result<Option<u16>, Fail> {
+fn reported_id(rt: &HostRuntime) -> Result<Option<u16>, Fail> {
     match env::var(rt, "TOKENTREE_ID") {
         Ok(id) => Ok(Some(id.parse::<u16>()?)),
         Err(_) => Ok(None),
@@ -68,7 +68,7 @@ fn run_node(
 
 /// Runs node `id` in the folder that the environment names. If another copy keeps it running, it
 /// first says which process it is.
-fn run_told(rt: &HostRuntime, id: u16) -> Result<Result<(), NodeFault>, Fail> {
+fn run_reported(rt: &HostRuntime, id: u16) -> Result<Result<(), NodeFault>, Fail> {
     let dir = env::var(rt, "TOKENTREE_DIR")?;
     let is_child = env::var(rt, "TOKENTREE_CHILD").is_ok();
     if is_child {
@@ -80,8 +80,8 @@ fn run_told(rt: &HostRuntime, id: u16) -> Result<Result<(), NodeFault>, Fail> {
 /// What a copy of this program does if the environment says which node it is.
 #[test]
 fn acts_as_a_node(rt: HostRuntime) -> Result<(), Fail> {
-    if let Some(id) = told_id(&rt)? {
-        as_told(run_told(&rt, id), &Ok(()))?;
+    if let Some(id) = reported_id(&rt)? {
+        as_expected(run_reported(&rt, id), &Ok(()))?;
     }
     Ok(())
 }
@@ -95,8 +95,8 @@ fn tell_process(rt: &HostRuntime, dir: &str, id: u16) -> Result<(), Fail> {
 /// Writes which process this is.
 fn write_process(rt: &HostRuntime, path: &str) -> Result<(), Fail> {
     let process = process::id(rt.process());
-    let told = format!(in rt.alloc(); "{process}")?;
-    Ok(fs::write(rt, path, told.as_str())?)
+    let reported = format!(in rt.alloc(); "{process}")?;
+    Ok(fs::write(rt, path, reported.as_str())?)
 }
 
 /// The file in which a node that another copy keeps running says which process it is.
@@ -191,11 +191,11 @@ pub fn rest<R: Read>(alloc: Global, reader: &mut R) -> Result<Vec<u8>, Fail> {
 }
 
 /// Whether a process says exactly this on standard error, until it ends.
-fn tells(rt: &HostRuntime, child: &mut Child, told: &str) -> Result<bool, Fail> {
+fn reports(rt: &HostRuntime, child: &mut Child, reported: &str) -> Result<bool, Fail> {
     let Some(errors) = &mut child.stderr else {
         return Ok(false);
     };
-    Ok(rest(rt.alloc(), errors)?.as_slice() == told.as_bytes())
+    Ok(rest(rt.alloc(), errors)?.as_slice() == reported.as_bytes())
 }
 
 /// Whether a process ends with status 0.
@@ -210,10 +210,10 @@ fn stops_with(
     dir: &str,
     id: u16,
     child: &mut Child,
-    told: &str,
+    reported: &str,
 ) -> Result<bool, Fail> {
     stop(rt, dir, id)?;
-    Ok(tells(rt, child, told)? && ends_well(child)? && !leaves_files(rt, dir, id)?)
+    Ok(reports(rt, child, reported)? && ends_well(child)? && !leaves_files(rt, dir, id)?)
 }
 
 /// The same if it said nothing there.
@@ -441,8 +441,8 @@ fn rewired(alloc: Global, dir: &str, id: u16) -> Result<String, AllocError> {
 /// Makes the stop file of a node. Returns whether it ends well, and has said only that it took
 /// over an edge.
 fn stops_rewired(rt: &HostRuntime, dir: &str, id: u16, child: &mut Child) -> Result<bool, Fail> {
-    let told = rewired(rt.alloc(), dir, id)?;
-    stops_with(rt, dir, id, child, told.as_str())
+    let reported = rewired(rt.alloc(), dir, id)?;
+    stops_with(rt, dir, id, child, reported.as_str())
 }
 
 /// The same for a node that may stop before it reads the file again: then it says nothing.
@@ -451,10 +451,10 @@ fn stops_late(rt: &HostRuntime, dir: &str, id: u16, child: &mut Child) -> Result
     let Some(errors) = &mut child.stderr else {
         return Ok(false);
     };
-    let told = rest(rt.alloc(), errors)?;
+    let reported = rest(rt.alloc(), errors)?;
     let want = rewired(rt.alloc(), dir, id)?;
-    let is_told = told.is_empty() || told.as_slice() == want.as_bytes();
-    Ok(is_told && ends_well(child)?)
+    let is_expected = reported.is_empty() || reported.as_slice() == want.as_bytes();
+    Ok(is_expected && ends_well(child)?)
 }
 
 /// Runs node 2 beside two running nodes: it starts again from any state.
@@ -651,7 +651,7 @@ fn run_up(rt: &HostRuntime, dir: &str) -> Result<Result<(), NodeFault>, Fail> {
 }
 
 /// The same in the folder that the environment names, if any.
-fn run_told_up(rt: &HostRuntime) -> Result<Result<(), NodeFault>, Fail> {
+fn run_reported_up(rt: &HostRuntime) -> Result<Result<(), NodeFault>, Fail> {
     match env::var(rt, "TOKENTREE_UP") {
         Ok(dir) => run_up(rt, dir.as_str()),
         Err(_) => Ok(Ok(())),
@@ -661,7 +661,7 @@ fn run_told_up(rt: &HostRuntime) -> Result<Result<(), NodeFault>, Fail> {
 /// What a copy of this program does if the environment names a folder.
 #[test]
 fn acts_as_up(rt: HostRuntime) -> Result<(), Fail> {
-    as_told(run_told_up(&rt), &Ok(()))
+    as_expected(run_reported_up(&rt), &Ok(()))
 }
 
 /// Whether this is the next line.
@@ -886,7 +886,7 @@ fn run_up_in_vain(rt: &HostRuntime, dir: &str) -> Result<Result<(), NodeFault>, 
 }
 
 /// The same in the folder that the environment names, if any.
-fn run_told_up_in_vain(rt: &HostRuntime) -> Result<Result<(), NodeFault>, Fail> {
+fn run_reported_up_in_vain(rt: &HostRuntime) -> Result<Result<(), NodeFault>, Fail> {
     match env::var(rt, "TOKENTREE_VAIN") {
         Ok(dir) => run_up_in_vain(rt, dir.as_str()),
         Err(_) => Ok(Err(NodeFault::NoneStays)),
@@ -896,7 +896,7 @@ fn run_told_up_in_vain(rt: &HostRuntime) -> Result<Result<(), NodeFault>, Fail> 
 /// What a copy of this program does if the environment names a folder.
 #[test]
 fn acts_as_up_in_vain(rt: HostRuntime) -> Result<(), Fail> {
-    as_told(run_told_up_in_vain(&rt), &Err(NodeFault::NoneStays))
+    as_expected(run_reported_up_in_vain(&rt), &Err(NodeFault::NoneStays))
 }
 
 /// What `up` says of a node that fails at its start, and after the third time.
@@ -1027,7 +1027,7 @@ const FAULTS: [(NodeFault, &str); 9] = [
 ];
 
 /// The place of the first of these with another line.
-fn first_untold(alloc: Global) -> Result<Option<usize>, AllocError> {
+fn first_unsaid(alloc: Global) -> Result<Option<usize>, AllocError> {
     for (place, (fault, want)) in FAULTS.iter().enumerate() {
         if !is_fault_line(alloc, *fault, *want)? {
             return Ok(Some(place));
@@ -1037,8 +1037,8 @@ fn first_untold(alloc: Global) -> Result<Option<usize>, AllocError> {
 }
 
 #[test]
-fn faults_are_told_as_written(rt: HostRuntime) -> Result<(), Fail> {
-    is_told(&first_untold(rt.alloc())?, &None)
+fn faults_are_reported_as_written(rt: HostRuntime) -> Result<(), Fail> {
+    is_expected(&first_unsaid(rt.alloc())?, &None)
 }
 
 /// Whether a line is spelled like this.
@@ -1057,8 +1057,8 @@ const KILLED: &str = "node 2 was ended by signal 9, and is started again";
 #[test]
 fn lines_are_as_written(rt: HostRuntime) -> Result<(), Fail> {
     let end = End::Signal(9);
-    is_told(&is_spelled(rt.alloc(), CapacityLine(1), ONE)?, &true)?;
-    is_told(
+    is_expected(&is_spelled(rt.alloc(), CapacityLine(1), ONE)?, &true)?;
+    is_expected(
         &is_spelled(rt.alloc(), EndLine { id: 2, end }, KILLED)?,
         &true,
     )

@@ -3,7 +3,7 @@ use crate::words::{TWO_NODES, first_other_beside};
 use command_line::Runtime;
 use std::fs;
 use std::test::Fail;
-use test_parts::as_told;
+use test_parts::as_expected;
 
 /// A command line, and its status.
 const ROWS: [(&str, u8); 29] = [
@@ -52,5 +52,5 @@ fn does_damage<R: Runtime>(rt: &R) -> Result<(Option<usize>, u64), Fail> {
 
 #[test]
 fn damage_ends_with_the_status(rt: HostRuntime) -> Result<(), Fail> {
-    as_told(does_damage(&rt), &(None, 33))
+    as_expected(does_damage(&rt), &(None, 33))
 }

@@ -1,7 +1,7 @@
 //! Command lines of `draw`, and their statuses.
 use crate::words::{TWO_NODES, first_other_beside};
 use std::test::Fail;
-use test_parts::as_told;
+use test_parts::as_expected;
 
 /// A command line, and its status.
 const ROWS: [(&str, u8); 18] = [
@@ -41,5 +41,5 @@ const FILES: [(&str, &str); 4] = [
 
 #[test]
 fn draw_ends_with_the_status(rt: HostRuntime) -> Result<(), Fail> {
-    as_told(first_other_beside(&rt, &FILES, &ROWS), &None)
+    as_expected(first_other_beside(&rt, &FILES, &ROWS), &None)
 }

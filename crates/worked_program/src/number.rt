@@ -4,7 +4,7 @@ use crate::words::{ends_with, first_other_status};
 use command_line::Runtime;
 use std::alloc::AllocError;
 use std::test::Fail;
-use test_parts::is_told;
+use test_parts::is_expected;
 
 /// The words in front of a number and after it; the greatest allowed number, and one more; and the
 /// status of the line with the greatest.
@@ -159,7 +159,7 @@ fn first_other_row<R: Runtime>(
 
 #[test]
 fn a_number_has_one_spelling_and_a_range(rt: HostRuntime) -> Result<(), Fail> {
-    is_told(&first_other_row(&rt, &NUMBERS)?, &None)
+    is_expected(&first_other_row(&rt, &NUMBERS)?, &None)
 }
 
 /// Command lines with an invalid number: those whose numbers are read only with a file, and those
@@ -183,5 +183,5 @@ const REFUSED: [(&str, u8); 14] = [
 
 #[test]
 fn other_numbers_are_refused(rt: HostRuntime) -> Result<(), Fail> {
-    is_told(&first_other_status(&rt, &REFUSED)?, &None)
+    is_expected(&first_other_status(&rt, &REFUSED)?, &None)
 }

@@ -4,7 +4,7 @@ use std::alloc::{AllocError, Global};
 use std::process::{Command, ExitCode};
 use std::test::Fail;
 use std::{env, fs};
-use test_parts::as_told;
+use test_parts::as_expected;
 
 /// The command that makes a pipe.
 fn pipe_maker(alloc: Global, path: &str) -> Result<Command, AllocError> {
@@ -33,5 +33,5 @@ fn pipe_is_no_file<R: Runtime>(rt: &R) -> Result<[bool; 3], Fail> {
 /// If a command waited for the pipe, it would wait for ever.
 #[test]
 fn a_pipe_is_no_network_file(rt: HostRuntime) -> Result<(), Fail> {
-    as_told(pipe_is_no_file(&rt), &[true; 3])
+    as_expected(pipe_is_no_file(&rt), &[true; 3])
 }

@@ -7,10 +7,10 @@ use std::fs;
 use std::rt::Files;
 use std::test::Fail;
 use subcommands::bound;
-use test_parts::{as_told, is_told};
+use test_parts::{as_expected, is_expected};
 
 /// A command line, and its status.
-const ROWS: [(&str, u8); 85] = [
+const ROWS: [(&str, u8); 90] = [
     ("tokentree bound two.toml", 0),
     ("tokentree bound -- two.toml", 0),
     ("tokentree bound --sharp two.toml", 0),
@@ -28,6 +28,11 @@ const ROWS: [(&str, u8); 85] = [
     ("tokentree bound --sharp", 2),
     ("tokentree Bound two.toml", 2),
     ("tokentree simulate two.toml good.events", 0),
+    ("tokentree simulate two.toml good.events --layers", 0),
+    (
+        "tokentree simulate two.toml good.events --layers --layers",
+        2,
+    ),
     ("tokentree simulate --help", 0),
     ("tokentree help simulate", 0),
     ("tokentree simulate two.toml refused.events", 3),
@@ -93,6 +98,9 @@ const ROWS: [(&str, u8); 85] = [
     ("tokentree network random 5 --edges 11", 2),
     ("tokentree measure two.toml --runs 3", 0),
     ("tokentree measure two.toml --runs 1 --random --table", 0),
+    ("tokentree measure two.toml --runs 2 --csv", 0),
+    ("tokentree measure two.toml --csv --table", 2),
+    ("tokentree measure two.toml --json --csv", 2),
     ("tokentree measure bad.toml --runs 1", 1),
     ("tokentree measure two.toml --runs 0", 2),
     ("tokentree worst two.toml --searches 2 --steps 3", 0),
@@ -126,7 +134,7 @@ const FILES: [(&str, &str); 4] = [
 
 #[test]
 fn ends_with_the_status(rt: HostRuntime) -> Result<(), Fail> {
-    as_told(first_other_beside(&rt, &FILES, &ROWS), &None)
+    as_expected(first_other_beside(&rt, &FILES, &ROWS), &None)
 }
 
 /// An invalid network file, and its fault line.
@@ -219,8 +227,8 @@ fn tries_refusals<R: Runtime>(rt: &R) -> Result<Option<usize>, Fail> {
 /// No file makes `read` need more memory than there is, so `network Memory` is no row; a contract
 /// covers its text.
 #[test]
-fn tells_each_refusal_of_a_network_by_its_name(rt: HostRuntime) -> Result<(), Fail> {
-    as_told(tries_refusals(&rt), &None)
+fn says_each_refusal_of_a_network_by_its_name(rt: HostRuntime) -> Result<(), Fail> {
+    as_expected(tries_refusals(&rt), &None)
 }
 
 /// A path at which no file can be read, and its fault line.
@@ -230,7 +238,7 @@ const UNREADABLE: [(&str, &str); 2] = [
 ];
 
 /// The place of the first row whose path has another fault line.
-fn first_told_otherwise(
+fn first_said_otherwise(
     rt: &HostRuntime,
     rows: &[(&str, &str)],
 ) -> Result<Option<usize>, AllocError> {
@@ -243,6 +251,6 @@ fn first_told_otherwise(
 }
 
 #[test]
-fn tells_a_file_that_cannot_be_read(rt: HostRuntime) -> Result<(), Fail> {
-    is_told(&first_told_otherwise(&rt, &UNREADABLE)?, &None)
+fn says_a_file_that_cannot_be_read(rt: HostRuntime) -> Result<(), Fail> {
+    is_expected(&first_said_otherwise(&rt, &UNREADABLE)?, &None)
 }

@@ -2,7 +2,7 @@
 use flight_records::topology::{Frame, Payload};
 use flight_records::{Deed, LastFrames, Noted, StatePart};
 use std::test::Fail;
-use test_parts::as_told;
+use test_parts::as_expected;
 
 /// A frame.
 const FRAME: Frame = Frame {
@@ -102,7 +102,7 @@ fn first_unlike() -> Option<usize> {
 
 #[test]
 fn frames_again(_rt: HostRuntime) -> Result<(), Fail> {
-    as_told(Ok(first_unlike()), &None)
+    as_expected(Ok(first_unlike()), &None)
 }
 
 /// Whether a short form of a link on which there was no frame stands for nothing.
@@ -113,5 +113,5 @@ fn stands_for_nothing(short: &Noted) -> bool {
 #[test]
 fn frames_that_never_came(_rt: HostRuntime) -> Result<(), Fail> {
     let all = stands_for_nothing(&TAKEN_AGAIN) && stands_for_nothing(&SENT_AGAIN);
-    as_told(Ok(Some(all)), &Some(true))
+    as_expected(Ok(Some(all)), &Some(true))
 }

@@ -3,7 +3,7 @@ use flight_records::topology::{Frame, Payload};
 use flight_records::{Deed, Entry, EntryReader, Noted, StatePart, Unread, write_entry};
 use std::alloc::Global;
 use std::test::Fail;
-use test_parts::as_told;
+use test_parts::as_expected;
 
 /// What a node without a parent says.
 const ALONE: Payload = Payload {
@@ -111,7 +111,7 @@ fn first_unlike(alloc: Global) -> Result<Option<usize>, Fail> {
 
 #[test]
 fn entries_as_bytes(rt: HostRuntime) -> Result<(), Fail> {
-    as_told(first_unlike(rt.alloc()), &None)
+    as_expected(first_unlike(rt.alloc()), &None)
 }
 
 /// How many entries of the record are read right, one after the other, from some bytes; how many
@@ -155,7 +155,7 @@ fn first_other_cut(alloc: Global) -> Result<Option<usize>, Fail> {
 
 #[test]
 fn cut_at_every_place(rt: HostRuntime) -> Result<(), Fail> {
-    as_told(first_other_cut(rt.alloc()), &None)
+    as_expected(first_other_cut(rt.alloc()), &None)
 }
 
 /// Bytes that begin no entry, and why.
@@ -186,5 +186,5 @@ fn first_read() -> Option<usize> {
 
 #[test]
 fn bytes_that_no_entry_begins_with(_rt: HostRuntime) -> Result<(), Fail> {
-    as_told(Ok(first_read()), &None)
+    as_expected(Ok(first_read()), &None)
 }

@@ -1,7 +1,7 @@
 //! The order of what three nodes did, by records whose clocks differ.
 use record_order::{Need, Step, next_ready};
 use std::test::Fail;
-use test_parts::as_told;
+use test_parts::as_expected;
 
 /// A step: its instant, and which node must have done how many steps before it, if any.
 type Row = (u64, Option<(usize, usize)>);
@@ -51,7 +51,7 @@ const LATE: [&[Row]; 3] = [
 
 #[test]
 fn takes_come_after_their_sends(_rt: HostRuntime) -> Result<(), Fail> {
-    as_told(Ok(first_unlike(&LATE, &[0, 1, 1, 2, 0])), &None)
+    as_expected(Ok(first_unlike(&LATE, &[0, 1, 1, 2, 0])), &None)
 }
 
 /// If all are ready, the order is by instants, and at one instant by nodes.
@@ -63,7 +63,7 @@ const FREE: [&[Row]; 3] = [
 
 #[test]
 fn else_by_instants(_rt: HostRuntime) -> Result<(), Fail> {
-    as_told(Ok(first_unlike(&FREE, &[1, 0, 0, 1, 2])), &None)
+    as_expected(Ok(first_unlike(&FREE, &[1, 0, 0, 1, 2])), &None)
 }
 
 /// Two nodes that each take what the other sends after its own take: there is no order.
@@ -75,5 +75,5 @@ const KNOT: [&[Row]; 3] = [
 
 #[test]
 fn a_knot_has_no_order(_rt: HostRuntime) -> Result<(), Fail> {
-    as_told(Ok(first_unlike(&KNOT, &[2])), &None)
+    as_expected(Ok(first_unlike(&KNOT, &[2])), &None)
 }

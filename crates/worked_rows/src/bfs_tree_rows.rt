@@ -1,7 +1,7 @@
 //! One step of the tree, from its copies.
 use bfs_tree::recompute;
 use std::test::Fail;
-use test_parts::is_told;
+use test_parts::is_expected;
 
 /// Whether a node is the root, its copies from its neighbours 1 and 2, and the result of its step.
 const STEPS: [(bool, [u16; 2], (u16, Option<u16>)); 4] = [
@@ -33,5 +33,5 @@ fn first_unlike(steps: &[(bool, [u16; 2], (u16, Option<u16>))]) -> Option<usize>
 
 #[test]
 fn steps_by_hand() -> Result<(), Fail> {
-    is_told(&first_unlike(&STEPS), &None)
+    is_expected(&first_unlike(&STEPS), &None)
 }

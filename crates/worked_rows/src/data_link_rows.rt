@@ -3,7 +3,7 @@ use data_link::{OutOfRange, Port};
 use link_model::{Item, Link};
 use std::alloc::{AllocError, Global};
 use std::test::Fail;
-use test_parts::{as_told, is_told};
+use test_parts::{as_expected, is_expected};
 use topology::{Frame, Net, NetFault, Payload};
 
 /// Puts the frame of a port on a link.
@@ -64,7 +64,7 @@ fn numbers(port: &Port) -> Numbers {
 }
 
 /// What two ports have after four rounds, and after three more, with a new link back.
-fn have_behind_rounds(
+fn have_after_rounds(
     alloc: Global,
     near: &mut Port,
     far: &mut Port,
@@ -78,11 +78,11 @@ fn have_behind_rounds(
 }
 
 /// The same for two new ports.
-fn behind_rounds(alloc: Global) -> Result<[(Numbers, Numbers); 2], Fail> {
+fn after_rounds(alloc: Global) -> Result<[(Numbers, Numbers); 2], Fail> {
     let mut near = new_port(alloc)?;
     let mut far = new_port(alloc)?;
     let mut out = Link::new(alloc, 1)?;
-    Ok(have_behind_rounds(alloc, &mut near, &mut far, &mut out)?)
+    Ok(have_after_rounds(alloc, &mut near, &mut far, &mut out)?)
 }
 
 /// What they should have.
@@ -93,7 +93,7 @@ const BEHIND_ROUNDS: [(Numbers, Numbers); 2] = [
 
 #[test]
 fn numbers_go_round(rt: HostRuntime) -> Result<(), Fail> {
-    as_told(behind_rounds(rt.alloc()), &BEHIND_ROUNDS)
+    as_expected(after_rounds(rt.alloc()), &BEHIND_ROUNDS)
 }
 
 /// Each field at its greatest.
@@ -156,7 +156,7 @@ const SENT: Frame = Frame {
 
 #[test]
 fn writes_outside_their_range_change_nothing(rt: HostRuntime) -> Result<(), Fail> {
-    is_told(
+    is_expected(
         &written(rt.alloc())?,
         &(Ok(()), true, (SENT, GREATEST), true),
     )

@@ -1,7 +1,7 @@
 //! The tree neighbours of a node, in their order, and a tour of the square.
 use euler_ring::{TreeNeighbours, tree_neighbours};
 use std::test::Fail;
-use test_parts::is_told;
+use test_parts::is_expected;
 
 /// Whether the tree neighbour at a place is this one, with these next and previous ones.
 fn stands_between(tree: &TreeNeighbours, at: usize, id: u16, next: u16, source: u16) -> bool {
@@ -51,11 +51,11 @@ const ROUND_SIX: [(u16, u16, u16); 3] = [(1, 4, 9), (4, 9, 1), (9, 1, 4)];
 #[test]
 fn goes_round_three() -> Result<(), Fail> {
     let tree = of_six();
-    is_told(
+    is_expected(
         &(ends(&tree), tree.contains(2)),
         &((3, false, Some(1), None), false),
     )?;
-    is_told(&first_unlike(&tree, &ROUND_SIX), &None)
+    is_expected(&first_unlike(&tree, &ROUND_SIX), &None)
 }
 
 /// The tree neighbours of node 5 with the parent 0; node 63 names it as its parent.
@@ -68,7 +68,7 @@ const ROUND_FIVE: [(u16, u16, u16); 2] = [(0, 63, 63), (63, 0, 0)];
 
 #[test]
 fn least_and_greatest_id_follow_each_other() -> Result<(), Fail> {
-    is_told(&first_unlike(&of_five(), &ROUND_FIVE), &None)
+    is_expected(&first_unlike(&of_five(), &ROUND_FIVE), &None)
 }
 
 /// The tree neighbours of a node whose parent is no neighbour, and that nobody names.
@@ -78,7 +78,7 @@ fn of_a_stranger() -> TreeNeighbours {
 
 #[test]
 fn has_none() -> Result<(), Fail> {
-    is_told(&ends(&of_a_stranger()), &(0, true, None, None))
+    is_expected(&ends(&of_a_stranger()), &(0, true, None, None))
 }
 
 /// The true parents of the square 0-1, 0-2, 1-3, 2-3 with root 0.
@@ -129,5 +129,5 @@ fn first_missed(stops: &[(u16, u16)]) -> Option<usize> {
 
 #[test]
 fn walks_the_square() -> Result<(), Fail> {
-    is_told(&first_missed(&TOUR), &None)
+    is_expected(&first_missed(&TOUR), &None)
 }

@@ -4,7 +4,7 @@ use frame_codec::{LineReader, decode, decode_hello, encode, encode_hello};
 use linked_list_allocator::LocalHeap;
 use std::alloc::{AllocError, Allocator, Global};
 use std::test::Fail;
-use test_parts::{as_told, is_told};
+use test_parts::{as_expected, is_expected};
 use topology::{Frame, Net, Payload};
 
 /// Three nodes in a line, with capacity 1: counters are below 5 and ring values below 13.
@@ -82,7 +82,7 @@ const LINES: [(&[u8], Option<Frame>); 2] = [
 
 #[test]
 fn lines_of_three_nodes(rt: HostRuntime) -> Result<(), Fail> {
-    as_told(first_unlike(line_of_three(rt.alloc()), &LINES), &None)
+    as_expected(first_unlike(line_of_three(rt.alloc()), &LINES), &None)
 }
 
 /// Invalid lines for three nodes.
@@ -101,7 +101,7 @@ const NOISE: [(&[u8], Option<Frame>); 10] = [
 
 #[test]
 fn lines_that_are_noise(rt: HostRuntime) -> Result<(), Fail> {
-    as_told(first_unlike(line_of_three(rt.alloc()), &NOISE), &None)
+    as_expected(first_unlike(line_of_three(rt.alloc()), &NOISE), &None)
 }
 
 /// A frame of the star with each field at its greatest.
@@ -123,7 +123,7 @@ const GREATEST_LINES: [(&[u8], Option<Frame>); 2] = [
 
 #[test]
 fn each_field_at_its_greatest(rt: HostRuntime) -> Result<(), Fail> {
-    as_told(first_unlike(star_of_64(rt.alloc()), &GREATEST_LINES), &None)
+    as_expected(first_unlike(star_of_64(rt.alloc()), &GREATEST_LINES), &None)
 }
 
 /// Whether this is the hello of a node, without its end.
@@ -165,7 +165,7 @@ fn first_unlike_hello(alloc: Global, rows: &[(&[u8], Option<u16>)]) -> Result<Op
 
 #[test]
 fn hellos(rt: HostRuntime) -> Result<(), Fail> {
-    as_told(first_unlike_hello(rt.alloc(), &HELLOS), &None)
+    as_expected(first_unlike_hello(rt.alloc(), &HELLOS), &None)
 }
 
 /// A line of junk that runs into a good line, and then a good line.
@@ -235,7 +235,7 @@ fn first_wrong_cut(alloc: Global) -> Result<Option<usize>, Fail> {
 
 #[test]
 fn every_cut_gives_the_same_frame(rt: HostRuntime) -> Result<(), Fail> {
-    as_told(first_wrong_cut(rt.alloc()), &None)
+    as_expected(first_wrong_cut(rt.alloc()), &None)
 }
 
 /// The first byte of the stream that ends a frame and is not the last byte, or the last byte if it
@@ -253,7 +253,7 @@ fn first_wrong_byte(alloc: Global) -> Result<Option<usize>, Fail> {
 
 #[test]
 fn bytes_one_by_one(rt: HostRuntime) -> Result<(), Fail> {
-    as_told(first_wrong_byte(rt.alloc()), &None)
+    as_expected(first_wrong_byte(rt.alloc()), &None)
 }
 
 /// Half a line.
@@ -270,7 +270,7 @@ fn half_spoils_nothing(alloc: Global) -> Result<bool, Fail> {
 
 #[test]
 fn a_dropped_half_line_spoils_nothing(rt: HostRuntime) -> Result<(), Fail> {
-    as_told(half_spoils_nothing(rt.alloc()), &true)
+    as_expected(half_spoils_nothing(rt.alloc()), &true)
 }
 
 /// A line and a half.
@@ -353,5 +353,5 @@ fn refusals(alloc: Global) -> Result<Option<u32>, Fail> {
 #[test]
 fn a_refused_growth_reads_nothing(rt: HostRuntime) -> Result<(), Fail> {
     let refused = refusals(rt.alloc())?;
-    is_told(&(refused.unwrap_or(0) > 0), &true)
+    is_expected(&(refused.unwrap_or(0) > 0), &true)
 }

@@ -4,7 +4,7 @@ use link_model::{Frame, Full, Item, Link, NoItem, Payload};
 use linked_list_allocator::LocalHeap;
 use std::alloc::{Allocator, Global};
 use std::test::Fail;
-use test_parts::{as_told, is_told, on_full};
+use test_parts::{as_expected, is_expected, on_full};
 
 /// What goes over a link.
 #[derive(Clone, Copy)]
@@ -98,7 +98,7 @@ const ORDER: [Deed; 14] = [
 
 #[test]
 fn items_keep_their_order(rt: HostRuntime) -> Result<(), Fail> {
-    as_told(first_wrong_of(rt.alloc(), 3, &ORDER), &None)
+    as_expected(first_wrong_of(rt.alloc(), 3, &ORDER), &None)
 }
 
 /// An item comes to a link without places.
@@ -106,7 +106,7 @@ const NO_PLACE: [Deed; 3] = [Holds(0), IsFull(true), Puts(Noise, Err(Full))];
 
 #[test]
 fn a_link_of_no_place_is_full(rt: HostRuntime) -> Result<(), Fail> {
-    as_told(first_wrong_of(rt.alloc(), 0, &NO_PLACE), &None)
+    as_expected(first_wrong_of(rt.alloc(), 0, &NO_PLACE), &None)
 }
 
 /// Items go over a link of four places, which is then cleared.
@@ -137,5 +137,5 @@ fn is_right_on_full(alloc: Global, heap: &LocalHeap) -> Result<Option<bool>, Fai
 fn only_new_asks_for_memory(rt: HostRuntime) -> Result<(), Fail> {
     let alloc = rt.alloc();
     let (units, is_so) = least_heap(alloc, |heap| is_right_on_full(alloc, heap))?;
-    is_told(&(is_so && units > 1 && units < 100), &true)
+    is_expected(&(is_so && units > 1 && units < 100), &true)
 }

@@ -5,7 +5,7 @@ use linked_list_allocator::LocalHeap;
 use lock_desk::{AskFault, ClientLine, ClientReader, Desk, DeskAct, OutOfRange, Stranger};
 use std::alloc::{Allocator, Global};
 use std::test::Fail;
-use test_parts::{as_told, is_told, on_full};
+use test_parts::{as_expected, is_expected, on_full};
 
 /// What is done to a desk, and what it answers.
 #[derive(Clone, Copy)]
@@ -105,7 +105,7 @@ const SIXTY_FOUR: [Deed<'static>; 10] = [
 
 #[test]
 fn sixty_four_wait_and_no_more(rt: HostRuntime) -> Result<(), Fail> {
-    as_told(first_wrong_of(rt.alloc(), 0, &SIXTY_FOUR), &None)
+    as_expected(first_wrong_of(rt.alloc(), 0, &SIXTY_FOUR), &None)
 }
 
 /// A loan with a lease of one tick.
@@ -121,7 +121,7 @@ const ONE_TICK: [Deed<'static>; 7] = [
 
 #[test]
 fn a_lease_of_one_tick_ends_in_the_third(rt: HostRuntime) -> Result<(), Fail> {
-    as_told(first_wrong_of(rt.alloc(), 1, &ONE_TICK), &None)
+    as_expected(first_wrong_of(rt.alloc(), 1, &ONE_TICK), &None)
 }
 
 /// A loan without a lease, and the next one.
@@ -139,7 +139,7 @@ const NO_LEASE: [Deed<'static>; 9] = [
 
 #[test]
 fn a_loan_without_lease_ends_with_the_privilege(rt: HostRuntime) -> Result<(), Fail> {
-    as_told(first_wrong_of(rt.alloc(), 0, &NO_LEASE), &None)
+    as_expected(first_wrong_of(rt.alloc(), 0, &NO_LEASE), &None)
 }
 
 /// Two loans, with a quiet tick between them.
@@ -159,7 +159,7 @@ const TWO_LOANS: [Deed<'static>; 11] = [
 
 #[test]
 fn the_token_leaves_before_the_second_loan(rt: HostRuntime) -> Result<(), Fail> {
-    as_told(first_wrong_of(rt.alloc(), 0, &TWO_LOANS), &None)
+    as_expected(first_wrong_of(rt.alloc(), 0, &TWO_LOANS), &None)
 }
 
 /// Loans are written to a desk with a lease of three ticks.
@@ -177,7 +177,7 @@ const WRITTEN_LOANS: [Deed<'static>; 9] = [
 
 #[test]
 fn a_loan_is_written_where_it_fits(rt: HostRuntime) -> Result<(), Fail> {
-    as_told(first_wrong_of(rt.alloc(), 3, &WRITTEN_LOANS), &None)
+    as_expected(first_wrong_of(rt.alloc(), 3, &WRITTEN_LOANS), &None)
 }
 
 /// Queues are written to a desk that lends to ticket 5.
@@ -195,7 +195,7 @@ const WRITTEN_QUEUES: [Deed<'static>; 9] = [
 
 #[test]
 fn a_queue_is_written_where_it_fits(rt: HostRuntime) -> Result<(), Fail> {
-    as_told(first_wrong_of(rt.alloc(), 0, &WRITTEN_QUEUES), &None)
+    as_expected(first_wrong_of(rt.alloc(), 0, &WRITTEN_QUEUES), &None)
 }
 
 /// A desk is full and lends.
@@ -215,7 +215,7 @@ fn is_used(heap: &LocalHeap) -> Option<bool> {
 #[test]
 fn memory_is_refused_once_and_then_needed_no_more(rt: HostRuntime) -> Result<(), Fail> {
     let (units, is_so) = least_heap(rt.alloc(), |heap| Ok(is_used(heap)))?;
-    is_told(&(is_so && units > 1 && units < 100), &true)
+    is_expected(&(is_so && units > 1 && units < 100), &true)
 }
 
 /// Each kind of deed, with a full queue at first.
@@ -256,7 +256,7 @@ fn first_wrong_without_memory(
 
 #[test]
 fn a_desk_takes_no_memory(rt: HostRuntime) -> Result<(), Fail> {
-    as_told(
+    as_expected(
         first_wrong_without_memory(rt.alloc(), &WITHOUT_MEMORY),
         &(None, 0),
     )
@@ -310,5 +310,5 @@ fn first_misread(rows: &[(&[u8], &[ClientLine])]) -> Option<usize> {
 
 #[test]
 fn client_lines_are_matched_byte_for_byte() -> Result<(), Fail> {
-    is_told(&first_misread(&CLIENT_LINES), &None)
+    is_expected(&first_misread(&CLIENT_LINES), &None)
 }

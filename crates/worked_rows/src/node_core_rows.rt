@@ -4,7 +4,7 @@ use linked_list_allocator::LocalHeap;
 use node_core::{AskFault, DeskAct, Item, Node, OutOfRange, Payload, Stranger, Ticked};
 use std::alloc::{Allocator, Global};
 use std::test::Fail;
-use test_parts::{as_told, is_told, on_full};
+use test_parts::{as_expected, is_expected, on_full};
 use topology::{Net, NetFault};
 
 /// Two nodes, 0 the root, capacity 1.
@@ -179,7 +179,7 @@ const REACHES_TREE: [Deed<'static>; 11] = [
 
 #[test]
 fn two_nodes_reach_the_tree_and_pass_the_token(rt: HostRuntime) -> Result<(), Fail> {
-    as_told(first_wrong_of(rt.alloc(), 0, &REACHES_TREE), &None)
+    as_expected(first_wrong_of(rt.alloc(), 0, &REACHES_TREE), &None)
 }
 
 /// Two tickets ask at the near node, and the first has its loan.
@@ -198,7 +198,7 @@ const TWO_TICKETS: [Deed<'static>; 10] = [
 
 #[test]
 fn the_token_leaves_before_a_second_loan(rt: HostRuntime) -> Result<(), Fail> {
-    as_told(first_wrong_of(rt.alloc(), 0, &TWO_TICKETS), &None)
+    as_expected(first_wrong_of(rt.alloc(), 0, &TWO_TICKETS), &None)
 }
 
 /// A ticket has a loan with a lease of one tick.
@@ -214,7 +214,7 @@ const ONE_TICK: [Deed<'static>; 7] = [
 
 #[test]
 fn a_loan_of_one_tick_ends(rt: HostRuntime) -> Result<(), Fail> {
-    as_told(first_wrong_of(rt.alloc(), 1, &ONE_TICK), &None)
+    as_expected(first_wrong_of(rt.alloc(), 1, &ONE_TICK), &None)
 }
 
 /// Both nodes lend by forged tokens, of which one stays.
@@ -233,7 +233,7 @@ const FORGED_TOKEN: [Deed<'static>; 10] = [
 
 #[test]
 fn a_forged_token_goes_and_its_loan_ends(rt: HostRuntime) -> Result<(), Fail> {
-    as_told(first_wrong_of(rt.alloc(), 0, &FORGED_TOKEN), &None)
+    as_expected(first_wrong_of(rt.alloc(), 0, &FORGED_TOKEN), &None)
 }
 
 /// Writes the counters and the values of port 0: of the first three writes only the third fits.
@@ -275,7 +275,7 @@ fn left_of_far(alloc: Global) -> Result<(bool, Option<(u16, u16, u16)>, bool), F
 
 #[test]
 fn noise_and_writes_out_of_range_change_nothing(rt: HostRuntime) -> Result<(), Fail> {
-    as_told(left_of_far(rt.alloc()), &(true, Some((0, 0, 6)), true))
+    as_expected(left_of_far(rt.alloc()), &(true, Some((0, 0, 6)), true))
 }
 
 /// Whether a node accepts 64 tickets, from this one on.
@@ -314,7 +314,7 @@ fn least_used(alloc: Global) -> Result<(usize, bool), Fail> {
 #[test]
 fn each_growth_of_new_may_be_refused(rt: HostRuntime) -> Result<(), Fail> {
     let (units, is_so) = least_used(rt.alloc())?;
-    is_told(&(is_so && units > 8), &true)
+    is_expected(&(is_so && units > 8), &true)
 }
 
 /// The place of the first deed that two nodes answer otherwise on a heap with nothing left, and
@@ -356,7 +356,7 @@ const WITHOUT_MEMORY: [Deed<'static>; 13] = [
 
 #[test]
 fn nodes_take_no_memory(rt: HostRuntime) -> Result<(), Fail> {
-    as_told(
+    as_expected(
         first_wrong_without_memory(rt.alloc(), &WITHOUT_MEMORY),
         &(None, 0),
     )

@@ -4,7 +4,7 @@ use linked_list_allocator::LocalHeap;
 use registers::{Heard, OutOfRange, Registers};
 use std::alloc::{Allocator, Global};
 use std::test::Fail;
-use test_parts::{as_told, is_told, on_full};
+use test_parts::{as_expected, is_expected, on_full};
 use topology::{Frame, Net, NetFault, Payload};
 
 /// Writes both numbers of a neighbour; any other node is refused.
@@ -140,7 +140,7 @@ const WRITES: [Deed<'static>; 9] = [
 
 #[test]
 fn one_port_alone_is_written(rt: HostRuntime) -> Result<(), Fail> {
-    as_told(first_wrong(rt.alloc(), &WRITES), &None)
+    as_expected(first_wrong(rt.alloc(), &WRITES), &None)
 }
 
 /// Uses the registers of the root, and returns whether exactly its two neighbours could be
@@ -163,7 +163,7 @@ fn least_used(alloc: Global) -> Result<(usize, bool), Fail> {
 #[test]
 fn each_growth_of_new_may_be_refused(rt: HostRuntime) -> Result<(), Fail> {
     let (units, is_so) = least_used(rt.alloc())?;
-    is_told(&(is_so && units > 3), &true)
+    is_expected(&(is_so && units > 3), &true)
 }
 
 /// Whether they are written on a heap with nothing left, and how much was left.
@@ -180,5 +180,5 @@ fn written_without_memory(alloc: Global) -> Result<(bool, usize), Fail> {
 
 #[test]
 fn registers_take_no_memory(rt: HostRuntime) -> Result<(), Fail> {
-    as_told(written_without_memory(rt.alloc()), &(true, 0))
+    as_expected(written_without_memory(rt.alloc()), &(true, 0))
 }

@@ -2,7 +2,7 @@
 use run_model::{Event, Harm};
 use std::alloc::{AllocFailed, Global};
 use std::test::Fail;
-use test_parts::is_told;
+use test_parts::is_expected;
 use world::events::{EventReader, TextLine, parse_line};
 
 /// Hands a piece to a reader, and returns the line that it ended, and what is left of the piece.
@@ -18,8 +18,8 @@ fn lines(alloc: Global, text: &[u8], size: usize) -> Result<Vec<TextLine>, Alloc
     for piece in text.chunks(size.max(1)) {
         let mut rest = piece;
         for _ in 0..text.len() {
-            let (line, behind) = take(&mut reader, rest);
-            rest = behind;
+            let (line, later) = take(&mut reader, rest);
+            rest = later;
             match line {
                 Some(line) => lines.push(line)?,
                 None => break,
@@ -77,43 +77,43 @@ const EACH_KIND: [(&[u8], &[TextLine]); 1] = [(
     b"tick 0\n\nsend 0 1\n# take 0 1, in a comment that is longer than any line that is read: it has 100 bytes or more.\n\
     take  0 1\nxxxxxxxxxxxxxxxxxxxxxxxxxxxxxxxxxxxxxxxxxxxxxxxxxxxxxxxxxxxxxxxxxxxxxx\nharm own 0 3 none\nharm own 0 3 65535\nask 1 7",
     &[
-        TextLine::Told(Event::Tick { node: 0 }),
+        TextLine::Said(Event::Tick { node: 0 }),
         TextLine::Passed,
-        TextLine::Told(Event::Send { from: 0, to: 1 }),
+        TextLine::Said(Event::Send { from: 0, to: 1 }),
         TextLine::Passed,
         TextLine::Unread,
         TextLine::Unread,
-        TextLine::Told(Event::Damage(Harm::Own {
+        TextLine::Said(Event::Damage(Harm::Own {
             node: 0,
             distance: 3,
             parent: None,
         })),
-        TextLine::Told(Event::Damage(Harm::Own {
+        TextLine::Said(Event::Damage(Harm::Own {
             node: 0,
             distance: 3,
             parent: Some(65535),
         })),
-        TextLine::Told(Event::Ask { node: 1, ticket: 7 }),
+        TextLine::Said(Event::Ask { node: 1, ticket: 7 }),
     ],
 )];
 
 #[test]
 fn a_text_is_the_same_in_any_pieces(rt: HostRuntime) -> Result<(), Fail> {
-    is_told(&first_unlike(rt.alloc(), &EACH_KIND)?, &None)
+    is_expected(&first_unlike(rt.alloc(), &EACH_KIND)?, &None)
 }
 
 /// Texts that end with a newline, or are empty.
 const ENDED: [(&[u8], &[TextLine]); 2] = [
     (
         b"tick 0\n\n",
-        &[TextLine::Told(Event::Tick { node: 0 }), TextLine::Passed],
+        &[TextLine::Said(Event::Tick { node: 0 }), TextLine::Passed],
     ),
     (b"", &[]),
 ];
 
 #[test]
-fn a_text_that_ends_with_a_newline_has_no_line_behind_it(rt: HostRuntime) -> Result<(), Fail> {
-    is_told(&first_unlike(rt.alloc(), &ENDED)?, &None)
+fn a_text_that_ends_with_a_newline_has_no_line_after_it(rt: HostRuntime) -> Result<(), Fail> {
+    is_expected(&first_unlike(rt.alloc(), &ENDED)?, &None)
 }
 
 /// Lines with numbers, and what they spell.
@@ -141,5 +141,5 @@ fn first_misread(rows: &[(&[u8], Option<Event>)]) -> Option<usize> {
 
 #[test]
 fn numbers_are_decimal() -> Result<(), Fail> {
-    is_told(&first_misread(&NUMBERS), &None)
+    is_expected(&first_misread(&NUMBERS), &None)
 }

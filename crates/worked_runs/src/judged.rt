@@ -5,7 +5,7 @@ use crate::worlds::{event_of, first_unlike, net_of, start};
 use run_model::{Event, EventFault};
 use std::alloc::{AllocFailed, Allocator, Global};
 use std::test::Fail;
-use test_parts::as_told;
+use test_parts::as_expected;
 use world::report::{Report, judge};
 use world::{Judge, World};
 
@@ -60,7 +60,7 @@ fn events_of(alloc: Global, text: &str) -> Result<Vec<Event>, Fail> {
 }
 
 /// The events of `rounds` rounds of two nodes over links of one place, then of a text.
-fn events_behind(alloc: Global, rounds: usize, text: &str) -> Result<Vec<Event>, Fail> {
+fn events_after(alloc: Global, rounds: usize, text: &str) -> Result<Vec<Event>, Fail> {
     let mut events = Vec::new(alloc);
     for _ in 0..rounds {
         push_events(&mut events, ROUND)?;
@@ -80,7 +80,7 @@ fn counts_of(alloc: Global, events: &[Event]) -> Result<Counts, Fail> {
 
 /// The counts of rounds and a text after them.
 fn counts(alloc: Global, rounds: usize, text: &str) -> Result<Counts, Fail> {
-    let events = events_behind(alloc, rounds, text)?;
+    let events = events_after(alloc, rounds, text)?;
     counts_of(alloc, &events)
 }
 
@@ -108,7 +108,7 @@ const ROUNDS: [(usize, &str, Counts); 8] = [
 
 #[test]
 fn each_round_is_a_sweep_and_the_third_visits_the_other_node(rt: HostRuntime) -> Result<(), Fail> {
-    as_told(first_miscounted(rt.alloc(), &ROUNDS), &None)
+    as_expected(first_miscounted(rt.alloc(), &ROUNDS), &None)
 }
 
 /// Rounds with damage after them.
@@ -125,7 +125,7 @@ const DAMAGED: [(usize, &str, Counts); 4] = [
 
 #[test]
 fn damage_leaves_those_visited_that_are_privileged(rt: HostRuntime) -> Result<(), Fail> {
-    as_told(first_miscounted(rt.alloc(), &DAMAGED), &None)
+    as_expected(first_miscounted(rt.alloc(), &DAMAGED), &None)
 }
 
 /// Short runs; some are sweeps.
@@ -163,7 +163,7 @@ const SERVING: [(usize, &str, Counts); 5] = [
 
 #[test]
 fn what_serves_and_what_does_not(rt: HostRuntime) -> Result<(), Fail> {
-    as_told(first_miscounted(rt.alloc(), &SERVING), &None)
+    as_expected(first_miscounted(rt.alloc(), &SERVING), &None)
 }
 
 /// The default world of three nodes in a line.
@@ -199,7 +199,7 @@ fn first_unlike_of_three(alloc: Global) -> Result<Option<usize>, Fail> {
 
 #[test]
 fn each_refusal_has_its_name(rt: HostRuntime) -> Result<(), Fail> {
-    as_told(first_unlike_of_three(rt.alloc()), &None)
+    as_expected(first_unlike_of_three(rt.alloc()), &None)
 }
 
 /// A round and a harm after it, each event with the number of tallies that a judge looks at.
@@ -236,5 +236,5 @@ fn looks(alloc: Global) -> Result<(u32, Option<usize>), Fail> {
 
 #[test]
 fn a_step_looks_at_two_tallies_except_where_a_sweep_ends(rt: HostRuntime) -> Result<(), Fail> {
-    as_told(looks(rt.alloc()), &(0, None))
+    as_expected(looks(rt.alloc()), &(0, None))
 }

@@ -1,20 +1,14 @@
 //! Edges that join and go, and the text of a world, on a heap without a free byte: they take no
 //! memory.
-use crate::worlds::{event_of, first_unlike, net_of};
+use crate::worlds::{event_of, first_unlike, square};
 use linked_list_allocator::LocalHeap;
 use run_model::EventFault;
 use std::alloc::{Allocator, Global};
 use std::test::Fail;
-use test_parts::{as_told, on_full};
-use topology::{Net, NetFault};
+use test_parts::{as_expected, on_full};
 use world::simulation::{SimFault, state_text};
 use world::streams::MemorySink;
 use world::{Judge, World};
-
-/// A square: node 3 is opposite the root.
-fn square(alloc: Global) -> Result<Net, NetFault> {
-    net_of(alloc, 4, 0, &[(0, 1), (0, 2), (1, 3), (2, 3)])
-}
 
 /// What happens on the square with one spare pair of links, and the answers: edges join and go,
 /// and items are sent over them.
@@ -86,7 +80,7 @@ fn show<A: Allocator + Copy>(world: &World<A>, sink: &mut MemorySink<A>) -> Resu
 }
 
 /// Whether a world answers each change right, and is then shown right.
-fn is_shown_behind_changes<A: Allocator + Copy>(
+fn is_shown_after_changes<A: Allocator + Copy>(
     world: &mut World<A>,
     sink: &mut MemorySink<A>,
 ) -> bool {
@@ -102,7 +96,7 @@ fn shown_on_full(alloc: Global, heap: &LocalHeap) -> Result<(bool, usize), Fail>
     on_full(
         alloc,
         heap,
-        || is_shown_behind_changes(&mut world, &mut sink),
+        || is_shown_after_changes(&mut world, &mut sink),
     )
 }
 
@@ -114,7 +108,7 @@ fn shown_without_memory(alloc: Global) -> Result<(bool, usize), Fail> {
 
 #[test]
 fn a_world_changes_its_edges_and_is_shown_without_memory(rt: HostRuntime) -> Result<(), Fail> {
-    as_told(shown_without_memory(rt.alloc()), &(true, 0))
+    as_expected(shown_without_memory(rt.alloc()), &(true, 0))
 }
 
 /// The same for a judge of a world on a heap, and how much the heap had left.
@@ -132,5 +126,5 @@ fn judged_without_memory(alloc: Global) -> Result<((bool, usize), usize), Fail> 
 
 #[test]
 fn a_judge_sees_edges_change_without_memory(rt: HostRuntime) -> Result<(), Fail> {
-    as_told(judged_without_memory(rt.alloc()), &((true, 0), 0))
+    as_expected(judged_without_memory(rt.alloc()), &((true, 0), 0))
 }

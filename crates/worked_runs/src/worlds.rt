@@ -16,6 +16,11 @@ pub fn net_of(
     Net::make(alloc, nodes, 0, 1, lease, edges)
 }
 
+/// A square: node 3 lies opposite the root.
+pub fn square(alloc: Global) -> Result<Net, NetFault> {
+    net_of(alloc, 4, 0, &[(0, 1), (0, 2), (1, 3), (2, 3)])
+}
+
 /// A network's default world.
 pub fn start<A: Allocator + Copy>(alloc: A, net: &Net) -> Result<World<A>, AllocError> {
     World::new(alloc, net)
@@ -37,7 +42,7 @@ pub fn step<A: Allocator + Copy>(world: &mut World<A>, event: &Event) -> Result<
 }
 
 /// A world's answer to the event of a line; none if the line spells none.
-pub fn told<A: Allocator + Copy>(
+pub fn said<A: Allocator + Copy>(
     world: &mut World<A>,
     line: &str,
 ) -> Option<Result<(), EventFault>> {
@@ -49,7 +54,7 @@ pub fn told<A: Allocator + Copy>(
 pub fn happen<A: Allocator + Copy>(world: &mut World<A>, text: &str) -> bool {
     let mut accepted = true;
     for line in text.lines() {
-        accepted &= told(world, line) == Some(Ok(()));
+        accepted &= said(world, line) == Some(Ok(()));
     }
     accepted
 }
@@ -60,7 +65,7 @@ pub fn first_unlike<A: Allocator + Copy>(
     rows: &[(&str, Result<(), EventFault>)],
 ) -> Option<usize> {
     for (at, (line, answer)) in rows.iter().enumerate() {
-        if told(world, line) != Some(*answer) {
+        if said(world, line) != Some(*answer) {
             return Some(at);
         }
     }

@@ -7,7 +7,7 @@ use linked_list_allocator::LocalHeap;
 use run_model::Event;
 use std::alloc::{AllocError, Allocator, Global};
 use std::test::Fail;
-use test_parts::{as_told, fill};
+use test_parts::{as_expected, fill};
 use weaving::{Entry, Journal, weave};
 
 const SEND: Event = Event::Send { from: 0, to: 1 };
@@ -89,5 +89,5 @@ fn woven_on_a_heap(alloc: Global) -> Result<(bool, usize), Fail> {
 
 #[test]
 fn weaving_fills_the_room_that_is_there_and_takes_no_memory(rt: HostRuntime) -> Result<(), Fail> {
-    as_told(woven_on_a_heap(rt.alloc()), &(true, 0))
+    as_expected(woven_on_a_heap(rt.alloc()), &(true, 0))
 }

@@ -7,7 +7,7 @@ use std::alloc::{AllocError, Global};
 use std::sync::Wait;
 use std::test::Fail;
 use std::thread::Threads;
-use test_parts::as_told;
+use test_parts::as_expected;
 use thread_net::{Pace, Woven};
 use topology::{Net, NetFault};
 use world::{Event, World};
@@ -125,5 +125,5 @@ fn five_runs_alone<R: Threads + Wait + Sync>(
 /// Each of five runs begins with a scrambled world, and ends with one that serves.
 #[test]
 fn runs_recover_from_damage(rt: HostRuntime) -> Result<(), Fail> {
-    as_told(five_runs_alone(&rt, rt.alloc()), &[Some(RIGHT); 5])
+    as_expected(five_runs_alone(&rt, rt.alloc()), &[Some(RIGHT); 5])
 }

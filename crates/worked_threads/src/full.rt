@@ -9,7 +9,7 @@ use std::sync::atomic::{AtomicBool, Ordering};
 use std::test::Fail;
 use std::thread::Threads;
 use std::{env, mem};
-use test_parts::as_told;
+use test_parts::as_expected;
 use thread_net::{Gate, Meet, RunFault, Woven};
 
 /// How many turns each of two nodes does.
@@ -143,5 +143,5 @@ fn runs_on_full_heap<R: Files + Processes + AllocGlobal>(rt: &R) -> Result<bool,
 /// Once its threads are started, a run asks for no memory.
 #[test]
 fn a_run_asks_for_nothing_after_its_first_thread(rt: HostRuntime) -> Result<(), Fail> {
-    as_told(runs_on_full_heap(&rt), &true)
+    as_expected(runs_on_full_heap(&rt), &true)
 }

@@ -4,7 +4,7 @@ use std::alloc::Global;
 use std::sync::Wait;
 use std::test::Fail;
 use std::thread::Threads;
-use test_parts::as_told;
+use test_parts::as_expected;
 use thread_net::{Meet, RunFault, Woven};
 
 /// How often each of three nodes ticked in a run; none if the run was refused.
@@ -29,5 +29,5 @@ fn ten_turns<R: Threads + Wait + Sync>(
 /// All nodes are at the gate at one time, so each has its own thread.
 #[test]
 fn nodes_meet_before_their_first_turn(rt: HostRuntime) -> Result<(), Fail> {
-    as_told(ten_turns(&rt, rt.alloc()), &(Some([10; 3]), false))
+    as_expected(ten_turns(&rt, rt.alloc()), &(Some([10; 3]), false))
 }

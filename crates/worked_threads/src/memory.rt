@@ -3,7 +3,7 @@ use crate::ran::{happen, is_shown_as, lend, net_of, shown, start};
 use linked_list_allocator::LocalHeap;
 use std::alloc::{Allocator, Global};
 use std::test::Fail;
-use test_parts::is_told;
+use test_parts::is_expected;
 use thread_net::prepare_world;
 use topology::Net;
 use world::simulation::SimFault;
@@ -97,5 +97,5 @@ fn tried_in_turn(alloc: Global) -> Result<(Reached, u32), Fail> {
 #[test]
 fn each_growth_before_a_run_is_refused_in_turn(rt: HostRuntime) -> Result<(), Fail> {
     let (reached, came_back) = tried_in_turn(rt.alloc())?;
-    is_told(&(reached, came_back > 0), &(Reached::Run, true))
+    is_expected(&(reached, came_back > 0), &(Reached::Run, true))
 }

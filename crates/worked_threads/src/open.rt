@@ -4,7 +4,7 @@ use std::alloc::Global;
 use std::sync::Wait;
 use std::test::Fail;
 use std::thread::Threads;
-use test_parts::as_told;
+use test_parts::as_expected;
 use thread_net::{Open, RunFault, Woven};
 use world::{Event, World};
 
@@ -37,5 +37,5 @@ fn one_turn<R: Threads + Wait + Sync>(rt: &R, alloc: Global) -> Result<Option<[u
 /// In its one turn each node ticks, and sends over its one outgoing link, which is empty.
 #[test]
 fn one_turn_of_two_nodes(rt: HostRuntime) -> Result<(), Fail> {
-    as_told(one_turn(&rt, rt.alloc()), &Some([1; 4]))
+    as_expected(one_turn(&rt, rt.alloc()), &Some([1; 4]))
 }

@@ -5,7 +5,7 @@ use std::alloc::Global;
 use std::sync::Wait;
 use std::test::Fail;
 use std::thread::Threads;
-use test_parts::as_told;
+use test_parts::as_expected;
 use thread_net::{Pace, Woven};
 use world::{Event, World};
 
@@ -20,10 +20,10 @@ fn replayed_right(alloc: Global, events: &[Event], came: World) -> Result<[bool;
 
 /// How often each node ticked, the tree in the end, and whether the events lead there, by a judge
 /// and by single steps.
-type Told = ([usize; 3], Option<Tree>, [bool; 3], [bool; 2]);
+type Said = ([usize; 3], Option<Tree>, [bool; 3], [bool; 2]);
 
 /// The report of a run.
-fn told_of(alloc: Global, woven: Woven) -> Result<Told, Fail> {
+fn said_of(alloc: Global, woven: Woven) -> Result<Said, Fail> {
     let Woven { world, events } = woven;
     let tree = tree(&world);
     let judged = judged_right(alloc, line(alloc)?, &events, &world)?;
@@ -32,16 +32,16 @@ fn told_of(alloc: Global, woven: Woven) -> Result<Told, Fail> {
 }
 
 /// The report of 4,000 turns in step, and whether the gate gave up.
-fn in_step<R: Threads + Wait + Sync>(rt: &R, alloc: Global) -> Result<(Told, bool), Fail> {
+fn in_step<R: Threads + Wait + Sync>(rt: &R, alloc: Global) -> Result<(Said, bool), Fail> {
     let world = line(alloc)?;
     let gate = Pace::new(3);
     let woven = made(ran(rt, alloc, world, 4000, &gate))?;
-    Ok((told_of(alloc, woven)?, gate.gave_up()))
+    Ok((said_of(alloc, woven)?, gate.gave_up()))
 }
 
 /// From the default state, 217 sweeps are enough for the line, and 4,000 turns in step hold them.
 #[test]
 fn a_line_of_three_in_step_converges(rt: HostRuntime) -> Result<(), Fail> {
     let want = ([4000; 3], Some(LINE), [true; 3], [true; 2]);
-    as_told(in_step(&rt, rt.alloc()), &(want, false))
+    as_expected(in_step(&rt, rt.alloc()), &(want, false))
 }

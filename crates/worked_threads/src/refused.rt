@@ -8,7 +8,7 @@ use std::rt::Files;
 use std::sync::Wait;
 use std::test::Fail;
 use std::thread::Threads;
-use test_parts::as_told;
+use test_parts::as_expected;
 use thread_net::{Open, RunFault, Woven};
 use world::Event;
 
@@ -26,7 +26,7 @@ pub fn ticks(woven: &Woven) -> (usize, usize) {
 
 /// The result of a run of two nodes: whether a thread was refused, and how often each ticked; none
 /// if memory was refused.
-fn told(ended: &Result<Woven, RunFault>) -> Option<(bool, (usize, usize))> {
+fn said(ended: &Result<Woven, RunFault>) -> Option<(bool, (usize, usize))> {
     match ended {
         Ok(woven) => Some((false, ticks(woven))),
         Err(RunFault::Spawn(woven)) => Some((true, ticks(woven))),
@@ -41,12 +41,12 @@ fn fifty_turns<R: Threads + Wait + Sync>(
 ) -> Result<Option<(bool, (usize, usize))>, Fail> {
     let net = net_of(alloc, 2, &[(0, 1)])?;
     let world = start(alloc, &net)?;
-    Ok(lend(ran(rt, alloc, world, 50, &Open), |ended| told(ended)))
+    Ok(lend(ran(rt, alloc, world, 50, &Open), |ended| said(ended)))
 }
 
 /// The same in words.
-fn in_words(told: Option<(bool, (usize, usize))>) -> &'static str {
-    match told {
+fn in_words(said: Option<(bool, (usize, usize))>) -> &'static str {
+    match said {
         Some((false, (50, 50))) => "both ran",
         Some((true, (50 | 0, 0))) => "refused",
         Some(_) => "other turns",
@@ -122,5 +122,5 @@ fn first_unlike<R: Files + Processes + AllocGlobal>(rt: &R) -> Result<Option<usi
 
 #[test]
 fn a_refused_start_leaves_a_run(rt: HostRuntime) -> Result<(), Fail> {
-    as_told(first_unlike(&rt), &None)
+    as_expected(first_unlike(&rt), &None)
 }

@@ -5,7 +5,7 @@ use damage_tool::scramble_world;
 use frame_codec::encode;
 use judge::{Judge, World};
 use node_core::Node;
-use node_state_file::encode as encode_state;
+use node_state_file::{MOST_BYTES, encode as encode_state};
 use rand_core::SeedableRng;
 use rand_pcg::Lcg64Xsh32;
 use run_model::{Event, EventFault, Harm};
@@ -130,8 +130,8 @@ impl Replay {
     }
 
     /// The state file of a node of the world, and how long it is.
-    pub fn file_of(&self, id: u16) -> ([u8; 1276], usize) {
-        let mut bytes = [0; 1276];
+    pub fn file_of(&self, id: u16) -> ([u8; MOST_BYTES], usize) {
+        let mut bytes = [0; MOST_BYTES];
         if id >= self.world.net().nodes() {
             return (bytes, 0);
         }

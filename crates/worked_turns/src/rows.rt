@@ -5,7 +5,7 @@ use crate::wires::Mistake;
 use std::alloc::Global;
 use std::env;
 use std::test::Fail;
-use test_parts::as_told;
+use test_parts::as_expected;
 
 /// A ring of three nodes over links of two frames. Loans have no lease.
 const RING: Shape = (3, 2, 0, &[(0, 1), (1, 2), (0, 2)]);
@@ -58,10 +58,10 @@ fn seeds(rt: &HostRuntime) -> u64 {
 /// The seed of the first run with an error, the turn and the error; the seed of the first in which
 /// the count of sweeps did not rise; and whether frames were lost, links were full, and nodes
 /// attended instead of taking turns.
-type Told = (Option<(u64, u32, Wrong)>, Option<u64>, [bool; 3]);
+type Said = (Option<(u64, u32, Wrong)>, Option<u64>, [bool; 3]);
 
 /// Runs the seeds, and prints the results.
-fn told(rt: &HostRuntime, shape: Shape) -> Result<Told, Fail> {
+fn said(rt: &HostRuntime, shape: Shape) -> Result<Said, Fail> {
     let seeds = seeds(rt);
     let Sum {
         wrong,
@@ -79,12 +79,12 @@ fn told(rt: &HostRuntime, shape: Shape) -> Result<Told, Fail> {
 #[test]
 fn turns_of_three_nodes_are_a_run(rt: HostRuntime) -> Result<(), Fail> {
     // Without a lease each turn ticks.
-    as_told(told(&rt, RING), &(None, None, [true, true, false]))
+    as_expected(said(&rt, RING), &(None, None, [true, true, false]))
 }
 
 #[test]
 fn turns_of_five_nodes_are_a_run(rt: HostRuntime) -> Result<(), Fail> {
-    as_told(told(&rt, CHORD), &(None, None, [true, true, true]))
+    as_expected(said(&rt, CHORD), &(None, None, [true, true, true]))
 }
 
 /// How many of the first seeds are run with each mistake.
@@ -125,20 +125,20 @@ fn unfound(rt: &HostRuntime, mistake: Mistake) -> Result<Option<u64>, Fail> {
 
 #[test]
 fn a_frame_that_is_passed_on_twice_is_found(rt: HostRuntime) -> Result<(), Fail> {
-    as_told(unfound(&rt, Mistake::Twice), &None)
+    as_expected(unfound(&rt, Mistake::Twice), &None)
 }
 
 #[test]
 fn a_frame_that_is_dropped_is_found(rt: HostRuntime) -> Result<(), Fail> {
-    as_told(unfound(&rt, Mistake::Dropped), &None)
+    as_expected(unfound(&rt, Mistake::Dropped), &None)
 }
 
 #[test]
 fn a_take_that_is_left_out_is_found(rt: HostRuntime) -> Result<(), Fail> {
-    as_told(unfound(&rt, Mistake::Untaken), &None)
+    as_expected(unfound(&rt, Mistake::Untaken), &None)
 }
 
 #[test]
 fn an_ask_that_is_left_out_is_found(rt: HostRuntime) -> Result<(), Fail> {
-    as_told(unfound(&rt, Mistake::Unasked), &None)
+    as_expected(unfound(&rt, Mistake::Unasked), &None)
 }

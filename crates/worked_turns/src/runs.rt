@@ -8,7 +8,7 @@ use crate::replay::{Counts, Replay, Wrong};
 use crate::stage::Stage;
 use crate::wires::Mistake;
 use node_loop::NodeRun;
-use node_state_file::{MemoryStore, decode};
+use node_state_file::{MOST_BYTES, MemoryStore, decode};
 use pace::Manner;
 use std::alloc::{AllocError, Global};
 use std::test::Fail;
@@ -56,7 +56,7 @@ fn run_of<'a>(
         return Err(Fail::from(AllocError));
     }
     let node = decode(alloc, file, net, id)?;
-    let store = MemoryStore::new(alloc, 1276)?;
+    let store = MemoryStore::new(alloc, MOST_BYTES)?;
     let doors = StageDoors { node: id, stage };
     match NodeRun::new(alloc, net.copy(alloc)?, node, doors, store, manner) {
         Ok(run) => Ok(run),
@@ -75,7 +75,14 @@ fn runs_of<'a>(
     let mut runs = Vec::with_capacity(alloc, net.nodes() as usize)?;
     for id in 0..net.nodes() {
         let (bytes, count) = replay.file_of(id);
-        runs.push(run_of(alloc, net, id, &bytes[..count.min(1276)], manner, stage)?)?;
+        runs.push(run_of(
+            alloc,
+            net,
+            id,
+            &bytes[..count.min(MOST_BYTES)],
+            manner,
+            stage,
+        )?)?;
     }
     Ok(runs)
 }

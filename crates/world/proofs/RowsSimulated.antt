@@ -5,9 +5,9 @@ use Rattle.topology.specs.Network.{Network}
 use Rattle.judge.specs.run_model.World.{World}
 use Rattle.judge.specs.run_model.Start.{default_world}
 use Rattle.judge.specs.run_model.declared.event.Event.TheVariants.{Ask, Tick}
-use Rattle.events_text.specs.declared.text_line.TextLine.TheVariants.{Passed, Unread, Told}
+use Rattle.events_text.specs.declared.text_line.TextLine.TheVariants.{Passed, Unread, Said}
 use Rattle.events_text.specs.EventsText.{text_lines}
-use Rattle.world.specs.SimulatedText.{refusal_line, refusals_of, refused_lines, simulated_start, told_events, simulated_text}
+use Rattle.world.specs.SimulatedText.{refusal_line, refusals_of, refused_lines, simulated_start, said_events, simulated_text}
 use Rattle.world.specs.StateText.{link_line, counts_line, sweeps_line}
 
 abbrev two_nodes : Network
@@ -47,15 +47,15 @@ numbered : refusals_of start (text_lines (codes "tick 2\n# tick 2\n\nsend 0 0\nT
 numbered = rw (one-is, four-is, five-is)
 
 -- each line meets what the lines before it did: the second ask is refused, the first is not
-met : refusals_of start (Told (Ask 1 7) ∷ Told (Ask 1 7) ∷ []) ≡ codes "line 2: Twice\n"
+met : refusals_of start (Said (Ask 1 7) ∷ Said (Ask 1 7) ∷ []) ≡ codes "line 2: Twice\n"
 met = rw two-is
 
-met-counted : refused_lines start (Told (Ask 1 7) ∷ Unread ∷ Passed ∷ Told (Ask 1 7) ∷ []) ≡ 2
+met-counted : refused_lines start (Said (Ask 1 7) ∷ Unread ∷ Passed ∷ Said (Ask 1 7) ∷ []) ≡ 2
 met-counted = refl
 
 -- only lines that spell an event give one
-told-two : told_events (text_lines (codes "tick 0\nTick 0\n# tick 0\ntick 1")) ≡ Tick 0 ∷ Tick 1 ∷ []
-told-two = refl
+said-two : said_events (text_lines (codes "tick 0\nTick 0\n# tick 0\ntick 1")) ≡ Tick 0 ∷ Tick 1 ∷ []
+said-two = refl
 
 -- the lines of a link, of the counts and of the sweeps
 shown-link : link_line start 1 0 ≡ codes "link 1 0 items 0\n"

@@ -10,7 +10,7 @@ use Rattle.judge.specs.run_model.World.{World}
 use Rattle.judge.specs.run_model.Run.{run}
 use Rattle.events_text.specs.declared.text_line.TextLine.{TextLine}
 use Rattle.events_text.specs.EventsText.{text_line, ended_lines}
-use Rattle.world.specs.SimulatedText.{told_events, refusals_of, refusal_lines}
+use Rattle.world.specs.SimulatedText.{said_events, refusals_of, refusal_lines}
 use Rattle.byte_streams.specs.Streams.{TakesABeginning}
 use Rattle.world.specs.UnderWay.{SimulationView, HasRun, IsUnderWay, GoesOn}
 use Rattle.world.proofs.SimulatedLines.{refusals_both}
@@ -25,11 +25,11 @@ pub beginning_of_bytes : LinesAreCut → (start : World) (bytes more : List ℕ)
     → TakesABeginning (refusals_of start (ended_lines bytes)) before after → TakesABeginning (refusals_of start (ended_lines (bytes ++ more))) before after
 beginning_of_bytes cut start bytes more before after b =
     let rest = lines_after (half_line bytes) more in
-    let behind = refusal_lines (run start (told_events (ended_lines bytes))) (1 + length (ended_lines bytes)) (map text_line rest) in
+    let later = refusal_lines (run start (said_events (ended_lines bytes))) (1 + length (ended_lines bytes)) (map text_line rest) in
     let both : ended_lines (bytes ++ more) ≡ ended_lines bytes ++ map text_line rest = ap (map text_line) (cut.lines [] bytes more) ∙ map-append text_line (whole_lines bytes) rest in
-    let parts : refusals_of start (ended_lines (bytes ++ more)) ≡ refusals_of start (ended_lines bytes) ++ behind =
+    let parts : refusals_of start (ended_lines (bytes ++ more)) ≡ refusals_of start (ended_lines bytes) ++ later =
     ap (refusals_of start) both ∙ refusals_both start 1 (ended_lines bytes) (map text_line rest) in
-    rw parts (beginning_of_more (refusals_of start (ended_lines bytes)) behind before after b)
+    rw parts (beginning_of_more (refusals_of start (ended_lines bytes)) later before after b)
 
 -- one more line has ended, and was run
 pub line_ends : (start : World) (bytes more : List ℕ) (line : TextLine) (before between after : Option (List ℕ)) (s t : SimulationView) (reader : Kept)
@@ -51,12 +51,12 @@ half_line_grows start bytes more before now s reader u stands ends = record {
 }
 
 -- one more line has ended, and the sink failed
-pub line_fails : LinesAreCut → (start : World) (bytes more behind : List ℕ) (line : TextLine) (before between after : Option (List ℕ)) (s : SimulationView) (reader : Kept)
+pub line_fails : LinesAreCut → (start : World) (bytes more later : List ℕ) (line : TextLine) (before between after : Option (List ℕ)) (s : SimulationView) (reader : Kept)
     → IsUnderWay start bytes before between s → ended_lines (bytes ++ more) ≡ ended_lines bytes ++ line ∷ []
     → (HasRun start (ended_lines bytes) before between (record s { reader = reader }) → TakesABeginning (refusals_of start (ended_lines bytes ++ line ∷ [])) before after)
-    → TakesABeginning (refusals_of start (ended_lines (bytes ++ more ++ behind))) before after
-line_fails cut start bytes more behind line before between after s reader u ends fails =
-    beginning_of_bytes cut start (bytes ++ more) behind before after
+    → TakesABeginning (refusals_of start (ended_lines (bytes ++ more ++ later))) before after
+line_fails cut start bytes more later line before between after s reader u ends fails =
+    beginning_of_bytes cut start (bytes ++ more) later before after
     (rw ends (fails (record { seen = u.has_run.seen; lines_are = u.has_run.lines_are; refused_are = u.has_run.refused_are; written = u.has_run.written })))
 
 -- the sink failed

@@ -55,11 +55,11 @@ item_parts xs i there = grind (arith, common_steps)
 pub texts_fail : (f : ℕ → List ℕ) (xs : List ℕ) (i : ℕ) (before between after : Option (List ℕ)) → i < length xs
     → Takes (flat_map f (take i xs)) before between → TakesABeginning (f (get_or xs i 0)) between after → TakesABeginning (flat_map f xs) before after
 texts_fail f xs i before between after there first b =
-    let behind = flat_map f (drop (i + 1) xs) in
-    let parts : flat_map f xs ≡ flat_map f (take i xs) ++ (f (get_or xs i 0) ++ behind) =
+    let later = flat_map f (drop (i + 1) xs) in
+    let parts : flat_map f xs ≡ flat_map f (take i xs) ++ (f (get_or xs i 0) ++ later) =
     ap (flat_map f) (item_parts xs i there) ∙ flat_map-append f (take i xs) (get_or xs i 0 ∷ drop (i + 1) xs) in
-    rw parts (then_beginning (flat_map f (take i xs)) (f (get_or xs i 0) ++ behind) before between after first
-    (beginning_of_more (f (get_or xs i 0)) behind between after b))
+    rw parts (then_beginning (flat_map f (take i xs)) (f (get_or xs i 0) ++ later) before between after first
+    (beginning_of_more (f (get_or xs i 0)) later between after b))
 
 -- the texts of the items up to one were taken, and then its text
 pub texts_go_on : (f : ℕ → List ℕ) (xs : List ℕ) (i : ℕ) (before between after : Option (List ℕ)) → i < length xs

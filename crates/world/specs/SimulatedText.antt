@@ -10,7 +10,7 @@ use Rattle.judge.specs.run_model.declared.event.Event.{Event}
 use Rattle.judge.specs.run_model.declared.event.EventFault.{EventFault}
 use Rattle.judge.specs.run_model.declared.event.EventFault.TheVariants.{NoNode, NoLink, NoItem, OutOfRange, Full, Twice, Stranger, NoSpare, Apart}
 use Rattle.events_text.specs.declared.text_line.TextLine.{TextLine}
-use Rattle.events_text.specs.declared.text_line.TextLine.TheVariants.{Passed, Unread, Told}
+use Rattle.events_text.specs.declared.text_line.TextLine.TheVariants.{Passed, Unread, Said}
 use Rattle.events_text.specs.EventsText.{text_lines}
 use Rattle.judge.specs.Judging.{counted_up_to}
 use Rattle.world.specs.StateText.{state_text}
@@ -35,7 +35,7 @@ simulated_start net = world_with_spares net 8
 abbrev pub line_refusal : World → TextLine → Option (List ℕ)
 line_refusal w Passed = None
 line_refusal w Unread = Some (codes "Unread")
-line_refusal w (Told event) = option_map fault_name (refusal w event)
+line_refusal w (Said event) = option_map fault_name (refusal w event)
 
 -- `line N: NAME` and a newline, if line N is refused; else nothing
 abbrev pub refusal_line : ℕ → Option (List ℕ) → List ℕ
@@ -44,7 +44,7 @@ refusal_line number (Some name) = codes "line " ++ decimal number ++ codes ": " 
 
 -- the world after a line
 abbrev pub line_step : World → TextLine → World
-line_step w (Told event) = step w event
+line_step w (Said event) = step w event
 line_step w _ = w
 
 -- the refusal lines of a text's lines, numbered from this number on
@@ -58,17 +58,17 @@ refused_lines w [] = 0
 refused_lines w (line ∷ lines) = (if is_some (line_refusal w line) then 1 else 0) + refused_lines (line_step w line) lines
 
 -- the event that a line spells, if it spells one
-abbrev pub told_event : TextLine → List Event
-told_event (Told event) = event ∷ []
-told_event _ = []
+abbrev pub said_event : TextLine → List Event
+said_event (Said event) = event ∷ []
+said_event _ = []
 
 -- the events that lines spell, in order
-abbrev pub told_events : List TextLine → List Event
-told_events lines = flat_map told_event lines
+abbrev pub said_events : List TextLine → List Event
+said_events lines = flat_map said_event lines
 
 -- the events of a text
 abbrev pub events_of : List ℕ → List Event
-events_of bytes = told_events (text_lines bytes)
+events_of bytes = said_events (text_lines bytes)
 
 -- the refusal lines of a text's lines, numbered from 1 on
 abbrev pub refusals_of : World → List TextLine → List ℕ

@@ -63,6 +63,11 @@ IsSimulated start bytes rest before after (Err Long) = IsTooLong start bytes res
 IsSimulated start bytes rest before after (Err Write) =
     IsStopped start bytes rest before after ⊎ ((rest ≡ Some []) × (length bytes ≤ longest_text) × IsHalfShown start bytes before after)
 
+-- A result that holds more than a summary, reduced to its summary.
+abbrev pub summary_in : {T E : Type 0} → (T → Summary) → Result T E → Result Summary E
+summary_in summary_of (Ok value) = Ok (summary_of value)
+summary_in summary_of (Err fault) = Err fault
+
 -- The source's failure is returned only if its count rose, and the sink's only if its count rose.
 abbrev pub HasCause : {T : Type 0} → Result T SimFault → ℕ → ℕ → ℕ → ℕ → Type 0
 HasCause (Err Read) source source_after sink sink_after = Rose source source_after

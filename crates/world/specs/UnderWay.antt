@@ -1,5 +1,5 @@
 -- What a simulation keeps between two pieces of its text, and its invariant.
-use Rattle.std.specs.Prelude.{◌≡◌, ℕ, ◌≤◌, List, [], ◌∷◌, ◌++◌, Option, Some, Result, Ok, Err, length, ◌⊎◌}
+use Rattle.std.specs.Prelude.{◌≡◌, ℕ, ◌≤◌, List, [], ◌∷◌, ◌++◌, Option, Some, Result, Ok, Err, OnOk, length, ◌⊎◌}
 use Rattle.judge.specs.run_model.World.{World}
 use Rattle.judge.specs.run_model.declared.event.Event.{Event}
 use Rattle.events_text.specs.declared.text_line.TextLine.{TextLine}
@@ -10,7 +10,9 @@ use Rattle.events_text.specs.EventsText.{ended_lines, text_lines}
 use Rattle.judge.specs.JudgeView.{JudgeView, HasSeen}
 use Rattle.judge.specs.Judging.{counted_up_to}
 use Rattle.byte_lines.specs.Kept.{Kept, StandsAfter}
-use Rattle.world.specs.SimulatedText.{refused_lines, told_events, refusals_of}
+use Rattle.judge.specs.configuration.ConfigurationView.{world_of}
+use Rattle.judge.specs.run_model.Run.{run}
+use Rattle.world.specs.SimulatedText.{refused_lines, said_events, refusals_of, events_of}
 use Rattle.world.specs.Simulating.{longest_text, IsShown, IsHalfShown, IsCutShort, IsTooLong, IsStopped}
 use Rattle.byte_streams.specs.Streams.{Takes, TakesABeginning}
 
@@ -25,12 +27,12 @@ pub record SimulationView : Type 0 where
 -- what one judge has seen, the other has seen too, and then the event of the line, if it spells
 -- one
 abbrev pub HasSeenLine : JudgeView → TextLine → JudgeView → Type 0
-HasSeenLine old line new = (start : World) (es : List Event) → HasSeen old start es → HasSeen new start (es ++ told_events (line ∷ []))
+HasSeenLine old line new = (start : World) (es : List Event) → HasSeen old start es → HasSeen new start (es ++ said_events (line ∷ []))
 
 -- These lines were run from the start on, and their refusal lines were written after what the sink
 -- had taken before.
 pub record HasRun (start : World) (lines : List TextLine) (before now : Option (List ℕ)) (s : SimulationView) : Type 0 where
-  pub seen : HasSeen s.judge start (told_events lines)
+  pub seen : HasSeen s.judge start (said_events lines)
   pub lines_are : s.lines ≡ length lines
   pub refused_are : s.refused ≡ counted_up_to (refused_lines start lines)
   pub written : Takes (refusals_of start lines) before now
@@ -89,3 +91,10 @@ Finishes (Err _) start bytes before now = TakesABeginning (refusals_of start (te
 abbrev pub EndsThere : {E : Type 0} → SimulationView → Option (List ℕ) → Result Summary E → Option (List ℕ) → Type 0
 EndsThere old taken result taken_now =
     (start : World) (bytes : List ℕ) (before : Option (List ℕ)) → IsUnderWay start bytes before taken old → Finishes result start bytes before taken_now
+
+-- whatever bytes have been taken, if the text of the world was written it is the one that their
+-- events lead to
+abbrev pub LeadsThere : {T E : Type 0} → SimulationView → Option (List ℕ) → Result T E → SimulationView → Type 0
+LeadsThere old taken result new =
+    (start : World) (bytes : List ℕ) (before : Option (List ℕ)) → IsUnderWay start bytes before taken old
+    → OnOk result (world_of new.judge.configuration ≡ run start (events_of bytes))

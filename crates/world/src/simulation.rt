@@ -8,12 +8,13 @@
 //!
 //! The events text may be as long as [`LONGEST_TEXT`] says; memory is taken only for the network,
 //! whatever the length.
-ghost use Rattle.std.specs.Prelude.{◌≡◌, ◌≤◌, List, ℕ, Some, IfErr};
-ghost use Rattle.world.specs.Simulating.{IsSimulated, HasCause};
-ghost use Rattle.world.specs.SimulatedText.{simulated_start};
+ghost use Rattle.std.specs.Prelude.{◌≡◌, ◌≤◌, List, ℕ, Some, IfErr, IfOk};
+ghost use Rattle.world.specs.Simulating.{IsSimulated, HasCause, summary_in};
+ghost use Rattle.world.specs.SimulatedText.{events_of, simulated_start};
 ghost use Rattle.world.specs.StateText.{state_text};
 ghost use Rattle.byte_streams.specs.Streams.{WritesAll};
 ghost use Rattle.judge.specs.configuration.ConfigurationView.{world_of};
+ghost use Rattle.judge.specs.run_model.Run.{run};
 ghost use Rattle.world.specs.declared.simulation.SimFault.TheVariants.{Write};
 
 mod line;
@@ -24,7 +25,7 @@ mod under_way;
 use byte_streams::{Sink, Source};
 use judge::World;
 use state::write_state;
-use std::alloc::{AllocError, Allocator};
+use std::alloc::{AllocError, Allocator, Global};
 use thiserror::Error;
 use topology::Net;
 use under_way::Simulation;
@@ -48,6 +49,15 @@ pub struct Summary {
     pub sweeps: u64,
     /// How many nodes lend the lock at the end.
     pub lending: usize,
+}
+
+/// What a simulation gives.
+#[derive(Drop)]
+pub struct Simulated<A: Allocator + Copy = Global> {
+    /// What it has counted.
+    pub summary: Summary,
+    /// The world that its events led to.
+    pub world: World<A>,
 }
 
 /// Why a simulation failed.
@@ -127,8 +137,40 @@ pub fn simulate<A: Allocator + Copy, N: Allocator + Copy, R: Source, W: Sink>(
     ensures cause { HasCause result (R.failures source.old) (R.failures source.new)
         (W.failures sink.old) (W.failures sink.new) }
 {
+    match simulate_to(alloc, net, source, sink) {
+        Ok(simulated) => Ok(simulated.summary),
+        Err(fault) => Err(fault),
+    }
+}
+
+/// The same as [`simulate`], and the world that the events led to.
+///
+/// # Errors
+/// Those of [`simulate`].
+pub fn simulate_to<A: Allocator + Copy, N: Allocator + Copy, R: Source, W: Sink>(
+    alloc: A,
+    net: &Net<N>,
+    source: &mut R,
+    sink: &mut W,
+) -> Result<Simulated<A>, SimFault>
+    ensures text { (bytes : List ℕ) → R.rest source.old ≡ Some bytes
+        → IsSimulated (simulated_start net.now) bytes (R.rest source.new) (W.taken sink.old)
+        (W.taken sink.new) (summary_in (λ simulated. simulated.summary) result) }
+    // The world is that to which the events of the text lead.
+    ensures led { (bytes : List ℕ) → R.rest source.old ≡ Some bytes
+        → IfOk result (λ simulated. world_of simulated.world
+        ≡ run (simulated_start net.now) (events_of bytes)) }
+    ensures counts { (R.failures source.old ≤ R.failures source.new)
+        × (W.failures sink.old ≤ W.failures sink.new) }
+    ensures cause { HasCause result (R.failures source.old) (R.failures source.new)
+        (W.failures sink.old) (W.failures sink.new) }
+{
     let world = World::with_spares(alloc, net, SPARE_PAIRS)?;
     let mut simulation = Simulation::new(world);
     simulation.read_all(source, sink)?;
-    simulation.finish(sink)
+    let summary = simulation.finish(sink)?;
+    Ok(Simulated {
+        summary,
+        world: simulation.into_world(),
+    })
 }

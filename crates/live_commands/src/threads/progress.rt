@@ -13,24 +13,24 @@ const TURNS_A_LOOK: u32 = 64;
 #[derive(Drop)]
 pub struct Watch<'a, R> {
     rt: &'a R,
-    together: Together,
+    together: Together<'a, R>,
     /// None if nothing is reported.
     progress: Option<Progress>,
 }
 
 impl<'a, R: Eprint + Clock> Watch<'a, R> {
     /// The watch of a run that starts now: each of `nodes` nodes does `turns` turns.
-    pub fn start(rt: &'a R, nodes: u16, turns: u32, tells: bool) -> Watch<'a, R>
-        ensures { tells ≡ false → result.progress ≡ None }
+    pub fn start(rt: &'a R, nodes: u16, turns: u32, says: bool) -> Watch<'a, R>
+        ensures { says ≡ false → result.progress ≡ None }
     {
-        let progress = if tells {
+        let progress = if says {
             Progress::begin(rt, "turns of node 0", turns)
         } else {
             None
         };
         Watch {
             rt,
-            together: Together::new(nodes),
+            together: Together::new(rt, nodes),
             progress,
         }
     }

@@ -97,9 +97,9 @@ fn axis_numbers(
 fn number_at(first: u64, moments: u64, event: u64) -> AxisNumber
     ensures { result ≡ number_at first moments event }
 {
-    let behind = event.saturating_sub(first);
+    let later = event.saturating_sub(first);
     AxisNumber {
-        place: behind.checked_div(moments).unwrap_or(0) as usize,
+        place: later.checked_div(moments).unwrap_or(0) as usize,
         event,
     }
 }

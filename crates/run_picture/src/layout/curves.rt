@@ -196,9 +196,9 @@ fn draw_name(canvas: &mut Canvas, at: Point, name: &str, stroke: Stroke) -> Resu
         y,
     };
     canvas.line(from, to, stroke)?;
-    let behind = Point {
+    let later = Point {
         x: at.x + Px(30),
         y: at.y,
     };
-    canvas.words(behind, Anchor::Start, Colour::Ink, name)
+    canvas.words(later, Anchor::Start, Colour::Ink, name)
 }

@@ -4,7 +4,7 @@ ghost use Rattle.svg_drawing.specs.Drawn.{drawn, pen_of, line_shown, words_shown
 ghost use Rattle.svg_drawing.specs.declared.canvas.Anchor.TheVariants.{Start};
 ghost use Rattle.svg_drawing.specs.declared.colours.Colour.TheVariants.{Ink};
 ghost use Rattle.run_picture.specs.declared.layout.legend.Sign.TheVariants.{Bar, Bolt};
-ghost use Rattle.run_picture.specs.Legend.{sign_shown, room_of, behind, meanings_shown};
+ghost use Rattle.run_picture.specs.Legend.{sign_shown, room_of, later, meanings_shown};
 ghost use Rattle.run_picture.specs.Legend.{colour_meanings, sign_meanings, legend_shown};
 ghost use Rattle.svg_drawing.specs.Lengths.{px};
 ghost use Rattle.run_picture.specs.Words.{column_words};
@@ -168,7 +168,7 @@ fn explain(canvas: &mut Canvas, at: Point, sign: Sign, meaning: &str) -> Result<
         ≡ drawn canvas.old ++ (sign_shown at.x.0 at.y.0 sign
         ∷ words_shown (px (at.x.0 + room_of sign)) at.y.0 Start Ink meaning.now ∷ [])) }
     ensures x { IfOk result (λ next. next.x.0
-        ≡ behind (px (at.x.0 + room_of sign)) meaning.now) }
+        ≡ later (px (at.x.0 + room_of sign)) meaning.now) }
     ensures y { IfOk result (λ next. next.y.0 ≡ at.y.0) }
 {
     draw_sign(canvas, at, sign)?;

@@ -9,7 +9,7 @@ ghost use Rattle.run_picture.specs.Words.{title_words, size_words, limit_words, 
 ghost use Rattle.run_picture.specs.Words.{headline_words, event_words, node_words, sweep_words};
 ghost use Rattle.run_picture.specs.Words.{description_words, TellsOf};
 ghost use Rattle.svg_drawing.specs.Drawn.{drawn};
-ghost use Rattle.run_picture.specs.Head.{head_shown, told_words};
+ghost use Rattle.run_picture.specs.Head.{head_shown, said_words};
 
 use super::page::Page;
 use run_recording::{Configuration, Recording};
@@ -27,12 +27,12 @@ pub fn draw_head(
     recording: &Recording,
 ) -> Result<(), AllocError>
     ensures { OnOk result (drawn canvas.new
-        ≡ drawn canvas.old ++ head_shown page net.now (told_words recording.now)) }
+        ≡ drawn canvas.old ++ head_shown page net.now (said_words recording.now)) }
 {
     let title = title(canvas.alloc(), net)?;
     canvas.note("title", title.as_str())?;
-    let told = description(canvas.alloc(), recording)?;
-    canvas.note("desc", told.as_str())?;
+    let said = description(canvas.alloc(), recording)?;
+    canvas.note("desc", said.as_str())?;
     let corner = Point { x: Px(0), y: Px(0) };
     canvas.rect(corner, page.width(), page.height(), Colour::Paper)?;
     let numbers = numbers(canvas.alloc(), net)?;
@@ -45,7 +45,7 @@ pub fn draw_head(
         x: Page::MARGIN,
         y: Px(46),
     };
-    canvas.words(below, Anchor::Start, Colour::Ink, told.as_str())
+    canvas.words(below, Anchor::Start, Colour::Ink, said.as_str())
 }
 
 /// The picture's title.
@@ -99,7 +99,7 @@ fn description(alloc: Global, recording: &Recording) -> Result<String, AllocErro
         recording.now.events (counted_up_to (recording.now.unread + recording.now.judge.refused))
         (world_of recording.now.judge.configuration) recording.now.judge.sweeps) }
     // Whatever run was recorded, the words tell of that run.
-    ensures tells { (start : World) (es : List Event) → IsRecorded start es recording.now
+    ensures says { (start : World) (es : List Event) → IsRecorded start es recording.now
         → IfOk result (λ words. TellsOf start es recording.now.unread (string_bytes words)) }
 {
     let configuration = recording.configuration();

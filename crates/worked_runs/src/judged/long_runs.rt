@@ -1,7 +1,7 @@
 //! Runs of as many sweeps as a network needs from any state.
 use super::*;
 use std::test::Fail;
-use test_parts::as_told;
+use test_parts::as_expected;
 use topology::Net;
 
 /// Rounds of a network, and where they lead.
@@ -33,7 +33,7 @@ fn is_settled(world: &World, tree: &[(u16, Option<u16>)]) -> bool {
 }
 
 /// How many nodes are privileged and how many lend after events.
-fn counted_behind(world: World, events: &[Event]) -> (usize, usize) {
+fn counted_after(world: World, events: &[Event]) -> (usize, usize) {
     let forged = judged(world, events).world;
     (forged.privileged(), forged.lending())
 }
@@ -41,7 +41,7 @@ fn counted_behind(world: World, events: &[Event]) -> (usize, usize) {
 /// How many are privileged and how many lend after the start of a run.
 fn counted_at_start(alloc: Global, net: &Net, text: &str) -> Result<(usize, usize), Fail> {
     let events = events_of(alloc, text)?;
-    Ok(counted_behind(start(alloc, net)?, &events))
+    Ok(counted_after(start(alloc, net)?, &events))
 }
 
 /// The events of a start and of this many rounds.
@@ -81,7 +81,7 @@ fn ends(alloc: Global, net: &Net, run: &LongRun<'_>) -> Result<Ends, Fail> {
 }
 
 /// How many nodes are privileged and how many lend after the start, and the end of the run.
-fn told_of(alloc: Global, run: &LongRun<'_>) -> Result<((usize, usize), Ends), Fail> {
+fn said_of(alloc: Global, run: &LongRun<'_>) -> Result<((usize, usize), Ends), Fail> {
     let net = net_of(alloc, run.nodes, run.lease, run.edges)?;
     Ok((
         counted_at_start(alloc, &net, run.start)?,
@@ -108,7 +108,7 @@ const SQUARE: LongRun<'_> = LongRun {
 
 #[test]
 fn the_far_corner_of_the_square_takes_the_smaller_parent(rt: HostRuntime) -> Result<(), Fail> {
-    as_told(told_of(rt.alloc(), &SQUARE), &wanted_of(&SQUARE))
+    as_expected(said_of(rt.alloc(), &SQUARE), &wanted_of(&SQUARE))
 }
 
 /// Three nodes in a line.
@@ -125,7 +125,7 @@ const LINE: LongRun<'_> = LongRun {
 
 #[test]
 fn three_nodes_in_a_line_settle(rt: HostRuntime) -> Result<(), Fail> {
-    as_told(told_of(rt.alloc(), &LINE), &wanted_of(&LINE))
+    as_expected(said_of(rt.alloc(), &LINE), &wanted_of(&LINE))
 }
 
 /// Two nodes that hold a forged token each, and lend it.
@@ -142,5 +142,5 @@ const TWO_FORGED: LongRun<'_> = LongRun {
 
 #[test]
 fn forged_tokens_and_loans_are_gone(rt: HostRuntime) -> Result<(), Fail> {
-    as_told(told_of(rt.alloc(), &TWO_FORGED), &wanted_of(&TWO_FORGED))
+    as_expected(said_of(rt.alloc(), &TWO_FORGED), &wanted_of(&TWO_FORGED))
 }

@@ -3,7 +3,7 @@ use super::*;
 use crate::worlds::happen;
 use linked_list_allocator::LocalHeap;
 use std::test::Fail;
-use test_parts::{as_told, on_full};
+use test_parts::{as_expected, on_full};
 use topology::Net;
 
 /// An event of each kind that is not in a round.
@@ -43,7 +43,7 @@ fn takes_each_kind_without_memory(alloc: Global) -> Result<(bool, usize), Fail> 
 
 #[test]
 fn a_world_takes_no_memory(rt: HostRuntime) -> Result<(), Fail> {
-    as_told(takes_each_kind_without_memory(rt.alloc()), &(true, 0))
+    as_expected(takes_each_kind_without_memory(rt.alloc()), &(true, 0))
 }
 
 /// What happens after a round; the last event leads to one loan.
@@ -131,5 +131,5 @@ fn least_heap_of_round(alloc: Global) -> Result<Option<LeastHeap>, Fail> {
 fn each_growth_of_a_world_may_be_refused_and_judging_takes_none(
     rt: HostRuntime,
 ) -> Result<(), Fail> {
-    as_told(least_heap_of_round(rt.alloc()), &Some((true, (true, 0), 0)))
+    as_expected(least_heap_of_round(rt.alloc()), &Some((true, (true, 0), 0)))
 }

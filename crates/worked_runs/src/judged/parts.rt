@@ -1,9 +1,9 @@
 //! A world that was taken apart and put together goes on as if it had not been.
 use super::*;
-use crate::worlds::told;
+use crate::worlds::said;
 use linked_list_allocator::LocalHeap;
 use std::test::Fail;
-use test_parts::{as_told, on_full};
+use test_parts::{as_expected, on_full};
 
 /// Takes a world apart and puts it together again. Returns how many nodes and edges its parts had.
 fn taken_apart<A: Allocator + Copy>(world: World<A>) -> (World<A>, usize, usize) {
@@ -16,7 +16,7 @@ fn taken_apart<A: Allocator + Copy>(world: World<A>) -> (World<A>, usize, usize)
 /// Lets the event of a line happen and takes the world apart. Returns whether it happened and the
 /// parts were those of two nodes.
 fn stepped<A: Allocator + Copy>(mut world: World<A>, line: &str) -> (World<A>, bool) {
-    let has_happened = told(&mut world, line) == Some(Ok(()));
+    let has_happened = said(&mut world, line) == Some(Ok(()));
     let (whole, nodes, edges) = taken_apart(world);
     (whole, has_happened && nodes == 2 && edges == 1)
 }
@@ -50,7 +50,7 @@ fn goes_over_at_two(alloc: Global) -> Result<bool, Fail> {
 fn the_token_goes_over_in_three_rounds_of_a_world_taken_apart_after_each_event(
     rt: HostRuntime,
 ) -> Result<(), Fail> {
-    as_told(goes_over_at_two(rt.alloc()), &true)
+    as_expected(goes_over_at_two(rt.alloc()), &true)
 }
 
 /// The same for a world on a heap, and how much the heap had left.
@@ -68,5 +68,5 @@ fn goes_over_without_memory(alloc: Global) -> Result<((bool, usize), usize), Fai
 
 #[test]
 fn a_world_is_taken_apart_and_put_together_without_memory(rt: HostRuntime) -> Result<(), Fail> {
-    as_told(goes_over_without_memory(rt.alloc()), &((true, 0), 0))
+    as_expected(goes_over_without_memory(rt.alloc()), &((true, 0), 0))
 }

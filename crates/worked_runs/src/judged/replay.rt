@@ -2,7 +2,7 @@
 //! each event the sweeps, the nodes without a full tick and the tallies of all links are the same.
 use super::*;
 use std::test::Fail;
-use test_parts::is_told;
+use test_parts::is_expected;
 use topology::Net;
 use world::Tally;
 
@@ -242,5 +242,5 @@ const LEAST_SWEEPS: u64 = 10_000 / (3 * 36);
 #[test]
 fn ten_thousand_events_with_every_third_take_left_out(rt: HostRuntime) -> Result<(), Fail> {
     let found = compared_on_square(rt.alloc(), 10_000, LEAST_SWEEPS)?;
-    is_told(&found, &(10_000, None, true))
+    is_expected(&found, &(10_000, None, true))
 }

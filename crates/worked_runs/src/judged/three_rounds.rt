@@ -2,7 +2,7 @@
 use super::*;
 use crate::worlds::happen;
 use std::test::Fail;
-use test_parts::as_told;
+use test_parts::as_expected;
 
 /// How many nodes are privileged, and how many lend.
 fn counted(world: &World) -> (usize, usize) {
@@ -80,5 +80,5 @@ fn first_unlike_of_two(alloc: Global) -> Result<Option<usize>, Fail> {
 
 #[test]
 fn the_token_goes_to_the_other_node_in_three_rounds(rt: HostRuntime) -> Result<(), Fail> {
-    as_told(first_unlike_of_two(rt.alloc()), &None)
+    as_expected(first_unlike_of_two(rt.alloc()), &None)
 }

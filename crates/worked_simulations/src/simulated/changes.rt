@@ -3,14 +3,9 @@ use super::long_runs::lines_begin;
 use super::*;
 use run_model::EventFault;
 use std::test::Fail;
-use test_parts::as_told;
+use test_parts::as_expected;
 use worked_runs::texts::round_of;
-use worked_runs::worlds::{self, simulated_start};
-
-/// A square: node 3 lies opposite the root.
-fn square(alloc: Global) -> Result<Net, Fail> {
-    Ok(net_of(alloc, 4, 0, &[(0, 1), (0, 2), (1, 3), (2, 3)])?)
-}
+use worked_runs::worlds::{self, simulated_start, square};
 
 /// The edge between 1 and 3 goes. Then it cannot go again, nor can the last edge of node 3; and no
 /// edge can join a node to itself, to a node that is joined already, or to a missing node.
@@ -95,7 +90,7 @@ fn first_wrong_on_square(alloc: Global, rows: &[Row<'_>]) -> Result<Option<(usiz
 
 #[test]
 fn what_is_shown_are_the_links_that_stand(rt: HostRuntime) -> Result<(), Fail> {
-    as_told(first_wrong_on_square(rt.alloc(), &ON_THE_SQUARE), &None)
+    as_expected(first_wrong_on_square(rt.alloc(), &ON_THE_SQUARE), &None)
 }
 
 /// One round of the square without an edge.
@@ -143,7 +138,7 @@ fn the_far_corner_of_the_square_finds_its_other_parent(rt: HostRuntime) -> Resul
         sweeps: 461,
         lending: 0,
     };
-    as_told(simulated_for_long(rt.alloc()), &(want, true))
+    as_expected(simulated_for_long(rt.alloc()), &(want, true))
 }
 
 /// A star of 64 nodes round the root.
@@ -190,7 +185,7 @@ fn on_the_star(alloc: Global) -> Result<(Option<usize>, usize), Fail> {
 
 #[test]
 fn an_edge_that_goes_leaves_its_links_to_the_next(rt: HostRuntime) -> Result<(), Fail> {
-    as_told(on_the_star(rt.alloc()), &(None, 71))
+    as_expected(on_the_star(rt.alloc()), &(None, 71))
 }
 
 /// The same as a text.
@@ -249,5 +244,5 @@ fn a_simulation_of_the_star_has_eight_spare_pairs(rt: HostRuntime) -> Result<(),
         sweeps: 0,
         lending: 0,
     };
-    as_told(simulated_on_the_star(rt.alloc()), &(want, true))
+    as_expected(simulated_on_the_star(rt.alloc()), &(want, true))
 }

@@ -2,7 +2,7 @@
 use super::*;
 use linked_list_allocator::LocalHeap;
 use std::test::Fail;
-use test_parts::{as_told, fill};
+use test_parts::{as_expected, fill};
 use world::streams::{Failed, Fused};
 
 /// Lines; all except one are refused.
@@ -175,12 +175,12 @@ fn first_wrong_write_of_all(alloc: Global) -> Result<Option<(usize, u64)>, Fail>
 
 #[test]
 fn a_read_that_fails_leaves_the_refusals_of_whole_lines(rt: HostRuntime) -> Result<(), Fail> {
-    as_told(first_wrong_read_of_all(rt.alloc()), &None)
+    as_expected(first_wrong_read_of_all(rt.alloc()), &None)
 }
 
 #[test]
 fn a_write_that_fails_leaves_a_beginning(rt: HostRuntime) -> Result<(), Fail> {
-    as_told(first_wrong_write_of_all(rt.alloc()), &None)
+    as_expected(first_wrong_write_of_all(rt.alloc()), &None)
 }
 
 /// Simulates into a sink with `room` bytes. Returns the answer, and whether all of them are
@@ -220,7 +220,7 @@ fn first_wrong_room(alloc: Global) -> Result<Option<usize>, Fail> {
 
 #[test]
 fn a_sink_with_too_little_room_is_filled(rt: HostRuntime) -> Result<(), Fail> {
-    as_told(first_wrong_room(rt.alloc()), &None)
+    as_expected(first_wrong_room(rt.alloc()), &None)
 }
 
 /// Simulates on a heap of `bytes` bytes. Returns the answer, and how much of the heap stays taken.
@@ -279,7 +279,7 @@ fn refused_memory_leaves_all_unread_and_unwritten(rt: HostRuntime) -> Result<(),
     // The same as with ample memory; the source still had all its bytes, and the sink all its
     // room.
     let want = Some((true, Ok(ALL), 0, true));
-    as_told(least_heap_of_two(rt.alloc()), &want)
+    as_expected(least_heap_of_two(rt.alloc()), &want)
 }
 
 /// A refused line, and then a comment up to that length.
@@ -361,5 +361,5 @@ fn first_wrong_length(alloc: Global) -> Result<Option<usize>, Fail> {
 
 #[test]
 fn a_text_may_have_a_gibibyte_and_no_more(rt: HostRuntime) -> Result<(), Fail> {
-    as_told(first_wrong_length(rt.alloc()), &None)
+    as_expected(first_wrong_length(rt.alloc()), &None)
 }

@@ -1,7 +1,7 @@
 //! Which lines are skipped, which are refused, and how they are numbered.
 use super::*;
 use std::test::Fail;
-use test_parts::as_told;
+use test_parts::as_expected;
 
 /// Pieces of a text, each with how often it comes, and the refusal lines.
 type Refused<'a> = (&'a [(&'a str, usize)], &'a str);
@@ -57,7 +57,7 @@ sweeps 0 of 69
 
 #[test]
 fn refusals_are_named_in_their_order(rt: HostRuntime) -> Result<(), Fail> {
-    as_told(first_wrong(rt.alloc(), &ORDER), &None)
+    as_expected(first_wrong(rt.alloc(), &ORDER), &None)
 }
 
 /// Texts with lines that are skipped.
@@ -86,7 +86,7 @@ const COUNTED: [Refused<'_>; 10] = [
 
 #[test]
 fn lines_are_counted_and_a_last_one_needs_no_newline(rt: HostRuntime) -> Result<(), Fail> {
-    as_told(first_not_refused(rt.alloc(), &COUNTED), &None)
+    as_expected(first_not_refused(rt.alloc(), &COUNTED), &None)
 }
 
 /// Texts with lines that are longer than any event.
@@ -126,7 +126,7 @@ const LONG: [Refused<'_>; 3] = [
 
 #[test]
 fn a_long_line_is_refused_once(rt: HostRuntime) -> Result<(), Fail> {
-    as_told(first_not_refused(rt.alloc(), &LONG), &None)
+    as_expected(first_not_refused(rt.alloc(), &LONG), &None)
 }
 
 /// Lines that are almost events.
@@ -159,7 +159,7 @@ fn first_read(alloc: Global, lines: &[&str]) -> Result<Option<(usize, usize)>, F
 
 #[test]
 fn almost_events_are_unread(rt: HostRuntime) -> Result<(), Fail> {
-    as_told(first_read(rt.alloc(), &ALMOST), &None)
+    as_expected(first_read(rt.alloc(), &ALMOST), &None)
 }
 
 /// A text after which node 0 has no room for another ticket, ticket 7 waits at node 1, and an item
@@ -230,5 +230,5 @@ fn first_changing_busy(alloc: Global) -> Result<Option<(usize, usize)>, Fail> {
 
 #[test]
 fn a_refused_line_changes_nothing(rt: HostRuntime) -> Result<(), Fail> {
-    as_told(first_changing_busy(rt.alloc()), &None)
+    as_expected(first_changing_busy(rt.alloc()), &None)
 }

@@ -1,7 +1,7 @@
 //! Runs of as many sweeps as a network's lock needs to work from any state.
 use super::*;
 use std::test::Fail;
-use test_parts::as_told;
+use test_parts::as_expected;
 
 /// Rounds of a network, and what they lead to.
 #[derive(Clone, Copy)]
@@ -74,16 +74,16 @@ fn text_of(alloc: Global, net: &Net, run: &LongRun<'_>) -> Result<String, AllocE
 }
 
 /// How many lines the text of a run has, and the first size of pieces in which it ends otherwise.
-fn told_on(alloc: Global, net: &Net, run: &LongRun<'_>) -> Result<(usize, Option<usize>), Fail> {
+fn said_on(alloc: Global, net: &Net, run: &LongRun<'_>) -> Result<(usize, Option<usize>), Fail> {
     let text = text_of(alloc, net, run)?;
     let first = first_unsettled(alloc, net, &text, run)?;
     Ok((text.lines().count(), first))
 }
 
 /// The same on the network of the run.
-fn told_of(alloc: Global, run: &LongRun<'_>) -> Result<(usize, Option<usize>), Fail> {
+fn said_of(alloc: Global, run: &LongRun<'_>) -> Result<(usize, Option<usize>), Fail> {
     let net = net_of(alloc, run.nodes, run.lease, run.edges)?;
-    told_on(alloc, &net, run)
+    said_on(alloc, &net, run)
 }
 
 /// The square: node 3 lies opposite the root.
@@ -105,7 +105,7 @@ const SQUARE: LongRun<'_> = LongRun {
 
 #[test]
 fn the_far_corner_of_the_square_takes_the_smaller_parent(rt: HostRuntime) -> Result<(), Fail> {
-    as_told(told_of(rt.alloc(), &SQUARE), &(SQUARE.lines, None))
+    as_expected(said_of(rt.alloc(), &SQUARE), &(SQUARE.lines, None))
 }
 
 /// Three nodes in a line.
@@ -126,7 +126,7 @@ const LINE: LongRun<'_> = LongRun {
 
 #[test]
 fn three_nodes_in_a_line_settle(rt: HostRuntime) -> Result<(), Fail> {
-    as_told(told_of(rt.alloc(), &LINE), &(LINE.lines, None))
+    as_expected(said_of(rt.alloc(), &LINE), &(LINE.lines, None))
 }
 
 /// Two nodes that hold a forged token each, and lend it.
@@ -146,5 +146,5 @@ const TWO_FORGED: LongRun<'_> = LongRun {
 
 #[test]
 fn forged_tokens_and_loans_are_gone(rt: HostRuntime) -> Result<(), Fail> {
-    as_told(told_of(rt.alloc(), &TWO_FORGED), &(TWO_FORGED.lines, None))
+    as_expected(said_of(rt.alloc(), &TWO_FORGED), &(TWO_FORGED.lines, None))
 }

@@ -1,7 +1,7 @@
 //! Two nodes, from their start or after a fault.
 use super::*;
 use std::test::Fail;
-use test_parts::as_told;
+use test_parts::as_expected;
 
 /// Rounds from the start.
 const OVER_IN_THREE: [Row<'_>; 5] = [
@@ -74,7 +74,7 @@ sweeps 69 of 69
 
 #[test]
 fn the_token_is_at_the_other_node_after_three_rounds(rt: HostRuntime) -> Result<(), Fail> {
-    as_told(first_wrong(rt.alloc(), &OVER_IN_THREE), &None)
+    as_expected(first_wrong(rt.alloc(), &OVER_IN_THREE), &None)
 }
 
 /// Two sends to a link of one place, and two takes from it.
@@ -104,7 +104,7 @@ sweeps 0 of 69
 
 #[test]
 fn a_full_link_loses_and_an_empty_one_gives_nothing(rt: HostRuntime) -> Result<(), Fail> {
-    as_told(first_wrong(rt.alloc(), &FULL_AND_EMPTY), &None)
+    as_expected(first_wrong(rt.alloc(), &FULL_AND_EMPTY), &None)
 }
 
 /// Two tickets ask at the root, and it lends to the first.
@@ -166,7 +166,7 @@ sweeps 4 of 69
 
 #[test]
 fn a_loan_without_a_lease_ends_when_it_is_given_back(rt: HostRuntime) -> Result<(), Fail> {
-    as_told(first_wrong(rt.alloc(), &WITHOUT_A_LEASE), &None)
+    as_expected(first_wrong(rt.alloc(), &WITHOUT_A_LEASE), &None)
 }
 
 /// A loan for one tick, then one tick and two ticks after it.
@@ -203,7 +203,7 @@ sweeps 1 of 69
 
 #[test]
 fn a_lease_of_one_tick_ends_at_the_second(rt: HostRuntime) -> Result<(), Fail> {
-    as_told(first_wrong(rt.alloc(), &LEASE_OF_ONE), &None)
+    as_expected(first_wrong(rt.alloc(), &LEASE_OF_ONE), &None)
 }
 
 /// As many rounds as needed, and some more.
@@ -269,7 +269,7 @@ sweeps 72 of 69
 
 #[test]
 fn the_token_goes_round(rt: HostRuntime) -> Result<(), Fail> {
-    as_told(first_wrong(rt.alloc(), &ROUND_AND_ROUND), &None)
+    as_expected(first_wrong(rt.alloc(), &ROUND_AND_ROUND), &None)
 }
 
 /// Both forged tokens are there, and both nodes lend.
@@ -331,7 +331,7 @@ sweeps 1 of 69
 
 #[test]
 fn of_two_forged_tokens_one_is_left(rt: HostRuntime) -> Result<(), Fail> {
-    as_told(first_wrong(rt.alloc(), &TWO_FORGED), &None)
+    as_expected(first_wrong(rt.alloc(), &TWO_FORGED), &None)
 }
 
 /// On a link of one place the second noise is refused; of two frames, the one whose number is out
@@ -378,7 +378,7 @@ sweeps 0 of 69
 
 #[test]
 fn harms_put_items_on_links(rt: HostRuntime) -> Result<(), Fail> {
-    as_told(first_wrong(rt.alloc(), &PUT_ON_LINKS), &None)
+    as_expected(first_wrong(rt.alloc(), &PUT_ON_LINKS), &None)
 }
 
 /// The root has its true distance, and has copied that node 1 is its tree neighbour.
@@ -428,5 +428,5 @@ sweeps 0 of 69
 
 #[test]
 fn harms_make_a_token_and_take_it_away(rt: HostRuntime) -> Result<(), Fail> {
-    as_told(first_wrong(rt.alloc(), &MADE_AND_TAKEN), &None)
+    as_expected(first_wrong(rt.alloc(), &MADE_AND_TAKEN), &None)
 }

@@ -1,9 +1,9 @@
 //! The text that shows a world.
 use super::*;
 use std::test::Fail;
-use test_parts::as_told;
+use test_parts::as_expected;
 use topology::NetFault;
-use worked_runs::worlds::{start, told};
+use worked_runs::worlds::{said, start};
 
 /// A world of two nodes with a frame under way, shown with 7 sweeps.
 const SHOWN: &str = "\
@@ -19,7 +19,7 @@ sweeps 7 of 69
 fn all_happen(world: &mut World, lines: &[&str]) -> bool {
     let mut accepted = true;
     for line in lines {
-        accepted &= told(world, line) == Some(Ok(()));
+        accepted &= said(world, line) == Some(Ok(()));
     }
     accepted
 }
@@ -77,11 +77,11 @@ fn shown_as_far(alloc: Global) -> Result<(bool, Option<usize>), Fail> {
 
 #[test]
 fn a_world_is_shown_as_far_as_there_is_room(rt: HostRuntime) -> Result<(), Fail> {
-    as_told(shown_as_far(rt.alloc()), &(true, None))
+    as_expected(shown_as_far(rt.alloc()), &(true, None))
 }
 
 /// Whether a world accepts the events of these lines, and is then shown like this.
-fn is_shown_behind(
+fn is_shown_after(
     alloc: Global,
     world: &mut World,
     lines: &[&str],
@@ -118,10 +118,10 @@ fn world_of_three(alloc: Global) -> Result<World, Fail> {
 /// Whether they are shown like this after those lines.
 fn are_links_shown(alloc: Global) -> Result<bool, Fail> {
     let mut world = world_of_three(alloc)?;
-    Ok(is_shown_behind(alloc, &mut world, &SENDS, SENT)?)
+    Ok(is_shown_after(alloc, &mut world, &SENDS, SENT)?)
 }
 
 #[test]
 fn links_stand_by_source_and_then_destination(rt: HostRuntime) -> Result<(), Fail> {
-    as_told(are_links_shown(rt.alloc()), &true)
+    as_expected(are_links_shown(rt.alloc()), &true)
 }

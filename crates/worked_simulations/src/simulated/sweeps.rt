@@ -1,7 +1,7 @@
 //! Which short runs of two nodes are sweeps.
 use super::*;
 use std::test::Fail;
-use test_parts::as_told;
+use test_parts::as_expected;
 
 /// Both nodes have ticked, and neither has heard of the other.
 const TICKED: &str = "\
@@ -92,5 +92,5 @@ sweeps 1 of 69
 fn a_sweep_is_a_tick_of_each_node_and_a_new_item_over_each_link(
     rt: HostRuntime,
 ) -> Result<(), Fail> {
-    as_told(first_wrong(rt.alloc(), &SHORT_RUNS), &None)
+    as_expected(first_wrong(rt.alloc(), &SHORT_RUNS), &None)
 }

@@ -6,7 +6,7 @@ ghost use Rattle.byte_streams.specs.Streams.{CountsFailures};
 ghost use Rattle.world.specs.declared.simulation.SimFault.TheVariants.{Write};
 ghost use Rattle.world.specs.SimulatedText.{line_refusal};
 ghost use Rattle.world.specs.UnderWay.{HasSeenLine, IsUnderWay, RunsNext, RunsLast, TakesNext};
-ghost use Rattle.world.specs.UnderWay.{ReadsAll, EndsThere};
+ghost use Rattle.world.specs.UnderWay.{ReadsAll, EndsThere, LeadsThere};
 ghost use Rattle.judge.specs.configuration.ConfigurationView.{world_of};
 
 use super::refusal::{UNREAD, fault_name, write_refusal};
@@ -103,6 +103,8 @@ impl<A: Allocator + Copy> Simulation<A> {
         requires { self.old.lines < 2 ^ 64 - 1 }
         // The last line counts even if no newline ended it; then comes the state.
         ensures text { EndsThere self.old (W.taken sink.old) result (W.taken sink.new) }
+        // It has come to the world that the events of the text lead to.
+        ensures led { LeadsThere self.old (W.taken sink.old) result self.new }
         ensures failures { CountsFailures result (W.failures sink.old) (W.failures sink.new) }
         ensures err { IfErr result (λ fault. fault ≡ Write) }
     {
@@ -118,6 +120,13 @@ impl<A: Allocator + Copy> Simulation<A> {
             sweeps,
             lending: self.judge.configuration().lending(),
         })
+    }
+
+    /// The world that it has come to.
+    pub fn into_world(self) -> World<A>
+        ensures { result ≡ self.judge.configuration }
+    {
+        self.judge.into_world()
     }
 
     /// The last line of the text, if no newline ended it.
@@ -145,7 +154,7 @@ impl<A: Allocator + Copy> Simulation<A> {
         while at < piece.len() {
             if let Some((event, used)) = self.reader.take_usual(&piece[at..]) {
                 at += used;
-                self.line(TextLine::Told(event), sink)?;
+                self.line(TextLine::Said(event), sink)?;
                 continue;
             }
             let taken = self.reader.take(&piece[at..]);
@@ -202,7 +211,7 @@ fn refusal<A: Allocator + Copy>(judge: &mut Judge<A>, line: TextLine) -> Option<
     match line {
         TextLine::Passed => None,
         TextLine::Unread => Some(UNREAD),
-        TextLine::Told(event) => match judge.step(&event) {
+        TextLine::Said(event) => match judge.step(&event) {
             Ok(()) => None,
             Err(fault) => Some(fault_name(fault)),
         },

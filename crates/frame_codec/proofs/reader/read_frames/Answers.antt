@@ -1,6 +1,6 @@
 use Rattle.std.proofs.Common.{◌++◌, ◌∙◌, ap, arith}
 use Rattle.std.specs.Option.{option_to_list}
-use Rattle.frame_codec.proofs.ToldFrames.{read_more, room_left}
+use Rattle.frame_codec.proofs.SaidFrames.{read_more, room_left}
 use Rattle.frame_codec.proofs.reader.read_frames.Goals as goal
 
 pub put-requires : goal.put-requires
@@ -14,6 +14,6 @@ loop-rest-preserved g c =
     let read = read_more c.args.lines.now.0 c.any_cutting.ensures c.args.half.now c.loop-rest.half c.take-used.new.self c.args.piece.now c.loop-rest.rest.now
     c.take-used.result.used c.args.out.now.items c.loop-rest.out.items c.take-used.result.line c.loop-rest.invariant.read c.take-used.ensures.reads in
     record {
-      read = read c.put.new.out.items (c.put.ensures.items ∙ ap (λ told. c.loop-rest.out.items ++ option_to_list told) c.flatten.ensures);
+      read = read c.put.new.out.items (c.put.ensures.items ∙ ap (λ said. c.loop-rest.out.items ++ option_to_list said) c.flatten.ensures);
       room = c.put.ensures.room.1 ∙ c.loop-rest.invariant.room;
     }

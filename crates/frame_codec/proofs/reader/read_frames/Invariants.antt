@@ -1,5 +1,5 @@
 use Rattle.std.proofs.Common.{◌≡◌, length, vec_capacity}
-use Rattle.frame_codec.proofs.ToldFrames.{HasRead}
+use Rattle.frame_codec.proofs.SaidFrames.{HasRead}
 use Rattle.frame_codec.proofs.reader.read_frames.Given as goal
 
 -- the front of the piece was read, and there is as much room as there was

@@ -4,13 +4,13 @@ use Rattle.lock_command.proofs.driver.drive.Goals as goal
 
 pub returns-in-Finish-clause-outcome : goal.returns-in-Finish-clause-outcome
 returns-in-Finish-clause-outcome g c = λ none.
-    let told = g.S.Surroundings.told in
+    let reported = g.S.Surroundings.reported in
     let new = c.step-deed.new.self in
     let stage = ap (λ x. x.stage) c.step-deed.ensures.stage in
-    let under : IsUnderWay c.args.keeps_running (told c.args.surroundings.now) (told c.act.new.self) new.stage =
-    steps c.args.keeps_running c.loop.client.keeps_running (told c.args.surroundings.now) (told c.loop.surroundings) (told c.next_event-event.new.self)
-    (told c.act.new.self) c.loop.client.stage new.stage c.next_event-event.result c.loop.invariant.2 c.loop.invariant.3
-    c.next_event-event.ensures.told c.act.ensures.told stage in
+    let under : IsUnderWay c.args.keeps_running (reported c.args.surroundings.now) (reported c.act.new.self) new.stage =
+    steps c.args.keeps_running c.loop.client.keeps_running (reported c.args.surroundings.now) (reported c.loop.surroundings) (reported c.next_event-event.new.self)
+    (reported c.act.new.self) c.loop.client.stage new.stage c.next_event-event.result c.loop.invariant.2 c.loop.invariant.3
+    c.next_event-event.ensures.reported c.act.ensures.reported stage in
     let so = under none in
     let over = closes c.loop.client.keeps_running c.next_event-event.result c.loop.client.stage new.stage c.step-deed.result c.in-Finish.outcome
     c.step-deed.ensures.deed c.in-Finish.is in
@@ -31,15 +31,15 @@ returns-in-Finish-clause-over g c = λ idle.
 
 pub loop-preserved : goal.loop-preserved
 loop-preserved g c =
-    let told = g.S.Surroundings.told in
+    let reported = g.S.Surroundings.reported in
     let runs = g.S.Surroundings.runs in
     let new = c.step-deed.new.self in
     let stage = ap (λ x. x.stage) c.step-deed.ensures.stage in
     let keeps = ap (λ x. x.keeps_running) c.step-deed.ensures.stage in
-    let under : IsUnderWay c.args.keeps_running (told c.args.surroundings.now) (told c.act.new.self) new.stage =
-    steps c.args.keeps_running c.loop.client.keeps_running (told c.args.surroundings.now) (told c.loop.surroundings) (told c.next_event-event.new.self)
-    (told c.act.new.self) c.loop.client.stage new.stage c.next_event-event.result c.loop.invariant.2 c.loop.invariant.3
-    c.next_event-event.ensures.told c.act.ensures.told stage in (
+    let under : IsUnderWay c.args.keeps_running (reported c.args.surroundings.now) (reported c.act.new.self) new.stage =
+    steps c.args.keeps_running c.loop.client.keeps_running (reported c.args.surroundings.now) (reported c.loop.surroundings) (reported c.next_event-event.new.self)
+    (reported c.act.new.self) c.loop.client.stage new.stage c.next_event-event.result c.loop.invariant.2 c.loop.invariant.3
+    c.next_event-event.ensures.reported c.act.ensures.reported stage in (
       tt,
       tt,
       rw keeps c.loop.invariant.2,

@@ -7,5 +7,5 @@ returns-clause-displaced c = displaced
 pub returns-clause-on : goal.returns-clause-on
 returns-clause-on c = runs_on
 
-pub returns-clause-told : goal.returns-clause-told
-returns-clause-told c = stops
+pub returns-clause-asked : goal.returns-clause-asked
+returns-clause-asked c = stops

@@ -3,7 +3,7 @@ use Rattle.run_film.proofs.playing.put_parts.Goals as goal
 
 pub returns-clause-plays : goal.returns-clause-plays
 returns-clause-plays c =
-    let told = c.in_ok-put_told.ensures in
+    let said = c.in_ok-put_said.ensures in
     let edges = c.in_ok-put_edges.ensures in
     let frames = c.in_ok-put_frames.ensures in
     let nodes = c.in_ok-put_nodes.ensures in
@@ -11,11 +11,11 @@ returns-clause-plays c =
       nodes = nodes.nodes;
       edges = λ w below v less there. played_kept _ _ _ nodes.keeps (played_kept _ _ _ frames.keeps (edges.edges w below v less there));
       frames = λ few. played_kept _ _ _ nodes.keeps (frames.frames few);
-      sweeps = played_kept _ _ _ nodes.keeps (played_kept _ _ _ frames.keeps (played_kept _ _ _ edges.keeps told.sweeps));
-      damage = played_kept _ _ _ nodes.keeps (played_kept _ _ _ frames.keeps (played_kept _ _ _ edges.keeps told.damage));
+      sweeps = played_kept _ _ _ nodes.keeps (played_kept _ _ _ frames.keeps (played_kept _ _ _ edges.keeps said.sweeps));
+      damage = played_kept _ _ _ nodes.keeps (played_kept _ _ _ frames.keeps (played_kept _ _ _ edges.keeps said.damage));
     }
 
 pub returns-clause-keeps : goal.returns-clause-keeps
 returns-clause-keeps c =
-    keeps_on _ _ _ c.in_ok-put_told.ensures.keeps
+    keeps_on _ _ _ c.in_ok-put_said.ensures.keeps
     (keeps_on _ _ _ c.in_ok-put_edges.ensures.keeps (keeps_on _ _ _ c.in_ok-put_frames.ensures.keeps c.in_ok-put_nodes.ensures.keeps))

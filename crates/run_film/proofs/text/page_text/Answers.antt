@@ -5,8 +5,8 @@ use Rattle.run_film.proofs.text.page_text.Goals as goal
 
 pub returns : goal.returns
 returns g c =
-    λ bytes told.
+    λ bytes said.
     let recorded = c.in_ok-recording.ensures in
     let spelled = c.in_ok-spelled_document.ensures in
-    page_is c.args.net.now c.args.wanted.window (events_of bytes) _ c.of-pace.result (recorded.recorded bytes told) recorded.window c.of-pace.ensures.some
+    page_is c.args.net.now c.args.wanted.window (events_of bytes) _ c.of-pace.result (recorded.recorded bytes said) recorded.window c.of-pace.ensures.some
     c.in_ok-page.ensures.few c.in_ok-page.page _ (recorded.stills ∙ ap Some c.most.ensures.most) c.in_ok-page.ensures.plays spelled.text spelled.nests

@@ -1,4 +1,5 @@
 use Rattle.std.proofs.Common.{◌∙◌}
+use Rattle.experiments.specs.Shown.{IsRunOf}
 use Rattle.rayon.specs.Numbers.{nat_range}
 use Rattle.subcommands.proofs.Runs.{runs-of}
 use Rattle.subcommands.proofs.measure.make_runs.Goals as goal
@@ -8,4 +9,4 @@ returns g c =
     let ends = c.into_par_iter.ensures in
     let h = c.in_ok-collect.ensures in
     let chain = rw (c.map.ensures.base, c.map.ensures.f) at h.1 in
-    runs-of c.args.net.now c.args.plan _ (λ i r ok. ok) chain.0 h.0 _ (chain.1 ∙ (λ i. nat_range (ends.0 i) (ends.1 i))) chain.2 h.2
+    runs-of (IsRunOf c.args.net.now c.args.plan.scheduler) c.args.plan _ (λ i r ok. ok) chain.0 h.0 _ (chain.1 ∙ (λ i. nat_range (ends.0 i) (ends.1 i))) chain.2 h.2

@@ -1,4 +1,4 @@
-use Rattle.std.proofs.Common.{◌≡◌, ◌∙◌, ◌++◌, ap, codes, string_bytes, Ok}
+use Rattle.std.proofs.Common.{◌∙◌, ◌++◌, ap, codes, string_bytes, Ok}
 use Rattle.topology.specs.Network.{bound_of}
 use Rattle.topology.specs.Eccentricity.{sharp_of}
 use Rattle.subcommands.specs.Bound.{number_line}

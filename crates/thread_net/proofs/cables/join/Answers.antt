@@ -19,8 +19,8 @@ returns-clause-laid g c = λ w over laid.
     let inside = c.requires.other_in in
     let joined = ap (λ n. are_joined n.edges u v) over.0 ∙ c.requires.joined in
     let back = ap (λ n. are_joined n.edges v u) over.0 ∙ (sym (c.joined.ensures.back net.edges u v) ∙ c.requires.joined) in
-    let told = c.in_ok-near.ensures.told w over in
+    let said = c.in_ok-near.ensures.said w over in
     let end = c.in_ok-plug-2.ensures.rows ∙ ap (λ r. slice_set r v (row r v ++ far ∷ [])) c.in_ok-plug.ensures.rows in
     subst (AreLaid w (reach w.net.nodes u (v + 1))) (sym end)
     (laid-more w rows u v near far c.requires.order (omega (arith, nodes, inside)) (omega (arith, nodes, long, all)) laid c.in_ok-near.ensures.neighbours.0 c.in_ok-near.ensures.neighbours.1
-    c.in_ok-near.ensures.cable joined back told.0 told.1)
+    c.in_ok-near.ensures.cable joined back said.0 said.1)

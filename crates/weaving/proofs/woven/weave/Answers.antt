@@ -2,7 +2,7 @@ use Rattle.std.proofs.Common.{◌≡◌, ◌+◌, [], ◌++◌, refl, sym, ap, �
 use Rattle.weaving.specs.Woven.{IsWoven}
 use Rattle.weaving.specs.Journals.{entries_in, journal_of, unread, entry_count}
 use Rattle.weaving.proofs.Unread.{unread-start}
-use Rattle.weaving.proofs.WeaveSteps.{journals-read-on, journals-all-read, one-of-all, behind-it}
+use Rattle.weaving.proofs.WeaveSteps.{journals-read-on, journals-all-read, one-of-all, after-it}
 use Rattle.weaving.proofs.woven.weave.Goals as goal
 
 pub loop-node-init : goal.loop-node-init
@@ -48,7 +48,7 @@ loop-node-preserved g c =
     let put = c.push_reserved.ensures in record {
       woven = λ events w.
           subst (λ xs. IsWoven (journal_of js) (xs ++ events)) (sym put.items)
-          (behind-it (journal_of js) left c.loop-node.out.items event events c.loop-node.invariant.woven (on.woven events w));
+          (after-it (journal_of js) left c.loop-node.out.items event events c.loop-node.invariant.woven (on.woven events w));
       rising = on.rising;
       room =
           let room = c.loop-node.invariant.room in

@@ -1,23 +1,23 @@
 use Rattle.std.proofs.Common.{◌≡◌, ◌∙◌, ap, refl, ◌++◌, ◌∷◌, []}
 use Rattle.byte_lines.specs.Lines.{half_line}
 use Rattle.events_text.specs.EventsText.{ended_lines}
-use Rattle.events_text.proofs.UsualReading.{in_front, stands_behind, line_told}
+use Rattle.events_text.proofs.UsualReading.{in_front, stands_after, line_said}
 use Rattle.events_text.proofs.reader.EventReader.take.Goals as goal
 
 pub returns-in-Some-clause-stands : goal.returns-in-Some-clause-stands
 returns-in-Some-clause-stands c =
     λ bytes stands.
-    let (line, is, one, told) = c.in-Some.ensures in
+    let (line, is, one, said) = c.in-Some.ensures in
     let stood = rw (← c.self.view_is) at stands in
     let none : half_line bytes ≡ [] = (c.if-is_empty.ensures.half (half_line bytes) stood).0 refl in
     let empty = c.if-is_empty.ensures.kept.0 refl in
-    rw (← c.self.view_is, in_front line c.in-Some.rest.now c.args.piece.now is) (stands_behind c.any_cutting.ensures c.lines_grow.ensures bytes line none one _ empty)
+    rw (← c.self.view_is, in_front line c.in-Some.rest.now c.args.piece.now is) (stands_after c.any_cutting.ensures c.lines_grow.ensures bytes line none one _ empty)
 
 pub returns-in-Some-clause-line : goal.returns-in-Some-clause-line
 returns-in-Some-clause-line c =
     λ bytes stands.
-    let (line, is, one, told) = c.in-Some.ensures in
+    let (line, is, one, said) = c.in-Some.ensures in
     let stood = rw (← c.self.view_is) at stands in
     let none : half_line bytes ≡ [] = (c.if-is_empty.ensures.half (half_line bytes) stood).0 refl in
     rw (in_front line c.in-Some.rest.now c.args.piece.now is)
-    (line_told c.any_cutting.ensures c.lines_grow.ensures bytes line none one ∙ ap (λ x. ended_lines bytes ++ x ∷ []) told)
+    (line_said c.any_cutting.ensures c.lines_grow.ensures bytes line none one ∙ ap (λ x. ended_lines bytes ++ x ∷ []) said)

@@ -2,7 +2,7 @@ use Rattle.std.proofs.Common.{◌≡◌, ◌∙◌, ap, sym, subst, IsTrue, [], 
 use Rattle.topology.specs.Network.{IsAcceptedNetwork, are_joined}
 use Rattle.configuration.specs.ConfigurationView.{world_of}
 use Rattle.judge.specs.Stretch.{names_below, names_place}
-use Rattle.judge.proofs.JudgeSteps.{names, names-behind, placed, accepted-damage, no-damage, refused-step, damage-step, other-step, sweep-step, sweep-ends, few-looks, room-cleared, room-empty, room-behind}
+use Rattle.judge.proofs.JudgeSteps.{names, names-after, placed, accepted-damage, no-damage, refused-step, damage-step, other-step, sweep-step, sweep-ends, few-looks, room-cleared, room-empty, room-after}
 use Rattle.judge.proofs.Visits.{visited-refused, visited-damage, visited-goes_on}
 use Rattle.judge.proofs.judge.Judge.step.Goals as goal
 
@@ -26,9 +26,9 @@ returns-in-Damaged-clause-judging g c =
           seen.judging.in_range seen.judging.now_is c.privileged_nodes-self-inside.result damage c.privileged_nodes-self-inside.ensures;
     })
 
-pub visited_behind-self-inside-requires : goal.visited_behind-self-inside-requires
-visited_behind-self-inside-requires g c =
-    names-behind c.below.ensures (world_of c.self.inside.configuration) (world_of c.step.new.self) c.args.event.now c.in-Ok.happened c.step.ensures.world
+pub visited_after-self-inside-requires : goal.visited_after-self-inside-requires
+visited_after-self-inside-requires g c =
+    names-after c.below.ensures (world_of c.self.inside.configuration) (world_of c.step.new.self) c.args.event.now c.in-Ok.happened c.step.ensures.world
     c.in-Ok.ensures.did c.in-Ok.ensures.ok
 
 pub begin-requires : goal.begin-requires
@@ -72,8 +72,8 @@ returns-then-is_complete g c = record {
         c.begin-then-is_complete.new.stretch c.saturating_add-self-inside-then-is_complete.result (c.if-is_complete.ensures.0 refl) c.begin-then-is_complete.ensures.kept
         c.saturating_add-self-inside-then-is_complete.ensures;
     visited = visited-goes_on c.below.ensures start es c.args.event.now (world_of c.self.inside.configuration) (world_of c.step.new.self) c.step.ensures.world
-        seen.judging.in_range seen.judging.now_is c.self.inside.visited seen.visited c.visited_behind-self-inside.result c.in-Ok.happened c.in-Ok.ensures.ok
-        c.in-Ok.ensures.did c.in_default.not-Damaged c.visited_behind-self-inside.ensures;
+        seen.judging.in_range seen.judging.now_is c.self.inside.visited seen.visited c.visited_after-self-inside.result c.in-Ok.happened c.in-Ok.ensures.ok
+        c.in-Ok.ensures.did c.in_default.not-Damaged c.visited_after-self-inside.ensures;
   });
   looked = rw (← c.self.view_is) (inr (inr (λ start es seen.
       sweep-ends c.below.ensures start es c.args.event.now (world_of c.self.inside.configuration) (world_of c.step.new.self) c.self.inside.stretch c.clear_looked.new.self
@@ -94,20 +94,20 @@ returns-else-is_complete g c = record {
         c.note.new.self c.in-Ok.happened c.in-Ok.ensures.did (ap (λ t. t.nodes) c.note.ensures.table) c.note.ensures.lacking c.note.ensures.tallies
         (λ complete. let wrong = c.if-is_complete.ensures.1 complete in absurd cc);
     visited = visited-goes_on c.below.ensures start es c.args.event.now (world_of c.self.inside.configuration) (world_of c.step.new.self) c.step.ensures.world
-        seen.judging.in_range seen.judging.now_is c.self.inside.visited seen.visited c.visited_behind-self-inside.result c.in-Ok.happened c.in-Ok.ensures.ok
-        c.in-Ok.ensures.did c.in_default.not-Damaged c.visited_behind-self-inside.ensures;
+        seen.judging.in_range seen.judging.now_is c.self.inside.visited seen.visited c.visited_after-self-inside.result c.in-Ok.happened c.in-Ok.ensures.ok
+        c.in-Ok.ensures.did c.in_default.not-Damaged c.visited_after-self-inside.ensures;
   });
   looked = inl (few-looks c.self.inside.stretch c.clear_looked.new.self c.note.new.self c.clear_looked.ensures c.note.ensures.looked);
 }
 
 pub invariant_of-self-else-is_complete : goal.invariant_of-self-else-is_complete
 invariant_of-self-else-is_complete g c =
-    room-behind c.below.ensures (world_of c.self.inside.configuration) (world_of c.step.new.self) c.args.event.now c.in-Ok.happened c.self.inside.stretch c.clear_looked.new.self
+    room-after c.below.ensures (world_of c.self.inside.configuration) (world_of c.step.new.self) c.args.event.now c.in-Ok.happened c.self.inside.stretch c.clear_looked.new.self
     c.note.new.self c.step.ensures.world (no-damage (world_of c.self.inside.configuration) c.args.event.now (λ damaged. c.in_default.not-Damaged (c.in-Ok.ensures.did ∙ damaged)))
     c.clear_looked.ensures c.self.invariant c.note.ensures.table c.note.ensures.tallies
 
 pub begin-requires-then-is_complete : goal.begin-requires-then-is_complete
 begin-requires-then-is_complete g c =
-    room-behind c.below.ensures (world_of c.self.inside.configuration) (world_of c.step.new.self) c.args.event.now c.in-Ok.happened c.self.inside.stretch c.clear_looked.new.self
+    room-after c.below.ensures (world_of c.self.inside.configuration) (world_of c.step.new.self) c.args.event.now c.in-Ok.happened c.self.inside.stretch c.clear_looked.new.self
     c.note.new.self c.step.ensures.world (no-damage (world_of c.self.inside.configuration) c.args.event.now (λ damaged. c.in_default.not-Damaged (c.in-Ok.ensures.did ∙ damaged)))
     c.clear_looked.ensures c.self.invariant c.note.ensures.table c.note.ensures.tallies

@@ -49,6 +49,6 @@ returns-clause-says g c = record {
   heard = c.listen.new.self.clients;
   acted = c.tick-ticked.new.self.clients;
   answers = c.listen.ensures.answers;
-  told = c.tick-ticked.ensures.told;
+  reported = c.tick-ticked.ensures.reported;
   goes_out = c.speak.ensures.nothing;
 }

@@ -17,13 +17,13 @@ loop-id-init g c = (
 pub loop-id-preserved : goal.loop-id-preserved
 loop-id-preserved g c =
     let before = c.loop-id.invariant in
-    let told = c.speak_to-accepted.ensures in (
-      told.node ∙ before.0,
-      told.rest.0 ∙ before.1,
-      told.rest.1 ∙ before.2,
-      told.rest.2 ∙ before.3,
-      told.clients ∙ before.4,
-      spoken-next g.D.P.Pipe.gave g.D.P.Pipe.took g.D.P.Pipe.counts c.args.offers.now c.args.now _ _ _ c.loop-id.id c.speak_to-accepted.result before.5 told.node told.let_go told.spoken told.silent told.known told.others told.pace,
+    let reported = c.speak_to-accepted.ensures in (
+      reported.node ∙ before.0,
+      reported.rest.0 ∙ before.1,
+      reported.rest.1 ∙ before.2,
+      reported.rest.2 ∙ before.3,
+      reported.clients ∙ before.4,
+      spoken-next g.D.P.Pipe.gave g.D.P.Pipe.took g.D.P.Pipe.counts c.args.offers.now c.args.now _ _ _ c.loop-id.id c.speak_to-accepted.result before.5 reported.node reported.let_go reported.spoken reported.silent reported.known reported.others reported.pace,
     )
 
 pub returns-clause-spoken : goal.returns-clause-spoken

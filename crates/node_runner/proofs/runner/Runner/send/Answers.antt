@@ -5,12 +5,12 @@ use Rattle.node_core.specs.View.{site_in, state_of}
 use Rattle.weaving.specs.Account.{Note, Sent, sent_to, taken_from}
 use Rattle.node_runner.specs.declared.runner.Port.{Port}
 use Rattle.node_runner.specs.Ports.{stamped, IsSender, IsReceiver, SameIncoming}
-use Rattle.node_runner.specs.Runner.{IsPortTold, IsSamePort, AreSamePorts}
+use Rattle.node_runner.specs.Runner.{IsPortNoted, IsSamePort, AreSamePorts}
 use Rattle.node_runner.proofs.Accounts.{sent-on, taken-on}
 use Rattle.node_runner.proofs.Deeds.{Noted, does-one}
 use Rattle.run_model.specs.Step.{has_room}
 use Rattle.node_runner.proofs.Chances.{none-there, place-at-hand}
-use Rattle.node_runner.proofs.PortDeeds.{IsAt, known, id-at, port-was, now-same, now-ids, now-told, does-none}
+use Rattle.node_runner.proofs.PortDeeds.{IsAt, known, id-at, port-was, now-same, now-ids, now-said, does-none}
 use Rattle.node_runner.proofs.runner.Runner.send.Goals as goal
 
 pub frame_for-frame-requires : goal.frame_for-frame-requires
@@ -50,22 +50,22 @@ returns-in-Some g c =
             (((c.neighbours.ensures.joined net v n).0 near).1, tt, tt),
             (near, c.frame_for-frame.ensures.frame, ap state_of rest.1),
           );
-      told = λ w v past was.
+      said = λ w v past was.
           let old = port-was a k p at w v past was in
           let first : sent_to n deeds ≡ s ∷ [] = grind (arith, common_steps) in
           let sends : sent_to n past ++ s ∷ [] ≡ sent_to n (past ++ deeds) = sym (sent-on n past deeds ∙ ap (λ xs. sent_to n past ++ xs) first) in
           let takes : taken_from n past ≡ taken_from n (past ++ deeds) = sym (taken-on n past deeds ∙ append-nil (taken_from n past)) in
-          let one : IsPortTold w v (past ++ deeds) x = (
+          let one : IsPortNoted w v (past ++ deeds) x = (
             subst (λ xs. IsSender w.net.capacity (w.link v n) xs x.outgoing) sends (c.in-Some.ensures.sent w.net.capacity (w.link v n) (sent_to n past) old.0),
             subst (λ xs. IsReceiver w.net.capacity (length (w.link n v)) xs p.incoming) takes old.1,
           ) in
-          subst (λ ps. All (IsPortTold w v (past ++ deeds)) ps.items) (sym rest.2)
-          (now-told a k p at x same w v past deeds c.neighbours.ensures.ascend was (λ u apart. (grind (arith, common_steps), refl)) one);
+          subst (λ ps. All (IsPortNoted w v (past ++ deeds)) ps.items) (sym rest.2)
+          (now-said a k p at x same w v past deeds c.neighbours.ensures.ascend was (λ u apart. (grind (arith, common_steps), refl)) one);
     } in (
       deeds,
       does-one (Sent n s) a c.note.new.self c.requires.ready noted,
       inr (s, ap (λ u. Sent u s ∷ []) (id-at a k p at)),
-      λ w v past told room none soon. omega arith,
+      λ w v past said room none soon. omega arith,
       λ bound late up. let l = c.in-Some.ensures.later.2 in let e = c.note.ensures.clock in omega (arith, l, e, late, up),
     )
 
@@ -87,9 +87,9 @@ returns-in-None g c =
             subst (λ ds. IsReceiver w.net.capacity (length (w.link n v)) (taken_from n ds) p.incoming) (sym (append-nil past)) old.1,
           )),
       inl refl,
-      λ w v past told room none soon.
+      λ w v past said room none soon.
           let here = id-at a k p at in
-          let was = port-was a k p at w v past told in
+          let was = port-was a k p at w v past said in
           let hand = place-at-hand w v n past p was.0 (subst (λ u. IsTrue (has_room w v u)) (sym here) room) (subst (λ u. sent_to u past ≡ []) (sym here) none) in
           absurd (none-there (c.in-None.ensures.succeeds hand.0 hand.1 soon)),
       λ bound late up. omega (arith, up),

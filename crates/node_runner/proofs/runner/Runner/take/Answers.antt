@@ -7,12 +7,12 @@ use Rattle.weaving.specs.Account.{Note, Took, sent_to, taken_from}
 use Rattle.weaving.proofs.Accounts.{leads-to_take}
 use Rattle.node_runner.specs.declared.runner.Port.{Port}
 use Rattle.node_runner.specs.Ports.{IsSender, IsReceiver, SameOutgoing}
-use Rattle.node_runner.specs.Runner.{IsPortTold, IsSamePort, AreSamePorts}
+use Rattle.node_runner.specs.Runner.{IsPortNoted, IsSamePort, AreSamePorts}
 use Rattle.node_runner.proofs.Accounts.{sent-on, taken-on}
 use Rattle.node_runner.proofs.Deeds.{Noted, does-one}
 use Rattle.topology.specs.Network.{are_joined}
 use Rattle.node_runner.proofs.Chances.{none-there, item-at-hand}
-use Rattle.node_runner.proofs.PortDeeds.{IsAt, known, id-at, port-was, now-same, now-ids, now-told, does-none}
+use Rattle.node_runner.proofs.PortDeeds.{IsAt, known, id-at, port-was, now-same, now-ids, now-said, does-none}
 use Rattle.node_runner.proofs.runner.Runner.take.Goals as goal
 
 pub take-requires-in-Some : goal.take-requires-in-Some
@@ -51,18 +51,18 @@ returns-in-Some g c =
           let joined = subst IsTrue (c.joined.ensures.back net.edges v n) ((c.neighbours.ensures.joined net v n).0 near).1 in
           let new = ap state_of rest.1 ∙ (c.take-in-Some.ensures.state ∙ ap (λ s. taken s n c.in-Some.taken.item (state_of a.node)) site) in
           leads-to_take net v (state_of a.node) n s [] (state_of c.note.new.self.node) near joined (tt, new);
-      told = λ w v past was.
+      said = λ w v past was.
           let old = port-was a k p at w v past was in
           let first : taken_from n deeds ≡ s ∷ [] = grind (arith, common_steps) in
           let takes : taken_from n past ++ s ∷ [] ≡ taken_from n (past ++ deeds) = sym (taken-on n past deeds ∙ ap (λ xs. taken_from n past ++ xs) first) in
           let sends : sent_to n past ≡ sent_to n (past ++ deeds) = sym (sent-on n past deeds ∙ append-nil (sent_to n past)) in
-          let one : IsPortTold w v (past ++ deeds) x = (
+          let one : IsPortNoted w v (past ++ deeds) x = (
             subst (λ xs. IsSender w.net.capacity (w.link v n) xs p.outgoing) sends old.0,
             subst (λ xs. IsReceiver w.net.capacity (length (w.link n v)) xs x.incoming) takes (c.in-Some.ensures.taken w.net.capacity (length (w.link n v)) (taken_from n past) old.1),
           ) in
-          subst (λ ps. All (IsPortTold w v (past ++ deeds)) ps.items) (sym rest.2)
-          (now-told a k p at x same w v past deeds c.neighbours.ensures.ascend was (λ u apart. (refl, grind (arith, common_steps))) one);
-    } in (deeds, does-one (Took n s) a c.note.new.self c.requires.ready noted, inr (s, ap (λ u. Took u s ∷ []) (id-at a k p at)), λ w v past told links less. omega arith)
+          subst (λ ps. All (IsPortNoted w v (past ++ deeds)) ps.items) (sym rest.2)
+          (now-said a k p at x same w v past deeds c.neighbours.ensures.ascend was (λ u apart. (refl, grind (arith, common_steps))) one);
+    } in (deeds, does-one (Took n s) a c.note.new.self c.requires.ready noted, inr (s, ap (λ u. Took u s ∷ []) (id-at a k p at)), λ w v past said links less. omega arith)
 
 pub returns-in-None : goal.returns-in-None
 returns-in-None g c =
@@ -82,11 +82,11 @@ returns-in-None g c =
             subst (λ ds. IsReceiver w.net.capacity (length (w.link n v)) (taken_from n ds) x.incoming) (sym (append-nil past)) (c.in-None.ensures.taken w.net.capacity (length (w.link n v)) (taken_from n past) old.1),
           )),
       inl refl,
-      λ w v past told links less.
+      λ w v past said links less.
           let here = id-at a k p at in
-          let was = port-was a k p at w v past told in
+          let was = port-was a k p at w v past said in
           let joined : IsTrue (are_joined w.net.edges n v) =
-          subst IsTrue (c.joined.ensures.back w.net.edges v n) ((c.neighbours.ensures.joined w.net v n).0 (subst (λ s. Contains s.neighbours n) told.site (known a k p at))).1 in
+          subst IsTrue (c.joined.ensures.back w.net.edges v n) ((c.neighbours.ensures.joined w.net v n).0 (subst (λ s. Contains s.neighbours n) said.site (known a k p at))).1 in
           let hand = item-at-hand w v n past p was.1 (links n v joined) (subst (λ u. length (taken_from u past) < length (w.link u v)) (sym here) less) in
           absurd (none-there (c.in-None.ensures.succeeds hand.0 hand.1)),
     )

@@ -2,7 +2,7 @@ use Rattle.std.proofs.Common.{◌+◌, [], ◌∷◌, ◌++◌, ◌∙◌, All, 
 use Rattle.node_core.specs.Step.{ticked}
 use Rattle.node_core.specs.View.{site_in, state_of}
 use Rattle.weaving.specs.Account.{Ticked}
-use Rattle.node_runner.specs.Runner.{IsPortTold, AreSamePorts}
+use Rattle.node_runner.specs.Runner.{IsPortNoted, AreSamePorts}
 use Rattle.node_runner.proofs.Deeds.{Noted, does-one}
 use Rattle.node_runner.proofs.PortLists.{all-same, ports-stay}
 use Rattle.node_runner.proofs.runner.Runner.tick.Goals as goal
@@ -23,6 +23,6 @@ returns g c =
       neighbours = ap (λ ps. map (λ p. p.neighbour) ps.items) rest.2;
       ports = subst (λ ps. AreSamePorts a.ports.items ps.items) (sym rest.2) (all-same a.ports.items);
       leads = λ net v at site. (tt, ap state_of rest.1 ∙ (c.tick-ticked.ensures.state ∙ ap (λ s. ticked s (state_of a.node)) site));
-      told = λ w v past was.
-          subst (λ ps. All (IsPortTold w v (past ++ Ticked t ∷ [])) ps.items) (sym rest.2) (ports-stay w v past (Ticked t ∷ []) a.ports.items (λ u. (refl, refl)) was.ports);
+      said = λ w v past was.
+          subst (λ ps. All (IsPortNoted w v (past ++ Ticked t ∷ [])) ps.items) (sym rest.2) (ports-stay w v past (Ticked t ∷ []) a.ports.items (λ u. (refl, refl)) was.ports);
     } in (t, does-one (Ticked t) a c.note.new.self c.requires.ready noted, λ bound late up. let e = c.note.ensures.clock in omega (arith, e, up))

@@ -4,7 +4,7 @@ use Rattle.std.proofs.lemmas.List.{append-nil, take_rest}
 use Rattle.std.proofs.Math.Seq.{take-add}
 use Rattle.std.specs.Option.{option_to_list}
 use Rattle.world.specs.events_text.EventsText.{ended_lines}
-use Rattle.world.specs.SimulatedText.{told_events}
+use Rattle.world.specs.SimulatedText.{said_events}
 use Rattle.run_recording.proofs.Recordings.{line_ends, half_line_grows}
 use Rattle.run_recording.proofs.recording.Recording.take.Goals as goal
 
@@ -30,7 +30,7 @@ loop-at-preserved g c =
           let further : bytes ++ take (at + used) piece ≡ so_far ++ more =
           ap (λ xs. bytes ++ xs) longer ∙ sym (append_assoc bytes (take at piece) more) in
           rw further (line_ends start so_far more c.in-Some.line _ c.line.new.self c.take-taken.new.self now
-          (c.take-taken.ensures.stands so_far now.stands) ends (c.line.ensures.records start (told_events (ended_lines so_far))) c.line.ensures.reader),
+          (c.take-taken.ensures.stands so_far now.stands) ends (c.line.ensures.records start (said_events (ended_lines so_far))) c.line.ensures.reader),
     )
 
 pub returns-in_default-clause-text : goal.returns-in_default-clause-text

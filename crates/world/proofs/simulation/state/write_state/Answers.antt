@@ -8,24 +8,24 @@ use Rattle.world.proofs.simulation.state.write_state.Goals as goal
 pub returns-in_err-write_links : goal.returns-in_err-write_links
 returns-in_err-write_links g c =
     let w = world_of c.args.configuration.now in
-    let behind = counts_line w ++ sweeps_line w c.args.sweeps in
+    let later = counts_line w ++ sweeps_line w c.args.sweeps in
     let nodes = c.in_ok-write_nodes.ensures in
     let failed = c.in_err-write_links.ensures in
-    fails_on_the_way c.from_residual-in_err-write_links.result (node_lines w ++ (link_lines w ++ behind)) _ _ _ _ c.from_residual-in_err-write_links.ensures.0
-    (then_beginning (node_lines w) (link_lines w ++ behind) _ _ _ nodes.0 (beginning_of_more (link_lines w) behind _ _ failed.0))
+    fails_on_the_way c.from_residual-in_err-write_links.result (node_lines w ++ (link_lines w ++ later)) _ _ _ _ c.from_residual-in_err-write_links.ensures.0
+    (then_beginning (node_lines w) (link_lines w ++ later) _ _ _ nodes.0 (beginning_of_more (link_lines w) later _ _ failed.0))
     (grind (arith, common_steps)) (grind (arith, common_steps))
 
 pub returns-in_err-write_counts : goal.returns-in_err-write_counts
 returns-in_err-write_counts g c =
     let w = world_of c.args.configuration.now in
-    let behind = sweeps_line w c.args.sweeps in
+    let later = sweeps_line w c.args.sweeps in
     let nodes = c.in_ok-write_nodes.ensures in
     let links = c.in_ok-write_links.ensures in
     let failed = c.in_err-write_counts.ensures in
-    fails_on_the_way c.from_residual-in_err-write_counts.result (node_lines w ++ (link_lines w ++ (counts_line w ++ behind))) _ _ _ _
+    fails_on_the_way c.from_residual-in_err-write_counts.result (node_lines w ++ (link_lines w ++ (counts_line w ++ later))) _ _ _ _
     c.from_residual-in_err-write_counts.ensures.0
-    (then_beginning (node_lines w) (link_lines w ++ (counts_line w ++ behind)) _ _ _ nodes.0
-    (then_beginning (link_lines w) (counts_line w ++ behind) _ _ _ links.0 (beginning_of_more (counts_line w) behind _ _ failed.0)))
+    (then_beginning (node_lines w) (link_lines w ++ (counts_line w ++ later)) _ _ _ nodes.0
+    (then_beginning (link_lines w) (counts_line w ++ later) _ _ _ links.0 (beginning_of_more (counts_line w) later _ _ failed.0)))
     (grind (arith, common_steps)) (grind (arith, common_steps))
 
 pub returns : goal.returns

@@ -19,3 +19,6 @@ returns-clause-text g c =
     let now : c.lending.result ≡ lending_count (world_of c.self.inside.judge.configuration) =
     c.lending.ensures ∙ ap (λ j. lending_count (world_of j)) c.configuration-2.ensures in
     is_shown start bytes before _ _ _ c.sweeps-sweeps.result c.sweeps-sweeps.ensures.sweeps ran c.lending.result now (rw c.configuration.ensures at wrote.0)
+
+pub returns-clause-led : goal.returns-clause-led
+returns-clause-led g c = λ start bytes before h. (c.in-Ok.ensures.runs start bytes before h).seen.judging.now_is

@@ -1,5 +1,5 @@
 use Rattle.std.proofs.Common.{refl}
-use Rattle.world.proofs.SimulatedLines.{line_passes, line_told}
+use Rattle.world.proofs.SimulatedLines.{line_passes, line_said}
 use Rattle.world.proofs.simulation.under_way.Simulation.line.Goals as goal
 
 pub returns-in_default-clause-runs : goal.returns-in_default-clause-runs
@@ -12,5 +12,5 @@ pub returns-clause-runs : goal.returns-clause-runs
 returns-clause-runs g c =
     λ start lines before h.
     let has_run = rw (← c.self.view_is) at h in
-    line_told c.write_refusal.result start lines c.args.line before _ _ _ _ c.in-Some.name.now _ _ has_run c.in-Some.ensures.name c.in-Some.ensures.seen refl
+    line_said c.write_refusal.result start lines c.args.line before _ _ _ _ c.in-Some.name.now _ _ has_run c.in-Some.ensures.name c.in-Some.ensures.seen refl
     c.saturating_add-self-inside.ensures c.write_refusal.ensures

@@ -7,8 +7,8 @@ use Rattle.world.proofs.simulation.under_way.Simulation.read_all.Goals as goal
 
 pub returns-in_default-clause-text : goal.returns-in_default-clause-text
 returns-in_default-clause-text g c =
-    λ start bytes before told h.
-    let so_far = c.loop-count.invariant.5 start bytes before told h in
+    λ start bytes before said h.
+    let so_far = c.loop-count.invariant.5 start bytes before said h in
     let failed = c.in_default.ensures.reads in
     record {
       count = longest_text - c.loop-count.left;
@@ -19,8 +19,8 @@ returns-in_default-clause-text g c =
 
 pub returns-then-count-eq0-clause-text : goal.returns-then-count-eq0-clause-text
 returns-then-count-eq0-clause-text g c =
-    λ start bytes before told h.
-    let so_far = c.loop-count.invariant.5 start bytes before told h in
+    λ start bytes before said h.
+    let so_far = c.loop-count.invariant.5 start bytes before said h in
     let n = longest_text - c.loop-count.left in
     let room : 0 < length c.read.new.buffer = grind (arith, common_steps) in
     let gives = rw c.if-count-eq0.true at c.in-Ok.ensures.reads.1 in
@@ -31,8 +31,8 @@ returns-then-count-eq0-clause-text g c =
 
 pub returns-in_default-take-clause-text : goal.returns-in_default-take-clause-text
 returns-in_default-take-clause-text g c =
-    λ start bytes before told h.
-    let so_far = c.loop-count.invariant.5 start bytes before told h in
+    λ start bytes before said h.
+    let so_far = c.loop-count.invariant.5 start bytes before said h in
     let n = longest_text - c.loop-count.left in
     let count = c.in-Ok.count in
     let gives = c.in-Ok.ensures.reads.1 in
@@ -48,8 +48,8 @@ returns-in_default-take-clause-text g c =
 
 pub returns-then-count-left-clause-text : goal.returns-then-count-left-clause-text
 returns-then-count-left-clause-text g c =
-    λ start bytes before told h.
-    let so_far = c.loop-count.invariant.5 start bytes before told h in
+    λ start bytes before said h.
+    let so_far = c.loop-count.invariant.5 start bytes before said h in
     let n = longest_text - c.loop-count.left in
     let count = c.in-Ok.count in
     let gives = c.in-Ok.ensures.reads.1 in
@@ -75,8 +75,8 @@ loop-count-preserved g c =
       grind (arith, common_steps),
       grind (arith, common_steps),
       grind (arith, common_steps),
-      λ start bytes before told h.
-          let so_far = c.loop-count.invariant.5 start bytes before told h in
+      λ start bytes before said h.
+          let so_far = c.loop-count.invariant.5 start bytes before said h in
           let gives = c.in-Ok.ensures.reads.1 in
           let read = rw next at (c.reading_in_pieces.ensures.more bytes n count _ _ c.read.new.buffer (so_far.0, so_far.1) gives) in
           let bytes_are = c.reading_in_pieces.ensures.next bytes n count c.min.result _ _ c.read.new.buffer (so_far.0, so_far.1) gives few ∙ ap (λ k. take k bytes) all in

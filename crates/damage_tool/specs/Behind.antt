@@ -1,8 +1,0 @@
--- If drawn events go.
-use Rattle.std.specs.Prelude.{List, ◌++◌}
-use Rattle.rand_pcg.specs.Lcg.{Lcg}
-use Rattle.run_model.specs.declared.event.Event.{Event}
-
--- they stand after those that are there
-abbrev pub behind : List Event → List Event × Lcg → List Event × Lcg
-behind events drawn = (events ++ drawn.0, drawn.1)

@@ -1,0 +1,72 @@
+//! One run, and when each layer of the proof stood in it for good.
+ghost use Rattle.std.specs.Prelude.{IfOk};
+ghost use Rattle.experiments.specs.Layered.{IsSettlingOf};
+
+use crate::layers_seen::sweeps_after;
+use crate::measured_run::{Scheduler, give_stretches, scrambled_world};
+use crate::watch::Watch;
+use rand_core::SeedableRng;
+use rand_pcg::Lcg64Xsh32;
+use std::alloc::{AllocError, Allocator};
+use topology::Net;
+
+/// When each layer of the proof stood for good in a run, in sweeps since its start.
+#[derive(Clone, Copy, Debug, PartialEq, Eq)]
+pub struct Settling {
+    /// The seed that the run was made of.
+    pub seed: u64,
+    /// How many events there were.
+    pub events: u64,
+    /// After how many sweeps every link was stable at each moment of the run.
+    pub links: u64,
+    /// After how many sweeps the tree was reached at each moment of the run.
+    pub tree: u64,
+    /// After how many sweeps the token ring was good at each moment of the run.
+    pub ring: u64,
+    /// After how many sweeps the network served at each moment of the run.
+    pub served: u64,
+    /// How many sweeps there were.
+    pub seen: u64,
+}
+
+/// Makes the run that [`measure_run`](crate::measure_run) makes, and says of each layer of the proof
+/// after how many sweeps it stood for good. Until all of them stand the whole network is looked at
+/// after each event, so this takes longer.
+///
+/// # Errors
+/// `AllocError` if the memory of the world or of its harms is refused.
+pub fn measure_layers<A: Allocator + Copy>(
+    alloc: A,
+    net: &Net<A>,
+    scheduler: Scheduler,
+    seed: u64,
+) -> Result<Settling, AllocError>
+    // Each number is that of the scheduler's run from the world that the seed scrambles, by the
+    // layer's definition in the proof; and none is above what the theorem says.
+    ensures { IfOk result (IsSettlingOf net.now scheduler seed) }
+{
+    run_model::laws::runs();
+    run_model::laws::start();
+    run_model::laws::moments();
+    run_model::laws::sweep_numbers();
+    convergence::laws::sharp();
+    damage_tool::laws::scramble();
+    damage_tool::laws::draws();
+    schedules::laws::accepted();
+    schedules::laws::edges();
+    let _known_nodes = net.nodes();
+    let start = scrambled_world(alloc, net, seed)?;
+    let mut watch = Watch::with_layers(start);
+    let mut generator = Lcg64Xsh32::seed_from_u64(seed);
+    give_stretches(net, scheduler, &mut generator, &mut watch);
+    let layers = watch.layers().unwrap();
+    Ok(Settling {
+        seed,
+        events: layers.events,
+        links: sweeps_after(layers.links),
+        tree: sweeps_after(layers.tree),
+        ring: sweeps_after(layers.ring),
+        served: watch.served_after(),
+        seen: watch.sweeps(),
+    })
+}

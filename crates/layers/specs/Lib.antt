@@ -1,0 +1,9 @@
+pub use Rattle.configuration.specs as configuration
+pub use Rattle.convergence.specs as convergence
+pub mod Numbers
+pub mod RingReading
+pub mod PayloadReading
+pub mod Links
+pub mod Stages
+pub mod Stops
+pub mod LayersOf

@@ -1,0 +1,17 @@
+-- The numbers of what is under way.
+use Rattle.std.specs.Prelude.{ℕ, List, [], ◌∷◌}
+use Rattle.topology.specs.declared.frame.Frame.{Frame}
+use Rattle.configuration.specs.link_model.declared.item.Item.{Item}
+use Rattle.configuration.specs.link_model.declared.item.Item.TheVariants as item
+use Rattle.layers.specs.declared.items.Number.{Number}
+use Rattle.layers.specs.declared.items.Number.TheVariants.{Own, Acknowledged}
+
+-- the number of a frame that is meant
+abbrev pub number_of : Number → Frame → ℕ
+number_of Own f = f.seq
+number_of Acknowledged f = f.ack
+
+-- that of an item, as a list: noise has none
+abbrev pub numbers_of : (Frame → ℕ) → Item → List ℕ
+numbers_of number item.Noise = []
+numbers_of number (item.Frame f) = number f ∷ []

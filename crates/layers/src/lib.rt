@@ -1,0 +1,39 @@
+//! What has settled of a network: the layers of the proof, one above the other.
+//!
+//! From any state a network comes to serve layer by layer: its links become stable, then the
+//! distances right, stage by stage, then the tree of distances and parents is reached, then the
+//! token ring is good, and last each loan has the privilege. [`Layers::of`] looks at a
+//! configuration and says which of them stand, each by its definition in the proof.
+//!
+//! ```
+//! let layers = Layers::of(&configuration);
+//! if layers.legitimate {
+//!     // and so it stays, until something is damaged
+//! }
+//! ```
+//!
+//! [`are_links_stable`], [`is_tree_reached`], [`is_token_ring_good`] and [`are_loans_privileged`] ask
+//! for one layer, and look no further than the first thing that is wrong.
+//!
+//! Nothing is changed, and no memory is taken.
+//!
+//! The traps: a layer may stand by chance before the one below it does, and then it need not stay;
+//! and a network may serve while it is not legitimate.
+#![tactic(auto)]
+
+mod items;
+mod links;
+mod loans;
+mod payload_reading;
+mod ring_reading;
+mod token_ring;
+mod tour;
+mod tree;
+mod whole;
+
+pub use configuration;
+pub use links::are_links_stable;
+pub use loans::are_loans_privileged;
+pub use token_ring::is_token_ring_good;
+pub use tree::is_tree_reached;
+pub use whole::Layers;

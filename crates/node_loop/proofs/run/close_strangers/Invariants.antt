@@ -1,5 +1,0 @@
-use Rattle.node_loop.proofs.Loose.{AreClosed}
-use Rattle.node_loop.proofs.run.close_strangers.Given as goal
-
-abbrev pub invariant-loop-id : goal.invariant-loop-id
-invariant-loop-id g l = AreClosed l.fn.node.registers.neighbours l.fn.ports.items l.ports.items l.id

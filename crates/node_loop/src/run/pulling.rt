@@ -1,0 +1,75 @@
+//! The frames that neighbours sent.
+ghost use Rattle.std.specs.Prelude.{◌≡◌, false};
+ghost use Rattle.std.specs.Prelude.{IsTrue};
+ghost use Rattle.node_core.specs.View.{site_in};
+
+use crate::doors::Doors;
+use crate::run::NodeRun;
+use crate::sight;
+use node_core::Item;
+use node_state_file::Store;
+use socket_links::Pull;
+use std::alloc::Allocator;
+
+/// At most so many frames are taken at each port in a turn.
+const FRAMES: usize = 64;
+
+impl<D: Doors, S: Store + Drop, A: Allocator + Copy> NodeRun<D, S, A> {
+    ghost use Rattle.node_loop.specs.Hearing.{Comes, Hears, Pulls, TakesAt};
+    ghost use Rattle.node_loop.specs.Remembering.{Remembers};
+
+    /// Takes the frames that neighbours sent.
+    pub(super) fn pull_all(&mut self, now: u64)
+        ensures hears { Hears D.P.gave D.P.took D.P.counts self.old.node self.new.node
+            self.old.ports.items self.new.ports.items }
+        ensures pace { Remembers self.old.pace self.new.pace }
+        ensures rest { (self.new.net ≡ self.old.net) × (self.new.turns ≡ self.old.turns)
+            × (self.new.store ≡ self.old.store) × (self.new.clients ≡ self.old.clients) }
+    {
+        for id in 0..self.net.nodes() {
+            self.pull(id, now);
+        }
+    }
+
+    /// Takes the frames that one neighbour sent.
+    fn pull(&mut self, id: u16, now: u64)
+        ensures takes { TakesAt (Pulls (site_in self.old.node).ranges D.P.gave D.P.took D.P.counts)
+            id self.old.node self.new.node self.old.ports.items self.new.ports.items }
+        ensures pace { Remembers self.old.pace self.new.pace }
+        ensures rest { (self.new.net ≡ self.old.net) × (self.new.turns ≡ self.old.turns)
+            × (self.new.store ≡ self.old.store) × (self.new.clients ≡ self.old.clients) }
+    {
+        for _ in 0..FRAMES {
+            if !self.pull_one(id, now) {
+                return;
+            }
+        }
+        self.has_more = true;
+    }
+
+    /// Takes the next frame that a neighbour sent. Returns false if there is none.
+    fn pull_one(&mut self, id: u16, now: u64) -> bool
+        ensures came { IsTrue result
+            → TakesAt (Comes (site_in self.old.node).ranges D.P.gave D.P.took)
+            id self.old.node self.new.node self.old.ports.items self.new.ports.items }
+        ensures ended { result ≡ false
+            → TakesAt (Pulls (site_in self.old.node).ranges D.P.gave D.P.took D.P.counts)
+            id self.old.node self.new.node self.old.ports.items self.new.ports.items }
+        ensures pace { Remembers self.old.pace self.new.pace }
+        ensures rest { (self.new.net ≡ self.old.net) × (self.new.turns ≡ self.old.turns)
+            × (self.new.store ≡ self.old.store) × (self.new.clients ≡ self.old.clients) }
+    {
+        if !self.node.is_neighbour(id) {
+            return false;
+        }
+        let frame = match self.ports[id as usize].pull(&self.net) {
+            Pull::Frame(frame) => frame,
+            Pull::Later => return false,
+            Pull::Broken => return false,
+        };
+        self.node.take(id, &Item::Frame(frame));
+        let trees = sight::trees(&self.node, &self.net);
+        let _hearing = self.pace.heard(id as usize, &frame, &trees, now);
+        true
+    }
+}

@@ -1,0 +1,32 @@
+-- How much of what was found in records.
+use Rattle.std.specs.Prelude.{ℕ, ◌+◌, ◌-◌, ◌^◌, min, List, fold}
+use Rattle.configuration.specs.run_model.declared.event.Event.{Event}
+use Rattle.configuration.specs.run_model.declared.event.Event.TheVariants as event
+use Rattle.configuration.specs.run_model.declared.event.Harm.{Harm}
+use Rattle.configuration.specs.run_model.declared.event.Harm.TheVariants as harm
+use Rattle.record_gathering.specs.declared.found.Found.{Found}
+
+-- one more; a count stays at its greatest value
+abbrev pub one_more : ℕ → ℕ
+one_more n = min (n + 1) (2 ^ 64 - 1)
+
+-- one more harm, which may be a frame that nobody sent
+abbrev pub with_harm : Found → Harm → Found
+with_harm f (harm.Item u v item) = record f { harms = one_more f.harms; forged = one_more f.forged }
+with_harm f _ = record f { harms = one_more f.harms }
+
+-- one more event: a loss, a harm, or another one
+abbrev pub with_kind : Found → Event → Found
+with_kind f (event.Lose u v i) = record f { lost = one_more f.lost }
+with_kind f (event.Damage h) = with_harm f h
+with_kind f _ = f
+
+abbrev pub with_event : Found → Event → Found
+with_event f e = with_kind (record f { events = one_more f.events }) e
+
+-- and all of these
+abbrev pub with_events : Found → List Event → Found
+with_events f es = fold with_event f es
+
+abbrev pub nothing : Found
+nothing = record { events = 0; harms = 0; lost = 0; forged = 0 }

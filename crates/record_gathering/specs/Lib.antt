@@ -1,0 +1,13 @@
+pub use Rattle.configuration.specs as configuration
+pub use Rattle.flight_records.specs as flight_records
+pub mod Accepted
+pub mod Counts
+pub mod Differences
+pub mod Entries
+pub mod Firsts
+pub mod Frames
+pub mod Laws
+pub mod Order
+pub mod Queues
+pub mod Standing
+pub mod View

@@ -1,0 +1,380 @@
+//! What an entry of a node's record becomes in a world.
+ghost use Rattle.std.specs.Prelude.{◌≡◌, ◌<◌, ◌++◌, ◌∷◌, [], ◌&&◌, OnOk, IsTrue, map, slice_get};
+ghost use Rattle.topology.specs.Network.{are_joined};
+ghost use Rattle.configuration.specs.ConfigurationView.{world_of};
+ghost use Rattle.configuration.specs.run_model.Step.{has_room};
+ghost use Rattle.configuration.specs.run_model.declared.event.Event.TheVariants.{Ask, Leave};
+ghost use Rattle.record_gathering.specs.Differences.{harms_in, desk_events, port_harms};
+ghost use Rattle.record_gathering.specs.Entries.{losses, is_of_link, forged_events, taken_events};
+ghost use Rattle.record_gathering.specs.Entries.{room_events, sent_events, deed_events};
+ghost use Rattle.record_gathering.specs.Entries.{part_events, noted_events, entry_events};
+ghost use Rattle.record_gathering.specs.Entries.{is_deed_ready, is_ready};
+
+use crate::differences::{LoanNoted, PortNoted, frame_harms, loan_harm, own_harm, port_harms};
+use crate::frames::place_of;
+use configuration::Configuration;
+use configuration::link_model::Item;
+use configuration::run_model::{Event, Harm};
+use flight_records::{Deed, Noted, StatePart};
+use std::alloc::{AllocError, Allocator};
+use topology::Frame;
+
+/// Whether two nodes are neighbours.
+fn is_link<A: Allocator + Copy>(world: &Configuration<A>, from: u16, to: u16) -> bool
+    ensures joined { result ≡ are_joined (world_of world.now).net.edges from to }
+    ensures from_in { IsTrue result → from < (world_of world.now).net.nodes }
+    ensures to_in { IsTrue result → to < (world_of world.now).net.nodes }
+{
+    topology::laws::joined();
+    let net = world.net();
+    let _known_network = net.nodes();
+    net.are_joined(from, to)
+}
+
+/// Whether a frame is one that may be on the link between two nodes.
+fn is_of_link<A: Allocator + Copy>(
+    world: &Configuration<A>,
+    from: u16,
+    to: u16,
+    frame: &Frame,
+) -> bool
+    ensures of_link { result ≡ is_of_link (world_of world.now) from to frame.now }
+    ensures from_in { IsTrue result → from < (world_of world.now).net.nodes }
+    ensures to_in { IsTrue result → to < (world_of world.now).net.nodes }
+{
+    is_link(world, from, to) && world.net().fits(frame)
+}
+
+/// Whether a link has room for one more item.
+fn has_room<A: Allocator + Copy>(world: &Configuration<A>, from: u16, to: u16) -> bool
+    requires from_in { from < (world_of world.now).net.nodes }
+    requires to_in { to < (world_of world.now).net.nodes }
+    ensures { result ≡ has_room (world_of world.now) from to }
+{
+    world.under_way(from, to) < usize::from(world.net().capacity())
+}
+
+/// One more event.
+fn add<B: Allocator>(events: &mut Vec<Event, B>, event: Event) -> Result<(), AllocError>
+    ensures { OnOk result (events.new.items ≡ events.old.items ++ event ∷ []) }
+{
+    events.push(event)?;
+    Ok(())
+}
+
+/// The harms among some.
+fn add_harms<B: Allocator>(
+    events: &mut Vec<Event, B>,
+    harms: &[Option<Harm>],
+) -> Result<(), AllocError>
+    ensures { OnOk result (events.new.items ≡ events.old.items ++ harms_in harms.now) }
+{
+    for harm in harms {
+        add_harm(events, harm)?;
+    }
+    Ok(())
+}
+
+/// A harm, if there is one.
+fn add_harm<B: Allocator>(events: &mut Vec<Event, B>, harm: &Option<Harm>) -> Result<(), AllocError>
+    ensures { OnOk result (events.new.items ≡ events.old.items ++ harms_in (harm.now ∷ [])) }
+{
+    if let Some(harm) = harm {
+        add(events, Event::Damage(*harm))?;
+    }
+    Ok(())
+}
+
+/// The oldest items of a link are lost, so many.
+fn add_losses<B: Allocator>(
+    events: &mut Vec<Event, B>,
+    from: u16,
+    to: u16,
+    count: usize,
+) -> Result<(), AllocError>
+    ensures { OnOk result (events.new.items ≡ events.old.items ++ losses from to count) }
+{
+    for lost in 0..count {
+        add(events, Event::Lose { from, to, item: 0 })?;
+    }
+    Ok(())
+}
+
+/// A frame was taken: all that was in front of it is lost. One that nobody sent is put there.
+fn add_taken<A: Allocator + Copy, B: Allocator>(
+    world: &Configuration<A>,
+    from: u16,
+    to: u16,
+    frame: &Frame,
+    events: &mut Vec<Event, B>,
+) -> Result<(), AllocError>
+    requires from_in { from < (world_of world.now).net.nodes }
+    requires to_in { to < (world_of world.now).net.nodes }
+    ensures { OnOk result (events.new.items
+        ≡ events.old.items ++ taken_events (world_of world.now) from to frame.now) }
+{
+    let place = place_of(world, from, to, frame);
+    add_losses(events, from, to, place.in_front)?;
+    if !place.is_there {
+        let item = Item::Frame(*frame);
+        add(events, Event::Damage(Harm::Item { from, to, item }))?;
+    }
+    add(events, Event::Take { from, to })
+}
+
+/// A link accepted a frame: its sender's port sends it. A link that is full loses its oldest item.
+fn add_sent<A: Allocator + Copy, B: Allocator>(
+    world: &Configuration<A>,
+    from: u16,
+    to: u16,
+    frame: &Frame,
+    events: &mut Vec<Event, B>,
+) -> Result<(), AllocError>
+    requires from_in { from < (world_of world.now).net.nodes }
+    requires to_in { to < (world_of world.now).net.nodes }
+    ensures { OnOk result (events.new.items
+        ≡ events.old.items ++ sent_events (world_of world.now) from to frame.now) }
+{
+    add_harms(events, &frame_harms(from, world.node(from), to, frame))?;
+    if !has_room(world, from, to) {
+        add_losses(events, from, to, 1)?;
+    }
+    add(events, Event::Send { from, to })
+}
+
+/// A node did this.
+fn add_deed<A: Allocator + Copy, B: Allocator>(
+    world: &Configuration<A>,
+    node: u16,
+    deed: &Deed,
+    events: &mut Vec<Event, B>,
+) -> Result<(), AllocError>
+    ensures { OnOk result (events.new.items
+        ≡ events.old.items ++ deed_events (world_of world.now) node deed.now) }
+{
+    match *deed {
+        Deed::Ticks => add(events, Event::Tick { node }),
+        Deed::Takes { from, frame } if is_of_link(world, from, node, &frame) => {
+            add_taken(world, from, node, &frame, events)
+        }
+        Deed::Sends { to, frame } if is_of_link(world, node, to, &frame) => {
+            add_sent(world, node, to, &frame, events)
+        }
+        Deed::Asks { ticket } => add(events, Event::Ask { node, ticket }),
+        Deed::Leaves { ticket } => add(events, Event::Leave { node, ticket }),
+        Deed::Joins { neighbour } => add(events, Event::Damage(Harm::Join { node, neighbour })),
+        Deed::Parts { neighbour } => add(events, Event::Damage(Harm::Part { node, neighbour })),
+        Deed::Takes { .. }
+        | Deed::Sends { .. }
+        | Deed::TakesAgain { .. }
+        | Deed::SendsAgain { .. }
+        | Deed::Connects { .. }
+        | Deed::Disconnects { .. } => Ok(()),
+    }
+}
+
+/// These tickets leave.
+fn add_leaves<B: Allocator>(
+    node: u16,
+    tickets: &[u16],
+    events: &mut Vec<Event, B>,
+) -> Result<(), AllocError>
+    ensures { OnOk result (events.new.items ≡ events.old.items ++ map (Leave node) tickets.now) }
+{
+    for ticket in tickets {
+        add(
+            events,
+            Event::Leave {
+                node,
+                ticket: *ticket,
+            },
+        )?;
+    }
+    Ok(())
+}
+
+/// These tickets ask.
+fn add_asks<B: Allocator>(
+    node: u16,
+    tickets: &[u16],
+    events: &mut Vec<Event, B>,
+) -> Result<(), AllocError>
+    ensures { OnOk result (events.new.items ≡ events.old.items ++ map (Ask node) tickets.now) }
+{
+    for ticket in tickets {
+        add(
+            events,
+            Event::Ask {
+                node,
+                ticket: *ticket,
+            },
+        )?;
+    }
+    Ok(())
+}
+
+/// No loan, as it stands after a harm.
+const NO_LOAN: LoanNoted = LoanNoted {
+    lent: None,
+    left: 0,
+    served: false,
+};
+
+/// A desk stands so, with these tickets that wait.
+fn add_desk<A: Allocator + Copy, B: Allocator>(
+    world: &Configuration<A>,
+    node: u16,
+    queue: &[u16],
+    loan: &LoanNoted,
+    events: &mut Vec<Event, B>,
+) -> Result<(), AllocError>
+    requires { node < (world_of world.now).net.nodes }
+    ensures { OnOk result (events.new.items
+        ≡ events.old.items ++ desk_events node ((world_of world.now).node node).desk queue.now
+        loan.now.lent loan.now.left loan.now.served) }
+{
+    let now = world.node(node);
+    if now.tickets() == queue {
+        let stands = LoanNoted {
+            lent: now.lent(),
+            left: now.left(),
+            served: now.served(),
+        };
+        return add_harm(events, &loan_harm(node, &stands, loan));
+    }
+    let ends = Harm::Desk {
+        node,
+        lent: None,
+        left: 0,
+        served: false,
+    };
+    add(events, Event::Damage(ends))?;
+    add_leaves(node, now.tickets(), events)?;
+    add_asks(node, queue, events)?;
+    add_harm(events, &loan_harm(node, &NO_LOAN, loan))
+}
+
+/// A port stands so.
+fn add_port<A: Allocator + Copy, B: Allocator>(
+    world: &Configuration<A>,
+    node: u16,
+    port: &PortNoted,
+    events: &mut Vec<Event, B>,
+) -> Result<(), AllocError>
+    requires node_in { node < (world_of world.now).net.nodes }
+    requires neighbour_in { port.now.neighbour < (world_of world.now).net.nodes }
+    ensures { OnOk result (events.new.items
+        ≡ events.old.items ++ harms_in (port_harms node port.now.neighbour
+        ((world_of world.now).node node)
+        (record {
+          seq = port.now.seq;
+          last = port.now.last;
+          staged = port.now.staged;
+          copy = port.now.copy;
+        }) port.now.value)) }
+{
+    add_harms(events, &port_harms(node, world.node(node), port))
+}
+
+/// A part of a node's state is noted.
+fn add_part<A: Allocator + Copy, B: Allocator>(
+    world: &Configuration<A>,
+    queue: &[u16],
+    node: u16,
+    part: &StatePart,
+    events: &mut Vec<Event, B>,
+) -> Result<(), AllocError>
+    requires { node < (world_of world.now).net.nodes }
+    ensures { OnOk result (events.new.items
+        ≡ events.old.items ++ part_events (world_of world.now) queue.now node part.now) }
+{
+    match *part {
+        StatePart::Own { distance, parent } => {
+            add_harm(events, &own_harm(node, world.node(node), distance, parent))
+        }
+        StatePart::Port {
+            neighbour,
+            seq,
+            last,
+            staged,
+            copy,
+            value,
+        } if is_link(world, node, neighbour) => {
+            let port = PortNoted {
+                neighbour,
+                seq,
+                last,
+                staged,
+                copy,
+                value,
+            };
+            add_port(world, node, &port, events)
+        }
+        StatePart::Loan { lent, left, served } => {
+            add_desk(
+                world,
+                node,
+                queue,
+                &LoanNoted { lent, left, served },
+                events,
+            )
+        }
+        StatePart::Start { .. }
+        | StatePart::Port { .. }
+        | StatePart::Waits { .. }
+        | StatePart::Whole => Ok(()),
+    }
+}
+
+/// What an entry of a node's record becomes, after the events that are there.
+pub fn add_entry<A: Allocator + Copy, B: Allocator>(
+    world: &Configuration<A>,
+    queue: &[u16],
+    node: u16,
+    noted: &Noted,
+    events: &mut Vec<Event, B>,
+) -> Result<(), AllocError>
+    ensures { OnOk result (events.new.items
+        ≡ events.old.items ++ entry_events (world_of world.now) queue.now node noted.now) }
+{
+    if node >= world.net().nodes() {
+        return Ok(());
+    }
+    match noted {
+        Noted::State(part) => add_part(world, queue, node, part, events),
+        Noted::Deed(deed) => add_deed(world, node, deed, events),
+    }
+}
+
+/// Whether an entry may come next.
+pub fn is_ready<A: Allocator + Copy>(world: &Configuration<A>, node: u16, noted: &Noted) -> bool
+    ensures { result ≡ is_ready (world_of world.now) node noted.now }
+{
+    match noted {
+        Noted::Deed(deed) => is_deed_ready(world, node, deed),
+        Noted::State(_) => true,
+    }
+}
+
+/// Whether a deed may come next.
+fn is_deed_ready<A: Allocator + Copy>(world: &Configuration<A>, node: u16, deed: &Deed) -> bool
+    ensures { result ≡ is_deed_ready (world_of world.now) node deed.now }
+{
+    match deed {
+        Deed::Takes { from, frame } => {
+            !is_of_link(world, *from, node, frame) || place_of(world, *from, node, frame).is_there
+        }
+        Deed::Sends { to, frame } => {
+            !is_of_link(world, node, *to, frame) || has_room(world, node, *to)
+        }
+        Deed::Ticks
+        | Deed::TakesAgain { .. }
+        | Deed::SendsAgain { .. }
+        | Deed::Asks { .. }
+        | Deed::Leaves { .. }
+        | Deed::Joins { .. }
+        | Deed::Parts { .. }
+        | Deed::Connects { .. }
+        | Deed::Disconnects { .. } => true,
+    }
+}

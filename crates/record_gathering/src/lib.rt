@@ -1,0 +1,36 @@
+//! What the records of all nodes of a network say, as one list of events.
+//!
+//! A [`Gathering`] has a world, which begins as the network starts. It is given the entries of all
+//! nodes' records, in an order in which each frame is taken after it was sent, as far as there is
+//! one. Each entry becomes events of the world: a deed of a node is that deed of the world's node,
+//! and a state that is noted is harms wherever the world's node stands otherwise. So whoever plays
+//! the events finds each node in the states that were noted, and a harm only if what was noted
+//! before does not lead there.
+//!
+//! ```
+//! let mut gathering = Gathering::new(alloc, &net, 0)?;
+//! let mut events = Vec::new(alloc);
+//! gathering.notes(1, &Noted::Deed(Deed::Ticks), &mut events)?;     // tick 1
+//! ```
+//!
+//! A frame that was taken is the earliest equal one that is under way: those in front of it are lost.
+//! [`Gathering::is_ready`] says whether there is one. If nobody sent it, since it was forged or since
+//! a part of a record is missing, a harm puts it on the link.
+//!
+//! The trap: that a frame is lost is known only when a later one is taken.
+#![tactic(auto)]
+
+mod differences;
+mod entries;
+mod found;
+mod frames;
+mod gathering;
+pub mod laws;
+mod order;
+mod queue;
+
+pub use configuration;
+pub use configuration::run_model;
+pub use flight_records;
+pub use found::Found;
+pub use gathering::Gathering;
