@@ -63,9 +63,9 @@ settles-within net start es s network splits leads fewer links tree ring sharp o
     → ((w : World) (es : List Event) → IsWorldInRange w → IsUndamaged w es → Sweeps w (bound w.net) es → Fact (run w es))
     → (sweeps : ℕ) → HoldsFrom Fact start es sweeps → sweeps ≤ bound net =
     λ Fact bound converges sweeps h.
-        subst (λ n. sweeps ≤ bound n) same
-        (subst (λ k. k ≤ bound start.net) (sym h.2)
-        (holds-within Fact bound converges network splits leads fewer start ok es h.0 shown.undamaged h.1)) in
+    subst (λ n. sweeps ≤ bound n) same
+    (subst (λ k. k ≤ bound start.net) (sym h.2)
+    (holds-within Fact bound converges network splits leads fewer start ok es h.0 shown.undamaged h.1)) in
     record {
       links = within AreLinksStable (λ n. 6) links s.links shown.links;
       tree = within IsTreeReached (λ n. 6 + 4 * (eccentricity_of n + 2)) tree s.tree shown.tree;

@@ -17,9 +17,9 @@
 
 mod delay;
 mod giving_back;
+pub mod laws;
 mod layered_run;
 mod layers_seen;
-pub mod laws;
 mod measured_run;
 mod plan;
 mod summary;
