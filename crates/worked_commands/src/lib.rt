@@ -15,8 +15,6 @@ mod files;
 #[cfg(test)]
 mod junk;
 #[cfg(test)]
-mod layers;
-#[cfg(test)]
 mod measure;
 #[cfg(test)]
 mod nets;
@@ -26,6 +24,8 @@ mod network;
 mod schedule;
 #[cfg(test)]
 mod scramble;
+#[cfg(test)]
+mod settled;
 #[cfg(test)]
 mod shelf;
 #[cfg(test)]
