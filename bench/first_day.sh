@@ -442,6 +442,47 @@ PYTHON
     [ "$(grep -c 'are refused' said)" -eq 1 ] || wrong "that clients are refused is said more than once: $(cat said)"
 fi
 
+# It also says, once, that clients are closed: 128 are connected, and more come; and then that they may connect again.
+if command -v python3 >/dev/null; then
+    JOURNAL_STREAM=1:1 "$program" node --log 5 two.toml 0 crowded >node-0 2>said </dev/null &
+    running=$!
+    for _ in $(seq 100); do grep -qs ready node-0 && break; sleep 0.1; done
+    python3 - crowded/desk-0.sock <<'PYTHON' || wrong "of 131 clients not just three are closed at once"
+import socket, sys, time
+
+
+def client():
+    made = socket.socket(socket.AF_UNIX)
+    made.settimeout(20)
+    made.connect(sys.argv[1])
+    return made
+
+
+def is_served(one):
+    one.sendall(b"status\n")
+    return one.recv(200).startswith(b"node 0 distance 0 ")
+
+
+connected = [client() for _ in range(128)]
+assert all(is_served(one) for one in connected)
+for _ in range(3):
+    assert client().recv(100) == b""
+assert all(is_served(one) for one in connected)
+time.sleep(0.5)
+for one in connected[:64]:
+    one.close()
+time.sleep(0.5)
+assert is_served(client())
+PYTHON
+    "$program" stop crowded >output
+    wait
+    running=
+    [ "$(cat said)" = "<5>tokentree: node 0: begins
+<4>tokentree: node 0: 128 clients are connected, and further ones are closed
+<5>tokentree: node 0: clients may connect again
+<5>tokentree: node 0: ends" ] || wrong "of closed clients a node says $(cat said)"
+fi
+
 # A service manager hears that a node is ready, by a path and by an abstract name.
 if command -v python3 >/dev/null; then
     for name in "$made/notify" "@tokentree-$$"; do

@@ -2,12 +2,23 @@
 use Rattle.std.proofs.Common.{◌≡◌, ◌≢◌, true, false, Some, None, [], ◌∷◌, refl, codes, arith}
 use Rattle.std.specs.Fmt.{digits}
 use Rattle.lock_desk.specs.declared.act.DeskAct.TheVariants as act
-use Rattle.node_log.specs.declared.event.Event.TheVariants.{Begins, Up, Down, Granted, Lost, GivenBack, Full, Room}
+use Rattle.node_log.specs.declared.event.Event.TheVariants.{
+  Begins,
+  Up,
+  Down,
+  Granted,
+  Lost,
+  GivenBack,
+  Full,
+  Room,
+  Crowded,
+  Seats,
+}
 use Rattle.node_log.specs.declared.event.Level.TheVariants.{Warning, Notice, Info}
 use Rattle.node_log.specs.declared.rate.LineRate.{LineRate}
 use Rattle.node_log.specs.Events.{level_of, priority_of, level_with, is_said_at}
 use Rattle.node_log.specs.Rate.{new_rate, second_of, said_in, answer_at, rate_after, answers}
-use Rattle.node_log.specs.Turns.{gave_back, by_act, changed, by_link, by_desk, full_after, next_of, admitted, rate_then}
+use Rattle.node_log.specs.Turns.{gave_back, by_act, changed, by_link, by_desk, full_after, by_crowd, crowded_after, next_of, admitted, rate_then}
 use Rattle.node_log.specs.Line.{event_text, priority_text, left_out_text, log_line}
 use Rattle.node_log.specs.Laws.{is_said}
 
@@ -144,6 +155,45 @@ urgent-room = refl
 
 words-full : event_text Full ≡ codes "64 clients wait, and further ones are refused"
 words-full = refl
+
+-- clients: one is closed, and they may connect again when 64 are connected
+crowd-closed : by_crowd 1 128 false ≡ Some Crowded
+crowd-closed = refl
+
+-- 128 are connected, and no further one has come
+crowd_not-full : by_crowd 0 128 false ≡ None
+crowd_not-full = refl
+
+crowd_not-again : by_crowd 3 128 true ≡ None
+crowd_not-again = refl
+
+crowd_not-soon : by_crowd 0 65 true ≡ None
+crowd_not-soon = refl
+
+crowd-room : by_crowd 0 64 true ≡ Some Seats
+crowd-room = refl
+
+-- one was closed in this turn, in which many left later
+crowd_not-left : by_crowd 1 10 true ≡ None
+crowd_not-left = refl
+
+crowded-once : crowded_after 1 128 false ≡ true
+crowded-once = refl
+
+crowded_not-full : crowded_after 0 128 false ≡ false
+crowded_not-full = refl
+
+crowded-still : crowded_after 0 65 true ≡ true
+crowded-still = refl
+
+crowded_not-half : crowded_after 0 64 true ≡ false
+crowded_not-half = refl
+
+urgent-crowded : level_of Crowded ≡ Warning
+urgent-crowded = refl
+
+words-crowded : event_text Crowded ≡ codes "128 clients are connected, and further ones are closed"
+words-crowded = refl
 
 next-first : next_of 3 2 ≡ 0
 next-first = refl

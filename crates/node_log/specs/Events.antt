@@ -1,15 +1,28 @@
 -- How urgent it is what a node says of itself.
 use Rattle.std.specs.Prelude.{ℕ, Bool, ◌==◌, nat_le, if◌then◌else◌, Option, None, Some}
 use Rattle.node_log.specs.declared.event.Event.{Event}
-use Rattle.node_log.specs.declared.event.Event.TheVariants.{Begins, Ends, Up, Down, Granted, Lost, GivenBack, Full, Room}
+use Rattle.node_log.specs.declared.event.Event.TheVariants.{
+  Begins,
+  Ends,
+  Up,
+  Down,
+  Granted,
+  Lost,
+  GivenBack,
+  Full,
+  Room,
+  Crowded,
+  Seats,
+}
 use Rattle.node_log.specs.declared.event.Level.{Level}
 use Rattle.node_log.specs.declared.event.Level.TheVariants.{Warning, Notice, Info}
 
--- a link that is gone, a lock that is lost and a client that is refused are amiss; grants go on all the time
+-- a link that is gone, a lock that is lost and a client that is refused or closed are amiss; grants go on all the time
 abbrev pub level_of : Event → Level
 level_of (Down id) = Warning
 level_of (Lost ticket) = Warning
 level_of Full = Warning
+level_of Crowded = Warning
 level_of (Granted ticket) = Info
 level_of (GivenBack ticket) = Info
 level_of _ = Notice

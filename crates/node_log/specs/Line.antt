@@ -1,7 +1,19 @@
 -- A line of a node's log.
 use Rattle.std.specs.Prelude.{ℕ, Bool, nat_lt, if◌then◌else◌, List, [], ◌++◌, codes, decimal}
 use Rattle.node_log.specs.declared.event.Event.{Event}
-use Rattle.node_log.specs.declared.event.Event.TheVariants.{Begins, Ends, Up, Down, Granted, Lost, GivenBack, Full, Room}
+use Rattle.node_log.specs.declared.event.Event.TheVariants.{
+  Begins,
+  Ends,
+  Up,
+  Down,
+  Granted,
+  Lost,
+  GivenBack,
+  Full,
+  Room,
+  Crowded,
+  Seats,
+}
 use Rattle.node_log.specs.Events.{level_of, priority_of}
 
 abbrev pub event_text : Event → List ℕ
@@ -14,6 +26,8 @@ event_text (Lost ticket) = codes "ticket " ++ (decimal ticket ++ codes " has los
 event_text (GivenBack ticket) = codes "ticket " ++ (decimal ticket ++ codes " has given the lock back")
 event_text Full = codes "64 clients wait, and further ones are refused"
 event_text Room = codes "clients may wait again"
+event_text Crowded = codes "128 clients are connected, and further ones are closed"
+event_text Seats = codes "clients may connect again"
 
 -- the priority in angle brackets, as the journal of systemd reads it in front of a line (sd-daemon)
 abbrev pub priority_text : Event → Bool → List ℕ

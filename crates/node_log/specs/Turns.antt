@@ -1,10 +1,20 @@
 -- What happened in a turn of a node, and what of it is said.
-use Rattle.std.specs.Prelude.{ℕ, Bool, true, false, not, ◌+◌, nat_lt, if◌then◌else◌, Option, None, Some, List}
+use Rattle.std.specs.Prelude.{ℕ, Bool, true, false, not, ◌+◌, ◌||◌, nat_lt, if◌then◌else◌, Option, None, Some, List}
 use Rattle.std.specs.List.{slice_index_or}
 use Rattle.lock_desk.specs.declared.act.DeskAct.{DeskAct}
 use Rattle.lock_desk.specs.declared.act.DeskAct.TheVariants as act
 use Rattle.node_log.specs.declared.event.Event.{Event}
-use Rattle.node_log.specs.declared.event.Event.TheVariants.{Up, Down, Granted, Lost, GivenBack, Full, Room}
+use Rattle.node_log.specs.declared.event.Event.TheVariants.{
+  Up,
+  Down,
+  Granted,
+  Lost,
+  GivenBack,
+  Full,
+  Room,
+  Crowded,
+  Seats,
+}
 use Rattle.node_log.specs.declared.event.Level.{Level}
 use Rattle.node_log.specs.declared.rate.LineRate.{LineRate}
 use Rattle.node_log.specs.Events.{level_of, is_said_at}
@@ -41,6 +51,16 @@ by_desk waiting true = if nat_lt 32 waiting then None else Some Room
 abbrev pub full_after : ℕ → Bool → Bool
 full_after waiting false = not (nat_lt waiting 64)
 full_after waiting true = nat_lt 32 waiting
+
+-- a node has at most 128 clients, and closes each further one. That is said once, until at most half
+-- of them are connected
+abbrev pub by_crowd : ℕ → ℕ → Bool → Option Event
+by_crowd closed connected false = if nat_lt 0 closed then Some Crowded else None
+by_crowd closed connected true = if nat_lt 64 connected || nat_lt 0 closed then None else Some Seats
+
+abbrev pub crowded_after : ℕ → ℕ → Bool → Bool
+crowded_after closed connected false = nat_lt 0 closed
+crowded_after closed connected true = nat_lt 64 connected || nat_lt 0 closed
 
 -- after the last node of the network comes the first
 abbrev pub next_of : ℕ → ℕ → ℕ

@@ -23,6 +23,10 @@ pub enum Event {
     Full,
     /// At most half as many wait again.
     Room,
+    /// As many clients are connected as may be, 128: a further one was closed.
+    Crowded,
+    /// At most half as many are connected again.
+    Seats,
 }
 
 /// How urgent it is.
@@ -42,8 +46,9 @@ impl Event {
         ensures { result ≡ level_of self }
     {
         match self {
-            Event::Down(_) | Event::Lost(_) | Event::Full => Level::Warning,
-            Event::Begins | Event::Ends | Event::Up(_) | Event::Room => Level::Notice,
+            Event::Down(_) | Event::Lost(_) | Event::Full | Event::Crowded => Level::Warning,
+            Event::Begins | Event::Ends | Event::Up(_) | Event::Room | Event::Seats =>
+                Level::Notice,
             Event::Granted(_) | Event::GivenBack(_) => Level::Info,
         }
     }

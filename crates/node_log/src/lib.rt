@@ -1,5 +1,6 @@
 //! What a node says of itself while it runs, for whoever keeps its lines: when a link comes and goes, who is
-//! granted the lock, loses it or gives it back, and when so many wait that further clients are refused.
+//! granted the lock, loses it or gives it back, and when so many wait that further clients are refused, or so many
+//! are connected that further ones are closed.
 //!
 //! ```
 //! let mut log = NodeLog::new(Some(Level::Info));       // None says nothing

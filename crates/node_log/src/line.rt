@@ -90,6 +90,10 @@ impl fmt::Display for What {
             Event::GivenBack(ticket) => write!(f, "ticket {ticket} has given the lock back"),
             Event::Full => f.write_str("64 clients wait, and further ones are refused"),
             Event::Room => f.write_str("clients may wait again"),
+            Event::Crowded => {
+                f.write_str("128 clients are connected, and further ones are closed")
+            }
+            Event::Seats => f.write_str("clients may connect again"),
         }
     }
 }

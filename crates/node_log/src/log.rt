@@ -1,7 +1,7 @@
 //! The log of a node.
 ghost use Rattle.std.specs.Prelude.{◌≡◌, ◌≢◌, ◌<◌, ℕ, [], ◌∷◌, None, false, is_some, replicate};
 ghost use Rattle.std.specs.List.{slice_index_or};
-ghost use Rattle.node_log.specs.Turns.{gave_back, by_act, by_link, by_desk, full_after};
+ghost use Rattle.node_log.specs.Turns.{gave_back, by_act, by_link, by_desk, full_after, by_crowd, crowded_after};
 ghost use Rattle.node_log.specs.Turns.{admitted, rate_then, next_of};
 
 use crate::event::{Event, Level};
@@ -17,6 +17,9 @@ const PLACES: usize = 64;
 /// How many wait at most when a desk that was full has room again.
 const HALF: usize = 32;
 
+/// How many clients are connected at most when a node that was crowded has room again.
+const HALF_CONNECTED: usize = 64;
+
 /// What is seen of a node after a turn.
 #[derive(Clone, Copy, Debug, PartialEq, Eq)]
 pub struct TurnSight {
@@ -26,6 +29,10 @@ pub struct TurnSight {
     pub lent: Option<u16>,
     /// How many clients wait.
     pub waiting: usize,
+    /// How many clients are connected.
+    pub connected: usize,
+    /// How many clients were closed as soon as they had come, since the turn before.
+    pub closed: u64,
     /// The node to which the link was looked at.
     pub link: u16,
     /// Whether a connection to it stands.
@@ -46,6 +53,8 @@ pub struct NodeLog {
     lent: Option<u16>,
     /// Whether it has said that further clients are refused, and not since that they may wait again.
     is_full: bool,
+    /// Whether it has said that further clients are closed, and not since that they may connect again.
+    is_crowded: bool,
 }
 
 impl NodeLog {
@@ -55,7 +64,7 @@ impl NodeLog {
     pub fn new(least: Option<Level>) -> NodeLog
         ensures level { result.least ≡ least }
         ensures rest { (result.rate ≡ new_rate) × (result.up ≡ replicate 64 false) × (result.next ≡ 0)
-            × (result.lent ≡ None) × (result.is_full ≡ false) }
+            × (result.lent ≡ None) × (result.is_full ≡ false) × (result.is_crowded ≡ false) }
     {
         NodeLog {
             least,
@@ -64,6 +73,7 @@ impl NodeLog {
             next: 0,
             lent: None,
             is_full: false,
+            is_crowded: false,
         }
     }
 
@@ -86,14 +96,18 @@ impl NodeLog {
     }
 
     /// What happened in a turn, by what is seen after it: who released the lock, and who was
-    /// granted it or lost it, whether the link is up or down now, and whether further clients are
-    /// refused now or may wait again. Of an id above 63 nothing is said.
-    pub fn turn_ended(&mut self, sight: TurnSight) -> [Option<Event>; 4]
+    /// granted it or lost it, whether the link is up or down now, whether further clients are
+    /// refused now or may wait again, and whether they are closed now or may connect again. Of an id
+    /// above 63 nothing is said.
+    pub fn turn_ended(&mut self, sight: TurnSight) -> [Option<Event>; 5]
         ensures events { result ≡ gave_back self.old.lent sight.act sight.lent ∷ by_act sight.act
             ∷ by_link sight.link sight.is_up self.old.up
-            ∷ by_desk sight.waiting self.old.is_full ∷ [] }
+            ∷ by_desk sight.waiting self.old.is_full
+            ∷ by_crowd sight.closed sight.connected self.old.is_crowded ∷ [] }
         ensures lent { self.new.lent ≡ sight.lent }
         ensures full { self.new.is_full ≡ full_after sight.waiting self.old.is_full }
+        ensures crowded { self.new.is_crowded
+            ≡ crowded_after sight.closed sight.connected self.old.is_crowded }
         ensures link { sight.link < 64 → slice_index_or self.new.up sight.link false ≡ sight.is_up }
         ensures others { (other : ℕ) → other ≢ sight.link
             → slice_index_or self.new.up other false ≡ slice_index_or self.old.up other false }
@@ -103,8 +117,9 @@ impl NodeLog {
         let back = gave_back(self.lent, sight.act, sight.lent);
         let link = self.see_link(sight.link, sight.is_up);
         let desk = self.see_desk(sight.waiting);
+        let crowd = self.see_crowd(sight.closed, sight.connected);
         self.lent = sight.lent;
-        [back, by_act(sight.act), link, desk]
+        [back, by_act(sight.act), link, desk, crowd]
     }
 
     /// Takes note of how many clients wait, and says whether further ones are refused now or may wait again.
@@ -120,6 +135,25 @@ impl NodeLog {
         Some(if is_full { Event::Full } else { Event::Room })
     }
 
+    /// Takes note of the clients that are connected and of those that were closed, and says whether
+    /// further ones are closed now or may connect again.
+    fn see_crowd(&mut self, closed: u64, connected: usize) -> Option<Event>
+        ensures event { result ≡ by_crowd closed connected self.old.is_crowded }
+        ensures after { self.new
+            ≡ record self.old { is_crowded = crowded_after closed connected self.old.is_crowded } }
+    {
+        let is_crowded = closed > 0 || (self.is_crowded && connected > HALF_CONNECTED);
+        if is_crowded == self.is_crowded {
+            return None;
+        }
+        self.is_crowded = is_crowded;
+        Some(if is_crowded {
+            Event::Crowded
+        } else {
+            Event::Seats
+        })
+    }
+
     /// Takes note of the link to a node, and says whether it came or went.
     fn see_link(&mut self, id: u16, is_up: bool) -> Option<Event>
         ensures event { result ≡ by_link id is_up self.old.up }
@@ -128,7 +162,7 @@ impl NodeLog {
             → slice_index_or self.new.up other false ≡ slice_index_or self.old.up other false }
         ensures rest { (self.new.least ≡ self.old.least) × (self.new.rate ≡ self.old.rate)
             × (self.new.next ≡ self.old.next) × (self.new.lent ≡ self.old.lent)
-            × (self.new.is_full ≡ self.old.is_full) }
+            × (self.new.is_full ≡ self.old.is_full) × (self.new.is_crowded ≡ self.old.is_crowded) }
     {
         let place = usize::from(id);
         if place >= NODES || self.up[place] == is_up {
@@ -149,7 +183,7 @@ impl NodeLog {
         ensures rate { self.new.rate ≡ rate_then self.old.least event now self.old.rate }
         ensures rest { (self.new.least ≡ self.old.least) × (self.new.up ≡ self.old.up)
             × (self.new.next ≡ self.old.next) × (self.new.lent ≡ self.old.lent)
-            × (self.new.is_full ≡ self.old.is_full) }
+            × (self.new.is_full ≡ self.old.is_full) × (self.new.is_crowded ≡ self.old.is_crowded) }
     {
         match self.least {
             Some(least) if event.level().is_said_at(least) => self.rate.admit(now),

@@ -7,6 +7,7 @@ use node_loop::{Doors, NodeRun, Turned};
 use node_state_file::Store;
 use std::env;
 use std::rt::Env;
+use unix_doors::ClientSight;
 
 /// A node's log, which goes to standard error.
 #[derive(Drop)]
@@ -36,11 +37,13 @@ impl<'a, R: Eprint> Journal<'a, R> {
         journal
     }
 
-    /// Says what happened in a turn that ended at this time. A log that is off says nothing.
+    /// Says what happened in a turn that ended at this time, and with the clients that came until
+    /// then. A log that is off says nothing.
     pub fn turn_ended<D: Doors, S: Store + Drop>(
         &mut self,
         run: &NodeRun<D, S>,
         turned: &Turned,
+        clients: ClientSight,
         now: u64,
     )
         ensures off { self.old.log.least ≡ None → self.new ≡ self.old }
@@ -54,6 +57,8 @@ impl<'a, R: Eprint> Journal<'a, R> {
             act: turned.ticked.act,
             lent: run.node().lent(),
             waiting: run.node().waiting(),
+            connected: clients.connected,
+            closed: clients.closed,
             link,
             is_up: matches!(run.link(link), Some(sight) if sight.is_up),
         });
@@ -61,6 +66,7 @@ impl<'a, R: Eprint> Journal<'a, R> {
         self.say_if(events[1], now);
         self.say_if(events[2], now);
         self.say_if(events[3], now);
+        self.say_if(events[4], now);
     }
 
     /// Says what happened, if anything did.

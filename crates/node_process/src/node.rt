@@ -287,7 +287,8 @@ fn take_turn<'a, R: Files + Sockets + Clock + Eprint>(
     let turned = run.turn(now);
     let ended = observer.watch.now();
     observer.window.turn_ended(run, &turned, ended);
-    observer.journal.turn_ended(run, &turned, ended);
+    let clients = run.doors().look_at_clients();
+    observer.journal.turn_ended(run, &turned, clients, ended);
     if run.doors().may_be_looked_at() {
         show_all(alloc, &observer.window, run, ended);
     }

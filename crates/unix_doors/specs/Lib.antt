@@ -1,1 +1,2 @@
 pub mod InputSights
+pub mod Seats

@@ -4,6 +4,7 @@ ghost use Rattle.node_loop.specs.Doors.{Opens};
 
 use crate::input::{InputSight, read_input, watch_input};
 use crate::pipe::{UnixPipe, hold_few, is_passing};
+use crate::seats::{ClientSight, Seats};
 use mio::net::{UnixListener, UnixStream};
 use mio::{Events, Interest, Poll, Token};
 use node_loop::{Door, Doors};
@@ -59,6 +60,7 @@ pub struct UnixDoors<'a, N> {
     clients_may_come: bool,
     looks_may_come: bool,
     input_has_news: bool,
+    seats: Seats,
     failures: u64,
 }
 
@@ -75,6 +77,7 @@ impl<'a, N: Net> UnixDoors<'a, N> {
     ) -> io::Result<UnixDoors<'a, N>>
         ensures fresh { IfOk result (λ doors. (doors.failures ≡ 0) × (doors.links_may_come ≡ true)
             × (doors.clients_may_come ≡ true) × (doors.looks_may_come ≡ true)) }
+        ensures none_closed { IfOk result (λ doors. doors.seats.closed ≡ 0) }
     {
         let poll = Poll::new(net)?;
         let events = Events::with_capacity(alloc, EVENTS)?;
@@ -91,6 +94,7 @@ impl<'a, N: Net> UnixDoors<'a, N> {
             clients_may_come: true,
             looks_may_come: true,
             input_has_news: false,
+            seats: Seats::new(alloc)?,
             failures: 0,
         })
     }
@@ -162,6 +166,15 @@ impl<'a, N: Net> UnixDoors<'a, N> {
         self.listeners.looks = looks;
         self.looks_may_come = true;
         Ok(())
+    }
+
+    /// What is seen of the clients that come. Each that was closed is seen once.
+    pub fn look_at_clients(&mut self) -> ClientSight
+        ensures closed { result.closed ≡ self.old.seats.closed }
+        ensures again { self.new.seats.closed ≡ 0 }
+        ensures failures { self.new.failures ≡ self.old.failures }
+    {
+        self.seats.look()
     }
 
     /// Whether somebody who looks may have come.
@@ -261,11 +274,14 @@ impl<'a, N: Net> Doors for UnixDoors<'a, N> {
             return Door::Nobody;
         }
         let accepted = self.listeners.clients.accept().map(|(stream, _)| stream);
-        let door = self.door_of(accepted);
-        if matches!(door, Door::Nobody) {
-            self.clients_may_come = false;
+        match self.door_of(accepted) {
+            Door::Came(pipe) => Door::Came(self.seats.take(pipe)),
+            Door::Nobody => {
+                self.clients_may_come = false;
+                Door::Nobody
+            }
+            Door::Failed => Door::Failed,
         }
-        door
     }
 
     fn connect(&mut self, neighbour: u16) -> Door<UnixPipe> {

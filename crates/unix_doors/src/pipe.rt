@@ -3,6 +3,7 @@ ghost use Rattle.std.specs.Prelude.{◌≡◌, ◌↔◌, ◌⊎◌, IsTrue};
 ghost use Rattle.std.specs.declared.io.ErrorKind.TheVariants.{WouldBlock, Interrupted};
 ghost use Rattle.socket_links.specs.Counts.{Counts};
 
+use crate::seats::Seat;
 use libc::net::{SO_SNDBUF, SOL_SOCKET, setsockopt};
 use mio::net::UnixStream;
 use socket_links::{Pipe, ReadAnswer, WriteAnswer};
@@ -17,6 +18,8 @@ pub struct UnixPipe {
     later: u64,
     closed: u64,
     failed: u64,
+    /// A client's connection has one, which nobody reads: it shows that the connection is not closed.
+    _seat: Option<Seat>,
 }
 
 impl UnixPipe {
@@ -29,6 +32,18 @@ impl UnixPipe {
             later: 0,
             closed: 0,
             failed: 0,
+            _seat: None,
+        }
+    }
+
+    /// The same pipe, which holds a seat until it is closed.
+    pub(crate) fn with_seat(self, seat: Seat) -> UnixPipe
+        ensures { (result.stream ≡ self.stream) × (result.later ≡ self.later)
+            × (result.closed ≡ self.closed) × (result.failed ≡ self.failed) }
+    {
+        UnixPipe {
+            _seat: Some(seat),
+            ..self
         }
     }
 }
