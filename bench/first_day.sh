@@ -483,6 +483,21 @@ PYTHON
 <5>tokentree: node 0: ends" ] || wrong "of closed clients a node says $(cat said)"
 fi
 
+# A node says that it has been out of its place for two seconds, as one that reaches no other, and when it is back.
+"$program" node --log 5 two.toml 1 astray >node-1 2>said </dev/null &
+running=$!
+for _ in $(seq 50); do grep -q wrong said && break; sleep 0.1; done
+"$program" node two.toml 0 astray >node-0 2>said-0 </dev/null &
+running="$running $!"
+for _ in $(seq 100); do grep -q again said && break; sleep 0.1; done
+"$program" stop astray >output
+wait
+running=
+[ "$(grep -v ' link ' said)" = "tokentree: node 1: begins
+tokentree: node 1: its distance or parent has been wrong for 2 s
+tokentree: node 1: its distance and parent are right again
+tokentree: node 1: ends" ] || wrong "of its place a node says $(cat said)"
+
 # A service manager hears that a node is ready, by a path and by an abstract name.
 if command -v python3 >/dev/null; then
     for name in "$made/notify" "@tokentree-$$"; do

@@ -238,7 +238,7 @@ class Unit:
     """A link's unit: its command, which is started again whenever it ends, as systemd does."""
 
     REST = float(unit_setting("RestartSec").removesuffix("ms")) / 1000
-    COMMAND = unit_setting("ExecStart").replace("/usr/lib/tokentree", PACKAGING)
+    COMMAND = unit_setting("ExecStart").replace("/usr/libexec/tokentree", PACKAGING)
 
     def __init__(self, machine, instance):
         self.machine, self.instance, self.ends, self.starts = machine, instance, False, 0

@@ -216,7 +216,7 @@ done
 row "the lock at b with it" within 20 granted b "$lock"
 row "the node at a runs with it" shows a 'pgrep -a -x tokentree' 'node --group-locks --repeat 20000'
 
-left='/var/lib/tokentree /run/tokentree-link /etc/tokentree /usr/lib/tokentree /etc/systemd/system/*/tokentree*'
+left='/var/lib/tokentree /run/tokentree-link /etc/tokentree /usr/libexec/tokentree /etc/systemd/system/*/tokentree*'
 is_left() { [ -n "$(on "$1" "ls -d $left" 2> /dev/null)" ]; }
 row "files are there before a purge (so that this can fail)" is_left a
 for name in a b; do

@@ -25,7 +25,7 @@ put() { install -D -m "$1" "$2" "$root/$3"; }
 put 755 "$program" usr/bin/tokentree
 strip --strip-unneeded --remove-section=.comment --remove-section=.note "$root/usr/bin/tokentree"
 put 644 packaging/tokentree@.service usr/lib/systemd/system/tokentree@.service
-put 755 packaging/tokentree-link usr/lib/tokentree/tokentree-link
+put 755 packaging/tokentree-link usr/libexec/tokentree/tokentree-link
 put 644 packaging/tokentree-link@.service usr/lib/systemd/system/tokentree-link@.service
 put 644 packaging/completions/tokentree.bash usr/share/bash-completion/completions/tokentree
 put 644 packaging/completions/_tokentree usr/share/zsh/vendor-completions/_tokentree

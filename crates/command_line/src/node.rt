@@ -82,11 +82,12 @@ take the lock. With --group-locks the user's group may enter DIR and open
 desk-ID.sock. All else is for the user alone.
 
 With --log the node says on standard error what happens, a line each. Level 4
-has what is wrong: a link is down, a client has lost the lock, or clients are
-refused since 64 wait, or closed since 128 are connected. Level 5 adds its begin
-and end, and links that are up again; level 6 adds who is granted the lock and
-who releases it. It says at most 20 lines a second, and how many it left out. If
-JOURNAL_STREAM is set, a line begins with its priority, as <4>.
+has what is wrong: a link is down, a client has lost the lock, clients are
+refused since 64 wait or closed since 128 are connected, or its distance or
+parent has been wrong for 2 seconds. Level 5 adds its begin and end, and what is
+well again; level 6 adds who is granted the lock and who releases it. It says at
+most 20 lines a second, and how many it left out. If JOURNAL_STREAM is set, a
+line begins with its priority, as <4>.
 
 Statuses: 0 ended by the stop file; 1 it cannot run, and a line on standard
 error says why; 2 invalid arguments.";

@@ -13,12 +13,16 @@ use Rattle.node_log.specs.declared.event.Event.TheVariants.{
   Room,
   Crowded,
   Seats,
+  Astray,
+  InPlace,
 }
 use Rattle.node_log.specs.declared.event.Level.TheVariants.{Warning, Notice, Info}
 use Rattle.node_log.specs.declared.rate.LineRate.{LineRate}
 use Rattle.node_log.specs.Events.{level_of, priority_of, level_with, is_said_at}
 use Rattle.node_log.specs.Rate.{new_rate, second_of, said_in, answer_at, rate_after, answers}
 use Rattle.node_log.specs.Turns.{gave_back, by_act, changed, by_link, by_desk, full_after, by_crowd, crowded_after, next_of, admitted, rate_then}
+use Rattle.node_log.specs.declared.place.Place.TheVariants.{Right, WrongSince, Said}
+use Rattle.node_log.specs.Places.{by_place, place_after}
 use Rattle.node_log.specs.Line.{event_text, priority_text, left_out_text, log_line}
 use Rattle.node_log.specs.Laws.{is_said}
 
@@ -194,6 +198,47 @@ urgent-crowded = refl
 
 words-crowded : event_text Crowded ≡ codes "128 clients are connected, and further ones are closed"
 words-crowded = refl
+
+-- out of its place since second 1
+place-astray : by_place false 3000000 (WrongSince 1000000) ≡ Some Astray
+place-astray = refl
+
+place_not-soon : by_place false 2999999 (WrongSince 1000000) ≡ None
+place_not-soon = refl
+
+place_not-again : by_place false 9000000 Said ≡ None
+place_not-again = refl
+
+place-back : by_place true 9000000 Said ≡ Some InPlace
+place-back = refl
+
+-- it was back before anything was said
+place_not-back : by_place true 2000000 (WrongSince 1000000) ≡ None
+place_not-back = refl
+
+place-leaves : place_after false 5 Right ≡ WrongSince 5
+place-leaves = refl
+
+place-since : place_after false 2999999 (WrongSince 1000000) ≡ WrongSince 1000000
+place-since = refl
+
+place-said : place_after false 3000000 (WrongSince 1000000) ≡ Said
+place-said = refl
+
+place_not-still : place_after true 3000000 (WrongSince 1000000) ≢ WrongSince 1000000
+place_not-still = grind arith
+
+place-stays : place_after false 9 Said ≡ Said
+place-stays = refl
+
+urgent-astray : level_of Astray ≡ Warning
+urgent-astray = refl
+
+urgent-in_place : level_of InPlace ≡ Notice
+urgent-in_place = refl
+
+words-astray : event_text Astray ≡ codes "its distance or parent has been wrong for 2 s"
+words-astray = refl
 
 next-first : next_of 3 2 ≡ 0
 next-first = refl

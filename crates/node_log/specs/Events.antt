@@ -13,16 +13,20 @@ use Rattle.node_log.specs.declared.event.Event.TheVariants.{
   Room,
   Crowded,
   Seats,
+  Astray,
+  InPlace,
 }
 use Rattle.node_log.specs.declared.event.Level.{Level}
 use Rattle.node_log.specs.declared.event.Level.TheVariants.{Warning, Notice, Info}
 
--- a link that is gone, a lock that is lost and a client that is refused or closed are amiss; grants go on all the time
+-- a link that is gone, a lock that is lost, a client that is refused or closed, and a node out of its place are amiss;
+-- grants go on all the time
 abbrev pub level_of : Event → Level
 level_of (Down id) = Warning
 level_of (Lost ticket) = Warning
 level_of Full = Warning
 level_of Crowded = Warning
+level_of Astray = Warning
 level_of (Granted ticket) = Info
 level_of (GivenBack ticket) = Info
 level_of _ = Notice

@@ -13,6 +13,8 @@ use Rattle.node_log.specs.declared.event.Event.TheVariants.{
   Room,
   Crowded,
   Seats,
+  Astray,
+  InPlace,
 }
 use Rattle.node_log.specs.Events.{level_of, priority_of}
 
@@ -28,6 +30,8 @@ event_text Full = codes "64 clients wait, and further ones are refused"
 event_text Room = codes "clients may wait again"
 event_text Crowded = codes "128 clients are connected, and further ones are closed"
 event_text Seats = codes "clients may connect again"
+event_text Astray = codes "its distance or parent has been wrong for 2 s"
+event_text InPlace = codes "its distance and parent are right again"
 
 -- the priority in angle brackets, as the journal of systemd reads it in front of a line (sd-daemon)
 abbrev pub priority_text : Event → Bool → List ℕ

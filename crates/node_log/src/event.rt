@@ -27,6 +27,10 @@ pub enum Event {
     Crowded,
     /// At most half as many are connected again.
     Seats,
+    /// Its distance or parent has not been that of the network for two seconds.
+    Astray,
+    /// Both are again.
+    InPlace,
 }
 
 /// How urgent it is.
@@ -46,9 +50,11 @@ impl Event {
         ensures { result ≡ level_of self }
     {
         match self {
-            Event::Down(_) | Event::Lost(_) | Event::Full | Event::Crowded => Level::Warning,
-            Event::Begins | Event::Ends | Event::Up(_) | Event::Room | Event::Seats =>
-                Level::Notice,
+            Event::Down(_) | Event::Lost(_) | Event::Full | Event::Crowded | Event::Astray => {
+                Level::Warning
+            }
+            Event::Begins | Event::Ends | Event::Up(_) => Level::Notice,
+            Event::Room | Event::Seats | Event::InPlace => Level::Notice,
             Event::Granted(_) | Event::GivenBack(_) => Level::Info,
         }
     }

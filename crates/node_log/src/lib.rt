@@ -1,6 +1,6 @@
 //! What a node says of itself while it runs, for whoever keeps its lines: when a link comes and goes, who is
-//! granted the lock, loses it or gives it back, and when so many wait that further clients are refused, or so many
-//! are connected that further ones are closed.
+//! granted the lock, loses it or gives it back, when so many wait that further clients are refused, or so many
+//! are connected that further ones are closed, and when it has been out of its place for long.
 //!
 //! ```
 //! let mut log = NodeLog::new(Some(Level::Info));       // None says nothing
@@ -19,9 +19,11 @@ mod event;
 pub mod laws;
 mod line;
 mod log;
+mod place;
 mod rate;
 
 pub use event::{Event, Level};
 pub use line::LogLine;
 pub use log::{NodeLog, TurnSight};
+pub use place::Place;
 pub use rate::{LineRate, MOST_LINES};

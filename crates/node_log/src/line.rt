@@ -94,6 +94,8 @@ impl fmt::Display for What {
                 f.write_str("128 clients are connected, and further ones are closed")
             }
             Event::Seats => f.write_str("clients may connect again"),
+            Event::Astray => f.write_str("its distance or parent has been wrong for 2 s"),
+            Event::InPlace => f.write_str("its distance and parent are right again"),
         }
     }
 }

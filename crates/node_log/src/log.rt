@@ -2,9 +2,11 @@
 ghost use Rattle.std.specs.Prelude.{◌≡◌, ◌≢◌, ◌<◌, ℕ, [], ◌∷◌, None, false, is_some, replicate};
 ghost use Rattle.std.specs.List.{slice_index_or};
 ghost use Rattle.node_log.specs.Turns.{gave_back, by_act, by_link, by_desk, full_after, by_crowd, crowded_after};
+ghost use Rattle.node_log.specs.Places.{by_place, place_after};
 ghost use Rattle.node_log.specs.Turns.{admitted, rate_then, next_of};
 
 use crate::event::{Event, Level};
+use crate::place::Place;
 use crate::rate::LineRate;
 use lock_desk::DeskAct;
 
@@ -37,6 +39,8 @@ pub struct TurnSight {
     pub link: u16,
     /// Whether a connection to it stands.
     pub is_up: bool,
+    /// Whether the node's distance and parent are those of the network.
+    pub is_in_place: bool,
 }
 
 /// What a node says of itself, and what it has seen.
@@ -55,16 +59,19 @@ pub struct NodeLog {
     is_full: bool,
     /// Whether it has said that further clients are closed, and not since that they may connect again.
     is_crowded: bool,
+    place: Place,
 }
 
 impl NodeLog {
     ghost use Rattle.node_log.specs.Rate.{new_rate};
+    ghost use Rattle.node_log.specs.declared.place.Place.TheVariants.{Right};
 
     /// A log which says what is so urgent; nothing if that is none.
     pub fn new(least: Option<Level>) -> NodeLog
         ensures level { result.least ≡ least }
         ensures rest { (result.rate ≡ new_rate) × (result.up ≡ replicate 64 false) × (result.next ≡ 0)
-            × (result.lent ≡ None) × (result.is_full ≡ false) × (result.is_crowded ≡ false) }
+            × (result.lent ≡ None) × (result.is_full ≡ false) × (result.is_crowded ≡ false)
+            × (result.place ≡ Right) }
     {
         NodeLog {
             least,
@@ -74,6 +81,7 @@ impl NodeLog {
             lent: None,
             is_full: false,
             is_crowded: false,
+            place: Place::Right,
         }
     }
 
@@ -97,17 +105,20 @@ impl NodeLog {
 
     /// What happened in a turn, by what is seen after it: who released the lock, and who was
     /// granted it or lost it, whether the link is up or down now, whether further clients are
-    /// refused now or may wait again, and whether they are closed now or may connect again. Of an id
-    /// above 63 nothing is said.
-    pub fn turn_ended(&mut self, sight: TurnSight) -> [Option<Event>; 5]
+    /// refused now or may wait again, whether they are closed now or may connect again, and whether
+    /// the node has been out of its place for long or is back. Of an id above 63 nothing is said.
+    /// `now` is when the turn ended, in microseconds.
+    pub fn turn_ended(&mut self, sight: TurnSight, now: u64) -> [Option<Event>; 6]
         ensures events { result ≡ gave_back self.old.lent sight.act sight.lent ∷ by_act sight.act
             ∷ by_link sight.link sight.is_up self.old.up
             ∷ by_desk sight.waiting self.old.is_full
-            ∷ by_crowd sight.closed sight.connected self.old.is_crowded ∷ [] }
+            ∷ by_crowd sight.closed sight.connected self.old.is_crowded
+            ∷ by_place sight.is_in_place now self.old.place ∷ [] }
         ensures lent { self.new.lent ≡ sight.lent }
         ensures full { self.new.is_full ≡ full_after sight.waiting self.old.is_full }
         ensures crowded { self.new.is_crowded
             ≡ crowded_after sight.closed sight.connected self.old.is_crowded }
+        ensures place { self.new.place ≡ place_after sight.is_in_place now self.old.place }
         ensures link { sight.link < 64 → slice_index_or self.new.up sight.link false ≡ sight.is_up }
         ensures others { (other : ℕ) → other ≢ sight.link
             → slice_index_or self.new.up other false ≡ slice_index_or self.old.up other false }
@@ -118,8 +129,9 @@ impl NodeLog {
         let link = self.see_link(sight.link, sight.is_up);
         let desk = self.see_desk(sight.waiting);
         let crowd = self.see_crowd(sight.closed, sight.connected);
+        let place = self.place.see(sight.is_in_place, now);
         self.lent = sight.lent;
-        [back, by_act(sight.act), link, desk, crowd]
+        [back, by_act(sight.act), link, desk, crowd, place]
     }
 
     /// Takes note of how many clients wait, and says whether further ones are refused now or may wait again.
@@ -162,7 +174,8 @@ impl NodeLog {
             → slice_index_or self.new.up other false ≡ slice_index_or self.old.up other false }
         ensures rest { (self.new.least ≡ self.old.least) × (self.new.rate ≡ self.old.rate)
             × (self.new.next ≡ self.old.next) × (self.new.lent ≡ self.old.lent)
-            × (self.new.is_full ≡ self.old.is_full) × (self.new.is_crowded ≡ self.old.is_crowded) }
+            × (self.new.is_full ≡ self.old.is_full)
+            × (self.new.is_crowded ≡ self.old.is_crowded) × (self.new.place ≡ self.old.place) }
     {
         let place = usize::from(id);
         if place >= NODES || self.up[place] == is_up {
@@ -183,7 +196,8 @@ impl NodeLog {
         ensures rate { self.new.rate ≡ rate_then self.old.least event now self.old.rate }
         ensures rest { (self.new.least ≡ self.old.least) × (self.new.up ≡ self.old.up)
             × (self.new.next ≡ self.old.next) × (self.new.lent ≡ self.old.lent)
-            × (self.new.is_full ≡ self.old.is_full) × (self.new.is_crowded ≡ self.old.is_crowded) }
+            × (self.new.is_full ≡ self.old.is_full)
+            × (self.new.is_crowded ≡ self.old.is_crowded) × (self.new.place ≡ self.old.place) }
     {
         match self.least {
             Some(least) if event.level().is_said_at(least) => self.rate.admit(now),

@@ -13,6 +13,8 @@ use Rattle.node_process.specs.Children.{rights_options, log_options, child_optio
 use Rattle.node_log.specs.declared.event.Level.TheVariants.{Notice}
 use Rattle.node_process.specs.Rights.{folder_mode, own_mode, clients_mode}
 use Rattle.node_process.specs.Ends.{end_fault, ends_by}
+use Rattle.node_process.specs.Places.{same_id, is_in_place}
+use Rattle.topology.specs.Network.{Network}
 use Rattle.node_process.specs.Texts.{last_end, left_line, gone_line, refusal_text, blocked_line}
 
 -- a wrong id ends a start before the folder is made, and not after
@@ -155,3 +157,30 @@ module _ (s : ExitStatus) where
 
   ended_not-stopped : status_bits s ≡ 4991 → end_of s ≡ Unknown
   ended_not-stopped bits = rw bits refl
+
+-- a line of three nodes
+line : Network
+line = record { nodes = 3; root = 0; capacity = 1; lease = 0; edges = (0, 1) ∷ (1, 2) ∷ [] }
+
+place-end : is_in_place line 2 2 (Some 1) ≡ true
+unfolding line
+place-end = refl
+
+place-root : is_in_place line 0 0 None ≡ true
+unfolding line
+place-root = refl
+
+place_not-distance : is_in_place line 2 1 (Some 1) ≡ false
+unfolding line
+place_not-distance = refl
+
+place_not-parent : is_in_place line 1 1 (Some 2) ≡ false
+unfolding line
+place_not-parent = refl
+
+place_not-node : is_in_place line 3 3 None ≡ false
+unfolding line
+place_not-node = refl
+
+same_not-none : same_id (Some 1) None ≡ false
+same_not-none = refl

@@ -3,3 +3,4 @@ pub mod Texts
 pub mod Start
 pub mod Ends
 pub mod Rights
+pub mod Places

@@ -1,12 +1,16 @@
 //! What a node says of itself on standard error while it runs.
 ghost use Rattle.std.specs.Prelude.{◌≡◌, None};
+ghost use Rattle.node_core.specs.View.{site_in, state_of};
+ghost use Rattle.node_process.specs.Places.{is_in_place};
 
 use crate::node::NodeWords;
+use node_core::Node;
 use node_log::{Event, LogLine, NodeLog, TurnSight};
 use node_loop::{Doors, NodeRun, Turned};
 use node_state_file::Store;
 use std::env;
 use std::rt::Env;
+use topology::Net;
 use unix_doors::ClientSight;
 
 /// A node's log, which goes to standard error.
@@ -53,7 +57,7 @@ impl<'a, R: Eprint> Journal<'a, R> {
             return;
         }
         let link = self.log.next_link(run.net().nodes());
-        let events = self.log.turn_ended(TurnSight {
+        let sight = TurnSight {
             act: turned.ticked.act,
             lent: run.node().lent(),
             waiting: run.node().waiting(),
@@ -61,12 +65,15 @@ impl<'a, R: Eprint> Journal<'a, R> {
             closed: clients.closed,
             link,
             is_up: matches!(run.link(link), Some(sight) if sight.is_up),
-        });
+            is_in_place: is_in_place(run.net(), run.node()),
+        };
+        let events = self.log.turn_ended(sight, now);
         self.say_if(events[0], now);
         self.say_if(events[1], now);
         self.say_if(events[2], now);
         self.say_if(events[3], now);
         self.say_if(events[4], now);
+        self.say_if(events[5], now);
     }
 
     /// Says what happened, if anything did.
@@ -92,4 +99,13 @@ impl<'a, R: Eprint> Journal<'a, R> {
             });
         }
     }
+}
+
+/// Whether a node's distance and parent are those that the network gives it.
+fn is_in_place(net: &Net, node: &Node) -> bool
+    ensures { result ≡ is_in_place net.now (site_in node.now).id (state_of node.now).distance
+        (state_of node.now).parent }
+{
+    let id = node.id();
+    id < net.nodes() && node.distance() == net.distance(id) && node.parent() == net.parent(id)
 }

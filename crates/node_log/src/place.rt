@@ -1,0 +1,44 @@
+//! Whether a node is in its place.
+ghost use Rattle.std.specs.Prelude.{◌≡◌};
+ghost use Rattle.node_log.specs.Places.{by_place, place_after};
+
+use crate::event::Event;
+
+/// After so many microseconds out of its place a node says so. Recovery mostly takes less.
+const PATIENCE: u64 = 2_000_000;
+
+/// Whether a node's distance and parent are those of the network, as was seen so far.
+#[derive(Clone, Copy, Debug, PartialEq, Eq, Drop)]
+pub enum Place {
+    /// They are.
+    Right,
+    /// They have not been since this time, in microseconds.
+    WrongSince(u64),
+    /// They have not been for so long that it was said.
+    Said,
+}
+
+impl Place {
+    /// Takes note of whether they are right at this time, and returns what is to be said of it.
+    pub fn see(&mut self, is_right: bool, now: u64) -> Option<Event>
+        ensures event { result ≡ by_place is_right now self.old }
+        ensures after { self.new ≡ place_after is_right now self.old }
+    {
+        if is_right {
+            let was_said = matches!(*self, Place::Said);
+            *self = Place::Right;
+            return if was_said { Some(Event::InPlace) } else { None };
+        }
+        match *self {
+            Place::Right => {
+                *self = Place::WrongSince(now);
+                None
+            }
+            Place::WrongSince(since) if now.saturating_sub(since) >= PATIENCE => {
+                *self = Place::Said;
+                Some(Event::Astray)
+            }
+            Place::WrongSince(_) | Place::Said => None,
+        }
+    }
+}
