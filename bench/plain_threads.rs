@@ -2,11 +2,22 @@
 //! clocks, rings and journals, with only std. `threads.sh` builds and runs it:
 //!
 //!     plain_threads line|square|ring TURNS        prints how many events the nodes did
+//!
+//! Built with `--cfg sequential`, its rings use sequentially consistent atomics, as those of `rtrb` do.
 use std::cell::UnsafeCell;
 use std::mem::MaybeUninit;
 use std::sync::Arc;
 use std::sync::atomic::{AtomicUsize, Ordering};
 use std::thread;
+
+#[cfg(not(sequential))]
+const LOAD: Ordering = Ordering::Acquire;
+#[cfg(not(sequential))]
+const STORE: Ordering = Ordering::Release;
+#[cfg(sequential)]
+const LOAD: Ordering = Ordering::SeqCst;
+#[cfg(sequential)]
+const STORE: Ordering = Ordering::SeqCst;
 
 const CAPACITY: usize = 16;
 const LAST_STAMP: u64 = 1 << 62;
@@ -63,7 +74,7 @@ impl<T> Producer<T> {
         if self.ring.distance(self.head, self.tail) < self.ring.slots.len() {
             return false;
         }
-        self.head = self.ring.head.0.load(Ordering::Acquire);
+        self.head = self.ring.head.0.load(LOAD);
         self.ring.distance(self.head, self.tail) == self.ring.slots.len()
     }
 
@@ -71,14 +82,14 @@ impl<T> Producer<T> {
     fn push(&mut self, value: T) {
         unsafe { (*self.ring.slots[self.ring.place(self.tail)].get()).write(value) };
         self.tail = self.ring.next(self.tail);
-        self.ring.tail.0.store(self.tail, Ordering::Release);
+        self.ring.tail.0.store(self.tail, STORE);
     }
 }
 
 impl<T: Copy> Consumer<T> {
     fn peek(&mut self) -> Option<T> {
         if self.head == self.tail {
-            self.tail = self.ring.tail.0.load(Ordering::Acquire);
+            self.tail = self.ring.tail.0.load(LOAD);
             if self.head == self.tail {
                 return None;
             }
@@ -89,7 +100,7 @@ impl<T: Copy> Consumer<T> {
     /// Only if something was seen.
     fn drop_first(&mut self) {
         self.head = self.ring.next(self.head);
-        self.ring.head.0.store(self.head, Ordering::Release);
+        self.ring.head.0.store(self.head, STORE);
     }
 
     fn pop(&mut self) -> Option<T> {

@@ -1,7 +1,8 @@
 #!/usr/bin/env bash
 # Measures the threads of `tokentree threads` on the line of three, the square and a ring of 16, and the same threads in
-# plain Rust (plain_threads.rs): for each the best of three runs of 200,000 turns (or of $1), in million events a second
-# from the first thread's start to the last one's end, as the system reports it, and the most memory of each program.
+# plain Rust (plain_threads.rs), whose rings publish by release and acquire, and then by sequentially consistent atomics,
+# as the proved rings do: for each the median of seven runs of 200,000 turns (or of $1), one of each after the other, in million events
+# a second from the first thread's start to the last one's end, as the system reports it, and the most memory.
 # The number of events differs from run to run. Without `rustc`, it says so, and instead measures `simulate` on the
 # events of the last run, reading and printing included. Needs python3. The program is ./tokentree, or what TOKENTREE
 # names.
@@ -16,6 +17,7 @@ trap 'rm -rf "$folder"' EXIT
 plain=
 if command -v rustc > /dev/null; then
     rustc -C opt-level=3 -o "$folder/plain" bench/plain_threads.rs
+    rustc -C opt-level=3 --cfg sequential -o "$folder/sequential" bench/plain_threads.rs
     plain=$folder/plain
 else
     echo 'no rustc: nothing in plain Rust is measured' >&2
@@ -32,10 +34,10 @@ network 16 "$(awk 'BEGIN { for (v = 0; v < 16; v++) printf "%s[%d, %d]", v ? ", 
     > "$folder/ring.toml"
 
 python3 - "$folder" "$turns" "$program" "$plain" <<'PYTHON'
-import re, subprocess, sys, time
+import re, statistics, subprocess, sys, time
 
 folder, turns, program, plain = sys.argv[1:]
-RUNS = 3
+RUNS = 7
 
 
 class Measure:
@@ -67,16 +69,23 @@ class Measure:
             time.sleep(0.0005)
 
 
-def best(name, what, run):
-    """The best of some runs; each is a number of events and the seconds that they took."""
-    rows = [run() for _ in range(RUNS)]
-    rows = [(events / seconds / 1e6, memory) for events, seconds, memory in rows if seconds]
-    if not rows:
-        print(f"{name:6} {what:11} too short to be seen: give more turns")
-        return None
-    rate, memory = max(rows)
-    print(f"{name:6} {what:11} {rate:7.2f} million events a second, {memory / 1000:7.1f} MB", flush=True)
-    return rate
+def medians(name, ways):
+    """The medians of some runs, in turn, of each way to run a network: a run is a number of events and its seconds."""
+    rows = {what: [] for what, _ in ways}
+    for _ in range(RUNS):
+        for what, run in ways:
+            events, seconds, memory = run(name)
+            if seconds:
+                rows[what].append((events / seconds / 1e6, memory))
+    rates = {}
+    for what, seen in rows.items():
+        if not seen:
+            print(f"{name:6} {what:19} too short to be seen: give more turns")
+            continue
+        rates[what] = statistics.median(rate for rate, _ in seen)
+        memory = max(memory for _, memory in seen)
+        print(f"{name:6} {what:19} {rates[what]:7.2f} million events a second, {memory / 1000:7.1f} MB", flush=True)
+    return rates
 
 
 def of_threads(name):
@@ -86,9 +95,12 @@ def of_threads(name):
         return sum(block.count(b"\n") for block in iter(lambda: text.read(1 << 20), b"")), measure.threads, measure.memory
 
 
-def of_plain(name):
-    measure = Measure([plain, name, turns])
-    return int(re.match(r"(\d+) events", measure.output)[1]), measure.threads, measure.memory
+def of_program(path):
+    def run(name):
+        measure = Measure([path, name, turns])
+        return int(re.match(r"(\d+) events", measure.output)[1]), measure.threads, measure.memory
+
+    return run
 
 
 def of_simulate(name):
@@ -98,12 +110,15 @@ def of_simulate(name):
         return sum(block.count(b"\n") for block in iter(lambda: text.read(1 << 20), b"")), measure.all, measure.memory
 
 
+WAYS = [("tokentree", of_threads)]
+if plain:
+    WAYS += [("plain Rust", of_program(plain)), ("plain, sequential", of_program(f"{folder}/sequential"))]
+else:
+    WAYS += [("simulate", of_simulate)]
+
 for name in ("line", "square", "ring"):
-    ours = best(name, "tokentree", lambda: of_threads(name))
-    if plain:
-        other = best(name, "plain Rust", lambda: of_plain(name))
-        if ours and other:
-            print(f"{name:6} ratio {ours / other:.2f}", flush=True)
-    else:
-        best(name, "simulate", lambda: of_simulate(name))
+    rates = medians(name, WAYS)
+    for what, other in rates.items():
+        if plain and what != "tokentree" and "tokentree" in rates:
+            print(f"{name:6} {what:19} ratio {rates['tokentree'] / other:.2f}", flush=True)
 PYTHON

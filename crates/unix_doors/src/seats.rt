@@ -1,5 +1,5 @@
 //! How many clients are connected, and how many were too many.
-ghost use Rattle.std.specs.Prelude.{◌≡◌, IfOk};
+ghost use Rattle.std.specs.Prelude.{◌≡◌, ◌⊎◌, IfOk};
 ghost use Rattle.unix_doors.specs.Seats.{closed_after};
 
 use crate::pipe::UnixPipe;
@@ -56,7 +56,13 @@ impl Seats {
     }
 
     /// A client has come, and takes a seat until its connection is closed.
-    pub fn take(&mut self, pipe: UnixPipe) -> UnixPipe {
+    pub fn take(&mut self, pipe: UnixPipe) -> UnixPipe
+        // At most this one is closed, if 128 are connected.
+        ensures closed { (self.new.closed ≡ self.old.closed)
+            ⊎ (self.new.closed ≡ closed_after 128 self.old.closed) }
+        ensures pipe { (result.later ≡ pipe.later) × (result.closed ≡ pipe.closed)
+            × (result.failed ≡ pipe.failed) }
+    {
         self.note_comer(self.taken());
         match self.shared.clone() {
             Ok(seat) => pipe.with_seat(seat),
