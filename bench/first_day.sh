@@ -342,6 +342,52 @@ wait $running || wrong "up does not end well at the end of its input"
 running=
 says_goodbye 'the end of a pipe'
 
+# On a terminal Ctrl-D and Ctrl-C end it well, and in the background of a shell it is not stopped.
+if command -v python3 >/dev/null; then
+    python3 - "$program" 2>said <<'PYTHON' || wrong "up does not behave on a terminal: $(cat said)"
+import os, pty, select, sys, time
+
+UP = ["env", "--block-signal=HUP,INT,TERM,TTIN", sys.argv[1], "up", "ring.toml"]
+
+
+class Terminal:
+    """A command on a terminal of its own, and all that it writes there."""
+
+    def __init__(self, words):
+        self.said = b""
+        self.process, self.terminal = pty.fork()
+        if self.process == 0:
+            os.execvp(words[0], words)
+
+    def wait_for(self, text, count):
+        end = time.monotonic() + 20
+        while self.said.count(text) < count and time.monotonic() < end:
+            if select.select([self.terminal], [], [], 0.1)[0]:
+                try:
+                    self.said += os.read(self.terminal, 4096)
+                except OSError:
+                    break
+
+    def ends_well(self):
+        self.wait_for(b" has ended", 3)
+        status = os.waitstatus_to_exitcode(os.waitpid(self.process, 0)[1])
+        assert status == 0 and self.said.count(b" has ended") == 3, (status, self.said)
+
+
+for name, key in ("ctrl-d", b"\x04"), ("ctrl-c", b"\x03"):
+    up = Terminal([*UP, f"up-{name}"])
+    up.wait_for(b" ready", 3)
+    os.write(up.terminal, key)
+    up.ends_well()
+
+IN_BACKGROUND = 'set -m; "$@" & sleep 3; echo "stat $(ps -o stat= -p $!)"; kill -TERM $!; wait $!'
+shell = Terminal(["bash", "-c", IN_BACKGROUND, "bash", *UP, "up-background"])
+shell.wait_for(b"stat ", 1)
+shell.ends_well()
+assert b"stat S" in shell.said or b"stat R" in shell.said, shell.said
+PYTHON
+fi
+
 # A node warns if links hold fewer frames than may be under way, and the help gives a new user the same number.
 sed 's/capacity = 64/capacity = 1/' ring.toml >small.toml
 "$program" node small.toml 0 small >node-0 2>said </dev/null &

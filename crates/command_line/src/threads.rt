@@ -36,11 +36,10 @@ const HELP: &str = "\
 Each node does TURNS turns on its own thread, from fresh nodes and empty links.
 In a turn it ticks, then sends to each neighbour if a place is free, and takes
 up to two items from each. All begin together, and wait for one another after
-each 16 of the first 1024 turns. Later a node lets others run after each 64 of
-its turns. Apart from that the system decides which node runs. So what happens
-differs from run to run, but it is always a list of events that could have
-happened one after the other. It shows the state that they lead to as simulate
-does, with the sweeps in that list:
+each 16 of the first 1024 turns. Apart from that the system decides which node
+runs. So what happens differs from run to run, but it is always a list of events
+that could have happened one after the other. It shows the state that they lead
+to as simulate does, with the sweeps in that list:
 
   $ tokentree threads examples/square.toml 1000 --events run.txt
   node 0 distance 0 parent none token no lent none waiting 0

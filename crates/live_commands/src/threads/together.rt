@@ -13,13 +13,10 @@ const TURNS_A_BLOCK: u32 = 16;
 /// The nodes meet during this many turns. Later each runs as fast as it can.
 const MET_TURNS: u32 = 1024;
 
-/// After how many turns a node that meets no others lets threads run that wait for a processor. With more
-/// threads than processors a node is soon done with what came from neighbours, and has no place to send to.
-const TURNS_A_YIELD: u32 = 64;
-
 /// How often a node looks for the others before it sleeps between two looks, so that nodes which
-/// wait leave the processors to those that do not.
-const QUICK_LOOKS: u32 = 64;
+/// wait leave the processors to those that do not. With fewer, a node on a processor of its own
+/// sleeps past the end of a meeting.
+const QUICK_LOOKS: u32 = 256;
 
 /// How often a node looks in one wait before it gives up, after half a second or more. So a thread
 /// that was refused does not hold up the others for long.
@@ -30,7 +27,7 @@ const REST: u64 = 100;
 
 /// A gate at which all nodes meet before their first turn, and again after each 16 of the first
 /// 1,024. So no node runs far ahead of another at first, however the system shares out its
-/// processors. Later each lets the others run after each 64 of its turns.
+/// processors.
 #[derive(Drop)]
 pub struct Together<'a, R> {
     rt: &'a R,
@@ -59,12 +56,6 @@ impl<'a, R: Clock> Together<'a, R> {
         self.arrivals.load(Ordering::SeqCst) >= often || self.gave_up.load(Ordering::SeqCst)
     }
 
-    /// A node comes to its meeting of this number, and waits there for all others.
-    fn meet(&self, meetings: u32) {
-        self.arrivals.fetch_add(1, Ordering::SeqCst);
-        self.wait_for_all(u64::from(self.nodes) * u64::from(meetings));
-    }
-
     /// Waits until nodes have come to meetings so often.
     fn wait_for_all(&self, often: u64) {
         for look in 0..LOOKS {
@@ -79,12 +70,10 @@ impl<'a, R: Clock> Together<'a, R> {
 
 impl<R: Clock + Sync> Gate for Together<'_, R> {
     fn before(&self, _node: u16, turn: u32) {
-        if turn >= MET_TURNS {
-            if turn % TURNS_A_YIELD == 0 {
-                thread::yield_now();
-            }
-        } else if turn % TURNS_A_BLOCK == 0 {
-            self.meet(turn / TURNS_A_BLOCK + 1);
+        if turn < MET_TURNS && turn % TURNS_A_BLOCK == 0 {
+            let meetings = turn / TURNS_A_BLOCK + 1;
+            self.arrivals.fetch_add(1, Ordering::SeqCst);
+            self.wait_for_all(u64::from(self.nodes) * u64::from(meetings));
         }
     }
 
