@@ -41,10 +41,9 @@ impl UnixPipe {
         ensures { (result.stream ≡ self.stream) × (result.later ≡ self.later)
             × (result.closed ≡ self.closed) × (result.failed ≡ self.failed) }
     {
-        UnixPipe {
-            _seat: Some(seat),
-            ..self
-        }
+        let mut pipe = self;
+        pipe._seat = Some(seat);
+        pipe
     }
 }
 

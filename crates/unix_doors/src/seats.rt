@@ -63,7 +63,8 @@ impl Seats {
         ensures pipe { (result.later ≡ pipe.later) × (result.closed ≡ pipe.closed)
             × (result.failed ≡ pipe.failed) }
     {
-        self.note_comer(self.taken());
+        let connected = self.taken();
+        self.note_comer(connected);
         match self.shared.clone() {
             Ok(seat) => pipe.with_seat(seat),
             Err(_) => pipe,
