@@ -20,7 +20,7 @@ const QUICK_LOOKS: u32 = 256;
 
 /// How often a node looks in one wait before it gives up, after half a second or more. So a thread
 /// that was refused does not hold up the others for long.
-const LOOKS: u32 = 5_000;
+const LOOKS: u32 = 5_256;
 
 /// How long a node sleeps between two looks, in microseconds.
 const REST: u64 = 100;
