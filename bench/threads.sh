@@ -1,11 +1,11 @@
 #!/usr/bin/env bash
 # Measures the threads of `tokentree threads` on the line of three, the square and a ring of 16, and the same threads in
 # plain Rust (plain_threads.rs), whose rings publish by release and acquire, and then by sequentially consistent atomics,
-# as the proved rings do: for each the median of seven runs of 200,000 turns (or of $1), one of each after the other, in million events
-# a second from the first thread's start to the last one's end, as the system reports it, and the most memory.
-# The number of events differs from run to run. Without `rustc`, it says so, and instead measures `simulate` on the
-# events of the last run, reading and printing included. Needs python3. The program is ./tokentree, or what TOKENTREE
-# names.
+# as the proved rings do. For each it prints the median of seven runs of 200,000 turns (or of $1), in million events a
+# second from the first thread's start to the last one's end, as the system reports it, and the most memory. One run of
+# each comes after the other, so that other work on the machine slows all alike. The number of events differs from run to
+# run. Without `rustc`, it says so, and instead measures `simulate` on the events of the last run, reading and printing
+# included. Needs python3. The program is ./tokentree, or what TOKENTREE names.
 set -euo pipefail
 turns=${1:-200000}
 cd "$(dirname "$0")/.."
