@@ -1,5 +1,6 @@
 mod NotedAgain
 mod Entries
+mod InPieces
 mod Loop
 mod ShortForms
 mod Rows

@@ -1,12 +1,10 @@
 -- Frames that are noted again, small enough to see through.
-use Rattle.std.proofs.Common.{◌≡◌, ℕ, List, [], ◌∷◌, Some, None, refl, arith}
-use Rattle.std.proofs.lemmas.Grind.{common_steps}
+use Rattle.std.proofs.Common.{◌≡◌, ℕ, Some, None, refl}
 use Rattle.topology.specs.declared.frame.Frame.{Frame}
 use Rattle.flight_records.specs.Frames.{FramesView}
-use Rattle.flight_records.specs.declared.entry.Noted.{Noted}
 use Rattle.flight_records.specs.declared.entry.Noted.TheVariants as noted
 use Rattle.flight_records.specs.declared.entry.StatePart.TheVariants.{Start}
-use Rattle.flight_records.specs.declared.entry.Deed.TheVariants.{Ticks, Takes, TakesAgain, Sends, SendsAgain}
+use Rattle.flight_records.specs.declared.entry.Deed.TheVariants.{Takes, TakesAgain, Sends, SendsAgain}
 use Rattle.flight_records.specs.Again.{no_frames, frames_after, shortened, lengthened}
 use Rattle.flight_records.specs.Laws.{IsLong}
 

@@ -1,18 +1,16 @@
 -- A frame that is noted in its short form is the last one of its link, which whoever reads it knows.
-use Rattle.std.proofs.Common.{◌≡◌, ◌∙◌, ap, sym, refl, subst, arith, ℕ, ◌<◌, ◌≤◌, Bool, true, false, ◌&&◌, ◌==◌, cond, List, [], ◌∷◌, ◌++◌, Option, Some, None, inl, inr}
+use Rattle.std.proofs.Common.{◌≡◌, ap, refl, arith, ℕ, true, List, [], ◌∷◌, ◌++◌, Option, Some, None, inl, inr}
 use Rattle.std.specs.List.{AllByRecursion}
 use Rattle.std.proofs.lemmas.Grind.{common_steps}
 use Rattle.std.proofs.lemmas.Bool.{cases_Bool}
 use Rattle.std.proofs.lemmas.Bool.Decides.{nat_tests}
 use Rattle.topology.specs.declared.frame.Frame.{Frame}
-use Rattle.topology.specs.declared.frame.Payload.{Payload}
 use Rattle.flight_records.specs.Frames.{FramesView}
 use Rattle.flight_records.specs.declared.entry.Entry.{Entry}
 use Rattle.flight_records.specs.declared.entry.Noted.{Noted}
 use Rattle.flight_records.specs.declared.entry.Noted.TheVariants as noted
-use Rattle.flight_records.specs.declared.entry.Deed.{Deed}
 use Rattle.flight_records.specs.declared.entry.Deed.TheVariants.{Ticks, Takes, TakesAgain, Sends, SendsAgain, Asks, Leaves, Joins, Parts, Connects, Disconnects}
-use Rattle.flight_records.specs.Again.{same_node, same_payload, same_frame, is_last, last_of, shortened, shortened_deed, lengthened, frames_after, taken_again, sent_again}
+use Rattle.flight_records.specs.Again.{same_frame, is_last, last_of, shortened, lengthened, frames_after, taken_again, sent_again}
 use Rattle.flight_records.specs.Laws.{IsLong, IsNoted, Follows, AreInOrder, instant_after, short_entry, short_entries, frames_after_all, StandFor, ShortFormsStand}
 
 same_frame-equal : (f g : Frame) → same_frame f g ≡ true → f ≡ g

@@ -1,10 +1,12 @@
 -- The laws of records.
-use Rattle.std.specs.Prelude.{◌≡◌, ℕ, ◌^◌, ◌<◌, ◌≤◌, List, [], ◌∷◌, ◌++◌, IfSome, Some, Ok, Err}
+use Rattle.std.specs.Prelude.{◌≡◌, ℕ, ◌^◌, ◌<◌, ◌≤◌, List, [], ◌∷◌, ◌++◌, IfSome, Some, Result, Ok, Err}
 use Rattle.std.specs.List.{AllByRecursion}
 use Rattle.topology.specs.declared.frame.Frame.{Frame}
 use Rattle.topology.specs.declared.frame.Payload.{Payload}
-use Rattle.leb128.specs.declared.unread.Unread.TheVariants.{Short}
+use Rattle.leb128.specs.declared.unread.Unread.{Unread}
+use Rattle.leb128.specs.declared.unread.Unread.TheVariants.{Short, Invalid}
 use Rattle.leb128.specs.Laws.{AreBytes}
+use Rattle.leb128.specs.Pieces.{IsKept, IsOfAtMost}
 use Rattle.flight_records.specs.declared.entry.Entry.{Entry}
 use Rattle.flight_records.specs.declared.entry.Noted.{Noted}
 use Rattle.flight_records.specs.declared.entry.Noted.TheVariants as noted
@@ -120,6 +122,22 @@ abbrev pub WhatIsReadIsWritten : Type 0
 WhatIsReadIsWritten =
     (last : ℕ) (bytes : List ℕ) (e : Entry) (rest : List ℕ) → AreBytes bytes
     → entry_at last bytes ≡ Ok (e, rest) → IsWritten last bytes e rest
+
+-- what is read of a beginning of bytes that begin with this entry: it, or that they are short; what is
+-- left is then a beginning of what is left of all
+abbrev pub IsBegun : List ℕ → Entry → List ℕ → Result (Entry × List ℕ) Unread → Type 0
+IsBegun back e rest (Ok x) = (x.0 ≡ e) × (rest ≡ x.1 ++ back)
+IsBegun back e rest (Err Short) = Unit {0}
+IsBegun back e rest (Err Invalid) = ⊥
+
+-- What is read of a piece of a record stands if more bytes follow; it takes at most 121 bytes, and only
+-- fewer are short; and of a beginning of an entry nothing but that entry is read.
+pub record PiecesAreRead : Type 0 where
+  pub kept : (last : ℕ) (bytes more : List ℕ)
+      → IsKept more (entry_at last bytes) (entry_at last (bytes ++ more))
+  pub most : (last : ℕ) (bytes : List ℕ) → IsOfAtMost 121 bytes (entry_at last bytes)
+  pub begun : (last : ℕ) (front back : List ℕ) (e : Entry) (rest : List ℕ)
+      → entry_at last (front ++ back) ≡ Ok (e, rest) → IsBegun back e rest (entry_at last front)
 
 -- an entry that is written at the end of a record makes a record of one more
 abbrev pub RecordsGrow : Type 0

@@ -1,6 +1,6 @@
 //! What holds of records: each law is the contract of a function that does nothing.
 ghost use Rattle.flight_records.specs.Laws.{WrittenIsRead, CutIsRead, WhatIsReadIsWritten};
-ghost use Rattle.flight_records.specs.Laws.{RecordsGrow, ShortFormsStand};
+ghost use Rattle.flight_records.specs.Laws.{PiecesAreRead, RecordsGrow, ShortFormsStand};
 
 /// Every list of entries, each no earlier than the one before, is read again as it was written,
 /// whatever follows; at whatever place the bytes are cut, the whole entries in front of the cut
@@ -12,6 +12,15 @@ pub fn one_reading()
     ensures only { WhatIsReadIsWritten }
 {
     leb128::laws::one_reading();
+}
+
+/// An entry at the front of a piece of a record is read in the same way if more bytes follow; what is
+/// no entry stays none; and a beginning of an entry is short. A piece of 121 bytes is never short.
+/// Whoever reads a record a page at a time stands on it.
+pub fn pieces_are_read()
+    ensures { PiecesAreRead }
+{
+    leb128::laws::reading_in_pieces();
 }
 
 /// An entry that is written at the end of a record, after the instant of its last entry, makes a

@@ -1,2 +1,3 @@
 mod Numbers
+pub mod InPieces
 mod Rows

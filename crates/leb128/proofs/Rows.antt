@@ -1,8 +1,11 @@
 -- Numbers that are small enough to see through.
-use Rattle.std.proofs.Common.{◌≡◌, refl, ℕ, List, [], ◌∷◌, Ok, Err, arith}
+use Rattle.std.proofs.Common.{◌≡◌, refl, ap, ℕ, List, [], ◌∷◌, ◌++◌, length, Ok, Err, arith}
+use Rattle.std.proofs.lemmas.Grind.{common_steps}
+use Rattle.std.proofs.lemmas.List.{length-append}
 use Rattle.leb128.specs.declared.unread.Unread.TheVariants.{Short, Invalid}
-use Rattle.leb128.specs.Spelling.{leb128, in_a_row}
-use Rattle.leb128.specs.Reading.{number_at, numbers_at}
+use Rattle.leb128.specs.Spelling.{leb128}
+use Rattle.leb128.specs.Reading.{number_at}
+use Rattle.leb128.specs.Pieces.{IsKept, IsOfAtMost}
 
 -- the examples of DWARF's figure: 2, 127, 128, 129, 130, 12857
 two : leb128 2 ≡ 2 ∷ []
@@ -59,3 +62,27 @@ too_great = refl
 endless : number_at (128 ∷ 128 ∷ 128 ∷ 128 ∷ 128 ∷ 128 ∷ 128 ∷ 128 ∷ 128 ∷ 128 ∷ []) ≡ Err Invalid
 unfolding number_at
 endless = refl
+
+-- what is kept if more bytes follow: they are left, too; a short piece says nothing of what follows
+kept : IsKept (7 ∷ []) (number_at (185 ∷ 100 ∷ [])) (number_at (185 ∷ 100 ∷ 7 ∷ []))
+unfolding number_at
+kept = refl
+
+more-is-left : IsKept {X = ℕ} (7 ∷ []) (Ok (12857, [])) (Ok (12857, [])) → ⊥
+more-is-left e = grind (arith, common_steps)
+
+still-invalid : IsKept {X = ℕ} (7 ∷ []) (Err Invalid) (Ok (12857, [])) → ⊥
+still-invalid e = grind (arith, common_steps)
+
+-- two bytes were taken
+two_bytes : IsOfAtMost 2 (185 ∷ 100 ∷ 7 ∷ []) (number_at (185 ∷ 100 ∷ 7 ∷ []))
+unfolding number_at
+two_bytes = (185 ∷ 100 ∷ [], refl, omega arith)
+
+not-one_byte : IsOfAtMost {X = ℕ} 1 (185 ∷ 100 ∷ 7 ∷ []) (Ok (12857, 7 ∷ [])) → ⊥
+not-one_byte (front, parts, few) =
+    let long : 3 ≡ length (front ++ 7 ∷ []) = ap (λ (l : List ℕ). length l) parts in
+    omega (arith, long, few, length-append front (7 ∷ []))
+
+enough-is-not-short : IsOfAtMost {X = ℕ} 2 (185 ∷ 228 ∷ []) (Err Short) → ⊥
+enough-is-not-short h = omega (arith, h)

@@ -9,3 +9,4 @@ pub mod Replays
 mod RowsEntries
 pub mod Same
 pub mod Steps
+pub mod Whole

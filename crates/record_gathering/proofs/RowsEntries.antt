@@ -1,6 +1,7 @@
 -- Entries and worlds that are small enough to see through.
-use Rattle.std.proofs.Common.{◌≡◌, ◌==◌, ◌&&◌, true, false, List, [], ◌∷◌, Some, None, refl}
+use Rattle.std.proofs.Common.{◌≡◌, ℕ, ◌==◌, ◌&&◌, true, false, List, [], ◌∷◌, Some, None, refl}
 use Rattle.std.specs.Prelude.{if◌then◌else◌}
+use Rattle.std.proofs.lemmas.List.Elements.{All-from_recursion}
 use Rattle.topology.specs.Network.{Network}
 use Rattle.topology.specs.Ranges.{ranges_of}
 use Rattle.topology.specs.declared.frame.Frame.{Frame}
@@ -9,13 +10,15 @@ use Rattle.flight_records.specs.declared.entry.StatePart.TheVariants as part
 use Rattle.flight_records.specs.declared.entry.Deed.TheVariants as deed
 use Rattle.configuration.specs.link_model.declared.item.Item.{Item}
 use Rattle.configuration.specs.link_model.declared.item.Item.TheVariants as item
-use Rattle.configuration.specs.node_core.State.{default_node}
+use Rattle.node_follower.specs.Following.{AreSameAt}
+use Rattle.configuration.specs.node_core.State.{LocalState, default_node}
 use Rattle.configuration.specs.run_model.World.{World}
 use Rattle.configuration.specs.run_model.declared.event.Event.TheVariants.{Take, Lose, Tick, Ask, Leave, Damage}
 use Rattle.configuration.specs.run_model.declared.event.Harm.TheVariants as harm
 use Rattle.record_gathering.specs.Accepted.{accepted}
 use Rattle.record_gathering.specs.Entries.{entry_events, is_ready}
 use Rattle.record_gathering.specs.Queues.{queue_after}
+use Rattle.record_gathering.specs.States.{state_events, IsStateReached}
 
 -- two nodes, whose links hold two items each
 abbrev pair : Network
@@ -90,3 +93,37 @@ stranger = refl
 
 not-stranger : accepted both (Leave 1 7 ∷ Tick 1 ∷ []) ≡ Leave 1 7 ∷ Tick 1 ∷ [] → ⊥
 not-stranger e = absurd cc
+
+-- the whole state of node 1 as it stands, and one of which the distance, the value and the queue are others
+abbrev stands : LocalState
+stands = default_node (ranges_of pair)
+
+abbrev differs : LocalState
+differs = record stands {
+  distance = 1;
+  value = λ w. 5;
+  desk = record { waiting = 7 ∷ []; lent = None; left = 0; served = false };
+}
+
+no-event : state_events (world []) (9 ∷ []) 1 77 stands ≡ []
+no-event = refl
+
+each-difference : state_events (world []) (9 ∷ []) 1 77 differs
+    ≡ Damage (harm.Own 1 1 None) ∷ Damage (harm.Value 1 0 5) ∷ Damage (harm.Desk 1 None 0 false) ∷ Ask 1 7 ∷ []
+each-difference = refl
+
+none-is-left-out : state_events (world []) [] 1 77 differs
+    ≡ Damage (harm.Own 1 1 None) ∷ Damage (harm.Desk 1 None 0 false) ∷ Ask 1 7 ∷ [] → ⊥
+none-is-left-out e = absurd cc
+
+-- that a state is reached is not said of a node that stands otherwise
+reached : IsStateReached (world []) 1 stands (world [])
+reached = record {
+  same = ((refl, refl, refl), All-from_recursion (λ u. AreSameAt u stands stands) (0 ∷ []) ((refl, refl), tt));
+  others = λ x ne. refl;
+  links = refl;
+  network = refl;
+}
+
+not-reached : IsStateReached (world []) 1 differs (world []) → ⊥
+not-reached h = let distance : ◌≡◌ {A = ℕ} 2 1 = h.same.0.0 in absurd cc

@@ -1,5 +1,6 @@
 pub use Rattle.configuration.specs as configuration
 pub use Rattle.flight_records.specs as flight_records
+pub use Rattle.node_follower.specs as node_follower
 pub mod Accepted
 pub mod Counts
 pub mod Differences
@@ -10,4 +11,5 @@ pub mod Laws
 pub mod Order
 pub mod Queues
 pub mod Standing
+pub mod States
 pub mod View

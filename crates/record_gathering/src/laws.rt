@@ -2,6 +2,7 @@
 //! nothing.
 ghost use Rattle.record_gathering.specs.Laws.{AcceptedIsEnough, HarmsMeanDifferences};
 ghost use Rattle.record_gathering.specs.Laws.{ReplaysFollowRecords};
+ghost use Rattle.record_gathering.specs.States.{WholeStatesAreReached};
 
 /// Leaving out the events that are refused changes nothing: the same world is reached.
 pub fn accepted_is_enough()
@@ -20,4 +21,15 @@ pub fn replays_follow_records()
 {
     topology::laws::joined();
     configuration::run_model::laws::runs();
+}
+
+/// A node whose whole state is noted stands in it then: each of its fields, its desk, and its port to
+/// each neighbour. There is damage in the list of events exactly if it stood otherwise before; and then
+/// nothing else changes. Whoever looks for damage in a recording stands on it.
+pub fn whole_states_are_reached()
+    ensures { WholeStatesAreReached }
+{
+    topology::laws::joined();
+    configuration::run_model::laws::runs();
+    configuration::run_model::laws::in_range();
 }

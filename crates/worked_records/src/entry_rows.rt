@@ -27,7 +27,7 @@ const FRAME: Frame = Frame {
 };
 
 /// A record: the instant of each entry, what it notes, and its bytes.
-const RECORD: [(u64, Noted, &[u8]); 7] = [
+pub const RECORD: [(u64, Noted, &[u8]); 7] = [
     // 2000 is 15 * 128 + 80; the sum is 1 + 208 + 15 + 255 + 255 + 3 + 1 = 738, and 738 is 226 more
     // than 512
     (
@@ -80,7 +80,7 @@ const RECORD: [(u64, Noted, &[u8]); 7] = [
 ];
 
 /// The bytes of the record, one entry after the other.
-fn written(alloc: Global) -> Result<Vec<u8>, Fail> {
+pub fn written(alloc: Global) -> Result<Vec<u8>, Fail> {
     let mut bytes = Vec::with_capacity(alloc, 1000)?;
     let mut last = 0;
     for (instant, noted, _) in &RECORD {
@@ -132,7 +132,7 @@ fn read(bytes: &[u8]) -> (usize, usize, Option<Unread>) {
 }
 
 /// Where the bytes of each entry end.
-const ENDS: [usize; 7] = [8, 22, 32, 36, 40, 46, 50];
+pub const ENDS: [usize; 7] = [8, 22, 32, 36, 40, 46, 50];
 
 /// What is read of the record if it is cut at a place.
 fn wanted(cut: usize) -> (usize, usize, Option<Unread>) {

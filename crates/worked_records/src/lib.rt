@@ -1,7 +1,8 @@
 //! Worked rows of records: entries as bytes, cut at every place, and with bytes changed; frames that
-//! are noted again; and the order of the steps of many nodes. Every expected value was computed by hand.
+//! are noted again; records read a page at a time; and the order of the steps of many nodes. Every
+//! expected value was computed by hand.
 //!
-//! It has only tests, of `flight_records` and of `record_order`. They have a crate of their own,
+//! It has only tests, of `flight_records`, `record_pages` and `record_order`. They have a crate of their own,
 //! since the tests of a crate prove all of that crate once more.
 #![tactic(auto)]
 
@@ -11,3 +12,5 @@ mod again_rows;
 mod entry_rows;
 #[cfg(test)]
 mod order_rows;
+#[cfg(test)]
+mod page_rows;

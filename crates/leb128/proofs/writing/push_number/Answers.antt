@@ -1,4 +1,4 @@
-use Rattle.std.proofs.Common.{◌≡◌, ◌∙◌, ap, sym, refl, arith, ℕ, ◌+◌, ◌%◌, ◌/◌, List, [], ◌∷◌, ◌++◌, append_assoc}
+use Rattle.std.proofs.Common.{◌∙◌, ap, sym, refl, arith, ℕ, ◌+◌, ◌%◌, ◌/◌, List, [], ◌∷◌, ◌++◌, append_assoc}
 use Rattle.leb128.specs.Spelling.{leb128, leb128_in}
 use Rattle.leb128.proofs.Numbers.{number-goes_on, number-ends}
 use Rattle.leb128.proofs.writing.push_number.Goals as goal
