@@ -125,9 +125,9 @@ fn failing(alloc: Global, calls: u64) -> Result<(usize, usize, usize), Fail> {
     let mut counts = (0, 0, 0);
     for _ in 0..RECORD.len() + 1 {
         match reader.next() {
-            Ok(_) if counts.1 == 0 => counts.0 += 1,
-            Ok(_) => counts.2 += 1,
-            Err(Stop::Failed) => counts.1 += 1,
+            Ok(_) if counts.1 == 0 => counts.0 = counts.0.saturating_add(1),
+            Ok(_) => counts.2 = counts.2.saturating_add(1),
+            Err(Stop::Failed) => counts.1 = counts.1.saturating_add(1),
             Err(_) => break,
         }
     }
