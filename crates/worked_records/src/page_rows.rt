@@ -122,7 +122,7 @@ fn more_than_a_page_in_pieces(rt: HostRuntime) -> Result<(), Fail> {
 fn failing(alloc: Global, calls: u64) -> Result<(usize, usize, usize), Fail> {
     let bytes = written(alloc)?;
     let mut reader = PageReader::new(alloc, Fused::new(MemorySource::new(&bytes, 10), calls))?;
-    let mut counts = (0, 0, 0);
+    let mut counts = (0usize, 0usize, 0usize);
     for _ in 0..RECORD.len() + 1 {
         match reader.next() {
             Ok(_) if counts.1 == 0 => counts.0 = counts.0.saturating_add(1),
