@@ -23,7 +23,7 @@ abbrev lending : Look
 lending = record { own = record { distance = 0; parent = None }; settled = false; privileged = true; lent = Some 7 }
 
 abbrev pub still_of : Look → Still
-still_of look = record { looks = look ∷ []; places = []; edges = (0, 1) ∷ (0, 0) ∷ []; events = 0; event = None; sweeps = 0; damaged = false; privileged = 0; lending = 0 }
+still_of look = record { looks = look ∷ []; places = []; edges = (0, 1) ∷ (0, 0) ∷ []; under_way = []; events = 0; event = None; sweeps = 0; damaged = false; privileged = 0; lending = 0 }
 
 -- three stills in ten beats: four for the first one and three for each other, besides those that hold
 -- the first and the last

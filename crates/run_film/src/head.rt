@@ -6,9 +6,9 @@ ghost use Rattle.run_film.specs.Heads.{attributes_of, line_shown, stills_text, t
 ghost use Rattle.run_film.specs.Heads.{said_text, IsHeaded};
 ghost use Rattle.run_film.specs.Words.{alone};
 
-use crate::frames::MOST_FRAMED;
 use crate::stage::Stage;
 use crate::words::words;
+use run_recording::MOST_FRAMED;
 use std::alloc::{AllocError, Global};
 use svg_drawing::{Attribute, Element, Group, Point, Px};
 
