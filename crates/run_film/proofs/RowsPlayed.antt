@@ -58,9 +58,14 @@ heights_two zero below = refl
 heights_two (suc zero) below = refl
 heights_two (suc (suc v)) below = absurd (omega (arith, below))
 
+low_two : (v : ℕ) → v < 2 → (place_in (stage_of (at 360 136 ∷ at 360 232 ∷ [])) v).y.0 < 10000000
+low_two zero below = omega arith
+low_two (suc zero) below = omega arith
+low_two (suc (suc v)) below = absurd (omega (arith, below))
+
 -- a node at the distance 1 stands one row below the root
 stage-below : IsStage two_nodes (stage_of (at 360 136 ∷ at 360 232 ∷ []))
-stage-below = record { rise = 96; some = omega arith; heights = heights_two }
+stage-below = record { rise = 96; some = omega arith; heights = heights_two; few = low_two }
 
 -- and not beside it
 stage_not-beside : ¬ IsStage two_nodes (stage_of (at 300 136 ∷ at 420 136 ∷ []))

@@ -15,11 +15,12 @@ abbrev pub place_in : Stage → ℕ → Point
 place_in stage v = slice_index_or stage.places v root_place
 
 -- Each node stands as many rows below the root's row as its true distance is, and the rows are equally
--- far apart.
+-- far apart; and no film is ten million high.
 pub record IsStage (net : Network) (stage : Stage) : Type 0 where
   pub rise : ℕ
   pub some : 80 ≤ rise
   pub heights : (v : ℕ) → v < net.nodes → (place_in stage v).y.0 ≡ 136 + rise * distance_of net v
+  pub few : (v : ℕ) → v < net.nodes → (place_in stage v).y.0 < 10000000
 
 -- the steps of a line begin at a place
 abbrev pub IsWayFrom : Point → List ℕ → Type 0
@@ -64,3 +65,7 @@ IsClearOf node at half =
 -- they keep clear of all nodes
 abbrev pub IsClearOfNodes : Network → Stage → Point → ℕ → Type 0
 IsClearOfNodes net stage at half = (v : ℕ) → v < net.nodes → IsClearOf (place_in stage v) at half
+
+-- words stand in one of two lines below a row
+abbrev pub IsBelow : ℕ → ℕ → Type 0
+IsBelow row y = (y ≡ px (row + 36)) ⊎ (y ≡ px (row + 48))

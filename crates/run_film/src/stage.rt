@@ -63,6 +63,11 @@ fn longest(lengths: &[usize; 64]) -> usize {
     most
 }
 
+/// How far two neighbours of a row are apart, if the longest row has so many nodes.
+fn stride_of(most: usize) -> Px {
+    Px((1100 / most.max(1)).min(132).max(48) as u32)
+}
+
 /// How far two rows are apart, of so many below the root. Between the signs of two rows there is room for
 /// lines and for two lines of text.
 fn rise_of(depth: usize) -> Px
@@ -81,8 +86,9 @@ fn foot_of(stride: Px) -> Px {
 /// The places of the nodes, all at the left, each at the height of its row.
 fn rows_of(net: &Net, rise: Px) -> [Point; 64]
     requires { rise.0 ≤ 96 }
-    ensures { (v : ℕ) → v < net.now.nodes → (slice_index_or result v root_place).y.0
+    ensures heights { (v : ℕ) → v < net.now.nodes → (slice_index_or result v root_place).y.0
         ≡ 136 + rise.0 * distance_of net.now v }
+    ensures few { (v : ℕ) → v < net.now.nodes → (slice_index_or result v root_place).y.0 < 10000000 }
 {
     let mut places = [Point { x: Px(0), y: ROOT }; 64];
     for v in 0..net.nodes() {
@@ -98,7 +104,7 @@ impl Stage {
     {
         let lengths = row_lengths(net, order);
         let most = longest(&lengths);
-        let stride = Px((560 / most.max(1)).min(132).max(48) as u32);
+        let stride = stride_of(most);
         let depth = usize::from(net.eccentricity());
         let rise = rise_of(depth);
         let width = Px((stride * most + Px(96)).0.max(LEAST_WIDTH));

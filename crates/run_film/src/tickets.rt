@@ -1,6 +1,6 @@
 //! The tickets to which nodes lend: their words, and a place for them that is clear of nodes and lines.
 ghost use Rattle.std.specs.Prelude.{◌≡◌, ◌<◌, ℕ, IsTrue};
-ghost use Rattle.run_film.specs.Places.{place_in, IsClearOf, IsClearOfNodes, IsStage};
+ghost use Rattle.run_film.specs.Places.{place_in, IsBelow, IsClearOf, IsClearOfNodes, IsStage};
 
 use crate::curve::{REACH, put_places};
 use crate::pace::Shown;
@@ -14,8 +14,8 @@ use topology::Net;
 /// The most tickets that have a symbol.
 const MOST_TICKETS: usize = 256;
 
-/// How wide a letter or a digit is, about half: fonts differ.
-const HALF_LETTER: Px = Px(4);
+/// How wide a letter or a digit is at most, on the average: fonts differ.
+const LETTER: Px = Px(7);
 
 /// The tickets that nodes lend to in some still, each once, the first so many.
 pub fn tickets_in(alloc: Global, net: &Net, shown: Shown<'_>) -> Result<Vec<u16>, AllocError> {
@@ -89,7 +89,7 @@ impl Tickets {
         let widest = ticket_words(alloc, stage, greatest(tickets.as_slice()))?;
         Ok(Tickets {
             lines: lines_of(alloc, net, stage, shown)?,
-            half: HALF_LETTER * widest.len(),
+            half: (LETTER * widest.len()).half(),
         })
     }
 
@@ -109,11 +109,11 @@ impl Tickets {
         below(stage, v)
     }
 
-    /// The places for the ticket of a node: beside it, below it, and above it.
-    fn places(&self, stage: &Stage, v: u16) -> [Point; 7] {
+    /// The places for the ticket of a node: beside it, and below it.
+    fn places(&self, stage: &Stage, v: u16) -> [Point; 5] {
         let at = stage.at(v);
         let low = below(stage, v).y;
-        let (level, high) = (at.y + Px(7), at.y - Px(35));
+        let level = at.y + Px(7);
         let (wide, near) = (self.half + Px(24), self.half + Px(6));
         [
             Point {
@@ -133,20 +133,14 @@ impl Tickets {
                 x: at.x - near,
                 y: low,
             },
-            Point {
-                x: at.x + near,
-                y: high,
-            },
-            Point {
-                x: at.x - near,
-                y: high,
-            },
         ]
     }
 }
 
 /// The place below a node, and below its number if that stands there.
-fn below(stage: &Stage, v: u16) -> Point {
+fn below(stage: &Stage, v: u16) -> Point
+    ensures { IsBelow (place_in stage.now v).y.0 result.y.0 }
+{
     let at = stage.at(v);
     let down = if stage.is_narrow() { 48 } else { 36 };
     Point {
