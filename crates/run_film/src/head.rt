@@ -127,7 +127,7 @@ const KEY: &str = "in a node: its distance; arrow: to its parent; thick: the tru
 /// Draws what they mean, beside the title.
 fn put_key(alloc: Global, groups: &mut Vec<Group>, said: Said) -> Result<(), AllocError> {
     let signs = if said.nodes <= MOST_FRAMED {
-        "lightning: damage; dot: a frame that goes; cross: one that is lost"
+        "lightning: damage; dot: a frame under way; cross: one that is lost"
     } else {
         "lightning: damage"
     };
