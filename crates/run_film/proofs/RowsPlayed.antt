@@ -95,10 +95,10 @@ between_not-middle (inl is) = grind (arith, is)
 between_not-middle (inr is) = grind (arith, is)
 
 -- from 100 to 260, and back
-past-there : past_middle 100 260 ≡ 190
+past-there : past_middle 100 260 ≡ 200
 past-there = refl
 
-past-back : past_middle 260 100 ≡ 170
+past-back : past_middle 260 100 ≡ 160
 past-back = refl
 
 -- ---- words beside nodes

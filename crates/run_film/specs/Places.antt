@@ -49,9 +49,9 @@ corner a b = if nat_lt a b then px (a + 24) else a - 24
 abbrev pub IsBetween : ℕ → ℕ → ℕ → Type 0
 IsBetween a b x = (x ≡ quarter a b) ⊎ (x ≡ corner a b)
 
--- nine sixteenths of the way from one length to another, rounded down at each half
+-- five eighths of the way from one length to another, rounded down at each half
 abbrev pub past_middle : ℕ → ℕ → ℕ
-past_middle a b = px (px (a * 7) + px (b * 9)) / 2 / 2 / 2 / 2
+past_middle a b = px (px (a * 3) + px (b * 5)) / 2 / 2 / 2
 
 -- ---- words beside nodes
 

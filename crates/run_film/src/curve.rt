@@ -100,11 +100,11 @@ fn quarter(a: Px, b: Px) -> Px
     (a * 3 + b).half().half()
 }
 
-/// A length nine sixteenths of the way from one to another.
+/// A length five eighths of the way from one to another.
 fn past_middle(a: Px, b: Px) -> Px
     ensures { result.0 ≡ past_middle a.0 b.0 }
 {
-    (a * 7 + b * 9).half().half().half().half()
+    (a * 3 + b * 5).half().half().half()
 }
 
 /// The place half of the way along the line between two nodes.
@@ -119,8 +119,8 @@ pub fn middle_of(stage: &Stage, v: u16, w: u16) -> Point
     }
 }
 
-/// Where a frame waits that is under way from a node to another: just past the middle of the line, so that those
-/// of both directions are told apart.
+/// Where a frame waits that is under way from a node to another: past the middle of the line, so that those of
+/// both directions are told apart, and the head of an arrow hides neither.
 pub fn waiting_place(stage: &Stage, v: u16, w: u16) -> Point
     ensures { result.x.0 ≡ past_middle (place_in stage.now v).x.0 (place_in stage.now w).x.0 }
 {
