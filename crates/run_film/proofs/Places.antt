@@ -1,5 +1,5 @@
 -- Words below a node keep clear of all nodes.
-use Rattle.std.proofs.Common.{◌≡◌, ◌∙◌, ℕ, ◌+◌, ◌*◌, ◌≤◌, ◌<◌, ◌⊎◌, inl, inr, subst, sym, arith}
+use Rattle.std.proofs.Common.{◌≡◌, ◌∙◌, ℕ, ◌+◌, ◌*◌, ◌≤◌, ◌<◌, ◌⊎◌, IsTrue, inl, inr, subst, sym, arith}
 use Rattle.std.proofs.Math.Nat.{mul-le-mul_left}
 use Rattle.std.proofs.lemmas.Grind.{common_steps}
 use Rattle.topology.specs.Network.{Network}
@@ -7,7 +7,7 @@ use Rattle.topology.specs.Tree.{distance_of}
 use Rattle.svg_drawing.specs.Lengths.{px}
 use Rattle.svg_drawing.specs.declared.canvas.Point.{Point}
 use Rattle.run_film.specs.declared.stage.Stage.{Stage}
-use Rattle.run_film.specs.Places.{place_in, IsBelow, IsClearOf, IsClearOfNodes, IsStage}
+use Rattle.run_film.specs.Places.{is_clear_of, place_in, IsBelow, IsClearOfNodes, IsStage}
 
 at_most_or_more : (a b : ℕ) → (a ≤ b) ⊎ (b + 1 ≤ a)
 at_most_or_more a b = grind (arith, common_steps)
@@ -21,11 +21,17 @@ rows_apart : (rise a b : ℕ) → 80 ≤ rise → (a ≤ b) ⊎ (b + 1 ≤ a)
 rows_apart rise a b least (inl most) = inl (omega (arith, products rise a b most))
 rows_apart rise a b least (inr more) = inr (omega (arith, products rise (b + 1) a more, least))
 
+clear_above : (node at : Point) (half : ℕ) → node.y.0 + 31 < at.y.0 → IsTrue (is_clear_of node at half)
+clear_above node at half above = grind (arith, common_steps, above)
+
+clear_below : (node at : Point) (half : ℕ) → at.y.0 + 24 < node.y.0 → IsTrue (is_clear_of node at half)
+clear_below node at half lower = grind (arith, common_steps, lower)
+
 -- words so far below a row are clear of it and of those above, and of those that are 80 below it
 clear_by : (node at : Point) (half row down : ℕ) → at.y.0 ≡ row + down → 31 < down → down + 24 < 80
-    → (node.y.0 ≤ row) ⊎ (row + 80 ≤ node.y.0) → IsClearOf node at half
-clear_by node at half row down there some few (inl above) = inl (omega (arith, there, above, some))
-clear_by node at half row down there some few (inr lower) = inr (inl (omega (arith, there, lower, few)))
+    → (node.y.0 ≤ row) ⊎ (row + 80 ≤ node.y.0) → IsTrue (is_clear_of node at half)
+clear_by node at half row down there some few (inl above) = clear_above node at half (omega (arith, there, above, some))
+clear_by node at half row down there some few (inr lower) = clear_below node at half (omega (arith, there, lower, few))
 
 by_rows : (net : Network) (stage : Stage) (v : ℕ) (at : Point) (down half : ℕ) → IsStage net stage → v < net.nodes
     → at.y.0 ≡ (place_in stage v).y.0 + down → 31 < down → down + 24 < 80 → IsClearOfNodes net stage at half

@@ -26,7 +26,7 @@ use Rattle.run_film.specs.Films.{IsPlayed, ShowsParts}
 use Rattle.run_film.specs.FilmTexts.{IsEachShown, IsFilm, IsPage, IsReelOf}
 use Rattle.run_film.specs.Heads.{stills_text, title_text, said_text, IsHeaded}
 use Rattle.run_film.specs.Pages.{counts_said, event_said, steps_shown, HoldsSteps, IsPageHead}
-use Rattle.run_film.specs.Places.{past_middle, place_in, IsBelow, IsBetween, IsClearOf, IsStage, IsWay, IsWayFrom, IsWayFromMiddle}
+use Rattle.run_film.specs.Places.{is_clear_of, past_middle, place_in, IsBelow, IsBetween, IsStage, IsWay, IsWayFrom, IsWayFromMiddle}
 use Rattle.run_film.specs.Shapes.{symbol_shown}
 use Rattle.run_film.specs.Symbols.{done_in, is_done, parents_in, HasSymbols, IsDefined}
 use Rattle.run_film.specs.Tracks.{track_shown, waits_in}
@@ -103,19 +103,16 @@ past-back = refl
 
 -- ---- words beside nodes
 
--- words 70 wide beside a node
-clear-beside : IsClearOf (at 100 136) (at 160 143) 35
-clear-beside = inr (inr (inl (omega arith)))
+-- words 70 wide beside a node, and under it
+clear-beside : is_clear_of (at 100 136) (at 160 143) 35 ≡ true
+clear-beside = refl
 
-clear-under : IsClearOf (at 100 136) (at 100 172) 35
-clear-under = inl (omega arith)
+clear-under : is_clear_of (at 100 136) (at 100 172) 35 ≡ true
+clear-under = refl
 
 -- not over its sign
-clear_not-over : ¬ IsClearOf (at 100 136) (at 150 143) 35
-clear_not-over (inl is) = omega (arith, is)
-clear_not-over (inr (inl is)) = omega (arith, is)
-clear_not-over (inr (inr (inl is))) = omega (arith, is)
-clear_not-over (inr (inr (inr is))) = omega (arith, is)
+clear_not-over : is_clear_of (at 100 136) (at 150 143) 35 ≡ false
+clear_not-over = refl
 
 below-one : IsBelow 136 172
 below-one = inl refl

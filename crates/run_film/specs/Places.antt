@@ -1,5 +1,5 @@
 -- Where the nodes stand, and lines between them.
-use Rattle.std.specs.Prelude.{◌≡◌, ℕ, ◌+◌, ◌-◌, ◌*◌, ◌/◌, ◌≤◌, ◌<◌, ◌⊎◌, nat_lt, if◌then◌else◌, List, ◌++◌, codes, decimal, slice_index_or}
+use Rattle.std.specs.Prelude.{◌≡◌, ℕ, ◌+◌, ◌-◌, ◌*◌, ◌/◌, ◌≤◌, ◌<◌, ◌⊎◌, Bool, ◌||◌, nat_lt, IsTrue, if◌then◌else◌, List, ◌++◌, codes, decimal, slice_index_or}
 use Rattle.topology.specs.Network.{Network}
 use Rattle.topology.specs.Tree.{distance_of}
 use Rattle.svg_drawing.specs.Lengths.{px}
@@ -55,16 +55,16 @@ past_middle a b = px (px (a * 3) + px (b * 5)) / 2 / 2 / 2
 
 -- ---- words beside nodes
 
--- Words of this half of a width, whose line ends 3 below this place and begins 10 above it, keep clear of a
+-- Words of this half of a width, whose line begins 10 above this place and ends 3 below it, keep clear of a
 -- node with its signs, which reaches 21 to each side.
-abbrev pub IsClearOf : Point → Point → ℕ → Type 0
-IsClearOf node at half =
-    (node.y.0 + 31 < at.y.0) ⊎ (at.y.0 + 24 < node.y.0)
-    ⊎ (node.x.0 + half + 21 < at.x.0) ⊎ (at.x.0 + half + 21 < node.x.0)
+abbrev pub is_clear_of : Point → Point → ℕ → Bool
+is_clear_of node at half =
+    nat_lt (node.y.0 + 31) at.y.0 || nat_lt (at.y.0 + 24) node.y.0
+    || nat_lt (node.x.0 + (half + 21)) at.x.0 || nat_lt (at.x.0 + (half + 21)) node.x.0
 
 -- they keep clear of all nodes
 abbrev pub IsClearOfNodes : Network → Stage → Point → ℕ → Type 0
-IsClearOfNodes net stage at half = (v : ℕ) → v < net.nodes → IsClearOf (place_in stage v) at half
+IsClearOfNodes net stage at half = (v : ℕ) → v < net.nodes → IsTrue (is_clear_of (place_in stage v) at half)
 
 -- words stand in one of two lines below a row
 abbrev pub IsBelow : ℕ → ℕ → Type 0

@@ -1,6 +1,6 @@
 //! The tickets to which nodes lend: their words, and a place for them that is clear of nodes and lines.
 ghost use Rattle.std.specs.Prelude.{◌≡◌, ◌<◌, ℕ, IsTrue};
-ghost use Rattle.run_film.specs.Places.{place_in, IsBelow, IsClearOf, IsClearOfNodes, IsStage};
+ghost use Rattle.run_film.specs.Places.{is_clear_of, place_in, IsBelow, IsClearOfNodes, IsStage};
 
 use crate::curve::{REACH, put_places};
 use crate::pace::Shown;
@@ -163,13 +163,12 @@ fn is_clear_of_nodes(net: &Net, stage: &Stage, at: Point, half: Px) -> bool
 
 /// Whether they keep clear of a node.
 fn is_clear_of(node: Point, at: Point, half: Px) -> bool
-    ensures { IsTrue result → IsClearOf node at half.0 }
+    ensures { result ≡ is_clear_of node at half.0 }
 {
-    let reach = half + REACH;
-    (node.y + Px(31)).0 < at.y.0
-        || (at.y + Px(24)).0 < node.y.0
-        || (node.x + reach).0 < at.x.0
-        || (at.x + reach).0 < node.x.0
+    let (left, right) = (u64::from(node.x.0), u64::from(at.x.0));
+    let (high, low) = (u64::from(node.y.0), u64::from(at.y.0));
+    let reach = u64::from(half.0) + u64::from(REACH.0);
+    high + 31 < low || low + 24 < high || left + reach < right || right + reach < left
 }
 
 /// Whether they keep clear of these places along lines.
