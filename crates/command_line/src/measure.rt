@@ -5,7 +5,7 @@ ghost use Rattle.clap.specs.Matches.{found_of};
 ghost use Rattle.command_line.specs.Plan.{IsPlanOf, IsPlanRefused};
 
 use crate::program::NETWORK_FILE;
-use crate::refusal::Refusal;
+use crate::refusal::{Refusal, ended};
 use clap::{ArgMatches, Command};
 use command_grammar::{Grammar, Number, Parameter, WordFault, given_number, with_command, word};
 use std::alloc::{AllocError, Global};
@@ -14,7 +14,7 @@ use std::rt::Files;
 use std::thread::Threads;
 use std::time::Clock;
 use subcommands::measure::Plan;
-use subcommands::{Scheduler, measure, measure_csv, measure_json};
+use subcommands::{Scheduler, measure, measure_csv, measure_json, measure_plot};
 
 /// What `measure` takes.
 const MEASURE: Grammar<'static> = Grammar {
@@ -34,9 +34,10 @@ const MEASURE: Grammar<'static> = Grammar {
         Parameter::Flag("random", "Run by random steps"),
         Parameter::Flag("table", "Also show a line for each run"),
         Parameter::Flag("csv", "Print a row for each run: when each layer stood"),
+        Parameter::Value("plot", "PATH", "Also draw those rows in this file, as SVG"),
         Parameter::Flag("json", "Print one JSON object, on one line"),
     ],
-    needs: &[],
+    needs: &[("plot", "csv")],
     excludes: &[("random", "rounds"), ("csv", "table"), ("csv", "json")],
     choice: None,
 };
@@ -84,6 +85,12 @@ e being the greatest distance of a node from the root, and its ring by one less
 than the sharper bound. If it has 'sweeps none', these four are empty. Such a
 measurement takes longer.
 
+With --plot it first writes a picture of these rows to the file PATH, as SVG
+1.1: for each layer, how large a share of the runs had it for good by each
+number of sweeps, and upright lines at the proved bounds above. From 1 on, each
+step of the axis doubles the number of sweeps. A run with 'sweeps none' is in no
+curve, but counts as a run. The file is not touched before all runs are made.
+
 With --json it prints one JSON object: runs, least, median, most, sharp and
 sweeps-bound, and seeds. That is a list with the seed and the sweeps of each run
 that would have a line. null means none.
@@ -118,6 +125,9 @@ pub fn run<R: Files + Print + Eprint + Clock + AllocGlobal + Threads + Sync>(
     let (file, plan) = (word(given, "FILE")?, plan(given, progress)?);
     if given.get_flag("json") {
         return Ok(measure_json::run(rt, file, plan)?);
+    }
+    if let Some(path) = given.get_str("plot") {
+        return Ok(ended(rt, file, measure_plot::run(rt, file, plan, path)));
     }
     if given.get_flag("csv") {
         return Ok(measure_csv::run(rt, file, plan)?);

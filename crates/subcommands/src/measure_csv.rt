@@ -55,7 +55,7 @@ fn plan_csv<R: Eprint + Clock + Threads + Sync>(
 
 /// Makes the runs of a plan, on as many threads as there are processors. Run i has the first seed
 /// plus i.
-fn settlings<R: Eprint + Clock + Threads + Sync>(
+pub(crate) fn settlings<R: Eprint + Clock + Threads + Sync>(
     rt: &R,
     alloc: Global,
     net: &Net,
@@ -104,7 +104,7 @@ fn make_settlings<R: Eprint + Clock + Threads + Sync>(
 }
 
 /// Whether a run had as many sweeps as the sharper bound says, and served by then.
-fn has_settled(run: &Settling, bound: u32) -> bool
+pub(crate) fn has_settled(run: &Settling, bound: u32) -> bool
     ensures { result ≡ has_settled run.now bound }
 {
     run.seen >= u64::from(bound) && run.served <= u64::from(bound)
