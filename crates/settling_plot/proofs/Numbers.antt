@@ -8,8 +8,8 @@ use Rattle.std.proofs.lemmas.List.{append-nil}
 range_more : (a n : ℕ) → range_with_len a (suc n) ≡ range_with_len a n ++ (a + n) ∷ []
 range_more a zero = let e : a + 0 ≡ a = omega arith in rw e refl
 range_more a (suc n) =
-    let e : suc a + n ≡ a + suc n = omega arith in
-    ap (λ xs. a ∷ xs) (range_more (suc a) n ∙ ap (λ k. range_with_len (suc a) n ++ k ∷ []) e)
+    let e : (a + 1) + n ≡ a + suc n = omega arith in
+    ap (λ xs. a ∷ xs) (range_more (a + 1) n ∙ ap (λ k. range_with_len (a + 1) n ++ k ∷ []) e)
 
 -- after what the first numbers show, the next one is shown
 pub shown_next : {X : Type 0} (show : ℕ → List X) (n : ℕ) (start before after : List X) → before ≡ start ++ flat_map show (range_with_len 0 n)

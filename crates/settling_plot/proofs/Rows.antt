@@ -1,5 +1,5 @@
 -- Small examples of places, counts and curves, and some that look like them and are none.
-use Rattle.std.proofs.Common.{◌≡◌, ◌≢◌, ◌+◌, ℕ, List, [], ◌∷◌, ◌++◌, codes, decimal, refl, arith}
+use Rattle.std.proofs.Common.{◌≡◌, ◌≢◌, ◌+◌, ◌*◌, ℕ, List, [], ◌∷◌, ◌++◌, codes, decimal, refl, arith}
 use Rattle.std.proofs.lemmas.Grind.{common_steps}
 use Rattle.svg_drawing.specs.declared.colours.Colour.TheVariants.{Green}
 use Rattle.svg_drawing.specs.Drawn.{whole}

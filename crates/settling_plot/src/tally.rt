@@ -7,7 +7,8 @@ use std::alloc::{AllocError, Global};
 /// How many of these numbers are 0, how many are 1, and so on up to the last; a greater one is not
 /// counted.
 pub(crate) fn tally(alloc: Global, numbers: &[u64], last: u32) -> Result<Vec<usize>, AllocError>
-    ensures { IfOk result (λ tally. IsTally numbers.now last tally.items) }
+    ensures tally { IfOk result (λ tally. IsTally numbers.now last tally.items) }
+    ensures few { IfOk result (λ _. length numbers.now < 2 ^ 64) }
 {
     let room = last as usize + 1;
     let mut tally = vec![in alloc; 0usize; room]?;
