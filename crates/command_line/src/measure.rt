@@ -127,12 +127,27 @@ pub fn run<R: Files + Print + Eprint + Clock + AllocGlobal + Threads + Sync>(
         return Ok(measure_json::run(rt, file, plan)?);
     }
     if let Some(path) = given.get_str("plot") {
-        return Ok(ended(rt, file, measure_plot::run(rt, file, plan, path)));
+        return Ok(plot(rt, file, plan, path));
     }
     if given.get_flag("csv") {
         return Ok(measure_csv::run(rt, file, plan)?);
     }
     Ok(measure::run(rt, file, plan)?)
+}
+
+/// Plots the runs of a plan, and prints their rows. The status says whether that failed, or a run.
+fn plot<R: Files + Print + Eprint + Clock + AllocGlobal + Threads + Sync>(
+    rt: &R,
+    file: &str,
+    plan: Plan,
+    path: &str,
+) -> ExitCode
+    ensures { (exit_status result ≡ 0) ⊎ (exit_status result ≡ 1) }
+{
+    match measure_plot::run(rt, file, plan, path) {
+        Ok(status) => status,
+        Err(fault) => ended(rt, file, Err(fault)),
+    }
 }
 
 /// The plan, by the words of `measure`.

@@ -1,5 +1,5 @@
 //! `measure FILE --csv --plot PATH`: the same rows, and a plot of them.
-ghost use Rattle.std.specs.Prelude.{◌≡◌, ◌↔◌, ◌++◌, ◌⊎◌, OnOk, IfOk, IsTrue, string_bytes};
+ghost use Rattle.std.specs.Prelude.{◌≡◌, ◌⊎◌, IfOk};
 ghost use Rattle.std.specs.Process.{exit_status};
 ghost use Rattle.subcommands.specs.MeasuredPlot.{IsFigureOf, IsReportOf, settled_sweeps};
 ghost use Rattle.subcommands.specs.MeasuredPlot.{sweeps_of};
@@ -45,7 +45,7 @@ pub fn run<'a, R: Files + Print + Eprint + Clock + AllocGlobal + Threads + Sync>
     ensures { IfOk result (λ status. (exit_status status ≡ 0) ⊎ (exit_status status ≡ 1)) }
 {
     let net = read_network(rt, network)?;
-    let report = report(rt, rt.alloc(), &net, plan).map_err(|_| Fault::Memory)?;
+    let report = report_of(rt, rt.alloc(), &net, plan).map_err(|_| Fault::Memory)?;
     if save(rt, path, report.plot.as_slice()).is_err() {
         return Err(PathFault::Unwritable(path));
     }
@@ -53,7 +53,7 @@ pub fn run<'a, R: Files + Print + Eprint + Clock + AllocGlobal + Threads + Sync>
 }
 
 /// Makes the runs of a plan, and what is said of them.
-fn report<R: Eprint + Clock + Threads + Sync>(
+fn report_of<R: Eprint + Clock + Threads + Sync>(
     rt: &R,
     alloc: Global,
     net: &Net,
