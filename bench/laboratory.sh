@@ -74,4 +74,5 @@ done
 
 if [ "${1:-}" = --pictures ]; then
     cp recovery.svg "$docs/recovery.svg"
+    cp settled.svg "$docs/settled.svg"
 fi
