@@ -1,5 +1,5 @@
 //! The curves: of how many runs a layer stands, by how many sweeps.
-ghost use Rattle.std.specs.Prelude.{◌≡◌, ◌++◌, ◌<◌, [], ◌∷◌, IfOk, OnOk};
+ghost use Rattle.std.specs.Prelude.{◌≡◌, ◌++◌, ◌≤◌, ◌^◌, ◌<◌, [], ◌∷◌, IfOk, OnOk, codes};
 ghost use Rattle.std.specs.Prelude.{string_bytes};
 ghost use Rattle.svg_drawing.specs.Drawn.{drawn};
 ghost use Rattle.settling_plot.specs.Axes.{IsAxis};

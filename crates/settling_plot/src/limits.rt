@@ -1,5 +1,5 @@
 //! The proved bounds, as upright lines.
-ghost use Rattle.std.specs.Prelude.{◌≡◌, ◌++◌, OnOk, IfOk, string_bytes};
+ghost use Rattle.std.specs.Prelude.{◌≡◌, ◌++◌, ◌≤◌, OnOk, IfOk, string_bytes};
 ghost use Rattle.svg_drawing.specs.Drawn.{drawn, pen_of};
 ghost use Rattle.settling_plot.specs.Axes.{IsAxis};
 ghost use Rattle.settling_plot.specs.Limits.{limit_shown, limit_words, limits_shown, thin_pen};

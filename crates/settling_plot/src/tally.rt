@@ -1,5 +1,5 @@
 //! How many runs have each number.
-ghost use Rattle.std.specs.Prelude.{◌+◌, ◌<◌, ◌^◌, IfOk, length, slice_index_or};
+ghost use Rattle.std.specs.Prelude.{◌≡◌, ◌+◌, ◌<◌, ◌^◌, ℕ, IfOk, length, slice_index_or};
 ghost use Rattle.settling_plot.specs.Tallies.{IsCountedIn, IsTally};
 
 use std::alloc::{AllocError, Global};
