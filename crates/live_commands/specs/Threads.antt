@@ -8,7 +8,7 @@ use Rattle.run_model.specs.Count.{IsSweepCount}
 use Rattle.run_model.specs.declared.event.Event.{Event}
 use Rattle.configuration.specs.ConfigurationView.{world_of}
 use Rattle.judge.specs.Judging.{counted_up_to}
-use Rattle.world.specs.StateText.{state_text}
+use Rattle.command_parts.specs.world.StateText.{state_text}
 use Rattle.thread_net.specs.declared.run.Woven.{Woven}
 use Rattle.thread_net.specs.declared.run.RunFault.{RunFault}
 use Rattle.thread_net.specs.declared.run.RunFault.TheVariants.{Memory as MemoryRefused, Spawn}

@@ -55,8 +55,7 @@ fn furnish<A: Allocator + Copy>(
 {
     reserve_journals(alloc, turns, runners)?;
     cable_all(alloc, links, runners)?;
-    let events = Vec::with_capacity(alloc, total_room(turns, runners))?;
-    Ok(events)
+    Vec::with_capacity(alloc, total_room(turns, runners))
 }
 
 /// Empty tables for as many runners, and for their parts.

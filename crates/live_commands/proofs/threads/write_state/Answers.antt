@@ -3,7 +3,7 @@ use Rattle.run_model.specs.Count.{IsSweepCount}
 use Rattle.configuration.specs.ConfigurationView.{world_of}
 use Rattle.judge.specs.Judging.{counted_up_to}
 use Rattle.byte_streams.specs.Streams.{Takes}
-use Rattle.world.specs.StateText.{state_text}
+use Rattle.command_parts.specs.world.StateText.{state_text}
 use Rattle.live_commands.proofs.threads.write_state.Goals as goal
 
 pub returns-in-Ok-flush-clause-text : goal.returns-in-Ok-flush-clause-text
