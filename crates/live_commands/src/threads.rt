@@ -14,6 +14,10 @@ ghost use Rattle.command_parts.specs.declared.fault.Fault.TheVariants.{Output};
 mod progress;
 mod together;
 
+use command_parts::world::report::judge;
+use command_parts::world::simulation::state_text;
+use command_parts::world::streams::Failed;
+use command_parts::world::{Event, World};
 use command_parts::{EventText, Fault, Flush, WriteSink, read_network};
 use progress::Watch;
 use schedules::EventSink;
@@ -27,10 +31,6 @@ use std::thread::Threads;
 use std::time::Clock;
 use thread_net::{Gate, RunFault, Woven, run_threads};
 use topology::Net;
-use command_parts::world::report::judge;
-use command_parts::world::simulation::state_text;
-use command_parts::world::streams::Failed;
-use command_parts::world::{Event, World};
 
 /// Runs each node of the network of a file on its own thread, from fresh nodes and empty links,
 /// and prints the state that they lead to, with the sweeps of what they did. Writes what they did

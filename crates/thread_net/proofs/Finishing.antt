@@ -258,13 +258,13 @@ module _ (view : ConfigurationView) (first : World) (turns : ℕ) (p : Prepared 
   long = let a = map-long (λ o. o.runner) os in let b = count in omega arith
 
   pub gatherable : (did : ℕ → ℕ) → ((v : ℕ) → v < length os → turns_of turns os v ≡ did v) → IsGatherable (world_of view) did back p.links p.room p.seats p.events
-  gatherable did as =
+  gatherable did alike =
       let few = entries-fit (world_of view) turns p.runners.items os range here.runners all in
       let room = here.events in
       rw came
       (record {
         start = start-of view range;
-        done = have-done (world_of view) turns p.runners.items os range here.runners all did as;
+        done = have-done (world_of view) turns p.runners.items os range here.runners all did alike;
         over = here.links;
         spares = here.spares;
         judged = here.room;

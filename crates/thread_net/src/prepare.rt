@@ -55,7 +55,8 @@ fn furnish<A: Allocator + Copy>(
 {
     reserve_journals(alloc, turns, runners)?;
     cable_all(alloc, links, runners)?;
-    Vec::with_capacity(alloc, total_room(turns, runners))
+    let events = Vec::with_capacity(alloc, total_room(turns, runners))?;
+    Ok(events)
 }
 
 /// Empty tables for as many runners, and for their parts.

@@ -23,6 +23,9 @@ total_room-requires-clause-short g c =
     (sym (same-nodes c.cable_all.new.runners.items c.reserve_journals.new.runners.items c.cable_all.ensures.seats ∙ c.reserve_journals.ensures.nodes))
     c.requires.short
 
+pub returns-in_err-events-clause-nodes : goal.returns-in_err-events-clause-nodes
+returns-in_err-events-clause-nodes g c = same-nodes c.cable_all.new.runners.items c.reserve_journals.new.runners.items c.cable_all.ensures.seats ∙ c.reserve_journals.ensures.nodes
+
 pub returns-clause-nodes : goal.returns-clause-nodes
 returns-clause-nodes g c = same-nodes c.cable_all.new.runners.items c.reserve_journals.new.runners.items c.cable_all.ensures.seats ∙ c.reserve_journals.ensures.nodes
 
@@ -36,4 +39,7 @@ pub returns-clause-room : goal.returns-clause-room
 returns-clause-room g c = subst (All (HasRoom c.args.turns)) (sym c.cable_all.ensures.seats) c.in_ok-reserve_journals.ensures.room
 
 pub returns-clause-events : goal.returns-clause-events
-returns-clause-events g c = ?
+returns-clause-events g c =
+    let size = c.total_room.ensures in
+    let exact = c.in_ok-events.ensures.exact in
+    (c.in_ok-events.ensures.items, omega (arith, size, exact))

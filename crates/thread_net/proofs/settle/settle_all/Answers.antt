@@ -2,7 +2,7 @@ use Rattle.std.proofs.Common.{rules, arith, refl, sym, subst, ◌≡◌, ◌∙�
 use Rattle.topology.specs.Network.{are_joined, neighbours_of, IsAcceptedNetwork}
 use Rattle.std.specs.List.{Contains}
 use Rattle.configuration.specs.LinksView.{under_way}
-use Rattle.thread_net.specs.Cables.{ids_in, row, IsCableBetween, IsRoomFor}
+use Rattle.thread_net.specs.Cables.{ids_in, row, left_between, IsRoomFor}
 use Rattle.thread_net.specs.Tables.{rows_in}
 use Rattle.thread_net.proofs.Pairs.{is_past, begins, ends, skips}
 use Rattle.thread_net.proofs.Taking.{cable-between}
@@ -19,7 +19,7 @@ loop-one-init g c =
 pub loop-other-init : goal.loop-other-init
 loop-other-init g c =
     let u = c.loop-one.one in
-    let accepted : IsAcceptedNetwork c.args.links.now.net = search rules in
+    let accepted : IsAcceptedNetwork c.args.links.now.net = subst IsAcceptedNetwork c.net.ensures.net c.nodes-nodes.ensures.network in
     let it = c.loop-one.invariant in
     (it.0, it.1, it.2, settling-as c.args.links.now.net _ _ _ _ (is_past u 0) (is_past u (u + 1)) (begins c.args.links.now.net accepted u c.joined.ensures.not_to_itself) it.3)
 
@@ -29,13 +29,13 @@ settle_edge-requires-clause-cable g c =
     let old = rows_in c.args.rows.now.items in
     let u = c.loop-one.one in
     let v = c.loop-other.other in
-    let accepted : IsAcceptedNetwork net = search rules in
+    let accepted : IsAcceptedNetwork net = subst IsAcceptedNetwork c.net.ensures.net c.nodes-nodes.ensures.network in
     let order : u < v = search (rules, arith) in
     let joined : are_joined net.edges u v ≡ true = search rules in
     let back = sym (c.joined.ensures.back net.edges u v) ∙ joined in
     let at = c.joined.ensures.nodes net u v accepted joined in
-    let to-v : Contains (ids_in (row old u)) v = rw (c.requires.ids u at.0) ((c.neighbours.ensures.joined net u v).1 (at.1, joined)) in
-    let to-u : Contains (ids_in (row old v)) u = rw (c.requires.ids v at.1) ((c.neighbours.ensures.joined net v u).1 (at.0, back)) in
+    let to-v : Contains (ids_in (row old u)) v = subst (λ xs. Contains xs v) (sym (c.requires.ids u at.0)) ((c.neighbours.ensures.joined net u v).1 (at.1, joined)) in
+    let to-u : Contains (ids_in (row old v)) u = subst (λ xs. Contains xs u) (sym (c.requires.ids v at.1)) ((c.neighbours.ensures.joined net v u).1 (at.0, back)) in
     still-cabled net old (rows_in c.loop-other.rows.items) _ _ u v order joined back c.loop-other.invariant.3 (cable-between old u v c.requires.cabled to-v to-u)
 
 pub loop-other-preserved : goal.loop-other-preserved
@@ -58,7 +58,8 @@ loop-other-preserved g c =
             e.net ∙ it.0,
             e.spares ∙ it.1,
             e.all ∙ it.2,
-            settling-more net old rows was link u v order joined (sym both ∙ joined) it.3 (rows_in w.settle_edge.new.rows.items) (under_way w.settle_edge.new.links) e.forth e.home (rw it.0 at e.left) e.others,
+            settling-more net old rows was link u v order joined (sym both ∙ joined) it.3 (rows_in w.settle_edge.new.rows.items) (under_way w.settle_edge.new.links) e.forth e.home
+                (λ a b. e.left (subst (λ n. IsRoomFor n (left_between rows u v)) (sym it.0) a) (subst (λ n. IsRoomFor n (left_between rows v u)) (sym it.0) b)) e.others,
           )
       | else-are_joined w ↦
           let isnt : are_joined net.edges u v ≡ false = search rules in
@@ -69,21 +70,21 @@ pub loop-one-preserved : goal.loop-one-preserved
 loop-one-preserved g c =
     let net = c.args.links.now.net in
     let u = c.loop-one.one in
-    let accepted : IsAcceptedNetwork net = search rules in
+    let accepted : IsAcceptedNetwork net = subst IsAcceptedNetwork c.net.ensures.net c.nodes-nodes.ensures.network in
     let end : c.loop-other.other ≡ net.nodes = search (rules, arith) in
     let it = c.loop-other.invariant in
-    (it.0, it.1, it.2, settling-as net _ _ _ _ (is_past u net.nodes) (is_past (u + 1) 0) (ends net accepted u c.joined.ensures.nodes) (subst (λ k. IsSettling net (is_past u k) _ _ _ _) end it.3))
+    (it.0, it.1, it.2, settling-as net _ _ _ _ (is_past u net.nodes) (is_past (u + 1) 0) (ends net accepted u c.joined.ensures.nodes) (subst (λ k. IsSettling net (is_past u k) (rows_in c.args.rows.now.items) (rows_in c.loop-other.rows.items) (under_way c.args.links.now) (under_way c.loop-other.links)) end it.3))
 
 pub returns-clause-flushed : goal.returns-clause-flushed
 returns-clause-flushed g c =
     let net = c.args.links.now.net in
-    let accepted : IsAcceptedNetwork net = search rules in
+    let accepted : IsAcceptedNetwork net = subst IsAcceptedNetwork c.net.ensures.net c.nodes-nodes.ensures.network in
     let end : c.loop-one.one ≡ net.nodes = search (rules, arith) in
-    (settling-all net _ _ _ _ net.nodes (λ i j joined. (c.joined.ensures.nodes net i j accepted joined).0) (subst (λ k. IsSettling net (is_past k 0) _ _ _ _) end c.loop-one.invariant.3)).0
+    (settling-all net _ _ _ _ net.nodes (λ i j joined. (c.joined.ensures.nodes net i j accepted joined).0) (subst (λ k. IsSettling net (is_past k 0) (rows_in c.args.rows.now.items) (rows_in c.loop-one.rows.items) (under_way c.args.links.now) (under_way c.loop-one.links)) end c.loop-one.invariant.3)).0
 
 pub returns-clause-settled : goal.returns-clause-settled
 returns-clause-settled g c =
     let net = c.args.links.now.net in
-    let accepted : IsAcceptedNetwork net = search rules in
+    let accepted : IsAcceptedNetwork net = subst IsAcceptedNetwork c.net.ensures.net c.nodes-nodes.ensures.network in
     let end : c.loop-one.one ≡ net.nodes = search (rules, arith) in
-    (settling-all net _ _ _ _ net.nodes (λ i j joined. (c.joined.ensures.nodes net i j accepted joined).0) (subst (λ k. IsSettling net (is_past k 0) _ _ _ _) end c.loop-one.invariant.3)).1
+    (settling-all net _ _ _ _ net.nodes (λ i j joined. (c.joined.ensures.nodes net i j accepted joined).0) (subst (λ k. IsSettling net (is_past k 0) (rows_in c.args.rows.now.items) (rows_in c.loop-one.rows.items) (under_way c.args.links.now) (under_way c.loop-one.links)) end c.loop-one.invariant.3)).1
