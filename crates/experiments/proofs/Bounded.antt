@@ -12,8 +12,8 @@ use Rattle.run_model.specs.Tree.{IsTreeReached}
 use Rattle.run_model.specs.Sweep.{Sweeps}
 use Rattle.run_model.specs.Laws.{FewerSweeps, NetworkStays, UndamagedSplits, MomentLeads}
 use Rattle.run_model.specs.declared.event.Event.{Event}
-use Rattle.convergence.specs.Ring.{IsTokenRingGood}
-use Rattle.convergence.specs.Sharp.{LinksConvergeSooner, TreeConvergesSooner, TokenRingConvergesSooner, SharpHeadline}
+use Rattle.layers.specs.convergence.Ring.{IsTokenRingGood}
+use Rattle.layers.specs.convergence.Sharp.{LinksConvergeSooner, TreeConvergesSooner, TokenRingConvergesSooner, SharpHeadline}
 use Rattle.experiments.specs.Layered.{HoldsFrom, IsSettlingShown, IsSettlingWithin}
 use Rattle.experiments.specs.Recovery.{FailedLast, FailsLast, counted_from}
 use Rattle.experiments.specs.declared.layered_run.Settling.{Settling}

@@ -11,9 +11,9 @@ use Rattle.run_model.specs.Links.{AreLinksStable}
 use Rattle.run_model.specs.Tree.{IsTreeReached}
 use Rattle.run_model.specs.Privilege.{is_privileged, is_lending}
 use Rattle.run_model.specs.declared.event.Event.{Event}
-use Rattle.convergence.specs.Laws.{LegitimateStays}
-use Rattle.convergence.specs.Legitimate.{IsLegitimate}
-use Rattle.convergence.specs.Ring.{IsTokenRingGood}
+use Rattle.layers.specs.convergence.Laws.{LegitimateStays}
+use Rattle.layers.specs.convergence.Legitimate.{IsLegitimate}
+use Rattle.layers.specs.convergence.Ring.{IsTokenRingGood}
 use Rattle.judge.specs.Judging.{counted_up_to}
 use Rattle.experiments.specs.Delays.{is_harm}
 use Rattle.experiments.specs.Recovery.{AnyLayersGoOn, AreAnyLayersFirst, AreAnyLayersSeen, AreLayersNow, AreLayersSeen, IsLastNow, unseen}

@@ -10,8 +10,8 @@ use Rattle.run_model.specs.Tree.{IsTreeReached}
 use Rattle.run_model.specs.declared.event.Event.TheVariants.{Tick}
 use Rattle.run_model.proofs.RowsTwo.{two_nodes, calm, calm-links_stable, calm-tree_reached}
 use Rattle.run_model.proofs.RowsServing.{calm-serves, two_tokens, two_tokens-do_not_serve}
-use Rattle.convergence.specs.Legitimate.{IsLegitimate}
-use Rattle.convergence.specs.Ring.{IsTokenRingGood}
+use Rattle.layers.specs.convergence.Legitimate.{IsLegitimate}
+use Rattle.layers.specs.convergence.Ring.{IsTokenRingGood}
 use Rattle.experiments.specs.Layered.{HoldsFrom, IsSettlingOf, IsSettlingShown, IsSettlingWithin}
 use Rattle.experiments.specs.Recovery.{AreAnyLayersFirst, AreAnyLayersSeen, AreLayersNow, AreLayersSeen, AnyLayersGoOn, FailsLast, unseen}
 use Rattle.experiments.specs.declared.layered_run.Settling.{Settling}

@@ -10,7 +10,7 @@ use Rattle.run_model.specs.Headline.{IsServing}
 use Rattle.run_model.specs.Links.{AreLinksStable}
 use Rattle.run_model.specs.Tree.{IsTreeReached}
 use Rattle.run_model.specs.declared.event.Event.{Event}
-use Rattle.convergence.specs.Ring.{IsTokenRingGood}
+use Rattle.layers.specs.convergence.Ring.{IsTokenRingGood}
 use Rattle.judge.specs.Judging.{counted_up_to}
 use Rattle.experiments.specs.Recovery.{FailsLast, counted_from}
 use Rattle.experiments.specs.Scheduled.{HasEnough, stretches}

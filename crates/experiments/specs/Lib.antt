@@ -1,3 +1,4 @@
+pub use Rattle.layers.specs as layers
 pub use Rattle.schedules.specs as schedules
 pub mod Delays
 pub mod Laws

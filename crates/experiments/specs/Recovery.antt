@@ -8,8 +8,8 @@ use Rattle.run_model.specs.Headline.{IsServing}
 use Rattle.run_model.specs.Links.{AreLinksStable}
 use Rattle.run_model.specs.Tree.{IsTreeReached}
 use Rattle.run_model.specs.declared.event.Event.{Event}
-use Rattle.convergence.specs.Ring.{IsTokenRingGood}
-use Rattle.convergence.specs.Legitimate.{IsLegitimate}
+use Rattle.layers.specs.convergence.Ring.{IsTokenRingGood}
+use Rattle.layers.specs.convergence.Legitimate.{IsLegitimate}
 use Rattle.judge.specs.Judging.{counted_up_to}
 use Rattle.judge.specs.JudgeView.{JudgeView, HasSeen}
 use Rattle.experiments.specs.declared.layers_seen.LayersSeen.{LayersSeen}

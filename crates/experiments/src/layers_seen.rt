@@ -55,7 +55,7 @@ impl LayersSeen {
         ensures { LayersGoOn (world_of configuration.now) event.now sweeps self result }
     {
         run_model::laws::in_range();
-        convergence::laws::closure();
+        layers::convergence::laws::closure();
         let more = self.with_event();
         if self.needs_look(event) {
             more.looked(configuration, sweeps)

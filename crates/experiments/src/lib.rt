@@ -27,6 +27,7 @@ mod watch;
 
 pub use delay::{Delay, replay};
 pub use layered_run::{Settling, measure_layers};
+pub use layers;
 pub use measured_run::{Recovery, Scheduler, measure_run};
 pub use plan::{Order, PlanFault, give_plan};
 pub use schedules;

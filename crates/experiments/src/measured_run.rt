@@ -69,7 +69,7 @@ pub fn measure_run<A: Allocator + Copy>(
     run_model::laws::start();
     run_model::laws::moments();
     run_model::laws::sweep_numbers();
-    convergence::laws::sharp();
+    layers::convergence::laws::sharp();
     damage_tool::laws::scramble();
     damage_tool::laws::draws();
     schedules::laws::accepted();

@@ -32,6 +32,7 @@ mod tree;
 mod whole;
 
 pub use configuration;
+pub use convergence;
 pub use links::are_links_stable;
 pub use loans::are_loans_privileged;
 pub use token_ring::is_token_ring_good;

@@ -20,4 +20,5 @@ mod play;
 mod trial;
 
 pub use climbing::{Search, SlowRun, climb};
+pub use experiments;
 pub use experiments::Delay;

@@ -10,6 +10,6 @@ pub mod BoundData
 pub mod MeasuredData
 pub mod MeasuredCsv
 pub use Rattle.command_parts.specs as command_parts
-pub use Rattle.experiments.specs as experiments
+pub use Rattle.slow_runs.specs.experiments as experiments
 pub mod Hints
 pub mod LayersText

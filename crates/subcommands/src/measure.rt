@@ -6,12 +6,12 @@ ghost use Rattle.subcommands.specs.Measured.{has_served, run_line, served_sweeps
 ghost use Rattle.subcommands.specs.Measured.{shown_line, run_lines, totals, IsMeasured};
 ghost use Rattle.subcommands.specs.Measured.{AreRunsOf, IsPlanMeasured, HaveServed};
 ghost use Rattle.command_parts.specs.declared.fault.Fault.TheVariants.{Output};
-ghost use Rattle.experiments.specs.Shown.{IsRunOf};
+ghost use Rattle.slow_runs.specs.experiments.Shown.{IsRunOf};
 
 use crate::bound::push_number;
 use command_parts::{Fault, Progress, read_network};
-use experiments::{Recovery, Scheduler, Summary, measure_run, summary_of};
 use rayon::prelude::*;
+use slow_runs::experiments::{Recovery, Scheduler, Summary, measure_run, summary_of};
 use std::alloc::{AllocError, Global};
 use std::fmt::Write;
 use std::process::ExitCode;

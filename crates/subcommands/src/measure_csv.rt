@@ -5,12 +5,12 @@ ghost use Rattle.std.specs.Process.{exit_status};
 ghost use Rattle.subcommands.specs.Measured.{AreRunsOf};
 ghost use Rattle.subcommands.specs.MeasuredCsv.{csv_row, csv_rows, csv_text, has_settled};
 ghost use Rattle.subcommands.specs.MeasuredCsv.{HaveSettled, IsPlanCsv};
-ghost use Rattle.experiments.specs.Layered.{IsSettlingOf};
+ghost use Rattle.slow_runs.specs.experiments.Layered.{IsSettlingOf};
 
 use crate::measure::{Plan, ending};
 use command_parts::{Fault, Progress, read_network};
-use experiments::{Settling, measure_layers};
 use rayon::prelude::*;
+use slow_runs::experiments::{Settling, measure_layers};
 use std::alloc::{AllocError, Global};
 use std::fmt::Write;
 use std::process::ExitCode;

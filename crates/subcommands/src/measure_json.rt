@@ -10,8 +10,8 @@ ghost use Rattle.subcommands.specs.MeasuredData.{IsPlanMeasuredJson};
 
 use crate::measure::{Plan, ending, has_served, have_served, measured, served_sweeps};
 use command_parts::{Fault, read_network};
-use experiments::{Recovery, Summary, summary_of};
 use serde_json::{Map, Value, push, put};
+use slow_runs::experiments::{Recovery, Summary, summary_of};
 use std::alloc::{AllocError, Global};
 use std::process::ExitCode;
 use std::rt::Files;

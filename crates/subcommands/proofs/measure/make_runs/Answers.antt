@@ -1,5 +1,5 @@
 use Rattle.std.proofs.Common.{◌∙◌}
-use Rattle.experiments.specs.Shown.{IsRunOf}
+use Rattle.slow_runs.specs.experiments.Shown.{IsRunOf}
 use Rattle.rayon.specs.Numbers.{nat_range}
 use Rattle.subcommands.proofs.Runs.{runs-of}
 use Rattle.subcommands.proofs.measure.make_runs.Goals as goal

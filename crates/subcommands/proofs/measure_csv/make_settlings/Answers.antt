@@ -1,5 +1,5 @@
 use Rattle.std.proofs.Common.{◌∙◌}
-use Rattle.experiments.specs.Layered.{IsSettlingOf}
+use Rattle.slow_runs.specs.experiments.Layered.{IsSettlingOf}
 use Rattle.rayon.specs.Numbers.{nat_range}
 use Rattle.subcommands.proofs.Runs.{runs-of}
 use Rattle.subcommands.proofs.measure_csv.make_settlings.Goals as goal

@@ -1,7 +1,7 @@
 use Rattle.std.proofs.Common.{◌∙◌, sym}
 use Rattle.run_model.specs.Links.{AreLinksStable}
 use Rattle.run_model.specs.Tree.{IsTreeReached}
-use Rattle.convergence.specs.Ring.{IsTokenRingGood}
+use Rattle.layers.specs.convergence.Ring.{IsTokenRingGood}
 use Rattle.configuration.specs.ConfigurationView.{world_of}
 use Rattle.experiments.proofs.Layering.{stands-legitimate}
 use Rattle.experiments.proofs.Watching.{last-by}
