@@ -115,7 +115,7 @@ row-other = (refl, refl)
 not-other : IsOtherPair 1 3 1 3 → ⊥
 not-other same = true≢false same
 
-row-ends : (ends_at 1 7 3 9 1 ≡ 7 ∷ []) × (ends_at 1 7 3 9 3 ≡ 9 ∷ []) × (ends_at 1 7 3 9 2 ≡ [])
+row-ends : (ends_at {X = ℕ} 1 7 3 9 1 ≡ 7 ∷ []) × (ends_at {X = ℕ} 1 7 3 9 3 ≡ 9 ∷ []) × (ends_at {X = ℕ} 1 7 3 9 2 ≡ [])
 row-ends = (refl, refl, refl)
 
 -- a cable has two ends

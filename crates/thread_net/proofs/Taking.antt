@@ -16,7 +16,7 @@ pub row-at : {X A : Type 0} (tables : List (Vec (Port A) A)) (u k : ℕ) (table 
 row-at tables u k table same within at f = ap f (ap (row (rows_in tables)) (sym same) ∙ (get_or-map (λ t. t.items) tables k table [] within ∙ ap (λ t. t.items) (sym at)))
 
 module _ {A : Type 0} (v : ℕ) where
-  abbrev leads : Port A → Bool
+  abbrev pub leads : Port A → Bool
   leads p = p.neighbour == v
 
   pub found-at : (ps : List (Port A)) (d : Port A) (k : ℕ) → position leads ps ≡ Some k → port_to ps v ≡ Some (slice_index_or ps k d)

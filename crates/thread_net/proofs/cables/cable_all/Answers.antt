@@ -1,4 +1,4 @@
-use Rattle.std.proofs.Common.{rules, arith, ap, refl, sym, subst, ◌≡◌, ◌∙◌, ◌<◌, ◌+◌, false}
+use Rattle.std.proofs.Common.{rules, arith, ap, refl, sym, subst, ◌≡◌, ◌∙◌, ◌<◌, ◌+◌, true, false}
 use Rattle.topology.specs.Network.{are_joined, IsAcceptedNetwork}
 use Rattle.thread_net.specs.Cables.{rows_of}
 use Rattle.thread_net.proofs.Pairs.{is_past, begins, ends, skips}

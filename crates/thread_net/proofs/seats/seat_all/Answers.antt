@@ -1,5 +1,4 @@
-use Rattle.std.proofs.Common.{rules, arith, ap, refl, ◌≡◌, ◌∙◌, ◌++◌, ◌∷◌, []}
-use Rattle.std.proofs.lemmas.Grind.{common_steps}
+use Rattle.std.proofs.Common.{rules, arith, ap, append_assoc, refl, ◌≡◌, ◌∙◌, ◌++◌, ◌∷◌, []}
 use Rattle.std.proofs.lemmas.List.{map_push}
 use Rattle.std.proofs.lemmas.List.Elements.{All-push}
 use Rattle.node_runner.specs.declared.runner.Runner.{Runner}
@@ -16,7 +15,7 @@ loop-node-preserved g c =
     let new = All-push IsNew (seats_of rs) (seat_of r) c.loop-node.invariant.2 (record { id = c.id-id.ensures; clock = refl; journal = c.new-in-loop-node.ensures.items }) in
     let rows = map_push (λ r. r.ports.items) rs r ∙ ap (λ ps. rows_of rs ++ ps ∷ []) c.new.ensures.items in (
       search (rules, arith),
-      grind (arith, common_steps),
+      rw (items, map_push (λ r. r.node) rs r, append_assoc) (rw c.in-Some.ensures.steps.0 at c.loop-node.invariant.1),
       rw (items, map_push seat_of rs r) new,
       λ x. rw (items, rows) (empty-push (rows_of rs) c.loop-node.invariant.3 x),
     )
