@@ -69,7 +69,8 @@ at the top and each node as far below as its true distance. Each node shows the
 distance that it has, and an arrow towards the parent that it has. A wrong node
 is dashed, a privileged one has two circles, one that lends has a frame with its
 ticket, and lightning shows where damage strikes. In networks of at most 12
-nodes, dots show the frame that was last sent or taken.
+nodes, a dot travels with the frame that was last sent or taken, and a dot rests
+on its edge, in each direction, while other frames are under way.
 
 A film plays in a browser, and on pages that show pictures. It holds its end for
 three seconds, and begins again; a viewer that plays no films shows the end.

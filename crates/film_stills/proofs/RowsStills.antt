@@ -13,6 +13,7 @@ still damaged privileged lending events = record {
   looks = [];
   places = [];
   edges = [];
+  under_way = [];
   events = events;
   event = None;
   sweeps = 0;
@@ -47,6 +48,10 @@ weighty_not-one = refl
 -- the later one is shown, with the damage of the earlier and the greater counts
 joined-later : joined (still true 2 0 1) (still false 1 1 2) ≡ still true 2 1 2
 joined-later = refl
+
+-- and what is under way at the later one
+joined-under_way : (joined (still false 1 0 1) (record (still false 1 0 2) { under_way = 3 ∷ [] })).under_way ≡ 3 ∷ []
+joined-under_way = refl
 
 folded-pairs : folded (still false 1 0 1 ∷ still true 2 0 2 ∷ still false 1 0 3 ∷ []) ≡ still true 2 0 2 ∷ still false 1 0 3 ∷ []
 folded-pairs = refl

@@ -10,6 +10,12 @@ use run_model::Event;
 /// The edges that a network has at most.
 pub const MOST_EDGES: usize = 256;
 
+/// The most nodes of a network for which it is seen what is under way.
+pub const MOST_FRAMED: u16 = 12;
+
+/// How many pairs of such nodes there are.
+pub const MOST_WAYS: usize = 144;
+
 /// Stands for no edge, since an edge joins two different nodes.
 pub const NO_EDGE: (u16, u16) = (0, 0);
 
@@ -22,6 +28,9 @@ pub struct Still {
     pub places: [Place; 64],
     /// The edges, and [`NO_EDGE`] at the places that have none.
     pub edges: [(u16, u16); MOST_EDGES],
+    /// How many frames are under way from a node to another: from u to v those at the place 12 u + v. In a
+    /// network of more than [`MOST_FRAMED`] nodes they are not seen, and all places hold 0.
+    pub under_way: [u16; MOST_WAYS],
     /// How many events have led to the moment.
     pub events: u64,
     /// The last of them; `None` at the start.

@@ -8,7 +8,7 @@ use Rattle.svg_drawing.specs.Grouped.{Grouped, grouped_of}
 use Rattle.run_film.specs.declared.track.Track.TheVariants.{Mark, Distance, Parent, Ticket, Strike}
 use Rattle.run_film.specs.Beats.{Film}
 use Rattle.run_film.specs.Tracks.{track_shown}
-use Rattle.run_film.specs.Films.{IsPlayed, Keeps, ShowsNode, AddsNode}
+use Rattle.run_film.specs.Films.{IsPlayed, Keeps, ShowsFrames, ShowsNode, AddsNode}
 use Rattle.run_film.specs.Shapes.{symbol_shown}
 use Rattle.run_film.specs.declared.frames.Deed.{Deed}
 use Rattle.run_film.specs.declared.frames.Deed.TheVariants.{Sent, Taken, Lost}
@@ -70,6 +70,12 @@ played_kept old new part (added, is) played = played_more old added new part is 
 pub node_kept : (old new : List Grouped) (film : Film) (v : ℕ) → Keeps old new → ShowsNode old film v → ShowsNode new film v
 node_kept old new film v (added, is) shows = shows_more old added new film v is shows
 
+pub frames_shown_kept : (old new : List Grouped) (film : Film) (net : Network) → Keeps old new → ShowsFrames old film net → ShowsFrames new film net
+frames_shown_kept old new film net keeps shows = record {
+  last = played_kept old new _ keeps shows.last;
+  waiting = λ u within v below there. played_kept old new _ keeps (shows.waiting u within v below there);
+}
+
 -- what is played at a place is played
 pub played_here : (old new : List Grouped) (part : ℕ → ℕ → Grouped) (x y : ℕ) → new ≡ old ++ part x y ∷ [] → IsPlayed new part
 played_here old new part x y is = (x, y, old, [], is)
@@ -92,7 +98,10 @@ pub edge_kept : (old new : List Grouped) (v w : ℕ) → Keeps old new → HasEd
 edge_kept old new v w keeps has = record { thin = defined_kept old new _ keeps has.thin; strong = defined_kept old new _ keeps has.strong }
 
 pub frame_kept : (old new : List Grouped) (film : Film) (u v : ℕ) → Keeps old new → HasFrame old film u v → HasFrame new film u v
-frame_kept old new film u v keeps has = λ deed there. defined_kept old new _ keeps (has deed there)
+frame_kept old new film u v keeps has = record {
+  deeds = λ deed there. defined_kept old new _ keeps (has.deeds deed there);
+  waiting = λ there. defined_kept old new _ keeps (has.waiting there);
+}
 
 -- what holds of each deed holds of all
 pub each_deed : (P : Deed → Type 0) → P Sent → P Taken → P Lost → (deed : Deed) → P deed

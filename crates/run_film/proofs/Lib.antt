@@ -1,4 +1,5 @@
 pub mod Films
+pub mod Places
 pub mod FilmTexts
 pub mod Pages
 pub mod Tracks

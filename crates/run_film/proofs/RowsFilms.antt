@@ -1,12 +1,13 @@
 -- Small examples of films, by computation, and some that look like them and are none.
-use Rattle.std.proofs.Common.{◌≡◌, ℕ, true, false, List, [], ◌∷◌, length, None, Some, codes, decimal, ◌++◌, refl, arith}
+use Rattle.std.proofs.Common.{◌≡◌, ℕ, true, false, List, [], ◌∷◌, length, Option, None, Some, codes, decimal, ◌++◌, refl, arith}
+use Rattle.run_recording.specs.run_model.declared.event.Event.{Event}
 use Rattle.run_recording.specs.run_model.declared.event.Event.TheVariants.{Damage, Lose, Send, Take, Tick}
 use Rattle.run_recording.specs.run_model.declared.event.Harm.TheVariants as harm
 use Rattle.run_recording.specs.film_stills.declared.look.Look.{Look}
 use Rattle.run_recording.specs.film_stills.declared.still.Still.{Still}
-use Rattle.run_film.specs.declared.track.Track.TheVariants.{Mark, Distance, Parent, Ticket, Strike, Edge, Frame}
+use Rattle.run_film.specs.declared.track.Track.TheVariants.{Mark, Distance, Parent, Ticket, Strike, Edge, Frame, Waiting}
 use Rattle.run_film.specs.Beats.{Film, beats_at, beats_of, joins_in, last_of}
-use Rattle.run_film.specs.Tracks.{mark_code, value_of, values_of}
+use Rattle.run_film.specs.Tracks.{mark_code, value_of, values_of, waits_in}
 use Rattle.svg_drawing.specs.Grouped.{Grouped}
 use Rattle.run_film.specs.Films.{IsPlayed}
 use Rattle.run_film.specs.Places.{IsWayFrom}
@@ -23,7 +24,7 @@ abbrev lending : Look
 lending = record { own = record { distance = 0; parent = None }; settled = false; privileged = true; lent = Some 7 }
 
 abbrev pub still_of : Look → Still
-still_of look = record { looks = look ∷ []; places = []; edges = (0, 1) ∷ (0, 0) ∷ []; events = 0; event = None; sweeps = 0; damaged = false; privileged = 0; lending = 0 }
+still_of look = record { looks = look ∷ []; places = []; edges = (0, 1) ∷ (0, 0) ∷ []; under_way = []; events = 0; event = None; sweeps = 0; damaged = false; privileged = 0; lending = 0 }
 
 -- three stills in ten beats: four for the first one and three for each other, besides those that hold
 -- the first and the last
@@ -111,6 +112,30 @@ value-lost = refl
 
 value-no_frame : value_of Frame (record (still_of wrong) { event = Some (Tick 1) }) ≡ codes "#n"
 value-no_frame = refl
+
+-- a frame is under way from 0 to 1
+abbrev on_way : Option Event → Still
+on_way event = record (still_of wrong) { under_way = 0 ∷ 1 ∷ []; event = event }
+
+value-waiting : value_of (Waiting 0 1) (on_way (Some (Tick 1))) ≡ codes "#m" ++ (decimal 0 ++ (codes "-" ++ decimal 1))
+value-waiting = refl
+
+-- one that was sent just now travels, and does not wait
+value_not-sent : value_of (Waiting 0 1) (on_way (Some (Send 0 1))) ≡ codes "#n"
+value_not-sent = refl
+
+-- of two, the other waits
+value-second : value_of (Waiting 0 1) (record (on_way (Some (Send 0 1))) { under_way = 0 ∷ 2 ∷ [] }) ≡ codes "#m" ++ (decimal 0 ++ (codes "-" ++ decimal 1))
+value-second = refl
+
+value_not-back : value_of (Waiting 1 0) (on_way None) ≡ codes "#n"
+value_not-back = refl
+
+waits-some : waits_in (record three { later = on_way None ∷ [] }) 0 1 ≡ true
+waits-some = refl
+
+waits_not-sent : waits_in (record three { later = on_way (Some (Send 0 1)) ∷ [] }) 0 1 ≡ false
+waits_not-sent = refl
 
 -- ---- lines and symbols
 

@@ -1,5 +1,5 @@
 -- Small examples of what films and pages show, and some that look like them and are none.
-use Rattle.std.proofs.Common.{◌≡◌, sym, refl, ℕ, zero, suc, ◌+◌, ◌*◌, ◌≤◌, ◌<◌, IsTrue, true, false, List, [], ◌∷◌, ◌++◌, length, take, drop, Option, None, Some, codes, decimal, arith}
+use Rattle.std.proofs.Common.{◌≡◌, sym, refl, ℕ, zero, suc, ◌+◌, ◌*◌, ◌≤◌, ◌<◌, IsTrue, true, false, List, [], ◌∷◌, ◌++◌, length, take, drop, Option, None, Some, codes, decimal, inl, inr, arith}
 use Rattle.std.proofs.lemmas.Grind.{common_steps}
 use Rattle.topology.specs.Network.{Network}
 use Rattle.topology.specs.Tree.{distance_of}
@@ -26,10 +26,10 @@ use Rattle.run_film.specs.Films.{IsPlayed, ShowsParts}
 use Rattle.run_film.specs.FilmTexts.{IsEachShown, IsFilm, IsPage, IsReelOf}
 use Rattle.run_film.specs.Heads.{stills_text, title_text, said_text, IsHeaded}
 use Rattle.run_film.specs.Pages.{counts_said, event_said, steps_shown, HoldsSteps, IsPageHead}
-use Rattle.run_film.specs.Places.{place_in, IsStage, IsWay, IsWayFrom, IsWayFromMiddle}
+use Rattle.run_film.specs.Places.{is_clear_of, past_middle, place_in, IsBelow, IsBetween, IsStage, IsWay, IsWayFrom, IsWayFromMiddle}
 use Rattle.run_film.specs.Shapes.{symbol_shown}
 use Rattle.run_film.specs.Symbols.{done_in, is_done, parents_in, HasSymbols, IsDefined}
-use Rattle.run_film.specs.Tracks.{track_shown}
+use Rattle.run_film.specs.Tracks.{track_shown, waits_in}
 use Rattle.run_film.specs.Words.{alone}
 use Rattle.run_film.proofs.RowsFilms.{wrong, privileged, still_of, three, defined_not-empty, played_not-empty}
 
@@ -58,9 +58,14 @@ heights_two zero below = refl
 heights_two (suc zero) below = refl
 heights_two (suc (suc v)) below = absurd (omega (arith, below))
 
+low_two : (v : ℕ) → v < 2 → (place_in (stage_of (at 360 136 ∷ at 360 232 ∷ [])) v).y.0 < 10000000
+low_two zero below = omega arith
+low_two (suc zero) below = omega arith
+low_two (suc (suc v)) below = absurd (omega (arith, below))
+
 -- a node at the distance 1 stands one row below the root
 stage-below : IsStage two_nodes (stage_of (at 360 136 ∷ at 360 232 ∷ []))
-stage-below = record { rise = 96; some = omega arith; heights = heights_two }
+stage-below = record { rise = 96; some = omega arith; heights = heights_two; few = low_two }
 
 -- and not beside it
 stage_not-beside : ¬ IsStage two_nodes (stage_of (at 300 136 ∷ at 420 136 ∷ []))
@@ -77,6 +82,44 @@ way-begins = (codes "L3 4", refl)
 
 way-middle : IsWayFromMiddle (at 1 2) (at 3 4) (codes "M" ++ (decimal 2 ++ (codes " " ++ (decimal 5 ++ codes "L3 4"))))
 way-middle = (at 2 5, refl, (codes "L3 4", refl))
+
+-- a straight line is a quarter of its way across, a bent one at its corner, and none is farther
+between-straight : IsBetween 100 200 125
+between-straight = inl refl
+
+between-bent : IsBetween 200 100 176
+between-bent = inr refl
+
+between_not-middle : ¬ IsBetween 100 200 150
+between_not-middle (inl is) = grind (arith, is)
+between_not-middle (inr is) = grind (arith, is)
+
+-- from 100 to 260, and back
+past-there : past_middle 100 260 ≡ 200
+past-there = refl
+
+past-back : past_middle 260 100 ≡ 160
+past-back = refl
+
+-- ---- words beside nodes
+
+-- words 70 wide beside a node, and under it
+clear-beside : is_clear_of (at 100 136) (at 160 143) 35 ≡ true
+clear-beside = refl
+
+clear-under : is_clear_of (at 100 136) (at 100 172) 35 ≡ true
+clear-under = refl
+
+-- not over its sign
+clear_not-over : is_clear_of (at 100 136) (at 150 143) 35 ≡ false
+clear_not-over = refl
+
+below-one : IsBelow 136 172
+below-one = inl refl
+
+below_not-beside : ¬ IsBelow 136 143
+below_not-beside (inl is) = grind (arith, is)
+below_not-beside (inr is) = grind (arith, is)
 
 -- ---- symbols
 
@@ -108,6 +151,9 @@ no_frames Sent u v there = grind (arith, there)
 no_frames Taken u v there = grind (arith, there)
 no_frames Lost u v there = grind (arith, there)
 
+none_waits : (u v : ℕ) → ¬ IsTrue (waits_in root_film u v)
+none_waits u v there = grind (arith, there)
+
 done-sent : is_done Sent (Some (Send 0 1)) 0 1 ≡ true
 done-sent = refl
 
@@ -132,7 +178,7 @@ symbols-root = record {
   distances = distances_two;
   arrows = λ v within w below there. absurd (no_arrows v within w below there);
   edges = λ w within v below there. absurd (omega (arith, within, below));
-  frames = λ few u within v below deed there. absurd (no_frames deed u v there);
+  frames = λ few u within v below. record { deeds = λ deed there. absurd (no_frames deed u v there); waiting = λ there. absurd (none_waits u v there) };
 }
 
 -- without symbols nothing is drawn

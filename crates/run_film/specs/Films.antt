@@ -2,10 +2,10 @@
 use Rattle.std.specs.Prelude.{◌≡◌, ◌<◌, ℕ, Bool, IsTrue, List, [], ◌∷◌, ◌++◌}
 use Rattle.topology.specs.Network.{Network}
 use Rattle.svg_drawing.specs.Grouped.{Grouped}
-use Rattle.run_film.specs.declared.track.Track.TheVariants.{Mark, Distance, Parent, Ticket, Strike, Damage, Sweeps, Edge, Frame}
+use Rattle.run_film.specs.declared.track.Track.TheVariants.{Mark, Distance, Parent, Ticket, Strike, Damage, Sweeps, Edge, Frame, Waiting}
 use Rattle.run_film.specs.Beats.{Film, joins_in}
 use Rattle.run_film.specs.Symbols.{is_framed, HasSymbols}
-use Rattle.run_film.specs.Tracks.{track_shown}
+use Rattle.run_film.specs.Tracks.{track_shown, waits_in}
 
 -- a part of a film stands somewhere in a list of groups
 abbrev pub IsPlayed : List Grouped → (ℕ → ℕ → Grouped) → Type 0
@@ -29,12 +29,18 @@ abbrev pub ShowsEdges : List Grouped → Film → Network → Type 0
 ShowsEdges groups film net =
     (w : ℕ) → w < net.nodes → (v : ℕ) → v < w → IsTrue (joins_in film v w) → IsPlayed groups (track_shown (Edge v w) film)
 
+-- it shows what the last event of each still does with a frame, and the frames that wait between two nodes in
+-- some still
+pub record ShowsFrames (groups : List Grouped) (film : Film) (net : Network) : Type 0 where
+  pub last : IsPlayed groups (track_shown Frame film)
+  pub waiting : (u : ℕ) → u < net.nodes → (v : ℕ) → v < net.nodes → IsTrue (waits_in film u v) → IsPlayed groups (track_shown (Waiting u v) film)
+
 -- The film shows a network: all its nodes, its edges, its frames if it is small, the sweeps, and
 -- whether there was damage.
 pub record ShowsParts (groups : List Grouped) (film : Film) (net : Network) : Type 0 where
   pub nodes : ShowsNodes groups film net
   pub edges : ShowsEdges groups film net
-  pub frames : IsTrue (is_framed net) → IsPlayed groups (track_shown Frame film)
+  pub frames : IsTrue (is_framed net) → ShowsFrames groups film net
   pub sweeps : IsPlayed groups (track_shown Sweeps film)
   pub damage : IsPlayed groups (track_shown Damage film)
 

@@ -1,5 +1,5 @@
 -- Where the nodes stand, and lines between them.
-use Rattle.std.specs.Prelude.{◌≡◌, ℕ, ◌+◌, ◌*◌, ◌/◌, ◌≤◌, ◌<◌, ◌⊎◌, List, ◌++◌, codes, decimal, slice_index_or}
+use Rattle.std.specs.Prelude.{◌≡◌, ℕ, ◌+◌, ◌-◌, ◌*◌, ◌/◌, ◌≤◌, ◌<◌, ◌⊎◌, Bool, ◌||◌, nat_lt, IsTrue, if◌then◌else◌, List, ◌++◌, codes, decimal, slice_index_or}
 use Rattle.topology.specs.Network.{Network}
 use Rattle.topology.specs.Tree.{distance_of}
 use Rattle.svg_drawing.specs.Lengths.{px}
@@ -15,11 +15,12 @@ abbrev pub place_in : Stage → ℕ → Point
 place_in stage v = slice_index_or stage.places v root_place
 
 -- Each node stands as many rows below the root's row as its true distance is, and the rows are equally
--- far apart.
+-- far apart; and no film is ten million high.
 pub record IsStage (net : Network) (stage : Stage) : Type 0 where
   pub rise : ℕ
-  pub some : 60 ≤ rise
+  pub some : 80 ≤ rise
   pub heights : (v : ℕ) → v < net.nodes → (place_in stage v).y.0 ≡ 136 + rise * distance_of net v
+  pub few : (v : ℕ) → v < net.nodes → (place_in stage v).y.0 < 10000000
 
 -- the steps of a line begin at a place
 abbrev pub IsWayFrom : Point → List ℕ → Type 0
@@ -39,10 +40,32 @@ IsWayFromMiddle a b text = (from : Point) × (from.x.0 ≡ px (a.x.0 + b.x.0) / 
 abbrev pub quarter : ℕ → ℕ → ℕ
 quarter a b = px (px (a * 3) + b) / 2 / 2
 
--- five parts of 32 of the way, rounded down at each half
-abbrev pub bent_quarter : ℕ → ℕ → ℕ
-bent_quarter a b = px (px (a * 27) + px (b * 5)) / 2 / 2 / 2 / 2 / 2
+-- the corner beside a node of a bent line: 24 across from the node, on the side of the other one
+abbrev pub corner : ℕ → ℕ → ℕ
+corner a b = if nat_lt a b then px (a + 24) else a - 24
 
--- how far across a line has come at a quarter of its way: a straight one a quarter, a bent one less
-abbrev pub IsQuarterWay : ℕ → ℕ → ℕ → Type 0
-IsQuarterWay a b x = (x ≡ quarter a b) ⊎ (x ≡ bent_quarter a b)
+-- how far across the line from a node to another has come where a dot turns that travels half of it: a straight
+-- one a quarter, a bent one is at its corner
+abbrev pub IsBetween : ℕ → ℕ → ℕ → Type 0
+IsBetween a b x = (x ≡ quarter a b) ⊎ (x ≡ corner a b)
+
+-- five eighths of the way from one length to another, rounded down at each half
+abbrev pub past_middle : ℕ → ℕ → ℕ
+past_middle a b = px (px (a * 3) + px (b * 5)) / 2 / 2 / 2
+
+-- ---- words beside nodes
+
+-- Words of this half of a width, whose line begins 10 above this place and ends 3 below it, keep clear of a
+-- node with its signs, which reaches 21 to each side.
+abbrev pub is_clear_of : Point → Point → ℕ → Bool
+is_clear_of node at half =
+    nat_lt (node.y.0 + 31) at.y.0 || nat_lt (at.y.0 + 24) node.y.0
+    || nat_lt (node.x.0 + (half + 21)) at.x.0 || nat_lt (at.x.0 + (half + 21)) node.x.0
+
+-- they keep clear of all nodes
+abbrev pub IsClearOfNodes : Network → Stage → Point → ℕ → Type 0
+IsClearOfNodes net stage at half = (v : ℕ) → v < net.nodes → IsTrue (is_clear_of (place_in stage v) at half)
+
+-- words stand in one of two lines below a row
+abbrev pub IsBelow : ℕ → ℕ → Type 0
+IsBelow row y = (y ≡ px (row + 36)) ⊎ (y ≡ px (row + 48))

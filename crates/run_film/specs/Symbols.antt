@@ -11,7 +11,7 @@ use Rattle.run_film.specs.declared.frames.Deed.{Deed}
 use Rattle.run_film.specs.declared.frames.Deed.TheVariants.{Sent, Taken, Lost}
 use Rattle.run_film.specs.Beats.{Film, joins_in}
 use Rattle.run_film.specs.Shapes.{symbol_shown}
-use Rattle.run_film.specs.Tracks.{is_named, look_in, pair_code}
+use Rattle.run_film.specs.Tracks.{is_named, look_in, pair_code, waits_in}
 
 -- a symbol of this name stands among groups
 abbrev pub IsDefined : List Grouped → List ℕ → Type 0
@@ -77,9 +77,11 @@ deed_code Sent = codes "o"
 deed_code Taken = codes "i"
 deed_code Lost = codes "x"
 
--- those of what the last events of stills do with frames from a node to another
-abbrev pub HasFrame : List Grouped → Film → ℕ → ℕ → Type 0
-HasFrame groups film u v = (deed : Deed) → IsTrue (done_in film deed u v) → IsDefined groups (pair_code (deed_code deed) u v)
+-- those of frames from a node to another: of what the last events of stills do with them, and of one that waits
+-- in some still
+pub record HasFrame (groups : List Grouped) (film : Film) (u v : ℕ) : Type 0 where
+  pub deeds : (deed : Deed) → IsTrue (done_in film deed u v) → IsDefined groups (pair_code (deed_code deed) u v)
+  pub waiting : IsTrue (waits_in film u v) → IsDefined groups (pair_code (codes "m") u v)
 
 abbrev pub HasFrames : List Grouped → Film → Network → Type 0
 HasFrames groups film net = (u : ℕ) → u < net.nodes → (v : ℕ) → v < net.nodes → HasFrame groups film u v

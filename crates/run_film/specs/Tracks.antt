@@ -1,6 +1,6 @@
 -- What the parts of a film show of a still, and beat by beat.
-use Rattle.std.specs.Prelude.{ℕ, Bool, false, true, ◌+◌, ◌*◌, ◌==◌, ◌&&◌, ◌||◌, if◌then◌else◌, List, [], ◌∷◌, ◌++◌, Option, None, Some, codes, decimal, slice_index_or}
-use Rattle.std.specs.List.{flat_map}
+use Rattle.std.specs.Prelude.{ℕ, Bool, false, true, ◌+◌, ◌*◌, ◌==◌, ◌&&◌, ◌||◌, nat_lt, if◌then◌else◌, List, [], ◌∷◌, ◌++◌, Option, None, Some, codes, decimal, slice_index_or}
+use Rattle.std.specs.List.{flat_map, list_any}
 use Rattle.svg_drawing.specs.Drawn.{Given, Shown as Drawn, numbered, with_given}
 use Rattle.topology.specs.Network.{are_joined}
 use Rattle.svg_drawing.specs.Grouped.{Grouped}
@@ -13,7 +13,7 @@ use Rattle.run_recording.specs.film_stills.declared.look.Place.{Place}
 use Rattle.run_recording.specs.film_stills.declared.still.Still.{Still}
 use Rattle.run_film.specs.declared.pace.Pace.{Pace}
 use Rattle.run_film.specs.declared.track.Track.{Track}
-use Rattle.run_film.specs.declared.track.Track.TheVariants.{Mark, Distance, Parent, Ticket, Strike, Damage as Damaged, Sweeps, Edge, Frame}
+use Rattle.run_film.specs.declared.track.Track.TheVariants.{Mark, Distance, Parent, Ticket, Strike, Damage as Damaged, Sweeps, Edge, Frame, Waiting}
 use Rattle.run_film.specs.Beats.{Film, beats_of, last_of}
 
 -- what a still shows of a node; nothing at an id that is none
@@ -94,6 +94,27 @@ frame_code (Some (Take u v)) = pair_code (codes "#i") u v
 frame_code (Some (Lose u v item)) = pair_code (codes "#x") u v
 frame_code _ = codes "#n"
 
+-- how many frames are under way from a node to another in a still of a small network
+abbrev pub frames_between : Still → ℕ → ℕ → ℕ
+frames_between still u v = slice_index_or still.under_way (12 * u + v) 0
+
+-- an event sends a frame from a node to another
+abbrev pub sends : Option Event → ℕ → ℕ → Bool
+sends (Some (Send a b)) u v = (a == u) && (b == v)
+sends _ u v = false
+
+-- a frame waits on its way from a node to another: one is under way besides the one that the last event sends
+abbrev pub is_waiting : Still → ℕ → ℕ → Bool
+is_waiting still u v = nat_lt (if sends still.event u v then 1 else 0) (frames_between still u v)
+
+-- it waits in some still of a film
+abbrev pub waits_in : Film → ℕ → ℕ → Bool
+waits_in film u v = is_waiting film.opening u v || list_any (λ still. is_waiting still u v) film.later
+
+-- the symbol of a frame that waits, or of none
+abbrev pub waiting_code : Bool → ℕ → ℕ → List ℕ
+waiting_code waits u v = if waits then pair_code (codes "#m") u v else codes "#n"
+
 -- the symbol that a part of the film shows of a still
 abbrev pub value_of : Track → Still → List ℕ
 value_of (Mark v) still = mark_code (look_in still v)
@@ -105,6 +126,7 @@ value_of Damaged still = if still.damaged then codes "#y" else codes "#n"
 value_of Sweeps still = codes "#s" ++ decimal still.sweeps
 value_of (Edge v w) still = edge_code (are_joined still.edges v w) (is_strong still v w) v w
 value_of Frame still = frame_code still.event
+value_of (Waiting u v) still = waiting_code (is_waiting still u v) u v
 
 -- those of stills, each after a semicolon
 abbrev pub more_values : Track → List Still → List ℕ

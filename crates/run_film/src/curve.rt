@@ -2,21 +2,29 @@
 ghost use Rattle.std.specs.Prelude.{◌≡◌, ◌+◌, ◌/◌, IfOk, string_bytes};
 ghost use Rattle.svg_drawing.specs.Lengths.{px};
 ghost use Rattle.run_film.specs.Places.{place_in, IsWay, IsWayFrom, IsWayFromMiddle};
-ghost use Rattle.run_film.specs.Places.{quarter, bent_quarter, IsQuarterWay};
+ghost use Rattle.run_film.specs.Places.{corner, past_middle, quarter, IsBetween};
 
 use crate::stage::Stage;
 use std::alloc::{AllocError, Global};
 use svg_drawing::{Point, Px};
 
-/// How a line between two nodes goes.
-#[derive(Clone, Copy, Debug, PartialEq, Eq)]
-enum Bend {
-    /// Straight.
-    Straight,
-    /// From row to row, it leaves and comes in steeply, so that it passes the nodes beside.
-    Steep,
-    /// Within a row, it goes below the nodes between.
-    Below,
+/// How far from the middle of a node its widest sign reaches, to each side: the frame of one that lends.
+pub const REACH: Px = Px(21);
+
+/// How far beside a node a bent line has its corner: nearer than any neighbour's sign.
+const ASIDE: Px = Px(24);
+
+/// How far above or below a node the corner stands: clear of the signs in the node's row.
+const CLEAR: Px = Px(25);
+
+/// A line that is bent: it leaves a node downwards or upwards, goes straight from corner to corner, in the
+/// space between two rows, and comes in upwards or downwards.
+#[derive(Clone, Copy)]
+struct Bent {
+    /// The corner beside the node that it leaves.
+    near: Point,
+    /// The corner beside the node to which it comes.
+    far: Point,
 }
 
 /// How far two lengths are apart.
@@ -24,25 +32,59 @@ fn apart(a: Px, b: Px) -> Px {
     Px((a - b).0.max((b - a).0))
 }
 
-/// How the line between two places goes.
-fn bend_of(stage: &Stage, from: Point, to: Point) -> Bend {
+/// Whether the straight line between two places passes the signs beside both: those between two neighbours in
+/// a row do, and those from row to row that are steep enough.
+fn is_straight(stage: &Stage, from: Point, to: Point) -> bool {
     let across = apart(from.x, to.x);
     let down = apart(from.y, to.y);
+    let room = stage.stride - REACH;
     if down.0 == 0 {
-        if across.0 <= stage.stride.0 {
-            Bend::Straight
-        } else {
-            Bend::Below
-        }
-    } else if (across * 5).0 <= (down * 9).0 {
-        Bend::Straight
+        across.0 <= stage.stride.0
     } else {
-        Bend::Steep
+        (across * 5).0 <= (down * 9).0 && (across * 21).0 <= (down * room.0 as usize).0
     }
 }
 
-/// How far below a row a line within it goes at most.
-const DROP: Px = Px(56);
+/// The corners of the line between two places; none if it is straight.
+fn bend_of(stage: &Stage, from: Point, to: Point) -> Option<Bent> {
+    if is_straight(stage, from, to) {
+        return None;
+    }
+    Some(Bent {
+        near: corner_of(stage, from, to),
+        far: corner_of(stage, to, from),
+    })
+}
+
+/// The corner beside a place of the line to another.
+fn corner_of(stage: &Stage, from: Point, to: Point) -> Point
+    ensures { result.x.0 ≡ corner from.x.0 to.x.0 }
+{
+    let y = if to.y.0 < from.y.0 {
+        from.y - CLEAR
+    } else if to.y.0 > from.y.0 {
+        from.y + CLEAR
+    } else {
+        from.y + CLEAR + lane(stage, from, to)
+    };
+    Point {
+        x: corner(from.x, to.x),
+        y,
+    }
+}
+
+/// How much lower a line within a row goes, so that those of different lengths are told apart.
+fn lane(stage: &Stage, from: Point, to: Point) -> Px {
+    let strides = apart(from.x, to.x).0 / stage.stride.0.max(1);
+    Px(3) * (strides % 4) as usize
+}
+
+/// How far across the corner beside a place stands.
+fn corner(a: Px, b: Px) -> Px
+    ensures { result.0 ≡ corner a.0 b.0 }
+{
+    if a.0 < b.0 { a + ASIDE } else { a - ASIDE }
+}
 
 /// The middle of two lengths.
 fn middle(a: Px, b: Px) -> Px
@@ -58,48 +100,59 @@ fn quarter(a: Px, b: Px) -> Px
     (a * 3 + b).half().half()
 }
 
-/// The place half of the way along the line between two nodes: the middle between them, or below it.
+/// A length five eighths of the way from one to another.
+fn past_middle(a: Px, b: Px) -> Px
+    ensures { result.0 ≡ past_middle a.0 b.0 }
+{
+    (a * 3 + b * 5).half().half().half()
+}
+
+/// The place half of the way along the line between two nodes.
 pub fn middle_of(stage: &Stage, v: u16, w: u16) -> Point
     ensures { result.x.0 ≡ px ((place_in stage.now v).x.0 + (place_in stage.now w).x.0) / 2 }
 {
     let (from, to) = (stage.at(v), stage.at(w));
-    let drop = match bend_of(stage, from, to) {
-        Bend::Below => quarter(DROP, Px(0)),
-        _ => Px(0),
-    };
+    let (high, low) = heights(stage, from, to);
     Point {
         x: middle(from.x, to.x),
-        y: middle(from.y, to.y) + drop,
+        y: middle(high, low),
     }
 }
 
-/// A length five parts of 32 of the way from one to another: as far has a bent line come across in a
-/// quarter of its time.
-fn bent_quarter(a: Px, b: Px) -> Px
-    ensures { result.0 ≡ bent_quarter a.0 b.0 }
-{
-    (a * 27 + b * 5).half().half().half().half().half()
-}
-
-/// The place a quarter of the way along the line from a node to another.
-pub fn quarter_of(stage: &Stage, v: u16, w: u16) -> Point
-    ensures { IsQuarterWay (place_in stage.now v).x.0 (place_in stage.now w).x.0 result.x.0 }
+/// Where a frame waits that is under way from a node to another: past the middle of the line, so that those of
+/// both directions are told apart, and the head of an arrow hides neither.
+pub fn waiting_place(stage: &Stage, v: u16, w: u16) -> Point
+    ensures { result.x.0 ≡ past_middle (place_in stage.now v).x.0 (place_in stage.now w).x.0 }
 {
     let (from, to) = (stage.at(v), stage.at(w));
-    let across = bent_quarter(from.x, to.x);
+    let (high, low) = heights(stage, from, to);
+    Point {
+        x: past_middle(from.x, to.x),
+        y: past_middle(high, low),
+    }
+}
+
+/// The heights between which the straight part of the line between two places goes.
+fn heights(stage: &Stage, from: Point, to: Point) -> (Px, Px) {
     match bend_of(stage, from, to) {
-        Bend::Straight => Point {
+        None => (from.y, to.y),
+        Some(bent) => (bent.near.y, bent.far.y),
+    }
+}
+
+/// Where a dot turns that travels half of the line from a node to another: a quarter of the way along a straight
+/// line, or at the corner of a bent one.
+pub fn between_of(stage: &Stage, v: u16, w: u16) -> Point
+    ensures { IsBetween (place_in stage.now v).x.0 (place_in stage.now w).x.0 result.x.0 }
+{
+    let (from, to) = (stage.at(v), stage.at(w));
+    if is_straight(stage, from, to) {
+        Point {
             x: quarter(from.x, to.x),
             y: quarter(from.y, to.y),
-        },
-        Bend::Steep => Point {
-            x: across,
-            y: (from.y * 9 + to.y * 7).half().half().half().half(),
-        },
-        Bend::Below => Point {
-            x: across,
-            y: from.y + (DROP * 9).half().half().half().half(),
-        },
+        }
+    } else {
+        corner_of(stage, from, to)
     }
 }
 
@@ -120,15 +173,13 @@ fn whole_between(
     from: Point,
     to: Point,
 ) -> Result<String, AllocError> {
-    let (x, y, end, low) = (from.x.0, from.y.0, to.x.0, to.y.0);
-    match bend_of(stage, from, to) {
-        Bend::Straight => format!(in alloc; "L"),
-        Bend::Steep => format!(in alloc; "C{x} {low} {end} {y} "),
-        Bend::Below => {
-            let deep = (from.y + DROP).0;
-            format!(in alloc; "C{x} {deep} {end} {deep} ")
-        }
-    }
+    let Some(bent) = bend_of(stage, from, to) else {
+        return format!(in alloc; "L");
+    };
+    let (x, end) = (from.x.0, to.x.0);
+    let (near, high) = (bent.near.x.0, bent.near.y.0);
+    let (far, low) = (bent.far.x.0, bent.far.y.0);
+    format!(in alloc; "Q{x} {high} {near} {high}L{far} {low}Q{end} {low} ")
 }
 
 /// The steps of the first half of that line.
@@ -142,34 +193,72 @@ pub fn half(alloc: Global, stage: &Stage, v: u16, w: u16) -> Result<String, Allo
 
 /// What follows the beginning of that half.
 fn half_rest(alloc: Global, stage: &Stage, from: Point, to: Point) -> Result<String, AllocError> {
-    let x = from.x.0;
-    let (end, low) = (middle(from.x, to.x).0, middle(from.y, to.y).0);
-    let near = quarter(from.x, to.x).0;
+    let (high, low) = heights(stage, from, to);
+    let (end, down) = (middle(from.x, to.x).0, middle(high, low).0);
     match bend_of(stage, from, to) {
-        Bend::Straight => format!(in alloc; "L{end} {low}"),
-        Bend::Steep => format!(in alloc; "C{x} {low} {near} {low} {end} {low}"),
-        Bend::Below => {
-            let deep = (from.y + DROP.half()).0;
-            let deeper = (from.y + quarter(DROP, Px(0))).0;
-            format!(in alloc; "C{x} {deep} {near} {deeper} {end} {deeper}")
+        None => format!(in alloc; "L{end} {down}"),
+        Some(bent) => {
+            let (x, near, turn) = (from.x.0, bent.near.x.0, bent.near.y.0);
+            format!(in alloc; "Q{x} {turn} {near} {turn}L{end} {down}")
         }
     }
 }
 
-/// The way from a node to a quarter of the line to another.
+/// The way from a node to where a dot turns that goes to another.
 pub fn first_quarter(alloc: Global, stage: &Stage, v: u16, w: u16) -> Result<String, AllocError>
     ensures { IfOk result (λ text. IsWayFrom (place_in stage.now v) (string_bytes text)) }
 {
-    let (from, to) = (stage.at(v), quarter_of(stage, v, w));
+    let (from, to) = (stage.at(v), between_of(stage, v, w));
     let (x, y, end, low) = (from.x.0, from.y.0, to.x.0, to.y.0);
     format!(in alloc; "M{x} {y}L{end} {low}")
 }
 
-/// The way from the middle of the line from a node to another to its last quarter.
+/// The way from the middle of the line from a node to another to where a dot turns that comes to that one.
 pub fn last_quarter(alloc: Global, stage: &Stage, v: u16, w: u16) -> Result<String, AllocError>
     ensures { IfOk result (λ text. IsWayFromMiddle (place_in stage.now v) (place_in stage.now w) (string_bytes text)) }
 {
-    let (from, to) = (middle_of(stage, v, w), quarter_of(stage, w, v));
+    let (from, to) = (middle_of(stage, v, w), between_of(stage, w, v));
     let (x, y, end, low) = (from.x.0, from.y.0, to.x.0, to.y.0);
     format!(in alloc; "M{x} {y}L{end} {low}")
+}
+
+/// Adds places along the line between two nodes, close to one another.
+pub fn put_places(
+    places: &mut Vec<Point>,
+    stage: &Stage,
+    v: u16,
+    w: u16,
+) -> Result<(), AllocError> {
+    let (from, to) = (stage.at(v), stage.at(w));
+    match bend_of(stage, from, to) {
+        None => put_straight(places, from, to),
+        Some(bent) => {
+            put_straight(places, from, bent.near)?;
+            put_straight(places, bent.near, bent.far)?;
+            put_straight(places, bent.far, to)
+        }
+    }
+}
+
+/// Into how many parts a straight line is divided at most.
+const PARTS: usize = 512;
+
+/// Adds places along the straight line between two places, about 8 apart.
+fn put_straight(places: &mut Vec<Point>, from: Point, to: Point) -> Result<(), AllocError> {
+    let long = apart(from.x, to.x) + apart(from.y, to.y);
+    let parts = ((long.0 / 8) as usize + 1).min(PARTS);
+    for part in 0..parts + 1 {
+        places.push(Point {
+            x: divided(from.x, to.x, part, parts),
+            y: divided(from.y, to.y, part, parts),
+        })?;
+    }
+    Ok(())
+}
+
+/// So many parts of the way from a length to another.
+fn divided(a: Px, b: Px, part: usize, parts: usize) -> Px {
+    let left = parts.saturating_sub(part);
+    let sum = a * left + b * part;
+    Px((u64::from(sum.0) / (parts as u64).max(1)) as u32)
 }

@@ -1,4 +1,5 @@
-//! The frames: each is a dot that travels along the half of its edge on which an event shows it.
+//! The frames: each is a dot that travels along the half of its edge on which an event shows it, and rests in the
+//! middle while it is under way.
 ghost use Rattle.std.specs.Prelude.{◌≡◌, ◌<◌, ℕ, IfOk, OnOk, IsTrue, codes, map};
 ghost use Rattle.std.specs.List.{list_any};
 ghost use Rattle.svg_drawing.specs.Grouped.{grouped_of};
@@ -9,21 +10,19 @@ ghost use Rattle.run_film.specs.Symbols.{deed_code, done_in, is_done, is_framed}
 ghost use Rattle.run_film.specs.Symbols.{HasFrame, HasFrames, IsDefined};
 ghost use Rattle.run_film.specs.Tracks.{pair_code};
 
-use crate::curve::{first_quarter, last_quarter, middle_of, quarter_of};
+use crate::curve::{between_of, first_quarter, last_quarter, middle_of};
 use crate::pace::Shown;
 use crate::shapes::{outline, symbol};
 use crate::stage::Stage;
 use crate::symbols::put_symbol;
 use crate::track::repeated;
-use run_recording::Still;
+use crate::waiting::put_waiting_symbol;
 use run_recording::run_model::Event;
+use run_recording::{MOST_FRAMED, Still};
 use std::alloc::{AllocError, Global};
 use std::fmt::Write;
 use svg_drawing::{Element, Group, Point};
 use topology::Net;
-
-/// The most nodes of a network whose frames are shown.
-pub const MOST_FRAMED: u16 = 12;
 
 /// For how many beats a dot travels at most; then it rests where it has come to.
 const MOST_TRAVELLED: usize = 10;
@@ -94,7 +93,7 @@ fn put_frames_from(
 }
 
 /// The same for the frames from a node to another: one that is sent goes to the middle of the edge, one
-/// that is taken comes from there, and a cross stands there if one is lost.
+/// that is taken comes from there, one that waits rests there, and a cross stands there if one is lost.
 fn put_frames_between(
     alloc: Global,
     groups: &mut Vec<Group>,
@@ -109,6 +108,7 @@ fn put_frames_between(
     put_frame(alloc, groups, stage, shown, Deed::Sent, from, to)?;
     put_frame(alloc, groups, stage, shown, Deed::Taken, from, to)?;
     put_frame(alloc, groups, stage, shown, Deed::Lost, from, to)?;
+    put_waiting_symbol(alloc, groups, stage, shown, from, to)?;
     Ok(())
 }
 
@@ -193,7 +193,7 @@ fn sent_frame(
         from,
         to,
         start: stage.at(from),
-        between: quarter_of(stage, from, to),
+        between: between_of(stage, from, to),
         end: middle_of(stage, from, to),
     };
     let name = format!(in alloc; "o{from}-{to}")?;
@@ -217,7 +217,7 @@ fn taken_frame(
         from,
         to,
         start: middle_of(stage, from, to),
-        between: quarter_of(stage, to, from),
+        between: between_of(stage, to, from),
         end: stage.at(to),
     };
     let name = format!(in alloc; "i{from}-{to}")?;

@@ -6,9 +6,9 @@ ghost use Rattle.run_film.specs.Heads.{attributes_of, line_shown, stills_text, t
 ghost use Rattle.run_film.specs.Heads.{said_text, IsHeaded};
 ghost use Rattle.run_film.specs.Words.{alone};
 
-use crate::frames::MOST_FRAMED;
 use crate::stage::Stage;
 use crate::words::words;
+use run_recording::MOST_FRAMED;
 use std::alloc::{AllocError, Global};
 use svg_drawing::{Attribute, Element, Group, Point, Px};
 
@@ -127,7 +127,7 @@ const KEY: &str = "in a node: its distance; arrow: to its parent; thick: the tru
 /// Draws what they mean, beside the title.
 fn put_key(alloc: Global, groups: &mut Vec<Group>, said: Said) -> Result<(), AllocError> {
     let signs = if said.nodes <= MOST_FRAMED {
-        "lightning: damage; dot: a frame that goes; cross: one that is lost"
+        "lightning: damage; dot: a frame under way; cross: one that is lost"
     } else {
         "lightning: damage"
     };

@@ -29,7 +29,9 @@ mod shapes;
 mod stage;
 mod symbols;
 mod text;
+mod tickets;
 mod track;
+mod waiting;
 mod words;
 
 pub use pace::{Pace, Shown};

@@ -1,24 +1,26 @@
 //! The edges, the frames and the nodes.
 ghost use Rattle.std.specs.Prelude.{◌≡◌, ◌∷◌, ◌++◌, ◌<◌, ℕ, [], OnOk, IsTrue, map};
 ghost use Rattle.svg_drawing.specs.Grouped.{grouped_of};
-ghost use Rattle.run_film.specs.declared.track.Track.TheVariants.{Parent, Edge, Frame};
+ghost use Rattle.run_film.specs.declared.track.Track.TheVariants.{Parent, Edge};
 ghost use Rattle.run_film.specs.declared.track.Track.TheVariants.{Sweeps, Damage};
 ghost use Rattle.run_film.specs.Beats.{film_of, joins_in};
-ghost use Rattle.run_film.specs.Films.{AddsNode, IsPlayed, Keeps, ShowsEdges, ShowsNodes};
+ghost use Rattle.run_film.specs.Films.{AddsNode, IsPlayed, Keeps, ShowsEdges, ShowsFrames, ShowsNodes};
 ghost use Rattle.run_film.specs.Symbols.{is_framed};
 ghost use Rattle.run_film.specs.Tracks.{track_shown};
 
-use crate::frames::MOST_FRAMED;
 use crate::pace::Shown;
 use crate::stage::Stage;
+use crate::tickets::Tickets;
 use crate::track::Track;
+use crate::waiting::put_all_waiting;
 use crate::words::words;
+use run_recording::MOST_FRAMED;
 use std::alloc::{AllocError, Global};
 use svg_drawing::{Group, Point, Px};
 use topology::Net;
 
 /// Where symbols stand that are drawn at their places.
-const ORIGIN: Point = Point { x: Px(0), y: Px(0) };
+pub const ORIGIN: Point = Point { x: Px(0), y: Px(0) };
 
 /// Draws the edges that some still has.
 pub fn put_edges(
@@ -72,7 +74,7 @@ fn put_edge(
 }
 
 /// Draws a part of the film at a place.
-fn put_track(
+pub fn put_track(
     alloc: Global,
     groups: &mut Vec<Group>,
     shown: Shown<'_>,
@@ -94,10 +96,11 @@ pub fn put_frames(
     shown: Shown<'_>,
 ) -> Result<(), AllocError>
     ensures frames { OnOk result (IsTrue (is_framed net.now)
-        → IsPlayed (map grouped_of groups.new.items) (track_shown Frame (film_of shown.entry))) }
+        → ShowsFrames (map grouped_of groups.new.items) (film_of shown.entry) net.now) }
     ensures keeps { OnOk result (Keeps (map grouped_of groups.old.items) (map grouped_of groups.new.items)) }
 {
     if net.nodes() <= MOST_FRAMED {
+        put_all_waiting(alloc, groups, net, shown)?;
         put_track(alloc, groups, shown, Track::Frame, ORIGIN)?;
     }
     Ok(())
@@ -132,11 +135,12 @@ pub fn put_nodes(
     ensures nodes { OnOk result (ShowsNodes (map grouped_of groups.new.items) (film_of shown.entry) net.now) }
     ensures keeps { OnOk result (Keeps (map grouped_of groups.old.items) (map grouped_of groups.new.items)) }
 {
+    let tickets = Tickets::of(alloc, net, stage, shown)?;
     for v in 0..net.nodes() {
         put_track(alloc, groups, shown, Track::Parent(v), ORIGIN)?;
     }
     for v in 0..net.nodes() {
-        put_node(alloc, groups, stage, shown, v)?;
+        put_node(alloc, groups, net, stage, shown, &tickets, v)?;
     }
     Ok(())
 }
@@ -145,18 +149,17 @@ pub fn put_nodes(
 fn put_node(
     alloc: Global,
     groups: &mut Vec<Group>,
+    net: &Net,
     stage: &Stage,
     shown: Shown<'_>,
+    tickets: &Tickets,
     v: u16,
 ) -> Result<(), AllocError>
     ensures { OnOk result (AddsNode (map grouped_of groups.old.items)
         (map grouped_of groups.new.items) (film_of shown.entry) v) }
 {
     let at = stage.at(v);
-    let beside = Point {
-        x: at.x + Px(26),
-        y: at.y + Px(20),
-    };
+    let beside = tickets.place(net, stage, v);
     put_track(alloc, groups, shown, Track::Mark(v), at)?;
     put_track(alloc, groups, shown, Track::Distance(v), at)?;
     put_track(alloc, groups, shown, Track::Ticket(v), beside)?;
@@ -165,18 +168,29 @@ fn put_node(
     Ok(())
 }
 
-/// The name of a node, beside it.
+/// The name of a node: beside it, or below it if its neighbours are near.
 fn node_name(alloc: Global, stage: &Stage, v: u16) -> Result<Group, AllocError> {
-    let Point { x, y } = stage.at(v);
-    let name = if stage.stride.0 < 90 {
-        format!(in alloc; "{v}")?
-    } else {
+    let name = if stage.is_wide() {
         format!(in alloc; "node {v}")?
+    } else {
+        format!(in alloc; "{v}")?
     };
-    let at = Point {
-        x: x + Px(26),
-        y: y - Px(8),
-    };
-    let text = words(alloc, at, name.as_str())?;
+    let text = words(alloc, name_place(stage, v), name.as_str())?;
     Ok(Group::alone(alloc, text))
+}
+
+/// Where it begins.
+fn name_place(stage: &Stage, v: u16) -> Point {
+    let Point { x, y } = stage.at(v);
+    if stage.is_narrow() {
+        Point {
+            x: x + Px(4),
+            y: y + Px(34),
+        }
+    } else {
+        Point {
+            x: x + Px(26),
+            y: y - Px(8),
+        }
+    }
 }

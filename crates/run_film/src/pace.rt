@@ -5,7 +5,7 @@ ghost use Rattle.std.specs.List.{list_any};
 ghost use Rattle.topology.specs.Network.{are_joined};
 ghost use Rattle.run_film.specs.Tracks.{milliseconds};
 
-use run_recording::{Look, MOST_EDGES, NO_EDGE, Place, Still};
+use run_recording::{Look, MOST_EDGES, MOST_FRAMED, MOST_WAYS, NO_EDGE, Place, Still};
 use topology::Net;
 
 /// For how many beats the first still is held, besides its own.
@@ -75,10 +75,12 @@ impl Pace {
     }
 }
 
-/// How many beats have room in these bytes: in each beat a node has about 24, and an edge 9.
+/// How many beats have room in these bytes: in each beat a node has about 24, an edge 9, and the frames that wait
+/// on it 16.
 fn beats_within(net: &Net) -> u16 {
     let nodes = usize::from(net.nodes()).saturating_mul(24);
-    let edges = net.edges().len().saturating_mul(9);
+    let edge = if net.nodes() <= MOST_FRAMED { 25 } else { 9 };
+    let edges = net.edges().len().saturating_mul(edge);
     (MOST_BYTES / nodes.saturating_add(edges).max(1)).min(usize::from(MOST_BEATS)) as u16
 }
 
@@ -95,6 +97,7 @@ pub const EMPTY: Still = Still {
     looks: [Look::NOTHING; 64],
     places: [Place::NOWHERE; 64],
     edges: [NO_EDGE; MOST_EDGES],
+    under_way: [0; MOST_WAYS],
     events: 0,
     event: None,
     sweeps: 0,

@@ -12,6 +12,12 @@ const LEAST_WIDTH: u32 = 720;
 /// The height at which the root stands.
 const ROOT: Px = Px(136);
 
+/// From which distance of two neighbours on there is room for words between them.
+const WIDE: u32 = 112;
+
+/// Below which there is no room for a number.
+const NARROW: u32 = 64;
+
 /// Where the nodes of a network stand: each as far below the root as its true distance, and those of
 /// one distance in the order in which the tour of the tree comes to them first. So no two edges of
 /// the tree cross.
@@ -57,19 +63,32 @@ fn longest(lengths: &[usize; 64]) -> usize {
     most
 }
 
-/// How far two rows are apart, of so many below the root.
+/// How far two neighbours of a row are apart, if the longest row has so many nodes.
+fn stride_of(most: usize) -> Px {
+    Px((1100 / most.max(1)).min(132).max(48) as u32)
+}
+
+/// How far two rows are apart, of so many below the root. Between the signs of two rows there is room for
+/// lines and for two lines of text.
 fn rise_of(depth: usize) -> Px
-    ensures least { 60 ≤ result.0 }
+    ensures least { 80 ≤ result.0 }
     ensures most { result.0 ≤ 96 }
 {
-    Px((300 / depth.max(1)).min(96).max(60) as u32)
+    Px((300 / depth.max(1)).min(96).max(80) as u32)
+}
+
+/// How far below the last row the graph ends: if its nodes stand near each other, their numbers stand below
+/// them, too.
+fn foot_of(stride: Px) -> Px {
+    if stride.0 < NARROW { Px(56) } else { Px(40) }
 }
 
 /// The places of the nodes, all at the left, each at the height of its row.
 fn rows_of(net: &Net, rise: Px) -> [Point; 64]
     requires { rise.0 ≤ 96 }
-    ensures { (v : ℕ) → v < net.now.nodes → (slice_index_or result v root_place).y.0
+    ensures heights { (v : ℕ) → v < net.now.nodes → (slice_index_or result v root_place).y.0
         ≡ 136 + rise.0 * distance_of net.now v }
+    ensures few { (v : ℕ) → v < net.now.nodes → (slice_index_or result v root_place).y.0 < 10000000 }
 {
     let mut places = [Point { x: Px(0), y: ROOT }; 64];
     for v in 0..net.nodes() {
@@ -85,18 +104,28 @@ impl Stage {
     {
         let lengths = row_lengths(net, order);
         let most = longest(&lengths);
-        let stride = Px((560 / most.max(1)).min(132).max(48) as u32);
+        let stride = stride_of(most);
         let depth = usize::from(net.eccentricity());
         let rise = rise_of(depth);
         let width = Px((stride * most + Px(96)).0.max(LEAST_WIDTH));
         let mut stage = Stage {
             places: rows_of(net, rise),
             width,
-            floor: ROOT + rise * depth + Px(40),
+            floor: ROOT + rise * depth + foot_of(stride),
             stride,
         };
         stage.stand(net, order, &lengths);
         stage
+    }
+
+    /// Whether there is room for words between two neighbours in a row.
+    pub fn is_wide(&self) -> bool {
+        self.stride.0 >= WIDE
+    }
+
+    /// Whether there is no room for a number between two neighbours in a row.
+    pub fn is_narrow(&self) -> bool {
+        self.stride.0 < NARROW
     }
 
     /// Gives each node its place within its row.

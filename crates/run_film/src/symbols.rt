@@ -15,15 +15,13 @@ use crate::frames::put_frame_symbols;
 use crate::pace::Shown;
 use crate::shapes::{circle, form, outline, symbol};
 use crate::stage::Stage;
+use crate::tickets::{ticket_text, tickets_in};
 use crate::track::{is_named, look_of};
 use crate::words::words;
 use run_recording::Still;
 use std::alloc::{AllocError, Global};
 use svg_drawing::{Element, Group, Point, Px};
 use topology::Net;
-
-/// The most tickets that have a symbol.
-const MOST_TICKETS: usize = 256;
 
 /// The place of what is drawn round its own middle.
 const MIDDLE: Point = Point { x: Px(0), y: Px(0) };
@@ -48,7 +46,7 @@ pub fn put_symbols(
     ensures { OnOk result (HasSymbols (map grouped_of groups.new.items)
         (film_of shown.entry) net.now) }
 {
-    put_others(alloc, groups, net, shown)?;
+    put_others(alloc, groups, net, stage, shown)?;
     put_marks(alloc, groups)?;
     put_distances(alloc, groups, net)?;
     put_arrows(alloc, groups, net, stage, shown)?;
@@ -62,13 +60,14 @@ fn put_others(
     alloc: Global,
     groups: &mut Vec<Group>,
     net: &Net,
+    stage: &Stage,
     shown: Shown<'_>,
 ) -> Result<(), AllocError> {
     let head = form(alloc, "M-8 -6L4 0L-8 6z", "blue", "#0b5394")?;
     groups.push(line_end(alloc, "h", head)?)?;
     let dot = circle(alloc, MIDDLE, 6, "dot", "#22262a")?;
     groups.push(line_end(alloc, "f", dot)?)?;
-    put_tickets(alloc, groups, net, shown)?;
+    put_tickets(alloc, groups, net, stage, shown)?;
     put_sweeps(alloc, groups, net, shown)
 }
 
@@ -362,35 +361,17 @@ fn line_end(alloc: Global, name: &str, drawn: Element) -> Result<Group, AllocErr
     Group::alone(alloc, element).holding(drawn)
 }
 
-/// The number of each ticket that a node lends to in some still, of the first so many.
+/// The words of each ticket that a node lends to in some still, of the first so many.
 fn put_tickets(
     alloc: Global,
     groups: &mut Vec<Group>,
     net: &Net,
+    stage: &Stage,
     shown: Shown<'_>,
 ) -> Result<(), AllocError> {
-    let mut tickets: Vec<u16> = Vec::new(alloc);
-    note_tickets(&mut tickets, net, shown.opening())?;
-    for still in shown.later() {
-        note_tickets(&mut tickets, net, still)?;
-    }
-    for ticket in tickets.as_slice() {
+    for ticket in tickets_in(alloc, net, shown)?.as_slice() {
         let name = format!(in alloc; "t{ticket}")?;
-        let said = format!(in alloc; "lends to {ticket}")?;
-        groups.push(symbol_of(alloc, name.as_str(), words(alloc, MIDDLE, said.as_str())?)?)?;
-    }
-    Ok(())
-}
-
-/// Notes the tickets that nodes lend to in a still, each once.
-fn note_tickets(tickets: &mut Vec<u16>, net: &Net, still: &Still) -> Result<(), AllocError> {
-    for v in 0..net.nodes() {
-        if let Some(ticket) = look_of(still, v).lent {
-            let is_new = tickets.iter().all(|other| *other != ticket);
-            if is_new && tickets.len() < MOST_TICKETS {
-                tickets.push(ticket)?;
-            }
-        }
+        groups.push(symbol_of(alloc, name.as_str(), ticket_text(alloc, stage, *ticket)?)?)?;
     }
     Ok(())
 }

@@ -5,10 +5,12 @@ ghost use Rattle.svg_drawing.specs.Grouped.{grouped_of};
 ghost use Rattle.run_film.specs.Tracks.{look_in, mark_code, strikes, place_of, value_of};
 ghost use Rattle.run_film.specs.Tracks.{values_of, more_values, repeated_shown, track_shown};
 ghost use Rattle.run_film.specs.Tracks.{edge_code, frame_code, is_named, is_strong, true_parent};
+ghost use Rattle.run_film.specs.Tracks.{is_waiting, waiting_code};
 ghost use Rattle.topology.specs.Network.{are_joined};
 ghost use Rattle.run_film.specs.Beats.{beats_of, film_of, later_beats, last_of};
 
 use crate::pace::Shown;
+use crate::waiting::is_waiting;
 use run_recording::run_model::{Event, Harm};
 use run_recording::{Look, Place, Still};
 use std::alloc::{AllocError, Global};
@@ -36,6 +38,8 @@ pub enum Track {
     Edge(u16, u16),
     /// The frame that the last event sends, takes or loses.
     Frame,
+    /// Whether a frame waits on its way from a node to another.
+    Waiting(u16, u16),
 }
 
 /// What a still shows of a node.
@@ -141,6 +145,18 @@ fn push_edge(text: &mut String, still: &Still, v: u16, w: u16) -> Result<(), All
     }
 }
 
+/// Adds the name of the symbol of a frame that waits, or of none.
+fn push_waiting(text: &mut String, still: &Still, u: u16, v: u16) -> Result<(), AllocError>
+    ensures { OnOk result (string_bytes text.new ≡ string_bytes text.old
+        ++ waiting_code (is_waiting still.now u v) u v) }
+{
+    if is_waiting(still, u, v) {
+        write!(text, "#m{u}-{v}")
+    } else {
+        text.push_str("#n")
+    }
+}
+
 impl Track {
     /// Adds the name of the symbol that it shows of a still.
     fn push_value(self, text: &mut String, still: &Still) -> Result<(), AllocError>
@@ -163,6 +179,7 @@ impl Track {
             Track::Sweeps => write!(text, "#s{}", still.sweeps),
             Track::Edge(v, w) => push_edge(text, still, v, w),
             Track::Frame => push_frame(text, still.event),
+            Track::Waiting(u, v) => push_waiting(text, still, u, v),
         }
     }
 

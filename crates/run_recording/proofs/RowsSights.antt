@@ -1,6 +1,6 @@
 -- Small examples of what is seen of a world and of what an event changes in it, with some that
 -- fail.
-use Rattle.std.proofs.Common.{◌≡◌, ◌≢◌, true, false, [], ◌∷◌, None, Some, ap, refl, take, arith}
+use Rattle.std.proofs.Common.{◌≡◌, ◌≢◌, ◌==◌, ◌&&◌, if◌then◌else◌, true, false, [], ◌∷◌, None, Some, ap, refl, take, arith}
 use Rattle.std.proofs.lemmas.Grind.{common_steps}
 use Rattle.world.specs.judge.node_core.lock_desk.Desk.{no_desk}
 use Rattle.world.specs.run_model.World.{World}
@@ -10,6 +10,7 @@ use Rattle.run_recording.proofs.RowsTwo.{two_nodes, calm}
 use Rattle.run_recording.specs.declared.mark.Mark.TheVariants.{Settled, Privileged, Lending}
 use Rattle.run_recording.specs.declared.sight.Sight.{Sight}
 use Rattle.run_recording.specs.Seen.{edge_at, edges_of, is_at, look_at, look_of, mark_of_look, nothing, nowhere, place_at, sight_of, IsSightOf}
+use Rattle.run_recording.specs.UnderWay.{sent_at, sent_between}
 use Rattle.run_recording.specs.SightSteps.{recounted, with_look, DiffersAt}
 
 -- ---- one node
@@ -80,3 +81,23 @@ differs-child = record { net = refl; nodes = λ u other. grind (arith, common_st
 
 differs_not-root : ¬ (DiffersAt 0 calm lends)
 differs_not-root h = absurd (grind (arith, ap (λ s. s.desk.lent) (h.nodes 1 (omega arith))))
+
+-- ---- what is under way
+
+-- two frames are under way from the root to its child
+abbrev sent : World
+sent = record calm { link = λ u v. if (u == 0) && (v == 1) then None ∷ None ∷ [] else [] }
+
+under_way-two : sent_between sent 0 1 ≡ 2
+under_way-two = refl
+
+under_way_not-back : sent_between sent 1 0 ≡ 0
+under_way_not-back = refl
+
+-- those from 0 to 1 stand at the place 1, and those from 1 to 0 at the place 12
+under_way-places : (sent_at sent 1 ≡ 2) × (sent_at sent 12 ≡ 0)
+under_way-places = (refl, refl)
+
+-- in a larger network they are not seen
+under_way_not-large : sent_between (record sent { net = record two_nodes { nodes = 13 } }) 0 1 ≡ 0
+under_way_not-large = refl

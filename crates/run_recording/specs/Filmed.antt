@@ -12,6 +12,7 @@ use Rattle.run_recording.specs.declared.recording.Take.{Take}
 use Rattle.run_recording.specs.declared.window.Window.{Window}
 use Rattle.run_recording.specs.Held.{is_held}
 use Rattle.run_recording.specs.Seen.{edges_of, looks_of, places_of}
+use Rattle.run_recording.specs.UnderWay.{under_way_of}
 
 -- when a still is taken: the last event, the number of events, whether the last one was accepted
 -- damage, and the sweeps since the last damage
@@ -24,6 +25,7 @@ still_of w take = record {
   looks = looks_of w;
   places = places_of w.net;
   edges = edges_of w.net;
+  under_way = under_way_of w;
   events = take.events;
   event = take.event;
   sweeps = take.sweeps;

@@ -10,6 +10,7 @@ pub mod Strips
 pub mod Seen
 pub mod SightSteps
 pub mod Held
+pub mod UnderWay
 pub mod Filmed
 pub mod Recordings
 pub mod RecordingSteps

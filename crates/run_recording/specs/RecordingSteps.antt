@@ -14,6 +14,7 @@ use Rattle.run_recording.specs.declared.sight.Sight.{Sight}
 use Rattle.run_recording.specs.declared.window.Window.{Window}
 use Rattle.run_recording.specs.Seen.{sight_of}
 use Rattle.run_recording.specs.Filmed.{filmed_if, still_of, IsReeled}
+use Rattle.run_recording.specs.UnderWay.{under_way_of}
 use Rattle.run_recording.specs.Recordings.{RecordingView, IsRecorded, IsReading, moment_of}
 
 -- whether an event is damage, by whether it is accepted
@@ -37,11 +38,12 @@ EndsThere old new = (start : World) (bytes : List ℕ) → IsReading start bytes
 abbrev pub IsMomentSeen : Sight → Network → Bool → ℕ → ℕ → Column → Type 0
 IsMomentSeen sight net damaged before after column = (w : World) → sight ≡ sight_of w → net ≡ w.net → column ≡ moment_of w damaged before after
 
--- the still of a moment, for every world with this sight
-abbrev pub IsStillSeen : Sight → Take → Still → Type 0
-IsStillSeen sight take still = (w : World) → sight ≡ sight_of w → still ≡ still_of w take
+-- the still of a moment, for every world with this sight and with so many frames under way
+abbrev pub IsStillSeen : Sight → List ℕ → Take → Still → Type 0
+IsStillSeen sight under_way take still = (w : World) → sight ≡ sight_of w → under_way ≡ under_way_of w → still ≡ still_of w take
 
--- the reel gets one more still, for every world with this sight, if the window holds the moment
-abbrev pub KeepsStillSeen : Sight → Take → Window → ℕ → Option ReelView → Option ReelView → Type 0
-KeepsStillSeen sight take window ended old new =
-    (w : World) (stills : List Still) → sight ≡ sight_of w → IsReeled old stills → IsReeled new (stills ++ filmed_if window ended (still_of w take))
+-- the reel gets one more still of a world with this sight, if the window holds the moment
+abbrev pub KeepsStillSeen : Sight → World → Take → Window → ℕ → Option ReelView → Option ReelView → Type 0
+KeepsStillSeen sight there take window ended old new =
+    (w : World) (stills : List Still) → sight ≡ sight_of w → there ≡ w
+    → IsReeled old stills → IsReeled new (stills ++ filmed_if window ended (still_of w take))

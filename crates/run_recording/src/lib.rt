@@ -24,11 +24,12 @@ mod runs;
 mod sight;
 mod strip;
 mod tour;
+mod under_way;
 mod window;
 
 pub use column::Column;
 pub use film_stills;
-pub use film_stills::{Look, MOST_EDGES, NO_EDGE, Place, Reel, Still};
+pub use film_stills::{Look, MOST_EDGES, MOST_FRAMED, MOST_WAYS, NO_EDGE, Place, Reel, Still};
 pub use mark::Mark;
 pub use recording::{Before, Recording, record, record_film};
 pub use runs::{Run, runs_of};

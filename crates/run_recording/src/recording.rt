@@ -16,9 +16,10 @@ ghost use Rattle.run_recording.specs.RecordingSteps.{IsMomentSeen, IsStillSeen, 
 use crate::column::Column;
 use crate::sight::Sight;
 use crate::strip::Strip;
+use crate::under_way::under_way_of;
 use crate::window::Window;
 use byte_streams::Source;
-use film_stills::{Reel, Still};
+use film_stills::{MOST_WAYS, Reel, Still};
 use std::alloc::{Allocator, Global};
 use std::marker::Model;
 use topology::Net;
@@ -153,14 +154,15 @@ pub struct Take {
     pub sweeps: u64,
 }
 
-/// The still of a film, by what is seen.
-fn still_of(sight: &Sight, take: Take) -> Still
-    ensures { IsStillSeen sight.now take result }
+/// The still of a film, by what is seen, and by how many frames are under way.
+fn still_of(sight: &Sight, under_way: [u16; MOST_WAYS], take: Take) -> Still
+    ensures { IsStillSeen sight.now under_way take result }
 {
     Still {
         looks: sight.looks,
         places: sight.places,
         edges: sight.edges,
+        under_way,
         events: take.events,
         event: take.event,
         sweeps: take.sweeps,
@@ -176,14 +178,15 @@ fn keep_still<A: Allocator + Copy>(
     window: Window,
     ended: u64,
     sight: &Sight,
+    configuration: &Configuration<A>,
     take: Take,
 )
-    ensures shows { KeepsStillSeen sight.now take window ended reel.old reel.new }
+    ensures shows { KeepsStillSeen sight.now (world_of configuration.now) take window ended reel.old reel.new }
     ensures limit { room_of reel.new ≡ room_of reel.old }
 {
     if let Some(reel) = reel {
         if window.holds(ended) {
-            reel.push(&still_of(sight, take));
+            reel.push(&still_of(sight, under_way_of(configuration), take));
         }
     }
 }
@@ -247,7 +250,7 @@ impl<A: Allocator + Copy> Recording<A> {
             damaged: false,
             sweeps: 0,
         };
-        keep_still(&mut reel, window, 0, &sight, take);
+        keep_still(&mut reel, window, 0, &sight, judge.configuration(), take);
         Recording {
             judge,
             sight,
@@ -378,7 +381,14 @@ impl<A: Allocator + Copy> Recording<A> {
             damaged,
             sweeps,
         };
-        keep_still(&mut self.reel, self.window, self.ended, &self.sight, take);
+        keep_still(
+            &mut self.reel,
+            self.window,
+            self.ended,
+            &self.sight,
+            self.judge.configuration(),
+            take,
+        );
     }
 
     /// The columns, and how many moments each shows.

@@ -166,3 +166,48 @@ fn a_page_says_each_still(rt: HostRuntime) -> Result<(), Fail> {
     let said = "<li data-beats=\"35\">Event 1, harm own 1 1 0: damage, 1 wrong, ";
     is_expected(&holds(page.as_slice(), said.as_bytes()), &true)
 }
+
+/// A frame is sent, and is under way when damage strikes again.
+const SENT: &str = "\
+harm own 1 1 0
+send 0 1
+harm own 1 2 none
+";
+
+/// The text of the film of these events on a network.
+fn filmed_text(alloc: Global, net: &Net, events: &str) -> Result<Vec<u8>, Fail> {
+    let mut source = MemorySource::new(events.as_bytes(), 7);
+    Ok(film_text(alloc, net, &mut source, SHORT)?.text)
+}
+
+/// Four stills share 10 beats: 3, 3, 2 and 2; 10 more hold the first, and 30 the last. So the frame waits from beat
+/// 18 of 50 on, after the still in which it was sent.
+#[test]
+fn a_frame_waits_once_it_was_sent(rt: HostRuntime) -> Result<(), Fail> {
+    let alloc = rt.alloc();
+    let net = two(alloc)?;
+    let film = filmed_text(alloc, &net, SENT)?;
+    let mut values = format!(in alloc; "values=\"#n")?;
+    for beat in 1..50 {
+        values.push_str(if beat < 18 { ";#n" } else { ";#m0-1" })?;
+    }
+    values.push_str("\"")?;
+    is_expected(&holds(film.as_slice(), values.as_str().as_bytes()), &true)?;
+    is_expected(&holds(film.as_slice(), b"id=\"m0-1\""), &true)?;
+    // No frame goes back.
+    is_expected(&holds(film.as_slice(), b"m1-0"), &false)
+}
+
+/// Nodes 1 and 2 stand beside each other, 132 apart, at 426 and at 294: the tour comes to node 2 first. The words
+/// "lends to 5" are about 70 wide. To the right of node 2 is the line to node 1, so its ticket stands to the left:
+/// 24 and half of the words from its middle. That of node 1 stands to the right.
+#[test]
+fn a_ticket_keeps_clear_of_lines(rt: HostRuntime) -> Result<(), Fail> {
+    let alloc = rt.alloc();
+    let net = Net::make(alloc, 3, 0, 1, 0, &[(0, 1), (0, 2), (1, 2)])?;
+    let film = filmed_text(alloc, &net, "harm desk 2 5 0 no\nharm desk 1 6 0 no\n")?;
+    let left = b"<use href=\"#t5\" x=\"235\" y=\"239\">";
+    is_expected(&holds(film.as_slice(), left), &true)?;
+    let right = b"<use href=\"#t6\" x=\"485\" y=\"239\">";
+    is_expected(&holds(film.as_slice(), right), &true)
+}

@@ -1,4 +1,4 @@
-use Rattle.run_film.proofs.Films.{keeps_on, played_kept}
+use Rattle.run_film.proofs.Films.{frames_shown_kept, keeps_on, played_kept}
 use Rattle.run_film.proofs.playing.put_parts.Goals as goal
 
 pub returns-clause-plays : goal.returns-clause-plays
@@ -10,7 +10,7 @@ returns-clause-plays c =
     record {
       nodes = nodes.nodes;
       edges = λ w below v less there. played_kept _ _ _ nodes.keeps (played_kept _ _ _ frames.keeps (edges.edges w below v less there));
-      frames = λ few. played_kept _ _ _ nodes.keeps (frames.frames few);
+      frames = λ few. frames_shown_kept _ _ _ _ nodes.keeps (frames.frames few);
       sweeps = played_kept _ _ _ nodes.keeps (played_kept _ _ _ frames.keeps (played_kept _ _ _ edges.keeps said.sweeps));
       damage = played_kept _ _ _ nodes.keeps (played_kept _ _ _ frames.keeps (played_kept _ _ _ edges.keeps said.damage));
     }

@@ -7,4 +7,5 @@ use Rattle.run_film.proofs.stage.rows_of.Given as goal
 abbrev pub invariant-loop-v : goal.invariant-loop-v
 invariant-loop-v l =
     ((u : ℕ) → u < l.v → (slice_index_or l.places u root_place).y.0 ≡ 136 + l.rise.0 * distance_of l.net u)
+    × ((u : ℕ) → u < l.v → (slice_index_or l.places u root_place).y.0 < 10000000)
     × (length l.places ≡ 64)

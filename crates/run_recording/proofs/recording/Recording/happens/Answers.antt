@@ -25,7 +25,8 @@ returns-clause-records g c =
     c.moment_of-moment.ensures world sight net
     ∙ ap (λ d. moment_of world d before after) damaged in
     let empty = c.is_empty.ensures ∙ ap (λ xs. length xs == 0) c.columns.ensures in
-    let kept = c.keep_still.ensures.shows world now.stills sight now.reeled in
+    let place = ap world_of c.configuration-3.ensures ∙ seen.judging.now_is in
+    let kept = c.keep_still.ensures.shows world now.stills sight place now.reeled in
     recorded_more start es e _ _ before after c.moment_of-moment.result _ now seen (c.sweeps-before.ensures.sweeps start es now.seen)
     (c.sweeps-sweeps.ensures.sweeps start (es ++ e ∷ []) seen) moment_is refl c.saturating_add-self-inside.ensures
     (c.keep.ensures.shows now.moments now.shown) refl empty c.now_where-self-inside.ensures (rw damaged at kept)

@@ -12,7 +12,7 @@ returns-clause-recorded g c =
     let net = c.net.ensures ∙ ap (λ k. (world_of k).net) (c.configuration-2.ensures ∙ c.new-judge.ensures.configuration) in
     let moment_is = c.moment_of-start.ensures w sight net in
     begun w _ c.moment_of-start.result c.new-judge.ensures.judging refl refl refl refl moment_is (c.keep.ensures.shows [] c.requires.strip)
-    (c.keep_still.ensures.shows w [] sight c.requires.reel)
+    (c.keep_still.ensures.shows w [] sight (ap world_of (c.configuration-3.ensures ∙ c.new-judge.ensures.configuration)) c.requires.reel)
 
 pub returns-clause-reading : goal.returns-clause-reading
 returns-clause-reading g c =
@@ -23,7 +23,7 @@ returns-clause-reading g c =
     record {
       stands = c.new.ensures;
       recorded = begun w _ c.moment_of-start.result c.new-judge.ensures.judging refl refl refl refl moment_is (c.keep.ensures.shows [] c.requires.strip)
-          (c.keep_still.ensures.shows w [] sight c.requires.reel);
+          (c.keep_still.ensures.shows w [] sight (ap world_of (c.configuration-3.ensures ∙ c.new-judge.ensures.configuration)) c.requires.reel);
     }
 
 pub invariant_of-result : goal.invariant_of-result

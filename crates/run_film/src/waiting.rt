@@ -1,0 +1,147 @@
+//! Frames that wait: they are under way, and the last event did not just send them.
+ghost use Rattle.std.specs.Prelude.{◌≡◌, ◌<◌, ℕ, IfOk, OnOk, IsTrue, codes, map};
+ghost use Rattle.std.specs.List.{list_any};
+ghost use Rattle.svg_drawing.specs.Grouped.{grouped_of};
+ghost use Rattle.run_film.specs.declared.track.Track.TheVariants.{Waiting};
+ghost use Rattle.run_film.specs.Beats.{film_of};
+ghost use Rattle.run_film.specs.Films.{IsPlayed, Keeps};
+ghost use Rattle.run_film.specs.Shapes.{symbol_shown};
+ghost use Rattle.run_film.specs.Symbols.{IsDefined};
+ghost use Rattle.run_film.specs.Tracks.{frames_between, is_waiting, pair_code, sends, track_shown};
+ghost use Rattle.run_film.specs.Tracks.{waits_in};
+
+use crate::curve::waiting_place;
+use crate::nodes::{ORIGIN, put_track};
+use crate::pace::Shown;
+use crate::shapes::{circle, symbol};
+use crate::stage::Stage;
+use crate::symbols::put_symbol;
+use crate::track::Track;
+use run_recording::Still;
+use run_recording::run_model::Event;
+use std::alloc::{AllocError, Global};
+use svg_drawing::Group;
+use topology::Net;
+
+/// Whether a frame waits on its way from a node to another: one is under way besides the one that the last event
+/// of the still sends.
+pub fn is_waiting(still: &Still, u: u16, v: u16) -> bool
+    ensures { result ≡ is_waiting still.now u v }
+{
+    u16::from(sends(still.event, u, v)) < frames_between(still, u, v)
+}
+
+/// How many frames are under way from a node to another, in a small network.
+fn frames_between(still: &Still, u: u16, v: u16) -> u16
+    ensures { result ≡ frames_between still.now u v }
+{
+    let place = 12 * usize::from(u) + usize::from(v);
+    still.under_way.get(place).copied().unwrap_or(0)
+}
+
+/// Whether an event sends a frame from a node to another.
+fn sends(event: Option<Event>, u: u16, v: u16) -> bool
+    ensures { result ≡ sends event u v }
+{
+    match event {
+        Some(Event::Send { from, to }) => from == u && to == v,
+        _ => false,
+    }
+}
+
+/// Whether a frame waits between two nodes in some still.
+fn waits_in(shown: Shown<'_>, u: u16, v: u16) -> bool
+    ensures { result ≡ waits_in (film_of shown.entry) u v }
+{
+    is_waiting(shown.opening(), u, v) || any_waits(shown.later(), u, v)
+}
+
+/// Whether one waits in some of these stills.
+fn any_waits(stills: &[Still], u: u16, v: u16) -> bool
+    ensures { result ≡ list_any (λ still. is_waiting still u v) stills.now }
+{
+    stills.iter().any(|still| is_waiting(still, u, v))
+}
+
+/// The symbol of a frame that waits between two nodes, if one does in some still.
+pub fn put_waiting_symbol(
+    alloc: Global,
+    groups: &mut Vec<Group>,
+    stage: &Stage,
+    shown: Shown<'_>,
+    u: u16,
+    v: u16,
+) -> Result<(), AllocError>
+    ensures waiting { OnOk result (IsTrue (waits_in (film_of shown.entry) u v)
+        → IsDefined (map grouped_of groups.new.items) (pair_code (codes "m") u v)) }
+    ensures keeps { OnOk result (Keeps (map grouped_of groups.old.items) (map grouped_of groups.new.items)) }
+{
+    if waits_in(shown, u, v) {
+        put_symbol(groups, waiting_symbol(alloc, stage, u, v)?)?;
+    }
+    Ok(())
+}
+
+/// A dot that rests, however many frames wait.
+fn waiting_symbol(alloc: Global, stage: &Stage, u: u16, v: u16) -> Result<Group, AllocError>
+    ensures { IfOk result (λ group. (grouped_of group).element
+        ≡ symbol_shown (pair_code (codes "m") u v)) }
+{
+    let name = format!(in alloc; "m{u}-{v}")?;
+    let dot = circle(alloc, waiting_place(stage, u, v), 4, "dot", "#22262a")?;
+    symbol(alloc, name.as_str())?.holding(dot)
+}
+
+/// Draws the frames that wait between any two nodes in some still.
+pub fn put_all_waiting(
+    alloc: Global,
+    groups: &mut Vec<Group>,
+    net: &Net,
+    shown: Shown<'_>,
+) -> Result<(), AllocError>
+    ensures waiting { OnOk result ((u : ℕ) → u < net.now.nodes → (v : ℕ) → v < net.now.nodes
+        → IsTrue (waits_in (film_of shown.entry) u v)
+        → IsPlayed (map grouped_of groups.new.items) (track_shown (Waiting u v) (film_of shown.entry))) }
+    ensures keeps { OnOk result (Keeps (map grouped_of groups.old.items) (map grouped_of groups.new.items)) }
+{
+    for u in 0..net.nodes() {
+        put_waiting_from(alloc, groups, net, shown, u)?;
+    }
+    Ok(())
+}
+
+/// Those that wait on their way from a node.
+fn put_waiting_from(
+    alloc: Global,
+    groups: &mut Vec<Group>,
+    net: &Net,
+    shown: Shown<'_>,
+    u: u16,
+) -> Result<(), AllocError>
+    ensures waiting { OnOk result ((v : ℕ) → v < net.now.nodes → IsTrue (waits_in (film_of shown.entry) u v)
+        → IsPlayed (map grouped_of groups.new.items) (track_shown (Waiting u v) (film_of shown.entry))) }
+    ensures keeps { OnOk result (Keeps (map grouped_of groups.old.items) (map grouped_of groups.new.items)) }
+{
+    for v in 0..net.nodes() {
+        put_waiting(alloc, groups, shown, u, v)?;
+    }
+    Ok(())
+}
+
+/// Those that wait on their way from a node to another.
+fn put_waiting(
+    alloc: Global,
+    groups: &mut Vec<Group>,
+    shown: Shown<'_>,
+    u: u16,
+    v: u16,
+) -> Result<(), AllocError>
+    ensures waiting { OnOk result (IsTrue (waits_in (film_of shown.entry) u v)
+        → IsPlayed (map grouped_of groups.new.items) (track_shown (Waiting u v) (film_of shown.entry))) }
+    ensures keeps { OnOk result (Keeps (map grouped_of groups.old.items) (map grouped_of groups.new.items)) }
+{
+    if waits_in(shown, u, v) {
+        put_track(alloc, groups, shown, Track::Waiting(u, v), ORIGIN)?;
+    }
+    Ok(())
+}
