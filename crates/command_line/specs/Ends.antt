@@ -8,9 +8,11 @@ use Rattle.subcommands.specs.command_parts.FaultText.{fault_text}
 use Rattle.subcommands.specs.command_parts.declared.fault.Fault.TheVariants.{Output}
 use Rattle.recovery_times.specs.Words.{time_fault_text}
 use Rattle.command_line.specs.declared.refusal.Refusal.{Refusal}
-use Rattle.command_line.specs.declared.refusal.Refusal.TheVariants.{Word, Time, Limit, Window, Kind, NoWords, NoCommand, Fault}
+use Rattle.command_line.specs.declared.refusal.Refusal.TheVariants.{Word, Time, Limit, Window, Kind, Schedule, NoWords, NoCommand, Fault}
 use Rattle.command_line.specs.declared.refusal.KindFault.{KindFault}
 use Rattle.command_line.specs.declared.refusal.KindFault.TheVariants.{Unknown, NoColumns, OneNumber, RandomAlone}
+use Rattle.command_line.specs.declared.refusal.ScheduleFault.{ScheduleFault}
+use Rattle.command_line.specs.declared.refusal.ScheduleFault.TheVariants as schedule
 
 -- the word after the program's name is `lock`
 abbrev pub asks_for_lock : List (List ℕ) → Bool
@@ -30,6 +32,11 @@ kind_fault_text NoColumns = codes "a grid takes two numbers, of rows and of colu
 kind_fault_text OneNumber = codes "this kind takes one number, of nodes"
 kind_fault_text RandomAlone = codes "--edges and --seed are for random alone"
 
+-- the message if `measure` takes no such order of events
+abbrev pub schedule_fault_text : ScheduleFault → List ℕ
+schedule_fault_text schedule.Unknown = codes "--schedule is none of rounds, random, slow-link and slow-node"
+schedule_fault_text schedule.SlowAlone = codes "--share is for slow-link and slow-node alone"
+
 -- the message after the program's name
 abbrev pub refusal_text : Refusal → List ℕ
 refusal_text (Word fault) = word_fault_text fault
@@ -38,6 +45,7 @@ refusal_text Limit = codes "--timeout is no time from 0 to 65535 seconds, with a
 refusal_text NoWords = codes "no command follows --: leave -- out to hold the lock until standard input ends"
 refusal_text Window = codes "--from is greater than --to"
 refusal_text (Kind fault) = kind_fault_text fault
+refusal_text (Schedule fault) = schedule_fault_text fault
 refusal_text NoCommand = codes "no command"
 refusal_text (Fault fault) = fault_text fault
 

@@ -2,6 +2,7 @@ pub mod Ends
 pub mod Manner
 pub mod Named
 pub mod Turns
+pub mod Scheduling
 pub mod Plan
 pub mod Wanted
 pub mod Worst

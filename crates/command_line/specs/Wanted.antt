@@ -3,7 +3,7 @@ use Rattle.std.specs.Prelude.{◌≡◌, ◌≤◌, ◌<◌, ◌⊎◌, ℕ, cod
 use Rattle.clap.specs.declared.parser.matches.Found.{Found}
 use Rattle.command_grammar.specs.Given.{IsFlag, IsGivenOr, IsRefused}
 use Rattle.command_line.specs.declared.refusal.Refusal.{Refusal}
-use Rattle.command_line.specs.declared.refusal.Refusal.TheVariants.{Word, Window, Kind, NoCommand, Fault, Time, Limit, NoWords}
+use Rattle.command_line.specs.declared.refusal.Refusal.TheVariants.{Word, Window, Kind, Schedule, NoCommand, Fault, Time, Limit, NoWords}
 use Rattle.run_film.specs.declared.text.Wanted.{Wanted as WantedFilm}
 use Rattle.run_picture.specs.declared.command.Wanted.{Wanted}
 use Rattle.run_picture.specs.run_recording.declared.window.Window.{Window as Moments}
@@ -28,6 +28,7 @@ IsWindowRefused found (Time fault) = ⊥
 IsWindowRefused found Limit = ⊥
 IsWindowRefused found NoWords = ⊥
 IsWindowRefused found (Kind fault) = ⊥
+IsWindowRefused found (Schedule fault) = ⊥
 IsWindowRefused found NoCommand = ⊥
 IsWindowRefused found (Fault fault) = ⊥
 

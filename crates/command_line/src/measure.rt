@@ -1,13 +1,18 @@
 //! The words of `measure`.
-ghost use Rattle.std.specs.Prelude.{◌≡◌, ◌⊎◌, IfOk, IfErr};
+ghost use Rattle.std.specs.Prelude.{◌≡◌, ◌⊎◌, IfOk, IfErr, if◌then◌else◌};
 ghost use Rattle.std.specs.Process.{exit_status};
 ghost use Rattle.clap.specs.Matches.{found_of};
 ghost use Rattle.command_line.specs.Plan.{IsPlanOf, IsPlanRefused};
+ghost use Rattle.command_line.specs.Scheduling.{IsNamedRefused, IsNamedScheduler, IsSchedulerOf};
+ghost use Rattle.command_line.specs.Scheduling.{IsSchedulerRefused, is_slow, scheduler_named};
+ghost use Rattle.subcommands.specs.experiments.declared.measured_run.Scheduler.TheVariants.{Random, Rounds};
 
 use crate::program::NETWORK_FILE;
-use crate::refusal::Refusal;
+use crate::refusal::{Refusal, ScheduleFault};
 use clap::{ArgMatches, Command};
-use command_grammar::{Grammar, Number, Parameter, WordFault, given_number, with_command, word};
+use command_grammar::{
+    Grammar, Number, Parameter, given_number, number_if_given, with_command, word,
+};
 use std::alloc::{AllocError, Global};
 use std::process::ExitCode;
 use std::rt::Files;
@@ -32,12 +37,24 @@ const MEASURE: Grammar<'static> = Grammar {
         ),
         Parameter::Flag("rounds", "Run by rounds, the default"),
         Parameter::Flag("random", "Run by random steps"),
+        Parameter::Value("schedule", "KIND", "rounds, random, slow-link or slow-node"),
+        Parameter::Value(
+            "share",
+            "PERCENT",
+            "Of 100 rounds, how many the slow one has",
+        ),
         Parameter::Flag("table", "Also show a line for each run"),
         Parameter::Flag("csv", "Print a row for each run: when each layer stood"),
         Parameter::Flag("json", "Print one JSON object, on one line"),
     ],
-    needs: &[],
-    excludes: &[("random", "rounds"), ("csv", "table"), ("csv", "json")],
+    needs: &[("share", "schedule")],
+    excludes: &[
+        ("random", "rounds"),
+        ("schedule", "rounds"),
+        ("schedule", "random"),
+        ("csv", "table"),
+        ("csv", "json"),
+    ],
     choice: None,
 };
 
@@ -60,6 +77,12 @@ distances and parents true, at most one node privileged, at most one lending.
   sweeps least .. median .. most ..
   sharp 35
   sweeps-bound 69
+
+With --schedule slow-link or slow-node it runs by rounds, too. But one link, one
+way, carries its items only in --share of each hundred rounds; or one node ticks
+only in these. They are spread evenly: with a share of 25 each fourth round is
+one. The share is 1 to 100, and 10 if left out. The run's seed says which link
+or node is slow.
 
 For an even number of runs the median is the lower of the two in the middle.
 With --table each run first has a line 'seed S sweeps K'. It says 'sweeps none'
@@ -107,6 +130,17 @@ const SEED: Number<'static> = Number {
     most: 4_294_967_295,
 };
 
+/// In how many of a hundred rounds a slow link or node has its part.
+const SHARE: Number<'static> = Number {
+    id: "share",
+    name: "--share",
+    least: 1,
+    most: 100,
+};
+
+/// That number if it is left out.
+const USUAL_SHARE: u64 = 10;
+
 /// Does what the words of `measure` say. `progress` says whether to show progress.
 pub fn run<R: Files + Print + Eprint + Clock + AllocGlobal + Threads + Sync>(
     rt: &R,
@@ -128,20 +162,83 @@ pub fn run<R: Files + Print + Eprint + Clock + AllocGlobal + Threads + Sync>(
 /// The plan, by the words of `measure`.
 ///
 /// # Errors
-/// If a word spells no number in its range.
-fn plan(given: &ArgMatches, progress: bool) -> Result<Plan, WordFault<'static>>
+/// If a word spells no number in its range, or the order of the events is unknown or takes no share.
+fn plan(given: &ArgMatches, progress: bool) -> Result<Plan, Refusal>
     ensures ok { IfOk result (IsPlanOf (found_of given.now) progress) }
     ensures err { IfErr result (IsPlanRefused (found_of given.now)) }
 {
     Ok(Plan {
         runs: given_number(given, RUNS)? as u32,
         seed: given_number(given, SEED)? as u32,
-        scheduler: if given.get_flag("random") {
-            Scheduler::Random
-        } else {
-            Scheduler::Rounds
-        },
+        scheduler: given_scheduler(given)?,
         table: given.get_flag("table"),
         progress,
     })
+}
+
+/// The order of the events, by the words of `measure`.
+///
+/// # Errors
+/// If it is unknown, or takes no share, or the share is no number in its range.
+fn given_scheduler(given: &ArgMatches) -> Result<Scheduler, Refusal>
+    ensures ok { IfOk result (IsSchedulerOf (found_of given.now)) }
+    ensures err { IfErr result (IsSchedulerRefused (found_of given.now)) }
+{
+    match given.get_str("schedule") {
+        None => Ok(plain_scheduler(given.get_flag("random"))),
+        Some(name) => named_scheduler(given, name),
+    }
+}
+
+/// Random steps, or rounds.
+fn plain_scheduler(is_random: bool) -> Scheduler
+    ensures { result ≡ (if is_random then Random else Rounds) }
+{
+    if is_random {
+        Scheduler::Random
+    } else {
+        Scheduler::Rounds
+    }
+}
+
+/// The order of the events that has this name, with the share that the words say.
+///
+/// # Errors
+/// If none has it, or it takes no share, or the share is no number in its range.
+fn named_scheduler(given: &ArgMatches, name: &str) -> Result<Scheduler, Refusal>
+    ensures ok { IfOk result (IsNamedScheduler (found_of given.now) name.now) }
+    ensures err { IfErr result (IsNamedRefused (found_of given.now) name.now) }
+{
+    let share = number_if_given(given, SHARE)?;
+    let scheduler = scheduler_named(name, share.unwrap_or(USUAL_SHARE) as u16).ok_or(
+        Refusal::Schedule(ScheduleFault::Unknown),
+    )?;
+    if share.is_some() && !is_slow(scheduler) {
+        return Err(Refusal::Schedule(ScheduleFault::SlowAlone));
+    }
+    Ok(scheduler)
+}
+
+/// The order of the events with a name, and with this share if something is slow in it; none for any
+/// other word.
+fn scheduler_named(name: &str, share: u16) -> Option<Scheduler>
+    ensures { result ≡ scheduler_named name.now share }
+{
+    match name {
+        "rounds" => Some(Scheduler::Rounds),
+        "random" => Some(Scheduler::Random),
+        "slow-link" => Some(Scheduler::SlowLink { share }),
+        "slow-node" => Some(Scheduler::SlowNode { share }),
+        _ => None,
+    }
+}
+
+/// Whether a link or a node is slow.
+fn is_slow(scheduler: Scheduler) -> bool
+    ensures { result ≡ is_slow scheduler }
+{
+    matches!(
+        scheduler,
+        Scheduler::SlowLink { .. } | Scheduler::SlowNode { .. }
+    )
 }

@@ -44,6 +44,32 @@ impl fmt::Display for KindFault {
     }
 }
 
+/// Why `measure` takes no such order of events.
+#[derive(Clone, Copy, Debug, PartialEq, Eq, Drop)]
+pub enum ScheduleFault {
+    /// There is no order of that name.
+    Unknown,
+    /// An order in which nothing is slow has a share.
+    SlowAlone,
+}
+
+/// Prints the message without the program's name.
+impl fmt::Display for ScheduleFault {
+    ghost use Rattle.std.specs.Prelude.{Some};
+    ghost use Rattle.command_line.specs.Ends.{schedule_fault_text};
+
+    ghost output = { λ fault. Some (schedule_fault_text fault) };
+
+    fn fmt<W: fmt::Write>(&self, f: &mut fmt::Formatter<W>) -> fmt::Result {
+        f.write_str(match *self {
+            ScheduleFault::Unknown => {
+                "--schedule is none of rounds, random, slow-link and slow-node"
+            }
+            ScheduleFault::SlowAlone => "--share is for slow-link and slow-node alone",
+        })
+    }
+}
+
 /// Why a command line fails.
 #[derive(Clone, Copy, Debug, PartialEq, Eq, Drop)]
 pub enum Refusal {
@@ -59,6 +85,8 @@ pub enum Refusal {
     Window,
     /// The kind of a network is unknown, or does not go with the other words.
     Kind(KindFault),
+    /// The order of a measured run's events is unknown, or takes no share.
+    Schedule(ScheduleFault),
     /// The program has no such command. The parser rules that out.
     NoCommand,
     /// The command ended with this fault.
@@ -117,6 +145,7 @@ impl fmt::Display for Refusal {
             ),
             Refusal::Window => f.write_str("--from is greater than --to"),
             Refusal::Kind(fault) => f.write(fault),
+            Refusal::Schedule(fault) => f.write(fault),
             Refusal::NoCommand => f.write_str("no command"),
             Refusal::Fault(fault) => f.write(fault),
         }

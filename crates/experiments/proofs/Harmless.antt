@@ -11,11 +11,12 @@ use Rattle.run_model.specs.Run.{is_damage, has_damage, run, IsUndamaged}
 use Rattle.run_model.specs.declared.event.Event.{Event}
 use Rattle.run_model.specs.declared.event.Event.TheVariants.{Send, Take, Lose, Tick, Ask, Leave, Damage}
 use Rattle.damage_tool.specs.Laws.{DrawsAreBelow}
-use Rattle.schedules.specs.Laws.{RoundIsUndamaged}
+use Rattle.schedules.specs.Laws.{RoundIsUndamaged, SlowRoundIsUndamaged}
 use Rattle.schedules.specs.Random.{draw_step}
+use Rattle.schedules.specs.Slow.{slow_link, slow_node}
 use Rattle.experiments.specs.Scheduled.{plain, plain_steps, stretch_of, lent_at, leave_of, leave_at, leaves, stretches}
 use Rattle.experiments.specs.declared.measured_run.Scheduler.{Scheduler}
-use Rattle.experiments.specs.declared.measured_run.Scheduler.TheVariants.{Rounds, Random}
+use Rattle.experiments.specs.declared.measured_run.Scheduler.TheVariants.{Rounds, Random, SlowLink, SlowNode}
 use Rattle.experiments.proofs.Steps.{IsStepOf, drawn-step}
 
 later-false : (p q : Bool) → (p || q) ≡ false → q ≡ false
@@ -50,10 +51,12 @@ steps-undamaged draw_below net ok some (suc n) g w =
     undamaged-append w before.0 ((draw_step net plain before.1).0 ∷ []) (steps-undamaged draw_below net ok some n g w)
     (step-harmless net (draw_step net plain before.1).0 (drawn-step draw_below net ok some plain before.1))
 
-stretch-undamaged : DrawsAreBelow → RoundIsUndamaged → (net : Network) → IsAcceptedNetwork net → 0 < length net.edges → (scheduler : Scheduler) (g : Lcg) (w : World)
-    → IsUndamaged w (stretch_of scheduler net g).0
-stretch-undamaged draw_below by_rounds net ok some Rounds g w = by_rounds net w
-stretch-undamaged draw_below by_rounds net ok some Random g w = steps-undamaged draw_below net ok some (net.nodes + 4 * length net.edges) g w
+stretch-undamaged : DrawsAreBelow → RoundIsUndamaged → SlowRoundIsUndamaged → (net : Network) → IsAcceptedNetwork net → 0 < length net.edges → (scheduler : Scheduler)
+    (n : ℕ) (g : Lcg) (w : World) → IsUndamaged w (stretch_of scheduler net n g).0
+stretch-undamaged draw_below by_rounds by_slow net ok some Rounds n g w = by_rounds net w
+stretch-undamaged draw_below by_rounds by_slow net ok some Random n g w = steps-undamaged draw_below net ok some (net.nodes + 4 * length net.edges) g w
+stretch-undamaged draw_below by_rounds by_slow net ok some (SlowLink share) n g w = by_slow net (slow_link net g) share n w
+stretch-undamaged draw_below by_rounds by_slow net ok some (SlowNode share) n g w = by_slow net (slow_node net g) share n w
 
 -- nor is what is given back
 leave-undamaged : (v : ℕ) (lent : Option ℕ) (w : World) → IsUndamaged w (leave_of v lent)
@@ -66,16 +69,16 @@ leaves-undamaged now (v ∷ ids) w =
     undamaged-append w (leave_at now v) (flat_map (leave_at now) ids) (leave-undamaged v (lent_at now v) w) (leaves-undamaged now ids)
 
 -- so the stretches of a measured run are without damage, in whatever world they happen
-pub stretches-undamaged : DrawsAreBelow → RoundIsUndamaged → (net : Network) → IsAcceptedNetwork net → 0 < length net.edges → (scheduler : Scheduler) (start : World) (g : Lcg)
+pub stretches-undamaged : DrawsAreBelow → RoundIsUndamaged → SlowRoundIsUndamaged → (net : Network) → IsAcceptedNetwork net → 0 < length net.edges → (scheduler : Scheduler) (start : World) (g : Lcg)
     (n : ℕ) (w : World) → IsUndamaged w (stretches scheduler net start g n).0
-stretches-undamaged draw_below by_rounds net ok some scheduler start g zero w = refl
-stretches-undamaged draw_below by_rounds net ok some scheduler start g (suc n) w =
+stretches-undamaged draw_below by_rounds by_slow net ok some scheduler start g zero w = refl
+stretches-undamaged draw_below by_rounds by_slow net ok some scheduler start g (suc n) w =
     let before = stretches scheduler net start g n in
-    let stretch = stretch_of scheduler net before.1 in
+    let stretch = stretch_of scheduler net n before.1 in
     let now = run start (before.0 ++ stretch.0) in
     undamaged-append w (before.0 ++ stretch.0) (leaves now)
-    (undamaged-append w before.0 stretch.0 (stretches-undamaged draw_below by_rounds net ok some scheduler start g n w)
-    (stretch-undamaged draw_below by_rounds net ok some scheduler before.1))
+    (undamaged-append w before.0 stretch.0 (stretches-undamaged draw_below by_rounds by_slow net ok some scheduler start g n w)
+    (stretch-undamaged draw_below by_rounds by_slow net ok some scheduler n before.1))
     (leaves-undamaged now (range_with_len 0 now.net.nodes))
 
 never : Rose 0 0 → ⊥

@@ -11,8 +11,7 @@ use Rattle.experiments.specs.declared.plan.Order.TheVariants as order
 use Rattle.experiments.specs.GivenBack.{due, back_at, back_at_all, back_after, rounds_back}
 use Rattle.experiments.specs.Plan.{planned, turns}
 use Rattle.experiments.specs.Scheduled.{plain}
-use Rattle.experiments.proofs.RowsMeasured.{lending}
-use Rattle.experiments.proofs.RowsScheduled.{still}
+use Rattle.experiments.proofs.RowsMeasured.{lending, still}
 
 -- ---- loans of two ticks
 

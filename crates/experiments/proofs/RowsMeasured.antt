@@ -5,6 +5,7 @@ use Rattle.std.proofs.lemmas.Grind.{common_steps}
 use Rattle.std.specs.Ordering.{nat_cmp}
 use Rattle.std.specs.List.Sorted.{IsSorted}
 use Rattle.rand_pcg.specs.Lcg.{Lcg}
+use Rattle.damage_tool.specs.Draws.{draw}
 use Rattle.topology.specs.Eccentricity.{sharp_of}
 use Rattle.run_model.specs.World.{World}
 use Rattle.run_model.specs.Step.{with_desk}
@@ -30,6 +31,10 @@ use Rattle.experiments.specs.Summary.{IsSummary, IsSummaryOf}
 
 abbrev start : World
 start = default_world two_nodes
+
+-- its first words are 0 and 0
+abbrev pub still : Lcg
+still = record { state = 0; increment = 1 }
 
 -- ---- plans
 
@@ -57,8 +62,38 @@ counts-memory = omega arith
 
 -- ---- stretches
 
-stretch-round : (g : Lcg) → stretch_of scheduler.Rounds two_nodes g ≡ (Tick 0 ∷ Tick 1 ∷ Send 0 1 ∷ Take 0 1 ∷ Send 0 1 ∷ Take 0 1 ∷ Send 1 0 ∷ Take 1 0 ∷ Send 1 0 ∷ Take 1 0 ∷ [], g)
-stretch-round g = refl
+stretch-round : (n : ℕ) (g : Lcg) → stretch_of scheduler.Rounds two_nodes n g
+    ≡ (Tick 0 ∷ Tick 1 ∷ Send 0 1 ∷ Take 0 1 ∷ Send 0 1 ∷ Take 0 1 ∷ Send 1 0 ∷ Take 1 0 ∷ Send 1 0 ∷ Take 1 0 ∷ [], g)
+stretch-round n g = refl
+
+-- the words 0 and 0 name the link from 0 to 1; in half of the rounds, the second of each two, it carries its items
+stretch-slow_link : stretch_of (scheduler.SlowLink 50) two_nodes 0 still
+    ≡ (Tick 0 ∷ Tick 1 ∷ Send 1 0 ∷ Take 1 0 ∷ Send 1 0 ∷ Take 1 0 ∷ [], still)
+unfolding draw
+stretch-slow_link = refl
+
+stretch-slow_link_next : stretch_of (scheduler.SlowLink 50) two_nodes 1 still ≡ stretch_of scheduler.Rounds two_nodes 1 still
+unfolding draw
+stretch-slow_link_next = refl
+
+-- and the word 0 names node 0, which then ticks
+stretch-slow_node : stretch_of (scheduler.SlowNode 50) two_nodes 0 still
+    ≡ (Tick 1 ∷ Send 0 1 ∷ Take 0 1 ∷ Send 0 1 ∷ Take 0 1 ∷ Send 1 0 ∷ Take 1 0 ∷ Send 1 0 ∷ Take 1 0 ∷ [], still)
+unfolding draw
+stretch-slow_node = refl
+
+stretch-slow_node_next : stretch_of (scheduler.SlowNode 50) two_nodes 3 still ≡ stretch_of scheduler.Rounds two_nodes 3 still
+unfolding draw
+stretch-slow_node_next = refl
+
+stretch_not-all : stretch_of (scheduler.SlowNode 50) two_nodes 2 still ≢ stretch_of scheduler.Rounds two_nodes 2 still
+unfolding draw
+stretch_not-all = grind arith
+
+-- the stretches count on: of two, the first is without the slow link, and the second with it
+stretches-slow : length (stretches (scheduler.SlowLink 50) two_nodes start still 2).0 ≡ 16
+unfolding draw
+stretches-slow = refl
 
 -- node 1 lends to ticket 7
 abbrev pub lending : World

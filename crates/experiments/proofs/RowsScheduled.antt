@@ -20,10 +20,7 @@ use Rattle.experiments.specs.Recovery.{beginning, Beginning, HoldsAfterEach, IsW
 use Rattle.experiments.specs.Scheduled.{plain, plain_steps, lent_at, leave_of}
 use Rattle.experiments.specs.Shown.{scrambled, seeded}
 use Rattle.experiments.specs.Watched.{GoesOn, GoesOnBy}
-use Rattle.experiments.proofs.RowsMeasured.{lending, last_not-now}
-
-abbrev pub still : Lcg
-still = record { state = 0; increment = 1 }
+use Rattle.experiments.proofs.RowsMeasured.{lending, last_not-now, still}
 
 abbrev start : World
 start = default_world two_nodes

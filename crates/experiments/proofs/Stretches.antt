@@ -106,19 +106,19 @@ by-leave v lent a c p r is on start before watched =
 
 pub by-stretch : (scheduler : Scheduler) (net : Network) (first now next : Lcg) (n : ℕ) (a b c d : JudgeView) (p q r s : LastFailures)
     → GoesOnBy (λ w. (stretches scheduler net w first n).0) a p b q → ((w : World) → now ≡ (stretches scheduler net w first n).1)
-    → GoesOn b q (stretch_of scheduler net now).0 c r → next ≡ (stretch_of scheduler net now).1 → GoesOnBy leaves c r d s
+    → GoesOn b q (stretch_of scheduler net n now).0 c r → next ≡ (stretch_of scheduler net n now).1 → GoesOnBy leaves c r d s
     → GoesOnBy (λ w. (stretches scheduler net w first (n + 1)).0) a p d s × ((w : World) → next ≡ (stretches scheduler net w first (n + 1)).1)
 by-stretch scheduler net first now next n a b c d p q r s so_far is_now stretch is_next back =
     let more : suc n ≡ n + 1 = omega arith in
     let done : World → List Event = λ w. (stretches scheduler net w first n).0 in
-    let both : GoesOnBy (λ w. done w ++ (stretch_of scheduler net now).0) a p c r =
-    by-both done (λ w. (stretch_of scheduler net now).0) a b c p q r so_far (λ start before watched. stretch start before watched) in
-    let all = by-both (λ w. done w ++ (stretch_of scheduler net now).0) leaves a c d p r s both back in
+    let both : GoesOnBy (λ w. done w ++ (stretch_of scheduler net n now).0) a p c r =
+    by-both done (λ w. (stretch_of scheduler net n now).0) a b c p q r so_far (λ start before watched. stretch start before watched) in
+    let all = by-both (λ w. done w ++ (stretch_of scheduler net n now).0) leaves a c d p r s both back in
     subst (λ k. GoesOnBy (λ w. (stretches scheduler net w first k).0) a p d s × ((w : World) → next ≡ (stretches scheduler net w first k).1)) more (
       λ start before watched.
           let w : World = run start.world before in
           subst (λ (g : Lcg).
-          IsWatched start (before ++ ((done w ++ (stretch_of scheduler net g).0) ++ leaves (run w (done w ++ (stretch_of scheduler net g).0)))) d s) (is_now w)
+          IsWatched start (before ++ ((done w ++ (stretch_of scheduler net n g).0) ++ leaves (run w (done w ++ (stretch_of scheduler net n g).0)))) d s) (is_now w)
           (all start before watched),
-      λ w. is_next ∙ ap (λ (g : Lcg). (stretch_of scheduler net g).1) (is_now w),
+      λ w. is_next ∙ ap (λ (g : Lcg). (stretch_of scheduler net n g).1) (is_now w),
     )

@@ -11,9 +11,10 @@ use Rattle.run_model.specs.declared.event.Event.{Event}
 use Rattle.run_model.specs.declared.event.Event.TheVariants.{Leave}
 use Rattle.schedules.specs.Rounds.{round}
 use Rattle.schedules.specs.Random.{draw_step}
+use Rattle.schedules.specs.Slow.{slow_link, slow_node, slow_round}
 use Rattle.schedules.specs.declared.random.Chances.{Chances}
 use Rattle.experiments.specs.declared.measured_run.Scheduler.{Scheduler}
-use Rattle.experiments.specs.declared.measured_run.Scheduler.TheVariants.{Rounds, Random}
+use Rattle.experiments.specs.declared.measured_run.Scheduler.TheVariants.{Rounds, Random, SlowLink, SlowNode}
 
 -- ticks, sends and takes alone: no item is lost, and no client comes
 abbrev pub plain : Chances
@@ -27,11 +28,14 @@ plain_steps net (suc n) g =
     let drawn = draw_step net plain before.1 in
     (before.0 ++ drawn.0 ∷ [], drawn.1)
 
--- a stretch, and the generator after it: a round, or as many steps as there are nodes and four
--- times the edges
-abbrev pub stretch_of : Scheduler → Network → Lcg → List Event × Lcg
-stretch_of Rounds net g = (round net, g)
-stretch_of Random net g = plain_steps net (net.nodes + 4 * length net.edges) g
+-- The stretch after n others, and the generator after it: a round; or as many steps as there are nodes
+-- and four times the edges; or round n with the slow link, or the slow node, that the generator's next
+-- words name. Rounds draw nothing, so that is the same link or node in each of them.
+abbrev pub stretch_of : Scheduler → Network → ℕ → Lcg → List Event × Lcg
+stretch_of Rounds net n g = (round net, g)
+stretch_of Random net n g = plain_steps net (net.nodes + 4 * length net.edges) g
+stretch_of (SlowLink share) net n g = (slow_round net (slow_link net g) share n, g)
+stretch_of (SlowNode share) net n g = (slow_round net (slow_node net g) share n, g)
 
 -- the ticket that a node lends to; none at no node
 abbrev pub lent_at : World → ℕ → Option ℕ
@@ -56,7 +60,7 @@ abbrev pub stretches : Scheduler → Network → World → Lcg → ℕ → List 
 stretches scheduler net w g zero = ([], g)
 stretches scheduler net w g (suc n) =
     let before = stretches scheduler net w g n in
-    let stretch = stretch_of scheduler net before.1 in
+    let stretch = stretch_of scheduler net n before.1 in
     let events = before.0 ++ stretch.0 in
     (events ++ leaves (run w events), stretch.1)
 

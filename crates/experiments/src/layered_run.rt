@@ -53,6 +53,7 @@ pub fn measure_layers<A: Allocator + Copy>(
     damage_tool::laws::scramble();
     damage_tool::laws::draws();
     schedules::laws::accepted();
+    schedules::laws::slow_rounds();
     schedules::laws::edges();
     let _known_nodes = net.nodes();
     let start = scrambled_world(alloc, net, seed)?;

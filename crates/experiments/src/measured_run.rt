@@ -4,6 +4,7 @@ ghost use Rattle.run_model.specs.Run.{run};
 ghost use Rattle.configuration.specs.ConfigurationView.{world_of};
 ghost use Rattle.experiments.specs.Shown.{scrambled, seeded, IsRunOf};
 ghost use Rattle.schedules.specs.Rounds.{round};
+ghost use Rattle.schedules.specs.Slow.{slow_round};
 ghost use Rattle.experiments.specs.Scheduled.{plain_steps, stretch_of, lent_at, leave_at, leaves};
 ghost use Rattle.experiments.specs.Watched.{GoesOn, GoesOnBy, GoesOnScheduled};
 
@@ -14,7 +15,9 @@ use judge::World;
 use rand_core::SeedableRng;
 use rand_pcg::Lcg64Xsh32;
 use run_model::Event;
-use schedules::{Chances, EventSink, draw_step, give_round};
+use schedules::{
+    Chances, EventSink, Slow, draw_step, give_round, give_slow_round, slow_link, slow_node,
+};
 use std::alloc::{AllocError, Allocator};
 use topology::Net;
 
@@ -25,6 +28,10 @@ pub enum Scheduler {
     Rounds,
     /// Each step is drawn: a tick, a send or a take.
     Random,
+    /// Rounds in which one link, which the seed names, carries its items only in `share` of a hundred.
+    SlowLink { share: u16 },
+    /// Rounds in which one node, which the seed names, ticks only in `share` of a hundred.
+    SlowNode { share: u16 },
 }
 
 /// What a run has shown.
@@ -38,8 +45,8 @@ pub struct Recovery {
     pub seen: u64,
 }
 
-/// How many stretches a run has at most for each sweep of the bound. By rounds one is enough; of
-/// random steps a sweep takes a random number of stretches.
+/// How many stretches a run has at most for each sweep of the bound. By rounds one is enough, and with
+/// a slow link or node 100 are; of random steps a sweep takes a random number of stretches.
 const STRETCHES_A_SWEEP: u64 = 1000;
 
 /// A run of random steps draws nothing but ticks, sends and takes.
@@ -51,7 +58,8 @@ const PLAIN: Chances = Chances {
 /// Scrambles a world by a seed, and lets the scheduler's events happen until there have been as
 /// many sweeps as the sharper bound says, or 1000 stretches for each of them. A stretch is a round,
 /// or as many random steps as there are nodes and four times the edges; after it, whoever has the
-/// lock gives it back.
+/// lock gives it back. A slow link or node has its part in the rounds that
+/// [`has_part`](schedules::has_part) says.
 ///
 /// # Errors
 /// `AllocError` if the memory of the world or of its harms is refused.
@@ -73,6 +81,7 @@ pub fn measure_run<A: Allocator + Copy>(
     damage_tool::laws::scramble();
     damage_tool::laws::draws();
     schedules::laws::accepted();
+    schedules::laws::slow_rounds();
     schedules::laws::edges();
     let _known_nodes = net.nodes();
     let start = scrambled_world(alloc, net, seed)?;
@@ -127,25 +136,34 @@ pub(crate) fn give_stretches<A: Allocator + Copy>(
         if watch.sweeps() >= bound {
             return;
         }
-        give_stretch(net, scheduler, generator, watch);
+        give_stretch(net, scheduler, stretch, generator, watch);
         leave_all(watch);
     }
 }
 
-/// One stretch.
+/// The stretch after `before` others.
 fn give_stretch<A: Allocator + Copy>(
     net: &Net<A>,
     scheduler: Scheduler,
+    before: u64,
     generator: &mut Lcg64Xsh32,
     watch: &mut Watch<A>,
 )
     ensures watched { GoesOn watch.old.judge watch.old.last
-        (stretch_of scheduler net.now generator.old).0 watch.new.judge watch.new.last }
-    ensures generator { generator.new ≡ (stretch_of scheduler net.now generator.old).1 }
+        (stretch_of scheduler net.now before generator.old).0 watch.new.judge watch.new.last }
+    ensures generator { generator.new ≡ (stretch_of scheduler net.now before generator.old).1 }
 {
     match scheduler {
         Scheduler::Rounds => give_one_round(net, watch),
         Scheduler::Random => give_steps(net, generator, watch),
+        Scheduler::SlowLink { share } => {
+            let slow = slow_link(net, generator);
+            give_one_slow_round(net, slow, share, before, watch)
+        }
+        Scheduler::SlowNode { share } => {
+            let slow = slow_node(net, generator);
+            give_one_slow_round(net, slow, share, before, watch)
+        }
     }
 }
 
@@ -156,6 +174,21 @@ fn give_one_round<A: Allocator + Copy>(net: &Net<A>, watch: &mut Watch<A>)
 {
     // A watch never fails.
     let _given = give_round(net, watch);
+}
+
+/// Round `round` with a slow link or node.
+fn give_one_slow_round<A: Allocator + Copy>(
+    net: &Net<A>,
+    slow: Slow,
+    share: u16,
+    round: u64,
+    watch: &mut Watch<A>,
+)
+    ensures { GoesOn watch.old.judge watch.old.last (slow_round net.now slow share round)
+        watch.new.judge watch.new.last }
+{
+    // A watch never fails.
+    let _given = give_slow_round(net, slow, share, round, watch);
 }
 
 /// As many random steps as there are nodes and four times the edges.

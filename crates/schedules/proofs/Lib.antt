@@ -1,10 +1,14 @@
 pub mod Edges
 pub mod Exchanges
+pub mod Others
+pub mod Parting
 pub mod Parts
 pub mod Plain
 pub mod Rounds
 pub mod RowsRounds
 pub mod RowsRandom
+pub mod RowsSlow
 pub mod RowsTaking
+pub mod SlowSweeps
 pub mod Taking
 pub mod Ticks

@@ -116,12 +116,12 @@ module _ (known : Known) where
   step-idle net w (Leave a t) same one idle v node = absurd one
   step-idle net w (Damage h) same one idle v node = absurd one
 
-  run-idle : (net : Network) (w : World) (es : List Event) → w.net ≡ net → ArePlain net es → IsIdleOn net w → IsIdleOn net (run w es)
+  pub run-idle : (net : Network) (w : World) (es : List Event) → w.net ≡ net → ArePlain net es → IsIdleOn net w → IsIdleOn net (run w es)
   run-idle net w [] same all idle = idle
   run-idle net w (e ∷ es) same (one, rest) idle =
       run-idle net (step w e) es (plain-step known.network net w e same one) rest (step-idle net w e same one idle)
 
-  idle-full : (net : Network) (w : World) → w.net ≡ net → IsIdleOn net w → AreTicksFull w
+  pub idle-full : (net : Network) (w : World) → w.net ≡ net → IsIdleOn net w → AreTicksFull w
   idle-full net w same idle v node =
       let there : v < net.nodes = subst (λ (n : Network). v < n.nodes) same node in
       tick-is known.accepted net w v same there ∙ ap is_none (ticked-idle (site_of net v) (w.node v) (idle v there)).1

@@ -24,14 +24,14 @@ each-node P a b zero l = a
 each-node P a b (suc zero) l = b
 each-node P a b (suc (suc v)) l = absurd (omega arith)
 
-abbrev at_state : ℕ → Lcg
+abbrev pub at_state : ℕ → Lcg
 at_state state = record { state = state; increment = 1 }
 
-abbrev still : Lcg
+abbrev pub still : Lcg
 still = at_state 0
 
 -- from here the words are 1, 1614963889, 2332581483, 26611882
-abbrev from_one : Lcg
+abbrev pub from_one : Lcg
 from_one = at_state 134217728
 
 -- from here 2, 1259734054, 1146624700, 1876153514

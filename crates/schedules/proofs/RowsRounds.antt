@@ -11,7 +11,7 @@ use Rattle.configuration.specs.run_model.declared.event.Harm.TheVariants as harm
 use Rattle.schedules.specs.Rounds.{round, rounds}
 
 -- two nodes, links that hold one item, and no lease
-abbrev two_nodes : Network
+abbrev pub two_nodes : Network
 two_nodes = record { nodes = 2; root = 0; capacity = 1; lease = 0; edges = (0, 1) ∷ [] }
 
 -- both tick, and then two frames go from 0 to 1, and two from 1 to 0
@@ -19,7 +19,7 @@ round-of_two : round two_nodes ≡ Tick 0 ∷ Tick 1 ∷ Send 0 1 ∷ Take 0 1 �
 round-of_two = refl
 
 -- noise stands on both links, each of which holds no more
-abbrev noisy : World
+abbrev pub noisy : World
 noisy = run (default_world two_nodes) (Damage (harm.Item 0 1 Noise) ∷ Damage (harm.Item 1 0 Noise) ∷ [])
 
 -- a round renews them,

@@ -1,5 +1,5 @@
--- What holds of the schedule by rounds, and of the networks that links are drawn from.
-use Rattle.std.specs.Prelude.{◌≡◌, ℕ, ◌<◌, true, zero, suc, [], None, length}
+-- What holds of the schedules by rounds, and of the networks that links are drawn from.
+use Rattle.std.specs.Prelude.{◌≡◌, ℕ, ◌<◌, ◌≤◌, true, zero, suc, [], None, length}
 use Rattle.topology.specs.Network.{Network, IsAcceptedNetwork}
 use Rattle.configuration.specs.run_model.World.{World, IsWorldInRange}
 use Rattle.configuration.specs.run_model.Run.{run, IsUndamaged}
@@ -7,6 +7,8 @@ use Rattle.configuration.specs.run_model.Sweep.{is_full_tick, IsSweep, Sweeps}
 use Rattle.configuration.specs.run_model.declared.event.Event.TheVariants.{Tick}
 use Rattle.damage_tool.specs.Laws.{AreAccepted}
 use Rattle.schedules.specs.Rounds.{round, rounds}
+use Rattle.schedules.specs.Slow.{parts, slow_round, slow_rounds}
+use Rattle.schedules.specs.declared.slow.Slow.{Slow}
 
 -- each tick is full: whichever node ticks next lends to nobody after it
 abbrev pub AreTicksFull : World → Type 0
@@ -43,6 +45,18 @@ RoundsAreAccepted = (w : World) (n : ℕ) → AreAccepted w (rounds w.net n)
 -- and none of a round is damage
 abbrev pub RoundIsUndamaged : Type 0
 RoundIsUndamaged = (net : Network) (w : World) → IsUndamaged w (round net)
+
+-- nor does a round with a slow link or node have any
+abbrev pub SlowRoundIsUndamaged : Type 0
+SlowRoundIsUndamaged =
+    (net : Network) (slow : Slow) (share i : ℕ) (w : World) → IsUndamaged w (slow_round net slow share i)
+
+-- With a slow one, n rounds hold a sweep for each round in which it has its part, if there is no client:
+-- so of a hundred rounds as many as its share says.
+abbrev pub IdleSlowRoundsHoldSweeps : Type 0
+IdleSlowRoundsHoldSweeps =
+    (w : World) (slow : Slow) (share n : ℕ) → share ≤ 100 → IsWorldInRange w → IsIdle w
+    → Sweeps w (parts share n) (slow_rounds w.net slow share 0 n)
 
 -- an accepted network has an edge, so there is one to draw
 abbrev pub HasEdge : Type 0

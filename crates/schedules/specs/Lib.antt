@@ -1,4 +1,5 @@
 pub mod Rounds
 pub mod Random
+pub mod Slow
 pub mod Taking
 pub mod Laws

@@ -1,6 +1,7 @@
 //! What holds of schedules: each law is the contract of a function that does nothing.
 ghost use Rattle.schedules.specs.Laws.{RoundIsSweep, RoundsAreSweeps, IdleRoundsAreSweeps};
 ghost use Rattle.schedules.specs.Laws.{RoundsAreAccepted, RoundIsUndamaged, HasEdge};
+ghost use Rattle.schedules.specs.Laws.{IdleSlowRoundsHoldSweeps, SlowRoundIsUndamaged};
 ghost use Rattle.schedules.specs.Taking.{TakesOn};
 
 use crate::event_sink::EventSink;
@@ -28,6 +29,22 @@ pub fn accepted()
     ensures undamaged { RoundIsUndamaged }
 {
     configuration::run_model::laws::runs();
+}
+
+/// Rounds with a slow link or node are without damage. In a network without clients n rounds hold a
+/// sweep for each of them in which the slow one has its part. So a run under this schedule comes to
+/// as many sweeps as one asks for, if the share is at least 1.
+pub fn slow_rounds()
+    ensures undamaged { SlowRoundIsUndamaged }
+    ensures sweeps { IdleSlowRoundsHoldSweeps }
+{
+    topology::laws::joined();
+    configuration::run_model::laws::runs();
+    configuration::run_model::laws::own_changes();
+    configuration::run_model::laws::ticks();
+    configuration::run_model::laws::in_range();
+    configuration::run_model::laws::strict_sweeps();
+    configuration::run_model::laws::sweep_numbers();
 }
 
 /// An accepted network has an edge. Whoever draws one needs it.

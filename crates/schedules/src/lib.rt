@@ -9,6 +9,10 @@
 //! Another is the *random* one: each step is drawn from a seeded generator, so the same seed gives
 //! the same events on any machine. It can lose items, and have clients who ask and leave.
 //!
+//! In a third kind a link or a node is *slow*: the rounds are as before, but it has its part only in a
+//! share of them. So one sees what a single laggard costs. These rounds hold sweeps as well
+//! (`laws::slow_rounds`).
+//!
 //! The events go to an [`EventSink`], one by one; no list of them is kept:
 //!
 //! ```
@@ -16,12 +20,18 @@
 //! let mut generator = Lcg64Xsh32::seed_from_u64(7);
 //! let chances = Chances { loss: 10, clients: true };
 //! give_random(&mut configuration, chances, 5000, &mut generator, &mut sink)?;
+//! let slow = slow_link(&net, &generator);
+//! for round in 0..100 {
+//!     give_slow_round(&net, slow, 25, round, &mut sink)?; // it carries its items in 25 of these
+//! }
 //! ```
 //!
 //! The trap: a round is a sweep only if each tick is full. A node that lends the lock after its
 //! tick, as to a client that keeps it if there is no lease, makes none.
 //!
-//! Source: S. Dolev, Self-Stabilization, MIT Press 2000 (rounds of fair executions).
+//! Sources: S. Dolev, Self-Stabilization, MIT Press 2000 (rounds of fair executions); J. Bresenham,
+//! Algorithm for computer control of a digital plotter, IBM Systems Journal 4, 1965 (the rounds of a
+//! share, spread as evenly as can be).
 #![tactic(auto)]
 
 mod by_rounds;
@@ -29,7 +39,9 @@ mod draws;
 mod event_sink;
 pub mod laws;
 mod random;
+mod slow;
 
 pub use by_rounds::{give_round, give_rounds};
 pub use event_sink::EventSink;
 pub use random::{Chances, draw_step, give_random, next_step};
+pub use slow::{Slow, give_slow_round, has_part, slow_link, slow_node};

@@ -29,7 +29,7 @@ pub struct Chances {
 const TICKETS: u32 = 16;
 
 /// Draws a link, and answers its source and destination.
-fn draw_link<A: Allocator + Copy>(net: &Net<A>, generator: &mut Lcg64Xsh32) -> (u16, u16)
+pub(crate) fn draw_link<A: Allocator + Copy>(net: &Net<A>, generator: &mut Lcg64Xsh32) -> (u16, u16)
     ensures { (result, generator.new) ≡ draw_link net.now generator.old }
 {
     topology::laws::tree();

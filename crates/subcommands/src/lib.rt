@@ -34,6 +34,7 @@ pub mod measure_json;
 pub mod network;
 pub mod schedule;
 pub mod scramble;
+mod side_by_side;
 pub mod simulate;
 pub mod worst;
 

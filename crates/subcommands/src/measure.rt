@@ -4,14 +4,13 @@ ghost use Rattle.std.specs.Prelude.{string_bytes, if◌then◌else◌};
 ghost use Rattle.std.specs.Process.{exit_status};
 ghost use Rattle.subcommands.specs.Measured.{has_served, run_line, served_sweeps, summary_line};
 ghost use Rattle.subcommands.specs.Measured.{shown_line, run_lines, totals, IsMeasured};
-ghost use Rattle.subcommands.specs.Measured.{AreRunsOf, IsPlanMeasured, HaveServed};
+ghost use Rattle.subcommands.specs.Measured.{IsPlanMeasured, HaveServed};
 ghost use Rattle.command_parts.specs.declared.fault.Fault.TheVariants.{Output};
-ghost use Rattle.slow_runs.specs.experiments.Shown.{IsRunOf};
 
 use crate::bound::push_number;
-use command_parts::{Fault, Progress, read_network};
-use rayon::prelude::*;
-use slow_runs::experiments::{Recovery, Scheduler, Summary, measure_run, summary_of};
+use crate::side_by_side::measured;
+use command_parts::{Fault, read_network};
+use slow_runs::experiments::{Recovery, Scheduler, Summary, summary_of};
 use std::alloc::{AllocError, Global};
 use std::fmt::Write;
 use std::process::ExitCode;
@@ -63,7 +62,7 @@ fn plan_text<R: Eprint + Clock + Threads + Sync>(
 ) -> Result<(String, bool), AllocError>
     ensures { IfOk result (λ said. IsPlanMeasured net.now plan (string_bytes said.0) said.1) }
 {
-    let runs = measured(rt, alloc, net, plan)?;
+    let runs: Vec<Recovery> = measured(rt, alloc, net, plan)?;
     let text = measured_text(alloc, net, runs.as_slice(), plan.table)?;
     let served = have_served(runs.as_slice(), net.sharp_bound());
     Ok((text, served))
@@ -83,56 +82,6 @@ pub fn ending<E: Drop>(printed: Result<(), E>, all_served: bool) -> Result<ExitC
         Ok(()) => Ok(ExitCode::FAILURE),
         Err(_) => Err(Fault::Output),
     }
-}
-
-/// Makes the runs of a plan, on as many threads as there are processors. Run i has the first seed
-/// plus i.
-pub(crate) fn measured<R: Eprint + Clock + Threads + Sync>(
-    rt: &R,
-    alloc: Global,
-    net: &Net,
-    plan: Plan,
-) -> Result<Vec<Recovery>, AllocError>
-    ensures { IfOk result (λ runs. AreRunsOf (IsRunOf net.now plan.scheduler) plan runs.items) }
-{
-    let progress = if plan.progress {
-        Progress::begin(rt, "runs", plan.runs)
-    } else {
-        None
-    };
-    let runs = make_runs(rt, alloc, net, plan, &progress);
-    if let Some(progress) = &progress {
-        progress.end(rt);
-    }
-    runs
-}
-
-/// Makes the runs of a plan, and shows how many are done.
-fn make_runs<R: Eprint + Clock + Threads + Sync>(
-    rt: &R,
-    alloc: Global,
-    net: &Net,
-    plan: Plan,
-    progress: &Option<Progress>,
-) -> Result<Vec<Recovery>, AllocError>
-    ensures { IfOk result (λ runs. AreRunsOf (IsRunOf net.now plan.scheduler) plan runs.items) }
-{
-    (0..plan.runs)
-        .into_par_iter()
-        .map(
-            // Run i has its own seed, and starts from the world that this seed scrambles.
-            |i: u32| -> Result<Recovery, AllocError>
-                ensures { IfOk result (IsRunOf net.entry.now plan.scheduler (plan.seed + i)) }
-            {
-                let seed = u64::from(plan.seed) + u64::from(i);
-                let run = measure_run(alloc, net, plan.scheduler, seed);
-                if let Some(progress) = progress {
-                    progress.advance(rt);
-                }
-                run
-            },
-        )
-        .collect(rt, alloc)?
 }
 
 /// Whether a run had as many sweeps as the sharper bound says, and served by then.

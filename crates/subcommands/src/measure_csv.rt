@@ -1,16 +1,14 @@
 //! `measure FILE --csv`: when each layer stood for good in scrambled worlds, as rows.
-ghost use Rattle.std.specs.Prelude.{◌≡◌, ◌↔◌, ◌+◌, ◌++◌, ◌⊎◌, OnOk, IfOk, IsTrue};
+ghost use Rattle.std.specs.Prelude.{◌≡◌, ◌↔◌, ◌++◌, ◌⊎◌, OnOk, IfOk, IsTrue};
 ghost use Rattle.std.specs.Prelude.{string_bytes};
 ghost use Rattle.std.specs.Process.{exit_status};
-ghost use Rattle.subcommands.specs.Measured.{AreRunsOf};
 ghost use Rattle.subcommands.specs.MeasuredCsv.{csv_row, csv_rows, csv_text, has_settled};
 ghost use Rattle.subcommands.specs.MeasuredCsv.{HaveSettled, IsPlanCsv};
-ghost use Rattle.slow_runs.specs.experiments.Layered.{IsSettlingOf};
 
 use crate::measure::{Plan, ending};
-use command_parts::{Fault, Progress, read_network};
-use rayon::prelude::*;
-use slow_runs::experiments::{Settling, measure_layers};
+use crate::side_by_side::measured;
+use command_parts::{Fault, read_network};
+use slow_runs::experiments::Settling;
 use std::alloc::{AllocError, Global};
 use std::fmt::Write;
 use std::process::ExitCode;
@@ -47,60 +45,10 @@ fn plan_csv<R: Eprint + Clock + Threads + Sync>(
 ) -> Result<(String, bool), AllocError>
     ensures { IfOk result (λ said. IsPlanCsv net.now plan (string_bytes said.0) said.1) }
 {
-    let runs = settlings(rt, alloc, net, plan)?;
+    let runs: Vec<Settling> = measured(rt, alloc, net, plan)?;
     let text = csv_text(alloc, runs.as_slice(), net.sharp_bound())?;
     let served = have_settled(runs.as_slice(), net.sharp_bound());
     Ok((text, served))
-}
-
-/// Makes the runs of a plan, on as many threads as there are processors. Run i has the first seed
-/// plus i.
-fn settlings<R: Eprint + Clock + Threads + Sync>(
-    rt: &R,
-    alloc: Global,
-    net: &Net,
-    plan: Plan,
-) -> Result<Vec<Settling>, AllocError>
-    ensures { IfOk result (λ runs. AreRunsOf (IsSettlingOf net.now plan.scheduler) plan runs.items) }
-{
-    let progress = if plan.progress {
-        Progress::begin(rt, "runs", plan.runs)
-    } else {
-        None
-    };
-    let runs = make_settlings(rt, alloc, net, plan, &progress);
-    if let Some(progress) = &progress {
-        progress.end(rt);
-    }
-    runs
-}
-
-/// Makes the runs of a plan, and shows how many are done.
-fn make_settlings<R: Eprint + Clock + Threads + Sync>(
-    rt: &R,
-    alloc: Global,
-    net: &Net,
-    plan: Plan,
-    progress: &Option<Progress>,
-) -> Result<Vec<Settling>, AllocError>
-    ensures { IfOk result (λ runs. AreRunsOf (IsSettlingOf net.now plan.scheduler) plan runs.items) }
-{
-    (0..plan.runs)
-        .into_par_iter()
-        .map(
-            // Run i has its own seed, and starts from the world that this seed scrambles.
-            |i: u32| -> Result<Settling, AllocError>
-                ensures { IfOk result (IsSettlingOf net.entry.now plan.scheduler (plan.seed + i)) }
-            {
-                let seed = u64::from(plan.seed) + u64::from(i);
-                let run = measure_layers(alloc, net, plan.scheduler, seed);
-                if let Some(progress) = progress {
-                    progress.advance(rt);
-                }
-                run
-            },
-        )
-        .collect(rt, alloc)?
 }
 
 /// Whether a run had as many sweeps as the sharper bound says, and served by then.

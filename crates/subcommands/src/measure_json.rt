@@ -8,7 +8,8 @@ ghost use Rattle.subcommands.specs.BoundData.{or_null};
 ghost use Rattle.subcommands.specs.MeasuredData.{sweeps_data, measured_data, IsMeasuredJson};
 ghost use Rattle.subcommands.specs.MeasuredData.{IsPlanMeasuredJson};
 
-use crate::measure::{Plan, ending, has_served, have_served, measured, served_sweeps};
+use crate::measure::{Plan, ending, has_served, have_served, served_sweeps};
+use crate::side_by_side::measured;
 use command_parts::{Fault, read_network};
 use serde_json::{Map, Value, push, put};
 use slow_runs::experiments::{Recovery, Summary, summary_of};
@@ -47,7 +48,7 @@ fn plan_json<R: Eprint + Clock + Threads + Sync>(
 ) -> Result<(String, bool), AllocError>
     ensures { IfOk result (λ said. IsPlanMeasuredJson net.now plan (string_bytes said.0) said.1) }
 {
-    let runs = measured(rt, alloc, net, plan)?;
+    let runs: Vec<Recovery> = measured(rt, alloc, net, plan)?;
     let text = measured_json(alloc, net, runs.as_slice(), plan.table)?;
     let served = have_served(runs.as_slice(), net.sharp_bound());
     Ok((text, served))

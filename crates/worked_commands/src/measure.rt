@@ -3,7 +3,7 @@
 use crate::nets::two_nodes;
 use command_parts::Fault;
 use experiments::{Recovery, Scheduler, Settling, Watch, measure_layers, measure_run};
-use schedules::give_round;
+use schedules::{Slow, give_round, give_slow_round};
 use std::alloc::Global;
 use std::process::ExitCode;
 use std::test::Fail;
@@ -194,12 +194,76 @@ fn two_nodes_serve_after_three_sweeps(rt: HostRuntime) -> Result<(), Fail> {
     as_expected(first_other_watched(rt.alloc(), &WATCHED), &None)
 }
 
+/// Plays this many rounds with a slow link or node under a watch.
+fn play_slow(net: &Net, watch: &mut Watch, slow: Slow, share: u16, rounds: u64) {
+    for round in 0..rounds {
+        let _given = give_slow_round(net, slow, share, round, watch);
+    }
+}
+
+/// How many sweeps there were in this many rounds of two fresh nodes, one of them or a link slow, and
+/// after how many sweeps they served.
+fn watched_slow(alloc: Global, slow: Slow, share: u16, rounds: u64) -> Result<(u64, u64), Fail> {
+    let net = two_nodes(alloc)?;
+    let mut watch = watch_of(alloc, &net)?;
+    play_slow(&net, &mut watch, slow, share, rounds);
+    Ok((watch.sweeps(), watch.served_after()))
+}
+
+/// What is slow, its share, the rounds, how many sweeps there were, and after how many two nodes served.
+type SlowRow = (Slow, u16, u64, (u64, u64));
+
+const NODE: Slow = Slow::Node { node: 1 };
+
+const LINK: Slow = Slow::Link { from: 0, to: 1 };
+
+/// By hand. With half of the rounds, node 1 ticks in each second one. There its tick ends a sweep, since
+/// node 0 has ticked and the links were renewed before. In the second round it takes the root's distance
+/// after that tick, so only its tick in the fourth gives it its own; that ends the second sweep.
+///
+/// If the link to node 1 has half of the rounds, the root's distance comes to node 1 by its first item in
+/// the second round, which ends the first sweep. The second item and the items to node 0 come after
+/// that, so the ticks of the third round end the second sweep; and node 1 has its distance by its tick. So
+/// there are two sweeps in each two rounds.
+///
+/// Who has all rounds is not slow, and who has none lets no sweep end.
+const SLOW: [SlowRow; 11] = [
+    (NODE, 50, 0, (0, 1)),
+    (NODE, 50, 1, (0, 1)),
+    (NODE, 50, 2, (1, 2)),
+    (NODE, 50, 3, (1, 2)),
+    (NODE, 50, 4, (2, 2)),
+    (LINK, 50, 1, (0, 1)),
+    (LINK, 50, 2, (1, 2)),
+    (LINK, 50, 3, (2, 2)),
+    (LINK, 50, 4, (3, 2)),
+    (LINK, 100, 3, (3, 3)),
+    (LINK, 0, 35, (0, 1)),
+];
+
+/// The place of the first row whose rounds show something else.
+fn first_other_slow(alloc: Global, rows: &[SlowRow]) -> Result<Option<usize>, Fail> {
+    for (at, (slow, share, rounds, want)) in rows.iter().enumerate() {
+        if watched_slow(alloc, *slow, *share, *rounds)? != *want {
+            return Ok(Some(at));
+        }
+    }
+    Ok(None)
+}
+
+#[test]
+fn a_slow_one_delays_sweeps(rt: HostRuntime) -> Result<(), Fail> {
+    as_expected(first_other_slow(rt.alloc(), &SLOW), &None)
+}
+
 /// Measured runs have their seeds, as many sweeps as the sharper bound says, and are the same each
 /// time.
-const MEASURED: [(Scheduler, u64); 3] = [
+const MEASURED: [(Scheduler, u64); 5] = [
     (Scheduler::Rounds, 0),
     (Scheduler::Rounds, 7),
     (Scheduler::Random, 7),
+    (Scheduler::SlowLink { share: 25 }, 7),
+    (Scheduler::SlowNode { share: 10 }, 7),
 ];
 
 /// A measured run of two nodes.

@@ -280,3 +280,9 @@ fn measured_random_steps_meet_each_refusal(rt: HostRuntime) -> Result<(), Fail> 
     let (run, (end, refused)) = measured_in_turn(rt.alloc(), Scheduler::Random)?;
     is_expected(&(run, end, refused > 20), &(RUN, End::Done, true))
 }
+
+#[test]
+fn measured_rounds_with_a_slow_link_meet_each_refusal(rt: HostRuntime) -> Result<(), Fail> {
+    let (run, (end, refused)) = measured_in_turn(rt.alloc(), Scheduler::SlowLink { share: 50 })?;
+    is_expected(&(run, end, refused > 20), &(RUN, End::Done, true))
+}

@@ -10,7 +10,7 @@ use subcommands::bound;
 use test_parts::{as_expected, is_expected};
 
 /// A command line, and its status.
-const ROWS: [(&str, u8); 90] = [
+const ROWS: [(&str, u8); 99] = [
     ("tokentree bound two.toml", 0),
     ("tokentree bound -- two.toml", 0),
     ("tokentree bound --sharp two.toml", 0),
@@ -116,6 +116,30 @@ const ROWS: [(&str, u8); 90] = [
     ("tokentree worst bad.toml", 1),
     ("tokentree worst two.toml --searches 0", 2),
     ("tokentree measure two.toml --rounds --random", 2),
+    ("tokentree measure two.toml --runs 1 --schedule random", 0),
+    (
+        "tokentree measure two.toml --runs 1 --schedule slow-link",
+        0,
+    ),
+    (
+        "tokentree measure two.toml --runs 1 --schedule slow-node --share 50 --csv",
+        0,
+    ),
+    ("tokentree measure two.toml --schedule slow", 2),
+    ("tokentree measure two.toml --schedule rounds --share 50", 2),
+    (
+        "tokentree measure two.toml --schedule slow-node --share 0",
+        2,
+    ),
+    (
+        "tokentree measure two.toml --schedule slow-link --share 101",
+        2,
+    ),
+    ("tokentree measure two.toml --share 50", 2),
+    (
+        "tokentree measure two.toml --schedule slow-link --random",
+        2,
+    ),
     ("tokentree version", 0),
     ("tokentree -v", 0),
     ("tokentree lock --version", 0),

@@ -41,7 +41,7 @@ returns g c =
     (subst (λ (l : Option LayersSeen). AreAnyLayersSeen true start events l) (sym c.layers.ensures) w.layers) c.unwrap-layers.ensures in
     let ok = c.nodes-known_nodes.ensures.network in
     let sweeps = c.sweeps.ensures.sweeps start events w.seen in
-    let harmless = stretches-undamaged c.draws.ensures c.accepted.ensures.undamaged net ok (c.edges.ensures net ok) c.args.scheduler start (seeded seed)
+    let harmless = stretches-undamaged c.draws.ensures c.accepted.ensures.undamaged c.slow_rounds.ensures.undamaged net ok (c.edges.ensures net ok) c.args.scheduler start (seeded seed)
     count start in
     let shown : IsSettlingShown start events (record {
       seed = seed;

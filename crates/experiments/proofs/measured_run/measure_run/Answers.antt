@@ -36,7 +36,7 @@ returns g c =
     let ok = c.nodes-known_nodes.ensures.network in
     let events = (stretches c.args.scheduler net start (seeded c.args.seed) c.give_stretches.ensures.count).0 in
     let count = c.sweeps.ensures.sweeps start events w.seen in
-    let harmless = stretches-undamaged c.draws.ensures c.accepted.ensures.undamaged net ok (c.edges.ensures net ok) c.args.scheduler start (seeded c.args.seed)
+    let harmless = stretches-undamaged c.draws.ensures c.accepted.ensures.undamaged c.slow_rounds.ensures.undamaged net ok (c.edges.ensures net ok) c.args.scheduler start (seeded c.args.seed)
     c.give_stretches.ensures.count start in
     let same : start.net ≡ net = harms-keep c.start.ensures net ok c.scramble.ensures.network (Some (seeded c.args.seed)) in
     let less : counted_from c.give_stretches.new.watch.last.serving ≤ sharp_of start.net =
